@@ -1,0 +1,66 @@
+-- The grammar of a parameter list, on whole lists of octets (DDSI-RTPS 9.4.2.11).
+use Rattle.std.specs.Prelude.{◌≡◌, ◌≢◌, ℕ, ◌<◌, ◌%◌, List, [], ◌∷◌, ◌++◌, length, Result, Ok, Err, ◌⊎◌}
+use Rattle.rtps_types.specs.declared.field.Endian.{Endian}
+use Rattle.rtps_types.specs.Field.{number}
+use Rattle.rtps_params.specs.declared.front.ParamFault.{ParamFault}
+use Rattle.rtps_params.specs.declared.front.ParamFault.TheVariants.{Short, NoEnd, OddLength}
+use Rattle.rtps_params.specs.Reading.{Parameter, Contents, answer}
+
+-- two octets that spell an id, two that spell a length, and what follows
+pub record HasHead (e : Endian) (id len : ℕ) (octets more : List ℕ) : Type 0 where
+  pub first : ℕ
+  pub second : ℕ
+  pub third : ℕ
+  pub fourth : ℕ
+  pub text : octets ≡ first ∷ second ∷ third ∷ fourth ∷ more
+  pub spells_id : number e 2 (first ∷ second ∷ []) ≡ id
+  pub spells_length : number e 2 (third ∷ fourth ∷ []) ≡ len
+
+-- a parameter stands before a rest: its value is as long as its length says, a multiple of four
+pub record IsParameter (e : Endian) (p : Parameter) (octets rest : List ℕ) : Type 0 where
+  pub head : HasHead e p.id (length p.value) octets (p.value ++ rest)
+  pub no_end : p.id ≢ 1
+  pub whole_words : length p.value % 4 ≡ 0
+
+-- the end of the list stands before a rest; its length says nothing
+pub record IsEnd (e : Endian) (octets rest : List ℕ) : Type 0 where
+  pub len : ℕ
+  pub head : HasHead e 1 len octets rest
+
+-- a value passes the end
+pub record IsCut (e : Endian) (octets : List ℕ) : Type 0 where
+  pub id : ℕ
+  pub len : ℕ
+  pub more : List ℕ
+  pub head : HasHead e id len octets more
+  pub no_end : id ≢ 1
+  pub whole_words : len % 4 ≡ 0
+  pub past : length more < len
+
+-- a length is no multiple of four
+pub record IsOdd (e : Endian) (octets : List ℕ) : Type 0 where
+  pub id : ℕ
+  pub len : ℕ
+  pub more : List ℕ
+  pub head : HasHead e id len octets more
+  pub no_end : id ≢ 1
+  pub odd : len % 4 ≢ 0
+
+-- neither a parameter nor an end stands there, for this reason
+abbrev pub Fails : Endian → List ℕ → ParamFault → Type 0
+Fails e octets NoEnd = octets ≡ []
+Fails e octets Short = ((0 < length octets) × (length octets < 4)) ⊎ IsCut e octets
+Fails e octets OddLength = IsOdd e octets
+
+-- parameters, each before all that follows it, padding too; then the end before a rest, or a fault
+abbrev pub IsList : Endian → List ℕ → List Parameter → Result (List ℕ) ParamFault → Type 0
+IsList e octets [] (Ok rest) = IsEnd e octets rest
+IsList e octets [] (Err fault) = Fails e octets fault
+IsList e octets (p ∷ ps) outcome = (rest : List ℕ) × IsParameter e p octets rest × IsList e rest ps outcome
+
+-- an answer is what the grammar says of some octets
+pub record IsFound (e : Endian) (octets : List ℕ) (answered : Result Contents ParamFault) : Type 0 where
+  pub parameters : List Parameter
+  pub outcome : Result (List ℕ) ParamFault
+  pub list : IsList e octets parameters outcome
+  pub answers : answered ≡ answer octets parameters outcome

@@ -1,0 +1,64 @@
+//! One parameter at a time.
+
+ghost use Rattle.std.specs.Prelude.{◌≡◌};
+ghost use Rattle.rtps_params.specs.Reading.{LeavesLess, front_of, seen};
+
+use rtps_types::{Endian, get_u16};
+
+/// A parameter; its value is aligned as it stands in the list (DDSI-RTPS 9.4.2.11).
+#[derive(Clone, Copy, Debug)]
+pub struct Param<'a> {
+    pub id: u16,
+    pub value: &'a [u8],
+}
+
+/// Why octets are no parameter list: the first fault from left to right.
+#[derive(Clone, Copy, Debug, PartialEq, Eq)]
+pub enum ParamFault {
+    /// The octets end within a parameter: one to three are left, or a value passes the end.
+    Short,
+    /// No octet is left where a parameter or the end of the list should stand.
+    NoEnd,
+    /// A length is no multiple of four.
+    OddLength,
+}
+
+/// What stands at the front of octets, with the octets behind it.
+#[derive(Clone, Copy, Debug)]
+pub enum Front<'a> {
+    /// A parameter; padding is one with the id 0.
+    Param(Param<'a>, &'a [u8]),
+    /// The end of the list.
+    End(&'a [u8]),
+    Fault(ParamFault),
+}
+
+/// The id that ends a list, `PID_SENTINEL`; its length says nothing.
+const SENTINEL: u16 = 1;
+
+/// Reads what stands at the front of octets: for whoever takes a list one parameter at a time.
+#[tactic(auto, unfolding(crate::specs::Reading::front_of))]
+pub fn read_front(octets: &[u8], endian: Endian) -> Front<'_>
+    ensures value { seen result ≡ front_of endian octets.now }
+    ensures less { LeavesLess octets.now result }
+{
+    if octets.is_empty() {
+        return Front::Fault(ParamFault::NoEnd);
+    }
+    let (Some(id), Some(length)) = (get_u16(octets, 0, endian), get_u16(octets, 2, endian)) else {
+        return Front::Fault(ParamFault::Short);
+    };
+    let rest = &octets[4..];
+    if id == SENTINEL {
+        return Front::End(rest);
+    }
+    let length = usize::from(length);
+    if length % 4 != 0 {
+        return Front::Fault(ParamFault::OddLength);
+    }
+    if rest.len() < length {
+        return Front::Fault(ParamFault::Short);
+    }
+    let (value, after) = rest.split_at(length);
+    Front::Param(Param { id, value }, after)
+}

@@ -1,0 +1,109 @@
+//! A whole list, in the slice that begins with it.
+
+ghost use Rattle.std.specs.Prelude.{◌≡◌, ℕ, List, Result};
+ghost use Rattle.std.specs.Iterator.{YieldsFirstBy, item_count};
+ghost use Rattle.rtps_params.specs.Parameters.{IsList, IsFound};
+ghost use Rattle.rtps_params.specs.Reading.{Parameter, Contents, answer, contents, shown, view};
+
+use crate::{Front, Param, ParamFault, read_front};
+use rtps_types::Endian;
+use std::marker::Model;
+
+/// The id of padding, `PID_PAD`.
+const PAD: u16 = 0;
+
+/// A parameter list without a fault (DDSI-RTPS 9.4.2.11).
+#[derive(Drop)]
+pub struct ParamList<'a> {
+    octets: &'a [u8],
+    endian: Endian,
+    used: usize,
+}
+
+impl<'a> Model for ParamList<'a> {
+    ghost Value = { Contents };
+
+    ghost view = { λ l. record { parameters = shown l.endian l.octets.now; used = l.used } };
+}
+
+impl<'a> ParamList<'a> {
+    /// Checks the whole list, up to its end; octets may stand behind it. The refusal is the first
+    /// fault that is met from left to right.
+    #[tactic(auto, using(crate::proofs::Steps::leads_on, crate::proofs::Steps::leads_end, crate::proofs::Steps::leads_fault, crate::proofs::Steps::front_shortens))]
+    pub fn new(octets: &'a [u8], endian: Endian) -> Result<ParamList<'a>, ParamFault>
+        // The answer is what the grammar says of these octets, and the grammar says nothing else.
+        ensures found { IsFound endian octets.now result }
+        ensures only { (parameters : List Parameter) (outcome : Result (List ℕ) ParamFault) →
+            IsList endian octets.now parameters outcome → result ≡ answer octets.now parameters outcome }
+        ensures value { result ≡ contents endian octets.now }
+    {
+        let mut rest = octets;
+        loop {
+            match read_front(rest, endian) {
+                Front::Param(_, after) => rest = after,
+                Front::End(after) => {
+                    let used = octets.len() - after.len();
+                    return Ok(ParamList {
+                        octets,
+                        endian,
+                        used,
+                    });
+                }
+                Front::Fault(fault) => return Err(fault),
+            }
+        }
+    }
+
+    /// How many octets the list takes, its end included.
+    pub fn used(&self) -> usize
+        ensures { result ≡ self.now.used }
+    {
+        self.used
+    }
+
+    /// The parameters in order, without padding.
+    pub fn iter(&self) -> Params<'a>
+        ensures { result ≡ self.now.parameters }
+    {
+        Params {
+            rest: self.octets,
+            endian: self.endian,
+        }
+    }
+}
+
+/// The parameters of a list, one after the other.
+#[derive(Drop)]
+pub struct Params<'a> {
+    rest: &'a [u8],
+    endian: Endian,
+}
+
+impl<'a> Model for Params<'a> {
+    ghost Value = { List Parameter };
+
+    ghost view = { λ p. shown p.endian p.rest.now };
+}
+
+impl<'a> Iterator for Params<'a> {
+    type Item = Param<'a>;
+
+    ghost next_gives = { YieldsFirstBy view (λ left. left) };
+
+    ghost remaining = { item_count (λ left. left) };
+
+    #[tactic(auto, using(crate::proofs::Steps::shown_param, crate::proofs::Steps::shown_pad, crate::proofs::Steps::shown_end, crate::proofs::Steps::shown_fault, crate::proofs::Steps::front_shortens))]
+    fn next(&mut self) -> Option<Param<'a>> {
+        loop {
+            match read_front(self.rest, self.endian) {
+                Front::Param(param, after) => {
+                    self.rest = after;
+                    if param.id != PAD {
+                        return Some(param);
+                    }
+                }
+                Front::End(_) | Front::Fault(_) => return None,
+            }
+        }
+    }
+}

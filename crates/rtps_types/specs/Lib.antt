@@ -1,0 +1,4 @@
+pub mod Field
+pub mod SequenceNumber
+pub mod NumberSet
+pub mod Order

@@ -1,0 +1,31 @@
+//! The values that RTPS messages carry, and the numbers that octets spell.
+//!
+//! Names and layouts are those of DDSI-RTPS 2.5, sections 8.2, 9.3 and 9.4.2. Nothing here takes
+//! memory.
+#![tactic(auto)]
+
+mod field;
+mod identity;
+pub mod laws;
+mod locator;
+mod number;
+mod octets;
+mod place;
+mod set;
+#[cfg(test)]
+mod tests;
+mod time;
+mod traffic;
+
+pub use field::{
+    Endian, get_octets, get_sn, get_u16, get_u32, get_u64, put_octets, put_sn, put_u16, put_u32,
+    put_u64,
+};
+pub use identity::{EntityId, Guid, GuidPrefix, KeyHash};
+pub use locator::{Locator, Locators};
+pub use number::{MAX_NUMBER, Number};
+pub use octets::Octets;
+pub use place::Place;
+pub use set::{FragSet, Members, SnSet};
+pub use time::{Duration, Timestamp};
+pub use traffic::{Reply, WriterFacts};

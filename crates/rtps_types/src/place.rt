@@ -1,0 +1,10 @@
+//! Where a submessage stands in the run.
+
+/// The place of a submessage, ordered by datagram and then by submessage.
+#[derive(Clone, Copy, Debug, PartialEq, Eq, PartialOrd, Ord)]
+pub struct Place {
+    /// The datagram, counted over the whole run from 0.
+    pub datagram: u64,
+    /// The submessage in its datagram, counted from 1; skipped ones count too.
+    pub submessage: u32,
+}

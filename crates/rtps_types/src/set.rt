@@ -1,0 +1,122 @@
+//! Sets of up to 256 numbers from a base on (DDSI-RTPS 9.4.2.6, 9.4.2.8).
+
+ghost use Rattle.std.specs.Prelude.{◌≡◌, ◌+◌, ◌-◌, ◌^◌, ◌<◌, ◌≤◌, ℕ, List};
+ghost use Rattle.std.specs.Iterator.{YieldsFirst, item_count};
+ghost use Rattle.rtps_types.specs.NumberSet.{NumberSet, members, members_from, names};
+
+use std::marker::Model;
+
+/// Sequence numbers near one another: offset k is named where bit `31 - k % 32` of word `k / 32`
+/// is set, for each k below `bits`. Other bits name nothing.
+#[derive(Clone, Copy, Debug, PartialEq, Eq)]
+pub struct SnSet {
+    /// The number of offset 0, from 1 to 2^63 - 1: it may pass the greatest number of a change.
+    pub base: u64,
+    /// How many offsets there are, at most 256.
+    pub bits: u32,
+    pub words: [u32; 8],
+}
+
+impl Model for SnSet {
+    ghost Value = { NumberSet };
+
+    ghost view = { λ s. record { base = s.base; bits = s.bits; words = s.words } };
+
+    ghost invariant = { λ s. (1 ≤ s.base) × (s.base < 2 ^ 63) × (s.bits ≤ 256) };
+
+    ghost inverse = { λ n. record { base = n.base; bits = n.bits; words = n.words } };
+}
+
+/// Fragment numbers near one another, named as in [`SnSet`].
+#[derive(Clone, Copy, Debug, PartialEq, Eq)]
+pub struct FragSet {
+    /// The fragment of offset 0, at least 1.
+    pub base: u32,
+    /// How many offsets there are, at most 256.
+    pub bits: u32,
+    pub words: [u32; 8],
+}
+
+impl Model for FragSet {
+    ghost Value = { NumberSet };
+
+    ghost view = { λ s. record { base = s.base; bits = s.bits; words = s.words } };
+
+    ghost invariant = { λ s. (1 ≤ s.base) × (s.bits ≤ 256) };
+
+    ghost inverse = { λ n. record { base = n.base; bits = n.bits; words = n.words } };
+}
+
+impl SnSet {
+    /// The numbers that the set names, from the least on.
+    pub fn members(&self) -> Members
+        ensures { result ≡ members self.now }
+    {
+        Members {
+            base: self.base,
+            words: self.words,
+            offset: 0,
+            bits: self.bits,
+        }
+    }
+}
+
+impl FragSet {
+    /// The fragments that the set names, from the least on.
+    pub fn members(&self) -> Members
+        ensures { result ≡ members self.now }
+    {
+        Members {
+            base: u64::from(self.base),
+            words: self.words,
+            offset: 0,
+            bits: self.bits,
+        }
+    }
+}
+
+/// Whether a set of these words names an offset.
+fn names_offset(words: &[u32; 8], offset: u32) -> bool
+    requires { offset < 256 }
+    ensures { result ≡ names words.now offset }
+{
+    words[(offset / 32) as usize] & (1 << (31 - offset % 32)) != 0
+}
+
+/// The numbers that a set names, from the least on.
+#[derive(Drop)]
+pub struct Members {
+    base: u64,
+    words: [u32; 8],
+    /// The next offset to look at.
+    offset: u32,
+    bits: u32,
+}
+
+impl Model for Members {
+    ghost Value = { List ℕ };
+
+    ghost view = { λ m. members_from m.base m.words m.offset (m.bits - m.offset) };
+
+    ghost invariant = { λ m. (m.base < 2 ^ 63) × (m.bits ≤ 256) };
+}
+
+impl Iterator for Members {
+    type Item = u64;
+
+    ghost next_gives = { YieldsFirst (λ left. left) };
+
+    ghost remaining = { item_count (λ left. left) };
+
+    #[tactic(auto, using(crate::proofs::Sets::members_named, crate::proofs::Sets::members_unnamed, crate::proofs::Sets::members_end))]
+    fn next(&mut self) -> Option<u64> {
+        while self.offset < self.bits {
+            let offset = self.offset;
+            self.offset += 1;
+            if names_offset(&self.words, offset) {
+                return Some(self.base + u64::from(offset));
+            }
+        }
+        None
+    }
+}
