@@ -2,3 +2,5 @@ pub mod Field
 pub mod SequenceNumber
 pub mod NumberSet
 pub mod Order
+pub mod Number
+pub mod Sets

@@ -2,7 +2,7 @@
 
 ghost use Rattle.std.specs.Prelude.{◌≡◌, ◌+◌, ◌-◌, ◌^◌, ◌<◌, ◌≤◌, ℕ, List};
 ghost use Rattle.std.specs.Iterator.{YieldsFirst, item_count};
-ghost use Rattle.rtps_types.specs.NumberSet.{NumberSet, members, members_from, names};
+ghost use Rattle.rtps_types.specs.NumberSet.{members, members_from, names};
 
 use std::marker::Model;
 
@@ -15,16 +15,9 @@ pub struct SnSet {
     /// How many offsets there are, at most 256.
     pub bits: u32,
     pub words: [u32; 8],
-}
-
-impl Model for SnSet {
-    ghost Value = { NumberSet };
-
-    ghost view = { λ s. record { base = s.base; bits = s.bits; words = s.words } };
-
-    ghost invariant = { λ s. (1 ≤ s.base) × (s.base < 2 ^ 63) × (s.bits ≤ 256) };
-
-    ghost inverse = { λ n. record { base = n.base; bits = n.bits; words = n.words } };
+    ghost from_one: { 1 ≤ base },
+    ghost signed: { base < 2 ^ 63 },
+    ghost few: { bits ≤ 256 },
 }
 
 /// Fragment numbers near one another, named as in [`SnSet`].
@@ -35,22 +28,16 @@ pub struct FragSet {
     /// How many offsets there are, at most 256.
     pub bits: u32,
     pub words: [u32; 8],
-}
-
-impl Model for FragSet {
-    ghost Value = { NumberSet };
-
-    ghost view = { λ s. record { base = s.base; bits = s.bits; words = s.words } };
-
-    ghost invariant = { λ s. (1 ≤ s.base) × (s.bits ≤ 256) };
-
-    ghost inverse = { λ n. record { base = n.base; bits = n.bits; words = n.words } };
+    ghost from_one: { 1 ≤ base },
+    ghost few: { bits ≤ 256 },
 }
 
 impl SnSet {
+    ghost use Rattle.rtps_types.specs.Sets.{sn_view};
+
     /// The numbers that the set names, from the least on.
     pub fn members(&self) -> Members
-        ensures { result ≡ members self.now }
+        ensures { result ≡ members (sn_view self.now) }
     {
         Members {
             base: self.base,
@@ -62,9 +49,11 @@ impl SnSet {
 }
 
 impl FragSet {
+    ghost use Rattle.rtps_types.specs.Sets.{frag_view};
+
     /// The fragments that the set names, from the least on.
     pub fn members(&self) -> Members
-        ensures { result ≡ members self.now }
+        ensures { result ≡ members (frag_view self.now) }
     {
         Members {
             base: u64::from(self.base),

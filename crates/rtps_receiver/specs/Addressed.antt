@@ -1,0 +1,66 @@
+-- What a submessage brings to readers, by its kind (DDSI-RTPS 8.3.7).
+use Rattle.std.specs.Prelude.{ℕ, List, [], ◌∷◌, Option, Some, None, ◌&&◌, nat_le, if◌then◌else◌}
+use Rattle.std.specs.List.{list_all}
+use Rattle.rtps_types.specs.declared.identity.EntityId.{EntityId}
+use Rattle.rtps_types.specs.Number.{value_of}
+use Rattle.rtps_types.specs.NumberSet.{members}
+use Rattle.rtps_types.specs.Sets.{sn_view}
+use Rattle.rtps_wire.specs.Submessage.{Content}
+use Rattle.rtps_wire.specs.Submessage as wire
+use Rattle.rtps_receiver.specs.declared.addressed.Addressed as kept
+use Rattle.rtps_receiver.specs.declared.body.Body.{Body}
+use Rattle.rtps_receiver.specs.declared.body.Body.TheVariants as code
+use Rattle.rtps_receiver.specs.Brought.{Brought, Whole, Fragment, Heartbeat, Gap, HeartbeatFrag, is_taken}
+
+-- what is addressed, by whom, to whom
+pub record Addressed : Type 0 where
+  pub writer : EntityId
+  pub reader : EntityId
+  pub body : Brought
+
+-- the five kinds that bring something to readers
+abbrev pub addressed : Content → Option Addressed
+addressed (wire.Whole d) = Some (record { writer = d.writer; reader = d.reader; body = Whole (record { number = d.number; form = d.form; status = d.status; hash = d.hash; payload = d.payload }) })
+addressed (wire.Frag d) = Some (record { writer = d.writer; reader = d.reader; body = Fragment (record { number = d.number; start = d.start; count = d.count; size = d.size; sample = d.sample; form = d.form; status = d.status; hash = d.hash; payload = d.payload }) })
+addressed (wire.HeartbeatOf h) = Some (record { writer = h.writer; reader = h.reader; body = Heartbeat (record { first = h.first; last = h.last; count = h.count; final_flag = h.final_flag; liveliness = h.liveliness }) })
+addressed (wire.GapOf g) = Some (record { writer = g.writer; reader = g.reader; body = Gap (record { start = g.start; list = g.list }) })
+addressed (wire.HeartbeatFragOf h) = Some (record { writer = h.writer; reader = h.reader; body = HeartbeatFrag (record { number = h.number; last = h.last; count = h.count }) })
+addressed wire.Pad = None
+addressed (wire.Time t) = None
+addressed (wire.Source s) = None
+addressed (wire.Destination p) = None
+addressed wire.Skipped = None
+
+-- the sequence numbers, bases and set members that it names
+abbrev pub numbers_of : Brought → List ℕ
+numbers_of (Whole c) = c.number ∷ []
+numbers_of (Fragment f) = f.number ∷ []
+numbers_of (Heartbeat h) = h.first ∷ h.last ∷ []
+numbers_of (Gap g) = g.start ∷ g.list.base ∷ members g.list
+numbers_of (HeartbeatFrag h) = h.number ∷ []
+
+-- the number of its change, or the first that it speaks of; it is at least 1 in any valid submessage
+abbrev pub first_of : Brought → ℕ
+first_of (Whole c) = c.number
+first_of (Fragment f) = f.number
+first_of (Heartbeat h) = h.first
+first_of (Gap g) = g.start
+first_of (HeartbeatFrag h) = h.number
+
+-- it is taken where no number that it names is above 2^62
+abbrev pub taken : Addressed → Option Addressed
+taken a = if nat_le 1 (first_of a.body) && list_all is_taken (numbers_of a.body) then Some a else None
+
+abbrev pub taken_of : Option Addressed → Option Addressed
+taken_of None = None
+taken_of (Some a) = taken a
+
+abbrev pub body_view : Body → Brought
+body_view (code.Whole w) = Whole (record { number = value_of w.number; form = w.form; status = w.status; hash = w.hash; payload = w.payload.now })
+body_view (code.Fragment f) = Fragment (record { number = value_of f.number; start = f.start; count = f.count; size = f.size; sample = f.sample; form = f.form; status = f.status; hash = f.hash; payload = f.payload.now })
+body_view (code.Heartbeat h) = Heartbeat (record { first = value_of h.first; last = h.last; count = h.count; final_flag = h.final_flag; liveliness = h.liveliness })
+body_view (code.Gap g) = Gap (record { start = value_of g.start; list = sn_view g.list })
+body_view (code.HeartbeatFrag h) = HeartbeatFrag (record { number = value_of h.number; last = h.last; count = h.count })
+
+abbrev pub view : kept.Addressed → Addressed
+view a = record { writer = a.writer; reader = a.reader; body = body_view a.body }

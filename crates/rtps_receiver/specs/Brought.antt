@@ -1,0 +1,60 @@
+-- What an event brings, without where its octets lie in memory.
+use Rattle.std.specs.Prelude.{ℕ, ℤ, ◌^◌, List, ◌∷◌, Bool, Option, nat_le}
+use Rattle.std.specs.List.{list_all}
+use Rattle.rtps_types.specs.declared.identity.KeyHash.{KeyHash}
+use Rattle.rtps_types.specs.NumberSet.{NumberSet, members}
+use Rattle.rtps_wire.specs.declared.data.Form.{Form}
+
+-- a number that a change may have is at most 2^62
+abbrev pub is_taken : ℕ → Bool
+is_taken n = nat_le n (2 ^ 62)
+
+-- the base and all members of a set are such numbers
+abbrev pub are_taken : NumberSet → Bool
+are_taken s = list_all is_taken (s.base ∷ members s)
+
+-- a change in one piece
+pub record Change : Type 0 where
+  pub number : ℕ
+  pub form : Form
+  pub status : ℕ
+  pub hash : Option KeyHash
+  pub payload : List ℕ
+
+-- fragments of a change, from number start on
+pub record Fragments : Type 0 where
+  pub number : ℕ
+  pub start : ℕ
+  pub count : ℕ
+  pub size : ℕ
+  pub sample : ℕ
+  pub form : Form
+  pub status : ℕ
+  pub hash : Option KeyHash
+  pub payload : List ℕ
+
+-- which numbers a writer has
+pub record Announced : Type 0 where
+  pub first : ℕ
+  pub last : ℕ
+  pub count : ℤ
+  pub final_flag : Bool
+  pub liveliness : Bool
+
+-- numbers that will not come: from start up to below the base of the list, and its members
+pub record Passed : Type 0 where
+  pub start : ℕ
+  pub list : NumberSet
+
+-- which fragments of a change a writer has
+pub record AnnouncedFragments : Type 0 where
+  pub number : ℕ
+  pub last : ℕ
+  pub count : ℤ
+
+pub data Brought : Type 0 where
+  Whole : Change → Brought
+  Fragment : Fragments → Brought
+  Heartbeat : Announced → Brought
+  Gap : Passed → Brought
+  HeartbeatFrag : AnnouncedFragments → Brought

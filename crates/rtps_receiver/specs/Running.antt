@@ -1,0 +1,35 @@
+-- The context as it is kept from one submessage to the next.
+use Rattle.std.specs.Prelude.{List, [], Option, None, if◌then◌else◌}
+use Rattle.std.specs.Str.{bytes_eq}
+use Rattle.rtps_types.specs.declared.place.Place.{Place}
+use Rattle.rtps_types.specs.declared.identity.GuidPrefix.{GuidPrefix}
+use Rattle.rtps_wire.specs.Submessage.{Content, Pad, HeartbeatOf, GapOf, Time, Source, Destination, HeartbeatFragOf, Whole, Frag, Skipped}
+use Rattle.rtps_receiver.specs.declared.context.Context.{Context}
+use Rattle.rtps_receiver.specs.Addressed.{addressed, taken_of}
+use Rattle.rtps_receiver.specs.Events.{Happening, happening}
+use Rattle.rtps_receiver.specs.Context.{destination_of, resolved, source_of, time_of}
+
+-- the context that the submessages before give
+abbrev pub context_of : GuidPrefix → GuidPrefix → List Content → Context
+context_of own header before = record { own = own; source = source_of header before; destination = destination_of own before; time = time_of before }
+
+abbrev pub first_context : GuidPrefix → GuidPrefix → Context
+first_context own header = context_of own header []
+
+-- what one submessage changes
+abbrev pub after : Context → Content → Context
+after c (Time t) = record c { time = t }
+after c (Source s) = record c { source = s.prefix; time = None }
+after c (Destination p) = record c { destination = resolved c.own p }
+after c Pad = c
+after c (HeartbeatOf h) = c
+after c (GapOf g) = c
+after c (HeartbeatFragOf h) = c
+after c (Whole d) = c
+after c (Frag d) = c
+after c Skipped = c
+
+-- the event of a submessage in a context
+abbrev pub event_in : Context → Place → Content → Option Happening
+event_in c place content =
+    if bytes_eq c.destination.0 c.own.0 then happening place c.source c.time (taken_of (addressed content)) else None

@@ -1,0 +1,79 @@
+//! What the submessages before a submessage say of it (DDSI-RTPS 8.3.4).
+
+ghost use Rattle.std.specs.Prelude.{◌≡◌};
+ghost use Rattle.std.specs.Option.{option_map};
+ghost use Rattle.rtps_wire.specs.Submessage.{parts_view};
+ghost use Rattle.rtps_receiver.specs.Events.{view};
+ghost use Rattle.rtps_receiver.specs.Running.{after, event_in, first_context};
+
+use crate::addressed::addressed_by;
+use crate::event::Event;
+use rtps_types::{GuidPrefix, Place, Timestamp};
+use rtps_wire::Parts;
+
+/// The state of a receiver between two submessages of one datagram.
+#[derive(Clone, Copy)]
+pub(crate) struct Context {
+    own: GuidPrefix,
+    source: GuidPrefix,
+    destination: GuidPrefix,
+    time: Option<Timestamp>,
+}
+
+/// The destination that stands for whoever reads.
+const UNKNOWN: GuidPrefix = GuidPrefix([0; 12]);
+
+impl Context {
+    /// The state before the first submessage.
+    pub(crate) fn new(own: GuidPrefix, source: GuidPrefix) -> Context
+        ensures { result ≡ first_context own source }
+    {
+        Context {
+            own,
+            source,
+            destination: own,
+            time: None,
+        }
+    }
+
+    /// Takes in what a submessage says of those behind it.
+    pub(crate) fn see(&mut self, parts: &Parts<'_>)
+        ensures { self.new ≡ after self.old (parts_view parts.now) }
+    {
+        match parts {
+            Parts::InfoTimestamp(time) => self.time = *time,
+            Parts::InfoSource(source) => {
+                self.source = source.prefix;
+                self.time = None;
+            }
+            Parts::InfoDestination(prefix) => {
+                self.destination = if *prefix == UNKNOWN {
+                    self.own
+                } else {
+                    *prefix
+                };
+            }
+            _ => {}
+        }
+    }
+
+    /// The event of a submessage, if it is one that is addressed to us.
+    pub(crate) fn event<'a>(&self, place: Place, parts: &Parts<'a>) -> Option<Event<'a>>
+        ensures { option_map view result ≡ event_in self.now place (parts_view parts.now) }
+    {
+        if self.destination != self.own {
+            return None;
+        }
+        match addressed_by(parts) {
+            Some(addressed) => Some(Event {
+                place,
+                source: self.source,
+                time: self.time,
+                writer: addressed.writer,
+                reader: addressed.reader,
+                body: addressed.body,
+            }),
+            None => None,
+        }
+    }
+}

@@ -1,0 +1,14 @@
+//! The events of a datagram, each with its context (DDSI-RTPS 8.3.4).
+#![tactic(auto)]
+
+mod addressed;
+mod body;
+mod context;
+mod event;
+mod receive;
+#[cfg(test)]
+mod tests;
+
+pub use body::{Body, Fragment, Gap, Heartbeat, HeartbeatFrag, Whole};
+pub use event::Event;
+pub use receive::{ReceiverError, events};

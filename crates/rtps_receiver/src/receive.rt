@@ -1,0 +1,61 @@
+//! From octets to events.
+
+ghost use Rattle.std.specs.Prelude.{◌≡◌, ◌≤◌, length, map, IfOk};
+ghost use Rattle.rtps_receiver.specs.Events.{events_of, view};
+
+use crate::context::Context;
+use crate::event::Event;
+use rtps_types::{GuidPrefix, Place};
+use rtps_wire::{Submessages, header};
+use std::alloc::{AllocFailed, Allocator};
+use thiserror::Error;
+
+/// Why the events of a datagram could not be told.
+#[derive(Debug, Drop, Error)]
+pub enum ReceiverError {
+    #[error("out of memory")]
+    NoMemory,
+}
+
+impl<T: Drop> From<AllocFailed<T>> for ReceiverError {
+    fn from(_failed: AllocFailed<T>) -> ReceiverError {
+        ReceiverError::NoMemory
+    }
+}
+
+/// How many octets the header of a message takes.
+const HEADER: usize = 20;
+
+/// The events of one datagram, in order (DDSI-RTPS 8.3.4): its valid submessages of the five kinds
+/// that bring something to readers, where their destination is the participant `own` and they name
+/// no number above 2^62. `index` is the datagram's place in the run, counted from 0. A bad header
+/// gives none; what stands behind the first invalid submessage gives none.
+///
+/// Payloads stay where the datagram lies.
+pub fn events<A: Allocator>(
+    alloc: A,
+    own: GuidPrefix,
+    index: u64,
+    octets: &[u8],
+) -> Result<Vec<Event<'_>, A>, ReceiverError>
+    requires { length octets.now ≤ 65507 }
+    ensures { IfOk result (λ events. map view events.items ≡ events_of own index octets.now) }
+{
+    let mut events = Vec::new(alloc);
+    let Ok(header) = header(octets) else {
+        return Ok(events);
+    };
+    let mut context = Context::new(own, header.prefix);
+    let mut place = Place {
+        datagram: index,
+        submessage: 0,
+    };
+    for submessage in Submessages::new(&octets[HEADER..]) {
+        place.submessage += 1;
+        if let Some(event) = context.event(place, &submessage.parts) {
+            events.push(event)?;
+        }
+        context.see(&submessage.parts);
+    }
+    Ok(events)
+}

@@ -1,0 +1,191 @@
+//! Events against datagrams that were written down by hand.
+
+use crate::*;
+use linked_list_allocator::LocalHeap;
+use rtps_types::{EntityId, GuidPrefix, Timestamp};
+use rtps_wire::Form;
+use std::test::Fail;
+
+const OURS: GuidPrefix = GuidPrefix([0x0b; 12]);
+
+const THEIRS: GuidPrefix = GuidPrefix([0x0a; 12]);
+
+/// `RTPS`, version 2.3, a vendor, and the prefix of the sender.
+const HEADER: [u8; 20] = [
+    0x52, 0x54, 0x50, 0x53, 2, 3, 2, 5, 10, 10, 10, 10, 10, 10, 10, 10, 10, 10, 10, 10,
+];
+
+/// DATA 1 from 00000102 to 00000107 with four octets of payload.
+const DATA: [u8; 28] = [
+    0x15, 0x05, 0x18, 0x00, 0, 0, 0x10, 0, 0, 0, 1, 7, 0, 0, 1, 2, 0, 0, 0, 0, 1, 0, 0, 0, //
+    0xde, 0xad, 0xbe, 0xef,
+];
+
+/// A message with these parts behind its header.
+fn message(alloc: std::alloc::Global, parts: &[&[u8]]) -> Result<Vec<u8>, Fail> {
+    let mut octets = HEADER.to_vec(alloc)?;
+    for part in parts {
+        octets.extend_from_slice(part)?;
+    }
+    Ok(octets)
+}
+
+#[test]
+fn a_change_and_its_context(rt: HostRuntime) -> Result<(), Fail> {
+    let info_ts = [0x09, 1, 8, 0, 5, 0, 0, 0, 0, 0, 0, 0x80];
+    let info_src = [
+        0x0c, 1, 0x14, 0, 0, 0, 0, 0, 2, 5, 0, 0, 12, 12, 12, 12, 12, 12, 12, 12, 12, 12, 12, 12,
+    ];
+    let unknown = [0x80, 1, 4, 0, 1, 2, 3, 4];
+    let octets = message(rt.alloc(), &[&unknown, &info_ts, &DATA, &info_src, &DATA])?;
+    assert!(rt; octets.len() < 200);
+    let found = events(rt.alloc(), OURS, 7, &octets)?;
+    assert_eq!(rt; found.len(), 2);
+    assert_eq!(rt;
+        (found[0].place.datagram, found[0].place.submessage),
+        (7, 3)
+    );
+    assert_eq!(rt; found[0].source, THEIRS);
+    assert_eq!(rt;
+        found[0].time,
+        Some(Timestamp {
+            seconds: 5,
+            fraction: 0x8000_0000
+        })
+    );
+    assert_eq!(rt; found[0].writer, EntityId([0, 0, 1, 2]));
+    assert_eq!(rt; found[0].reader, EntityId([0, 0, 1, 7]));
+    match found[0].body {
+        Body::Whole(whole) => {
+            assert_eq!(rt; whole.number.get(), 1);
+            assert_eq!(rt; whole.form, Form::Value);
+            assert_eq!(rt; whole.payload, [0xde, 0xad, 0xbe, 0xef].as_slice());
+        }
+        _ => assert!(rt; false, "no change in one piece"),
+    }
+    // INFO_SRC sets the source and clears the time.
+    assert_eq!(rt; found[1].place.submessage, 5);
+    assert_eq!(rt; found[1].source, GuidPrefix([12; 12]));
+    assert_eq!(rt; found[1].time, None);
+    Ok(())
+}
+
+#[test]
+fn destinations(rt: HostRuntime) -> Result<(), Fail> {
+    let others = [0x0e, 1, 12, 0, 9, 9, 9, 9, 9, 9, 9, 9, 9, 9, 9, 9];
+    let anyone = [0x0e, 1, 12, 0, 0, 0, 0, 0, 0, 0, 0, 0, 0, 0, 0, 0];
+    let ours = [
+        0x0e, 1, 12, 0, 11, 11, 11, 11, 11, 11, 11, 11, 11, 11, 11, 11,
+    ];
+    let octets = message(
+        rt.alloc(),
+        &[&others, &DATA, &anyone, &DATA, &others, &DATA, &ours, &DATA],
+    )?;
+    assert!(rt; octets.len() < 300);
+    let found = events(rt.alloc(), OURS, 0, &octets)?;
+    assert_eq!(rt; found.len(), 2);
+    assert_eq!(rt;
+        (found[0].place.submessage, found[1].place.submessage),
+        (4, 8)
+    );
+    Ok(())
+}
+
+#[test]
+fn the_greatest_number_and_those_above(rt: HostRuntime) -> Result<(), Fail> {
+    let mut greatest = DATA;
+    greatest[16..24].copy_from_slice(&[0, 0, 0, 0x40, 0, 0, 0, 0]);
+    let mut above = DATA;
+    above[16..24].copy_from_slice(&[0, 0, 0, 0x40, 1, 0, 0, 0]);
+    // GAP from 1 with base 2^62 - 1 and three bits, of which the middle one names 2^62, the last
+    // one the number above it.
+    let gap = [
+        0x08, 1, 32, 0, 0, 0, 1, 7, 0, 0, 1, 2, 0, 0, 0, 0, 1, 0, 0, 0, //
+        0xff, 0xff, 0xff, 0x3f, 0xff, 0xff, 0xff, 0xff, 3, 0, 0, 0, 0, 0, 0, 0x40,
+    ];
+    let mut gap_above = gap;
+    gap_above[35] = 0x20;
+    // HEARTBEAT 1 to 2^62 + 1
+    let heartbeat_above = [
+        0x07, 1, 28, 0, 0, 0, 1, 7, 0, 0, 1, 2, 0, 0, 0, 0, 1, 0, 0, 0, //
+        0, 0, 0, 0x40, 1, 0, 0, 0, 1, 0, 0, 0,
+    ];
+    let octets = message(
+        rt.alloc(),
+        &[&greatest, &above, &gap, &gap_above, &heartbeat_above, &DATA],
+    )?;
+    assert!(rt; octets.len() < 300);
+    let found = events(rt.alloc(), OURS, 0, &octets)?;
+    assert_eq!(rt; found.len(), 3);
+    assert_eq!(rt; found[0].place.submessage, 1);
+    assert_eq!(rt; found[1].place.submessage, 3);
+    assert_eq!(rt; found[2].place.submessage, 6);
+    Ok(())
+}
+
+#[test]
+fn heartbeats_and_fragments(rt: HostRuntime) -> Result<(), Fail> {
+    let heartbeat = [
+        0x07, 3, 28, 0, 0, 0, 1, 7, 0, 0, 1, 2, 0, 0, 0, 0, 2, 0, 0, 0, //
+        0, 0, 0, 0, 5, 0, 0, 0, 0xff, 0xff, 0xff, 0xff,
+    ];
+    let heartbeat_frag = [
+        0x13, 1, 24, 0, 0, 0, 1, 7, 0, 0, 1, 2, 0, 0, 0, 0, 3, 0, 0, 0, 4, 0, 0, 0, 9, 0, 0, 0,
+    ];
+    let fragment = [
+        0x16, 1, 34, 0, 0, 0, 28, 0, 0, 0, 1, 7, 0, 0, 1, 2, 0, 0, 0, 0, 3, 0, 0, 0, //
+        2, 0, 0, 0, 1, 0, 16, 0, 28, 0, 0, 0, 0xaa, 0xbb,
+    ];
+    let octets = message(rt.alloc(), &[&heartbeat, &heartbeat_frag, &fragment])?;
+    assert!(rt; octets.len() < 200);
+    let found = events(rt.alloc(), OURS, 0, &octets)?;
+    assert_eq!(rt; found.len(), 3);
+    match (found[0].body, found[1].body, found[2].body) {
+        (Body::Heartbeat(heartbeat), Body::HeartbeatFrag(frag), Body::Fragment(fragment)) => {
+            assert_eq!(rt;
+                (heartbeat.first.get(), heartbeat.last, heartbeat.count),
+                (2, 5, -1)
+            );
+            assert_eq!(rt; (heartbeat.final_flag, heartbeat.liveliness), (true, false));
+            assert_eq!(rt; (frag.number.get(), frag.last, frag.count), (3, 4, 9));
+            assert_eq!(rt; (fragment.start, fragment.count, fragment.size), (2, 1, 16));
+            assert_eq!(rt; fragment.sample, 28);
+            assert_eq!(rt; fragment.payload, [0xaa, 0xbb].as_slice());
+        }
+        _ => assert!(rt; false, "other kinds of event"),
+    }
+    Ok(())
+}
+
+#[test]
+fn bad_headers_give_none(rt: HostRuntime) -> Result<(), Fail> {
+    let mut other = HEADER;
+    other[3] = 0x58;
+    assert_eq!(rt; events(rt.alloc(), OURS, 0, &other)?.len(), 0);
+    assert_eq!(rt; events(rt.alloc(), OURS, 0, &HEADER[..19])?.len(), 0);
+    assert_eq!(rt; events(rt.alloc(), OURS, 0, &HEADER)?.len(), 0);
+    Ok(())
+}
+
+#[test]
+fn refused_growths(rt: HostRuntime) -> Result<(), Fail> {
+    let octets = message(rt.alloc(), &[&DATA, &DATA, &DATA, &DATA, &DATA])?;
+    assert!(rt; octets.len() < 200);
+    let mut refused = false;
+    let mut succeeded = false;
+    for size in [64, 256, 1024, 4096, 16384] {
+        let heap = LocalHeap::new(rt.alloc(), size)?;
+        match events(&heap, OURS, 0, &octets) {
+            Ok(found) => {
+                assert_eq!(rt; found.len(), 5);
+                succeeded = true;
+            }
+            Err(ReceiverError::NoMemory) => {
+                assert!(rt; !succeeded);
+                refused = true;
+            }
+        }
+    }
+    assert!(rt; refused && succeeded);
+    Ok(())
+}

@@ -1,0 +1,71 @@
+-- How the octets behind a message's header are read, one submessage after the other (DDSI-RTPS 8.3.4.1, 9.4.5.1).
+use Rattle.std.specs.Prelude.{◌≡◌, ℕ, zero, suc, List, [], ◌∷◌, length, take, drop, Option, Some, None, Result, Ok, Err, Bool, not, ◌&&◌, ◌||◌, nat_lt, ◌==◌, if◌then◌else◌}
+use Rattle.std.specs.Iterator.{YieldsFirstBy}
+use Rattle.rtps_types.specs.Field.{number}
+use Rattle.rtps_wire.specs.declared.submessage.Submessage.{Submessage}
+use Rattle.rtps_wire.specs.declared.submessage.SubmessageFault.{SubmessageFault}
+use Rattle.rtps_wire.specs.declared.submessage.SubmessageFault.TheVariants.{Rest, Length, Invalid}
+use Rattle.rtps_wire.specs.declared.submessages.Front.{Front}
+use Rattle.rtps_wire.specs.declared.submessages.Front.TheVariants as code
+use Rattle.rtps_wire.specs.Fields.{endian_of}
+use Rattle.rtps_wire.specs.Submessage.{Content, Item, parts_of, view}
+
+-- a length of 0 stands for all that follows, but in PAD and INFO_TS, where it is empty
+abbrev pub runs_to_end : ℕ → ℕ → Bool
+runs_to_end id stated = stated == 0 && not (id == 0x01 || id == 0x09)
+
+-- how long a body is, of which so many octets are left
+abbrev pub body_length : ℕ → ℕ → ℕ → ℕ
+body_length id stated left = if runs_to_end id stated then left else stated
+
+-- what stands at the front, with the octets behind it, or that nothing is left
+abbrev pub Read : Type 0
+Read = Result (Option (Item × List ℕ)) SubmessageFault
+
+abbrev pub item_of : ℕ → ℕ → Option Content → List ℕ → Read
+item_of id flags None after = Err Invalid
+item_of id flags (Some c) after = Ok (Some (record { id = id; flags = flags; content = c }, after))
+
+abbrev pub body_of : ℕ → ℕ → ℕ → List ℕ → Read
+body_of id flags len rest = if nat_lt (length rest) len then Err Length else item_of id flags (parts_of id flags (take len rest)) (drop len rest)
+
+unfoldable pub front_of : List ℕ → Read
+front_of [] = Ok None
+front_of (id ∷ []) = Err Rest
+front_of (id ∷ flags ∷ []) = Err Rest
+front_of (id ∷ flags ∷ a ∷ []) = Err Rest
+front_of (id ∷ flags ∷ a ∷ b ∷ rest) = body_of id flags (body_length id (number (endian_of flags) 2 (a ∷ b ∷ [])) (length rest)) rest
+
+abbrev pub seen : Front → Read
+seen (code.Submessage s after) = Ok (Some (view s, after.now))
+seen code.End = Ok None
+seen (code.Fault f) = Err f
+
+-- the submessages up to the end or to the first fault, and that fault
+pub record Reading : Type 0 where
+  pub items : List Item
+  pub fault : Option SubmessageFault
+
+abbrev pub go_on : Read → Reading → Reading
+go_on (Err f) others = record { items = []; fault = Some f }
+go_on (Ok None) others = record { items = []; fault = None }
+go_on (Ok (Some x)) others = record { items = x.0 ∷ others.items; fault = others.fault }
+
+-- the reading of what stands behind the first n octets
+unfoldable pub reading_behind : ℕ → List ℕ → Reading
+reading_behind (suc n) [] = record { items = []; fault = None }
+reading_behind (suc n) (a ∷ more) = reading_behind n more
+reading_behind zero [] = record { items = []; fault = None }
+reading_behind zero (id ∷ []) = record { items = []; fault = Some Rest }
+reading_behind zero (id ∷ flags ∷ []) = record { items = []; fault = Some Rest }
+reading_behind zero (id ∷ flags ∷ a ∷ []) = record { items = []; fault = Some Rest }
+reading_behind zero (id ∷ flags ∷ a ∷ b ∷ rest) =
+    go_on (body_of id flags (body_length id (number (endian_of flags) 2 (a ∷ b ∷ [])) (length rest)) rest) (reading_behind (body_length id (number (endian_of flags) 2 (a ∷ b ∷ [])) (length rest)) rest)
+
+abbrev pub reading : List ℕ → Reading
+reading octets = reading_behind 0 octets
+
+-- one call of next: it takes the first item, and never changes what ends the submessages
+pub record Takes (old : Reading) (taken : Option Submessage) (new : Reading) : Type 0 where
+  pub first : YieldsFirstBy view (λ (r : Reading). r.items) old taken new
+  pub fault : new.fault ≡ old.fault

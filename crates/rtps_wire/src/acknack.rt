@@ -1,0 +1,68 @@
+//! ACKNACK: which changes a reader has, and which it misses (DDSI-RTPS 8.3.7.1, 9.4.5.2).
+
+ghost use Rattle.std.specs.Prelude.{◌≡◌, None, IfOk};
+ghost use Rattle.rtps_types.specs.Sets.{sn_view};
+ghost use Rattle.rtps_wire.specs.Answering.{TellsAckNack, acknack_flags, acknack_octets, answer_items, our_header};
+ghost use Rattle.rtps_wire.specs.OneReading.{IsOnly};
+
+use crate::answering::{LITTLE, begin, push_octets, push_sn, push_u32, push_words};
+use rtps_types::{Guid, Octets, SnSet};
+use std::alloc::{AllocError, Allocator};
+
+/// What an ACKNACK tells a writer.
+#[derive(Clone, Copy, Debug)]
+pub struct AckNack {
+    /// The reader that answers.
+    pub reader: Guid,
+    /// The writer that is answered.
+    pub writer: Guid,
+    /// The changes that are missing; those below its base are not.
+    pub missing: SnSet,
+    /// Rises from one answer to the next.
+    pub count: u32,
+}
+
+const ACKNACK: u8 = 0x06;
+
+/// Flag F: no answer is asked for.
+const FINAL: u8 = 0x02;
+
+/// The datagram with which a reader answers a writer's heartbeat; flag F is set where nothing is
+/// missing. It fails only for want of memory.
+pub fn write_acknack<A: Allocator>(alloc: A, answer: AckNack) -> Result<Octets<A>, AllocError>
+    ensures octets { IfOk result (λ octets. octets ≡ acknack_octets answer) }
+    ensures message { IfOk result (λ octets. IsOnly octets
+        (our_header answer.reader.prefix)
+        (answer_items answer.writer.prefix 0x06 (acknack_flags (sn_view answer.missing)))
+        None) }
+    ensures read_again { IfOk result (λ octets. TellsAckNack answer octets) }
+{
+    let AckNack {
+        reader,
+        writer,
+        missing,
+        count,
+    } = answer;
+    let words = missing.bits.div_ceil(32) as usize;
+    let flags = flags_of(&missing);
+    let length = (24 + 4 * words) as u16;
+    let mut octets = begin(alloc, reader.prefix, writer.prefix, ACKNACK, flags, length)?;
+    push_octets(&mut octets, &reader.entity.0);
+    push_octets(&mut octets, &writer.entity.0);
+    push_sn(&mut octets, missing.base);
+    push_u32(&mut octets, missing.bits);
+    push_words(&mut octets, &missing.words[..words]);
+    push_u32(&mut octets, count);
+    Ok(Octets::new(octets))
+}
+
+/// Flag F stands where nothing is missing: no answer is asked for then.
+fn flags_of(missing: &SnSet) -> u8
+    ensures { result ≡ acknack_flags (sn_view missing.now) }
+{
+    if missing.bits == 0 {
+        LITTLE | FINAL
+    } else {
+        LITTLE
+    }
+}

@@ -1,0 +1,100 @@
+//! What the answers to a writer have in common: each is a message of ours with one submessage
+//! behind an INFO_DST, all of it little-endian. Memory is reserved once, for all of its octets.
+
+ghost use Rattle.std.specs.Prelude.{◌≡◌, ℕ, pos, ◌+◌, ◌*◌, ◌^◌, ◌<◌, ◌≤◌, List, [], ◌∷◌, ◌++◌, length, IfOk, vec_len, vec_capacity};
+ghost use Rattle.rtps_types.specs.Field.{spelled, spelled_sn};
+ghost use Rattle.rtps_wire.specs.Answering.{opened, spelled_words};
+ghost use Rattle.rtps_wire.specs.NumberSets.{words_in};
+
+use rtps_types::{Endian, GuidPrefix, put_sn, put_u16, put_u32};
+use std::alloc::{AllocError, Allocator};
+
+/// Flag E: numbers have the lowest octet first.
+pub(crate) const LITTLE: u8 = 0x01;
+
+/// How many octets stand before the submessage's body.
+const FRONT: usize = 40;
+
+/// Begins an answer, up to the header of its submessage, with room for a body of this length.
+pub(crate) fn begin<A: Allocator>(
+    alloc: A,
+    own: GuidPrefix,
+    to: GuidPrefix,
+    id: u8,
+    flags: u8,
+    length: u16,
+) -> Result<Vec<u8, A>, AllocError>
+    ensures items { IfOk result (λ octets.
+        octets.items ≡ opened own to ++ (id ∷ flags ∷ []) ++ spelled Endian.Little 2 length) }
+    ensures room { IfOk result (λ octets. vec_len octets + length ≤ vec_capacity octets) }
+{
+    let mut octets = Vec::with_capacity(alloc, FRONT + usize::from(length))?;
+    push_octets(&mut octets, b"RTPS\x02\x05\x00\x00");
+    push_octets(&mut octets, &own.0);
+    push_octets(&mut octets, &[0x0e, LITTLE, 12, 0]);
+    push_octets(&mut octets, &to.0);
+    push_octets(&mut octets, &[id, flags]);
+    push_u16(&mut octets, length);
+    Ok(octets)
+}
+
+/// Adds octets, for which there is room.
+pub(crate) fn push_octets<A: Allocator>(octets: &mut Vec<u8, A>, more: &[u8])
+    requires room { vec_len octets.old + length more.now ≤ vec_capacity octets.old }
+    ensures items { octets.new.items ≡ octets.old.items ++ more.now }
+    ensures len { vec_len octets.new ≡ vec_len octets.old + length more.now }
+    ensures capacity { vec_capacity octets.old ≤ vec_capacity octets.new }
+{
+    octets.extend_from_slice(more).unwrap();
+}
+
+/// Adds a 16-bit number, for which there is room.
+pub(crate) fn push_u16<A: Allocator>(octets: &mut Vec<u8, A>, value: u16)
+    requires room { vec_len octets.old + 2 ≤ vec_capacity octets.old }
+    ensures items { octets.new.items ≡ octets.old.items ++ spelled Endian.Little 2 value }
+    ensures len { vec_len octets.new ≡ vec_len octets.old + 2 }
+    ensures capacity { vec_capacity octets.old ≤ vec_capacity octets.new }
+{
+    let mut field = [0; 2];
+    put_u16(&mut field, 0, Endian::Little, value);
+    push_octets(octets, &field);
+}
+
+/// Adds a 32-bit number, for which there is room.
+pub(crate) fn push_u32<A: Allocator>(octets: &mut Vec<u8, A>, value: u32)
+    requires room { vec_len octets.old + 4 ≤ vec_capacity octets.old }
+    ensures items { octets.new.items ≡ octets.old.items ++ spelled Endian.Little 4 value }
+    ensures len { vec_len octets.new ≡ vec_len octets.old + 4 }
+    ensures capacity { vec_capacity octets.old ≤ vec_capacity octets.new }
+{
+    let mut field = [0; 4];
+    put_u32(&mut field, 0, Endian::Little, value);
+    push_octets(octets, &field);
+}
+
+/// Adds a sequence number, for which there is room.
+pub(crate) fn push_sn<A: Allocator>(octets: &mut Vec<u8, A>, value: u64)
+    requires number { value < 2 ^ 63 }
+    requires room { vec_len octets.old + 8 ≤ vec_capacity octets.old }
+    ensures items { octets.new.items ≡ octets.old.items ++ spelled_sn Endian.Little (pos value) }
+    ensures len { vec_len octets.new ≡ vec_len octets.old + 8 }
+    ensures capacity { vec_capacity octets.old ≤ vec_capacity octets.new }
+{
+    let mut field = [0; 8];
+    put_sn(&mut field, 0, Endian::Little, value.cast_signed());
+    push_octets(octets, &field);
+}
+
+/// Adds the words of a set, for which there is room.
+pub(crate) fn push_words<A: Allocator>(octets: &mut Vec<u8, A>, words: &[u32])
+    requires room { vec_len octets.old + 4 * length words.now ≤ vec_capacity octets.old }
+    ensures items { octets.new.items ≡ octets.old.items ++ spelled_words words.now }
+    ensures read_again { (rest : List ℕ) →
+        words_in Endian.Little (length words.now) (spelled_words words.now ++ rest) ≡ words.now }
+    ensures len { vec_len octets.new ≡ vec_len octets.old + 4 * length words.now }
+    ensures capacity { vec_capacity octets.old ≤ vec_capacity octets.new }
+{
+    for word in words {
+        push_u32(octets, *word);
+    }
+}

@@ -1,0 +1,111 @@
+//! DATA: a change, whole (DDSI-RTPS 8.3.7.2, 9.4.5.3).
+
+ghost use Rattle.std.specs.Prelude.{◌≡◌};
+ghost use Rattle.std.specs.Option.{option_map};
+ghost use Rattle.rtps_wire.specs.Data.{data_of, data_view, form_of, qos_of};
+
+use crate::fields::{get_entity, get_positive};
+use crate::inline_qos::{InlineQos, read_inline_qos};
+use rtps_types::{Endian, EntityId, KeyHash, get_u16};
+
+/// What a change carries.
+#[derive(Clone, Copy, Debug, PartialEq, Eq)]
+pub enum Form {
+    /// A serialized value.
+    Value,
+    /// A serialized key.
+    Key,
+    /// A payload in no standard form.
+    Other,
+    /// No payload.
+    Nothing,
+}
+
+/// The fields of a DATA.
+#[derive(Clone, Copy, Debug)]
+pub struct Data<'a> {
+    pub reader: EntityId,
+    pub writer: EntityId,
+    /// The number of the change, at least 1.
+    pub number: u64,
+    pub form: Form,
+    /// The last octet of the status info in the inline QoS, 0 where there is none.
+    pub status: u8,
+    /// The key hash in the inline QoS.
+    pub hash: Option<KeyHash>,
+    /// What stands behind the inline QoS, its encapsulation first; empty where no payload is told.
+    pub payload: &'a [u8],
+}
+
+/// Flag Q: inline QoS follows.
+const INLINE_QOS: u8 = 0x02;
+
+/// Flag D: a value follows.
+const DATA: u8 = 0x04;
+
+/// Flag K: a key follows.
+const KEY: u8 = 0x08;
+
+/// Flag N: the payload is in no standard form.
+const NON_STANDARD: u8 = 0x10;
+
+/// How many octets lie at least between octetsToInlineQos and the inline QoS.
+const LEAST_OFFSET: usize = 16;
+
+/// The fields of a DATA with these flags, if its body has their form.
+#[tactic(auto, unfolding(crate::specs::Data::data_of))]
+pub(crate) fn read_data(flags: u8, endian: Endian, body: &[u8]) -> Option<Data<'_>>
+    ensures { option_map data_view result ≡ data_of flags endian body.now }
+{
+    let offset = usize::from(get_u16(body, 2, endian)?);
+    let reader = get_entity(body, 4)?;
+    let writer = get_entity(body, 8)?;
+    let number = get_positive(body, 12, endian)?;
+    if offset < LEAST_OFFSET {
+        return None;
+    }
+    let rest = body.get(4 + offset..)?;
+    let qos = qos_at(flags, endian, rest)?;
+    let form = form_at(flags)?;
+    let payload = if flags & (DATA | KEY) == 0 {
+        &[]
+    } else {
+        rest.get(qos.used..)?
+    };
+    Some(Data {
+        reader,
+        writer,
+        number,
+        form,
+        status: qos.status,
+        hash: qos.hash,
+        payload,
+    })
+}
+
+/// The inline QoS where the flags say that it follows.
+pub(crate) fn qos_at(flags: u8, endian: Endian, rest: &[u8]) -> Option<InlineQos>
+    ensures { result ≡ qos_of flags endian rest.now }
+{
+    if flags & INLINE_QOS != 0 {
+        return read_inline_qos(rest, endian);
+    }
+    Some(InlineQos {
+        hash: None,
+        status: 0,
+        used: 0,
+    })
+}
+
+/// What the flags say that a change carries; a value and a key at once is no form.
+fn form_at(flags: u8) -> Option<Form>
+    ensures { result ≡ form_of flags }
+{
+    match (flags & DATA != 0, flags & KEY != 0) {
+        (true, true) => None,
+        _ if flags & NON_STANDARD != 0 => Some(Form::Other),
+        (true, false) => Some(Form::Value),
+        (false, true) => Some(Form::Key),
+        (false, false) => Some(Form::Nothing),
+    }
+}

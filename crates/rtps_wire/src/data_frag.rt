@@ -1,0 +1,89 @@
+//! DATA_FRAG: fragments of a change (DDSI-RTPS 8.3.7.3, 9.4.5.4).
+
+ghost use Rattle.std.specs.Prelude.{◌≡◌};
+ghost use Rattle.std.specs.Option.{option_map};
+ghost use Rattle.rtps_wire.specs.DataFrag.{data_frag_of, frag_form_of, frag_view};
+
+use crate::data::{Form, qos_at};
+use crate::fields::{get_entity, get_positive};
+use rtps_types::{Endian, EntityId, KeyHash, get_u16, get_u32};
+
+/// The fields of a DATA_FRAG.
+#[derive(Clone, Copy, Debug)]
+pub struct DataFrag<'a> {
+    pub reader: EntityId,
+    pub writer: EntityId,
+    /// The number of the change, at least 1.
+    pub number: u64,
+    /// The first fragment, at least 1; it may pass the last one of the change.
+    pub start: u32,
+    /// How many fragments follow one another; none where it is 0.
+    pub count: u16,
+    /// The octets of each fragment but the last.
+    pub size: u16,
+    /// The octets of the whole payload.
+    pub sample: u32,
+    pub form: Form,
+    /// The last octet of the status info in the inline QoS, 0 where there is none.
+    pub status: u8,
+    /// The key hash in the inline QoS.
+    pub hash: Option<KeyHash>,
+    /// What stands behind the inline QoS: the octets of the fragments, and maybe more.
+    pub payload: &'a [u8],
+}
+
+/// Flag K: the fragments are of a key.
+const KEY: u8 = 0x04;
+
+/// Flag N: the payload is in no standard form.
+const NON_STANDARD: u8 = 0x08;
+
+/// How many octets lie at least between octetsToInlineQos and the inline QoS.
+const LEAST_OFFSET: usize = 28;
+
+/// The fields of a DATA_FRAG with these flags, if its body has their form.
+#[tactic(auto, unfolding(crate::specs::DataFrag::data_frag_of))]
+pub(crate) fn read_data_frag(flags: u8, endian: Endian, body: &[u8]) -> Option<DataFrag<'_>>
+    ensures { option_map frag_view result ≡ data_frag_of flags endian body.now }
+{
+    let offset = usize::from(get_u16(body, 2, endian)?);
+    let reader = get_entity(body, 4)?;
+    let writer = get_entity(body, 8)?;
+    let number = get_positive(body, 12, endian)?;
+    let start = get_u32(body, 20, endian)?;
+    let count = get_u16(body, 24, endian)?;
+    let size = get_u16(body, 26, endian)?;
+    let sample = get_u32(body, 28, endian)?;
+    if start == 0 || offset < LEAST_OFFSET {
+        return None;
+    }
+    let rest = body.get(4 + offset..)?;
+    let qos = qos_at(flags, endian, rest)?;
+    let payload = rest.get(qos.used..)?;
+    Some(DataFrag {
+        reader,
+        writer,
+        number,
+        start,
+        count,
+        size,
+        sample,
+        form: form_at(flags),
+        status: qos.status,
+        hash: qos.hash,
+        payload,
+    })
+}
+
+/// What the flags say that the fragments are of.
+fn form_at(flags: u8) -> Form
+    ensures { result ≡ frag_form_of flags }
+{
+    if flags & NON_STANDARD != 0 {
+        Form::Other
+    } else if flags & KEY != 0 {
+        Form::Key
+    } else {
+        Form::Value
+    }
+}

@@ -1,0 +1,62 @@
+//! The fields that bodies of several kinds have.
+
+ghost use Rattle.std.specs.Prelude.{◌≡◌, ◌^◌, ◌<◌, ◌≤◌, IfSome};
+ghost use Rattle.rtps_wire.specs.Fields.{count_at, endian_of, entity_at, natural_at, positive_at, prefix_at};
+
+use rtps_types::{Endian, EntityId, GuidPrefix, get_octets, get_sn, get_u32};
+
+/// Flag E of a submessage: its numbers have the lowest octet first (DDSI-RTPS 9.4.5.1.2).
+const LITTLE: u8 = 0x01;
+
+/// The byte order of a submessage with these flags.
+pub(crate) fn endian_at(flags: u8) -> Endian
+    ensures { result ≡ endian_of flags }
+{
+    if flags & LITTLE != 0 {
+        Endian::Little
+    } else {
+        Endian::Big
+    }
+}
+
+pub(crate) fn get_entity(octets: &[u8], at: usize) -> Option<EntityId>
+    ensures { result ≡ entity_at octets.now at }
+{
+    Some(EntityId(get_octets(octets, at)?))
+}
+
+pub(crate) fn get_prefix(octets: &[u8], at: usize) -> Option<GuidPrefix>
+    ensures { result ≡ prefix_at octets.now at }
+{
+    Some(GuidPrefix(get_octets(octets, at)?))
+}
+
+pub(crate) fn get_count(octets: &[u8], at: usize, endian: Endian) -> Option<i32>
+    ensures { result ≡ count_at endian octets.now at }
+{
+    Some(get_u32(octets, at, endian)?.cast_signed())
+}
+
+/// The sequence number at `at`, if it is there and is at least 1.
+pub(crate) fn get_positive(octets: &[u8], at: usize, endian: Endian) -> Option<u64>
+    ensures value { result ≡ positive_at endian octets.now at }
+    ensures bounds { IfSome result (λ n. (1 ≤ n) × (n < 2 ^ 63)) }
+{
+    let number = get_sn(octets, at, endian)?;
+    if number < 1 {
+        return None;
+    }
+    Some(number.cast_unsigned())
+}
+
+/// The sequence number at `at`, if it is there and is at least 0.
+pub(crate) fn get_natural(octets: &[u8], at: usize, endian: Endian) -> Option<u64>
+    ensures value { result ≡ natural_at endian octets.now at }
+    ensures bounds { IfSome result (λ n. n < 2 ^ 63) }
+{
+    let number = get_sn(octets, at, endian)?;
+    if number < 0 {
+        return None;
+    }
+    Some(number.cast_unsigned())
+}

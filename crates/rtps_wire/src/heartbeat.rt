@@ -1,0 +1,54 @@
+//! HEARTBEAT: which numbers a writer has (DDSI-RTPS 8.3.7.5, 9.4.5.6).
+
+ghost use Rattle.std.specs.Prelude.{◌≡◌};
+ghost use Rattle.rtps_wire.specs.Heartbeat.{heartbeat_of};
+
+use crate::fields::{get_count, get_entity, get_natural, get_positive};
+use rtps_types::{Endian, EntityId};
+
+/// The fields of a HEARTBEAT.
+#[derive(Clone, Copy, Debug, PartialEq, Eq)]
+pub struct Heartbeat {
+    pub reader: EntityId,
+    pub writer: EntityId,
+    /// The least number that the writer still has, at least 1.
+    pub first: u64,
+    /// The greatest number that it has, at least `first - 1`.
+    pub last: u64,
+    /// Rises from one heartbeat to the next.
+    pub count: i32,
+    /// Flag F: an answer is not asked for.
+    pub final_flag: bool,
+    /// Flag L: the writer only says that it is alive.
+    pub liveliness: bool,
+}
+
+/// Flag F.
+const FINAL: u8 = 0x02;
+
+/// Flag L.
+const LIVELINESS: u8 = 0x04;
+
+/// The fields of a HEARTBEAT with these flags, if its body has their form.
+#[tactic(auto, unfolding(crate::specs::Heartbeat::heartbeat_of))]
+pub(crate) fn read_heartbeat(flags: u8, endian: Endian, body: &[u8]) -> Option<Heartbeat>
+    ensures { result ≡ heartbeat_of flags endian body.now }
+{
+    let reader = get_entity(body, 0)?;
+    let writer = get_entity(body, 4)?;
+    let first = get_positive(body, 8, endian)?;
+    let last = get_natural(body, 16, endian)?;
+    let count = get_count(body, 24, endian)?;
+    if last < first - 1 {
+        return None;
+    }
+    Some(Heartbeat {
+        reader,
+        writer,
+        first,
+        last,
+        count,
+        final_flag: flags & FINAL != 0,
+        liveliness: flags & LIVELINESS != 0,
+    })
+}

@@ -1,0 +1,29 @@
+//! INFO_SRC: the source of what follows (DDSI-RTPS 8.3.7.9, 9.4.5.10).
+
+ghost use Rattle.std.specs.Prelude.{◌≡◌};
+ghost use Rattle.rtps_wire.specs.Info.{source_of};
+
+use crate::fields::get_prefix;
+use rtps_types::{GuidPrefix, get_octets};
+
+/// The fields of an INFO_SRC; its version and vendor aren't judged.
+#[derive(Clone, Copy, Debug, PartialEq, Eq)]
+pub struct InfoSource {
+    pub version: [u8; 2],
+    pub vendor: [u8; 2],
+    pub prefix: GuidPrefix,
+}
+
+/// The fields of an INFO_SRC, if its body has their form.
+pub(crate) fn read_info_src(body: &[u8]) -> Option<InfoSource>
+    ensures { result ≡ source_of body.now }
+{
+    let version = get_octets(body, 4)?;
+    let vendor = get_octets(body, 6)?;
+    let prefix = get_prefix(body, 8)?;
+    Some(InfoSource {
+        version,
+        vendor,
+        prefix,
+    })
+}

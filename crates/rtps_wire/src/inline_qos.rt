@@ -1,0 +1,78 @@
+//! Inline QoS: what is said of one change (DDSI-RTPS 8.7, 9.6.4).
+
+ghost use Rattle.std.specs.Prelude.{◌≡◌};
+ghost use Rattle.rtps_wire.specs.InlineQos.{inline_of};
+
+use rtps_params::{Front, Param, read_front};
+use rtps_types::{Endian, KeyHash, get_octets};
+
+/// What inline QoS says of a change.
+#[derive(Clone, Copy, Debug, PartialEq, Eq)]
+pub(crate) struct InlineQos {
+    /// The key of its instance.
+    pub(crate) hash: Option<KeyHash>,
+    /// The last octet of its status info, 0 where there is none.
+    pub(crate) status: u8,
+    /// How many octets the list takes.
+    pub(crate) used: usize,
+}
+
+/// The key hash, `PID_KEY_HASH`.
+const KEY_HASH: u16 = 0x70;
+
+/// The status info, `PID_STATUS_INFO`.
+const STATUS_INFO: u16 = 0x71;
+
+/// What the parameters up to a place say.
+#[derive(Clone, Copy)]
+struct Seen {
+    hash: Option<KeyHash>,
+    status: u8,
+}
+
+impl Seen {
+    ghost use Rattle.rtps_params.specs.Reading.{view};
+    ghost use Rattle.rtps_wire.specs.InlineSeen.{seen_with};
+
+    /// What they say together with one more, if its value is long enough; of several of one kind
+    /// the last counts.
+    fn with(self, param: Param<'_>) -> Option<Seen>
+        ensures { result ≡ seen_with self (view param.entry) }
+    {
+        let mut seen = self;
+        match param.id {
+            KEY_HASH => seen.hash = Some(KeyHash(get_octets(param.value, 0)?)),
+            STATUS_INFO => seen.status = *param.value.get(3)?,
+            _ => {}
+        }
+        Some(seen)
+    }
+}
+
+/// The inline QoS at the front of octets, if its list has no fault and its values are long enough.
+#[tactic(auto, using(crate::proofs::InlineSteps::whole_goes, crate::proofs::InlineSteps::whole_bad, crate::proofs::InlineSteps::whole_end, crate::proofs::InlineSteps::whole_fault, crate::proofs::InlineSteps::whole_is))]
+pub(crate) fn read_inline_qos(octets: &[u8], endian: Endian) -> Option<InlineQos>
+    ensures { result ≡ inline_of endian octets.now }
+{
+    let mut seen = Seen {
+        hash: None,
+        status: 0,
+    };
+    let mut rest = octets;
+    loop {
+        match read_front(rest, endian) {
+            Front::Param(param, after) => {
+                seen = seen.with(param)?;
+                rest = after;
+            }
+            Front::End(after) => {
+                return Some(InlineQos {
+                    hash: seen.hash,
+                    status: seen.status,
+                    used: octets.len() - after.len(),
+                });
+            }
+            Front::Fault(_) => return None,
+        }
+    }
+}

@@ -1,0 +1,63 @@
+//! NACK_FRAG: which fragments of a change a reader misses (DDSI-RTPS 8.3.7.11, 9.4.5.13).
+
+ghost use Rattle.std.specs.Prelude.{◌≡◌, ◌^◌, ◌<◌, None, IfOk};
+ghost use Rattle.rtps_wire.specs.Answering.{TellsNackFrag, answer_items, nack_frag_octets, our_header};
+ghost use Rattle.rtps_wire.specs.OneReading.{IsOnly};
+
+use crate::answering::{LITTLE, begin, push_octets, push_sn, push_u32, push_words};
+use rtps_types::{FragSet, Guid, Octets};
+use std::alloc::{AllocError, Allocator};
+
+/// What a NACK_FRAG tells a writer.
+#[derive(Clone, Copy, Debug)]
+pub struct NackFrag {
+    /// The reader that answers.
+    pub reader: Guid,
+    /// The writer that is answered.
+    pub writer: Guid,
+    /// The change.
+    pub number: u64,
+    /// Its fragments that are missing.
+    pub missing: FragSet,
+    /// Rises from one answer to the next.
+    pub count: u32,
+}
+
+const NACK_FRAG: u8 = 0x12;
+
+/// The datagram with which a reader asks a writer for fragments. It fails only for want of memory.
+pub fn write_nack_frag<A: Allocator>(alloc: A, answer: NackFrag) -> Result<Octets<A>, AllocError>
+    requires { answer.number < 2 ^ 63 }
+    ensures octets { IfOk result (λ octets. octets ≡ nack_frag_octets answer) }
+    ensures message { IfOk result (λ octets. IsOnly octets
+        (our_header answer.reader.prefix)
+        (answer_items answer.writer.prefix 0x12 1)
+        None) }
+    ensures read_again { IfOk result (λ octets. TellsNackFrag answer octets) }
+{
+    let NackFrag {
+        reader,
+        writer,
+        number,
+        missing,
+        count,
+    } = answer;
+    let words = missing.bits.div_ceil(32) as usize;
+    let length = (28 + 4 * words) as u16;
+    let mut octets = begin(
+        alloc,
+        reader.prefix,
+        writer.prefix,
+        NACK_FRAG,
+        LITTLE,
+        length,
+    )?;
+    push_octets(&mut octets, &reader.entity.0);
+    push_octets(&mut octets, &writer.entity.0);
+    push_sn(&mut octets, number);
+    push_u32(&mut octets, missing.base);
+    push_u32(&mut octets, missing.bits);
+    push_words(&mut octets, &missing.words[..words]);
+    push_u32(&mut octets, count);
+    Ok(Octets::new(octets))
+}

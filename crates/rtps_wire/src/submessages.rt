@@ -1,0 +1,108 @@
+//! The submessages of a message, one after the other (DDSI-RTPS 8.3.4.1, 9.4.5.1).
+
+ghost use Rattle.std.specs.Prelude.{◌≡◌, ◌≤◌, List, Option, [], length};
+ghost use Rattle.std.specs.Iterator.{item_count};
+ghost use Rattle.rtps_wire.specs.declared.submessage.SubmessageFault.{SubmessageFault};
+ghost use Rattle.rtps_wire.specs.Message.{IsReading};
+ghost use Rattle.rtps_wire.specs.Reading.{Reading, Takes, front_of, reading, seen};
+ghost use Rattle.rtps_wire.specs.Submessage.{Item};
+
+use crate::fields::endian_at;
+use crate::submessage::{INFO_TS, PAD, Submessage, SubmessageFault, read_parts};
+use rtps_types::get_u16;
+use std::marker::Model;
+
+/// What stands at the front of the submessages, with the octets behind it.
+#[derive(Clone, Copy)]
+enum Front<'a> {
+    Submessage(Submessage<'a>, &'a [u8]),
+    End,
+    Fault(SubmessageFault),
+}
+
+#[tactic(auto, unfolding(crate::specs::Reading::front_of))]
+fn read_front(octets: &[u8]) -> Front<'_>
+    ensures { seen result ≡ front_of octets.now }
+{
+    let [id, flags, _, _, rest @ ..] = octets else {
+        return if octets.is_empty() {
+            Front::End
+        } else {
+            Front::Fault(SubmessageFault::Rest)
+        };
+    };
+    let (id, flags) = (*id, *flags);
+    let Some(length) = get_u16(octets, 2, endian_at(flags)) else {
+        return Front::Fault(SubmessageFault::Rest);
+    };
+    let length = match length {
+        0 if id != PAD && id != INFO_TS => rest.len(),
+        stated => usize::from(stated),
+    };
+    if rest.len() < length {
+        return Front::Fault(SubmessageFault::Length);
+    }
+    let (body, after) = rest.split_at(length);
+    match read_parts(id, flags, body) {
+        Some(parts) => Front::Submessage(Submessage { id, flags, parts }, after),
+        None => Front::Fault(SubmessageFault::Invalid),
+    }
+}
+
+/// The valid submessages behind a message's header, in order, up to the first that is invalid.
+#[derive(Drop)]
+pub struct Submessages<'a> {
+    rest: &'a [u8],
+}
+
+impl<'a> Model for Submessages<'a> {
+    ghost Value = { Reading };
+
+    ghost view = { λ s. reading s.rest.now };
+}
+
+impl<'a> Submessages<'a> {
+    /// Begins with the first submessage; the octets are those behind the 20 of the header.
+    #[tactic(auto, using(crate::proofs::Steps::few_items, crate::proofs::Grammar::reading_is))]
+    pub fn new(octets: &'a [u8]) -> Submessages<'a>
+        // Any octets have a reading by the grammar, this one, and no other.
+        ensures found { IsReading octets.now result.items result.fault }
+        ensures only { (items : List Item) (fault : Option SubmessageFault) →
+            IsReading octets.now items fault → result ≡ record { items = items; fault = fault } }
+        ensures value { result ≡ reading octets.now }
+        ensures few { length result.items ≤ length octets.now }
+    {
+        Submessages { rest: octets }
+    }
+
+    /// What keeps the octets that are left from being submessages, or `None` where nothing is left;
+    /// to be asked once there is no next submessage.
+    #[tactic(auto, using(crate::proofs::Steps::reading_item, crate::proofs::Steps::reading_end, crate::proofs::Steps::reading_fault))]
+    pub fn fault(&self) -> Option<SubmessageFault>
+        ensures ended { self.now.items ≡ [] → result ≡ self.now.fault }
+    {
+        match read_front(self.rest) {
+            Front::Fault(fault) => Some(fault),
+            Front::Submessage(..) | Front::End => None,
+        }
+    }
+}
+
+impl<'a> Iterator for Submessages<'a> {
+    type Item = Submessage<'a>;
+
+    ghost next_gives = { Takes };
+
+    ghost remaining = { item_count (λ s. s.items) };
+
+    #[tactic(auto, using(crate::proofs::Steps::reading_item, crate::proofs::Steps::reading_end, crate::proofs::Steps::reading_fault))]
+    fn next(&mut self) -> Option<Submessage<'a>> {
+        match read_front(self.rest) {
+            Front::Submessage(submessage, after) => {
+                self.rest = after;
+                Some(submessage)
+            }
+            Front::End | Front::Fault(_) => None,
+        }
+    }
+}

@@ -1,0 +1,28 @@
+//! Messages against octets that were written down by hand from their formats.
+
+mod contents;
+mod faults;
+mod reading;
+mod writing;
+
+use crate::*;
+use rtps_types::{EntityId, GuidPrefix};
+
+/// A prefix of twelve octets that differ.
+const PREFIX: GuidPrefix = GuidPrefix([1, 2, 3, 4, 5, 6, 7, 8, 9, 10, 11, 12]);
+
+const READER: EntityId = EntityId([0, 0, 1, 7]);
+
+const WRITER: EntityId = EntityId([0, 0, 1, 2]);
+
+/// What the only submessage says, if there is no fault and it is the only one.
+fn only(octets: &[u8]) -> Option<Parts<'_>> {
+    let mut submessages = Submessages::new(octets);
+    let Some(first) = submessages.next() else {
+        return None;
+    };
+    if submessages.next().is_some() || submessages.fault().is_some() {
+        return None;
+    }
+    Some(first.parts)
+}
