@@ -1,0 +1,23 @@
+-- What a catalog answers, unless memory runs out.
+use Rattle.std.specs.Prelude.{◌≡◌, ℕ, Result, Ok, Err}
+use Rattle.dds_topic.specs.declared.unread.Unread.{Unread as UnreadCode}
+use Rattle.dds_topic.specs.declared.unread.Unread.TheVariants.{Encapsulation, Malformed, NonStandard, NoKey}
+use Rattle.dds_topic.specs.declared.unread.CatalogError.{CatalogError}
+use Rattle.dds_topic.specs.declared.unread.CatalogError.TheVariants as errors
+
+-- the numbers of the causes
+abbrev pub code_of : UnreadCode → ℕ
+code_of Encapsulation = 1
+code_of Malformed = 2
+code_of NonStandard = 3
+code_of NoKey = 4
+
+-- want of memory may come whatever is meant; another cause is the one that is meant
+abbrev pub Fails : {M : Type 0} → CatalogError → Result M UnreadCode → Type 0
+Fails errors.NoMemory meaning = Unit {0}
+Fails (errors.Unread u) meaning = meaning ≡ Err u
+
+-- an answer gives what is meant: the value that is seen so, or the cause
+abbrev pub Gives : {V M : Type 0} → (V → M) → Result V CatalogError → Result M UnreadCode → Type 0
+Gives view (Ok v) meaning = meaning ≡ Ok (view v)
+Gives view (Err e) meaning = Fails e meaning

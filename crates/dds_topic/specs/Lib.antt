@@ -1,0 +1,8 @@
+pub mod Answer
+pub mod Encapsulation
+pub mod RawMeaning
+pub mod ShapeMeaning
+pub mod ShapeLaw
+pub mod ShapeType
+pub mod Shown
+pub mod SensorMeaning

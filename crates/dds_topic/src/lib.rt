@@ -1,0 +1,27 @@
+//! The catalog of one data type: how the payloads of a topic are decoded, and how instances are told
+//! apart (DDSI-RTPS 9.6.4.8, 10).
+//!
+//! A participant is generic in its [`Catalog`]. [`Raw`] decodes every payload as it stands, [`Shapes`]
+//! those of the Shapes demo.
+#![tactic(auto)]
+
+mod catalog;
+mod encapsulation;
+#[cfg(test)]
+mod example;
+mod hexed;
+pub mod laws;
+mod raw;
+mod shape;
+mod shapes;
+#[cfg(test)]
+mod tests;
+mod unread;
+
+pub use catalog::{Catalog, TextCatalog};
+pub use encapsulation::byte_order;
+pub use raw::{Raw, RawValue};
+pub use rtps_cdr::NoMemory;
+pub use shape::Shape;
+pub use shapes::Shapes;
+pub use unread::{CatalogError, Unread};

@@ -1,0 +1,82 @@
+//! Payloads as they stand.
+
+ghost use Rattle.std.specs.Prelude.{◌≡◌, Ok, IfOk, IsOkAnd, [], refl};
+ghost use Rattle.dds_topic.specs.RawMeaning.{RawMeaning, raw_view, no_key};
+ghost use Rattle.dds_topic.specs.Shown.{shown};
+
+use crate::hexed::show;
+use crate::{Catalog, CatalogError, TextCatalog};
+use rtps_cdr::NoMemory;
+use rtps_types::KeyHash;
+use std::alloc::{Allocator, Global};
+
+/// A body with the kind of its encapsulation.
+#[derive(Debug, Drop)]
+pub struct RawValue<A: Allocator = Global> {
+    pub kind: u16,
+    pub body: Vec<u8, A>,
+}
+
+/// The hash of every value.
+const NO_KEY: KeyHash = KeyHash([0; 16]);
+
+/// The catalog that decodes every payload as it stands. All its values are one instance, whose key
+/// has no octets and whose hash is zero.
+#[derive(Clone, Copy, Debug)]
+pub struct Raw;
+
+/// A copy of a body, with its kind.
+pub fn raw_value<A: Allocator>(alloc: A, kind: u16, body: &[u8]) -> Result<RawValue<A>, NoMemory>
+    ensures { IfOk result (λ v. raw_view v ≡ record { kind = kind; body = body.now }) }
+{
+    let body = Vec::from_slice(alloc, body)?;
+    Ok(RawValue { kind, body })
+}
+
+impl Catalog for Raw {
+    type Value = RawValue;
+
+    ghost Meaning = { RawMeaning };
+
+    ghost view = { raw_view };
+
+    ghost meaning = { λ _ kind body. Ok (record { kind = kind; body = body }) };
+
+    ghost hash = { λ _ _. no_key };
+
+    ghost key = { λ _ _. [] };
+
+    ghost hash_of_key = { λ _ _ _. Ok no_key };
+
+    ghost text_of = { λ _ v. shown v.body };
+
+    fn decode(&self, alloc: Global, kind: u16, body: &[u8]) -> Result<RawValue, CatalogError> {
+        Ok(raw_value(alloc, kind, body)?)
+    }
+
+    fn key_of(&self, _: Global, _: &RawValue) -> Result<KeyHash, NoMemory>
+        ensures { result ≡ Ok no_key }
+    {
+        Ok(NO_KEY)
+    }
+
+    fn key_payload(&self, alloc: Global, _: &RawValue) -> Result<Vec<u8>, NoMemory>
+        ensures { IsOkAnd result (λ v. v.items ≡ []) }
+    {
+        Ok(Vec::new(alloc))
+    }
+
+    fn key_of_payload(&self, _: Global, _: u16, _: &[u8]) -> Result<KeyHash, CatalogError>
+        ensures { result ≡ Ok no_key }
+    {
+        Ok(NO_KEY)
+    }
+
+    ghost key_again = { λ c v. refl };
+}
+
+impl TextCatalog for Raw {
+    fn text(&self, alloc: Global, value: &RawValue) -> Result<Vec<u8>, NoMemory> {
+        Ok(show(alloc, value.body.as_slice())?.into_bytes())
+    }
+}

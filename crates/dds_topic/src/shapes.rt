@@ -1,0 +1,137 @@
+//! The type of the Shapes demo.
+
+ghost use Rattle.std.specs.Prelude.{◌≡◌, ◌≤◌, ◌+◌, ◌^◌, ◌<◌, length, Ok, IfOk, OnOk};
+ghost use Rattle.std.specs.String.{string_bytes};
+ghost use Rattle.rtps_cdr.specs.Cdr.{Text};
+ghost use Rattle.rtps_cdr.specs.Writing.{written};
+ghost use Rattle.dds_topic.specs.Answer.{Gives};
+ghost use Rattle.dds_topic.specs.ShapeMeaning.{ShapeMeaning, shape_view, shape_in, shape_meaning, color_of, color_hash, color_key, shape_hash_of_key, shape_text, behind_text};
+ghost use Rattle.dds_topic.specs.ShapeLaw.{shape_key_again};
+
+use crate::encapsulation::byte_order;
+use crate::hexed::show;
+use crate::{Catalog, CatalogError, Shape, TextCatalog, Unread};
+use md5::{Digest, Md5};
+use rtps_cdr::{CdrReader, CdrWriter, NoMemory};
+use rtps_types::{Endian, KeyHash};
+use std::alloc::{Allocator, Global};
+
+/// The catalog of the Shapes demo: `string<128> color` (the key), `long x`, `long y`,
+/// `long shapesize`, in plain CDR of either byte order.
+///
+/// Octets behind a value are ignored. A color above 128 octets is malformed. The key's greatest size
+/// passes 16 octets, so its hash is the MD5 of its big-endian CDR, for short colors too
+/// (DDSI-RTPS 9.6.4.8).
+#[derive(Clone, Copy, Debug)]
+pub struct Shapes;
+
+/// The most octets of a color.
+const COLOR_LIMIT: usize = 128;
+
+/// Reads a color.
+fn read_color<'a>(reader: &mut CdrReader<'a>) -> Result<&'a str, CatalogError>
+    ensures color { Gives (λ s. s.now) result (color_of reader.old) }
+    ensures moves { OnOk result (reader.new ≡ behind_text reader.old) }
+    ensures short { IfOk result (λ s. length s.now ≤ 128) }
+{
+    let color = reader.read_string()?;
+    if color.len() > COLOR_LIMIT {
+        return Err(CatalogError::Unread(Unread::Malformed));
+    }
+    Ok(color)
+}
+
+/// Reads a shape.
+#[tactic(auto, unfolding(crate::specs::ShapeMeaning::shape_in), using(crate::proofs::Texts::utf8_test))]
+pub fn read_shape<A: Allocator>(
+    alloc: A,
+    reader: &mut CdrReader<'_>,
+) -> Result<Shape<A>, CatalogError>
+    ensures { Gives shape_view result (shape_in reader.old) }
+{
+    let text = read_color(reader)?;
+    let _octets = text.as_bytes();
+    let x = reader.read_i32()?;
+    let y = reader.read_i32()?;
+    let size = reader.read_i32()?;
+    let color = String::from_str(alloc, text)?;
+    Ok(Shape { color, x, y, size })
+}
+
+/// The octets of a color as a key.
+pub fn key_octets<A: Allocator>(alloc: A, color: &str) -> Result<Vec<u8, A>, NoMemory>
+    requires { length color.now ≤ 128 }
+    ensures { IfOk result (λ v. v.items ≡ color_key color.now) }
+{
+    let mut writer = CdrWriter::new(alloc, Endian::Little);
+    writer.write_string(color)?;
+    Ok(writer.finish())
+}
+
+/// The hash of a color: of its length, which counts its NUL, of the color and of the NUL.
+fn hash_of(color: &str) -> KeyHash
+    requires { length color.now ≤ 128 }
+    ensures { result ≡ color_hash color.now }
+{
+    let mut hasher = Md5::new();
+    hasher.update(&(color.len() as u32 + 1).to_be_bytes());
+    hasher.update(color.as_bytes());
+    hasher.update(&[0]);
+    KeyHash(hasher.finalize())
+}
+
+/// The text of a shape.
+pub fn line_of<A: Allocator + Copy>(alloc: A, shape: &Shape) -> Result<Vec<u8, A>, NoMemory>
+    ensures { IfOk result (λ v. v.items ≡ shape_text (shape_view shape.now)) }
+{
+    let color = show(alloc, shape.color.as_bytes())?;
+    let text = format!(in alloc; "{color} {} {} {}", shape.x, shape.y, shape.size)?;
+    Ok(text.into_bytes())
+}
+
+impl Catalog for Shapes {
+    type Value = Shape;
+
+    ghost Meaning = { ShapeMeaning };
+
+    ghost view = { shape_view };
+
+    ghost meaning = { λ _ kind body. shape_meaning kind body };
+
+    ghost hash = { λ _ s. color_hash s.color };
+
+    ghost key = { λ _ s. color_key s.color };
+
+    ghost hash_of_key = { λ _ kind body. shape_hash_of_key kind body };
+
+    ghost text_of = { λ _ s. shape_text s };
+
+    fn decode(&self, alloc: Global, kind: u16, body: &[u8]) -> Result<Shape, CatalogError> {
+        let endian = byte_order(kind)?;
+        read_shape(alloc, &mut CdrReader::new(body, endian))
+    }
+
+    fn key_of(&self, _: Global, value: &Shape) -> Result<KeyHash, NoMemory>
+        ensures { result ≡ Ok (color_hash (string_bytes value.now.color)) }
+    {
+        Ok(hash_of(value.color.as_str()))
+    }
+
+    fn key_payload(&self, alloc: Global, value: &Shape) -> Result<Vec<u8>, NoMemory> {
+        key_octets(alloc, value.color.as_str())
+    }
+
+    fn key_of_payload(&self, _: Global, kind: u16, body: &[u8]) -> Result<KeyHash, CatalogError> {
+        let endian = byte_order(kind)?;
+        let color = read_color(&mut CdrReader::new(body, endian))?;
+        Ok(hash_of(color))
+    }
+
+    ghost key_again = { λ _ v. shape_key_again v };
+}
+
+impl TextCatalog for Shapes {
+    fn text(&self, alloc: Global, value: &Shape) -> Result<Vec<u8>, NoMemory> {
+        line_of(alloc, value)
+    }
+}

@@ -1,0 +1,233 @@
+//! Catalogs against octets from outside.
+
+ghost use Rattle.std.specs.Prelude.{Ok};
+ghost use Rattle.dds_topic.specs.Answer.{Gives};
+
+use crate::example::{Sensor, Sensors};
+use crate::hexed::show;
+use crate::raw::raw_value;
+use crate::shapes::{key_octets, line_of, read_shape};
+use crate::{Catalog, CatalogError, NoMemory, Raw, Shape, Shapes, TextCatalog, Unread, byte_order};
+use linked_list_allocator::LocalHeap;
+use rtps_cdr::{CdrReader, CdrWriter};
+use rtps_types::{Endian, KeyHash};
+use std::alloc::Global;
+use std::test::Fail;
+
+const ENCAPSULATION: CatalogError = CatalogError::Unread(Unread::Encapsulation);
+
+const MALFORMED: CatalogError = CatalogError::Unread(Unread::Malformed);
+
+/// A key hash from its hex digits.
+fn hash(alloc: Global, digits: &str) -> Result<KeyHash, Fail> {
+    let octets = hex::decode(alloc, digits)?;
+    Ok(KeyHash(
+        *octets
+            .as_slice()
+            .first_chunk::<16>()
+            .ok_or("sixteen octets")?,
+    ))
+}
+
+/// The hash of a value by way of its key payload, of any catalog.
+fn hash_by_payload<C: Catalog>(
+    alloc: Global,
+    catalog: &C,
+    value: &C::Value,
+) -> Result<KeyHash, CatalogError>
+    ensures { Gives (λ h. h) result (Ok (C.hash catalog.now (C.view value.now))) }
+{
+    let payload = catalog.key_payload(alloc, value)?;
+    catalog.key_of_payload(alloc, 1, payload.as_slice())
+}
+
+#[test]
+fn a_blue_shape(rt: HostRuntime) -> Result<(), Fail> {
+    let alloc = rt.alloc();
+    let blue = hash(alloc, "cac217c318363f8ef1160eeedef9e886")?;
+    let bodies = [
+        (1, "05000000424c5545000000000a000000140000001e000000"),
+        (0, "00000005424c5545000000000000000a000000140000001e"),
+        (1, "05000000424c554500ffffff0a000000140000001e000000aa"),
+    ];
+    for (kind, body) in bodies {
+        let body = hex::decode(alloc, body)?;
+        let shape = Shapes.decode(alloc, kind, body.as_slice())?;
+        assert!(rt; Shapes.text(alloc, &shape)?.as_slice() == b"424c5545 10 20 30".as_slice());
+        assert_eq!(rt; Shapes.key_of(alloc, &shape)?, blue);
+        assert_eq!(rt; hash_by_payload(alloc, &Shapes, &shape)?, blue);
+        let payload = Shapes.key_payload(alloc, &shape)?;
+        assert!(rt; payload.as_slice() == b"\x05\0\0\0BLUE\0".as_slice());
+        assert_eq!(rt; Shapes.key_of_payload(alloc, 1, payload.as_slice())?, blue);
+        assert_eq!(rt; Shapes.key_of_payload(alloc, 0, b"\0\0\0\x05BLUE\0")?, blue);
+        assert_eq!(rt; Shapes.key_of_payload(alloc, kind, body.as_slice())?, blue);
+    }
+    Ok(())
+}
+
+#[test]
+fn an_empty_color(rt: HostRuntime) -> Result<(), Fail> {
+    let alloc = rt.alloc();
+    let empty = hash(alloc, "113b7f2f33d9035e4d9c5f52fc8b54d6")?;
+    let bodies = [
+        "0100000000000000ffffffff0000008001000000",
+        "00000000ffffffff0000008001000000",
+    ];
+    for body in bodies {
+        let body = hex::decode(alloc, body)?;
+        let shape = Shapes.decode(alloc, 1, body.as_slice())?;
+        assert!(rt; Shapes.text(alloc, &shape)?.as_slice() == b"- -1 -2147483648 1".as_slice());
+        assert_eq!(rt; Shapes.key_of(alloc, &shape)?, empty);
+        assert_eq!(rt; Shapes.key_of_payload(alloc, 1, body.as_slice())?, empty);
+    }
+    Ok(())
+}
+
+#[test]
+fn what_is_no_shape(rt: HostRuntime) -> Result<(), Fail> {
+    let alloc = rt.alloc();
+    let whole: &[u8] = b"\x02\0\0\0A\0\0\0\x01\0\0\0\x02\0\0\0\x03\0\0\0";
+    let rows: [(u16, &[u8], CatalogError); 7] = [
+        (2, whole, ENCAPSULATION),
+        (3, b"", ENCAPSULATION),
+        (0x0100, whole, ENCAPSULATION),
+        (1, &whole[..19], MALFORMED),
+        (1, b"", MALFORMED),
+        (0, whole, MALFORMED),
+        (
+            1,
+            b"\x02\0\0\0AA\0\0\x01\0\0\0\x02\0\0\0\x03\0\0\0",
+            MALFORMED,
+        ),
+    ];
+    for (kind, body, fault) in rows {
+        assert_eq!(rt; Shapes.decode(alloc, kind, body).err(), Some(fault));
+    }
+    for (kind, fault) in [(7, ENCAPSULATION), (1, MALFORMED)] {
+        assert_eq!(rt;
+            Shapes.key_of_payload(alloc, kind, b"\x01\0\0\0A").err(),
+            Some(fault)
+        );
+    }
+    assert_eq!(rt; byte_order(1), Ok(Endian::Little));
+    Ok(())
+}
+
+#[test]
+fn a_color_has_at_most_128_octets(rt: HostRuntime) -> Result<(), Fail> {
+    let alloc = rt.alloc();
+    for (count, fault) in [(128, None), (129, Some(MALFORMED))] {
+        let mut letters = String::new(alloc);
+        for _ in 0..count {
+            letters.push_str("c")?;
+        }
+        let color = letters.as_str();
+        assert!(rt; color.len() <= 129);
+        let mut writer = CdrWriter::new(alloc, Endian::Little);
+        writer.write_string(color)?;
+        let key = writer.finish();
+        assert_eq!(rt;
+            Shapes.key_of_payload(alloc, 1, key.as_slice()).err(),
+            fault
+        );
+        let mut writer = CdrWriter::new(alloc, Endian::Big);
+        writer.write_string(color)?;
+        for member in [10, 20, 30] {
+            writer.write_i32(member)?;
+        }
+        let body = writer.finish();
+        let shape = Shapes.decode(alloc, 0, body.as_slice());
+        if let Ok(shape) = &shape {
+            assert!(rt; shape.color.as_str() == color);
+            assert_eq!(rt;
+                Shapes.key_of(alloc, shape)?,
+                hash(alloc, "bec0899d4b0530c3bbafc488294e574a")?
+            );
+        }
+        assert_eq!(rt; shape.err(), fault);
+    }
+    Ok(())
+}
+
+#[test]
+fn raw_values_have_no_key(rt: HostRuntime) -> Result<(), Fail> {
+    let alloc = rt.alloc();
+    let rows: [(u16, &[u8], &[u8]); 3] = [
+        (0, b"", b"-"),
+        (3, b"\x01\xab", b"01ab"),
+        (0xffff, b"BLUE", b"424c5545"),
+    ];
+    for (kind, body, text) in rows {
+        let value = Raw.decode(alloc, kind, body)?;
+        assert!(rt; value.kind == kind && value.body.as_slice() == body);
+        assert!(rt; Raw.text(alloc, &value)?.as_slice() == text);
+        assert_eq!(rt; Raw.key_of(alloc, &value)?, KeyHash([0; 16]));
+        assert_eq!(rt; Raw.key_of_payload(alloc, kind, body)?, KeyHash([0; 16]));
+        assert!(rt; Raw.key_payload(alloc, &value)?.is_empty());
+        assert_eq!(rt; hash_by_payload(alloc, &Raw, &value)?, KeyHash([0; 16]));
+    }
+    Ok(())
+}
+
+#[test]
+fn a_key_of_two_members(rt: HostRuntime) -> Result<(), Fail> {
+    let alloc = rt.alloc();
+    let wanted = hash(alloc, "00000001000000020000000000000000")?;
+    let sensor = Sensors.decode(alloc, 0, b"\0\0\0\x01\0\0\0\x02\xff\xff\xff\xff")?;
+    let Sensor {
+        station,
+        channel,
+        value,
+    } = &sensor;
+    assert!(rt; *station == 1 && *channel == 2 && *value == -1);
+    assert_eq!(rt; Sensors.key_of(alloc, &sensor)?, wanted);
+    assert_eq!(rt; hash_by_payload(alloc, &Sensors, &sensor)?, wanted);
+    assert_eq!(rt;
+        Sensors.decode(alloc, 1, b"\x01\0\0").err(),
+        Some(MALFORMED)
+    );
+    Ok(())
+}
+
+#[test]
+fn causes_have_numbers(rt: HostRuntime) {
+    let causes = [
+        (Unread::Encapsulation, 1),
+        (Unread::Malformed, 2),
+        (Unread::NonStandard, 3),
+        (Unread::NoKey, 4),
+    ];
+    for (cause, code) in causes {
+        assert_eq!(rt; cause.code(), code);
+    }
+}
+
+#[test]
+fn refused_growths(rt: HostRuntime) -> Result<(), Fail> {
+    let alloc = rt.alloc();
+    let body = b"\x19\0\0\0abcdefghijklmnopqrstuvwx\0\0\0\0\x0a\0\0\0\x14\0\0\0\x1e\0\0\0";
+    let shape = Shapes.decode(alloc, 1, body)?;
+    let mut refused = [false; 5];
+    let mut made = [false; 5];
+    for size in 0..24 {
+        let heap = LocalHeap::new(alloc, size * 16)?;
+        let decoded = read_shape(&heap, &mut CdrReader::new(body, Endian::Little));
+        refused[0] |= matches!(decoded, Err(CatalogError::NoMemory));
+        made[0] |= decoded.is_ok();
+        let key = key_octets(&heap, "BLUE");
+        refused[1] |= key == Err(NoMemory);
+        made[1] |= key.is_ok();
+        let line = line_of(&heap, &shape);
+        refused[2] |= line == Err(NoMemory);
+        made[2] |= line.is_ok();
+        let value = raw_value(&heap, 1, body);
+        refused[3] |= matches!(value, Err(NoMemory));
+        made[3] |= value.is_ok();
+        let digits = show(&heap, body);
+        refused[4] |= digits.is_err();
+        made[4] |= digits.is_ok();
+    }
+    assert_eq!(rt; refused, [true; 5]);
+    assert_eq!(rt; made, [true; 5]);
+    Ok(())
+}

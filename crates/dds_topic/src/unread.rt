@@ -1,0 +1,86 @@
+//! Why a payload gives no value.
+
+ghost use Rattle.std.specs.Prelude.{◌≡◌};
+ghost use Rattle.dds_topic.specs.declared.unread.CatalogError.TheVariants as errors;
+ghost use Rattle.dds_topic.specs.declared.unread.Unread.TheVariants.{Malformed};
+
+use rtps_cdr::{CdrFault, NoMemory};
+use std::alloc::AllocError;
+use thiserror::Error;
+
+/// Why a change is presented without a value or a key.
+#[derive(Clone, Copy, Debug, PartialEq, Eq, Error)]
+pub enum Unread {
+    /// The encapsulation is none that the catalog decodes (DDSI-RTPS 10.2).
+    #[error("the encapsulation is none that is decoded")]
+    Encapsulation,
+    /// The octets are no value of the type.
+    #[error("the octets are no value of the type")]
+    Malformed,
+    /// The change has a form that the standard leaves open.
+    #[error("the change has no form of the standard")]
+    NonStandard,
+    /// There is no key to tell the instance by.
+    #[error("there is no key")]
+    NoKey,
+}
+
+impl Unread {
+    ghost use Rattle.dds_topic.specs.Answer.{code_of};
+
+    /// The number that stands for it in printed lines, from 1 to 4 in the order above.
+    pub fn code(self) -> u32
+        ensures { result ≡ code_of self }
+    {
+        match self {
+            Unread::Encapsulation => 1,
+            Unread::Malformed => 2,
+            Unread::NonStandard => 3,
+            Unread::NoKey => 4,
+        }
+    }
+}
+
+/// Why a catalog has no answer.
+#[derive(Clone, Copy, Debug, PartialEq, Eq, Error)]
+pub enum CatalogError {
+    /// The allocator refused a growth.
+    #[error("no memory is left")]
+    NoMemory,
+    /// The payload can't be read.
+    #[error(transparent)]
+    Unread(Unread),
+}
+
+impl From<AllocError> for CatalogError {
+    ghost from_gives = { λ _ e. e ≡ errors.NoMemory };
+
+    fn from(_: AllocError) -> CatalogError {
+        CatalogError::NoMemory
+    }
+}
+
+impl From<NoMemory> for CatalogError {
+    ghost from_gives = { λ _ e. e ≡ errors.NoMemory };
+
+    fn from(_: NoMemory) -> CatalogError {
+        CatalogError::NoMemory
+    }
+}
+
+impl From<Unread> for CatalogError {
+    ghost from_gives = { λ u e. e ≡ errors.Unread u };
+
+    fn from(unread: Unread) -> CatalogError {
+        CatalogError::Unread(unread)
+    }
+}
+
+/// Octets that are no value of a type are malformed, whatever their fault.
+impl From<CdrFault> for CatalogError {
+    ghost from_gives = { λ _ e. e ≡ errors.Unread Malformed };
+
+    fn from(_: CdrFault) -> CatalogError {
+        CatalogError::Unread(Unread::Malformed)
+    }
+}

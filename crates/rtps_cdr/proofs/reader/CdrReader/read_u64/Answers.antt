@@ -1,0 +1,7 @@
+use Rattle.std.proofs.Common.{arith}
+use Rattle.std.proofs.lemmas.Grind.{common_steps}
+use Rattle.rtps_cdr.proofs.Related.{unsigned_reads}
+use Rattle.rtps_cdr.proofs.reader.CdrReader.read_u64.Goals as goal
+
+pub returns-clause-reads : goal.returns-clause-reads
+returns-clause-reads c = unsigned_reads 8 _ _ _ (omega arith) (grind (arith, common_steps)) (grind (arith, common_steps))

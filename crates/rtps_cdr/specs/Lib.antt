@@ -1,0 +1,5 @@
+pub mod Cdr
+pub mod Reading
+pub mod Writing
+pub mod Following
+pub mod Statements

@@ -1,0 +1,277 @@
+//! Values against octets from outside.
+
+use crate::{CdrFault, CdrReader, CdrWriter, NoMemory};
+use linked_list_allocator::LocalHeap;
+use rtps_types::Endian;
+use std::alloc::Allocator;
+use std::test::Fail;
+
+/// Octets that each tell their place.
+const PLACES: [u8; 16] = [0, 1, 2, 3, 4, 5, 6, 7, 8, 9, 10, 11, 12, 13, 14, 15];
+
+/// A reader that stands behind so many octets.
+fn behind(octets: &[u8], count: usize, endian: Endian) -> Result<CdrReader<'_>, CdrFault> {
+    let mut reader = CdrReader::new(octets, endian);
+    reader.read_octets(count)?;
+    Ok(reader)
+}
+
+#[test]
+fn numbers_are_aligned_to_their_size(rt: HostRuntime) -> Result<(), Fail> {
+    // Where the reader stands, and the numbers of 16, 32 and 64 bits that it finds, high octet first.
+    let rows = [
+        (0, 0x0001, 0x0001_0203, 0x0001_0203_0405_0607),
+        (1, 0x0203, 0x0405_0607, 0x0809_0a0b_0c0d_0e0f),
+        (2, 0x0203, 0x0405_0607, 0x0809_0a0b_0c0d_0e0f),
+        (3, 0x0405, 0x0405_0607, 0x0809_0a0b_0c0d_0e0f),
+        (4, 0x0405, 0x0405_0607, 0x0809_0a0b_0c0d_0e0f),
+        (5, 0x0607, 0x0809_0a0b, 0x0809_0a0b_0c0d_0e0f),
+        (6, 0x0607, 0x0809_0a0b, 0x0809_0a0b_0c0d_0e0f),
+        (7, 0x0809, 0x0809_0a0b, 0x0809_0a0b_0c0d_0e0f),
+        (8, 0x0809, 0x0809_0a0b, 0x0809_0a0b_0c0d_0e0f),
+    ];
+    for (start, short, long, wide) in rows {
+        let big = Endian::Big;
+        assert_eq!(rt;
+            behind(&PLACES, start, big)?.read_u16()?,
+            short,
+            "behind {start}"
+        );
+        assert_eq!(rt;
+            behind(&PLACES, start, big)?.read_u32()?,
+            long,
+            "behind {start}"
+        );
+        assert_eq!(rt;
+            behind(&PLACES, start, big)?.read_len()?,
+            long,
+            "behind {start}"
+        );
+        assert_eq!(rt;
+            behind(&PLACES, start, big)?.read_u64()?,
+            wide,
+            "behind {start}"
+        );
+        let little = Endian::Little;
+        assert_eq!(rt;
+            behind(&PLACES, start, little)?.read_u16()?,
+            short.swap_bytes(),
+            "behind {start}"
+        );
+        assert_eq!(rt;
+            behind(&PLACES, start, little)?.read_u32()?,
+            long.swap_bytes(),
+            "behind {start}"
+        );
+        assert_eq!(rt;
+            behind(&PLACES, start, little)?.read_u64()?,
+            wide.swap_bytes(),
+            "behind {start}"
+        );
+    }
+    Ok(())
+}
+
+#[test]
+fn numbers_have_a_sign(rt: HostRuntime) -> Result<(), Fail> {
+    let big = [
+        0xff, 0, 0xff, 0xfe, 0xff, 0xff, 0xff, 0xfd, 0xff, 0xff, 0xff, 0xff, 0xff, 0xff, 0xff, 0xfc,
+    ];
+    let mut reader = CdrReader::new(&big[..8], Endian::Big);
+    assert_eq!(rt; reader.read_i8()?, -1);
+    assert_eq!(rt; reader.read_i16()?, -2);
+    assert_eq!(rt; reader.read_i32()?, -3);
+    let mut reader = CdrReader::new(&big[8..], Endian::Big);
+    assert_eq!(rt; reader.read_i64()?, -4);
+    let little = [
+        0x80, 7, 0xfe, 0xff, 0xfd, 0xff, 0xff, 0xff, 0xfc, 0xff, 0xff, 0xff, 0xff, 0xff, 0xff, 0xff,
+    ];
+    let mut reader = CdrReader::new(&little, Endian::Little);
+    assert_eq!(rt; reader.read_i8()?, -128);
+    assert_eq!(rt; reader.read_i16()?, -2);
+    assert_eq!(rt; reader.read_i32()?, -3);
+    assert_eq!(rt; reader.read_i64()?, -4);
+    assert_eq!(rt; reader.position(), 16);
+    Ok(())
+}
+
+/// A value to be read.
+#[derive(Clone, Copy)]
+enum Kind {
+    Octet,
+    Short,
+    Long,
+    Wide,
+    Truth,
+    Text,
+    Octets(usize),
+    Texts,
+}
+
+/// The fault of reading a value.
+fn fault(reader: &mut CdrReader<'_>, kind: Kind) -> Option<CdrFault> {
+    match kind {
+        Kind::Octet => reader.read_u8().err(),
+        Kind::Short => reader.read_i16().err(),
+        Kind::Long => reader.read_i32().err(),
+        Kind::Wide => reader.read_i64().err(),
+        Kind::Truth => reader.read_bool().err(),
+        Kind::Text => reader.read_string().err(),
+        Kind::Octets(count) => reader.read_octets(count).err(),
+        Kind::Texts => reader.read_strings().err(),
+    }
+}
+
+#[test]
+fn a_fault_moves_nothing(rt: HostRuntime) -> Result<(), Fail> {
+    let short = Some(CdrFault::Short);
+    let rows: [(&[u8], usize, Kind, Option<CdrFault>); 20] = [
+        (b"\0", 1, Kind::Octet, short),
+        (b"\0\0\x01", 1, Kind::Short, short),
+        (b"\0\0\x01\x02", 1, Kind::Short, None),
+        (b"\0\0\0\0\x01\x02\x03", 1, Kind::Long, short),
+        (b"\0\0\0\0\x01\x02\x03\x04", 1, Kind::Long, None),
+        (
+            b"\0\0\0\0\0\0\0\0\x01\x02\x03\x04\x05\x06\x07",
+            1,
+            Kind::Wide,
+            short,
+        ),
+        (
+            b"\0\0\0\0\0\0\0\0\x01\x02\x03\x04\x05\x06\x07\x08",
+            1,
+            Kind::Wide,
+            None,
+        ),
+        (b"\x01\x02", 1, Kind::Truth, Some(CdrFault::BadBool)),
+        (b"\x01", 1, Kind::Truth, short),
+        (b"\x07\x07\x07\x07\0\0\0\0", 1, Kind::Text, None),
+        (b"\x07\x07\x07\x07\0\0\0", 1, Kind::Text, short),
+        (b"\0\0\0\x03A\0", 0, Kind::Text, short),
+        (b"\0\0\0\x02AB", 0, Kind::Text, Some(CdrFault::BadString)),
+        (b"\0\0\0\x01A", 0, Kind::Text, Some(CdrFault::BadString)),
+        (
+            b"\0\0\0\x03\xc3\x28\0",
+            0,
+            Kind::Text,
+            Some(CdrFault::NotUtf8),
+        ),
+        (b"\0\0\0\x04A\0B\0", 0, Kind::Text, None),
+        (b"\x01\x02\x03", 1, Kind::Octets(3), short),
+        (b"\x01\x02\x03", 1, Kind::Octets(2), None),
+        (b"\xff\xff\xff\xff\0\0\0\x01\0", 0, Kind::Texts, short),
+        (
+            b"\0\0\0\x02\0\0\0\x01\0\0\0\0\0\0\0\x02AB",
+            0,
+            Kind::Texts,
+            Some(CdrFault::BadString),
+        ),
+    ];
+    for (octets, start, kind, wanted) in rows {
+        let mut reader = behind(octets, start, Endian::Big)?;
+        let found = fault(&mut reader, kind);
+        assert_eq!(rt; found, wanted);
+        if found.is_some() {
+            assert_eq!(rt; reader.position(), start);
+            let left = octets.len().saturating_sub(start);
+            assert_eq!(rt; reader.read_octets(left)?.len(), left);
+        }
+    }
+    Ok(())
+}
+
+#[test]
+fn a_text_ends_with_its_nul(rt: HostRuntime) -> Result<(), Fail> {
+    let rows: [(&[u8], &str, usize); 5] = [
+        (b"\0\0\0\0A", "", 4),
+        (b"\x01\0\0\0\0", "", 5),
+        (b"\x05\0\0\0BLUE\0", "BLUE", 9),
+        (b"\x04\0\0\0A\0B\0\0", "A\0B", 8),
+        (b"\x03\0\0\0\xc3\xa9\0", "\u{e9}", 7),
+    ];
+    for (octets, text, after) in rows {
+        let mut reader = CdrReader::new(octets, Endian::Little);
+        assert!(rt; reader.read_string()? == text);
+        assert_eq!(rt; reader.position(), after);
+    }
+    let octets = b"\x03\0\0\0\x02\0\0\0A\0\xff\xff\0\0\0\0\x03\0\0\0BC\0\x01";
+    let mut reader = CdrReader::new(octets, Endian::Little);
+    let texts = reader.read_strings()?;
+    let mut lines = String::new(rt.alloc());
+    for text in texts {
+        lines.push_str(text)?;
+        lines.push_str(";")?;
+    }
+    assert!(rt; lines.as_str() == "A;;BC;");
+    assert!(rt; reader.read_bool()?);
+    Ok(())
+}
+
+/// One value of each type.
+fn write_each<A: Allocator>(writer: &mut CdrWriter<A>) -> Result<(), NoMemory> {
+    writer.write_bool(true)?;
+    writer.write_u16(0x0203)?;
+    writer.write_i8(-1)?;
+    writer.write_u32(0x0809_0a0b)?;
+    writer.write_u8(0xaa)?;
+    writer.write_i64(-2)?;
+    writer.write_i16(-3)?;
+    writer.write_string("BLUE")?;
+    writer.write_i32(-4)?;
+    writer.write_octets(&[1, 2, 3])?;
+    writer.write_u64(0x0102_0304_0506_0708)?;
+    writer.write_len(2)
+}
+
+/// The octets of these values, high octet first.
+const EACH: &[u8] =
+    b"\x01\0\x02\x03\xff\0\0\0\x08\x09\x0a\x0b\xaa\0\0\0\xff\xff\xff\xff\xff\xff\xff\xfe\
+    \xff\xfd\0\0\0\0\0\x05BLUE\0\0\0\0\xff\xff\xff\xfc\x01\x02\x03\0\x01\x02\x03\x04\x05\x06\x07\x08\0\0\0\x02";
+
+#[test]
+fn what_is_written_is_read(rt: HostRuntime) -> Result<(), Fail> {
+    for endian in [Endian::Big, Endian::Little] {
+        let mut writer = CdrWriter::new(rt.alloc(), endian);
+        write_each(&mut writer)?;
+        let octets = writer.finish();
+        assert!(rt; endian == Endian::Little || octets.as_slice() == EACH);
+        let mut reader = CdrReader::new(octets.as_slice(), endian);
+        assert!(rt; reader.read_bool()?);
+        assert_eq!(rt; reader.read_u16()?, 0x0203);
+        assert_eq!(rt; reader.read_i8()?, -1);
+        assert_eq!(rt; reader.read_u32()?, 0x0809_0a0b);
+        assert_eq!(rt; reader.read_u8()?, 0xaa);
+        assert_eq!(rt; reader.read_i64()?, -2);
+        assert_eq!(rt; reader.read_i16()?, -3);
+        assert!(rt; reader.read_string()? == "BLUE");
+        assert_eq!(rt; reader.read_i32()?, -4);
+        assert!(rt; reader.read_octets(3)? == [1, 2, 3].as_slice());
+        assert_eq!(rt; reader.read_u64()?, 0x0102_0304_0506_0708);
+        assert_eq!(rt; reader.read_len()?, 2);
+        assert_eq!(rt; reader.position(), octets.len());
+    }
+    Ok(())
+}
+
+#[test]
+fn a_refused_growth_leaves_the_writer(rt: HostRuntime) -> Result<(), Fail> {
+    let mut refused = false;
+    let mut whole = false;
+    for size in 0..12 {
+        let heap = LocalHeap::new(rt.alloc(), size * 32)?;
+        let mut writer = CdrWriter::new(&heap, Endian::Big);
+        let written = write_each(&mut writer);
+        let octets = writer.finish();
+        if written.is_ok() {
+            assert!(rt; octets.as_slice() == EACH);
+            whole = true;
+        } else {
+            assert_eq!(rt; written, Err(NoMemory));
+            assert!(rt; EACH.starts_with(octets.as_slice()));
+            assert!(rt; octets.len() < EACH.len());
+            refused = true;
+        }
+    }
+    assert!(rt; refused && whole);
+    Ok(())
+}

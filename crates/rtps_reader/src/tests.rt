@@ -1,0 +1,116 @@
+//! Bodies of changes that were written down by hand.
+
+use crate::*;
+use dds_topic::{Raw, Shapes, Unread};
+use rtps_types::KeyHash;
+use rtps_wire::Form;
+use std::alloc::Global;
+use std::test::Fail;
+
+/// BLUE at 10, 20 of size 30, in little-endian CDR.
+const BLUE: [u8; 28] = [
+    0, 1, 0, 0, 5, 0, 0, 0, 0x42, 0x4c, 0x55, 0x45, 0, 0, 0, 0, 10, 0, 0, 0, 20, 0, 0, 0, 30, 0, 0,
+    0,
+];
+
+/// The key of BLUE as a key payload.
+const BLUE_KEY: [u8; 13] = [0, 1, 0, 0, 5, 0, 0, 0, 0x42, 0x4c, 0x55, 0x45, 0];
+
+/// The MD5 of `00000005 424c5545 00`, by another program.
+const BLUE_HASH: KeyHash = KeyHash([
+    0xca, 0xc2, 0x17, 0xc3, 0x18, 0x36, 0x3f, 0x8e, 0xf1, 0x16, 0x0e, 0xee, 0xde, 0xf9, 0xe8, 0x86,
+]);
+
+/// A hash that no value has.
+const SENT: KeyHash = KeyHash([7; 16]);
+
+fn content(form: Form, status: u8, hash: Option<KeyHash>, payload: &[u8]) -> Content<'_> {
+    Content {
+        form,
+        status,
+        hash,
+        payload,
+    }
+}
+
+#[test]
+fn values(rt: HostRuntime) -> Result<(), Fail> {
+    match body_of(
+        rt.alloc(),
+        &Shapes,
+        &content(Form::Value, 0, Some(SENT), &BLUE),
+    )? {
+        Body::Value(hash, shape) => {
+            assert_eq!(rt; hash, BLUE_HASH);
+            assert_eq!(rt; shape.color.as_str(), "BLUE");
+            assert_eq!(rt; (shape.x, shape.y, shape.size), (10, 20, 30));
+        }
+        _ => assert!(rt; false, "no value"),
+    }
+    // Other bits of the status say nothing.
+    match body_of(rt.alloc(), &Raw, &content(Form::Value, 0xfc, None, &BLUE))? {
+        Body::Value(hash, raw) => {
+            assert_eq!(rt; hash, KeyHash([0; 16]));
+            assert_eq!(rt; raw.body.len(), 24);
+        }
+        _ => assert!(rt; false, "no value"),
+    }
+    Ok(())
+}
+
+#[test]
+fn ends_of_instances(rt: HostRuntime) -> Result<(), Fail> {
+    // The key comes from the value, from the key payload, or from what was sent with the change.
+    for (form, payload, hash) in [
+        (Form::Value, BLUE.as_slice(), BLUE_HASH),
+        (Form::Key, BLUE_KEY.as_slice(), BLUE_HASH),
+        (Form::Nothing, [].as_slice(), SENT),
+    ] {
+        for (status, is_disposed) in [(1, true), (3, true), (2, false), (6, false)] {
+            match body_of(
+                rt.alloc(),
+                &Shapes,
+                &content(form, status, Some(SENT), payload),
+            )? {
+                Body::Disposed(key) => {
+                    assert!(rt; is_disposed);
+                    assert_eq!(rt; key, hash);
+                }
+                Body::Unregistered(key) => {
+                    assert!(rt; !is_disposed);
+                    assert_eq!(rt; key, hash);
+                }
+                _ => assert!(rt; false, "no end"),
+            }
+        }
+    }
+    Ok(())
+}
+
+/// What can't be read, and why.
+fn reason(alloc: Global, content: Content<'_>) -> Result<Option<Unread>, Fail> {
+    match body_of(alloc, &Shapes, &content)? {
+        Body::Unread(unread) => Ok(Some(unread)),
+        _ => Ok(None),
+    }
+}
+
+#[test]
+fn unread(rt: HostRuntime) -> Result<(), Fail> {
+    let list = [0, 3, 0, 0, 5, 0, 0, 0];
+    for (form, status, payload, unread) in [
+        (Form::Other, 0, BLUE.as_slice(), Unread::NonStandard),
+        (Form::Other, 1, BLUE.as_slice(), Unread::NonStandard),
+        (Form::Key, 0, [].as_slice(), Unread::NonStandard),
+        (Form::Nothing, 0, [].as_slice(), Unread::NonStandard),
+        (Form::Value, 0, &BLUE[..3], Unread::Encapsulation),
+        (Form::Key, 2, &BLUE[..3], Unread::Encapsulation),
+        (Form::Value, 0, list.as_slice(), Unread::Encapsulation),
+        (Form::Value, 0, &BLUE[..27], Unread::Malformed),
+        (Form::Nothing, 1, [].as_slice(), Unread::NoKey),
+    ] {
+        let found = reason(rt.alloc(), content(form, status, None, payload))?;
+        assert_eq!(rt; found, Some(unread));
+    }
+    Ok(())
+}
