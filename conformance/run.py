@@ -1,0 +1,91 @@
+#!/usr/bin/env python3
+"""Runs a program on the conformance rows and compares what it writes and how it ends.
+
+    run.py PROGRAM [GROUP..]
+
+A row is a folder GROUP/NAME: `args` has the words, one a line; `input.hex` what stands on standard input, in hex, where
+`#` begins a comment; `stdout`, `stderr` and `status` what the run has to give. Where the status is 2 and the row has no
+`stderr`, the text of standard error is the command line's own and free. A row of `replay` or `samples` is run with every
+batch size and worker count below, which change nothing. A row that fails names itself and shows the first difference.
+The last line is 'N passed, M failed', counted by runs.
+"""
+
+import itertools
+import os
+import subprocess
+import sys
+from concurrent.futures import ThreadPoolExecutor
+from pathlib import Path
+
+HERE = Path(__file__).resolve().parent
+BATCHES = (None, "1", "2", "4096")
+WORKERS = (None, "1", "2", "7")
+SECONDS = 120
+
+
+def octets(path):
+    """The octets that a file tells in hex."""
+    return bytes.fromhex("".join(line.split("#")[0] for line in path.read_text(encoding="ascii").splitlines()))
+
+
+def content(path):
+    return path.read_bytes() if path.exists() else b""
+
+
+def runs_of(words):
+    """The words of each run of a row."""
+    if not words or words[0] not in ("replay", "samples"):
+        return [words]
+    batches = (None,) if "--batch" in words else BATCHES
+    workers = (None,) if "--workers" in words else WORKERS
+    return [
+        words + (["--batch", batch] if batch else []) + (["--workers", count] if count else [])
+        for batch, count in itertools.product(batches, workers)
+    ]
+
+
+def difference(name, got, wanted):
+    """The first line in which two texts differ."""
+    pairs = itertools.zip_longest(got.splitlines(True), wanted.splitlines(True))
+    for number, (line, other) in enumerate(pairs, 1):
+        if line != other:
+            return f"{name}, line {number}: got {line!r:.300}, wanted {other!r:.300}"
+    return f"{name} differs"
+
+
+def fault_of(program, words, row):
+    """What a run gives otherwise than its row, if anything."""
+    try:
+        done = subprocess.run([program, *words], input=octets(row / "input.hex"), capture_output=True, timeout=SECONDS, check=False)
+    except subprocess.TimeoutExpired:
+        return f"no end in {SECONDS} seconds"
+    status = int(content(row / "status") or b"0")
+    out, err = content(row / "stdout"), content(row / "stderr")
+    if done.returncode != status:
+        return f"status {done.returncode}, wanted {status}; standard error: {done.stderr[-300:]!r}"
+    if done.stdout != out:
+        return difference("standard output", done.stdout, out)
+    if done.stderr != err and (err or status != 2):
+        return difference("standard error", done.stderr, err)
+    return None
+
+
+def main():
+    if len(sys.argv) < 2:
+        print(__doc__, file=sys.stderr)
+        return 2
+    program, groups = os.path.abspath(sys.argv[1]), sys.argv[2:]
+    rows = sorted(path.parent for path in HERE.glob("*/*/input.hex") if not groups or path.parent.parent.name in groups)
+    runs = [(row, words) for row in rows for words in runs_of((row / "args").read_text().splitlines())]
+    with ThreadPoolExecutor(os.cpu_count()) as pool:
+        faults = list(pool.map(lambda run: fault_of(program, run[1], run[0]), runs))
+    for (row, words), fault in zip(runs, faults):
+        if fault:
+            print(f"{row.relative_to(HERE)}: {' '.join(words)}: {fault}")
+    failed = sum(fault is not None for fault in faults)
+    print(f"{len(runs) - failed} passed, {failed or int(not runs)} failed")
+    return 1 if failed or not runs else 0
+
+
+if __name__ == "__main__":
+    sys.exit(main())

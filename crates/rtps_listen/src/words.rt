@@ -1,0 +1,276 @@
+//! The words of the command line.
+
+ghost use Rattle.std.specs.Prelude.{◌≡◌, IfOk, false, map};
+ghost use Rattle.clap.specs.Words.{FailsBy, HasMatchesOf, app_of, fault_of, subcommand_of};
+ghost use Rattle.clap.specs.declared.builder.command.Command.TheViews.{out-Command};
+ghost use Rattle.rtps_listen.specs.Asked.{Asks};
+ghost use Rattle.rtps_listen.specs.Line as line;
+ghost use Rattle.rtps_listen.specs.Line.{IsPlainApp, IsPlainRule};
+
+use crate::asked::{Asked, OWN, asked_by};
+use clap::{Arg, ArgAction, ArgMatches, Command, Error, value_parser};
+use std::alloc::{AllocError, Global};
+use std::convert::AsStr;
+
+/// The command and its subcommands.
+#[tactic(auto, unfolding(crate::specs::Line::listen_app))]
+fn command<'a>(alloc: Global) -> Result<Command<'a>, AllocError>
+    ensures { IfOk result (λ c. IsPlainApp c line.listen_app) }
+{
+    printing_command(alloc)?
+        .subcommand(samples_command(alloc)?)?
+        .subcommand(live_command(alloc)?)
+}
+
+#[tactic(auto, unfolding(crate::specs::Line::printing_app))]
+fn printing_command<'a>(alloc: Global) -> Result<Command<'a>, AllocError>
+    ensures { IfOk result (λ c. IsPlainApp c line.printing_app) }
+{
+    Command::new(alloc, "rtps_listen")
+        .subcommand(dump_command(alloc)?)?
+        .subcommand(replay_command(alloc)?)
+}
+
+#[tactic(auto, unfolding(crate::specs::Line::dump_app))]
+fn dump_command<'a>(alloc: Global) -> Result<Command<'a>, AllocError>
+    ensures { IfOk result (λ c. IsPlainApp c line.dump_app) }
+{
+    Command::new(alloc, "dump")
+        .about("Prints the events in a record file")
+        .arg(file(alloc))?
+        .arg(own(alloc))
+}
+
+#[tactic(auto, unfolding(crate::specs::Line::replay_app))]
+fn replay_command<'a>(alloc: Global) -> Result<Command<'a>, AllocError>
+    ensures { IfOk result (λ c. IsPlainApp c line.replay_app) }
+{
+    with_options(
+        alloc,
+        Command::new(alloc, "replay")
+            .about("Runs readers over a record file, and prints what they answer")
+            .arg(file(alloc))?,
+    )
+}
+
+#[tactic(auto, unfolding(crate::specs::Line::samples_app))]
+fn samples_command<'a>(alloc: Global) -> Result<Command<'a>, AllocError>
+    ensures { IfOk result (λ c. IsPlainApp c line.samples_app) }
+{
+    with_options(
+        alloc,
+        Command::new(alloc, "samples")
+            .about("Runs readers over a record file, and prints what they keep")
+            .arg(file(alloc))?,
+    )
+}
+
+#[tactic(auto, unfolding(crate::specs::Line::live_app))]
+fn live_command<'a>(alloc: Global) -> Result<Command<'a>, AllocError>
+    ensures { IfOk result (λ c. IsPlainApp c line.live_app) }
+{
+    let command = Command::new(alloc, "listen")
+        .about("Runs readers on a domain of this machine")
+        .arg(domain(alloc))?
+        .arg(count(alloc))?
+        .arg(turns(alloc))?;
+    with_options(alloc, command)
+}
+
+/// The options of each subcommand that runs readers.
+fn with_options<'a>(alloc: Global, command: Command<'a>) -> Result<Command<'a>, AllocError>
+    requires { (out-Command command).has_globals ≡ false }
+    ensures { IfOk result (λ c. IsPlainApp c (line.with_options (app_of command.entry))) }
+{
+    with_flags(alloc, with_names(alloc, with_sizes(alloc, command)?)?)
+}
+
+/// How a run is cut, and how many readers it has.
+#[tactic(auto, unfolding(crate::specs::Line::with_sizes))]
+fn with_sizes<'a>(alloc: Global, command: Command<'a>) -> Result<Command<'a>, AllocError>
+    requires { (out-Command command).has_globals ≡ false }
+    ensures { IfOk result (λ c. IsPlainApp c (line.with_sizes (app_of command.entry))) }
+{
+    command
+        .arg(workers(alloc))?
+        .arg(batch(alloc))?
+        .arg(readers(alloc))
+}
+
+/// Who the readers are, and whom they know from the start.
+#[tactic(auto, unfolding(crate::specs::Line::with_names))]
+fn with_names<'a>(alloc: Global, command: Command<'a>) -> Result<Command<'a>, AllocError>
+    requires { (out-Command command).has_globals ≡ false }
+    ensures { IfOk result (λ c. IsPlainApp c (line.with_names (app_of command.entry))) }
+{
+    command
+        .arg(topic(alloc))?
+        .arg(own(alloc))?
+        .arg(fixed(alloc))
+}
+
+/// The flags.
+#[tactic(auto, unfolding(crate::specs::Line::with_flags))]
+fn with_flags<'a>(alloc: Global, command: Command<'a>) -> Result<Command<'a>, AllocError>
+    requires { (out-Command command).has_globals ≡ false }
+    ensures { IfOk result (λ c. IsPlainApp c (line.with_flags (app_of command.entry))) }
+{
+    command
+        .arg(best_effort(alloc))?
+        .arg(raw(alloc))?
+        .arg(summary(alloc))
+}
+
+fn file<'a>(alloc: Global) -> Arg<'a>
+    ensures { IsPlainRule result line.file_rule }
+{
+    Arg::new(alloc, "file")
+        .value_name("FILE")
+        .help("A record file, or - for standard input")
+        .required(true)
+}
+
+fn own<'a>(alloc: Global) -> Arg<'a>
+    ensures { IsPlainRule result line.own_rule }
+{
+    Arg::new(alloc, "own")
+        .value_name("HEX")
+        .help("The prefix of this participant")
+        .long("own")
+        .default_value(OWN)
+}
+
+fn workers<'a>(alloc: Global) -> Arg<'a>
+    ensures { IsPlainRule result line.workers_rule }
+{
+    Arg::new(alloc, "workers")
+        .value_name("COUNT")
+        .help("How many threads run readers")
+        .long("workers")
+        .value_parser(value_parser!(u16).range(1..65))
+        .default_value("1")
+}
+
+fn batch<'a>(alloc: Global) -> Arg<'a>
+    ensures { IsPlainRule result line.batch_rule }
+{
+    Arg::new(alloc, "batch")
+        .value_name("COUNT")
+        .help("How many datagrams are taken at a time")
+        .long("batch")
+        .value_parser(value_parser!(u16).range(1..4097))
+        .default_value("256")
+}
+
+fn readers<'a>(alloc: Global) -> Arg<'a>
+    ensures { IsPlainRule result line.readers_rule }
+{
+    Arg::new(alloc, "readers")
+        .value_name("COUNT")
+        .help("How many readers there are")
+        .long("readers")
+        .value_parser(value_parser!(u16).range(1..9))
+        .default_value("1")
+}
+
+fn topic<'a>(alloc: Global) -> Arg<'a>
+    ensures { IsPlainRule result line.topic_rule }
+{
+    Arg::new(alloc, "topic")
+        .value_name("TEXT")
+        .help("The topic of the readers")
+        .long("topic")
+        .default_value("Square")
+}
+
+fn fixed<'a>(alloc: Global) -> Arg<'a>
+    ensures { IsPlainRule result line.fixed_rule }
+{
+    Arg::new(alloc, "fixed")
+        .value_name("HEX")
+        .help("A writer that is matched from the start")
+        .long("fixed")
+}
+
+fn best_effort<'a>(alloc: Global) -> Arg<'a>
+    ensures { IsPlainRule result line.best_effort_rule }
+{
+    Arg::new(alloc, "best-effort")
+        .help("Readers ask for nothing again")
+        .long("best-effort")
+        .action(ArgAction::SetTrue)
+}
+
+fn raw<'a>(alloc: Global) -> Arg<'a>
+    ensures { IsPlainRule result line.raw_rule }
+{
+    Arg::new(alloc, "raw")
+        .help("Values are printed as octets")
+        .long("raw")
+        .action(ArgAction::SetTrue)
+}
+
+fn summary<'a>(alloc: Global) -> Arg<'a>
+    ensures { IsPlainRule result line.summary_rule }
+{
+    Arg::new(alloc, "summary")
+        .help("Matches and counts are printed at the end")
+        .long("summary")
+        .action(ArgAction::SetTrue)
+}
+
+fn domain<'a>(alloc: Global) -> Arg<'a>
+    ensures { IsPlainRule result line.domain_rule }
+{
+    Arg::new(alloc, "domain")
+        .value_name("DOMAIN")
+        .help("The domain to listen in")
+        .long("domain")
+        .value_parser(value_parser!(u16).range(0..233))
+        .required(true)
+}
+
+fn count<'a>(alloc: Global) -> Arg<'a>
+    ensures { IsPlainRule result line.count_rule }
+{
+    Arg::new(alloc, "count")
+        .value_name("COUNT")
+        .help("How many datagrams to take")
+        .long("count")
+        .value_parser(value_parser!(u32).range(1..65_537))
+        .required(true)
+}
+
+fn turns<'a>(alloc: Global) -> Arg<'a>
+    ensures { IsPlainRule result line.turns_rule }
+{
+    Arg::new(alloc, "turns")
+        .value_name("COUNT")
+        .help("How many times to wait for datagrams")
+        .long("turns")
+        .value_parser(value_parser!(u32).range(1..100_001))
+        .default_value("600")
+}
+
+/// What clap finds in the words. This and the fault where the line is a bad one are functions of the
+/// words; only want of memory comes in their place.
+pub fn found<'a, S: AsStr>(alloc: Global, words: &'a [S]) -> Result<ArgMatches<'a>, Error>
+    ensures matches { IfOk result (HasMatchesOf line.listen_app (map S.text words.entry.now)) }
+    ensures fails { FailsBy (fault_of line.listen_app (map S.text words.entry.now)) result }
+{
+    match command(alloc) {
+        Ok(command) => command.try_get_matches_from(words),
+        Err(e) => Err(Error::from(e)),
+    }
+}
+
+/// Reads the words, the program's name first.
+pub fn read_words<'a, S: AsStr>(alloc: Global, words: &'a [S]) -> Result<Asked<'a>, Error>
+    ensures asks { IfOk result (λ asked. Asks asked (subcommand_of line.listen_app (map S.text words.entry.now))) }
+    ensures fails { FailsBy (fault_of line.listen_app (map S.text words.entry.now)) result }
+{
+    match found(alloc, words) {
+        Ok(matches) => Ok(asked_by(matches.subcommand())),
+        Err(error) => Err(error),
+    }
+}

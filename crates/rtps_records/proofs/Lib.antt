@@ -1,0 +1,6 @@
+pub mod Filled
+pub mod OneReading
+pub mod Printed
+pub mod Progress
+pub mod RecordRead
+pub mod SomeReading

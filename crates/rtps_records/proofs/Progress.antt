@@ -1,0 +1,262 @@
+-- A run so far: the records that were read, and what was said and written of them.
+use Rattle.std.proofs.Common.{◌≡◌, ℕ, ◌+◌, ◌<◌, ◌≤◌, inl, inr, List, [], ◌∷◌, ◌++◌, Option, None, Some, IfSome, arith, refl, length, take, drop, sym, ap, subst, ◌∙◌, length-append, length-take, append-nil, append_assoc, take-append-drop, take_all}
+use Rattle.std.specs.List.{flat_map, AllByRecursion}
+use Rattle.std.proofs.lemmas.Grind.{flat_map-append}
+use Rattle.std.specs.Io.KnownBytes.{Appends, Consumes, IsAtEnd, Keeps}
+use Rattle.std.proofs.KnownBytes.{Consumes-trans, Appends-trans, Appends-nil, Appends-kept, Keeps-refl}
+use Rattle.rtps_records.specs.declared.fault.RunFault.{RunFault}
+use Rattle.rtps_records.specs.declared.fault.RunFault.TheVariants.{CannotRead, NotRecordFile, CutRecord, RecordTooLong, TooManyRecords, CannotWrite, NoMemory}
+use Rattle.rtps_records.specs.RecordFile.{magic, frame, Holds, EndsBy, IsRecord, IsPartial, FaultHere, FaultFirst}
+use Rattle.rtps_records.specs.Text.{IsFront, Says, Ends}
+use Rattle.rtps_records.specs.Runs.{WroteAll, WroteRead, WroteFront, PutsFront, Spills, Stops, Closes, ClosesNot}
+
+-- n records were read; the printer has said of them what was written and what is kept back
+pub record Progress (said : List (List ℕ) → List ℕ → Type 0) (before now old new : Option (List ℕ)) (n : ℕ) (kept : List ℕ) : Type 0 where
+  pub records : List (List ℕ)
+  pub written : List ℕ
+  pub count : length records ≡ n
+  pub each : AllByRecursion IsRecord records
+  pub read : Consumes before now (magic ++ flat_map frame records)
+  pub wrote : Appends old new written
+  pub says : said records (written ++ kept)
+
+-- n records were read, and their whole text was written
+pub record Finished (text : List (List ℕ) → List ℕ) (before now old new : Option (List ℕ)) (n : ℕ) : Type 0 where
+  pub records : List (List ℕ)
+  pub count : length records ≡ n
+  pub each : AllByRecursion IsRecord records
+  pub read : Consumes before now (magic ++ flat_map frame records)
+  pub wrote : Appends old new (text records)
+
+pub started : (said : List (List ℕ) → List ℕ → Type 0) (before now old : Option (List ℕ)) → said [] [] → Consumes before now magic → Progress said before now old old 0 []
+started said before now old fresh p = record {
+  records = [];
+  written = [];
+  count = refl;
+  each = tt;
+  read = p;
+  wrote = Appends-nil old;
+  says = fresh;
+}
+
+all_more : (P : List ℕ → Type 0) (xs : List (List ℕ)) (x : List ℕ) → AllByRecursion P xs → P x → AllByRecursion P (xs ++ x ∷ [])
+all_more P [] x all here = (here, tt)
+all_more P (y ∷ xs) x all here = (all.0, all_more P xs x all.1 here)
+
+frames_more : (xs : List (List ℕ)) (x : List ℕ) → flat_map frame xs ++ frame x ≡ flat_map frame (xs ++ x ∷ [])
+frames_more xs x = ap (λ l. flat_map frame xs ++ l) (sym (append-nil (frame x))) ∙ sym (flat_map-append frame xs (x ∷ []))
+
+one_more : (said then_said : List (List ℕ) → List ℕ → Type 0) (before now after old new : Option (List ℕ)) (n : ℕ) (kept out octets : List ℕ)
+    → Progress said before now old new n kept → Consumes now after (frame octets) → length octets ≤ 65507 → Says said then_said n octets kept out
+    → Progress then_said before after old new (n + 1) out
+unfolding Says
+one_more said then_said before now after old new n kept out octets p read small s = record {
+  records = p.records ++ octets ∷ [];
+  written = p.written;
+  count = length-append p.records (octets ∷ []) ∙ ap (λ k. k + 1) p.count;
+  each = all_more IsRecord p.records octets p.each small;
+  read = subst (Consumes before after) (append_assoc magic (flat_map frame p.records) (frame octets) ∙ ap (λ l. magic ++ l) (frames_more p.records octets)) (Consumes-trans _ _ _ _ _ p.read read);
+  wrote = p.wrote;
+  says = subst (then_said (p.records ++ octets ∷ [])) (append_assoc p.written kept s.0 ∙ ap (λ l. p.written ++ l) (sym s.1)) (s.2 p.records (p.written ++ kept) p.says p.count);
+}
+
+pub one_record : (said then_said : List (List ℕ) → List ℕ → Type 0) (before now after old new : Option (List ℕ)) (n len : ℕ) (kept out buffer : List ℕ)
+    → Progress said before now old new n kept → Consumes now after (frame (take len buffer)) → len ≤ 65507 → Says said then_said n (take len buffer) kept out
+    → Progress then_said before after old new (n + 1) out
+one_record said then_said before now after old new n len kept out buffer p read small s =
+    let fits : length (take len buffer) ≤ 65507 = omega (arith, length-take len buffer) in
+    one_more said then_said before now after old new n kept out (take len buffer) p read fits s
+
+-- the text was written or is kept back
+pub spilled : (said : List (List ℕ) → List ℕ → Type 0) (before now old mid new : Option (List ℕ)) (n : ℕ) (kept left : List ℕ)
+    → Progress said before now old mid n kept → Spills mid new kept left → Progress said before now old new n left
+spilled said before now old mid new n kept left p s = elim s [
+  | inl out ↦ rw out.1 (record {
+    records = p.records;
+    written = p.written ++ kept;
+    count = p.count;
+    each = p.each;
+    read = p.read;
+    wrote = Appends-trans _ _ _ _ _ p.wrote out.0;
+    says = subst (said p.records) (sym (append-nil (p.written ++ kept))) p.says;
+  })
+  | inr same ↦ record {
+    records = p.records;
+    written = p.written;
+    count = p.count;
+    each = p.each;
+    read = p.read;
+    wrote = Appends-kept _ _ _ _ p.wrote same.0;
+    says = rw same.1 p.says;
+  }
+]
+
+-- the printer has said its last, and all of it was written
+pub closed : (said : List (List ℕ) → List ℕ → Type 0) (text whole : List (List ℕ) → List ℕ) (before now old mid new : Option (List ℕ)) (n : ℕ) (kept : List ℕ)
+    → Progress said before now old mid n kept → ((records : List (List ℕ)) → text records ≡ whole records) → Closes said text mid new kept
+    → Finished whole before now old new n
+unfolding Closes
+closed said text whole before now old mid new n kept p same c = record {
+  records = p.records;
+  count = p.count;
+  each = p.each;
+  read = p.read;
+  wrote = subst (Appends old new) (sym (c.2 p.records p.written p.says) ∙ same p.records) (Appends-trans _ _ _ _ _ p.wrote c.1);
+}
+
+-- the input is what was read, and then what is left
+holds : (input : List ℕ) (now : Option (List ℕ)) (records : List (List ℕ)) (rest : List ℕ) → Consumes (Some input) now (magic ++ flat_map frame records) → AllByRecursion IsRecord records
+    → now ≡ Some rest → Holds input records rest
+holds input now records rest read each e = record {
+  whole = let h = subst (λ m. Consumes (Some input) m (magic ++ flat_map frame records)) e read in h ∙ append_assoc magic (flat_map frame records) rest;
+  each = each;
+}
+
+pub ended : (text : List (List ℕ) → List ℕ) (before now old new : Option (List ℕ)) (n : ℕ) → n ≤ 4294967295 → Finished text before now old new n → IsAtEnd now → WroteAll text before old new None
+unfolding WroteAll
+ended text None now old new n few p end = tt
+ended text (Some input) None old new n few p end = absurd p.read
+ended text (Some input) (Some rest) old new n few p end =
+    let fits : length p.records ≤ 4294967295 = rw p.count few in
+    (p.records, (rest, holds input (Some rest) p.records rest p.read p.each refl, (fits, end)), p.wrote)
+
+faulted : (text : List (List ℕ) → List ℕ) (before now old new : Option (List ℕ)) (n : ℕ) (fault : RunFault) → Finished text before now old new n → IfSome now (EndsBy (Some fault) n)
+    → WroteAll text before old new (Some fault)
+unfolding WroteAll
+faulted text None now old new n fault p stands = tt
+faulted text (Some input) None old new n fault p stands = absurd p.read
+faulted text (Some input) (Some rest) old new n fault p stands =
+    (p.records, (rest, holds input (Some rest) p.records rest p.read p.each refl, subst (λ k. EndsBy (Some fault) k rest) (sym p.count) stands), p.wrote)
+
+cut_off : (text : List (List ℕ) → List ℕ) (before now after old new : Option (List ℕ)) (n : ℕ) → Finished text before now old new n → (x : List ℕ) × Consumes now after x × IsPartial x
+    → WroteRead text before after old new
+unfolding WroteRead
+cut_off text before now after old new n p part = (
+  (magic ++ flat_map frame p.records) ++ part.0,
+  Consumes-trans _ _ _ _ _ p.read part.1,
+  inr (p.records, part.0, record { whole = append_assoc magic (flat_map frame p.records) part.0; each = p.each }, part.2, p.wrote),
+)
+
+-- a read fault before the magic was read
+cut_first : (text : List (List ℕ) → List ℕ) (before after old : Option (List ℕ)) → (x : List ℕ) × Consumes before after x × (length x < 4) → WroteRead text before after old old
+unfolding WroteRead
+cut_first text before after old part = (part.0, part.1, inl (part.2, Keeps-refl old))
+
+-- the run stops at a fault that stands behind the records
+pub stops_here : (text : List (List ℕ) → List ℕ) (fault : RunFault) (before now after old new : Option (List ℕ)) (n : ℕ) → Finished text before now old new n → FaultHere fault n now after
+    → Stops text fault before after old new
+unfolding Stops
+stops_here text CannotRead before now after old new n p h = cut_off text before now after old new n p h
+stops_here text NotRecordFile before now after old new n p h = absurd h
+stops_here text (CutRecord at) before now after old new n p h = faulted text before now old new n (CutRecord at) p h
+stops_here text (RecordTooLong at) before now after old new n p h = faulted text before now old new n (RecordTooLong at) p h
+stops_here text TooManyRecords before now after old new n p h = faulted text before now old new n TooManyRecords p h
+stops_here text CannotWrite before now after old new n p h = absurd h
+stops_here text NoMemory before now after old new n p h = absurd h
+
+-- the run stops before the records
+pub stops_first : (text : List (List ℕ) → List ℕ) (fault : RunFault) (before after old : Option (List ℕ)) → FaultFirst fault before after → Stops text fault before after old old
+unfolding Stops
+stops_first text CannotRead before after old h = cut_first text before after old h
+stops_first text NotRecordFile before after old h = (h, Keeps-refl old)
+stops_first text (CutRecord at) before after old h = absurd h
+stops_first text (RecordTooLong at) before after old h = absurd h
+stops_first text TooManyRecords before after old h = absurd h
+stops_first text CannotWrite before after old h = absurd h
+stops_first text NoMemory before after old h = absurd h
+
+-- nothing was read or written
+pub stops_at_once : (text : List (List ℕ) → List ℕ) (before after old : Option (List ℕ)) → Stops text NoMemory before after old old
+unfolding Stops WroteFront
+stops_at_once text before after old = inl (Keeps-refl old)
+
+-- what was said begins the whole text
+abbrev pub SaidIsFront : (List (List ℕ) → List ℕ → Type 0) → (List (List ℕ) → List ℕ) → Type 0
+SaidIsFront said text = (records : List (List ℕ)) (words : List ℕ) → said records words → IsFront words (text records)
+
+-- a front of what was said is a front of the whole text
+front_on : (written put kept text : List ℕ) → IsFront put kept → IsFront (written ++ kept) text → IsFront (written ++ put) text
+front_on written put kept text inner outer = (
+  inner.0 ++ outer.0,
+  outer.1 ∙ ap (λ l. (written ++ l) ++ outer.0) inner.1 ∙ ap (λ l. l ++ outer.0) (sym (append_assoc written put inner.0)) ∙ append_assoc (written ++ put) inner.0 outer.0,
+)
+
+-- a front of the text of the records that were read was written
+wrote_front : (text : List (List ℕ) → List ℕ) (before now old new : Option (List ℕ)) (records : List (List ℕ)) (put : List ℕ) → Consumes before now (magic ++ flat_map frame records)
+    → AllByRecursion IsRecord records → IsFront put (text records) → Appends old new put → WroteFront text before old new
+unfolding WroteFront
+wrote_front text None now old new records put read each front wrote = inr tt
+wrote_front text (Some input) None old new records put read each front wrote = absurd read
+wrote_front text (Some input) (Some rest) old new records put read each front wrote =
+    inr (records, rest, put, holds input (Some rest) records rest read each refl, front, wrote)
+
+put_front : (said : List (List ℕ) → List ℕ → Type 0) (text whole : List (List ℕ) → List ℕ) (before now old mid new : Option (List ℕ)) (n : ℕ) (kept : List ℕ)
+    → Progress said before now old mid n kept → SaidIsFront said text → ((records : List (List ℕ)) → text records ≡ whole records) → PutsFront mid new kept
+    → WroteFront whole before old new
+put_front said text whole before now old mid new n kept p fronts same put =
+    let some : IsFront (p.written ++ kept) (whole p.records) = subst (IsFront (p.written ++ kept)) (same p.records) (fronts p.records (p.written ++ kept) p.says) in
+    wrote_front whole before now old new p.records (p.written ++ take put.0 kept) p.read p.each
+    (front_on p.written (take put.0 kept) kept (whole p.records) (drop put.0 kept, sym (take-append-drop put.0 kept)) some)
+    (Appends-trans _ _ _ _ _ p.wrote put.1)
+
+-- nothing more was written
+put_none : (said : List (List ℕ) → List ℕ → Type 0) (text whole : List (List ℕ) → List ℕ) (before now old new : Option (List ℕ)) (n : ℕ) (kept : List ℕ)
+    → Progress said before now old new n kept → SaidIsFront said text → ((records : List (List ℕ)) → text records ≡ whole records) → WroteFront whole before old new
+put_none said text whole before now old new n kept p fronts same = put_front said text whole before now old new new n kept p fronts same (0, Appends-nil new)
+
+-- the run stops at a write fault, and for want of memory
+pub stops_writing : (said : List (List ℕ) → List ℕ → Type 0) (text whole : List (List ℕ) → List ℕ) (before now after old mid new : Option (List ℕ)) (n : ℕ) (kept : List ℕ) (fault : RunFault)
+    → fault ≡ CannotWrite → Progress said before now old mid n kept → SaidIsFront said text → ((records : List (List ℕ)) → text records ≡ whole records) → PutsFront mid new kept
+    → Stops whole fault before after old new
+unfolding Stops
+stops_writing said text whole before now after old mid new n kept fault e p fronts same put = rw e (put_front said text whole before now old mid new n kept p fronts same put)
+
+pub stops_without : (said : List (List ℕ) → List ℕ → Type 0) (text whole : List (List ℕ) → List ℕ) (before now after old new : Option (List ℕ)) (n : ℕ) (kept : List ℕ)
+    → Progress said before now old new n kept → SaidIsFront said text → ((records : List (List ℕ)) → text records ≡ whole records) → Stops whole NoMemory before after old new
+unfolding Stops
+stops_without said text whole before now after old new n kept p fronts same = put_none said text whole before now old new n kept p fronts same
+
+-- the run stops at its last text
+pub stops_closing : (said : List (List ℕ) → List ℕ → Type 0) (text whole : List (List ℕ) → List ℕ) (before now after old mid new : Option (List ℕ)) (n : ℕ) (kept : List ℕ) (fault : RunFault)
+    → Progress said before now old mid n kept → SaidIsFront said text → ((records : List (List ℕ)) → text records ≡ whole records) → ClosesNot fault said text mid new kept
+    → Stops whole fault before after old new
+unfolding Stops ClosesNot
+stops_closing said text whole before now after old mid new n kept fault p fronts same c = elim c [
+  | inl none ↦
+      rw none.0 (put_front said text whole before now old mid new n kept p fronts same (0, Appends-kept _ _ _ _ (Appends-nil mid) none.1))
+  | inr front ↦
+      let all = front.1.2 p.records p.written p.says in
+      let put = front.1.0 in
+      rw front.0 (
+      wrote_front whole before now old new p.records (p.written ++ take front.1.1.0 put) p.read p.each
+      (drop front.1.1.0 put, sym (same p.records) ∙ all ∙ ap (λ l. p.written ++ l) (sym (take-append-drop front.1.1.0 put)) ∙ sym (append_assoc p.written (take front.1.1.0 put) (drop front.1.1.0 put)))
+      (Appends-trans _ _ _ _ _ p.wrote front.1.1.1)
+      )
+]
+
+-- what the printer has to say behind the text that was kept back
+pub closes : (said : List (List ℕ) → List ℕ → Type 0) (text : List (List ℕ) → List ℕ) (old mid new : Option (List ℕ)) (kept out : List ℕ) → Ends said text kept out → Appends old mid out → Keeps mid new
+    → Closes said text old new kept
+unfolding Ends Closes
+closes said text old mid new kept out e put keeps = (
+  out,
+  Appends-kept _ _ _ _ put keeps,
+  λ records written s. e.2 records (written ++ kept) s ∙ append_assoc written kept e.0 ∙ ap (λ l. written ++ l) (sym e.1),
+)
+
+pub closes_not : (said : List (List ℕ) → List ℕ → Type 0) (text : List (List ℕ) → List ℕ) (fault : RunFault) (old new : Option (List ℕ)) (kept out : List ℕ) → fault ≡ CannotWrite → Ends said text kept out
+    → PutsFront old new out → ClosesNot fault said text old new kept
+unfolding Ends ClosesNot
+closes_not said text fault old new kept out same e put = inr (
+  same,
+  (out, put, λ records written s. e.2 records (written ++ kept) s ∙ append_assoc written kept e.0 ∙ ap (λ l. written ++ l) (sym e.1)),
+)
+
+pub closes_at_flush : (said : List (List ℕ) → List ℕ → Type 0) (text : List (List ℕ) → List ℕ) (fault : RunFault) (old mid new : Option (List ℕ)) (kept out : List ℕ) → fault ≡ CannotWrite → Ends said text kept out
+    → Appends old mid out → Keeps mid new → ClosesNot fault said text old new kept
+closes_at_flush said text fault old mid new kept out same e put keeps =
+    closes_not said text fault old new kept out same e (length out, subst (Appends old new) (sym (take_all (length out) out (omega arith))) (Appends-kept _ _ _ _ put keeps))
+
+pub closes_without : (said : List (List ℕ) → List ℕ → Type 0) (text : List (List ℕ) → List ℕ) (old : Option (List ℕ)) (kept : List ℕ) → ClosesNot NoMemory said text old old kept
+unfolding ClosesNot
+closes_without said text old kept = inl (refl, Keeps-refl old)

@@ -1,0 +1,3 @@
+pub mod RecordFile
+pub mod Runs
+pub mod Text

@@ -1,0 +1,92 @@
+-- A record file: four octets of magic, and records of a 32-bit length and that many octets, to the end.
+use Rattle.std.specs.Prelude.{◌≡◌, ℕ, ◌+◌, ◌<◌, ◌≤◌, List, [], ◌∷◌, ◌++◌, ◌⊎◌, length, take, Option, Some, None, IfSome}
+use Rattle.std.specs.Io.KnownBytes.{Consumes}
+use Rattle.std.specs.List.{flat_map, AllByRecursion}
+use Rattle.std.specs.Int.{w32, to_be_bytes, from_be_bytes}
+use Rattle.rtps_records.specs.declared.fault.RunFault.{RunFault}
+use Rattle.rtps_records.specs.declared.fault.RunFault.TheVariants.{CannotRead, NotRecordFile, CutRecord, RecordTooLong, TooManyRecords, CannotWrite, NoMemory}
+
+-- `RDG1`
+abbrev pub magic : List ℕ
+magic = 82 ∷ 68 ∷ 71 ∷ 49 ∷ []
+
+-- four octets of length, and that many octets
+abbrev pub frame : List ℕ → List ℕ
+frame octets = to_be_bytes w32 (length octets) ++ octets
+
+abbrev pub IsRecord : List ℕ → Type 0
+IsRecord octets = length octets ≤ 65507
+
+-- what the first four octets say
+abbrev pub told_length : List ℕ → ℕ
+told_length octets = from_be_bytes w32 (take 4 octets)
+
+-- some octets stand here, and they end before the record that they begin does
+abbrev pub IsCut : List ℕ → Type 0
+IsCut octets = (0 < length octets) × ((length octets < 4) ⊎ ((told_length octets ≤ 65507) × (length octets < 4 + told_length octets)))
+
+abbrev pub IsTooLong : List ℕ → Type 0
+IsTooLong octets = (4 ≤ length octets) × (65507 < told_length octets)
+
+-- n records were read, and the file ends here, or the first fault stands here
+abbrev pub EndsBy : Option RunFault → ℕ → List ℕ → Type 0
+EndsBy None n rest = (n ≤ 4294967295) × (rest ≡ [])
+EndsBy (Some (CutRecord at)) n rest = (at ≡ n) × (n < 4294967295) × IsCut rest
+EndsBy (Some (RecordTooLong at)) n rest = (at ≡ n) × (n < 4294967295) × IsTooLong rest
+EndsBy (Some TooManyRecords) n rest = (n ≡ 4294967295) × (0 < length rest)
+EndsBy (Some NotRecordFile) n rest = ⊥
+EndsBy (Some CannotRead) n rest = ⊥
+EndsBy (Some CannotWrite) n rest = ⊥
+EndsBy (Some NoMemory) n rest = ⊥
+
+-- the octets are these records, up to a rest
+pub record Holds (octets : List ℕ) (records : List (List ℕ)) (rest : List ℕ) : Type 0 where
+  pub whole : octets ≡ magic ++ (flat_map frame records ++ rest)
+  pub each : AllByRecursion IsRecord records
+
+-- the octets hold these records, and then the end or the first fault
+abbrev pub Reads : List ℕ → List (List ℕ) → Option RunFault → Type 0
+Reads octets records fault = (rest : List ℕ) × Holds octets records rest × EndsBy fault (length records) rest
+
+abbrev pub IsOther : List ℕ → Type 0
+IsOther octets = (more : List ℕ) → ¬ (octets ≡ magic ++ more)
+
+-- what was read holds no whole record
+abbrev pub IsPartial : List ℕ → Type 0
+IsPartial octets = (octets ≡ []) ⊎ IsCut octets
+
+-- the fault that stands before the records
+abbrev pub FaultFirst : RunFault → Option (List ℕ) → Option (List ℕ) → Type 0
+FaultFirst CannotRead before after = (taken : List ℕ) × Consumes before after taken × (length taken < 4)
+FaultFirst NotRecordFile before after = IfSome before IsOther
+FaultFirst (CutRecord at) before after = ⊥
+FaultFirst (RecordTooLong at) before after = ⊥
+FaultFirst TooManyRecords before after = ⊥
+FaultFirst CannotWrite before after = ⊥
+FaultFirst NoMemory before after = ⊥
+
+-- the fault that stands behind n records
+abbrev pub FaultHere : RunFault → ℕ → Option (List ℕ) → Option (List ℕ) → Type 0
+FaultHere CannotRead n before after = (taken : List ℕ) × Consumes before after taken × IsPartial taken
+FaultHere NotRecordFile n before after = ⊥
+FaultHere (CutRecord at) n before after = IfSome before (EndsBy (Some (CutRecord at)) n)
+FaultHere (RecordTooLong at) n before after = IfSome before (EndsBy (Some (RecordTooLong at)) n)
+FaultHere TooManyRecords n before after = IfSome before (EndsBy (Some TooManyRecords) n)
+FaultHere CannotWrite n before after = ⊥
+FaultHere NoMemory n before after = ⊥
+
+-- octets have one reading at most
+abbrev pub OneReading : Type 0
+OneReading =
+    (octets : List ℕ) (records others : List (List ℕ)) (fault other : Option RunFault)
+    → Reads octets records fault → Reads octets others other → (records ≡ others) × (fault ≡ other)
+
+-- octets that begin with the magic have a reading
+abbrev pub SomeReading : Type 0
+SomeReading =
+    (octets : List ℕ) → AllByRecursion (λ octet. octet < 256) octets
+    → (records : List (List ℕ)) × (fault : Option RunFault) × Reads (magic ++ octets) records fault
+
+-- octets that begin otherwise have none
+abbrev pub OthersHaveNone : Type 0
+OthersHaveNone = (octets : List ℕ) (records : List (List ℕ)) (fault : Option RunFault) → IsOther octets → ¬ Reads octets records fault

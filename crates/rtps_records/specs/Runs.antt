@@ -1,0 +1,61 @@
+-- What a run leaves written, by the text of records, by what the reader had left before and after it, and by the writer's
+-- contents before and after it.
+use Rattle.std.specs.Prelude.{◌≡◌, ℕ, ◌<◌, List, [], ◌++◌, ◌⊎◌, length, take, Option, Some, IfSome}
+use Rattle.std.specs.Io.KnownBytes.{Appends, Consumes, Keeps}
+use Rattle.rtps_records.specs.declared.fault.RunFault.{RunFault}
+use Rattle.rtps_records.specs.declared.fault.RunFault.TheVariants.{CannotRead, NotRecordFile, CutRecord, RecordTooLong, TooManyRecords, CannotWrite, NoMemory}
+use Rattle.rtps_records.specs.RecordFile.{Holds, Reads, IsOther, IsPartial}
+use Rattle.rtps_records.specs.Text.{IsFront}
+
+-- the whole input is these records, and then the end or this fault; their text was written, and nothing else
+unfoldable pub WroteAll : (List (List ℕ) → List ℕ) → Option (List ℕ) → Option (List ℕ) → Option (List ℕ) → Option RunFault → Type 0
+WroteAll text before old new fault = IfSome before (λ input. (records : List (List ℕ)) × Reads input records fault × Appends old new (text records))
+
+-- A part of the input was read. The text of the records in it was written, and nothing else; less than the first four octets
+-- has no text.
+unfoldable pub WroteRead : (List (List ℕ) → List ℕ) → Option (List ℕ) → Option (List ℕ) → Option (List ℕ) → Option (List ℕ) → Type 0
+WroteRead text before after old new =
+    (taken : List ℕ) × Consumes before after taken
+    × (((length taken < 4) × Keeps old new)
+    ⊎ ((records : List (List ℕ)) × (rest : List ℕ) × Holds taken records rest × IsPartial rest × Appends old new (text records)))
+
+-- nothing was written, or what was written is a front of the text of records that the input begins with
+unfoldable pub WroteFront : (List (List ℕ) → List ℕ) → Option (List ℕ) → Option (List ℕ) → Option (List ℕ) → Type 0
+WroteFront text before old new =
+    Keeps old new
+    ⊎ IfSome before (λ input. (records : List (List ℕ)) × (rest : List ℕ) × (put : List ℕ) × Holds input records rest × IsFront put (text records) × Appends old new put)
+
+-- what a run leaves that stops at a fault
+unfoldable pub Stops : (List (List ℕ) → List ℕ) → RunFault → Option (List ℕ) → Option (List ℕ) → Option (List ℕ) → Option (List ℕ) → Type 0
+Stops text NotRecordFile before after old new = IfSome before IsOther × Keeps old new
+Stops text CannotRead before after old new = WroteRead text before after old new
+Stops text CannotWrite before after old new = WroteFront text before old new
+Stops text NoMemory before after old new = WroteFront text before old new
+Stops text (CutRecord n) before after old new = WroteAll text before old new (Some (CutRecord n))
+Stops text (RecordTooLong n) before after old new = WroteAll text before old new (Some (RecordTooLong n))
+Stops text TooManyRecords before after old new = WroteAll text before old new (Some TooManyRecords)
+
+-- a front of these octets was written
+abbrev pub PutsFront : Option (List ℕ) → Option (List ℕ) → List ℕ → Type 0
+PutsFront old new octets = (n : ℕ) × Appends old new (take n octets)
+
+-- octets were written and gave way to none, or they are kept back
+abbrev pub Spills : Option (List ℕ) → Option (List ℕ) → List ℕ → List ℕ → Type 0
+Spills old new before after = (Appends old new before × (after ≡ [])) ⊎ (Keeps old new × (after ≡ before))
+
+-- Some octets were written. Where a printer has said its text up to those that were kept back, they are these octets and the
+-- rest of its text.
+unfoldable pub Closes : (List (List ℕ) → List ℕ → Type 0) → (List (List ℕ) → List ℕ) → Option (List ℕ) → Option (List ℕ) → List ℕ → Type 0
+Closes said text old new kept =
+    (put : List ℕ) × Appends old new put
+    × ((records : List (List ℕ)) (written : List ℕ) → said records (written ++ kept) → text records ≡ written ++ put)
+
+-- a front of such octets was written
+abbrev pub ClosesFront : (List (List ℕ) → List ℕ → Type 0) → (List (List ℕ) → List ℕ) → Option (List ℕ) → Option (List ℕ) → List ℕ → Type 0
+ClosesFront said text old new kept =
+    (put : List ℕ) × PutsFront old new put
+    × ((records : List (List ℕ)) (written : List ℕ) → said records (written ++ kept) → text records ≡ written ++ put)
+
+-- the last text was not written whole
+unfoldable pub ClosesNot : RunFault → (List (List ℕ) → List ℕ → Type 0) → (List (List ℕ) → List ℕ) → Option (List ℕ) → Option (List ℕ) → List ℕ → Type 0
+ClosesNot fault said text old new kept = ((fault ≡ NoMemory) × Keeps old new) ⊎ ((fault ≡ CannotWrite) × ClosesFront said text old new kept)

@@ -1,0 +1,370 @@
+ghost use Rattle.std.specs.Prelude.{◌≡◌, ℕ, List, [], ◌∷◌, ◌++◌, length};
+ghost use Rattle.std.specs.Fmt.{decimal};
+ghost use Rattle.rtps_records.specs.Text.{nothing_is_front};
+
+use crate::records::next_record;
+use crate::{EachRecord, Printer, RecordText, RunFault, print_records, print_records_in};
+use linked_list_allocator::LocalHeap;
+use std::alloc::{AllocError, Allocator, Global};
+use std::io::{self, Error, ErrorKind, Read, Write};
+use std::test::Fail;
+
+/// A line of a record's number and length.
+#[derive(Drop)]
+struct Lengths;
+
+impl RecordText for Lengths {
+    ghost text = { λ _ number octets. decimal number ++ (32 ∷ (decimal (length octets) ++ (10 ∷ []))) };
+
+    fn push_text<A: Allocator>(
+        &self,
+        number: u32,
+        octets: &[u8],
+        out: &mut String<A>,
+    ) -> Result<(), AllocError> {
+        let count = octets.len();
+        writeln!(out, "{number} {count}")
+    }
+}
+
+/// Says nothing of a record, and behind the last how many there were.
+#[derive(Drop)]
+struct Count(u64);
+
+impl Printer for Count {
+    ghost text = { λ _ records. decimal (length records) };
+
+    ghost has_said = { λ p records said. (p.0 ≡ length records) × (said ≡ []) };
+
+    fn print<A: Allocator>(
+        &mut self,
+        number: u32,
+        _octets: &[u8],
+        _out: &mut String<A>,
+    ) -> Result<(), AllocError> {
+        self.0 = u64::from(number) + 1;
+        Ok(())
+    }
+
+    fn finish<A: Allocator>(&mut self, out: &mut String<A>) -> Result<(), AllocError> {
+        let count = self.0;
+        write!(out, "{count}")
+    }
+
+    ghost said_is_front = { λ p records said h. nothing_is_front said (decimal (length records)) h.1 };
+}
+
+/// Gives its octets a few at a time, is interrupted before each read that succeeds, and fails
+/// before one of the octets.
+#[derive(Drop)]
+struct Failing<'a> {
+    octets: &'a [u8],
+    at: usize,
+    fails_at: usize,
+    most: usize,
+    is_interrupted: bool,
+}
+
+impl Read for Failing<'_> {
+    fn read(&mut self, buf: &mut [u8]) -> io::Result<usize> {
+        self.is_interrupted = !self.is_interrupted;
+        if self.is_interrupted {
+            return Err(Error::from(ErrorKind::Interrupted));
+        }
+        if self.at >= self.fails_at {
+            return Err(Error::from(ErrorKind::Other));
+        }
+        let rest = self.octets.get(self.at..).unwrap_or(&[]);
+        let most = self.most.min(self.fails_at - self.at);
+        let n = buf.len().min(rest.len()).min(most);
+        buf[..n].copy_from_slice(&rest[..n]);
+        self.at = self.at.saturating_add(n);
+        Ok(n)
+    }
+}
+
+/// Takes a few octets a call, is interrupted before each call, and fails at one.
+#[derive(Drop)]
+struct Refusing {
+    kept: Vec<u8>,
+    calls: usize,
+    fails_at: usize,
+    most: usize,
+    is_interrupted: bool,
+}
+
+impl Refusing {
+    fn new(alloc: Global, fails_at: usize, most: usize) -> Refusing {
+        Refusing {
+            kept: Vec::new(alloc),
+            calls: 0,
+            fails_at,
+            most,
+            is_interrupted: false,
+        }
+    }
+
+    /// Whether this call goes through.
+    fn turn(&mut self) -> io::Result<()> {
+        self.is_interrupted = !self.is_interrupted;
+        if self.is_interrupted {
+            return Err(Error::from(ErrorKind::Interrupted));
+        }
+        if self.calls >= self.fails_at {
+            return Err(Error::from(ErrorKind::BrokenPipe));
+        }
+        self.calls = self.calls.saturating_add(1);
+        Ok(())
+    }
+}
+
+impl Write for Refusing {
+    fn write(&mut self, buf: &[u8]) -> io::Result<usize> {
+        self.turn()?;
+        let n = buf.len().min(self.most);
+        self.kept.extend_from_slice(&buf[..n])?;
+        Ok(n)
+    }
+
+    fn flush(&mut self) -> io::Result<()> {
+        self.turn()
+    }
+}
+
+const FILE: &[u8; 21] = b"RDG1\0\0\0\x02hi\0\0\0\0\0\0\0\x03abc";
+
+const TEXT: &[u8; 12] = b"0 2\n1 0\n2 3\n";
+
+/// How much of the text is there once so many octets of the file were read.
+fn text_len(read: usize) -> usize {
+    match read {
+        0..=9 => 0,
+        10..=13 => 4,
+        14..=20 => 8,
+        _ => 12,
+    }
+}
+
+/// What is printed of a file, and how the run ends.
+fn printed(alloc: Global, file: &[u8]) -> (Result<(), RunFault>, Vec<u8>) {
+    let mut out = Vec::new(alloc);
+    let mut rest = file;
+    let outcome = print_records(alloc, &mut EachRecord(Lengths), &mut rest, &mut out);
+    (outcome, out)
+}
+
+#[test]
+fn tells_each_end(rt: HostRuntime) -> Result<(), Fail> {
+    for (file, text, outcome) in [
+        (FILE.as_slice(), TEXT.as_slice(), Ok(())),
+        (b"RDG1".as_slice(), b"".as_slice(), Ok(())),
+        (b"".as_slice(), b"".as_slice(), Err(RunFault::NotRecordFile)),
+        (
+            b"RDG".as_slice(),
+            b"".as_slice(),
+            Err(RunFault::NotRecordFile),
+        ),
+        (
+            b"RDG2".as_slice(),
+            b"".as_slice(),
+            Err(RunFault::NotRecordFile),
+        ),
+        (
+            b"RDG1\0".as_slice(),
+            b"".as_slice(),
+            Err(RunFault::CutRecord(0)),
+        ),
+        (
+            b"RDG1\xff\xff\xff".as_slice(),
+            b"".as_slice(),
+            Err(RunFault::CutRecord(0)),
+        ),
+        (
+            b"RDG1\0\0\0\x01a\0\0\0\x10\xff\xff".as_slice(),
+            b"0 1\n".as_slice(),
+            Err(RunFault::CutRecord(1)),
+        ),
+        (
+            b"RDG1\0\0\xff\xe3ab".as_slice(),
+            b"".as_slice(),
+            Err(RunFault::CutRecord(0)),
+        ),
+        (
+            b"RDG1\0\0\xff\xe4ab".as_slice(),
+            b"".as_slice(),
+            Err(RunFault::RecordTooLong(0)),
+        ),
+        (
+            b"RDG1\0\0\0\0\xff\xff\xff\xff".as_slice(),
+            b"0 0\n".as_slice(),
+            Err(RunFault::RecordTooLong(1)),
+        ),
+    ] {
+        let (found, out) = printed(rt.alloc(), file);
+        assert_eq!(rt; found, outcome);
+        assert_eq!(rt; out.as_slice(), text);
+    }
+    Ok(())
+}
+
+#[test]
+fn takes_the_longest_record(rt: HostRuntime) -> Result<(), Fail> {
+    let mut file = b"RDG1\0\0\xff\xe3".to_vec(rt.alloc())?;
+    for _ in 0..65_507u32 {
+        file.push(0)?;
+    }
+    let (outcome, out) = printed(rt.alloc(), file.as_slice());
+    assert_eq!(rt; outcome, Ok(()));
+    assert_eq!(rt; out.as_slice(), b"0 65507\n".as_slice());
+    Ok(())
+}
+
+#[test]
+fn takes_no_record_behind_the_greatest_number(rt: HostRuntime) -> Result<(), Fail> {
+    let mut buffer = [0u8; 65_507];
+    let mut some = b"\0".as_slice();
+    let mut none = b"".as_slice();
+    let behind = next_record(&mut some, &mut buffer, u32::MAX);
+    assert_eq!(rt; behind, Err(RunFault::TooManyRecords));
+    assert_eq!(rt; next_record(&mut none, &mut buffer, u32::MAX), Ok(None));
+    Ok(())
+}
+
+#[test]
+fn stops_at_each_octet(rt: HostRuntime) -> Result<(), Fail> {
+    for fails_at in 0..22 {
+        for most in 1..6 {
+            let mut out = Vec::new(rt.alloc());
+            let mut reader = Failing {
+                octets: FILE,
+                at: 0,
+                fails_at,
+                most,
+                is_interrupted: false,
+            };
+            let outcome = print_records(
+                rt.alloc(),
+                &mut EachRecord(Lengths),
+                &mut reader,
+                &mut out,
+            );
+            assert_eq!(rt; outcome, Err(RunFault::CannotRead));
+            assert_eq!(rt;
+                out.as_slice(),
+                TEXT.get(..text_len(fails_at)).ok_or("a front")?
+            );
+        }
+    }
+    Ok(())
+}
+
+#[test]
+fn writes_a_front_at_each_fault(rt: HostRuntime) -> Result<(), Fail> {
+    // Twelve calls take the octets one by one, and the thirteenth is the flush.
+    for calls in 0..14 {
+        let mut writer = Refusing::new(rt.alloc(), calls, 1);
+        let mut file = FILE.as_slice();
+        let outcome = print_records(rt.alloc(), &mut EachRecord(Lengths), &mut file, &mut writer);
+        let wanted = if calls == 13 {
+            Ok(())
+        } else {
+            Err(RunFault::CannotWrite)
+        };
+        assert_eq!(rt; outcome, wanted);
+        assert_eq!(rt;
+            writer.kept.as_slice(),
+            TEXT.get(..calls.min(12)).ok_or("a front")?
+        );
+    }
+    let mut writer = Refusing::new(rt.alloc(), 99, 0);
+    let mut file = b"RDG1\0".as_slice();
+    let outcome = print_records(rt.alloc(), &mut Count(0), &mut file, &mut writer);
+    assert_eq!(rt;
+        outcome,
+        Err(RunFault::CannotWrite),
+        "in place of the cut record"
+    );
+    Ok(())
+}
+
+#[test]
+fn ends_with_the_last_text(rt: HostRuntime) -> Result<(), Fail> {
+    for (file, text, outcome) in [
+        (FILE.as_slice(), b"3".as_slice(), Ok(())),
+        (b"RDG1".as_slice(), b"0".as_slice(), Ok(())),
+        (
+            b"RDG1\0\0\0\0\0".as_slice(),
+            b"1".as_slice(),
+            Err(RunFault::CutRecord(1)),
+        ),
+        (
+            b"RDG".as_slice(),
+            b"".as_slice(),
+            Err(RunFault::NotRecordFile),
+        ),
+    ] {
+        let mut out = Vec::new(rt.alloc());
+        let mut rest = file;
+        assert_eq!(rt;
+            print_records(rt.alloc(), &mut Count(0), &mut rest, &mut out),
+            outcome
+        );
+        assert_eq!(rt; out.as_slice(), text);
+    }
+    Ok(())
+}
+
+#[test]
+fn stops_where_a_growth_is_refused(rt: HostRuntime) -> Result<(), Fail> {
+    let mut refused = 0;
+    for step in 0..40 {
+        let heap = LocalHeap::new(rt.alloc(), 65_400 + step * 8)?;
+        let mut out = Vec::new(rt.alloc());
+        let mut file = FILE.as_slice();
+        let outcome = print_records_in(&heap, &mut EachRecord(Lengths), &mut file, &mut out);
+        if outcome.is_ok() {
+            assert_eq!(rt; out.as_slice(), TEXT.as_slice());
+        } else {
+            refused = step;
+            assert_eq!(rt; outcome, Err(RunFault::NoMemory), "at {step}");
+            assert_eq!(rt; out.len(), 0);
+        }
+    }
+    assert!(rt; 0 < refused && refused < 39);
+    Ok(())
+}
+
+#[test]
+fn writes_long_texts_in_parts(rt: HostRuntime) -> Result<(), Fail> {
+    let mut file = b"RDG1".to_vec(rt.alloc())?;
+    let mut text = String::new(rt.alloc());
+    for number in 0..12_000u32 {
+        file.extend_from_slice(&[0; 4])?;
+        writeln!(text, "{number} 0")?;
+    }
+    let (outcome, out) = printed(rt.alloc(), file.as_slice());
+    assert_eq!(rt; outcome, Ok(()));
+    assert_eq!(rt; out.as_slice(), text.as_bytes());
+    let mut writer = Refusing::new(rt.alloc(), 1, usize::MAX);
+    let mut rest = file.as_slice();
+    let outcome = print_records(rt.alloc(), &mut EachRecord(Lengths), &mut rest, &mut writer);
+    assert_eq!(rt; outcome, Err(RunFault::CannotWrite));
+    assert!(rt; text.as_bytes().starts_with(writer.kept.as_slice()));
+    assert!(rt; 0 < writer.kept.len() && writer.kept.len() < text.len());
+    let mut refused = 0;
+    for step in 0..20 {
+        let heap = LocalHeap::new(rt.alloc(), 65_600 + step * 16_384)?;
+        let mut out = Vec::new(rt.alloc());
+        let mut rest = file.as_slice();
+        let outcome = print_records_in(&heap, &mut EachRecord(Lengths), &mut rest, &mut out);
+        assert!(rt; text.as_bytes().starts_with(out.as_slice()));
+        if outcome.is_ok() {
+            assert_eq!(rt; out.len(), text.len());
+        } else {
+            refused = step;
+            assert_eq!(rt; outcome, Err(RunFault::NoMemory));
+        }
+    }
+    assert!(rt; 0 < refused && refused < 19);
+    Ok(())
+}

@@ -1,0 +1,43 @@
+//! The lines of a datagram's events.
+
+ghost use Rattle.std.specs.Prelude.{◌≡◌, ◌++◌};
+ghost use Rattle.rtps_text.specs.EventLines.{lines_of};
+
+use crate::line::Line;
+use rtps_receiver::{ReceiverError, events};
+use rtps_records::RecordText;
+use rtps_types::GuidPrefix;
+use std::alloc::{AllocError, Allocator};
+use std::fmt::Write;
+
+/// Prints a line for each event of a datagram, as the participant of this prefix sees it.
+#[derive(Drop)]
+pub struct EventLines<'a, B: Allocator> {
+    pub own: GuidPrefix,
+    /// Where the events of one datagram are kept while they are printed.
+    pub alloc: &'a B,
+}
+
+impl<B: Allocator> RecordText for EventLines<'_, B> {
+    ghost text = { λ lines number octets. lines_of lines.own number octets };
+
+    fn push_text<A: Allocator>(
+        &self,
+        number: u32,
+        octets: &[u8],
+        out: &mut String<A>,
+    ) -> Result<(), AllocError> {
+        let found = match events(self.alloc, self.own, u64::from(number), octets) {
+            Ok(found) => found,
+            Err(ReceiverError::NoMemory) => return Err(AllocError),
+        };
+        for event in &found {
+            let line = Line(event);
+            match write!(out, "{line}") {
+                Ok(()) => {}
+                Err(_) => return Err(AllocError),
+            }
+        }
+        Ok(())
+    }
+}
