@@ -1,6 +1,6 @@
 //! What a run prints of its records.
 
-ghost use Rattle.std.specs.Prelude.{◌≡◌, ℕ, ◌≤◌, List, ◌++◌, [], length, OnOk, string_bytes};
+ghost use Rattle.std.specs.Prelude.{◌≡◌, ℕ, ◌≤◌, List, ◌++◌, [], length, OnOk};
 ghost use Rattle.rtps_records.specs.Text.{Ends, IsFront, Says, text_of, whole_is_front};
 
 use std::alloc::{AllocError, Allocator};
@@ -20,15 +20,15 @@ pub trait Printer {
         &mut self,
         number: u32,
         octets: &[u8],
-        out: &mut String<A>,
+        out: &mut Vec<u8, A>,
     ) -> Result<(), AllocError>
         requires { length octets.now ≤ 65507 }
         ensures same { OnOk result ((records : List (List ℕ)) → text self.new records ≡ text self.old records) }
-        ensures ok { OnOk result (Says (has_said self.old) (has_said self.new) number octets.now (string_bytes out.old) (string_bytes out.new)) };
+        ensures ok { OnOk result (Says (has_said self.old) (has_said self.new) number octets.now out.old.items out.new.items) };
 
     /// Adds what is still to be printed behind the last record.
-    fn finish<A: Allocator>(&mut self, out: &mut String<A>) -> Result<(), AllocError>
-        ensures ok { OnOk result (Ends (has_said self.old) (text self.old) (string_bytes out.old) (string_bytes out.new)) };
+    fn finish<A: Allocator>(&mut self, out: &mut Vec<u8, A>) -> Result<(), AllocError>
+        ensures ok { OnOk result (Ends (has_said self.old) (text self.old) out.old.items out.new.items) };
 
     ghost said_is_front: { (p : Self) (records : List (List ℕ)) (said : List ℕ) → has_said p records said → IsFront said (text p records) };
 }
@@ -43,10 +43,10 @@ pub trait RecordText {
         &self,
         number: u32,
         octets: &[u8],
-        out: &mut String<A>,
+        out: &mut Vec<u8, A>,
     ) -> Result<(), AllocError>
         requires { length octets.now ≤ 65507 }
-        ensures { OnOk result (string_bytes out.new ≡ string_bytes out.old ++ text self.now number octets.now) };
+        ensures { OnOk result (out.new.items ≡ out.old.items ++ text self.now number octets.now) };
 }
 
 /// Prints the text of each record, and nothing behind the last.
@@ -62,12 +62,12 @@ impl<T: RecordText> Printer for EachRecord<T> {
         &mut self,
         number: u32,
         octets: &[u8],
-        out: &mut String<A>,
+        out: &mut Vec<u8, A>,
     ) -> Result<(), AllocError> {
         self.0.push_text(number, octets, out)
     }
 
-    fn finish<A: Allocator>(&mut self, _out: &mut String<A>) -> Result<(), AllocError> {
+    fn finish<A: Allocator>(&mut self, _out: &mut Vec<u8, A>) -> Result<(), AllocError> {
         Ok(())
     }
 

@@ -1,6 +1,6 @@
 //! The text of a whole record file.
 
-ghost use Rattle.std.specs.Prelude.{◌≡◌, ℕ, ◌≤◌, List, [], length, IfErr, OnOk, OnErr, IfOk, string_bytes, vec_len};
+ghost use Rattle.std.specs.Prelude.{◌≡◌, ℕ, ◌≤◌, List, [], length, IfErr, OnOk, OnErr, IfOk, vec_len};
 ghost use Rattle.rtps_records.specs.declared.fault.RunFault.TheVariants.{CannotWrite};
 ghost use Rattle.std.specs.Prelude.{None};
 ghost use Rattle.rtps_records.specs.Runs.{Closes, ClosesNot, PutsFront, Spills, Stops, WroteAll};
@@ -47,7 +47,7 @@ pub fn print_records_in<A: Allocator, P: Printer, R: Read, W: Write>(
     let Ok(mut buffer) = zeros(alloc, MAX_LEN) else {
         return Err(RunFault::NoMemory);
     };
-    let mut text = String::new(alloc);
+    let mut text = Vec::new(alloc);
     run(printer, reader, writer, buffer.as_mut_slice(), &mut text)
 }
 
@@ -64,10 +64,10 @@ fn run<A: Allocator, P: Printer, R: Read, W: Write>(
     reader: &mut R,
     writer: &mut W,
     buffer: &mut [u8],
-    text: &mut String<A>,
+    text: &mut Vec<u8, A>,
 ) -> Result<(), RunFault>
     requires room { 65507 ≤ length buffer.old }
-    requires empty { string_bytes text.old ≡ [] }
+    requires empty { text.old.items ≡ [] }
     requires fresh { P.has_said printer.old [] [] }
     ensures ok { OnOk result (WroteAll (P.text printer.old) (R.remaining reader.old) (W.contents writer.old) (W.contents writer.new) None) }
     ensures fault { IfErr result (λ fault. Stops (P.text printer.old) fault (R.remaining reader.old) (R.remaining reader.new) (W.contents writer.old) (W.contents writer.new)) }
@@ -106,15 +106,15 @@ fn run<A: Allocator, P: Printer, R: Read, W: Write>(
 }
 
 /// Writes a text that has grown long, and empties it.
-fn spill<A: Allocator, W: Write>(writer: &mut W, text: &mut String<A>) -> Result<(), RunFault>
-    ensures ok { OnOk result (Spills (W.contents writer.old) (W.contents writer.new) (string_bytes text.old) (string_bytes text.new)) }
+fn spill<A: Allocator, W: Write>(writer: &mut W, text: &mut Vec<u8, A>) -> Result<(), RunFault>
+    ensures ok { OnOk result (Spills (W.contents writer.old) (W.contents writer.new) text.old.items text.new.items) }
     ensures fault { IfErr result (λ fault. fault ≡ CannotWrite) }
-    ensures front { OnErr result (PutsFront (W.contents writer.old) (W.contents writer.new) (string_bytes text.old)) }
+    ensures front { OnErr result (PutsFront (W.contents writer.old) (W.contents writer.new) text.old.items) }
 {
     if text.len() < KEPT_BACK {
         return Ok(());
     }
-    match put_all(writer, text.as_bytes()) {
+    match put_all(writer, text.as_slice()) {
         Ok(()) => {}
         Err(fault) => return Err(fault),
     }
@@ -126,16 +126,16 @@ fn spill<A: Allocator, W: Write>(writer: &mut W, text: &mut String<A>) -> Result
 fn close<A: Allocator, P: Printer, W: Write>(
     printer: &mut P,
     writer: &mut W,
-    text: &mut String<A>,
+    text: &mut Vec<u8, A>,
 ) -> Result<(), RunFault>
-    ensures ok { OnOk result (Closes (P.has_said printer.old) (P.text printer.old) (W.contents writer.old) (W.contents writer.new) (string_bytes text.old)) }
-    ensures fault { IfErr result (λ fault. ClosesNot fault (P.has_said printer.old) (P.text printer.old) (W.contents writer.old) (W.contents writer.new) (string_bytes text.old)) }
+    ensures ok { OnOk result (Closes (P.has_said printer.old) (P.text printer.old) (W.contents writer.old) (W.contents writer.new) text.old.items) }
+    ensures fault { IfErr result (λ fault. ClosesNot fault (P.has_said printer.old) (P.text printer.old) (W.contents writer.old) (W.contents writer.new) text.old.items) }
 {
     match printer.finish(text) {
         Ok(()) => {}
         Err(_) => return Err(RunFault::NoMemory),
     }
-    match put_all(writer, text.as_bytes()) {
+    match put_all(writer, text.as_slice()) {
         Ok(()) => {}
         Err(fault) => return Err(fault),
     }

@@ -20,10 +20,13 @@ impl RecordText for Lengths {
         &self,
         number: u32,
         octets: &[u8],
-        out: &mut String<A>,
+        out: &mut Vec<u8, A>,
     ) -> Result<(), AllocError> {
         let count = octets.len();
-        writeln!(out, "{number} {count}")
+        match writeln!(out, "{number} {count}") {
+            Ok(()) => Ok(()),
+            Err(_) => Err(AllocError),
+        }
     }
 }
 
@@ -40,15 +43,18 @@ impl Printer for Count {
         &mut self,
         number: u32,
         _octets: &[u8],
-        _out: &mut String<A>,
+        _out: &mut Vec<u8, A>,
     ) -> Result<(), AllocError> {
         self.0 = u64::from(number) + 1;
         Ok(())
     }
 
-    fn finish<A: Allocator>(&mut self, out: &mut String<A>) -> Result<(), AllocError> {
+    fn finish<A: Allocator>(&mut self, out: &mut Vec<u8, A>) -> Result<(), AllocError> {
         let count = self.0;
-        write!(out, "{count}")
+        match write!(out, "{count}") {
+            Ok(()) => Ok(()),
+            Err(_) => Err(AllocError),
+        }
     }
 
     ghost said_is_front = { λ p records said h. nothing_is_front said (decimal (length records)) h.1 };

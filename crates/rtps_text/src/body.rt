@@ -1,32 +1,31 @@
 //! An event's body as text, by its kind.
 
-ghost use Rattle.std.specs.Prelude.{◌≡◌, Some};
+ghost use Rattle.std.specs.Prelude.{◌≡◌, ◌++◌, OnOk};
 ghost use Rattle.rtps_receiver.specs.Addressed.{body_view};
 ghost use Rattle.rtps_text.specs.Line.{body_text, flags_text, form_word, fragment_text, gap_text, hash_text, heartbeat_frag_text, heartbeat_text, pieces_text, whole_text};
 ghost use Rattle.rtps_text.specs.Views.{fragment_view, gap_view, heartbeat_frag_view, heartbeat_view, whole_view};
 
-use crate::hex::Hex;
-use crate::numbers::MembersText;
+use crate::numbers::{push_members, push_number, push_signed};
+use crate::octets::push_hex;
+use crate::word::{push_octet, push_word};
 use rtps_receiver::{Body, Fragment, Gap, Heartbeat, HeartbeatFrag, Whole};
 use rtps_types::KeyHash;
 use rtps_wire::Form;
-use std::fmt;
+use std::alloc::{AllocError, Allocator};
 
-/// What an event brings.
-#[derive(Clone, Copy)]
-pub(crate) struct BodyText<'a>(pub(crate) &'a Body<'a>);
-
-impl fmt::Display for BodyText<'_> {
-    ghost output = { λ x. Some (body_text (body_view x.0.now)) };
-
-    fn fmt<W: fmt::Write>(&self, f: &mut fmt::Formatter<W>) -> fmt::Result {
-        match self.0 {
-            Body::Whole(whole) => WholeText(whole).fmt(f),
-            Body::Fragment(fragment) => FragmentText(fragment).fmt(f),
-            Body::Heartbeat(heartbeat) => HeartbeatText(heartbeat).fmt(f),
-            Body::Gap(gap) => GapText(gap).fmt(f),
-            Body::HeartbeatFrag(heartbeat) => HeartbeatFragText(heartbeat).fmt(f),
-        }
+/// Adds what an event brings.
+pub(crate) fn push_body<A: Allocator>(
+    out: &mut Vec<u8, A>,
+    body: &Body<'_>,
+) -> Result<(), AllocError>
+    ensures { OnOk result (out.new.items ≡ out.old.items ++ body_text (body_view body.now)) }
+{
+    match body {
+        Body::Whole(whole) => push_whole(out, whole),
+        Body::Fragment(fragment) => push_fragment(out, fragment),
+        Body::Heartbeat(heartbeat) => push_heartbeat(out, heartbeat),
+        Body::Gap(gap) => push_gap(out, gap),
+        Body::HeartbeatFrag(heartbeat) => push_heartbeat_frag(out, heartbeat),
     }
 }
 
@@ -52,117 +51,120 @@ fn flags(final_flag: bool, liveliness: bool) -> &'static str
     }
 }
 
-/// A key hash in hex, or a dash for none.
-#[derive(Clone, Copy)]
-struct HashText(Option<KeyHash>);
-
-impl fmt::Display for HashText {
-    ghost output = { λ x. Some (hash_text x.0) };
-
-    fn fmt<W: fmt::Write>(&self, f: &mut fmt::Formatter<W>) -> fmt::Result {
-        let Some(hash) = self.0 else {
-            return write!(f, "-");
-        };
-        let octets = Hex(&hash.0);
-        write!(f, "{octets}")
-    }
+fn push_form<A: Allocator>(out: &mut Vec<u8, A>, form: Form) -> Result<(), AllocError>
+    ensures { OnOk result (out.new.items ≡ out.old.items ++ form_word form) }
+{
+    push_word(out, word(form))
 }
 
-#[derive(Clone, Copy)]
-struct WholeText<'a>(&'a Whole<'a>);
-
-impl fmt::Display for WholeText<'_> {
-    ghost output = { λ x. Some (whole_text (whole_view x.0.now)) };
-
-    fn fmt<W: fmt::Write>(&self, f: &mut fmt::Formatter<W>) -> fmt::Result {
-        let whole = self.0;
-        let number = whole.number.get();
-        let status = [whole.status];
-        let status = Hex(&status);
-        let form = word(whole.form);
-        let payload = Hex(whole.payload);
-        let hash = HashText(whole.hash);
-        write!(f, "data {number} {status} {form} {payload} {hash}")
-    }
+fn push_flags<A: Allocator>(
+    out: &mut Vec<u8, A>,
+    final_flag: bool,
+    liveliness: bool,
+) -> Result<(), AllocError>
+    ensures { OnOk result (out.new.items ≡ out.old.items ++ flags_text final_flag liveliness) }
+{
+    push_word(out, flags(final_flag, liveliness))
 }
 
-/// Which fragments they are, and their payload.
-#[derive(Clone, Copy)]
-struct PiecesText<'a>(&'a Fragment<'a>);
-
-impl fmt::Display for PiecesText<'_> {
-    ghost output = { λ x. Some (pieces_text (fragment_view x.0.now)) };
-
-    fn fmt<W: fmt::Write>(&self, f: &mut fmt::Formatter<W>) -> fmt::Result {
-        let Fragment {
-            start,
-            count,
-            size,
-            sample,
-            ..
-        } = *self.0;
-        let payload = Hex(self.0.payload);
-        let hash = HashText(self.0.hash);
-        write!(f, "{start} {count} {size} {sample} {payload} {hash}")
-    }
+/// Adds a key hash in hex, or a dash for none.
+fn push_hash<A: Allocator>(out: &mut Vec<u8, A>, hash: Option<KeyHash>) -> Result<(), AllocError>
+    ensures { OnOk result (out.new.items ≡ out.old.items ++ hash_text hash) }
+{
+    let Some(hash) = hash else {
+        return push_octet(out, b'-');
+    };
+    push_hex(out, &hash.0)
 }
 
-#[derive(Clone, Copy)]
-struct FragmentText<'a>(&'a Fragment<'a>);
-
-impl fmt::Display for FragmentText<'_> {
-    ghost output = { λ x. Some (fragment_text (fragment_view x.0.now)) };
-
-    fn fmt<W: fmt::Write>(&self, f: &mut fmt::Formatter<W>) -> fmt::Result {
-        let fragment = self.0;
-        let number = fragment.number.get();
-        let status = [fragment.status];
-        let status = Hex(&status);
-        let form = word(fragment.form);
-        let pieces = PiecesText(fragment);
-        write!(f, "frag {number} {status} {form} {pieces}")
-    }
+fn push_whole<A: Allocator>(out: &mut Vec<u8, A>, whole: &Whole<'_>) -> Result<(), AllocError>
+    ensures { OnOk result (out.new.items ≡ out.old.items ++ whole_text (whole_view whole.now)) }
+{
+    push_word(out, "data ")?;
+    push_number(out, whole.number.get())?;
+    push_octet(out, b' ')?;
+    push_hex(out, &[whole.status])?;
+    push_octet(out, b' ')?;
+    push_form(out, whole.form)?;
+    push_octet(out, b' ')?;
+    push_hex(out, whole.payload)?;
+    push_octet(out, b' ')?;
+    push_hash(out, whole.hash)
 }
 
-#[derive(Clone, Copy)]
-struct HeartbeatText<'a>(&'a Heartbeat);
-
-impl fmt::Display for HeartbeatText<'_> {
-    ghost output = { λ x. Some (heartbeat_text (heartbeat_view x.0.now)) };
-
-    fn fmt<W: fmt::Write>(&self, f: &mut fmt::Formatter<W>) -> fmt::Result {
-        let first = self.0.first.get();
-        let last = self.0.last;
-        let count = self.0.count;
-        let flags = flags(self.0.final_flag, self.0.liveliness);
-        write!(f, "heartbeat {first} {last} {count} {flags}")
-    }
+/// Adds which fragments they are, and their payload.
+fn push_pieces<A: Allocator>(
+    out: &mut Vec<u8, A>,
+    fragment: &Fragment<'_>,
+) -> Result<(), AllocError>
+    ensures { OnOk result (out.new.items ≡ out.old.items ++ pieces_text (fragment_view fragment.now)) }
+{
+    push_number(out, u64::from(fragment.start))?;
+    push_octet(out, b' ')?;
+    push_number(out, u64::from(fragment.count))?;
+    push_octet(out, b' ')?;
+    push_number(out, u64::from(fragment.size))?;
+    push_octet(out, b' ')?;
+    push_number(out, u64::from(fragment.sample))?;
+    push_octet(out, b' ')?;
+    push_hex(out, fragment.payload)?;
+    push_octet(out, b' ')?;
+    push_hash(out, fragment.hash)
 }
 
-#[derive(Clone, Copy)]
-struct GapText<'a>(&'a Gap);
-
-impl fmt::Display for GapText<'_> {
-    ghost output = { λ x. Some (gap_text (gap_view x.0.now)) };
-
-    fn fmt<W: fmt::Write>(&self, f: &mut fmt::Formatter<W>) -> fmt::Result {
-        let start = self.0.start.get();
-        let base = self.0.list.base;
-        let members = MembersText(&self.0.list);
-        write!(f, "gap {start} {base} {members}")
-    }
+fn push_fragment<A: Allocator>(
+    out: &mut Vec<u8, A>,
+    fragment: &Fragment<'_>,
+) -> Result<(), AllocError>
+    ensures { OnOk result (out.new.items ≡ out.old.items ++ fragment_text (fragment_view fragment.now)) }
+{
+    push_word(out, "frag ")?;
+    push_number(out, fragment.number.get())?;
+    push_octet(out, b' ')?;
+    push_hex(out, &[fragment.status])?;
+    push_octet(out, b' ')?;
+    push_form(out, fragment.form)?;
+    push_octet(out, b' ')?;
+    push_pieces(out, fragment)
 }
 
-#[derive(Clone, Copy)]
-struct HeartbeatFragText<'a>(&'a HeartbeatFrag);
+fn push_heartbeat<A: Allocator>(
+    out: &mut Vec<u8, A>,
+    heartbeat: &Heartbeat,
+) -> Result<(), AllocError>
+    ensures { OnOk result (out.new.items ≡ out.old.items ++ heartbeat_text (heartbeat_view heartbeat.now)) }
+{
+    push_word(out, "heartbeat ")?;
+    push_number(out, heartbeat.first.get())?;
+    push_octet(out, b' ')?;
+    push_number(out, heartbeat.last)?;
+    push_octet(out, b' ')?;
+    push_signed(out, heartbeat.count)?;
+    push_octet(out, b' ')?;
+    push_flags(out, heartbeat.final_flag, heartbeat.liveliness)
+}
 
-impl fmt::Display for HeartbeatFragText<'_> {
-    ghost output = { λ x. Some (heartbeat_frag_text (heartbeat_frag_view x.0.now)) };
+fn push_gap<A: Allocator>(out: &mut Vec<u8, A>, gap: &Gap) -> Result<(), AllocError>
+    ensures { OnOk result (out.new.items ≡ out.old.items ++ gap_text (gap_view gap.now)) }
+{
+    push_word(out, "gap ")?;
+    push_number(out, gap.start.get())?;
+    push_octet(out, b' ')?;
+    push_number(out, gap.list.base)?;
+    push_octet(out, b' ')?;
+    push_members(out, &gap.list)
+}
 
-    fn fmt<W: fmt::Write>(&self, f: &mut fmt::Formatter<W>) -> fmt::Result {
-        let number = self.0.number.get();
-        let last = self.0.last;
-        let count = self.0.count;
-        write!(f, "heartbeat-frag {number} {last} {count}")
-    }
+fn push_heartbeat_frag<A: Allocator>(
+    out: &mut Vec<u8, A>,
+    heartbeat: &HeartbeatFrag,
+) -> Result<(), AllocError>
+    ensures { OnOk result (out.new.items ≡ out.old.items ++ heartbeat_frag_text (heartbeat_frag_view heartbeat.now)) }
+{
+    push_word(out, "heartbeat-frag ")?;
+    push_number(out, heartbeat.number.get())?;
+    push_octet(out, b' ')?;
+    push_number(out, u64::from(heartbeat.last))?;
+    push_octet(out, b' ')?;
+    push_signed(out, heartbeat.count)
 }

@@ -1,63 +1,51 @@
 //! What stands before an event's body: its place and its context.
 
-ghost use Rattle.std.specs.Prelude.{Some};
+ghost use Rattle.std.specs.Prelude.{◌≡◌, ◌++◌, OnOk};
 ghost use Rattle.rtps_receiver.specs.Events.{view};
 ghost use Rattle.rtps_text.specs.Line.{context_text, place_text, time_text};
 
-use crate::hex::Hex;
+use crate::numbers::push_number;
+use crate::octets::push_hex;
+use crate::word::push_octet;
 use rtps_receiver::Event;
 use rtps_types::{Place, Timestamp};
-use std::fmt;
+use std::alloc::{AllocError, Allocator};
 
-/// A place, as datagram and submessage with a colon between.
-#[derive(Clone, Copy)]
-pub(crate) struct PlaceText(pub(crate) Place);
-
-impl fmt::Display for PlaceText {
-    ghost output = { λ x. Some (place_text x.0) };
-
-    fn fmt<W: fmt::Write>(&self, f: &mut fmt::Formatter<W>) -> fmt::Result {
-        let Place {
-            datagram,
-            submessage,
-        } = self.0;
-        write!(f, "{datagram}:{submessage}")
-    }
+/// Adds a place, as datagram and submessage with a colon between.
+fn push_place<A: Allocator>(out: &mut Vec<u8, A>, place: Place) -> Result<(), AllocError>
+    ensures { OnOk result (out.new.items ≡ out.old.items ++ place_text place) }
+{
+    push_number(out, place.datagram)?;
+    push_octet(out, b':')?;
+    push_number(out, u64::from(place.submessage))
 }
 
-/// A time in hex, seconds and fraction with a dot between, or a dash for none.
-#[derive(Clone, Copy)]
-pub(crate) struct TimeText(pub(crate) Option<Timestamp>);
-
-impl fmt::Display for TimeText {
-    ghost output = { λ x. Some (time_text x.0) };
-
-    fn fmt<W: fmt::Write>(&self, f: &mut fmt::Formatter<W>) -> fmt::Result {
-        let Some(time) = self.0 else {
-            return write!(f, "-");
-        };
-        let seconds = time.seconds.to_be_bytes();
-        let fraction = time.fraction.to_be_bytes();
-        let seconds = Hex(&seconds);
-        let fraction = Hex(&fraction);
-        write!(f, "{seconds}.{fraction}")
-    }
+/// Adds a time in hex, seconds and fraction with a dot between, or a dash for none.
+fn push_time<A: Allocator>(out: &mut Vec<u8, A>, time: Option<Timestamp>) -> Result<(), AllocError>
+    ensures { OnOk result (out.new.items ≡ out.old.items ++ time_text time) }
+{
+    let Some(time) = time else {
+        return push_octet(out, b'-');
+    };
+    push_hex(out, &time.seconds.to_be_bytes())?;
+    push_octet(out, b'.')?;
+    push_hex(out, &time.fraction.to_be_bytes())
 }
 
-/// An event's place, source, time, writer and reader.
-#[derive(Clone, Copy)]
-pub(crate) struct ContextText<'a>(pub(crate) &'a Event<'a>);
-
-impl fmt::Display for ContextText<'_> {
-    ghost output = { λ x. Some (context_text (view x.0.now)) };
-
-    fn fmt<W: fmt::Write>(&self, f: &mut fmt::Formatter<W>) -> fmt::Result {
-        let event = self.0;
-        let place = PlaceText(event.place);
-        let source = Hex(&event.source.0);
-        let time = TimeText(event.time);
-        let writer = Hex(&event.writer.0);
-        let reader = Hex(&event.reader.0);
-        write!(f, "{place} {source} {time} {writer} {reader}")
-    }
+/// Adds an event's place, source, time, writer and reader.
+pub(crate) fn push_context<A: Allocator>(
+    out: &mut Vec<u8, A>,
+    event: &Event<'_>,
+) -> Result<(), AllocError>
+    ensures { OnOk result (out.new.items ≡ out.old.items ++ context_text (view event.now)) }
+{
+    push_place(out, event.place)?;
+    push_octet(out, b' ')?;
+    push_hex(out, &event.source.0)?;
+    push_octet(out, b' ')?;
+    push_time(out, event.time)?;
+    push_octet(out, b' ')?;
+    push_hex(out, &event.writer.0)?;
+    push_octet(out, b' ')?;
+    push_hex(out, &event.reader.0)
 }

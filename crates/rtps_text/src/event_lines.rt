@@ -3,12 +3,11 @@
 ghost use Rattle.std.specs.Prelude.{◌≡◌, ◌++◌};
 ghost use Rattle.rtps_text.specs.EventLines.{lines_of};
 
-use crate::line::Line;
+use crate::line::push_line;
 use rtps_receiver::{ReceiverError, events};
 use rtps_records::RecordText;
 use rtps_types::GuidPrefix;
 use std::alloc::{AllocError, Allocator};
-use std::fmt::Write;
 
 /// Prints a line for each event of a datagram, as the participant of this prefix sees it.
 #[derive(Drop)]
@@ -25,18 +24,14 @@ impl<B: Allocator> RecordText for EventLines<'_, B> {
         &self,
         number: u32,
         octets: &[u8],
-        out: &mut String<A>,
+        out: &mut Vec<u8, A>,
     ) -> Result<(), AllocError> {
         let found = match events(self.alloc, self.own, u64::from(number), octets) {
             Ok(found) => found,
             Err(ReceiverError::NoMemory) => return Err(AllocError),
         };
         for event in &found {
-            let line = Line(event);
-            match write!(out, "{line}") {
-                Ok(()) => {}
-                Err(_) => return Err(AllocError),
-            }
+            push_line(out, event)?;
         }
         Ok(())
     }

@@ -5,11 +5,14 @@ mod body;
 mod context;
 mod dumping;
 mod event_lines;
-mod hex;
 mod line;
 mod numbers;
+mod octets;
+mod word;
 
 pub use dumping::{dump, dump_in};
 pub use event_lines::EventLines;
-pub use hex::Hex;
-pub use line::Line;
+pub use line::push_line;
+
+#[cfg(test)]
+mod tests;

@@ -1,24 +1,21 @@
 //! The line of an event.
 
-ghost use Rattle.std.specs.Prelude.{Some};
+ghost use Rattle.std.specs.Prelude.{◌≡◌, ◌++◌, OnOk};
 ghost use Rattle.rtps_receiver.specs.Events.{view};
 ghost use Rattle.rtps_text.specs.Line.{line_of};
 
-use crate::body::BodyText;
-use crate::context::ContextText;
+use crate::body::push_body;
+use crate::context::push_context;
+use crate::word::push_octet;
 use rtps_receiver::Event;
-use std::fmt;
+use std::alloc::{AllocError, Allocator};
 
-/// The line of an event, with its end.
-#[derive(Clone, Copy)]
-pub struct Line<'a>(pub &'a Event<'a>);
-
-impl fmt::Display for Line<'_> {
-    ghost output = { λ x. Some (line_of (view x.0.now)) };
-
-    fn fmt<W: fmt::Write>(&self, f: &mut fmt::Formatter<W>) -> fmt::Result {
-        let context = ContextText(self.0);
-        let body = BodyText(&self.0.body);
-        writeln!(f, "{context} {body}")
-    }
+/// Adds the line of an event, with its end.
+pub fn push_line<A: Allocator>(out: &mut Vec<u8, A>, event: &Event<'_>) -> Result<(), AllocError>
+    ensures { OnOk result (out.new.items ≡ out.old.items ++ line_of (view event.now)) }
+{
+    push_context(out, event)?;
+    push_octet(out, b' ')?;
+    push_body(out, &event.body)?;
+    push_octet(out, b'\n')
 }

@@ -6,12 +6,12 @@ returns-in-Err-clause-fault g c = closes_without _ _ _ _
 
 pub returns-in-Err-put_all-clause-fault : goal.returns-in-Err-put_all-clause-fault
 returns-in-Err-put_all-clause-fault g c =
-    closes_not _ _ _ _ _ _ _ c.in-Err-put_all.ensures.fault c.in-Ok.ensures.ok (rw c.as_bytes.ensures.value at c.in-Err-put_all.ensures.front)
+    closes_not _ _ _ _ _ _ _ c.in-Err-put_all.ensures.fault c.in-Ok.ensures.ok (rw c.as_slice.ensures.value at c.in-Err-put_all.ensures.front)
 
 pub returns-in-Ok-flush_all-clause-ok : goal.returns-in-Ok-flush_all-clause-ok
 returns-in-Ok-flush_all-clause-ok g c =
-    closes _ _ _ _ _ _ _ c.in-Ok.ensures.ok (rw c.as_bytes.ensures.value at c.in-Ok-put_all.ensures.ok) c.flush_all.ensures.keeps
+    closes _ _ _ _ _ _ _ c.in-Ok.ensures.ok (rw c.as_slice.ensures.value at c.in-Ok-put_all.ensures.ok) c.flush_all.ensures.keeps
 
 pub returns-in-Err-flush_all-clause-fault : goal.returns-in-Err-flush_all-clause-fault
 returns-in-Err-flush_all-clause-fault g c =
-    closes_at_flush _ _ _ _ _ _ _ _ c.in-Err-flush_all.ensures.fault c.in-Ok.ensures.ok (rw c.as_bytes.ensures.value at c.in-Ok-put_all.ensures.ok) c.flush_all.ensures.keeps
+    closes_at_flush _ _ _ _ _ _ _ _ c.in-Err-flush_all.ensures.fault c.in-Ok.ensures.ok (rw c.as_slice.ensures.value at c.in-Ok-put_all.ensures.ok) c.flush_all.ensures.keeps

@@ -1,0 +1,20 @@
+use Rattle.std.proofs.lemmas.Result.{on_ok_weaker}
+use Rattle.std.specs.Prelude.{codes, ◌∷◌, [], decimal}
+use Rattle.rtps_text.specs.Hex.{hex_text}
+use Rattle.rtps_text.specs.Line.{hash_text}
+use Rattle.rtps_text.proofs.Appended.{added_is_joined}
+use Rattle.rtps_text.proofs.body.push_pieces.Goals as goal
+
+pub returns : goal.returns
+returns g c = on_ok_weaker c.push_hash.result (λ e. rw e (rw c.in_ok-push_octet-5.ensures (rw c.in_ok-push_hex.ensures (rw c.in_ok-push_octet-4.ensures (rw c.in_ok-push_number-4.ensures (rw c.in_ok-push_octet-3.ensures (rw c.in_ok-push_number-3.ensures (rw c.in_ok-push_octet-2.ensures (rw c.in_ok-push_number-2.ensures (rw c.in_ok-push_octet.ensures (rw c.in_ok-push_number.ensures (rw c.from-4.ensures (rw c.from-3.ensures (rw c.from-2.ensures (rw c.from.ensures (added_is_joined _ (decimal c.args.fragment.now.start) (
+    (codes " ")
+    ∷ (decimal c.args.fragment.now.count)
+    ∷ (codes " ")
+    ∷ (decimal c.args.fragment.now.size)
+    ∷ (codes " ")
+    ∷ (decimal c.args.fragment.now.sample)
+    ∷ (codes " ")
+    ∷ (hex_text c.args.fragment.now.payload.now)
+    ∷ (codes " ")
+    ∷ (hash_text c.args.fragment.now.hash)
+    ∷ []))))))))))))))))) c.push_hash.ensures

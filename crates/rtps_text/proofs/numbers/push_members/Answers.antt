@@ -1,0 +1,15 @@
+use Rattle.std.proofs.Common.{[], ◌∷◌, sym, ◌∙◌, ap, ◌++◌, List, ℕ, append_assoc}
+use Rattle.std.specs.Prelude.{codes, decimal}
+use Rattle.rtps_text.specs.Line.{more_text}
+use Rattle.rtps_text.proofs.Appended.{added_is_joined}
+use Rattle.rtps_text.proofs.Rows.{more_text-append}
+use Rattle.rtps_text.proofs.numbers.push_members.Goals as goal
+
+pub loop-member-preserved : goal.loop-member-preserved
+loop-member-preserved g c =
+    let taken = c.in-Some-member.ensures.steps in (
+      rw c.in_ok-push_number.ensures (rw c.in_ok-push_octet.ensures (rw c.loop-member.invariant.0 (
+          rw (more_text-append c.loop-member.yielded c.in-Some-member.member)
+          (added_is_joined _ (more_text c.loop-member.yielded) (codes "," ∷ decimal c.in-Some-member.member ∷ []))))),
+      c.loop-member.invariant.1 ∙ ap (λ (left : List ℕ). c.loop-member.yielded ++ left) taken ∙ sym (append_assoc c.loop-member.yielded (c.in-Some-member.member ∷ []) c.next-in-loop-member.new.self),
+    )
