@@ -1,0 +1,89 @@
+//! The policies that a match of a writer and a reader depends on (DDS 1.4, section 2.2.3). The number
+//! of a variant is the one that stands for it in discovery's messages (DDSI-RTPS 9.6.3).
+
+use rtps_types::Duration;
+
+/// `DURATION_INFINITE` (DDSI-RTPS 9.3.2.3): 7fffffff ffffffff.
+pub const INFINITE: Duration = Duration {
+    seconds: 0x7fff_ffff,
+    fraction: 0xffff_ffff,
+};
+
+/// Whether data outlives its writing (DDS 1.4, 2.2.3.4).
+#[derive(Clone, Copy, Debug, PartialEq)]
+pub enum Durability {
+    Volatile = 0,
+    TransientLocal = 1,
+    Transient = 2,
+    Persistent = 3,
+}
+
+/// The largest scope in which changes are presented as a whole (DDS 1.4, 2.2.3.6).
+#[derive(Clone, Copy, Debug, PartialEq)]
+pub enum AccessScope {
+    Instance = 0,
+    Topic = 1,
+    Group = 2,
+}
+
+/// How changes that belong together are presented (DDS 1.4, 2.2.3.6).
+#[derive(Clone, Copy, Debug, PartialEq)]
+pub struct Presentation {
+    pub access_scope: AccessScope,
+    /// Whether changes of one coherent set are seen together.
+    pub coherent_access: bool,
+    /// Whether changes are seen in the order in which they were made.
+    pub ordered_access: bool,
+}
+
+/// Whether several writers may write one instance (DDS 1.4, 2.2.3.9).
+#[derive(Clone, Copy, Debug, PartialEq)]
+pub enum Ownership {
+    Shared = 0,
+    Exclusive = 1,
+}
+
+/// Who says that a writer is alive (DDS 1.4, 2.2.3.11).
+#[derive(Clone, Copy, Debug, PartialEq)]
+pub enum LivelinessKind {
+    Automatic = 0,
+    ManualByParticipant = 1,
+    ManualByTopic = 2,
+}
+
+/// How, and how often, a writer is said to be alive (DDS 1.4, 2.2.3.11).
+#[derive(Clone, Copy, Debug, PartialEq)]
+pub struct Liveliness {
+    pub kind: LivelinessKind,
+    /// The longest time between two signs of life.
+    pub lease_duration: Duration,
+}
+
+/// Whether what was lost is sent again (DDS 1.4, 2.2.3.14).
+#[derive(Clone, Copy, Debug, PartialEq)]
+pub enum Reliability {
+    BestEffort = 1,
+    Reliable = 2,
+}
+
+/// Which of two changes is the later one (DDS 1.4, 2.2.3.17).
+#[derive(Clone, Copy, Debug, PartialEq)]
+pub enum DestinationOrder {
+    ByReceptionTimestamp = 0,
+    BySourceTimestamp = 1,
+}
+
+/// The policies of a reader or a writer, but for its partitions.
+#[derive(Clone, Copy, Debug, PartialEq)]
+pub struct Policies {
+    pub durability: Durability,
+    pub presentation: Presentation,
+    /// The longest time between two changes of an instance (DDS 1.4, 2.2.3.7).
+    pub deadline: Duration,
+    /// The delay of a change that is put up with (DDS 1.4, 2.2.3.8).
+    pub latency_budget: Duration,
+    pub ownership: Ownership,
+    pub liveliness: Liveliness,
+    pub reliability: Reliability,
+    pub destination_order: DestinationOrder,
+}

@@ -1,0 +1,42 @@
+//! Whom an event of a datagram is for.
+
+ghost use Rattle.std.specs.Prelude.{◌≡◌};
+ghost use Rattle.rtps_discovery.specs.Addressed.{is_discovery, is_for};
+
+use rtps_types::EntityId;
+
+/// No entity in particular (DDSI-RTPS 9.3.1.2).
+pub const ENTITYID_UNKNOWN: EntityId = EntityId([0x00, 0x00, 0x00, 0x00]);
+
+/// The writer of a participant that announces it (DDSI-RTPS 9.3.1.3).
+pub const ENTITYID_SPDP_BUILTIN_PARTICIPANT_ANNOUNCER: EntityId = EntityId([
+    0x00, 0x01, 0x00, 0xc2,
+]);
+
+/// The writer of a participant that announces its writers (DDSI-RTPS 9.3.1.3).
+pub const ENTITYID_SEDP_BUILTIN_PUBLICATIONS_ANNOUNCER: EntityId = EntityId([
+    0x00, 0x00, 0x03, 0xc2,
+]);
+
+/// The writer of a participant that announces its readers (DDSI-RTPS 9.3.1.3).
+pub const ENTITYID_SEDP_BUILTIN_SUBSCRIPTIONS_ANNOUNCER: EntityId = EntityId([
+    0x00, 0x00, 0x04, 0xc2,
+]);
+
+/// Whether the events of a writer are discovery's alone: those of the three announcers.
+pub fn is_discovery(writer: EntityId) -> bool
+    ensures { result ≡ is_discovery writer }
+{
+    writer == ENTITYID_SPDP_BUILTIN_PARTICIPANT_ANNOUNCER
+        || writer == ENTITYID_SEDP_BUILTIN_PUBLICATIONS_ANNOUNCER
+        || writer == ENTITYID_SEDP_BUILTIN_SUBSCRIPTIONS_ANNOUNCER
+}
+
+/// Whether an event with this reader id is for our reader with this entity: the reader id is its
+/// entity, or it is [`ENTITYID_UNKNOWN`]. Whether the reader is matched with the event's writer is for
+/// the caller to look up.
+pub fn is_for(reader: EntityId, entity: EntityId) -> bool
+    ensures { result ≡ is_for reader entity }
+{
+    reader == ENTITYID_UNKNOWN || reader == entity
+}

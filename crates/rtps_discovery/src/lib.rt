@@ -1,0 +1,16 @@
+//! Discovery: what an application asks of it, and whom an event of a datagram is for (DDSI-RTPS 8.5).
+#![tactic(auto)]
+
+mod addressed;
+mod config;
+mod faults;
+pub mod laws;
+#[cfg(test)]
+mod tests;
+
+pub use addressed::{
+    ENTITYID_SEDP_BUILTIN_PUBLICATIONS_ANNOUNCER, ENTITYID_SEDP_BUILTIN_SUBSCRIPTIONS_ANNOUNCER,
+    ENTITYID_SPDP_BUILTIN_PARTICIPANT_ANNOUNCER, ENTITYID_UNKNOWN, is_discovery, is_for,
+};
+pub use config::{Config, FixedMatch, ReaderConfig};
+pub use faults::{ConfigFault, check};

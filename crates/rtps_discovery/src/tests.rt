@@ -1,0 +1,214 @@
+//! Configurations with one fault or two, and whom events are for.
+
+use crate::*;
+use dds_qos::{Ownership, Reliability, Requested};
+use rtps_types::{EntityId, Guid, GuidPrefix, Locators};
+use std::alloc::Global;
+use std::test::Fail;
+
+const OURS: GuidPrefix = GuidPrefix([0x0b; 12]);
+
+const THEIRS: GuidPrefix = GuidPrefix([0x0a; 12]);
+
+const WITH_KEY: [u8; 4] = [0x00, 0x00, 0x01, 0x07];
+
+const WITHOUT_KEY: [u8; 4] = [0x00, 0x00, 0x01, 0x04];
+
+const WRITER: Guid = Guid {
+    prefix: THEIRS,
+    entity: EntityId([0x00, 0x00, 0x01, 0x02]),
+};
+
+const WRITER_WITHOUT_KEY: Guid = Guid {
+    prefix: THEIRS,
+    entity: EntityId([0x00, 0x00, 0x01, 0x03]),
+};
+
+const READER: Guid = Guid {
+    prefix: THEIRS,
+    entity: EntityId([0x00, 0x00, 0x01, 0x07]),
+};
+
+const OUR_WRITER: Guid = Guid {
+    prefix: OURS,
+    entity: EntityId([0x00, 0x00, 0x01, 0x02]),
+};
+
+/// Puts a reader behind the others of a configuration.
+fn add_reader(
+    alloc: Global,
+    config: &mut Config,
+    entity: [u8; 4],
+    ownership: Ownership,
+    reliability: Reliability,
+) -> Result<(), Fail> {
+    let mut requested = Requested::new(alloc);
+    requested.policies.ownership = ownership;
+    requested.policies.reliability = reliability;
+    let topic = String::from_str(alloc, "Square")?;
+    let type_name = String::from_str(alloc, "ShapeType")?;
+    config.readers.push(ReaderConfig {
+        entity: EntityId(entity),
+        topic,
+        type_name,
+        requested,
+    })?;
+    Ok(())
+}
+
+fn empty(alloc: Global) -> Config {
+    Config {
+        own: OURS,
+        readers: Vec::new(alloc),
+        fixed: Vec::new(alloc),
+    }
+}
+
+/// Readers with these entities and policies, and fixed matches.
+#[derive(Clone, Copy)]
+struct Row<'a> {
+    readers: &'a [[u8; 4]],
+    ownership: Ownership,
+    reliability: Reliability,
+    fixed: &'a [(u32, Guid)],
+    expected: Result<(), ConfigFault>,
+}
+
+#[test]
+fn the_first_fault_is_told(rt: HostRuntime) -> Result<(), Fail> {
+    let good = Row {
+        readers: &[WITH_KEY, WITHOUT_KEY],
+        ownership: Ownership::Shared,
+        reliability: Reliability::BestEffort,
+        fixed: &[(0, WRITER), (1, WRITER), (1, WRITER_WITHOUT_KEY)],
+        expected: Ok(()),
+    };
+    let bad_reader = Row {
+        expected: Err(ConfigFault::BadReader),
+        ..good
+    };
+    let bad_fixed = Row {
+        expected: Err(ConfigFault::BadFixed),
+        ..good
+    };
+    let table = [
+        good,
+        Row {
+            readers: &[],
+            fixed: &[(0, WRITER)],
+            expected: Err(ConfigFault::Readers),
+            ..good
+        },
+        Row {
+            readers: &[WITH_KEY, [0x00, 0x00, 0x01, 0x03]],
+            ..bad_reader
+        },
+        Row {
+            readers: &[WITH_KEY, WITHOUT_KEY, WITH_KEY],
+            ..bad_reader
+        },
+        Row {
+            ownership: Ownership::Exclusive,
+            ..bad_reader
+        },
+        Row {
+            reliability: Reliability::Reliable,
+            ..bad_reader
+        },
+        Row {
+            readers: &[[0x00, 0x00, 0x01, 0x02]],
+            fixed: &[(1, OUR_WRITER)],
+            ..bad_reader
+        },
+        Row {
+            fixed: &[(1, WRITER), (2, WRITER)],
+            ..bad_fixed
+        },
+        Row {
+            fixed: &[(0, READER)],
+            ..bad_fixed
+        },
+        Row {
+            fixed: &[(0, WRITER), (0, OUR_WRITER)],
+            ..bad_fixed
+        },
+        Row {
+            fixed: &[(1, WRITER), (0, WRITER), (1, WRITER)],
+            ..bad_fixed
+        },
+    ];
+    for (index, row) in table.iter().enumerate() {
+        let mut config = empty(rt.alloc());
+        for entity in row.readers {
+            add_reader(
+                rt.alloc(),
+                &mut config,
+                *entity,
+                row.ownership,
+                row.reliability,
+            )?;
+        }
+        for (rank, writer) in row.fixed {
+            config.fixed.push(FixedMatch {
+                rank: *rank,
+                writer: *writer,
+                locators: Locators::new(Vec::new(rt.alloc())),
+            })?;
+        }
+        assert_eq!(rt; check(&config), row.expected, "row {index}");
+    }
+    Ok(())
+}
+
+#[test]
+fn readers_are_256_at_most(rt: HostRuntime) -> Result<(), Fail> {
+    let mut config = empty(rt.alloc());
+    for key in 0..256_u16 {
+        let [high, low] = key.to_be_bytes();
+        add_reader(
+            rt.alloc(),
+            &mut config,
+            [0x00, high, low, 0x07],
+            Ownership::Shared,
+            Reliability::BestEffort,
+        )?;
+    }
+    assert_eq!(rt; check(&config), Ok(()));
+    // The one above them is bad by itself too.
+    add_reader(
+        rt.alloc(),
+        &mut config,
+        [0x00, 0x00, 0x00, 0x02],
+        Ownership::Shared,
+        Reliability::BestEffort,
+    )?;
+    assert_eq!(rt; check(&config), Err(ConfigFault::Readers));
+    Ok(())
+}
+
+#[test]
+fn announcers_are_for_discovery(rt: HostRuntime) {
+    for (writer, expected) in [
+        ([0x00, 0x01, 0x00, 0xc2], true),
+        ([0x00, 0x00, 0x03, 0xc2], true),
+        ([0x00, 0x00, 0x04, 0xc2], true),
+        ([0x00, 0x00, 0x03, 0xc7], false),
+        ([0x00, 0x02, 0x00, 0xc2], false),
+        ([0x00, 0x00, 0x04, 0x02], false),
+        ([0x00, 0x00, 0x00, 0x00], false),
+    ] {
+        assert_eq!(rt; is_discovery(EntityId(writer)), expected);
+    }
+}
+
+#[test]
+fn zeros_are_for_every_reader(rt: HostRuntime) {
+    for (reader, entity, expected) in [
+        (WITH_KEY, WITH_KEY, true),
+        ([0x00; 4], WITH_KEY, true),
+        (WITH_KEY, WITHOUT_KEY, false),
+        (WITH_KEY, [0x00; 4], false),
+    ] {
+        assert_eq!(rt; is_for(EntityId(reader), EntityId(entity)), expected);
+    }
+}

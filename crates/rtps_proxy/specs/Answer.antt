@@ -1,0 +1,51 @@
+-- What a reliable reader answers to a heartbeat (DDSI-RTPS 8.4.12.2, 8.3.7.1).
+use Rattle.std.specs.Prelude.{ℕ, suc, ◌+◌, ◌-◌, ◌%◌, ◌^◌, max, min, Bool, false, not, ◌&&◌, ◌||◌, nat_lt, List, [], ◌∷◌, if◌then◌else◌, Option, Some, None}
+use Rattle.rtps_receiver.specs.Brought.{Announced, Brought, Whole, Fragment, Heartbeat, Gap, HeartbeatFrag}
+use Rattle.rtps_proxy.specs.History.{Came, announced_of, is_new}
+use Rattle.rtps_proxy.specs.Numbers.{all_below, failing_from}
+use Rattle.rtps_proxy.specs.Received.{frontier_of, is_settled}
+
+-- a number up to the announced one isn't settled
+abbrev pub is_incomplete : List Came → Bool
+is_incomplete past = not (all_below (is_settled past) (suc (announced_of past)))
+
+-- what asks for missing numbers: a base, those of the 256 numbers from it on that are missing, and how many bits reach the greatest
+pub record Acknack : Type 0 where
+  pub base : ℕ
+  pub members : List ℕ
+  pub bits : ℕ
+  pub final : Bool
+  pub count : ℕ
+
+abbrev pub bits_of : ℕ → List ℕ → ℕ
+bits_of base [] = 0
+bits_of base (n ∷ ns) = max (n + 1 - base) (bits_of base ns)
+
+-- the answer, where these are the settled numbers, the least other number, the announced number and the number of earlier answers
+abbrev pub acknack_by : (ℕ → Bool) → ℕ → ℕ → ℕ → Acknack
+acknack_by settled base announced earlier =
+    let members = failing_from settled base (min 256 (announced + 1 - base))
+    in record { base = base; members = members; bits = bits_of base members; final = nat_lt announced base; count = (earlier + 1) % 2 ^ 32 }
+
+-- an accepted heartbeat is answered where it isn't final, or isn't about liveliness and something is missing
+abbrev pub asks : List Came → Came → Announced → Bool
+asks past e h = is_new past h.count && (not h.final_flag || (not h.liveliness && is_incomplete (e ∷ past)))
+
+abbrev pub is_answered_by : List Came → Came → Brought → Bool
+is_answered_by past e (Whole c) = false
+is_answered_by past e (Fragment f) = false
+is_answered_by past e (Heartbeat h) = asks past e h
+is_answered_by past e (Gap g) = false
+is_answered_by past e (HeartbeatFrag h) = false
+
+abbrev pub is_answered : List Came → Came → Bool
+is_answered past e = is_answered_by past e e.body
+
+-- how many events were answered
+abbrev pub answers : List Came → ℕ
+answers [] = 0
+answers (e ∷ past) = if is_answered past e then answers past + 1 else answers past
+
+abbrev pub answer : List Came → Came → Option Acknack
+answer past e =
+    if is_answered past e then Some (acknack_by (is_settled (e ∷ past)) (frontier_of (e ∷ past)) (announced_of (e ∷ past)) (answers past)) else None

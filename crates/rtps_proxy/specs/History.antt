@@ -1,0 +1,85 @@
+-- What came for one match since it began (DDSI-RTPS 8.4.12). A history is the list of its events, the newest first; nothing is forgotten.
+use Rattle.std.specs.Prelude.{ℕ, ◌+◌, max, Bool, true, false, ◌&&◌, ◌||◌, ◌==◌, nat_lt, nat_le, List, [], ◌∷◌, if◌then◌else◌, Option, ℤ, int_lt}
+use Rattle.std.specs.List.{list_any}
+use Rattle.rtps_types.specs.declared.identity.KeyHash.{KeyHash}
+use Rattle.rtps_types.specs.declared.time.Timestamp.{Timestamp}
+use Rattle.rtps_types.specs.NumberSet.{members}
+use Rattle.rtps_wire.specs.declared.data.Form.{Form}
+use Rattle.rtps_receiver.specs.Brought.{Brought, Change, Whole, Fragment, Heartbeat, Gap, HeartbeatFrag}
+
+-- an event of a match: what was brought, and when it was sent
+pub record Came : Type 0 where
+  pub time : Option Timestamp
+  pub body : Brought
+
+-- a change with the time of its event
+pub record Sample : Type 0 where
+  pub number : ℕ
+  pub time : Option Timestamp
+  pub form : Form
+  pub status : ℕ
+  pub hash : Option KeyHash
+  pub payload : List ℕ
+
+abbrev pub sample_of : Option Timestamp → Change → Sample
+sample_of time c = record { number = c.number; time = time; form = c.form; status = c.status; hash = c.hash; payload = c.payload }
+
+-- the count is above those of all heartbeats so far, as signed 32-bit numbers: a heartbeat with it is accepted
+abbrev pub is_new_in : Brought → ℤ → Bool
+is_new_in (Whole c) count = true
+is_new_in (Fragment f) count = true
+is_new_in (Heartbeat h) count = int_lt h.count count
+is_new_in (Gap g) count = true
+is_new_in (HeartbeatFrag h) count = true
+
+abbrev pub is_new : List Came → ℤ → Bool
+is_new [] count = true
+is_new (e ∷ past) count = is_new_in e.body count && is_new past count
+
+abbrev pub is_heartbeat : Brought → Bool
+is_heartbeat (Whole c) = false
+is_heartbeat (Fragment f) = false
+is_heartbeat (Heartbeat h) = true
+is_heartbeat (Gap g) = false
+is_heartbeat (HeartbeatFrag h) = false
+
+-- a heartbeat came, and the first one of a match is accepted
+abbrev pub has_heartbeat : List Came → Bool
+has_heartbeat past = list_any (λ e. is_heartbeat e.body) past
+
+-- what an event makes of the first number, behind those before it
+abbrev pub first_after : List Came → ℕ → Brought → ℕ
+first_after past first (Whole c) = first
+first_after past first (Fragment f) = first
+first_after past first (Heartbeat h) = if is_new past h.count then max first h.first else first
+first_after past first (Gap g) = first
+first_after past first (HeartbeatFrag h) = first
+
+-- the greatest of 1 and the first numbers of the accepted heartbeats
+abbrev pub first_of : List Came → ℕ
+first_of [] = 1
+first_of (e ∷ past) = first_after past (first_of past) e.body
+
+abbrev pub announced_after : List Came → ℕ → Brought → ℕ
+announced_after past announced (Whole c) = announced
+announced_after past announced (Fragment f) = announced
+announced_after past announced (Heartbeat h) = if is_new past h.count then max announced h.last else announced
+announced_after past announced (Gap g) = announced
+announced_after past announced (HeartbeatFrag h) = announced
+
+-- the greatest of 0 and the last numbers of the accepted heartbeats
+abbrev pub announced_of : List Came → ℕ
+announced_of [] = 0
+announced_of (e ∷ past) = announced_after past (announced_of past) e.body
+
+-- a gap names the numbers from its start up to below its list's base, and the members of the list
+abbrev pub names : Brought → ℕ → Bool
+names (Whole c) n = false
+names (Fragment f) n = false
+names (Heartbeat h) n = false
+names (Gap g) n = (nat_le g.start n && nat_lt n g.list.base) || list_any (λ m. m == n) (members g.list)
+names (HeartbeatFrag h) n = false
+
+-- a gap of the match named the number
+abbrev pub is_irrelevant : List Came → ℕ → Bool
+is_irrelevant past n = list_any (λ e. names e.body n) past
