@@ -1,0 +1,5 @@
+pub mod Seats
+pub mod Telling
+pub mod Found
+pub mod Counting
+pub mod Stepping

@@ -1,1 +1,6 @@
 pub mod Body
+pub mod Status
+pub mod Reader
+pub mod Standing
+pub mod Notices
+pub mod Asked

@@ -3,8 +3,17 @@
 
 mod body;
 mod content;
+mod notice;
+mod present;
+mod state;
+mod status;
+mod step;
 #[cfg(test)]
 mod tests;
 
 pub use body::Body;
 pub use content::{Content, body_of};
+pub use notice::{Notice, Output, Told};
+pub use state::{ReaderError, ReaderState};
+pub use status::Status;
+pub use step::{Asked, Step};

@@ -1,5 +1,7 @@
 //! Bodies of changes that were written down by hand.
 
+mod state;
+
 use crate::*;
 use dds_topic::{Raw, Shapes, Unread};
 use rtps_types::KeyHash;

@@ -1,0 +1,56 @@
+-- The match with a writer, found among the matches of a reader.
+use Rattle.std.proofs.Common.{◌≡◌, ◌<◌, ◌≤◌, ℕ, zero, suc, Bool, true, false, List, [], ◌∷◌, length, map, Option, Some, None, refl, sym, ap, ◌∙◌, get_or, set, arith}
+use Rattle.std.specs.List.{position, position_or_len}
+use Rattle.std.proofs.lemmas.Grind.{common_steps}
+use Rattle.std.proofs.lemmas.List.Sums.{fails_before_first}
+use Rattle.rtps_types.specs.declared.identity.Guid.{Guid}
+use Rattle.rtps_proxy.specs.Effects.{BestEffortStandsAt}
+use Rattle.rtps_proxy.specs.History.{Came}
+use Rattle.rtps_reader.specs.declared.state.Seat.{Seat}
+use Rattle.rtps_reader.specs.Reader.{Match, extended, past_of, same_guid}
+use Rattle.rtps_reader.specs.Standing.{AllStand, SeatKept, seat_view}
+
+-- where no place passes, each item fails
+pub fails_everywhere : {X : Type 0} (p : X → Bool) (xs : List X) → position p xs ≡ None → (k : ℕ) (d : X) → k < length xs → p (get_or xs k d) ≡ false
+fails_everywhere p xs none k d lt =
+    let past : length xs ≤ position_or_len p xs = grind (arith, common_steps) in
+    fails_before_first p xs k d (omega arith)
+
+-- nothing comes for a writer that is not matched
+pub not_matched : {A : Type 0} (w : Guid) (e : Came) (ms : List Match) (ss : List (Seat A)) → AllStand ms (map seat_view ss) → ((k : ℕ) (d : Seat A) → k < length ss → same_guid (get_or ss k d).writer w ≡ false) → (extended w e ms ≡ ms) × (past_of w ms ≡ None)
+not_matched w e [] [] all fails = (refl, refl)
+not_matched w e [] (s ∷ ss) all fails = absurd all
+not_matched w e (m ∷ ms) [] all fails = absurd all
+not_matched w e (m ∷ ms) (s ∷ ss) all fails =
+    let here : same_guid m.writer w ≡ false = rw all.0 (fails 0 s (omega arith)) in
+    let rest = not_matched w e ms ss all.2 (λ k d lt. fails (suc k) d (omega arith)) in
+    rw here (ap (λ (ns : List Match). m ∷ ns) rest.0, rest.1)
+
+-- what stands of the first match with a writer, and what stands once an event came for it
+pub record Found {A : Type 0} (w : Guid) (e : Came) (ms : List Match) (ss : List (Seat A)) (i : ℕ) (d : Seat A) : Type 0 where
+  pub past : List Came
+  pub is : past_of w ms ≡ Some past
+  pub stands : BestEffortStandsAt past (seat_view (get_or ss i d)).proxy
+  pub after : (new : Seat A) → new.writer ≡ (get_or ss i d).writer → BestEffortStandsAt (e ∷ past) (seat_view new).proxy → AllStand (extended w e ms) (map seat_view (set ss i new))
+
+pub matched : {A : Type 0} (w : Guid) (e : Came) (ms : List Match) (ss : List (Seat A)) (i : ℕ) (d : Seat A) → AllStand ms (map seat_view ss) → i < length ss → same_guid (get_or ss i d).writer w ≡ true → ((k : ℕ) → k < i → same_guid (get_or ss k d).writer w ≡ false) → Found w e ms ss i d
+matched w e [] [] i d all lt passes fails = absurd (omega arith)
+matched w e [] (s ∷ ss) i d all lt passes fails = absurd all
+matched w e (m ∷ ms) [] i d all lt passes fails = absurd all
+matched w e (m ∷ ms) (s ∷ ss) zero d all lt passes fails =
+    let here : same_guid m.writer w ≡ true = rw all.0 passes in
+    record {
+      past = m.past;
+      is = rw here refl;
+      stands = all.1;
+      after = λ new same stands. rw here (all.0 ∙ sym same, stands, all.2);
+    }
+matched w e (m ∷ ms) (s ∷ ss) (suc j) d all lt passes fails =
+    let here : same_guid m.writer w ≡ false = rw all.0 (fails 0 (omega arith)) in
+    let rest = matched w e ms ss j d all.2 (omega arith) passes (λ k lt. fails (suc k) (omega arith)) in
+    record {
+      past = rest.past;
+      is = rw here rest.is;
+      stands = rest.stands;
+      after = λ new same stands. rw here (all.0, all.1, rest.after new same stands);
+    }

@@ -1,0 +1,66 @@
+-- What the code keeps of a reader.
+use Rattle.std.specs.Prelude.{◌≡◌, ◌+◌, false, Bool, ℕ, List, [], ◌∷◌, map, length, Option, Some, None}
+use Rattle.rtps_types.specs.declared.identity.EntityId.{EntityId}
+use Rattle.rtps_types.specs.declared.identity.Guid.{Guid}
+use Rattle.rtps_types.specs.declared.traffic.WriterFacts.{WriterFacts}
+use Rattle.rtps_proxy.specs.declared.effects.Effects.{Effects}
+use Rattle.rtps_proxy.specs.Effects.{AreEffects, BestEffortStandsAt}
+use Rattle.rtps_proxy.specs.BestEffort.{lost, ready}
+use Rattle.rtps_proxy.specs.History.{Came}
+use Rattle.rtps_proxy.specs.Kept.{Kept}
+use Rattle.rtps_reader.specs.declared.state.Seat.{Seat}
+use Rattle.rtps_reader.specs.declared.status.Status.{Status}
+use Rattle.rtps_reader.specs.Reader.{Match, Reader, fresh, status_of}
+use Rattle.rtps_reader.specs.Status.{capped}
+
+-- one match, as it is kept
+pub record SeatKept : Type 0 where
+  pub writer : Guid
+  pub proxy : Kept
+
+pub record ReaderKept : Type 0 where
+  pub spent : Bool
+  pub entity : EntityId
+  pub seats : List SeatKept
+  pub status : Status
+
+-- each match is kept, in order
+abbrev pub AllStand : List Match → List SeatKept → Type 0
+AllStand [] [] = Unit {0}
+AllStand [] (s ∷ ss) = ⊥
+AllStand (m ∷ ms) [] = ⊥
+AllStand (m ∷ ms) (s ∷ ss) = (m.writer ≡ s.writer) × BestEffortStandsAt m.past s.proxy × AllStand ms ss
+
+-- the state keeps what follows from all that came for the reader
+pub record StandsAt (r : Reader) (state : ReaderKept) : Type 0 where
+  pub sound : state.spent ≡ false
+  pub entity : state.entity ≡ r.entity
+  pub matches : AllStand r.matches state.seats
+  pub status : state.status ≡ status_of r
+
+-- one match, without how its memory lies
+abbrev pub seat_view : {A : Type 0} → Seat A → SeatKept
+seat_view s = record { writer = s.writer; proxy = s.proxy }
+
+-- the status once an event lost some numbers and gave some samples
+abbrev pub status_after : Status → ℕ → ℕ → Status
+status_after s lost samples = record s { lost_total = capped (s.lost_total + lost); samples = capped (s.samples + samples) }
+
+-- the status once an event came for the match with its writer, if there is one
+abbrev pub status_given : Status → Came → Option (List Came) → Status
+status_given s e None = s
+status_given s e (Some past) = status_after s (lost past e) (length (ready past e))
+
+-- the writer of a fixed match, and the match at the start
+abbrev pub writer_in : {A : Type 0} → WriterFacts A → Guid
+writer_in facts = facts.writer
+
+abbrev pub fresh_for : {A : Type 0} → WriterFacts A → Match
+fresh_for facts = fresh facts.writer
+
+-- what the match with a writer gave at an event, if there is one
+abbrev pub AreTaken : {A : Type 0} → Option (List Came) → Came → Option (Effects A) → Type 0
+AreTaken None e None = Unit {0}
+AreTaken None e (Some effects) = ⊥
+AreTaken (Some past) e None = ⊥
+AreTaken (Some past) e (Some effects) = AreEffects past e effects

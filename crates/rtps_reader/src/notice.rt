@@ -1,0 +1,46 @@
+//! What a reader tells.
+
+use crate::body::Body;
+use rtps_types::{Guid, Number, Place, Reply, Timestamp};
+use std::alloc::{Allocator, Global};
+
+/// Something that a reader tells of a match, in the order in which it came about.
+#[derive(Debug, Drop)]
+pub struct Notice<V> {
+    /// The event that brought it about.
+    pub place: Place,
+    /// The writer of the match.
+    pub writer: Guid,
+    pub what: Told<V>,
+}
+
+/// What a notice tells.
+#[derive(Debug, Drop)]
+pub enum Told<V> {
+    /// A change, presented (DDS 1.4, 2.2.2.5).
+    Sample {
+        number: Number,
+        time: Option<Timestamp>,
+        body: Body<V>,
+    },
+    /// A match began.
+    Matched,
+    /// A match ended.
+    Unmatched,
+    /// A writer offers less than is requested; the policy by its id.
+    Incompatible {
+        policy: u32,
+    },
+    /// Numbers will not come any more; how many (DDS 1.4, 2.2.4.1, SAMPLE_LOST).
+    Lost {
+        count: u64,
+    },
+}
+
+/// What the steps of a reader give.
+#[derive(Debug, Drop)]
+pub struct Output<V, A: Allocator = Global> {
+    pub notices: Vec<Notice<V>, A>,
+    /// What is said to writers, each with the place of the event that it answers.
+    pub answers: Vec<(Place, Reply<A>), A>,
+}

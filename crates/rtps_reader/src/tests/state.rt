@@ -1,0 +1,132 @@
+//! What a best-effort reader tells of events that were written down by hand.
+
+use crate::*;
+use dds_topic::Shapes;
+use rtps_receiver::{Body as Brought, Event, Whole};
+use rtps_types::{EntityId, Guid, GuidPrefix, Locators, Number, Place, WriterFacts};
+use rtps_wire::Form;
+use std::alloc::Global;
+use std::test::Fail;
+
+/// RED at 1, 2 of size 3, in little-endian CDR.
+const RED: [u8; 24] = [
+    0, 1, 0, 0, 4, 0, 0, 0, 0x52, 0x45, 0x44, 0, 1, 0, 0, 0, 2, 0, 0, 0, 3, 0, 0, 0,
+];
+
+const THEIRS: GuidPrefix = GuidPrefix([10; 12]);
+
+const WRITER: EntityId = EntityId([0, 0, 1, 2]);
+
+const READER: EntityId = EntityId([0, 0, 1, 7]);
+
+const EVERY_READER: EntityId = EntityId([0; 4]);
+
+/// A reader that is matched with one writer from the start.
+fn reader(alloc: Global) -> Result<ReaderState, Fail> {
+    let mut fixed = Vec::new(alloc);
+    fixed.push(WriterFacts {
+        writer: Guid {
+            prefix: THEIRS,
+            entity: WRITER,
+        },
+        locators: Locators::new(Vec::new(alloc)),
+    })?;
+    Ok(ReaderState::new(
+        alloc,
+        0,
+        GuidPrefix([11; 12]),
+        READER,
+        false,
+        fixed.as_slice(),
+    )?)
+}
+
+/// The step of a change of this number that came in this datagram.
+fn step(
+    datagram: u64,
+    source: GuidPrefix,
+    reader: EntityId,
+    number: u64,
+) -> Result<Step<'static>, Fail> {
+    let Some(number) = Number::new(number) else {
+        return Err(Fail::new("no number"));
+    };
+    let place = Place {
+        datagram,
+        submessage: 1,
+    };
+    Ok(Step {
+        place,
+        what: Asked::Event(Event {
+            place,
+            source,
+            time: None,
+            writer: WRITER,
+            reader,
+            body: Brought::Whole(Whole {
+                number,
+                form: Form::Value,
+                status: 0,
+                hash: None,
+                payload: &RED,
+            }),
+        }),
+    })
+}
+
+#[test]
+fn rising_numbers_are_told_once(rt: HostRuntime) -> Result<(), Fail> {
+    let alloc = rt.alloc();
+    let mut reader = reader(alloc)?;
+    let mut output = Output {
+        notices: Vec::new(alloc),
+        answers: Vec::new(alloc),
+    };
+    for (datagram, source, to, number) in [
+        (0, THEIRS, READER, 5),
+        (1, THEIRS, EVERY_READER, 8),
+        // Old, for another reader, and from a writer that isn't matched.
+        (2, THEIRS, READER, 7),
+        (3, THEIRS, EntityId([0, 0, 1, 4]), 9),
+        (4, GuidPrefix([12; 12]), READER, 9),
+    ] {
+        let step = step(datagram, source, to, number)?;
+        reader.step(alloc, alloc, &Shapes, &step, &mut output)?;
+    }
+    assert_eq!(rt; output.notices.len(), 3);
+    assert_eq!(rt; output.answers.len(), 0);
+    match &output.notices[0].what {
+        Told::Sample {
+            number,
+            body: Body::Value(_, shape),
+            ..
+        } => {
+            assert_eq!(rt; number.get(), 5);
+            assert_eq!(rt; shape.color.as_str(), "RED");
+            assert_eq!(rt; (shape.x, shape.y, shape.size), (1, 2, 3));
+        }
+        _ => assert!(rt; false, "no value"),
+    }
+    match &output.notices[1].what {
+        Told::Lost { count } => assert_eq!(rt; *count, 2),
+        _ => assert!(rt; false, "no loss"),
+    }
+    match &output.notices[2].what {
+        Told::Sample { number, .. } => assert_eq!(rt; number.get(), 8),
+        _ => assert!(rt; false, "no sample"),
+    }
+    assert_eq!(rt; output.notices[2].place.datagram, 1);
+    assert_eq!(rt; output.notices[2].writer.prefix, THEIRS);
+    assert_eq!(rt;
+        reader.status(),
+        Status {
+            matched_total: 1,
+            matched_now: 1,
+            incompatible_total: 0,
+            last_policy: None,
+            lost_total: 2,
+            samples: 2,
+        }
+    );
+    Ok(())
+}
