@@ -5,7 +5,7 @@ ghost use Rattle.rtps_cdr.specs.Cdr.{padding};
 ghost use Rattle.rtps_cdr.specs.Reading.{aligned};
 
 /// How many octets lie between a place and the next multiple of `size`, itself included.
-pub fn gap_before(position: usize, size: usize) -> usize
+pub(crate) fn gap_before(position: usize, size: usize) -> usize
     requires some { 0 < size }
     requires small { size ≤ 8 }
     ensures value { result ≡ padding size position }
@@ -15,7 +15,7 @@ pub fn gap_before(position: usize, size: usize) -> usize
 }
 
 /// The first multiple of `size` that is not below a place.
-pub fn align(position: usize, size: usize) -> usize
+pub(crate) fn align(position: usize, size: usize) -> usize
     requires some { 0 < size }
     requires small { size ≤ 8 }
     requires room { position < 2 ^ 63 }

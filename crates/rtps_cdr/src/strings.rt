@@ -76,7 +76,7 @@ fn behind_strings(
 }
 
 /// The sequence of texts whose count stands at the next multiple of four, and the place behind it.
-pub fn strings_at(
+pub(crate) fn strings_at(
     octets: &[u8],
     position: usize,
     endian: Endian,

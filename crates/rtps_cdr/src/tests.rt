@@ -16,58 +16,38 @@ fn behind(octets: &[u8], count: usize, endian: Endian) -> Result<CdrReader<'_>, 
     Ok(reader)
 }
 
+/// Where a reader of [`PLACES`] stands, and the numbers of 16, 32 and 64 bits that it finds, high
+/// octet first.
+const ALIGNED: [(usize, u16, u32, u64); 9] = [
+    (0, 0x0001, 0x0001_0203, 0x0001_0203_0405_0607),
+    (1, 0x0203, 0x0405_0607, 0x0809_0a0b_0c0d_0e0f),
+    (2, 0x0203, 0x0405_0607, 0x0809_0a0b_0c0d_0e0f),
+    (3, 0x0405, 0x0405_0607, 0x0809_0a0b_0c0d_0e0f),
+    (4, 0x0405, 0x0405_0607, 0x0809_0a0b_0c0d_0e0f),
+    (5, 0x0607, 0x0809_0a0b, 0x0809_0a0b_0c0d_0e0f),
+    (6, 0x0607, 0x0809_0a0b, 0x0809_0a0b_0c0d_0e0f),
+    (7, 0x0809, 0x0809_0a0b, 0x0809_0a0b_0c0d_0e0f),
+    (8, 0x0809, 0x0809_0a0b, 0x0809_0a0b_0c0d_0e0f),
+];
+
+/// The numbers of 16, 32 and 64 bits that a reader finds behind so many of [`PLACES`].
+fn found(start: usize, endian: Endian) -> Result<(u16, u32, u64), CdrFault> {
+    Ok((
+        behind(&PLACES, start, endian)?.read_u16()?,
+        behind(&PLACES, start, endian)?.read_u32()?,
+        behind(&PLACES, start, endian)?.read_u64()?,
+    ))
+}
+
 #[test]
 fn numbers_are_aligned_to_their_size(rt: HostRuntime) -> Result<(), Fail> {
-    // Where the reader stands, and the numbers of 16, 32 and 64 bits that it finds, high octet first.
-    let rows = [
-        (0, 0x0001, 0x0001_0203, 0x0001_0203_0405_0607),
-        (1, 0x0203, 0x0405_0607, 0x0809_0a0b_0c0d_0e0f),
-        (2, 0x0203, 0x0405_0607, 0x0809_0a0b_0c0d_0e0f),
-        (3, 0x0405, 0x0405_0607, 0x0809_0a0b_0c0d_0e0f),
-        (4, 0x0405, 0x0405_0607, 0x0809_0a0b_0c0d_0e0f),
-        (5, 0x0607, 0x0809_0a0b, 0x0809_0a0b_0c0d_0e0f),
-        (6, 0x0607, 0x0809_0a0b, 0x0809_0a0b_0c0d_0e0f),
-        (7, 0x0809, 0x0809_0a0b, 0x0809_0a0b_0c0d_0e0f),
-        (8, 0x0809, 0x0809_0a0b, 0x0809_0a0b_0c0d_0e0f),
-    ];
-    for (start, short, long, wide) in rows {
-        let big = Endian::Big;
+    for (start, short, long, wide) in ALIGNED {
+        assert_eq!(rt; found(start, Endian::Big)?, (short, long, wide));
         assert_eq!(rt;
-            behind(&PLACES, start, big)?.read_u16()?,
-            short,
-            "behind {start}"
+            found(start, Endian::Little)?,
+            (short.swap_bytes(), long.swap_bytes(), wide.swap_bytes())
         );
-        assert_eq!(rt;
-            behind(&PLACES, start, big)?.read_u32()?,
-            long,
-            "behind {start}"
-        );
-        assert_eq!(rt;
-            behind(&PLACES, start, big)?.read_len()?,
-            long,
-            "behind {start}"
-        );
-        assert_eq!(rt;
-            behind(&PLACES, start, big)?.read_u64()?,
-            wide,
-            "behind {start}"
-        );
-        let little = Endian::Little;
-        assert_eq!(rt;
-            behind(&PLACES, start, little)?.read_u16()?,
-            short.swap_bytes(),
-            "behind {start}"
-        );
-        assert_eq!(rt;
-            behind(&PLACES, start, little)?.read_u32()?,
-            long.swap_bytes(),
-            "behind {start}"
-        );
-        assert_eq!(rt;
-            behind(&PLACES, start, little)?.read_u64()?,
-            wide.swap_bytes(),
-            "behind {start}"
-        );
+        assert_eq!(rt; behind(&PLACES, start, Endian::Big)?.read_len()?, long);
     }
     Ok(())
 }
@@ -122,60 +102,84 @@ fn fault(reader: &mut CdrReader<'_>, kind: Kind) -> Option<CdrFault> {
     }
 }
 
+/// Octets, high octet first, how many are passed, what is read behind them, and its fault.
+type Row = (&'static [u8], usize, Kind, Option<CdrFault>);
+
+const SHORT: Option<CdrFault> = Some(CdrFault::Short);
+
+const OF_ONE_SIZE: [Row; 11] = [
+    (b"\0", 1, Kind::Octet, SHORT),
+    (b"\0\0\x01", 1, Kind::Short, SHORT),
+    (b"\0\0\x01\x02", 1, Kind::Short, None),
+    (b"\0\0\0\0\x01\x02\x03", 1, Kind::Long, SHORT),
+    (b"\0\0\0\0\x01\x02\x03\x04", 1, Kind::Long, None),
+    (
+        b"\0\0\0\0\0\0\0\0\x01\x02\x03\x04\x05\x06\x07",
+        1,
+        Kind::Wide,
+        SHORT,
+    ),
+    (
+        b"\0\0\0\0\0\0\0\0\x01\x02\x03\x04\x05\x06\x07\x08",
+        1,
+        Kind::Wide,
+        None,
+    ),
+    (b"\x01\x02", 1, Kind::Truth, Some(CdrFault::BadBool)),
+    (b"\x01", 1, Kind::Truth, SHORT),
+    (b"\x01\x02\x03", 1, Kind::Octets(3), SHORT),
+    (b"\x01\x02\x03", 1, Kind::Octets(2), None),
+];
+
+const TEXTS: [Row; 9] = [
+    (b"\x07\x07\x07\x07\0\0\0\0", 1, Kind::Text, None),
+    (b"\x07\x07\x07\x07\0\0\0", 1, Kind::Text, SHORT),
+    (b"\0\0\0\x03A\0", 0, Kind::Text, SHORT),
+    (b"\0\0\0\x02AB", 0, Kind::Text, Some(CdrFault::BadString)),
+    (b"\0\0\0\x01A", 0, Kind::Text, Some(CdrFault::BadString)),
+    (
+        b"\0\0\0\x03\xc3\x28\0",
+        0,
+        Kind::Text,
+        Some(CdrFault::NotUtf8),
+    ),
+    (b"\0\0\0\x04A\0B\0", 0, Kind::Text, None),
+    (b"\xff\xff\xff\xff\0\0\0\x01\0", 0, Kind::Texts, SHORT),
+    (
+        b"\0\0\0\x02\0\0\0\x01\0\0\0\0\0\0\0\x02AB",
+        0,
+        Kind::Texts,
+        Some(CdrFault::BadString),
+    ),
+];
+
+/// The fault of a row, once it is seen that a fault moves nothing.
+fn fault_of(octets: &[u8], start: usize, kind: Kind) -> Result<Option<CdrFault>, Fail> {
+    let mut reader = behind(octets, start, Endian::Big)?;
+    let found = fault(&mut reader, kind);
+    if found.is_none() {
+        return Ok(None);
+    }
+    if reader.position() != start {
+        return Err(Fail::new("a fault moved the reader"));
+    }
+    let left = octets.len().saturating_sub(start);
+    reader.read_octets(left)?;
+    Ok(found)
+}
+
 #[test]
 fn a_fault_moves_nothing(rt: HostRuntime) -> Result<(), Fail> {
-    let short = Some(CdrFault::Short);
-    let rows: [(&[u8], usize, Kind, Option<CdrFault>); 20] = [
-        (b"\0", 1, Kind::Octet, short),
-        (b"\0\0\x01", 1, Kind::Short, short),
-        (b"\0\0\x01\x02", 1, Kind::Short, None),
-        (b"\0\0\0\0\x01\x02\x03", 1, Kind::Long, short),
-        (b"\0\0\0\0\x01\x02\x03\x04", 1, Kind::Long, None),
-        (
-            b"\0\0\0\0\0\0\0\0\x01\x02\x03\x04\x05\x06\x07",
-            1,
-            Kind::Wide,
-            short,
-        ),
-        (
-            b"\0\0\0\0\0\0\0\0\x01\x02\x03\x04\x05\x06\x07\x08",
-            1,
-            Kind::Wide,
-            None,
-        ),
-        (b"\x01\x02", 1, Kind::Truth, Some(CdrFault::BadBool)),
-        (b"\x01", 1, Kind::Truth, short),
-        (b"\x07\x07\x07\x07\0\0\0\0", 1, Kind::Text, None),
-        (b"\x07\x07\x07\x07\0\0\0", 1, Kind::Text, short),
-        (b"\0\0\0\x03A\0", 0, Kind::Text, short),
-        (b"\0\0\0\x02AB", 0, Kind::Text, Some(CdrFault::BadString)),
-        (b"\0\0\0\x01A", 0, Kind::Text, Some(CdrFault::BadString)),
-        (
-            b"\0\0\0\x03\xc3\x28\0",
-            0,
-            Kind::Text,
-            Some(CdrFault::NotUtf8),
-        ),
-        (b"\0\0\0\x04A\0B\0", 0, Kind::Text, None),
-        (b"\x01\x02\x03", 1, Kind::Octets(3), short),
-        (b"\x01\x02\x03", 1, Kind::Octets(2), None),
-        (b"\xff\xff\xff\xff\0\0\0\x01\0", 0, Kind::Texts, short),
-        (
-            b"\0\0\0\x02\0\0\0\x01\0\0\0\0\0\0\0\x02AB",
-            0,
-            Kind::Texts,
-            Some(CdrFault::BadString),
-        ),
-    ];
-    for (octets, start, kind, wanted) in rows {
-        let mut reader = behind(octets, start, Endian::Big)?;
-        let found = fault(&mut reader, kind);
-        assert_eq!(rt; found, wanted);
-        if found.is_some() {
-            assert_eq!(rt; reader.position(), start);
-            let left = octets.len().saturating_sub(start);
-            assert_eq!(rt; reader.read_octets(left)?.len(), left);
-        }
+    for (octets, start, kind, wanted) in OF_ONE_SIZE {
+        assert_eq!(rt; fault_of(octets, start, kind)?, wanted);
+    }
+    Ok(())
+}
+
+#[test]
+fn a_fault_of_a_text_moves_nothing(rt: HostRuntime) -> Result<(), Fail> {
+    for (octets, start, kind, wanted) in TEXTS {
+        assert_eq!(rt; fault_of(octets, start, kind)?, wanted);
     }
     Ok(())
 }

@@ -10,7 +10,7 @@ use rtps_types::{Endian, get_u16, get_u32, get_u64};
 
 /// The octet at a place, and the place behind it.
 #[tactic(auto, using(crate::proofs::Related::octet_is, crate::proofs::Related::octet_none))]
-pub fn octet_at(octets: &[u8], at: usize) -> Result<(u8, usize), CdrFault>
+pub(crate) fn octet_at(octets: &[u8], at: usize) -> Result<(u8, usize), CdrFault>
     requires { at ≤ length octets.now }
     ensures value { (e : Endian) → result ≡ number_from 1 e octets.now at }
     ensures within { IfOk result (λ r. r.1 ≤ length octets.now) }
@@ -22,7 +22,11 @@ pub fn octet_at(octets: &[u8], at: usize) -> Result<(u8, usize), CdrFault>
 }
 
 /// The number at the next multiple of 2, and the place behind it.
-pub fn u16_at(octets: &[u8], position: usize, endian: Endian) -> Result<(u16, usize), CdrFault>
+pub(crate) fn u16_at(
+    octets: &[u8],
+    position: usize,
+    endian: Endian,
+) -> Result<(u16, usize), CdrFault>
     requires { position ≤ length octets.now }
     ensures value { result ≡ number_from 2 endian octets.now position }
     ensures within { IfOk result (λ r. r.1 ≤ length octets.now) }
@@ -33,7 +37,11 @@ pub fn u16_at(octets: &[u8], position: usize, endian: Endian) -> Result<(u16, us
 }
 
 /// The number at the next multiple of 4, and the place behind it.
-pub fn u32_at(octets: &[u8], position: usize, endian: Endian) -> Result<(u32, usize), CdrFault>
+pub(crate) fn u32_at(
+    octets: &[u8],
+    position: usize,
+    endian: Endian,
+) -> Result<(u32, usize), CdrFault>
     requires { position ≤ length octets.now }
     ensures value { result ≡ number_from 4 endian octets.now position }
     ensures within { IfOk result (λ r. r.1 ≤ length octets.now) }
@@ -44,7 +52,11 @@ pub fn u32_at(octets: &[u8], position: usize, endian: Endian) -> Result<(u32, us
 }
 
 /// The number at the next multiple of 8, and the place behind it.
-pub fn u64_at(octets: &[u8], position: usize, endian: Endian) -> Result<(u64, usize), CdrFault>
+pub(crate) fn u64_at(
+    octets: &[u8],
+    position: usize,
+    endian: Endian,
+) -> Result<(u64, usize), CdrFault>
     requires { position ≤ length octets.now }
     ensures value { result ≡ number_from 8 endian octets.now position }
     ensures within { IfOk result (λ r. r.1 ≤ length octets.now) }
@@ -55,7 +67,7 @@ pub fn u64_at(octets: &[u8], position: usize, endian: Endian) -> Result<(u64, us
 }
 
 /// The octets that stand at a place, and the place behind them.
-pub fn octets_at(octets: &[u8], at: usize, count: usize) -> Result<(&[u8], usize), CdrFault>
+pub(crate) fn octets_at(octets: &[u8], at: usize, count: usize) -> Result<(&[u8], usize), CdrFault>
     requires { at ≤ length octets.now }
     ensures value { place_seen result ≡ octets_from count octets.now at }
     ensures within { IfOk result (λ r. (r.1 ≤ length octets.now) × (length r.0.now ≡ count)) }
@@ -88,7 +100,11 @@ fn text_in_body(body: &[u8], after: usize) -> Result<(&str, usize), CdrFault>
 
 /// The text whose length stands at the next multiple of four.
 #[tactic(auto, unfolding(crate::specs::Reading::text_from))]
-pub fn text_at(octets: &[u8], position: usize, endian: Endian) -> Result<(&str, usize), CdrFault>
+pub(crate) fn text_at(
+    octets: &[u8],
+    position: usize,
+    endian: Endian,
+) -> Result<(&str, usize), CdrFault>
     requires { position ≤ length octets.now }
     ensures value { place_seen result ≡ text_from endian octets.now position }
     ensures within { IfOk result (λ r. r.1 ≤ length octets.now) }
@@ -102,7 +118,7 @@ pub fn text_at(octets: &[u8], position: usize, endian: Endian) -> Result<(&str, 
 }
 
 /// The truth value at a place, and the place behind it.
-pub fn bool_at(octets: &[u8], position: usize) -> Result<(bool, usize), CdrFault>
+pub(crate) fn bool_at(octets: &[u8], position: usize) -> Result<(bool, usize), CdrFault>
     requires { position ≤ length octets.now }
     ensures value { (e : Endian) → result ≡ bool_from e octets.now position }
     ensures within { IfOk result (λ r. r.1 ≤ length octets.now) }

@@ -1,6 +1,6 @@
 //! Whether a configuration is one that discovery takes.
 
-ghost use Rattle.std.specs.Prelude.{◌≡◌};
+ghost use Rattle.std.specs.Prelude.{◌≡◌, ◌≤◌, OnOk, length};
 ghost use Rattle.std.specs.List.{list_any};
 ghost use Rattle.rtps_discovery.specs.Config.{check_of, has_twice, is_bad_fixed, is_bad_reader, is_reader, is_same_entity, is_same_pair, is_writer};
 
@@ -124,7 +124,8 @@ fn has_pair_twice(pairs: &[FixedMatch]) -> bool
 /// Whether discovery takes a configuration; else the first of its faults. No memory is taken.
 #[tactic(auto, unfolding(crate::specs::Config::check_of))]
 pub fn check(config: &Config) -> Result<(), ConfigFault>
-    ensures { result ≡ check_of config.now }
+    ensures checked { result ≡ check_of config.now }
+    ensures readers { OnOk result (length config.now.readers.items ≤ 256) }
 {
     let readers = config.readers.as_slice();
     let fixed = config.fixed.as_slice();

@@ -71,91 +71,83 @@ struct Row<'a> {
     ownership: Ownership,
     reliability: Reliability,
     fixed: &'a [(u32, Guid)],
-    expected: Result<(), ConfigFault>,
+}
+
+const GOOD: Row<'static> = Row {
+    readers: &[WITH_KEY, WITHOUT_KEY],
+    ownership: Ownership::Shared,
+    reliability: Reliability::BestEffort,
+    fixed: &[(0, WRITER), (1, WRITER), (1, WRITER_WITHOUT_KEY)],
+};
+
+/// Whether the configuration of a row is taken.
+fn told(alloc: Global, row: Row<'_>) -> Result<Result<(), ConfigFault>, Fail> {
+    let mut config = empty(alloc);
+    for entity in row.readers {
+        add_reader(alloc, &mut config, *entity, row.ownership, row.reliability)?;
+    }
+    for (rank, writer) in row.fixed {
+        config.fixed.push(FixedMatch {
+            rank: *rank,
+            writer: *writer,
+            locators: Locators::new(Vec::new(alloc)),
+        })?;
+    }
+    Ok(check(&config))
 }
 
 #[test]
-fn the_first_fault_is_told(rt: HostRuntime) -> Result<(), Fail> {
-    let good = Row {
-        readers: &[WITH_KEY, WITHOUT_KEY],
-        ownership: Ownership::Shared,
-        reliability: Reliability::BestEffort,
-        fixed: &[(0, WRITER), (1, WRITER), (1, WRITER_WITHOUT_KEY)],
-        expected: Ok(()),
+fn a_good_configuration_is_taken(rt: HostRuntime) -> Result<(), Fail> {
+    assert_eq!(rt; told(rt.alloc(), GOOD)?, Ok(()));
+    let no_reader = Row {
+        readers: &[],
+        fixed: &[(0, WRITER)],
+        ..GOOD
     };
-    let bad_reader = Row {
-        expected: Err(ConfigFault::BadReader),
-        ..good
-    };
-    let bad_fixed = Row {
-        expected: Err(ConfigFault::BadFixed),
-        ..good
-    };
-    let table = [
-        good,
-        Row {
-            readers: &[],
-            fixed: &[(0, WRITER)],
-            expected: Err(ConfigFault::Readers),
-            ..good
-        },
+    assert_eq!(rt; told(rt.alloc(), no_reader)?, Err(ConfigFault::Readers));
+    Ok(())
+}
+
+#[test]
+fn bad_readers_are_told_before_fixed_matches(rt: HostRuntime) -> Result<(), Fail> {
+    for row in [
         Row {
             readers: &[WITH_KEY, [0x00, 0x00, 0x01, 0x03]],
-            ..bad_reader
+            ..GOOD
         },
         Row {
             readers: &[WITH_KEY, WITHOUT_KEY, WITH_KEY],
-            ..bad_reader
+            ..GOOD
         },
         Row {
             ownership: Ownership::Exclusive,
-            ..bad_reader
+            ..GOOD
         },
         Row {
             reliability: Reliability::Reliable,
-            ..bad_reader
+            ..GOOD
         },
         Row {
             readers: &[[0x00, 0x00, 0x01, 0x02]],
             fixed: &[(1, OUR_WRITER)],
-            ..bad_reader
+            ..GOOD
         },
-        Row {
-            fixed: &[(1, WRITER), (2, WRITER)],
-            ..bad_fixed
-        },
-        Row {
-            fixed: &[(0, READER)],
-            ..bad_fixed
-        },
-        Row {
-            fixed: &[(0, WRITER), (0, OUR_WRITER)],
-            ..bad_fixed
-        },
-        Row {
-            fixed: &[(1, WRITER), (0, WRITER), (1, WRITER)],
-            ..bad_fixed
-        },
-    ];
-    for (index, row) in table.iter().enumerate() {
-        let mut config = empty(rt.alloc());
-        for entity in row.readers {
-            add_reader(
-                rt.alloc(),
-                &mut config,
-                *entity,
-                row.ownership,
-                row.reliability,
-            )?;
-        }
-        for (rank, writer) in row.fixed {
-            config.fixed.push(FixedMatch {
-                rank: *rank,
-                writer: *writer,
-                locators: Locators::new(Vec::new(rt.alloc())),
-            })?;
-        }
-        assert_eq!(rt; check(&config), row.expected, "row {index}");
+    ] {
+        assert_eq!(rt; told(rt.alloc(), row)?, Err(ConfigFault::BadReader));
+    }
+    Ok(())
+}
+
+#[test]
+fn bad_fixed_matches_are_told(rt: HostRuntime) -> Result<(), Fail> {
+    for fixed in [
+        [(1, WRITER), (2, WRITER)].as_slice(),
+        [(0, READER)].as_slice(),
+        [(0, WRITER), (0, OUR_WRITER)].as_slice(),
+        [(1, WRITER), (0, WRITER), (1, WRITER)].as_slice(),
+    ] {
+        let row = Row { fixed, ..GOOD };
+        assert_eq!(rt; told(rt.alloc(), row)?, Err(ConfigFault::BadFixed));
     }
     Ok(())
 }

@@ -1,11 +1,17 @@
 -- What clap finds in a line of this program.
-use Rattle.std.proofs.Common.{◌≡◌, List, true, Option, Some, None, refl, ◌∙◌}
+use Rattle.std.proofs.Common.{◌≡◌, ℕ, List, Bool, true, false, Option, Some, None, Result, Ok, Err, unwrap_or, codes, refl, ap, ◌∙◌}
 use Rattle.std.specs.Prelude.{option_map}
+use Rattle.std.specs.Option.{option_map_or}
+use Rattle.std.specs.Str.{bytes_eq}
+use Rattle.std.specs.Str.Parse.{ParsesBool, ParsesUnsigned}
 use Rattle.std.specs.Borrow.{Bor}
-use Rattle.clap.specs.Words.{Row, Text, first_of, first_value, is_simple, is_simple_and_free, rows_of, subcommand_name_of, subcommand_rows_of}
+use Rattle.clap.specs.Words.{ReadsOne, Row, Text, first_of, first_value, is_simple, is_simple_and_free, one_text, rows_of, subcommand_name_of, subcommand_rows_of}
+use Rattle.clap.specs.Walk.{byte_or_zero}
 use Rattle.clap.specs.declared.parser.matches.ArgMatches.{ArgMatches}
 use Rattle.clap.specs.declared.parser.matches.Found.{Found}
-use Rattle.clap.proofs.WalkLemmas.{first_value-rows}
+use Rattle.clap.proofs.WalkLemmas.{byte_read, first_value-rows, one_text-rows}
+use Rattle.std.proofs.lemmas.Slice.Eq.{bytes_eq-Decides}
+use Rattle.rtps_listen.specs.Options.{is_set, number_in}
 use Rattle.rtps_listen.specs.Line.{with_sizes, with_names, with_flags, dump_app, replay_app, samples_app, live_app, printing_app, listen_app}
 
 -- the commands are ones whose matches clap tells
@@ -40,3 +46,38 @@ named m = map_twice _ _ _
 -- the text that was found first
 pub first_text : (f : Found) (id : Text) (o : Option (Bor Text)) → option_map (λ s. s.now) o ≡ first_value f id → option_map (λ s. s.now) o ≡ first_of id (rows_of f)
 first_text f id o e = e ∙ first_value-rows f id
+
+-- a text that is `true`, `false` or neither
+flag_text : (E : Type 0) (t : Text) (o : Option Bool) → ReadsOne {E = E} ParsesBool t o → unwrap_or o false ≡ bytes_eq t (codes "true")
+flag_text E t (Some true) h = rw h refl
+flag_text E t (Some false) h = rw h refl
+flag_text E t None h = differs (bytes_eq t (codes "true")) refl
+  where
+    differs : (b : Bool) → bytes_eq t (codes "true") ≡ b → false ≡ b
+    differs false e = refl
+    differs true e = absurd (h.1.0 ((bytes_eq-Decides t (codes "true")).0 e))
+
+-- what `get_one` reads of a flag
+pub flag_read : (E : Type 0) (f : Found) (id : Text) (o : Option Bool) → (one_text f id ≡ None → o ≡ None)
+    → ((t : Text) → one_text f id ≡ Some t → ReadsOne {E = E} ParsesBool t o) → unwrap_or o false ≡ is_set id (rows_of f)
+flag_read E f id o none value = go (one_text f id) none value ∙ ap (λ x. option_map_or (λ text. bytes_eq text (codes "true")) x false) (one_text-rows f id)
+  where
+    go : (x : Option Text) → (x ≡ None → o ≡ None) → ((t : Text) → x ≡ Some t → ReadsOne {E = E} ParsesBool t o)
+        → unwrap_or o false ≡ option_map_or (λ text. bytes_eq text (codes "true")) x false
+    go None n v = ap (λ x. unwrap_or x false) (n refl)
+    go (Some t) n v = flag_text E t o (v t refl)
+
+number_text : (E : Type 0) (G : Text → Result ℕ E → Type 0) → ((t : Text) (r : Result ℕ E) → G t r → ParsesUnsigned 8 10 t r)
+    → (t : Text) (o : Option ℕ) → ReadsOne G t o → unwrap_or o 0 ≡ byte_or_zero t
+number_text E G only t (Some n) h = byte_read {E = E} t (Ok n) (only t (Ok n) h)
+number_text E G only t None h = byte_read {E = E} t (Err h.0) (only t (Err h.0) h.1)
+
+-- what `get_one` reads of a number
+pub number_read : (E : Type 0) (G : Text → Result ℕ E → Type 0) → ((t : Text) (r : Result ℕ E) → G t r → ParsesUnsigned 8 10 t r)
+    → (f : Found) (id : Text) (o : Option ℕ) → (one_text f id ≡ None → o ≡ None) → ((t : Text) → one_text f id ≡ Some t → ReadsOne G t o)
+    → unwrap_or o 0 ≡ number_in id (rows_of f)
+number_read E G only f id o none value = go (one_text f id) none value ∙ ap (λ x. option_map_or byte_or_zero x 0) (one_text-rows f id)
+  where
+    go : (x : Option Text) → (x ≡ None → o ≡ None) → ((t : Text) → x ≡ Some t → ReadsOne G t o) → unwrap_or o 0 ≡ option_map_or byte_or_zero x 0
+    go None n v = ap (λ x. unwrap_or x 0) (n refl)
+    go (Some t) n v = number_text E G only t o (v t refl)

@@ -1,33 +1,37 @@
 -- What a line asks for, by the subcommand that clap finds in it and by what clap finds behind that.
-use Rattle.std.specs.Prelude.{◌≡◌, List, Option, Some, None, codes, length, unwrap_or, Result, Err}
-use Rattle.std.specs.List.{AllPass}
-use Rattle.clap.specs.Words.{Row, Text, first_of}
+use Rattle.std.specs.Prelude.{◌≡◌, List, [], Option, Some, None, codes, Result, Err}
+use Rattle.clap.specs.Words.{Row, Text}
 use Rattle.rtps_listen.specs.declared.asked.Asked.{Asked}
-use Rattle.rtps_listen.specs.declared.asked.Asked.TheVariants.{Dump, Other}
-use Rattle.hex.specs.Hex.{is_hex_digit}
+use Rattle.rtps_listen.specs.declared.asked.Asked.TheVariants.{Dump, Replay, Other}
 use Rattle.rtps_listen.specs.declared.fault.ListenFault.{ListenFault}
 use Rattle.rtps_listen.specs.declared.fault.ListenFault.TheVariants.{BadPrefix, NotBuilt}
+use Rattle.rtps_listen.specs.Configs.{Refuses}
+use Rattle.rtps_listen.specs.Identities.{IsPrefixText}
 use Rattle.rtps_listen.specs.Line.{own_text}
+use Rattle.rtps_listen.specs.Options.{AreOptions, text_or}
 
 -- no words are `dump -`
 abbrev pub IsDump : Option (Text × List Row) → Type 0
 IsDump None = Unit {0}
 IsDump (Some found) = found.0 ≡ codes "dump"
 
--- the text behind this name, or else this one
-abbrev pub text_in : Option (Text × List Row) → Text → Text → Text
-text_in None name other = other
-text_in (Some found) name other = unwrap_or (first_of name found.1) other
+abbrev pub IsReplay : Option (Text × List Row) → Type 0
+IsReplay None = ⊥
+IsReplay (Some found) = found.0 ≡ codes "replay"
+
+-- what was found behind the subcommand
+abbrev pub rows_behind : Option (Text × List Row) → List Row
+rows_behind None = []
+rows_behind (Some found) = found.1
 
 unfoldable pub Asks : Asked → Option (Text × List Row) → Type 0
-Asks (Dump file own) found = IsDump found × (file.now ≡ text_in found (codes "file") (codes "-")) × (own.now ≡ text_in found (codes "own") own_text)
-Asks Other found = ¬ IsDump found
-
--- the text has 24 hex digits, in either case
-abbrev pub IsPrefixText : Text → Type 0
-IsPrefixText text = (length text ≡ 24) × AllPass is_hex_digit text
+Asks (Dump file own) found =
+    IsDump found × (file.now ≡ text_or (codes "file") (codes "-") (rows_behind found)) × (own.now ≡ text_or (codes "own") own_text (rows_behind found))
+Asks (Replay options) found = IsReplay found × AreOptions options (rows_behind found)
+Asks Other found = ¬ IsDump found × ¬ IsReplay found
 
 -- what is refused before a file is opened
 unfoldable pub RefusesFirst : Asked → Result (Unit {0}) ListenFault → Type 0
 RefusesFirst (Dump file own) result = ¬ IsPrefixText own.now → result ≡ Err BadPrefix
+RefusesFirst (Replay options) result = Refuses options result
 RefusesFirst Other result = result ≡ Err NotBuilt

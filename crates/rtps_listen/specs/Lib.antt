@@ -1,3 +1,6 @@
 pub mod Asked
+pub mod Configs
+pub mod Identities
 pub mod Line
+pub mod Options
 pub mod Status

@@ -31,9 +31,13 @@ batch_rule = record (new_rule (codes "batch")) { value_names = 1; long = Some (c
 abbrev pub readers_rule : Rule
 readers_rule = record (new_rule (codes "readers")) { value_names = 1; long = Some (codes "readers"); parser = Some (Signed (pos 1) (pos 8)); defaults = codes "1" ∷ [] }
 
+-- the topic where none is given
+abbrev pub topic_text : List ℕ
+topic_text = codes "Square"
+
 -- `--topic TEXT`
 abbrev pub topic_rule : Rule
-topic_rule = record (new_rule (codes "topic")) { value_names = 1; long = Some (codes "topic"); defaults = codes "Square" ∷ [] }
+topic_rule = record (new_rule (codes "topic")) { value_names = 1; long = Some (codes "topic"); defaults = topic_text ∷ [] }
 
 -- `--fixed HEX`
 abbrev pub fixed_rule : Rule

@@ -1,19 +1,26 @@
 //! What the words of the command line ask for.
 
-ghost use Rattle.std.specs.Prelude.{◌≡◌, option_map, unwrap_or};
-ghost use Rattle.clap.specs.Words.{first_of, found_of, rows_of};
+ghost use Rattle.std.specs.Prelude.{◌≡◌, ◌≤◌, option_map};
+ghost use Rattle.clap.specs.Words.{found_of, rows_of};
 ghost use Rattle.rtps_listen.specs.Asked.{Asks};
+ghost use Rattle.rtps_listen.specs.Options.{AreOptions, is_set, number_in, one_to_eight, text_or};
 
+use crate::options::Options;
 use clap::ArgMatches;
 
 /// The prefix where `--own` gives none, in hex.
 pub const OWN: &str = "0b0b0b0b0b0b0b0b0b0b0b0b";
+
+/// The topic where `--topic` gives none.
+pub const TOPIC: &str = "Square";
 
 /// What the words ask for.
 #[derive(Clone, Copy, Debug, PartialEq, Eq)]
 pub enum Asked<'a> {
     /// The events in a file, as a participant sees them whose prefix stands here in hex.
     Dump { file: &'a str, own: &'a str },
+    /// What readers answer to a file.
+    Replay(Options<'a>),
     /// What isn't there yet.
     Other,
 }
@@ -21,11 +28,53 @@ pub enum Asked<'a> {
 /// The first value behind this name, or else `other`.
 #[tactic(auto, using(crate::proofs::Found::first_text))]
 fn text_in<'a>(matches: &ArgMatches<'a>, name: &str, other: &'a str) -> &'a str
-    ensures { result.now ≡ unwrap_or (first_of name.now (rows_of (found_of matches.now))) other.entry.now }
+    ensures { result.now ≡ text_or name.now other.entry.now (rows_of (found_of matches.now)) }
 {
     match matches.get_str(name) {
         Some(text) => text,
         None => other,
+    }
+}
+
+/// Whether the flag of this name is set, as clap's `get_flag` answers it.
+fn flag_in(matches: &ArgMatches<'_>, name: &str) -> bool
+    ensures { result ≡ is_set name.now (rows_of (found_of matches.now)) }
+{
+    matches.get_one::<bool>(name).unwrap_or(false)
+}
+
+/// The number behind this name, or 0.
+fn number_in(matches: &ArgMatches<'_>, name: &str) -> u8
+    ensures { result ≡ number_in name.now (rows_of (found_of matches.now)) }
+{
+    matches.get_one::<u8>(name).unwrap_or(0)
+}
+
+/// A number from 1 to 8, and 1 in the place of any other one.
+fn one_to_eight(number: u8) -> u8
+    ensures value { result ≡ one_to_eight number }
+    ensures some { 1 ≤ result }
+    ensures few { result ≤ 8 }
+{
+    match number {
+        1..=8 => number,
+        _ => 1,
+    }
+}
+
+/// The options behind `replay`. `--workers` and `--batch` change nothing, so they aren't among them.
+fn options_in<'a>(matches: &ArgMatches<'a>) -> Options<'a>
+    ensures { AreOptions result (rows_of (found_of matches.now)) }
+{
+    Options {
+        file: text_in(matches, "file", "-"),
+        readers: one_to_eight(number_in(matches, "readers")),
+        topic: text_in(matches, "topic", TOPIC),
+        own: text_in(matches, "own", OWN),
+        fixed: matches.get_str("fixed"),
+        best_effort: flag_in(matches, "best-effort"),
+        raw: flag_in(matches, "raw"),
+        summary: flag_in(matches, "summary"),
     }
 }
 
@@ -45,6 +94,8 @@ pub fn asked_by<'a>(found: Option<(&'a str, &ArgMatches<'a>)>) -> Asked<'a>
                     file: text_in(matches, "file", "-"),
                     own: text_in(matches, "own", OWN),
                 }
+            } else if name == "replay" {
+                Asked::Replay(options_in(matches))
             } else {
                 Asked::Other
             }

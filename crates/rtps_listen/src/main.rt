@@ -1,23 +1,32 @@
-//! Prints what record files hold.
+//! Prints what record files hold, and what readers make of it.
 #![tactic(auto)]
 
-ghost use Rattle.std.specs.Prelude.{◌≡◌};
+ghost use Rattle.std.specs.Prelude.{◌≡◌, Ok};
+ghost use Rattle.rtps_discovery.specs.Config.{check_of};
 ghost use Rattle.std.specs.Process.{exit_status};
 ghost use Rattle.rtps_listen.specs.Asked.{RefusesFirst};
+ghost use Rattle.rtps_listen.specs.Configs.{Refuses};
+ghost use Rattle.rtps_listen.specs.Identities.{IsPrefixText};
 ghost use Rattle.rtps_listen.specs.Status.{status_after};
 
 mod asked;
+mod config;
 mod fault;
+mod options;
 mod prefix;
 mod words;
 
 use asked::Asked;
 use clap::Error;
 use clap::error::ErrorKind;
+use config::config_of;
+use dds_topic::{Raw, Shapes};
 use fault::ListenFault;
+use options::Options;
 use prefix::prefix_of;
+use rtps_discovery::Config;
 use rtps_records::RunFault;
-use rtps_text::dump;
+use rtps_text::{dump, replay};
 use rtps_types::GuidPrefix;
 use std::alloc::Global;
 use std::fs::File;
@@ -83,9 +92,16 @@ fn words_given(rt: &HostRuntime) -> Result<Vec<String>, ListenFault> {
 fn answer(rt: &HostRuntime, asked: Asked<'_>) -> Result<(), ListenFault>
     ensures { RefusesFirst asked.entry result }
 {
-    let Asked::Dump { file, own } = asked else {
-        return Err(ListenFault::NotBuilt);
-    };
+    match asked {
+        Asked::Dump { file, own } => answer_dump(rt, file, own),
+        Asked::Replay(options) => answer_replay(rt, &options),
+        Asked::Other => Err(ListenFault::NotBuilt),
+    }
+}
+
+fn answer_dump(rt: &HostRuntime, file: &str, own: &str) -> Result<(), ListenFault>
+    ensures { ¬ IsPrefixText own.now → result ≡ Err ListenFault.BadPrefix }
+{
     let Some(own) = prefix_of(own) else {
         return Err(ListenFault::BadPrefix);
     };
@@ -93,6 +109,66 @@ fn answer(rt: &HostRuntime, asked: Asked<'_>) -> Result<(), ListenFault>
         Ok(()) => Ok(()),
         Err(fault) => Err(ListenFault::Run(fault)),
     }
+}
+
+fn answer_replay(rt: &HostRuntime, options: &Options<'_>) -> Result<(), ListenFault>
+    ensures { Refuses options.now result }
+{
+    match config_of(rt.alloc(), options) {
+        Ok(config) => replay_file(rt, config, options),
+        Err(fault) => Err(fault),
+    }
+}
+
+/// The run over standard input where the name is `-`, else over the file of that name.
+fn replay_file(rt: &HostRuntime, config: Config, options: &Options<'_>) -> Result<(), ListenFault>
+    requires checked { check_of config ≡ Ok tt }
+{
+    let outcome = if options.file == "-" {
+        replay_from(rt, config, options, rt.stdin())
+    } else {
+        match File::open(rt, options.file) {
+            Ok(opened) => replay_from(rt, config, options, opened),
+            Err(_) => Err(RunFault::CannotRead),
+        }
+    };
+    match outcome {
+        Ok(()) => Ok(()),
+        Err(fault) => Err(ListenFault::Run(fault)),
+    }
+}
+
+fn replay_from<R: Read + Drop>(
+    rt: &HostRuntime,
+    config: Config,
+    options: &Options<'_>,
+    reader: R,
+) -> Result<(), RunFault>
+    requires checked { check_of config ≡ Ok tt }
+{
+    let alloc: Global = rt.alloc();
+    let Ok(mut reader) = BufReader::with_capacity(alloc, READ_AHEAD, reader) else {
+        return Err(RunFault::NoMemory);
+    };
+    let mut writer = rt.stdout();
+    if options.raw {
+        return replay(
+            alloc,
+            config,
+            Raw,
+            options.summary,
+            &mut reader,
+            &mut writer,
+        );
+    }
+    replay(
+        alloc,
+        config,
+        Shapes,
+        options.summary,
+        &mut reader,
+        &mut writer,
+    )
 }
 
 /// Standard input where the name is `-`, else the file of that name.

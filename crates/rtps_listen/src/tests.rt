@@ -1,3 +1,7 @@
+//! Lines that were written down by hand, and what they ask for.
+
+mod replay;
+
 use crate::asked::{Asked, OWN};
 use crate::fault::ListenFault;
 use crate::prefix::prefix_of;
@@ -5,10 +9,18 @@ use crate::words::read_words;
 use clap::error::ErrorKind;
 use rtps_records::RunFault;
 use rtps_types::GuidPrefix;
+use std::alloc::Global;
 use std::test::Fail;
 
+/// The words of a line, the program's name first.
+fn words(alloc: Global, line: &[&'static str]) -> Result<Vec<&'static str>, Fail> {
+    let mut words = ["rtps_listen"].to_vec(alloc)?;
+    words.extend_from_slice(line)?;
+    Ok(words)
+}
+
 #[test]
-fn good_lines(rt: HostRuntime) -> Result<(), Fail> {
+fn lines_of_dump(rt: HostRuntime) -> Result<(), Fail> {
     let nothing = Asked::Dump {
         file: "-",
         own: OWN,
@@ -22,98 +34,85 @@ fn good_lines(rt: HostRuntime) -> Result<(), Fail> {
         (["dump", "-"].as_slice(), nothing),
         (["dump", "--own", "", "a b"].as_slice(), other),
         (["dump", "a b", "--own="].as_slice(), other),
-        (
-            ["replay", "-", "--workers", "64", "--batch", "4096"].as_slice(),
-            Asked::Other,
-        ),
-        (
-            ["replay", "--readers", "8", "--topic", "-", "-", "--raw"].as_slice(),
-            Asked::Other,
-        ),
-        (
-            ["samples", "-", "--best-effort", "--summary", "--fixed", "x"].as_slice(),
-            Asked::Other,
-        ),
-        (
-            ["listen", "--domain", "0", "--count", "1"].as_slice(),
-            Asked::Other,
-        ),
-        (
-            [
-                "listen", "--count", "65536", "--turns", "100000", "--domain", "232",
-            ]
-            .as_slice(),
-            Asked::Other,
-        ),
     ] {
-        let mut words = ["rtps_listen"].to_vec(rt.alloc())?;
-        words.extend_from_slice(line)?;
+        let words = words(rt.alloc(), line)?;
         assert_eq!(rt; read_words(rt.alloc(), words.as_slice())?, asked);
     }
     Ok(())
 }
 
+/// Good lines of what is not built.
+const OTHERS: [&[&str]; 3] = [
+    &["samples", "-", "--best-effort", "--summary", "--fixed", "x"],
+    &["listen", "--domain", "0", "--count", "1"],
+    &[
+        "listen", "--count", "65536", "--turns", "100000", "--domain", "232",
+    ],
+];
+
+#[test]
+fn lines_of_other_commands(rt: HostRuntime) -> Result<(), Fail> {
+    for line in OTHERS {
+        let words = words(rt.alloc(), line)?;
+        assert_eq!(rt; read_words(rt.alloc(), words.as_slice())?, Asked::Other);
+    }
+    Ok(())
+}
+
+/// Bad lines, and what is bad of each.
+const BAD: [(&[&str], ErrorKind); 19] = [
+    (&["dump"], ErrorKind::MissingRequiredArgument),
+    (&["dump", "-", "-"], ErrorKind::UnknownArgument),
+    (&["dump", "-", "--raw"], ErrorKind::UnknownArgument),
+    (&["dump", "-", "--own"], ErrorKind::InvalidValue),
+    (
+        &["dump", "-", "--own", "0b", "--own", "0b"],
+        ErrorKind::ArgumentConflict,
+    ),
+    (&["dump", "-", "--own", "-b"], ErrorKind::UnknownArgument),
+    (&["--own", "0b", "dump", "-"], ErrorKind::UnknownArgument),
+    (&["-"], ErrorKind::InvalidSubcommand),
+    (&["print", "-"], ErrorKind::InvalidSubcommand),
+    (&["--help"], ErrorKind::DisplayHelp),
+    (&["help", "dump"], ErrorKind::DisplayHelp),
+    (
+        &["replay", "-", "--workers", "0"],
+        ErrorKind::ValueValidation,
+    ),
+    (
+        &["replay", "-", "--workers", "65"],
+        ErrorKind::ValueValidation,
+    ),
+    (
+        &["replay", "-", "--batch", "4097"],
+        ErrorKind::ValueValidation,
+    ),
+    (
+        &["samples", "-", "--readers", "9"],
+        ErrorKind::ValueValidation,
+    ),
+    (
+        &["samples", "-", "--raw", "--raw"],
+        ErrorKind::ArgumentConflict,
+    ),
+    (
+        &["listen", "--count", "1"],
+        ErrorKind::MissingRequiredArgument,
+    ),
+    (
+        &["listen", "--domain", "233", "--count", "1"],
+        ErrorKind::ValueValidation,
+    ),
+    (
+        &["listen", "--domain", "0", "--count", "0"],
+        ErrorKind::ValueValidation,
+    ),
+];
+
 #[test]
 fn bad_lines(rt: HostRuntime) -> Result<(), Fail> {
-    for (line, kind) in [
-        (["dump"].as_slice(), ErrorKind::MissingRequiredArgument),
-        (["dump", "-", "-"].as_slice(), ErrorKind::UnknownArgument),
-        (
-            ["dump", "-", "--raw"].as_slice(),
-            ErrorKind::UnknownArgument,
-        ),
-        (["dump", "-", "--own"].as_slice(), ErrorKind::InvalidValue),
-        (
-            ["dump", "-", "--own", "0b", "--own", "0b"].as_slice(),
-            ErrorKind::ArgumentConflict,
-        ),
-        (
-            ["dump", "-", "--own", "-b"].as_slice(),
-            ErrorKind::UnknownArgument,
-        ),
-        (
-            ["--own", "0b", "dump", "-"].as_slice(),
-            ErrorKind::UnknownArgument,
-        ),
-        (["-"].as_slice(), ErrorKind::InvalidSubcommand),
-        (["print", "-"].as_slice(), ErrorKind::InvalidSubcommand),
-        (["--help"].as_slice(), ErrorKind::DisplayHelp),
-        (["help", "dump"].as_slice(), ErrorKind::DisplayHelp),
-        (
-            ["replay", "-", "--workers", "0"].as_slice(),
-            ErrorKind::ValueValidation,
-        ),
-        (
-            ["replay", "-", "--workers", "65"].as_slice(),
-            ErrorKind::ValueValidation,
-        ),
-        (
-            ["replay", "-", "--batch", "4097"].as_slice(),
-            ErrorKind::ValueValidation,
-        ),
-        (
-            ["samples", "-", "--readers", "9"].as_slice(),
-            ErrorKind::ValueValidation,
-        ),
-        (
-            ["samples", "-", "--raw", "--raw"].as_slice(),
-            ErrorKind::ArgumentConflict,
-        ),
-        (
-            ["listen", "--count", "1"].as_slice(),
-            ErrorKind::MissingRequiredArgument,
-        ),
-        (
-            ["listen", "--domain", "233", "--count", "1"].as_slice(),
-            ErrorKind::ValueValidation,
-        ),
-        (
-            ["listen", "--domain", "0", "--count", "0"].as_slice(),
-            ErrorKind::ValueValidation,
-        ),
-    ] {
-        let mut words = ["rtps_listen"].to_vec(rt.alloc())?;
-        words.extend_from_slice(line)?;
+    for (line, kind) in BAD {
+        let words = words(rt.alloc(), line)?;
         match read_words(rt.alloc(), words.as_slice()) {
             Ok(_) => assert!(rt; false, "{line:?}"),
             Err(error) => assert_eq!(rt; error.kind(), kind, "{line:?}"),

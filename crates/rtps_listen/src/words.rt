@@ -7,7 +7,7 @@ ghost use Rattle.rtps_listen.specs.Asked.{Asks};
 ghost use Rattle.rtps_listen.specs.Line as line;
 ghost use Rattle.rtps_listen.specs.Line.{IsPlainApp, IsPlainRule};
 
-use crate::asked::{Asked, OWN, asked_by};
+use crate::asked::{Asked, OWN, TOPIC, asked_by};
 use clap::{Arg, ArgAction, ArgMatches, Command, Error, value_parser};
 use std::alloc::{AllocError, Global};
 use std::convert::AsStr;
@@ -180,7 +180,7 @@ fn topic<'a>(alloc: Global) -> Arg<'a>
         .value_name("TEXT")
         .help("The topic of the readers")
         .long("topic")
-        .default_value("Square")
+        .default_value(TOPIC)
 }
 
 fn fixed<'a>(alloc: Global) -> Arg<'a>

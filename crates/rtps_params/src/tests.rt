@@ -4,7 +4,7 @@ use crate::*;
 use rtps_types::Endian;
 use std::test::Fail;
 
-/// A key hash, padding of four octets, a status info and the end, then two more octets.
+/// A key hash, padding of four octets, a status info and the end, then four more octets.
 const LITTLE: [u8; 44] = [
     0x70, 0x00, 0x10, 0x00, 0, 1, 2, 3, 4, 5, 6, 7, 8, 9, 10, 11, 12, 13, 14, 15, //
     0x00, 0x00, 0x04, 0x00, 0xee, 0xee, 0xee, 0xee, //
@@ -46,59 +46,27 @@ fn the_end_in_the_last_octets(rt: HostRuntime) -> Result<(), Fail> {
 }
 
 /// Octets in little-endian order, and the fault that is met first.
-#[derive(Clone, Copy)]
-struct Faulty<'a> {
-    octets: &'a [u8],
-    fault: ParamFault,
-}
+const FAULTY: [(&[u8], ParamFault); 9] = [
+    (&[], ParamFault::NoEnd),
+    (&[0x70], ParamFault::Short),
+    (&[0x70, 0, 4], ParamFault::Short),
+    (&[0x70, 0, 4, 0, 1, 2, 3], ParamFault::Short),
+    (&[0x70, 0, 4, 0, 1, 2, 3, 4], ParamFault::NoEnd),
+    (&[0x70, 0, 0, 0, 0x01], ParamFault::Short),
+    (
+        &[0x70, 0, 3, 0, 1, 2, 3, 0, 1, 0, 0, 0],
+        ParamFault::OddLength,
+    ),
+    // An odd length that also passes the end is odd.
+    (&[0x70, 0, 9, 0, 1], ParamFault::OddLength),
+    // Padding is measured like any parameter.
+    (&[0, 0, 2, 0, 1, 2, 1, 0, 0, 0], ParamFault::OddLength),
+];
 
 #[test]
 fn the_first_fault_is_answered(rt: HostRuntime) {
-    let table = [
-        Faulty {
-            octets: &[],
-            fault: ParamFault::NoEnd,
-        },
-        Faulty {
-            octets: &[0x70],
-            fault: ParamFault::Short,
-        },
-        Faulty {
-            octets: &[0x70, 0, 4],
-            fault: ParamFault::Short,
-        },
-        Faulty {
-            octets: &[0x70, 0, 4, 0, 1, 2, 3],
-            fault: ParamFault::Short,
-        },
-        Faulty {
-            octets: &[0x70, 0, 4, 0, 1, 2, 3, 4],
-            fault: ParamFault::NoEnd,
-        },
-        Faulty {
-            octets: &[0x70, 0, 0, 0, 0x01],
-            fault: ParamFault::Short,
-        },
-        Faulty {
-            octets: &[0x70, 0, 3, 0, 1, 2, 3, 0, 1, 0, 0, 0],
-            fault: ParamFault::OddLength,
-        },
-        // An odd length that also passes the end is odd.
-        Faulty {
-            octets: &[0x70, 0, 9, 0, 1],
-            fault: ParamFault::OddLength,
-        },
-        // Padding is measured like any parameter.
-        Faulty {
-            octets: &[0, 0, 2, 0, 1, 2, 1, 0, 0, 0],
-            fault: ParamFault::OddLength,
-        },
-    ];
-    for row in &table {
-        assert_eq!(rt;
-            ParamList::new(row.octets, Endian::Little).err(),
-            Some(row.fault)
-        );
+    for (octets, fault) in FAULTY {
+        assert_eq!(rt; ParamList::new(octets, Endian::Little).err(), Some(fault));
     }
 }
 

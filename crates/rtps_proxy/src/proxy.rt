@@ -4,6 +4,7 @@ ghost use Rattle.std.specs.Prelude.{◌≡◌, ◌∷◌, [], List, IfOk, IsErr,
 ghost use Rattle.rtps_proxy.specs.Effects.{AreEffects, BestEffortStandsAt, came};
 ghost use Rattle.rtps_receiver.specs.declared.body.Body.TheVariants as body;
 ghost use Rattle.rtps_proxy.specs.History.{Came};
+ghost use Rattle.rtps_proxy.specs.Kept.{whom};
 
 use crate::change::{Change, Payload};
 use crate::effects::{Effects, ProxyError};
@@ -36,18 +37,19 @@ pub struct WriterProxy<A: Allocator = Global> {
 }
 
 impl<A: Allocator> Model for WriterProxy<A> {
-    ghost use Rattle.rtps_proxy.specs.Kept.{Kept};
+    ghost use Rattle.rtps_proxy.specs.Kept.{Kept, whom};
 
     ghost Value = { Kept };
 
-    ghost view = { λ p. record { spent = p.spent; top = p.top } };
+    ghost view = { λ p. record { whom = whom p.config; spent = p.spent; top = p.top } };
 }
 
 impl<A: Allocator> WriterProxy<A> {
     /// The proxy of a match that begins: nothing came yet. Reliable proxies aren't built yet.
     pub fn new(config: ProxyConfig<A>) -> WriterProxy<A>
         requires best_effort { config.reliable ≡ false }
-        ensures { BestEffortStandsAt [] result }
+        ensures stands { BestEffortStandsAt [] result }
+        ensures whom { result.whom ≡ whom config }
     {
         WriterProxy {
             config,
@@ -65,6 +67,7 @@ impl<A: Allocator> WriterProxy<A> {
     ) -> Result<Effects<'a, A>, ProxyError>
         ensures stands { (past : List Came) → BestEffortStandsAt past self.old → OnOk result (BestEffortStandsAt (came time brought.now ∷ past) self.new) }
         ensures effects { (past : List Came) → BestEffortStandsAt past self.old → IfOk result (AreEffects past (came time brought.now)) }
+        ensures whom { self.new.whom ≡ self.old.whom }
         ensures err { OnErr result (self.new.spent ≡ true) }
         ensures spent { self.old.spent ≡ true → IsErr result }
     {
@@ -87,6 +90,7 @@ impl<A: Allocator> WriterProxy<A> {
     ) -> Result<Effects<'a, A>, ProxyError>
         ensures stands { (past : List Came) → BestEffortStandsAt past self.old → OnOk result (BestEffortStandsAt (came time (body.Whole whole.now) ∷ past) self.new) }
         ensures effects { (past : List Came) → BestEffortStandsAt past self.old → IfOk result (AreEffects past (came time (body.Whole whole.now))) }
+        ensures whom { self.new.whom ≡ self.old.whom }
         ensures err { OnErr result (self.new.spent ≡ true) }
         ensures spent { self.old.spent ≡ true → IsErr result }
     {
@@ -134,6 +138,7 @@ impl<A: Allocator> WriterProxy<A> {
     ) -> Result<Effects<'a, A>, ProxyError>
         ensures stands { (past : List Came) → BestEffortStandsAt past self.old → OnOk result (BestEffortStandsAt (came time (body.Heartbeat heartbeat.now) ∷ past) self.new) }
         ensures effects { (past : List Came) → BestEffortStandsAt past self.old → IfOk result (AreEffects past (came time (body.Heartbeat heartbeat.now))) }
+        ensures whom { self.new.whom ≡ self.old.whom }
         ensures err { OnErr result (self.new.spent ≡ true) }
         ensures spent { self.old.spent ≡ true → IsErr result }
     {
@@ -149,6 +154,7 @@ impl<A: Allocator> WriterProxy<A> {
     ) -> Result<Effects<'a, A>, ProxyError>
         ensures stands { (past : List Came) → BestEffortStandsAt past self.old → OnOk result (BestEffortStandsAt (came time (body.Gap gap.now) ∷ past) self.new) }
         ensures effects { (past : List Came) → BestEffortStandsAt past self.old → IfOk result (AreEffects past (came time (body.Gap gap.now))) }
+        ensures whom { self.new.whom ≡ self.old.whom }
         ensures err { OnErr result (self.new.spent ≡ true) }
         ensures spent { self.old.spent ≡ true → IsErr result }
     {
@@ -164,6 +170,7 @@ impl<A: Allocator> WriterProxy<A> {
     ) -> Result<Effects<'a, A>, ProxyError>
         ensures stands { (past : List Came) → BestEffortStandsAt past self.old → OnOk result (BestEffortStandsAt (came time (body.Fragment fragment.now) ∷ past) self.new) }
         ensures effects { (past : List Came) → BestEffortStandsAt past self.old → IfOk result (AreEffects past (came time (body.Fragment fragment.now))) }
+        ensures whom { self.new.whom ≡ self.old.whom }
         ensures err { OnErr result (self.new.spent ≡ true) }
         ensures spent { self.old.spent ≡ true → IsErr result }
     {
@@ -179,6 +186,7 @@ impl<A: Allocator> WriterProxy<A> {
     ) -> Result<Effects<'a, A>, ProxyError>
         ensures stands { (past : List Came) → BestEffortStandsAt past self.old → OnOk result (BestEffortStandsAt (came time (body.HeartbeatFrag heartbeat.now) ∷ past) self.new) }
         ensures effects { (past : List Came) → BestEffortStandsAt past self.old → IfOk result (AreEffects past (came time (body.HeartbeatFrag heartbeat.now))) }
+        ensures whom { self.new.whom ≡ self.old.whom }
         ensures err { OnErr result (self.new.spent ≡ true) }
         ensures spent { self.old.spent ≡ true → IsErr result }
     {

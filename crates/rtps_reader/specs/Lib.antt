@@ -4,3 +4,4 @@ pub mod Reader
 pub mod Standing
 pub mod Notices
 pub mod Asked
+pub mod Listed

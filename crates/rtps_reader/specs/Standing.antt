@@ -2,6 +2,7 @@
 use Rattle.std.specs.Prelude.{◌≡◌, ◌+◌, false, Bool, ℕ, List, [], ◌∷◌, map, length, Option, Some, None}
 use Rattle.rtps_types.specs.declared.identity.EntityId.{EntityId}
 use Rattle.rtps_types.specs.declared.identity.Guid.{Guid}
+use Rattle.rtps_types.specs.declared.identity.GuidPrefix.{GuidPrefix}
 use Rattle.rtps_types.specs.declared.traffic.WriterFacts.{WriterFacts}
 use Rattle.rtps_proxy.specs.declared.effects.Effects.{Effects}
 use Rattle.rtps_proxy.specs.Effects.{AreEffects, BestEffortStandsAt}
@@ -19,6 +20,8 @@ pub record SeatKept : Type 0 where
   pub proxy : Kept
 
 pub record ReaderKept : Type 0 where
+  pub rank : ℕ
+  pub own : GuidPrefix
   pub spent : Bool
   pub entity : EntityId
   pub seats : List SeatKept

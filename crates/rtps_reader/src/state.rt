@@ -1,12 +1,14 @@
 //! A reader's state, and its steps.
 
 ghost use Rattle.std.specs.Prelude.{◌≡◌, ◌++◌, List, map, IfOk, IsErr, OnErr, OnOk, false, position, true};
+ghost use Rattle.std.specs.BTreeSet.{insert_key};
 ghost use Rattle.rtps_proxy.specs.Effects.{came};
 ghost use Rattle.rtps_receiver.specs.Events.{view};
 ghost use Rattle.rtps_reader.specs.Body.{body_by};
 ghost use Rattle.rtps_reader.specs.Notices.{notice_view};
 ghost use Rattle.rtps_reader.specs.Reader.{Match, Reader, extended, first_reader, names, past_of, reader_after, same_guid, tells};
 ghost use Rattle.rtps_reader.specs.Asked.{asked};
+ghost use Rattle.rtps_reader.specs.Listed.{match_order, with_writers};
 ghost use Rattle.rtps_reader.specs.Standing.{AllStand, AreTaken, StandsAt, fresh_for, seat_view, writer_in};
 
 use crate::notice::Output;
@@ -18,6 +20,7 @@ use rtps_proxy::{Effects, ProxyConfig, ProxyError, WriterProxy};
 use rtps_receiver::Event;
 use rtps_types::{EntityId, Guid, GuidPrefix, Locators, Place, WriterFacts};
 use std::alloc::{AllocError, AllocFailed, Allocator, Global};
+use std::collections::BTreeSet;
 use std::marker::Model;
 use thiserror::Error;
 
@@ -80,7 +83,7 @@ impl<A: Allocator> Model for ReaderState<A> {
 
     ghost Value = { ReaderKept };
 
-    ghost view = { λ r. record { spent = r.spent; entity = r.entity; seats = map seat_view r.seats.items; status = r.status } };
+    ghost view = { λ r. record { rank = r.rank; own = r.own; spent = r.spent; entity = r.entity; seats = map seat_view r.seats.items; status = r.status } };
 }
 
 impl<A: Allocator + Copy> ReaderState<A> {
@@ -95,7 +98,8 @@ impl<A: Allocator + Copy> ReaderState<A> {
         fixed: &[WriterFacts<A>],
     ) -> Result<ReaderState<A>, ReaderError>
         requires best_effort { reliable ≡ false }
-        ensures { IfOk result (StandsAt (first_reader entity (map writer_in fixed.now))) }
+        ensures stands { IfOk result (StandsAt (first_reader entity (map writer_in fixed.now))) }
+        ensures place { IfOk result (λ r. (r.rank ≡ rank) × (r.own ≡ own)) }
     {
         let seats = seats_for(alloc, own, entity, reliable, fixed)?;
         let count = fixed.len() as u64;
@@ -134,6 +138,7 @@ impl<A: Allocator + Copy> ReaderState<A> {
             ≡ map (notice_view C.view) output.old.notices.items
             ++ tells (body_by (C.meaning catalog.now) (C.hash catalog.now) (C.hash_of_key catalog.now)) r step.now.place (asked step.now.what)) }
         ensures answers { output.new.answers ≡ output.old.answers }
+        ensures place { (self.new.rank ≡ self.old.rank) × (self.new.own ≡ self.old.own) }
         ensures err { OnErr result (self.new.spent ≡ true) }
         ensures spent { self.old.spent ≡ true → IsErr result }
     {
@@ -159,6 +164,7 @@ impl<A: Allocator + Copy> ReaderState<A> {
             ≡ map (notice_view C.view) output.old.notices.items
             ++ tells (body_by (C.meaning catalog.now) (C.hash catalog.now) (C.hash_of_key catalog.now)) r place (view event.now)) }
         ensures answers { output.new.answers ≡ output.old.answers }
+        ensures place { (self.new.rank ≡ self.old.rank) × (self.new.own ≡ self.old.own) }
         ensures err { OnErr result (self.new.spent ≡ true) }
         ensures spent { self.old.spent ≡ true → IsErr result }
     {
@@ -185,6 +191,20 @@ impl<A: Allocator + Copy> ReaderState<A> {
         )?;
         self.spent = false;
         Ok(())
+    }
+
+    /// Its place among the readers of its participant, counted from 0.
+    pub fn rank(&self) -> u32
+        ensures { result ≡ self.now.rank }
+    {
+        self.rank
+    }
+
+    /// Adds its matches to a set, each as its rank and the writer.
+    pub fn add_matches(&self, matches: &mut BTreeSet<(u32, Guid), A>) -> Result<(), ReaderError>
+        ensures { OnOk result (matches.new.keys ≡ with_writers matches.old.keys self.now.rank (map (λ seat. seat.writer) self.now.seats)) }
+    {
+        add_each(&self.seats, self.rank, matches)
     }
 
     /// How the reader stands with its writers.
@@ -247,6 +267,32 @@ fn take_event<'a, A: Allocator>(
     };
     let effects = seats[at].proxy.on_event(alloc, event.time, &event.body)?;
     Ok(Some(effects))
+}
+
+/// Adds matches of the reader of a rank to a set.
+fn add_each<A: Allocator + Copy>(
+    seats: &[Seat<A>],
+    rank: u32,
+    matches: &mut BTreeSet<(u32, Guid), A>,
+) -> Result<(), ReaderError>
+    ensures { OnOk result (matches.new.keys ≡ with_writers matches.old.keys rank (map (λ seat. seat.writer) (map seat_view seats.now))) }
+{
+    for seat in seats {
+        add_match(matches, rank, seat.writer)?;
+    }
+    Ok(())
+}
+
+/// Adds a match to a set.
+fn add_match<A: Allocator + Copy>(
+    matches: &mut BTreeSet<(u32, Guid), A>,
+    rank: u32,
+    writer: Guid,
+) -> Result<(), ReaderError>
+    ensures { OnOk result (matches.new.keys ≡ insert_key match_order matches.old.keys (rank, writer)) }
+{
+    matches.insert((rank, writer))?;
+    Ok(())
 }
 
 /// The place of the match with a writer.

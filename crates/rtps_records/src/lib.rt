@@ -10,7 +10,9 @@ mod transfer;
 
 pub use fault::RunFault;
 pub use printer::{EachRecord, Printer, RecordText};
-pub use printing::{print_records, print_records_in};
+pub use printing::{print_records, print_records_in, spill, zeros};
+pub use records::{MAX_LEN, next_record, read_magic};
+pub use transfer::{flush_all, put_all};
 
 #[cfg(test)]
 mod tests;

@@ -52,7 +52,7 @@ pub fn print_records_in<A: Allocator, P: Printer, R: Read, W: Write>(
 }
 
 /// A buffer of this many octets.
-fn zeros<A: Allocator>(alloc: A, count: usize) -> Result<Vec<u8, A>, AllocError>
+pub fn zeros<A: Allocator>(alloc: A, count: usize) -> Result<Vec<u8, A>, AllocError>
     ensures { IfOk result (λ v. vec_len v ≡ count) }
 {
     vec![in alloc; 0u8; count]
@@ -105,8 +105,8 @@ fn run<A: Allocator, P: Printer, R: Read, W: Write>(
     unreachable!()
 }
 
-/// Writes a text that has grown long, and empties it.
-fn spill<A: Allocator, W: Write>(writer: &mut W, text: &mut Vec<u8, A>) -> Result<(), RunFault>
+/// Writes a text that has grown to 64 KiB, and empties it; a shorter one is kept back.
+pub fn spill<A: Allocator, W: Write>(writer: &mut W, text: &mut Vec<u8, A>) -> Result<(), RunFault>
     ensures ok { OnOk result (Spills (W.contents writer.old) (W.contents writer.new) text.old.items text.new.items) }
     ensures fault { IfErr result (λ fault. fault ≡ CannotWrite) }
     ensures front { OnErr result (PutsFront (W.contents writer.old) (W.contents writer.new) text.old.items) }

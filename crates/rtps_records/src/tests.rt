@@ -2,8 +2,10 @@ ghost use Rattle.std.specs.Prelude.{◌≡◌, ℕ, List, [], ◌∷◌, ◌++�
 ghost use Rattle.std.specs.Fmt.{decimal};
 ghost use Rattle.rtps_records.specs.Text.{nothing_is_front};
 
-use crate::records::next_record;
-use crate::{EachRecord, Printer, RecordText, RunFault, print_records, print_records_in};
+use crate::{
+    EachRecord, MAX_LEN, Printer, RecordText, RunFault, flush_all, next_record, print_records,
+    print_records_in, put_all, read_magic, spill, zeros,
+};
 use linked_list_allocator::LocalHeap;
 use std::alloc::{AllocError, Allocator, Global};
 use std::io::{self, Error, ErrorKind, Read, Write};
@@ -159,53 +161,32 @@ fn printed(alloc: Global, file: &[u8]) -> (Result<(), RunFault>, Vec<u8>) {
     (outcome, out)
 }
 
+/// Files, the text that is printed of each, and how the run ends.
+const ENDS: [(&[u8], &[u8], Result<(), RunFault>); 11] = [
+    (FILE, TEXT, Ok(())),
+    (b"RDG1", b"", Ok(())),
+    (b"", b"", Err(RunFault::NotRecordFile)),
+    (b"RDG", b"", Err(RunFault::NotRecordFile)),
+    (b"RDG2", b"", Err(RunFault::NotRecordFile)),
+    (b"RDG1\0", b"", Err(RunFault::CutRecord(0))),
+    (b"RDG1\xff\xff\xff", b"", Err(RunFault::CutRecord(0))),
+    (
+        b"RDG1\0\0\0\x01a\0\0\0\x10\xff\xff",
+        b"0 1\n",
+        Err(RunFault::CutRecord(1)),
+    ),
+    (b"RDG1\0\0\xff\xe3ab", b"", Err(RunFault::CutRecord(0))),
+    (b"RDG1\0\0\xff\xe4ab", b"", Err(RunFault::RecordTooLong(0))),
+    (
+        b"RDG1\0\0\0\0\xff\xff\xff\xff",
+        b"0 0\n",
+        Err(RunFault::RecordTooLong(1)),
+    ),
+];
+
 #[test]
 fn tells_each_end(rt: HostRuntime) -> Result<(), Fail> {
-    for (file, text, outcome) in [
-        (FILE.as_slice(), TEXT.as_slice(), Ok(())),
-        (b"RDG1".as_slice(), b"".as_slice(), Ok(())),
-        (b"".as_slice(), b"".as_slice(), Err(RunFault::NotRecordFile)),
-        (
-            b"RDG".as_slice(),
-            b"".as_slice(),
-            Err(RunFault::NotRecordFile),
-        ),
-        (
-            b"RDG2".as_slice(),
-            b"".as_slice(),
-            Err(RunFault::NotRecordFile),
-        ),
-        (
-            b"RDG1\0".as_slice(),
-            b"".as_slice(),
-            Err(RunFault::CutRecord(0)),
-        ),
-        (
-            b"RDG1\xff\xff\xff".as_slice(),
-            b"".as_slice(),
-            Err(RunFault::CutRecord(0)),
-        ),
-        (
-            b"RDG1\0\0\0\x01a\0\0\0\x10\xff\xff".as_slice(),
-            b"0 1\n".as_slice(),
-            Err(RunFault::CutRecord(1)),
-        ),
-        (
-            b"RDG1\0\0\xff\xe3ab".as_slice(),
-            b"".as_slice(),
-            Err(RunFault::CutRecord(0)),
-        ),
-        (
-            b"RDG1\0\0\xff\xe4ab".as_slice(),
-            b"".as_slice(),
-            Err(RunFault::RecordTooLong(0)),
-        ),
-        (
-            b"RDG1\0\0\0\0\xff\xff\xff\xff".as_slice(),
-            b"0 0\n".as_slice(),
-            Err(RunFault::RecordTooLong(1)),
-        ),
-    ] {
+    for (file, text, outcome) in ENDS {
         let (found, out) = printed(rt.alloc(), file);
         assert_eq!(rt; found, outcome);
         assert_eq!(rt; out.as_slice(), text);
@@ -226,8 +207,37 @@ fn takes_the_longest_record(rt: HostRuntime) -> Result<(), Fail> {
 }
 
 #[test]
+fn a_file_is_read_record_by_record(rt: HostRuntime) -> Result<(), Fail> {
+    let mut buffer = [0u8; MAX_LEN];
+    let mut file = FILE.as_slice();
+    assert_eq!(rt; read_magic(&mut file), Ok(()));
+    for (number, wanted) in [(0, b"hi".as_slice()), (1, b""), (2, b"abc")] {
+        let next = next_record(&mut file, &mut buffer, number);
+        assert_eq!(rt; next, Ok(Some(wanted.len())));
+        assert_eq!(rt; buffer.get(..wanted.len()), Some(wanted));
+    }
+    assert_eq!(rt; next_record(&mut file, &mut buffer, 3), Ok(None));
+    Ok(())
+}
+
+#[test]
+fn text_is_kept_back_until_it_is_long(rt: HostRuntime) -> Result<(), Fail> {
+    let mut out = Vec::new(rt.alloc());
+    let mut text = zeros(rt.alloc(), 65_535)?;
+    assert_eq!(rt; spill(&mut out, &mut text), Ok(()));
+    assert_eq!(rt; (out.len(), text.len()), (0, 65_535));
+    text.push(1)?;
+    assert_eq!(rt; spill(&mut out, &mut text), Ok(()));
+    assert_eq!(rt; (out.len(), text.len()), (65_536, 0));
+    assert_eq!(rt; put_all(&mut out, b"hi"), Ok(()));
+    assert_eq!(rt; flush_all(&mut out), Ok(()));
+    assert_eq!(rt; out.get(65_534..), Some(b"\0\x01hi".as_slice()));
+    Ok(())
+}
+
+#[test]
 fn takes_no_record_behind_the_greatest_number(rt: HostRuntime) -> Result<(), Fail> {
-    let mut buffer = [0u8; 65_507];
+    let mut buffer = [0u8; MAX_LEN];
     let mut some = b"\0".as_slice();
     let mut none = b"".as_slice();
     let behind = next_record(&mut some, &mut buffer, u32::MAX);

@@ -10,7 +10,7 @@ use std::io::{self, Error, ErrorKind, Read, Write};
 
 /// Reads until the buffer is full, the reader gives nothing or a read fails. The first of the
 /// result is the number of octets read. An interrupted read is tried again.
-pub fn fill<R: Read>(reader: &mut R, buffer: &mut [u8]) -> (usize, io::Result<()>)
+pub(crate) fn fill<R: Read>(reader: &mut R, buffer: &mut [u8]) -> (usize, io::Result<()>)
     ensures within { result.0 ≤ length buffer.old }
     ensures taken { Consumes (R.remaining reader.old) (R.remaining reader.new) (take result.0 buffer.new) }
     ensures end { OnOk result.1 (result.0 < length buffer.old → IsAtEnd (R.remaining reader.new)) }

@@ -2,3 +2,5 @@ pub mod Hex
 pub mod Line
 pub mod Views
 pub mod EventLines
+pub mod Told
+pub mod Replayed

@@ -12,7 +12,7 @@ use rtps_types::{Place, Timestamp};
 use std::alloc::{AllocError, Allocator};
 
 /// Adds a place, as datagram and submessage with a colon between.
-fn push_place<A: Allocator>(out: &mut Vec<u8, A>, place: Place) -> Result<(), AllocError>
+pub(crate) fn push_place<A: Allocator>(out: &mut Vec<u8, A>, place: Place) -> Result<(), AllocError>
     ensures { OnOk result (out.new.items ≡ out.old.items ++ place_text place) }
 {
     push_number(out, place.datagram)?;
@@ -21,7 +21,10 @@ fn push_place<A: Allocator>(out: &mut Vec<u8, A>, place: Place) -> Result<(), Al
 }
 
 /// Adds a time in hex, seconds and fraction with a dot between, or a dash for none.
-fn push_time<A: Allocator>(out: &mut Vec<u8, A>, time: Option<Timestamp>) -> Result<(), AllocError>
+pub(crate) fn push_time<A: Allocator>(
+    out: &mut Vec<u8, A>,
+    time: Option<Timestamp>,
+) -> Result<(), AllocError>
     ensures { OnOk result (out.new.items ≡ out.old.items ++ time_text time) }
 {
     let Some(time) = time else {

@@ -1,18 +1,32 @@
-//! What is printed of record files: a line for each event.
+//! What is printed of record files and of runs over them: a line for each event, and the lines of
+//! what the readers made of the events.
 #![tactic(auto)]
 
+mod answer;
 mod body;
+mod closing;
 mod context;
 mod dumping;
 mod event_lines;
+mod guid;
 mod line;
+mod locators;
+mod notice;
 mod numbers;
 mod octets;
+mod replaying;
+mod reports;
+mod sample;
+mod summary;
 mod word;
 
+pub use answer::push_answer;
 pub use dumping::{dump, dump_in};
 pub use event_lines::EventLines;
 pub use line::push_line;
+pub use notice::push_notice;
+pub use replaying::{replay, replay_in};
+pub use summary::{push_match, push_status};
 
 #[cfg(test)]
 mod tests;

@@ -1,5 +1,8 @@
 //! Lines against a record file that was written down by hand.
 
+mod lines;
+mod runs;
+
 use crate::{dump, dump_in};
 use linked_list_allocator::LocalHeap;
 use rtps_records::RunFault;
@@ -94,7 +97,7 @@ fn prints_a_front_where_a_growth_is_refused(rt: HostRuntime) -> Result<(), Fail>
 
 /// Gives its octets, and then fails.
 #[derive(Drop)]
-struct Failing<'a>(&'a [u8]);
+pub(crate) struct Failing<'a>(pub(crate) &'a [u8]);
 
 impl Read for Failing<'_> {
     fn read(&mut self, buf: &mut [u8]) -> io::Result<usize> {

@@ -38,42 +38,44 @@ struct Spelled {
     little: [u8; 8],
 }
 
+/// Sequence numbers, as both byte orders spell them.
+const SPELLED: [Spelled; 6] = [
+    Spelled {
+        number: 1,
+        big: [0, 0, 0, 0, 0, 0, 0, 1],
+        little: [0, 0, 0, 0, 1, 0, 0, 0],
+    },
+    Spelled {
+        number: 1 << 32,
+        big: [0, 0, 0, 1, 0, 0, 0, 0],
+        little: [1, 0, 0, 0, 0, 0, 0, 0],
+    },
+    // 2^62 and the numbers beside it
+    Spelled {
+        number: 4_611_686_018_427_387_903,
+        big: [0x3f, 0xff, 0xff, 0xff, 0xff, 0xff, 0xff, 0xff],
+        little: [0xff, 0xff, 0xff, 0x3f, 0xff, 0xff, 0xff, 0xff],
+    },
+    Spelled {
+        number: 4_611_686_018_427_387_904,
+        big: [0x40, 0, 0, 0, 0, 0, 0, 0],
+        little: [0, 0, 0, 0x40, 0, 0, 0, 0],
+    },
+    Spelled {
+        number: 4_611_686_018_427_387_905,
+        big: [0x40, 0, 0, 0, 0, 0, 0, 1],
+        little: [0, 0, 0, 0x40, 1, 0, 0, 0],
+    },
+    Spelled {
+        number: -1,
+        big: [0xff; 8],
+        little: [0xff; 8],
+    },
+];
+
 #[test]
 fn sequence_numbers_have_the_high_half_first(rt: HostRuntime) {
-    let table = [
-        Spelled {
-            number: 1,
-            big: [0, 0, 0, 0, 0, 0, 0, 1],
-            little: [0, 0, 0, 0, 1, 0, 0, 0],
-        },
-        Spelled {
-            number: 1 << 32,
-            big: [0, 0, 0, 1, 0, 0, 0, 0],
-            little: [1, 0, 0, 0, 0, 0, 0, 0],
-        },
-        // 2^62 and the numbers beside it
-        Spelled {
-            number: 4_611_686_018_427_387_903,
-            big: [0x3f, 0xff, 0xff, 0xff, 0xff, 0xff, 0xff, 0xff],
-            little: [0xff, 0xff, 0xff, 0x3f, 0xff, 0xff, 0xff, 0xff],
-        },
-        Spelled {
-            number: 4_611_686_018_427_387_904,
-            big: [0x40, 0, 0, 0, 0, 0, 0, 0],
-            little: [0, 0, 0, 0x40, 0, 0, 0, 0],
-        },
-        Spelled {
-            number: 4_611_686_018_427_387_905,
-            big: [0x40, 0, 0, 0, 0, 0, 0, 1],
-            little: [0, 0, 0, 0x40, 1, 0, 0, 0],
-        },
-        Spelled {
-            number: -1,
-            big: [0xff; 8],
-            little: [0xff; 8],
-        },
-    ];
-    for row in &table {
+    for row in &SPELLED {
         assert_eq!(rt; get_sn(&row.big, 0, Endian::Big), Some(row.number));
         assert_eq!(rt; get_sn(&row.little, 0, Endian::Little), Some(row.number));
         let mut octets = [0; 8];
@@ -115,7 +117,7 @@ fn numbers_are_1_to_2_to_the_62nd(rt: HostRuntime) {
 }
 
 #[test]
-fn orders(rt: HostRuntime) {
+fn identities_are_ordered_as_octets(rt: HostRuntime) {
     let low = Guid {
         prefix: GuidPrefix([1; 12]),
         entity: EntityId([0xff; 4]),
@@ -138,42 +140,25 @@ fn orders(rt: HostRuntime) {
         order_of_hashes(&KeyHash([3; 16]), &KeyHash([2; 16])),
         Ordering::Greater
     );
-    assert!(rt;
-        Place {
-            datagram: 1,
-            submessage: 9
-        } < Place {
-            datagram: 2,
-            submessage: 1
-        }
-    );
-    assert!(rt;
-        Place {
-            datagram: 2,
-            submessage: 1
-        } < Place {
-            datagram: 2,
-            submessage: 2
-        }
-    );
-    assert!(rt;
-        Duration {
-            seconds: -1,
-            fraction: 9
-        } < Duration {
-            seconds: 0,
-            fraction: 0
-        }
-    );
-    assert!(rt;
-        Duration {
-            seconds: 1,
-            fraction: 1
-        } < Duration {
-            seconds: 1,
-            fraction: 2
-        }
-    );
+}
+
+fn place(datagram: u64, submessage: u32) -> Place {
+    Place {
+        datagram,
+        submessage,
+    }
+}
+
+fn duration(seconds: i32, fraction: u32) -> Duration {
+    Duration { seconds, fraction }
+}
+
+#[test]
+fn places_and_durations_are_ordered(rt: HostRuntime) {
+    assert!(rt; place(1, 9) < place(2, 1));
+    assert!(rt; place(2, 1) < place(2, 2));
+    assert!(rt; duration(-1, 9) < duration(0, 0));
+    assert!(rt; duration(1, 1) < duration(1, 2));
 }
 
 #[test]

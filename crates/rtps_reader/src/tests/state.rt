@@ -1,7 +1,7 @@
 //! What a best-effort reader tells of events that were written down by hand.
 
 use crate::*;
-use dds_topic::Shapes;
+use dds_topic::{Shape, Shapes};
 use rtps_receiver::{Body as Brought, Event, Whole};
 use rtps_types::{EntityId, Guid, GuidPrefix, Locators, Number, Place, WriterFacts};
 use rtps_wire::Form;
@@ -74,10 +74,9 @@ fn step(
     })
 }
 
-#[test]
-fn rising_numbers_are_told_once(rt: HostRuntime) -> Result<(), Fail> {
-    let alloc = rt.alloc();
-    let mut reader = reader(alloc)?;
+/// What a reader tells of five changes, of which three are not for it: an old one, one for another
+/// reader, and one from a writer that isn't matched.
+fn told(alloc: Global, reader: &mut ReaderState) -> Result<Output<Shape>, Fail> {
     let mut output = Output {
         notices: Vec::new(alloc),
         answers: Vec::new(alloc),
@@ -85,7 +84,6 @@ fn rising_numbers_are_told_once(rt: HostRuntime) -> Result<(), Fail> {
     for (datagram, source, to, number) in [
         (0, THEIRS, READER, 5),
         (1, THEIRS, EVERY_READER, 8),
-        // Old, for another reader, and from a writer that isn't matched.
         (2, THEIRS, READER, 7),
         (3, THEIRS, EntityId([0, 0, 1, 4]), 9),
         (4, GuidPrefix([12; 12]), READER, 9),
@@ -93,6 +91,13 @@ fn rising_numbers_are_told_once(rt: HostRuntime) -> Result<(), Fail> {
         let step = step(datagram, source, to, number)?;
         reader.step(alloc, alloc, &Shapes, &step, &mut output)?;
     }
+    Ok(output)
+}
+
+#[test]
+fn rising_numbers_are_told_once(rt: HostRuntime) -> Result<(), Fail> {
+    let mut reader = reader(rt.alloc())?;
+    let output = told(rt.alloc(), &mut reader)?;
     assert_eq!(rt; output.notices.len(), 3);
     assert_eq!(rt; output.answers.len(), 0);
     match &output.notices[0].what {
@@ -117,16 +122,22 @@ fn rising_numbers_are_told_once(rt: HostRuntime) -> Result<(), Fail> {
     }
     assert_eq!(rt; output.notices[2].place.datagram, 1);
     assert_eq!(rt; output.notices[2].writer.prefix, THEIRS);
-    assert_eq!(rt;
-        reader.status(),
-        Status {
-            matched_total: 1,
-            matched_now: 1,
-            incompatible_total: 0,
-            last_policy: None,
-            lost_total: 2,
-            samples: 2,
-        }
-    );
+    Ok(())
+}
+
+#[test]
+fn the_status_counts_what_was_told(rt: HostRuntime) -> Result<(), Fail> {
+    let mut reader = reader(rt.alloc())?;
+    let output = told(rt.alloc(), &mut reader)?;
+    assert_eq!(rt; output.notices.len(), 3);
+    let status = Status {
+        matched_total: 1,
+        matched_now: 1,
+        incompatible_total: 0,
+        last_policy: None,
+        lost_total: 2,
+        samples: 2,
+    };
+    assert_eq!(rt; reader.status(), status);
     Ok(())
 }

@@ -24,91 +24,87 @@ const FRONT: &[u8] = b"\x52\x54\x50\x53\x02\x05\x00\x00\
     \x0e\x01\x0c\x00\
     \x0a\x0a\x0a\x0a\x0a\x0a\x0a\x0a\x0a\x0a\x0a\x0a";
 
+/// The set, the count, and the submessage that is written.
+const MISSING: [(SnSet, u32, &[u8]); 5] = [
+    // three from 1 on
+    (
+        SnSet {
+            base: 1,
+            bits: 3,
+            words: [0xe000_0000, 0, 0, 0, 0, 0, 0, 0],
+        },
+        1,
+        b"\x06\x01\x1c\x00\
+            \x00\x00\x01\x07\x00\x00\x01\x02\
+            \x00\x00\x00\x00\x01\x00\x00\x00\
+            \x03\x00\x00\x00\
+            \x00\x00\x00\xe0\
+            \x01\x00\x00\x00",
+    ),
+    // as many as a set holds
+    (
+        SnSet {
+            base: 1,
+            bits: 256,
+            words: [0xffff_ffff; 8],
+        },
+        1,
+        b"\x06\x01\x38\x00\
+            \x00\x00\x01\x07\x00\x00\x01\x02\
+            \x00\x00\x00\x00\x01\x00\x00\x00\
+            \x00\x01\x00\x00\
+            \xff\xff\xff\xff\xff\xff\xff\xff\xff\xff\xff\xff\xff\xff\xff\xff\
+            \xff\xff\xff\xff\xff\xff\xff\xff\xff\xff\xff\xff\xff\xff\xff\xff\
+            \x01\x00\x00\x00",
+    ),
+    // nothing: flag F, and no words
+    (
+        SnSet {
+            base: 1,
+            bits: 0,
+            words: [0; 8],
+        },
+        1,
+        b"\x06\x03\x18\x00\
+            \x00\x00\x01\x07\x00\x00\x01\x02\
+            \x00\x00\x00\x00\x01\x00\x00\x00\
+            \x00\x00\x00\x00\
+            \x01\x00\x00\x00",
+    ),
+    // nothing, behind the greatest number of a change
+    (
+        SnSet {
+            base: 4_611_686_018_427_387_905,
+            bits: 0,
+            words: [0; 8],
+        },
+        1,
+        b"\x06\x03\x18\x00\
+            \x00\x00\x01\x07\x00\x00\x01\x02\
+            \x00\x00\x00\x40\x01\x00\x00\x00\
+            \x00\x00\x00\x00\
+            \x01\x00\x00\x00",
+    ),
+    // words behind the last bit are not sent
+    (
+        SnSet {
+            base: (1 << 32) + 2,
+            bits: 33,
+            words: [0x8000_0001, 0x8000_0000, 0xffff_ffff, 0, 0, 0, 0, 1],
+        },
+        0xffff_fffe,
+        b"\x06\x01\x20\x00\
+            \x00\x00\x01\x07\x00\x00\x01\x02\
+            \x01\x00\x00\x00\x02\x00\x00\x00\
+            \x21\x00\x00\x00\
+            \x01\x00\x00\x80\x00\x00\x00\x80\
+            \xfe\xff\xff\xff",
+    ),
+];
+
 #[test]
 fn an_acknack_names_what_is_missing(rt: HostRuntime) -> Result<(), Fail> {
-    // the set, the count, and the submessage that is written
-    let table = [
-        // three from 1 on
-        (
-            SnSet {
-                base: 1,
-                bits: 3,
-                words: [0xe000_0000, 0, 0, 0, 0, 0, 0, 0],
-            },
-            1u32,
-            b"\x06\x01\x1c\x00\
-                \x00\x00\x01\x07\x00\x00\x01\x02\
-                \x00\x00\x00\x00\x01\x00\x00\x00\
-                \x03\x00\x00\x00\
-                \x00\x00\x00\xe0\
-                \x01\x00\x00\x00"
-                .as_slice(),
-        ),
-        // as many as a set holds
-        (
-            SnSet {
-                base: 1,
-                bits: 256,
-                words: [0xffff_ffff; 8],
-            },
-            1,
-            b"\x06\x01\x38\x00\
-                \x00\x00\x01\x07\x00\x00\x01\x02\
-                \x00\x00\x00\x00\x01\x00\x00\x00\
-                \x00\x01\x00\x00\
-                \xff\xff\xff\xff\xff\xff\xff\xff\xff\xff\xff\xff\xff\xff\xff\xff\
-                \xff\xff\xff\xff\xff\xff\xff\xff\xff\xff\xff\xff\xff\xff\xff\xff\
-                \x01\x00\x00\x00"
-                .as_slice(),
-        ),
-        // nothing: flag F, and no words
-        (
-            SnSet {
-                base: 1,
-                bits: 0,
-                words: [0; 8],
-            },
-            1,
-            b"\x06\x03\x18\x00\
-                \x00\x00\x01\x07\x00\x00\x01\x02\
-                \x00\x00\x00\x00\x01\x00\x00\x00\
-                \x00\x00\x00\x00\
-                \x01\x00\x00\x00"
-                .as_slice(),
-        ),
-        // nothing, behind the greatest number of a change
-        (
-            SnSet {
-                base: 4_611_686_018_427_387_905,
-                bits: 0,
-                words: [0; 8],
-            },
-            1,
-            b"\x06\x03\x18\x00\
-                \x00\x00\x01\x07\x00\x00\x01\x02\
-                \x00\x00\x00\x40\x01\x00\x00\x00\
-                \x00\x00\x00\x00\
-                \x01\x00\x00\x00"
-                .as_slice(),
-        ),
-        // words behind the last bit are not sent
-        (
-            SnSet {
-                base: (1 << 32) + 2,
-                bits: 33,
-                words: [0x8000_0001, 0x8000_0000, 0xffff_ffff, 0, 0, 0, 0, 1],
-            },
-            0xffff_fffe,
-            b"\x06\x01\x20\x00\
-                \x00\x00\x01\x07\x00\x00\x01\x02\
-                \x01\x00\x00\x00\x02\x00\x00\x00\
-                \x21\x00\x00\x00\
-                \x01\x00\x00\x80\x00\x00\x00\x80\
-                \xfe\xff\xff\xff"
-                .as_slice(),
-        ),
-    ];
-    for (missing, count, submessage) in table {
+    for (missing, count, submessage) in MISSING {
         let answer = AckNack {
             reader: OURS,
             writer: THEIRS,
@@ -123,66 +119,64 @@ fn an_acknack_names_what_is_missing(rt: HostRuntime) -> Result<(), Fail> {
     Ok(())
 }
 
+/// The change, the set, the count, and the submessage that is written.
+const MISSING_FRAGMENTS: [(u64, FragSet, u32, &[u8]); 3] = [
+    // the first of its fragments
+    (
+        1,
+        FragSet {
+            base: 1,
+            bits: 1,
+            words: [0x8000_0000, 0, 0, 0, 0, 0, 0, 0],
+        },
+        1,
+        b"\x12\x01\x20\x00\
+            \x00\x00\x01\x07\x00\x00\x01\x02\
+            \x00\x00\x00\x00\x01\x00\x00\x00\
+            \x01\x00\x00\x00\
+            \x01\x00\x00\x00\
+            \x00\x00\x00\x80\
+            \x01\x00\x00\x00",
+    ),
+    // two of them
+    (
+        66,
+        FragSet {
+            base: 1,
+            bits: 2,
+            words: [0xc000_0000, 0, 0, 0, 0, 0, 0, 0],
+        },
+        1,
+        b"\x12\x01\x20\x00\
+            \x00\x00\x01\x07\x00\x00\x01\x02\
+            \x00\x00\x00\x00\x42\x00\x00\x00\
+            \x01\x00\x00\x00\
+            \x02\x00\x00\x00\
+            \x00\x00\x00\xc0\
+            \x01\x00\x00\x00",
+    ),
+    // words behind the last bit are not sent
+    (
+        1 << 62,
+        FragSet {
+            base: 0x0102_0304,
+            bits: 64,
+            words: [1, 0x8000_0000, 0xffff_ffff, 0, 0, 0, 0, 1],
+        },
+        0xffff_ffff,
+        b"\x12\x01\x24\x00\
+            \x00\x00\x01\x07\x00\x00\x01\x02\
+            \x00\x00\x00\x40\x00\x00\x00\x00\
+            \x04\x03\x02\x01\
+            \x40\x00\x00\x00\
+            \x01\x00\x00\x00\x00\x00\x00\x80\
+            \xff\xff\xff\xff",
+    ),
+];
+
 #[test]
 fn a_nack_frag_names_fragments_that_are_missing(rt: HostRuntime) -> Result<(), Fail> {
-    // the change, the set, the count, and the submessage that is written
-    let table = [
-        // the first of its fragments
-        (
-            1u64,
-            FragSet {
-                base: 1,
-                bits: 1,
-                words: [0x8000_0000, 0, 0, 0, 0, 0, 0, 0],
-            },
-            1u32,
-            b"\x12\x01\x20\x00\
-                \x00\x00\x01\x07\x00\x00\x01\x02\
-                \x00\x00\x00\x00\x01\x00\x00\x00\
-                \x01\x00\x00\x00\
-                \x01\x00\x00\x00\
-                \x00\x00\x00\x80\
-                \x01\x00\x00\x00"
-                .as_slice(),
-        ),
-        // two of them
-        (
-            66,
-            FragSet {
-                base: 1,
-                bits: 2,
-                words: [0xc000_0000, 0, 0, 0, 0, 0, 0, 0],
-            },
-            1,
-            b"\x12\x01\x20\x00\
-                \x00\x00\x01\x07\x00\x00\x01\x02\
-                \x00\x00\x00\x00\x42\x00\x00\x00\
-                \x01\x00\x00\x00\
-                \x02\x00\x00\x00\
-                \x00\x00\x00\xc0\
-                \x01\x00\x00\x00"
-                .as_slice(),
-        ),
-        // words behind the last bit are not sent
-        (
-            1 << 62,
-            FragSet {
-                base: 0x0102_0304,
-                bits: 64,
-                words: [1, 0x8000_0000, 0xffff_ffff, 0, 0, 0, 0, 1],
-            },
-            0xffff_ffff,
-            b"\x12\x01\x24\x00\
-                \x00\x00\x01\x07\x00\x00\x01\x02\
-                \x00\x00\x00\x40\x00\x00\x00\x00\
-                \x04\x03\x02\x01\
-                \x40\x00\x00\x00\
-                \x01\x00\x00\x00\x00\x00\x00\x80\
-                \xff\xff\xff\xff"
-                .as_slice(),
-        ),
-    ];
-    for (number, missing, count, submessage) in table {
+    for (number, missing, count, submessage) in MISSING_FRAGMENTS {
         let answer = NackFrag {
             reader: OURS,
             writer: THEIRS,
@@ -198,40 +192,44 @@ fn a_nack_frag_names_fragments_that_are_missing(rt: HostRuntime) -> Result<(), F
     Ok(())
 }
 
+/// An answer of 96 octets.
+const ACKNACK: AckNack = AckNack {
+    reader: OURS,
+    writer: THEIRS,
+    missing: SnSet {
+        base: 1,
+        bits: 256,
+        words: [1; 8],
+    },
+    count: 1,
+};
+
+/// An answer of 100 octets.
+const NACK_FRAG: NackFrag = NackFrag {
+    reader: OURS,
+    writer: THEIRS,
+    number: 1,
+    missing: FragSet {
+        base: 1,
+        bits: 256,
+        words: [1; 8],
+    },
+    count: 1,
+};
+
 #[test]
 fn a_refused_growth_is_want_of_memory(rt: HostRuntime) -> Result<(), Fail> {
-    let acknack = AckNack {
-        reader: OURS,
-        writer: THEIRS,
-        missing: SnSet {
-            base: 1,
-            bits: 256,
-            words: [1; 8],
-        },
-        count: 1,
-    };
-    let nack_frag = NackFrag {
-        reader: OURS,
-        writer: THEIRS,
-        number: 1,
-        missing: FragSet {
-            base: 1,
-            bits: 256,
-            words: [1; 8],
-        },
-        count: 1,
-    };
     let (mut refused, mut written) = (0, 0);
     for step in 0..16 {
         let heap = LocalHeap::new(rt.alloc(), step * 16)?;
-        match write_acknack(&heap, acknack) {
+        match write_acknack(&heap, ACKNACK) {
             Ok(octets) => {
                 assert_eq!(rt; octets.as_slice().len(), 96);
                 written |= 1;
             }
             Err(_) => refused |= 1,
         }
-        match write_nack_frag(&heap, nack_frag) {
+        match write_nack_frag(&heap, NACK_FRAG) {
             Ok(octets) => {
                 assert_eq!(rt; octets.as_slice().len(), 100);
                 written |= 2;

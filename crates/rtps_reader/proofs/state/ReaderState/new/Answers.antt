@@ -2,8 +2,8 @@ use Rattle.std.proofs.Common.{length, refl, zero-add}
 use Rattle.rtps_reader.proofs.Seats.{fresh_all, length-fresh, length-writers}
 use Rattle.rtps_reader.proofs.state.ReaderState.new.Goals as goal
 
-pub returns : goal.returns
-returns g c = record {
+pub returns-clause-stands : goal.returns-clause-stands
+returns-clause-stands g c = record {
   sound = refl;
   entity = refl;
   matches = rw (fresh_all c.args.fixed.now) c.in_ok-seats.ensures;

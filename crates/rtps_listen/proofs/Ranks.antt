@@ -1,0 +1,37 @@
+-- Readers and matches by their ranks, from 0 on.
+use Rattle.std.proofs.Common.{◌≡◌, ◌∙◌, ℕ, ◌+◌, ◌<◌, ◌≤◌, zero, suc, List, [], ◌∷◌, ◌++◌, map, Bool, true, false, refl, sym, ap, ap₂, arith}
+use Rattle.std.specs.List.{list_any, range_with_len}
+use Rattle.std.proofs.lemmas.List.{map-append}
+use Rattle.std.proofs.lemmas.List.FromFn.{map-range_with_len_more}
+use Rattle.clap.specs.Words.{Text}
+use Rattle.rtps_discovery.specs.Config.{has_twice}
+use Rattle.rtps_discovery.specs.declared.config.ReaderConfig.{ReaderConfig}
+use Rattle.rtps_listen.specs.Configs.{reader_in, reader_of, readers_of}
+
+-- one rank more
+pub ranks_more : {X : Type 0} (f : ℕ → X) (n : ℕ) → map f (range_with_len 0 (n + 1)) ≡ map f (range_with_len 0 n) ++ f n ∷ []
+ranks_more f n = map-range_with_len_more f 0 n n (omega arith)
+
+-- and one reader more
+pub readers_more : (all before : List ReaderConfig) (last : ReaderConfig) (topic : Text) (n : ℕ) → all ≡ before ++ last ∷ []
+    → map reader_in before ≡ readers_of topic n → reader_in last ≡ reader_of topic n → map reader_in all ≡ readers_of topic (n + 1)
+readers_more all before last topic n more have is =
+    ap (map reader_in) more ∙ map-append reader_in before (last ∷ []) ∙ ap₂ (λ xs x. xs ++ x ∷ []) have is ∙ sym (ranks_more (reader_of topic) n)
+
+-- no item of some ranks passes a test
+pub no_rank_passes : {X : Type 0} (p : X → Bool) (f : ℕ → X) (a n : ℕ) → ((k : ℕ) → a ≤ k → k < a + n → p (f k) ≡ false) → list_any p (map f (range_with_len a n)) ≡ false
+no_rank_passes p f a zero fails = refl
+no_rank_passes p f a (suc n) fails =
+    rw (fails a (omega arith) (omega arith)) (no_rank_passes p f (a + 1) n (λ k above below. fails k (omega arith) (omega arith)))
+
+-- the items of some ranks, one at least, pass a test all or none
+pub each_rank_passes : {X : Type 0} (p : X → Bool) (f : ℕ → X) (n : ℕ) (b : Bool) → 1 ≤ n → ((k : ℕ) → k < n → p (f k) ≡ b) → list_any p (map f (range_with_len 0 n)) ≡ b
+each_rank_passes p f zero b some same = absurd (omega arith)
+each_rank_passes p f (suc n) true some same = rw (same 0 (omega arith)) refl
+each_rank_passes p f (suc n) false some same = no_rank_passes p f 0 (suc n) (λ k above below. same k (omega arith))
+
+-- items that differ by their ranks don't stand twice
+pub ranks_differ : {X : Type 0} (same : X → X → Bool) (f : ℕ → X) (a n : ℕ) → ((i j : ℕ) → i < j → same (f i) (f j) ≡ false) → has_twice same (map f (range_with_len a n)) ≡ false
+ranks_differ same f a zero differ = refl
+ranks_differ same f a (suc n) differ =
+    rw (no_rank_passes (same (f a)) f (a + 1) n (λ k above below. differ a k (omega arith))) (ranks_differ same f (a + 1) n differ)

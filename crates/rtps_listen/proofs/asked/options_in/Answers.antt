@@ -1,0 +1,17 @@
+use Rattle.std.proofs.Common.{codes, ap, ◌∙◌}
+use Rattle.clap.specs.Words.{found_of}
+use Rattle.clap.proofs.WalkLemmas.{first_value-rows}
+use Rattle.rtps_listen.specs.Options.{one_to_eight}
+use Rattle.rtps_listen.proofs.asked.options_in.Goals as goal
+
+pub returns : goal.returns
+returns c = record {
+  file = c.text_in.ensures;
+  readers = c.one_to_eight.ensures.value ∙ ap one_to_eight c.number_in.ensures;
+  topic = c.text_in-2.ensures;
+  own = c.text_in-3.ensures;
+  fixed = c.get_str.ensures ∙ first_value-rows (found_of c.args.matches.now) (codes "fixed");
+  best_effort = c.flag_in.ensures;
+  raw = c.flag_in-2.ensures;
+  summary = c.flag_in-3.ensures;
+}

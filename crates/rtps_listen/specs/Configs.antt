@@ -1,0 +1,121 @@
+-- The configuration that the options of `replay` ask for, and why they are refused.
+use Rattle.std.specs.Prelude.{◌≡◌, ℕ, ◌+◌, List, [], ◌∷◌, map, Bool, true, false, not, ◌||◌, IsTrue, Option, Some, None, ◌⊎◌, Result, Err, codes}
+use Rattle.std.specs.List.{range_with_len}
+use Rattle.std.specs.Str.{bytes_eq}
+use Rattle.std.specs.String.{string_bytes}
+use Rattle.std.specs.Borrow.{Bor}
+use Rattle.clap.specs.Words.{Text}
+use Rattle.rtps_types.specs.declared.identity.EntityId.{EntityId}
+use Rattle.rtps_types.specs.declared.identity.Guid.{Guid}
+use Rattle.rtps_types.specs.declared.identity.GuidPrefix.{GuidPrefix}
+use Rattle.dds_qos.specs.Defaults.{default_policies}
+use Rattle.dds_qos.specs.declared.policies.Policies.{Policies}
+use Rattle.dds_qos.specs.declared.policies.Reliability.TheVariants.{BestEffort}
+use Rattle.rtps_discovery.specs.Config.{is_writer}
+use Rattle.rtps_discovery.specs.declared.config.Config.{Config}
+use Rattle.rtps_discovery.specs.declared.config.FixedMatch.{FixedMatch}
+use Rattle.rtps_discovery.specs.declared.config.ReaderConfig.{ReaderConfig}
+use Rattle.rtps_records.specs.declared.fault.RunFault.TheVariants.{NoMemory}
+use Rattle.rtps_listen.specs.Identities.{IsGuidText, IsPrefixText, WritesGuid, WritesPrefix}
+use Rattle.rtps_listen.specs.declared.options.Options.{Options}
+use Rattle.rtps_listen.specs.declared.fault.ListenFault.{ListenFault}
+use Rattle.rtps_listen.specs.declared.fault.ListenFault.TheVariants.{BadPrefix, BadWriter, NotBuilt, Run}
+
+-- what is asked of a reader, whatever room its texts have
+pub record Reader : Type 0 where
+  pub entity : EntityId
+  pub topic : Text
+  pub type_name : Text
+  pub policies : Policies
+  pub partitions : List Text
+
+abbrev pub reader_in : ReaderConfig → Reader
+reader_in r = record {
+  entity = r.entity;
+  topic = string_bytes r.topic;
+  type_name = string_bytes r.type_name;
+  policies = r.requested.policies;
+  partitions = r.requested.partitions;
+}
+
+-- the entity of the reader of a rank: readers with a key (DDSI-RTPS 9.3.1.2) that are counted from 1
+abbrev pub entity_of : ℕ → EntityId
+entity_of rank = record { 0 = 0x00 ∷ 0x00 ∷ (rank + 1) ∷ 0x07 ∷ [] }
+
+-- the reader of a rank: it has the type of the Shapes demo, and asks for what holds where no policy is given
+abbrev pub reader_of : Text → ℕ → Reader
+reader_of topic rank = record {
+  entity = entity_of rank;
+  topic = topic;
+  type_name = codes "ShapeType";
+  policies = default_policies BestEffort;
+  partitions = [];
+}
+
+-- so many readers, by their ranks
+abbrev pub readers_of : Text → ℕ → List Reader
+readers_of topic count = map (reader_of topic) (range_with_len 0 count)
+
+-- the match of the reader of a rank, which knows no address of the writer
+abbrev pub match_of : Guid → ℕ → FixedMatch
+match_of writer rank = record { rank = rank; writer = writer; locators = [] }
+
+-- a match of each of so many readers with the writer, where there is one
+abbrev pub matches_of : Option Guid → ℕ → List FixedMatch
+matches_of None count = []
+matches_of (Some writer) count = map (match_of writer) (range_with_len 0 count)
+
+-- `--fixed` names this writer; where it isn't given, none
+abbrev pub NamesWriter : Option (Bor Text) → Option Guid → Type 0
+NamesWriter None None = Unit {0}
+NamesWriter None (Some writer) = ⊥
+NamesWriter (Some text) None = ⊥
+NamesWriter (Some text) (Some writer) = WritesGuid text.now writer
+
+-- the configuration of the options, with what their texts write
+pub record IsMadeOf (options : Options) (own : GuidPrefix) (writer : Option Guid) (config : Config) : Type 0 where
+  pub prefix : config.own ≡ own
+  pub readers : map reader_in config.readers.items ≡ readers_of options.topic.now options.readers
+  pub fixed : config.fixed.items ≡ matches_of writer options.readers
+
+-- what the texts of options write
+pub record AreWritten (options : Options) (own : GuidPrefix) (writer : Option Guid) : Type 0 where
+  pub prefix : WritesPrefix options.own.now own
+  pub fixed : NamesWriter options.fixed writer
+
+-- the configuration that options ask for
+abbrev pub IsConfigOf : Options → Config → Type 0
+IsConfigOf options config =
+    (own : GuidPrefix) × (writer : Option Guid) × AreWritten options own writer × IsMadeOf options own writer config
+
+-- no reader of ours is matched with the writer: it is none by its kind, or our own
+abbrev pub is_unmatched : GuidPrefix → Option Guid → Bool
+is_unmatched own None = false
+is_unmatched own (Some writer) = not (is_writer writer.entity) || bytes_eq own.0 writer.prefix.0
+
+-- the options name such a writer
+abbrev pub IsUnmatched : Options → Type 0
+IsUnmatched options =
+    (own : GuidPrefix) × (writer : Option Guid) × AreWritten options own writer × IsTrue (is_unmatched own writer)
+
+-- `--fixed` has 32 digits, or isn't given
+abbrev pub IsFixedText : Option (Bor Text) → Type 0
+IsFixedText None = Unit {0}
+IsFixedText (Some text) = IsGuidText text.now
+
+-- what is refused first, in this order; memory is taken before the writer is judged
+pub record Refuses {T : Type 0} (options : Options) (result : Result T ListenFault) : Type 0 where
+  pub reliable : options.best_effort ≡ false → result ≡ Err NotBuilt
+  pub prefix : options.best_effort ≡ true → ¬ IsPrefixText options.own.now → result ≡ Err BadPrefix
+  pub fixed : options.best_effort ≡ true → IsPrefixText options.own.now → ¬ IsFixedText options.fixed
+      → result ≡ Err BadWriter
+  pub writer : options.best_effort ≡ true → IsPrefixText options.own.now → IsUnmatched options
+      → (result ≡ Err BadWriter) ⊎ (result ≡ Err (Run NoMemory))
+
+-- what is wrong with options that are refused by this fault, memory apart
+abbrev pub IsCause : Options → ListenFault → Type 0
+IsCause options NotBuilt = options.best_effort ≡ false
+IsCause options BadPrefix = ¬ IsPrefixText options.own.now
+IsCause options BadWriter = ¬ IsFixedText options.fixed ⊎ IsUnmatched options
+IsCause options (Run NoMemory) = Unit {0}
+IsCause options _ = ⊥

@@ -1,0 +1,26 @@
+//! What `replay` is asked to do.
+
+ghost use Rattle.std.specs.Prelude.{◌≤◌};
+
+/// The options of `replay`.
+#[derive(Clone, Copy, Debug, PartialEq, Eq)]
+pub struct Options<'a> {
+    /// The name of the record file, or `-`.
+    pub file: &'a str,
+    /// How many readers there are, 1 to 8.
+    pub readers: u8,
+    /// The topic of each reader.
+    pub topic: &'a str,
+    /// The prefix of this participant, in hex.
+    pub own: &'a str,
+    /// A writer that each reader is matched with from the start, in hex.
+    pub fixed: Option<&'a str>,
+    /// Whether readers ask for nothing again.
+    pub best_effort: bool,
+    /// Whether values are printed as octets.
+    pub raw: bool,
+    /// Whether matches and counts are printed at the end.
+    pub summary: bool,
+    ghost some: { 1 ≤ readers },
+    ghost few: { readers ≤ 8 },
+}

@@ -1,0 +1,217 @@
+//! Lines of `replay`, and the configurations that their options ask for.
+
+use super::words;
+use crate::answer;
+use crate::asked::Asked;
+use crate::config::config_of;
+use crate::fault::ListenFault;
+use crate::options::Options;
+use crate::prefix::writer_of;
+use crate::words::read_words;
+use dds_qos::{Durability, Ownership, Reliability};
+use rtps_discovery::check;
+use rtps_types::{EntityId, Guid, GuidPrefix};
+use std::alloc::Global;
+use std::test::Fail;
+
+const OURS: &str = "0b0b0b0b0b0b0b0b0b0b0b0b";
+
+/// A writer with a key.
+const THEIRS: &str = "0102030405060708090a0bAc00aB0102";
+
+const WRITER: Guid = Guid {
+    prefix: GuidPrefix([1, 2, 3, 4, 5, 6, 7, 8, 9, 10, 11, 0xac]),
+    entity: EntityId([0, 0xab, 1, 2]),
+};
+
+/// Options with these flags, and else those where none is given.
+fn flags(best_effort: bool, raw: bool, summary: bool) -> Options<'static> {
+    Options {
+        file: "-",
+        readers: 1,
+        topic: "Square",
+        own: OURS,
+        fixed: None,
+        best_effort,
+        raw,
+        summary,
+    }
+}
+
+/// Options of a run that can be had but for its texts.
+fn texts(own: &'static str, fixed: Option<&'static str>) -> Options<'static> {
+    Options {
+        file: "-",
+        readers: 1,
+        topic: "Square",
+        own,
+        fixed,
+        best_effort: true,
+        raw: false,
+        summary: false,
+    }
+}
+
+/// Whether the words behind `replay` are read as these options.
+fn reads(alloc: Global, line: &[&'static str], options: Options<'_>) -> Result<bool, Fail> {
+    let words = words(alloc, line)?;
+    Ok(read_words(alloc, words.as_slice())? == Asked::Replay(options))
+}
+
+#[test]
+fn lines_with_single_options(rt: HostRuntime) -> Result<(), Fail> {
+    let sizes = [
+        "replay",
+        "--workers",
+        "64",
+        "-",
+        "--batch",
+        "4096",
+        "--readers",
+        "+1",
+    ];
+    for (line, options) in [
+        (["replay", "-"].as_slice(), flags(false, false, false)),
+        (sizes.as_slice(), flags(false, false, false)),
+        (
+            ["replay", "--best-effort", "-"].as_slice(),
+            flags(true, false, false),
+        ),
+        (
+            ["replay", "-", "--raw"].as_slice(),
+            flags(false, true, false),
+        ),
+        (
+            ["replay", "-", "--summary"].as_slice(),
+            flags(false, false, true),
+        ),
+    ] {
+        assert!(rt; reads(rt.alloc(), line, options)?, "{line:?}");
+    }
+    Ok(())
+}
+
+#[test]
+fn a_line_with_all_options(rt: HostRuntime) -> Result<(), Fail> {
+    let line = [
+        "replay",
+        "--raw",
+        "--fixed",
+        "y",
+        "--own=x",
+        "a b",
+        "--topic=",
+        "--readers",
+        "8",
+        "--summary",
+        "--best-effort",
+    ];
+    let options = Options {
+        file: "a b",
+        readers: 8,
+        topic: "",
+        own: "x",
+        fixed: Some("y"),
+        best_effort: true,
+        raw: true,
+        summary: true,
+    };
+    assert!(rt; reads(rt.alloc(), line.as_slice(), options)?);
+    Ok(())
+}
+
+#[test]
+fn writers(rt: HostRuntime) {
+    assert_eq!(rt; writer_of(THEIRS), Some(WRITER));
+    assert_eq!(rt; writer_of("0102030405060708090A0BAC00AB0102"), Some(WRITER));
+    for text in [
+        "",
+        OURS,
+        "0102030405060708090a0bac00ab010",
+        "0102030405060708090a0bac00ab01020",
+        "0102030405060708090a0bac00ab010x",
+    ] {
+        assert_eq!(rt; writer_of(text), None, "{text}");
+    }
+}
+
+/// Options that are refused, and by which fault. The faults are in the order in which they are found.
+const REFUSED: [(bool, &str, Option<&str>, ListenFault); 7] = [
+    (false, "0b", Some("0b"), ListenFault::NotBuilt),
+    (false, OURS, None, ListenFault::NotBuilt),
+    (true, "0b", Some("0b"), ListenFault::BadPrefix),
+    (true, THEIRS, None, ListenFault::BadPrefix),
+    (true, OURS, Some(OURS), ListenFault::BadWriter),
+    // A reader with a key.
+    (
+        true,
+        OURS,
+        Some("0102030405060708090a0b0c00000107"),
+        ListenFault::BadWriter,
+    ),
+    // A writer of our own.
+    (
+        true,
+        OURS,
+        Some("0b0b0b0b0b0b0b0b0b0b0b0b00000102"),
+        ListenFault::BadWriter,
+    ),
+];
+
+#[test]
+fn options_that_are_refused(rt: HostRuntime) {
+    for (best_effort, own, fixed, fault) in REFUSED {
+        let mut options = texts(own, fixed);
+        options.best_effort = best_effort;
+        assert_eq!(rt; config_of(rt.alloc(), &options).err(), Some(fault));
+        assert_eq!(rt; answer(&rt, Asked::Replay(options)), Err(fault));
+    }
+}
+
+#[test]
+fn configuration_of_one_reader(rt: HostRuntime) -> Result<(), Fail> {
+    let config = config_of(rt.alloc(), &texts("0102030405060708090A0b0c", None))?;
+    assert_eq!(rt; check(&config), Ok(()));
+    assert_eq!(rt;
+        config.own,
+        GuidPrefix([1, 2, 3, 4, 5, 6, 7, 8, 9, 10, 11, 12])
+    );
+    assert_eq!(rt; config.fixed.len(), 0);
+    assert_eq!(rt; config.readers.len(), 1);
+    let reader = &config.readers[0];
+    assert_eq!(rt; reader.entity, EntityId([0, 0, 1, 7]));
+    assert_eq!(rt; reader.topic.as_str(), "Square");
+    assert_eq!(rt; reader.type_name.as_str(), "ShapeType");
+    assert_eq!(rt;
+        reader.requested.policies.reliability,
+        Reliability::BestEffort
+    );
+    assert_eq!(rt; reader.requested.policies.durability, Durability::Volatile);
+    assert_eq!(rt; reader.requested.policies.ownership, Ownership::Shared);
+    assert_eq!(rt; reader.requested.partitions.names().len(), 0);
+    Ok(())
+}
+
+#[test]
+fn configuration_of_eight_readers(rt: HostRuntime) -> Result<(), Fail> {
+    let mut options = texts(OURS, Some("0102030405060708090a0bac00ab0102"));
+    options.readers = 8;
+    options.topic = "Circle";
+    let config = config_of(rt.alloc(), &options)?;
+    assert_eq!(rt; check(&config), Ok(()));
+    assert_eq!(rt; config.own, GuidPrefix([0x0b; 12]));
+    assert_eq!(rt; config.readers.len(), 8);
+    assert_eq!(rt; config.fixed.len(), 8);
+    let keys = [1u8, 2, 3, 4, 5, 6, 7, 8];
+    for (reader, key) in config.readers.as_slice().iter().zip(keys) {
+        assert_eq!(rt; reader.entity, EntityId([0, 0, key, 7]));
+        assert_eq!(rt; reader.topic.as_str(), "Circle");
+    }
+    let ranks = [0u32, 1, 2, 3, 4, 5, 6, 7];
+    for (pair, rank) in config.fixed.as_slice().iter().zip(ranks) {
+        assert_eq!(rt; pair.rank, rank);
+        assert_eq!(rt; pair.writer, WRITER);
+        assert_eq!(rt; pair.locators.as_slice().len(), 0);
+    }
+    Ok(())
+}

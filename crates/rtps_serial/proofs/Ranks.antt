@@ -1,0 +1,67 @@
+-- States by rank, one after the other.
+use Rattle.std.proofs.Common.{◌≡◌, ℕ, suc, ◌+◌, ◌<◌, ◌≤◌, List, [], ◌∷◌, ◌++◌, length, map, get_or, set, refl, sym, ap, ◌∙◌, subst, arith, below_more, length-append, get_or-set_same, get_or-set_other}
+use Rattle.std.proofs.lemmas.List.{get_or-map, get_or_append_left}
+use Rattle.std.proofs.Math.Seq.{get_or-append_seam}
+use Rattle.rtps_types.specs.declared.identity.EntityId.{EntityId}
+use Rattle.rtps_types.specs.declared.identity.Guid.{Guid}
+use Rattle.rtps_discovery.specs.Addressed.{unknown_entity}
+use Rattle.rtps_discovery.specs.declared.config.ReaderConfig.{ReaderConfig}
+use Rattle.rtps_reader.specs.Reader.{Match, Reader, first_reader}
+use Rattle.rtps_reader.specs.Standing as reader
+use Rattle.rtps_reader.specs.Standing.{ReaderKept, SeatKept}
+use Rattle.rtps_reader.specs.Listed.{with_writers}
+use Rattle.rtps_serial.specs.Run.{entity_of}
+use Rattle.rtps_serial.specs.Seen.{matches_below}
+use Rattle.rtps_serial.specs.Standing.{AllStand, StandsFor}
+
+-- one state more
+pub all_stand_push : (readers : ℕ → Reader) (states : List ReaderKept) (s : ReaderKept) (n : ℕ) → length states ≡ n → AllStand readers states → StandsFor (readers n) n s → AllStand readers (states ++ s ∷ [])
+all_stand_push readers states s n e all one rank other below =
+    let fits : rank < n + 1 = omega (arith, below, length-append states (s ∷ []), e) in
+    below_more (λ k. StandsFor (readers k) k (get_or (states ++ s ∷ []) k other)) n
+    (λ k less. subst (StandsFor (readers k) k) (sym (get_or_append_left states (s ∷ []) other k (omega (arith, less, e)))) (all k other (omega (arith, less, e))))
+    (subst (StandsFor (readers n) n) (sym (get_or-append_seam states s [] other) ∙ ap (λ k. get_or (states ++ s ∷ []) k other) e) one)
+    rank fits
+
+-- the states below a place stand, and so does the one that is put there
+pub done_more : (readers : ℕ → Reader) (states : List ReaderKept) (at : ℕ) (s : ReaderKept) → at < length states
+    → ((rank : ℕ) (other : ReaderKept) → rank < at → StandsFor (readers rank) rank (get_or states rank other)) → StandsFor (readers at) at s
+    → (rank : ℕ) (other : ReaderKept) → rank < at + 1 → StandsFor (readers rank) rank (get_or (set states at s) rank other)
+done_more readers states at s fits done one rank other below =
+    below_more (λ k. StandsFor (readers k) k (get_or (set states at s) k other)) at
+    (λ k less. subst (StandsFor (readers k) k) (sym (get_or-set_other states at k s other (λ e. omega (arith, less, e)))) (done k other less))
+    (subst (StandsFor (readers at) at) (sym (get_or-set_same states at s other fits)) one)
+    rank below
+
+-- the states above it are as they were
+pub left_more : (old states : List ReaderKept) (at : ℕ) (s : ReaderKept)
+    → ((rank : ℕ) (other : ReaderKept) → at ≤ rank → get_or states rank other ≡ get_or old rank other)
+    → (rank : ℕ) (other : ReaderKept) → at + 1 ≤ rank → get_or (set states at s) rank other ≡ get_or old rank other
+left_more old states at s left rank other above = get_or-set_other states at rank s other (λ e. omega (arith, above, e)) ∙ left rank other (omega (arith, above))
+
+-- matches and what is kept of them have the same writers
+pub same_writers : (ms : List Match) (ss : List SeatKept) → reader.AllStand ms ss → map (λ (s : SeatKept). s.writer) ss ≡ map (λ (m : Match). m.writer) ms
+same_writers [] [] all = refl
+same_writers [] (s ∷ ss) all = absurd all
+same_writers (m ∷ ms) [] all = absurd all
+same_writers (m ∷ ms) (s ∷ ss) all = ap (λ (w : Guid). w ∷ map (λ (s : SeatKept). s.writer) ss) (sym all.0) ∙ ap (λ (l : List Guid). m.writer ∷ l) (same_writers ms ss all.2)
+
+-- one reader more at the start
+pub first_more : (readers : List ReaderConfig) (matched : ℕ → List Guid) (states : List ReaderKept) (s : ReaderKept) (n : ℕ) (config : ReaderConfig) (writers : List Guid)
+    → length states ≡ n → n < length readers → config ≡ get_or readers n config → writers ≡ matched n
+    → reader.StandsAt (first_reader config.entity writers) s → s.rank ≡ n
+    → AllStand (λ rank. first_reader (entity_of readers rank) (matched rank)) states → AllStand (λ rank. first_reader (entity_of readers rank) (matched rank)) (states ++ s ∷ [])
+first_more readers matched states s n config writers e below is same stands ranked all =
+    let entity : config.entity ≡ entity_of readers n = ap (λ (c : ReaderConfig). c.entity) is ∙ sym (get_or-map (λ (c : ReaderConfig). c.entity) readers n config unknown_entity below) in
+    all_stand_push _ states s n e all
+    (record { stands = subst (λ (w : List Guid). reader.StandsAt (first_reader (entity_of readers n) w) s) same (subst (λ (k : EntityId). reader.StandsAt (first_reader k writers) s) entity stands); ranked = ranked })
+
+-- the matches of one rank more
+pub matches_more : (readers : ℕ → Reader) (n : ℕ) (state : ReaderKept) (listed : List (ℕ × Guid)) → listed ≡ matches_below readers n → StandsFor (readers n) n state
+    → with_writers listed state.rank (map (λ (s : SeatKept). s.writer) state.seats) ≡ matches_below readers (n + 1)
+matches_more readers n state listed e one =
+    let next : n + 1 ≡ suc n = omega arith in
+    ap (λ l. with_writers l state.rank (map (λ (s : SeatKept). s.writer) state.seats)) e
+    ∙ ap (λ k. with_writers (matches_below readers n) k (map (λ (s : SeatKept). s.writer) state.seats)) one.ranked
+    ∙ ap (with_writers (matches_below readers n) n) (same_writers (readers n).matches state.seats one.stands.matches)
+    ∙ sym (ap (matches_below readers) next)

@@ -1,0 +1,5 @@
+pub mod World
+pub mod Run
+pub mod Seen
+pub mod Standing
+pub mod Outcome

@@ -1,0 +1,31 @@
+-- What is seen of a run: each reader's notices, the answers, the statuses and the matches.
+use Rattle.std.specs.Prelude.{ℕ, zero, suc, List, [], ◌∷◌, map, Option, Some, None, nat_lt, ◌==◌, if◌then◌else◌}
+use Rattle.rtps_types.specs.declared.identity.Guid.{Guid}
+use Rattle.rtps_reader.specs.declared.status.Status.{Status}
+use Rattle.rtps_reader.specs.Listed.{with_writers}
+use Rattle.rtps_reader.specs.Reader.{Notice, Reader, status_of}
+use Rattle.rtps_serial.specs.World.{Put, Hears, Sends, Sending, World}
+
+-- the notices of the reader of a rank, in order
+abbrev pub notices_by : {M : Type 0} → ℕ → List (Put M) → List (Notice M)
+notices_by rank [] = []
+notices_by rank (Hears by notice ∷ put) = if by == rank then notice ∷ notices_by rank put else notices_by rank put
+notices_by rank (Sends answer ∷ put) = notices_by rank put
+
+-- the answers, in order
+abbrev pub answers_in : {M : Type 0} → List (Put M) → List Sending
+answers_in [] = []
+answers_in (Hears by notice ∷ put) = answers_in put
+answers_in (Sends answer ∷ put) = answer ∷ answers_in put
+
+-- the status of the reader of a rank, where there is one
+abbrev pub status_seen : {M : Type 0} → World M → ℕ → Option Status
+status_seen w rank = if nat_lt rank w.count then Some (status_of (w.readers rank)) else None
+
+-- the matches of the readers of the ranks below a count, ordered by rank and then by writer
+abbrev pub matches_below : (ℕ → Reader) → ℕ → List (ℕ × Guid)
+matches_below readers zero = []
+matches_below readers (suc rank) = with_writers (matches_below readers rank) rank (map (λ m. m.writer) (readers rank).matches)
+
+abbrev pub matches_seen : {M : Type 0} → World M → List (ℕ × Guid)
+matches_seen w = matches_below w.readers w.count

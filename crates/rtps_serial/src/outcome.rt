@@ -1,0 +1,37 @@
+//! What an engine gives.
+
+use rtps_reader::Notice;
+use rtps_types::{Locators, Octets, Place};
+use std::alloc::{Allocator, Global};
+
+/// An answering datagram, for the one who owns the sockets to send.
+#[derive(Debug, Drop)]
+pub struct Answer<A: Allocator = Global> {
+    /// The place of the event that it answers.
+    pub place: Place,
+    /// The rank of the reader that sends it, or `None` where discovery does.
+    pub rank: Option<u32>,
+    /// Where it goes.
+    pub to: Locators<A>,
+    /// The whole datagram, from `RTPS` on.
+    pub octets: Octets<A>,
+}
+
+/// What a datagram gives.
+#[derive(Debug, Drop)]
+pub struct Outcome<V, A: Allocator = Global> {
+    /// What each reader is told, by its rank, each in the order in which it came.
+    pub notices: Vec<Vec<Notice<V>, A>, A>,
+    /// The answers, by place, discovery's before those of readers, and these by rank.
+    pub answers: Vec<Answer<A>, A>,
+}
+
+/// One thing that a datagram gives, for those who want all in the order in which it came: by place,
+/// then by rank, and of one reader its notices before its answer.
+#[derive(Debug, Drop)]
+pub enum Report<V, A: Allocator = Global> {
+    /// The reader of this rank is told something.
+    Notice { rank: u32, notice: Notice<V> },
+    /// A datagram is to be sent.
+    Answer(Answer<A>),
+}

@@ -1,0 +1,58 @@
+//! The readers of a configuration, at the start.
+
+ghost use Rattle.std.specs.Prelude.{◌≡◌, ℕ, ◌<◌, ◌≤◌, IfOk, length, map, slice_index_or};
+ghost use Rattle.rtps_reader.specs.Standing.{writer_in};
+ghost use Rattle.rtps_reader.specs.Reader.{first_reader};
+ghost use Rattle.rtps_serial.specs.Run.{entity_of, fixed_of};
+ghost use Rattle.rtps_serial.specs.Standing.{AllStand};
+
+use crate::deal::{empty_lists, push_by};
+use rtps_discovery::{FixedMatch, ReaderConfig};
+use rtps_reader::ReaderState;
+use rtps_types::{GuidPrefix, Locators, WriterFacts};
+use std::alloc::{AllocError, Allocator};
+
+/// The writers that each reader is matched with from the start, by rank.
+pub(crate) fn fixed_by_rank<A: Allocator + Copy>(
+    alloc: A,
+    readers: usize,
+    fixed: &[FixedMatch],
+) -> Result<Vec<Vec<WriterFacts<A>, A>, A>, AllocError>
+    ensures count { IfOk result (λ lists. length lists.items ≡ readers) }
+    ensures fixed { IfOk result (λ lists. (rank : ℕ) (other : _) → rank < readers → map writer_in (slice_index_or lists.items rank other).items ≡ fixed_of fixed.now rank) }
+{
+    let mut lists = empty_lists(alloc, readers)?;
+    for pair in fixed {
+        let locators = Vec::from_slice(alloc, pair.locators.as_slice())?;
+        let facts = WriterFacts {
+            writer: pair.writer,
+            locators: Locators::new(locators),
+        };
+        push_by(&mut lists, pair.rank, facts)?;
+    }
+    Ok(lists)
+}
+
+/// Readers to which nothing came yet.
+pub(crate) fn first_readers<A: Allocator + Copy>(
+    alloc: A,
+    own: GuidPrefix,
+    readers: &[ReaderConfig],
+    fixed: &[Vec<WriterFacts<A>, A>],
+) -> Result<Vec<ReaderState<A>, A>, AllocError>
+    requires fixed { length fixed.now ≡ length readers.now }
+    requires few { length readers.now ≤ 256 }
+    ensures count { IfOk result (λ states. length states.items ≡ length readers.now) }
+    ensures stand { (matched : ℕ → _) → ((rank : ℕ) (other : _) → rank < length readers.now → map writer_in (slice_index_or fixed.now rank other).items ≡ matched rank)
+        → IfOk result (λ states. AllStand (λ rank. first_reader (entity_of readers.now rank) (matched rank)) states.items) }
+{
+    let mut states = Vec::new(alloc);
+    for (rank, reader) in readers.iter().enumerate() {
+        let fixed = fixed[rank].as_slice();
+        match ReaderState::new(alloc, rank as u32, own, reader.entity, false, fixed) {
+            Ok(state) => states.push(state)?,
+            Err(_) => return Err(AllocError),
+        }
+    }
+    Ok(states)
+}

@@ -1,0 +1,157 @@
+//! The steps of the readers, one event after the other.
+
+ghost use Rattle.std.specs.Prelude.{◌≡◌, ℕ, ◌≤◌, ◌++◌, IfErr, IfOk, None, OnOk, Some, false, if◌then◌else◌, length, map, nat_lt};
+ghost use Rattle.rtps_serial.specs.declared.errors.EngineError.TheVariants as engine;
+ghost use Rattle.rtps_serial.specs.Seen.{matches_below};
+ghost use Rattle.rtps_discovery.specs.Addressed.{is_discovery};
+ghost use Rattle.rtps_receiver.specs.Events.{events_of, view};
+ghost use Rattle.rtps_reader.specs.Body.{body_by};
+ghost use Rattle.rtps_reader.specs.Reader.{Reader, status_of};
+ghost use Rattle.rtps_reader.specs.Standing.{StandsAt};
+ghost use Rattle.rtps_reader.specs.Notices.{notice_view};
+ghost use Rattle.rtps_serial.specs.Outcome.{report_view};
+ghost use Rattle.rtps_serial.specs.Standing.{AllStand};
+ghost use Rattle.rtps_serial.specs.World.{Hears, World, puts, puts_below, reader_by};
+ghost use Rattle.rtps_serial.specs.Run.{world_run};
+
+use crate::errors::EngineError;
+use crate::outcome::Report;
+use dds_topic::{Catalog, NoMemory};
+use rtps_discovery::is_discovery;
+use rtps_reader::{Asked, Notice, Output, ReaderState, Status, Step};
+use rtps_receiver::{Event, events};
+use rtps_types::{Guid, GuidPrefix};
+use std::alloc::{AllocError, Allocator, Global};
+use std::collections::BTreeSet;
+
+/// Gives an event to one reader, and adds what it is told.
+fn step_one<C: Catalog, A: Allocator + Copy>(
+    reader: &mut ReaderState<A>,
+    alloc: A,
+    values: Global,
+    catalog: &C,
+    event: &Event<'_>,
+    reports: &mut Vec<Report<C::Value, A>, A>,
+) -> Result<(), AllocError>
+    requires other { is_discovery (view event.now).writer ≡ false }
+    ensures stands { (r : Reader) → StandsAt r reader.old → OnOk result (StandsAt (reader_by (view event.now) r) reader.new) }
+    ensures rank { reader.new.rank ≡ reader.old.rank }
+    ensures put { (r : Reader) → StandsAt r reader.old → OnOk result (map (report_view C.view) reports.new.items
+        ≡ map (report_view C.view) reports.old.items
+        ++ puts (body_by (C.meaning catalog.now) (C.hash catalog.now) (C.hash_of_key catalog.now)) (view event.now) reader.old.rank r) }
+{
+    let mut output = Output {
+        notices: Vec::new(alloc),
+        answers: Vec::new(alloc),
+    };
+    let step = Step {
+        place: event.place,
+        what: Asked::Event(*event),
+    };
+    match reader.step(alloc, values, catalog, &step, &mut output) {
+        Ok(()) => {}
+        Err(_) => return Err(AllocError),
+    }
+    report_all::<C, A>(reader.rank(), output.notices, reports)
+}
+
+/// Adds notices of the reader of a rank.
+fn report_all<C: Catalog, A: Allocator>(
+    rank: u32,
+    notices: Vec<Notice<C::Value>, A>,
+    reports: &mut Vec<Report<C::Value, A>, A>,
+) -> Result<(), AllocError>
+    ensures { OnOk result (map (report_view C.view) reports.new.items ≡ map (report_view C.view) reports.old.items ++ map (Hears rank) (map (notice_view C.view) notices.items)) }
+{
+    for notice in notices {
+        match reports.push(Report::Notice { rank, notice }) {
+            Ok(()) => {}
+            Err(_) => return Err(AllocError),
+        }
+    }
+    Ok(())
+}
+
+/// Gives an event to all readers, by rank. An event of an announcer is discovery's alone.
+fn step_all<C: Catalog, A: Allocator + Copy>(
+    readers: &mut [ReaderState<A>],
+    alloc: A,
+    values: Global,
+    catalog: &C,
+    event: &Event<'_>,
+    reports: &mut Vec<Report<C::Value, A>, A>,
+) -> Result<(), AllocError>
+    ensures stands { (rs : ℕ → Reader) → AllStand rs readers.old → OnOk result (AllStand (λ k. reader_by (view event.now) (rs k)) readers.new) }
+    ensures put { (rs : ℕ → Reader) → AllStand rs readers.old → OnOk result (map (report_view C.view) reports.new.items
+        ≡ map (report_view C.view) reports.old.items
+        ++ puts_below (body_by (C.meaning catalog.now) (C.hash catalog.now) (C.hash_of_key catalog.now)) (view event.now) rs (length readers.old)) }
+{
+    if is_discovery(event.writer) {
+        return Ok(());
+    }
+    for at in 0..readers.len() {
+        step_one(&mut readers[at], alloc, values, catalog, event, reports)?;
+    }
+    Ok(())
+}
+
+/// Gives the events of a datagram to all readers, one by one.
+pub(crate) fn take_datagram<C: Catalog, A: Allocator + Copy>(
+    readers: &mut [ReaderState<A>],
+    alloc: A,
+    values: Global,
+    catalog: &C,
+    own: GuidPrefix,
+    index: u64,
+    octets: &[u8],
+) -> Result<Vec<Report<C::Value, A>, A>, EngineError>
+    requires { length octets.now ≤ 65507 }
+    ensures failed { IfErr result (λ e. e ≡ engine.NoMemory) }
+    ensures stands { (w : World C.Meaning) → AllStand w.readers readers.old
+        → OnOk result (AllStand (world_run (body_by (C.meaning catalog.now) (C.hash catalog.now) (C.hash_of_key catalog.now)) w (events_of own index octets.now)).readers readers.new) }
+    ensures put { (w : World C.Meaning) → AllStand w.readers readers.old → w.count ≡ length readers.old
+        → IfOk result (λ reports. (world_run (body_by (C.meaning catalog.now) (C.hash catalog.now) (C.hash_of_key catalog.now)) w (events_of own index octets.now)).put ≡ w.put ++ map (report_view C.view) reports.items) }
+{
+    let Ok(events) = events(alloc, own, index, octets) else {
+        return Err(EngineError::NoMemory);
+    };
+    let mut reports = Vec::new(alloc);
+    for event in &events {
+        match step_all(readers, alloc, values, catalog, event, &mut reports) {
+            Ok(()) => {}
+            Err(_) => return Err(EngineError::NoMemory),
+        }
+    }
+    Ok(reports)
+}
+
+/// The matches of all readers, by rank.
+pub(crate) fn all_matches<A: Allocator + Copy>(
+    alloc: A,
+    readers: &[ReaderState<A>],
+) -> Result<BTreeSet<(u32, Guid), A>, NoMemory>
+    ensures { (rs : ℕ → Reader) → AllStand rs readers.now → IfOk result (λ matches. matches.keys ≡ matches_below rs (length readers.now)) }
+{
+    let mut matches = BTreeSet::new(alloc);
+    for reader in readers {
+        match reader.add_matches(&mut matches) {
+            Ok(()) => {}
+            Err(_) => return Err(NoMemory),
+        }
+    }
+    Ok(matches)
+}
+
+/// The status of the reader of a rank, if there is one.
+pub(crate) fn status_of<A: Allocator + Copy>(
+    readers: &[ReaderState<A>],
+    rank: u32,
+) -> Option<Status>
+    ensures { (rs : ℕ → Reader) → AllStand rs readers.now → result ≡ (if nat_lt rank (length readers.now) then Some (status_of (rs rank)) else None) }
+{
+    let at = rank as usize;
+    if at >= readers.len() {
+        return None;
+    }
+    Some(readers[at].status())
+}

@@ -1,7 +1,0 @@
-use Rattle.std.proofs.Common.{◌≡◌, ◌*◌, ◌++◌, take, drop}
-use Rattle.hex.specs.Hex.{encode_lower}
-use Rattle.rtps_text.proofs.octets.write_hex.Given as goal
-
-abbrev pub invariant-octets : goal.invariant-octets
-invariant-octets l =
-    take (2 * l.i) l.digits ++ encode_lower (drop l.i l.octets) ≡ encode_lower l.octets

@@ -1,0 +1,17 @@
+use Rattle.std.proofs.lemmas.Result.{on_ok_weaker}
+use Rattle.std.specs.Prelude.{codes, ◌∷◌, [], decimal}
+use Rattle.rtps_text.specs.Told.{matches_text}
+use Rattle.rtps_text.proofs.Appended.{added_is_joined}
+use Rattle.rtps_text.proofs.summary.push_status.Goals as goal
+
+pub returns : goal.returns
+returns g c = on_ok_weaker c.push_octet-4.result (λ e. rw e (rw c.in_ok-push_number-3.ensures (rw c.in_ok-push_octet-3.ensures (rw c.in_ok-push_number-2.ensures (rw c.in_ok-push_octet-2.ensures (rw c.in_ok-push_matches.ensures (rw c.in_ok-push_octet.ensures (rw c.in_ok-push_number.ensures (rw c.in_ok-push_word.ensures (rw c.from-3.ensures (rw c.from-2.ensures (rw c.from.ensures (added_is_joined _ (codes "status ") (
+    (decimal c.args.rank)
+    ∷ (codes " ")
+    ∷ (matches_text c.args.status.now)
+    ∷ (codes " ")
+    ∷ (decimal c.args.status.now.lost_total)
+    ∷ (codes " ")
+    ∷ (decimal c.args.status.now.samples)
+    ∷ (codes "\n")
+    ∷ [])))))))))))))) c.push_octet-4.ensures

@@ -1,0 +1,75 @@
+//! What stands behind the last line of a run: its matches, and how its readers stand.
+
+ghost use Rattle.std.specs.Prelude.{◌≡◌, ◌++◌, List, OnOk, ℕ};
+ghost use Rattle.rtps_reader.specs.Body.{body_by};
+ghost use Rattle.rtps_records.specs.Text.{IsFront};
+ghost use Rattle.rtps_serial.specs.Run.{run};
+ghost use Rattle.rtps_serial.specs.Standing.{StandsAt};
+ghost use Rattle.rtps_text.specs.Replayed.{match_lines, status_lines, status_text, summary_text};
+
+use crate::summary::{push_match, push_status};
+use dds_topic::Catalog;
+use rtps_reader::Status;
+use rtps_serial::SerialEngine;
+use rtps_types::Guid;
+use std::alloc::{AllocError, Allocator};
+use std::collections::BTreeSet;
+
+/// Adds the lines of the matches and those of the statuses, both by rank.
+pub(crate) fn push_summary<C: Catalog, A: Allocator, B: Allocator + Copy>(
+    out: &mut Vec<u8, A>,
+    alloc: B,
+    engine: &SerialEngine<C, B>,
+) -> Result<(), AllocError>
+    ensures grows { OnOk result (IsFront out.old.items out.new.items) }
+    ensures sums { (datagrams : List (List ℕ)) → StandsAt (body_by (C.meaning engine.now.catalog) (C.hash engine.now.catalog) (C.hash_of_key engine.now.catalog)) datagrams engine.now
+        → OnOk result (out.new.items ≡ out.old.items ++ summary_text (run (body_by (C.meaning engine.now.catalog) (C.hash engine.now.catalog) (C.hash_of_key engine.now.catalog)) engine.now.config datagrams)) }
+{
+    let Ok(matches) = engine.matches(alloc) else {
+        return Err(AllocError);
+    };
+    push_all_matches(out, &matches)?;
+    push_statuses(out, engine)
+}
+
+/// Adds the lines of matches.
+fn push_all_matches<A: Allocator, B: Allocator>(
+    out: &mut Vec<u8, A>,
+    matches: &BTreeSet<(u32, Guid), B>,
+) -> Result<(), AllocError>
+    ensures { OnOk result (out.new.items ≡ out.old.items ++ match_lines matches.now.keys) }
+{
+    for pair in matches.iter() {
+        push_match(out, pair.0, pair.1)?;
+    }
+    Ok(())
+}
+
+/// Adds the line of how each reader stands.
+fn push_statuses<C: Catalog, A: Allocator, B: Allocator + Copy>(
+    out: &mut Vec<u8, A>,
+    engine: &SerialEngine<C, B>,
+) -> Result<(), AllocError>
+    ensures grows { OnOk result (IsFront out.old.items out.new.items) }
+    ensures tells { (datagrams : List (List ℕ)) → StandsAt (body_by (C.meaning engine.now.catalog) (C.hash engine.now.catalog) (C.hash_of_key engine.now.catalog)) datagrams engine.now
+        → OnOk result (out.new.items ≡ out.old.items ++ status_lines (run (body_by (C.meaning engine.now.catalog) (C.hash engine.now.catalog) (C.hash_of_key engine.now.catalog)) engine.now.config datagrams).readers (run (body_by (C.meaning engine.now.catalog) (C.hash engine.now.catalog) (C.hash_of_key engine.now.catalog)) engine.now.config datagrams).count) }
+{
+    for rank in 0..engine.readers() {
+        push_status_of(out, rank, engine.status(rank))?;
+    }
+    Ok(())
+}
+
+/// Adds the line of a status, if there is one.
+fn push_status_of<A: Allocator>(
+    out: &mut Vec<u8, A>,
+    rank: u32,
+    status: Option<Status>,
+) -> Result<(), AllocError>
+    ensures { OnOk result (out.new.items ≡ out.old.items ++ status_text rank status) }
+{
+    match status {
+        Some(status) => push_status(out, rank, &status),
+        None => Ok(()),
+    }
+}

@@ -1,0 +1,16 @@
+//! Endpoints in hex.
+
+ghost use Rattle.std.specs.Prelude.{◌≡◌, ◌++◌, OnOk};
+ghost use Rattle.rtps_text.specs.Told.{guid_text};
+
+use crate::octets::push_hex;
+use rtps_types::Guid;
+use std::alloc::{AllocError, Allocator};
+
+/// Adds the prefix and the entity id of an endpoint in hex, with nothing between.
+pub(crate) fn push_guid<A: Allocator>(out: &mut Vec<u8, A>, guid: Guid) -> Result<(), AllocError>
+    ensures { OnOk result (out.new.items ≡ out.old.items ++ guid_text guid) }
+{
+    push_hex(out, &guid.prefix.0)?;
+    push_hex(out, &guid.entity.0)
+}

@@ -1,0 +1,88 @@
+//! The line of what a reader tells.
+
+ghost use Rattle.std.specs.Prelude.{◌≡◌, ◌++◌, OnOk};
+ghost use Rattle.std.specs.Fmt.{decimal};
+ghost use Rattle.rtps_reader.specs.Notices.{notice_view, told_view};
+ghost use Rattle.rtps_text.specs.Line.{◌then◌};
+ghost use Rattle.rtps_text.specs.Told.{guid_text, heard_line, told_text};
+
+use crate::context::push_place;
+use crate::guid::push_guid;
+use crate::numbers::push_number;
+use crate::sample::push_sample;
+use crate::word::{push_octet, push_word};
+use dds_topic::TextCatalog;
+use rtps_reader::{Notice, Told};
+use rtps_types::Guid;
+use std::alloc::{AllocError, Allocator, Global};
+
+/// Adds the line of what the reader of this rank tells, with its end. The text of a value is made
+/// in `values` first.
+pub fn push_notice<C: TextCatalog, A: Allocator>(
+    out: &mut Vec<u8, A>,
+    values: Global,
+    catalog: &C,
+    rank: u32,
+    notice: &Notice<C::Value>,
+) -> Result<(), AllocError>
+    ensures { OnOk result (out.new.items ≡ out.old.items ++ heard_line (C.text_of catalog.now) rank (notice_view C.view notice.now)) }
+{
+    push_place(out, notice.place)?;
+    push_word(out, " reader ")?;
+    push_number(out, u64::from(rank))?;
+    push_octet(out, b' ')?;
+    push_told(out, values, catalog, notice.writer, &notice.what)?;
+    push_octet(out, b'\n')
+}
+
+/// Adds what is told of the match with a writer.
+fn push_told<C: TextCatalog, A: Allocator>(
+    out: &mut Vec<u8, A>,
+    values: Global,
+    catalog: &C,
+    writer: Guid,
+    what: &Told<C::Value>,
+) -> Result<(), AllocError>
+    ensures { OnOk result (out.new.items ≡ out.old.items ++ told_text (C.text_of catalog.now) writer (told_view C.view what.now)) }
+{
+    match what {
+        Told::Sample { number, time, body } => {
+            push_about(out, "sample", writer)?;
+            push_octet(out, b' ')?;
+            push_sample(out, values, catalog, *number, *time, body)
+        }
+        Told::Matched => push_about(out, "matched", writer),
+        Told::Unmatched => push_about(out, "unmatched", writer),
+        Told::Incompatible { policy } => {
+            push_counted(out, "incompatible", writer, u64::from(*policy))
+        }
+        Told::Lost { count } => push_counted(out, "lost", writer, *count),
+    }
+}
+
+/// Adds a word and the writer that it is about.
+fn push_about<A: Allocator>(
+    out: &mut Vec<u8, A>,
+    word: &str,
+    writer: Guid,
+) -> Result<(), AllocError>
+    ensures { OnOk result (out.new.items ≡ out.old.items ++ (word.now then guid_text writer)) }
+{
+    push_word(out, word)?;
+    push_octet(out, b' ')?;
+    push_guid(out, writer)
+}
+
+/// Adds a word, the writer that it is about, and a number.
+fn push_counted<A: Allocator>(
+    out: &mut Vec<u8, A>,
+    word: &str,
+    writer: Guid,
+    number: u64,
+) -> Result<(), AllocError>
+    ensures { OnOk result (out.new.items ≡ out.old.items ++ (word.now then guid_text writer then decimal number)) }
+{
+    push_about(out, word, writer)?;
+    push_octet(out, b' ')?;
+    push_number(out, number)
+}

@@ -1,0 +1,202 @@
+//! The lines of a run against lines that were written down by hand.
+
+use crate::{push_answer, push_match, push_notice, push_status};
+use dds_topic::{Catalog, Raw, RawValue, Shapes, TextCatalog, Unread};
+use rtps_reader::{Body, Notice, Status, Told};
+use rtps_types::{EntityId, Guid, GuidPrefix, KeyHash, Locator, Number, Place, Timestamp};
+use std::alloc::Global;
+use std::test::Fail;
+
+const PLACE: Place = Place {
+    datagram: 4_294_967_296,
+    submessage: 2,
+};
+
+const WRITER: Guid = Guid {
+    prefix: GuidPrefix([1, 2, 3, 4, 5, 6, 7, 8, 9, 10, 11, 12]),
+    entity: EntityId([0, 0, 1, 0xc2]),
+};
+
+const TIME: Timestamp = Timestamp {
+    seconds: 0x11223344,
+    fraction: 0x00667788,
+};
+
+const HASH: KeyHash = KeyHash([0, 1, 2, 3, 4, 5, 6, 7, 8, 9, 10, 11, 12, 13, 14, 0xff]);
+
+/// BLUE at 10, -20 of size 30, in little-endian CDR.
+const BLUE: [u8; 24] = [
+    5, 0, 0, 0, 0x42, 0x4c, 0x55, 0x45, 0, 0, 0, 0, 10, 0, 0, 0, 0xec, 0xff, 0xff, 0xff, 30, 0, 0,
+    0,
+];
+
+const HERE: Locator = Locator {
+    port: 7410,
+    address: [192, 0, 2, 17],
+};
+
+const THERE: Locator = Locator {
+    port: 65535,
+    address: [10, 20, 30, 255],
+};
+
+/// The line of what the reader of rank 3 tells.
+fn heard<C: TextCatalog>(
+    alloc: Global,
+    catalog: &C,
+    what: Told<C::Value>,
+) -> Result<Vec<u8>, Fail> {
+    let notice = Notice {
+        place: PLACE,
+        writer: WRITER,
+        what,
+    };
+    let mut out = Vec::new(alloc);
+    push_notice(&mut out, alloc, catalog, 3, &notice)?;
+    Ok(out)
+}
+
+/// A change of this number and time.
+fn sample<V: Drop>(number: u64, time: Option<Timestamp>, body: Body<V>) -> Result<Told<V>, Fail> {
+    match Number::new(number) {
+        Some(number) => Ok(Told::Sample { number, time, body }),
+        None => Err(Fail::new("no number")),
+    }
+}
+
+#[test]
+fn prints_what_is_told_of_matches(rt: HostRuntime) -> Result<(), Fail> {
+    let lines: [(Told<RawValue>, &str); 4] = [
+        (
+            Told::Matched,
+            "4294967296:2 reader 3 matched 0102030405060708090a0b0c000001c2\n",
+        ),
+        (
+            Told::Unmatched,
+            "4294967296:2 reader 3 unmatched 0102030405060708090a0b0c000001c2\n",
+        ),
+        (
+            Told::Incompatible { policy: 11 },
+            "4294967296:2 reader 3 incompatible 0102030405060708090a0b0c000001c2 11\n",
+        ),
+        (
+            Told::Lost {
+                count: 4_611_686_018_427_387_904,
+            },
+            "4294967296:2 reader 3 lost 0102030405060708090a0b0c000001c2 4611686018427387904\n",
+        ),
+    ];
+    for (what, line) in lines {
+        let out = heard(rt.alloc(), &Raw, what)?;
+        assert_eq!(rt; out.as_slice(), line.as_bytes(), "for {line}");
+    }
+    Ok(())
+}
+
+#[test]
+fn prints_values(rt: HostRuntime) -> Result<(), Fail> {
+    let alloc = rt.alloc();
+    let shape = Body::Value(HASH, Shapes.decode(alloc, 1, &BLUE)?);
+    let out = heard(alloc, &Shapes, sample(7, Some(TIME), shape)?)?;
+    let line =
+        "4294967296:2 reader 3 sample 0102030405060708090a0b0c000001c2 7 11223344.00667788 value 424c5545 10 -20 30\n";
+    assert_eq!(rt; out.as_slice(), line.as_bytes());
+
+    let raw = Body::Value(HASH, Raw.decode(alloc, 1, &[0xde, 0xad])?);
+    let out = heard(alloc, &Raw, sample(8, None, raw)?)?;
+    let line = "4294967296:2 reader 3 sample 0102030405060708090a0b0c000001c2 8 - value dead\n";
+    assert_eq!(rt; out.as_slice(), line.as_bytes());
+
+    let raw = Body::Value(HASH, Raw.decode(alloc, 1, &[])?);
+    let out = heard(alloc, &Raw, sample(9, None, raw)?)?;
+    let line = "4294967296:2 reader 3 sample 0102030405060708090a0b0c000001c2 9 - value -\n";
+    assert_eq!(rt; out.as_slice(), line.as_bytes());
+    Ok(())
+}
+
+#[test]
+fn prints_ends_of_instances_and_what_is_unread(rt: HostRuntime) -> Result<(), Fail> {
+    let lines: [(Body<RawValue>, &str); 6] = [
+        (
+            Body::Disposed(HASH),
+            "4294967296:2 reader 3 sample 0102030405060708090a0b0c000001c2 1 - disposed 000102030405060708090a0b0c0d0eff\n",
+        ),
+        (
+            Body::Unregistered(HASH),
+            "4294967296:2 reader 3 sample 0102030405060708090a0b0c000001c2 1 - unregistered 000102030405060708090a0b0c0d0eff\n",
+        ),
+        (
+            Body::Unread(Unread::Encapsulation),
+            "4294967296:2 reader 3 sample 0102030405060708090a0b0c000001c2 1 - unread 1\n",
+        ),
+        (
+            Body::Unread(Unread::Malformed),
+            "4294967296:2 reader 3 sample 0102030405060708090a0b0c000001c2 1 - unread 2\n",
+        ),
+        (
+            Body::Unread(Unread::NonStandard),
+            "4294967296:2 reader 3 sample 0102030405060708090a0b0c000001c2 1 - unread 3\n",
+        ),
+        (
+            Body::Unread(Unread::NoKey),
+            "4294967296:2 reader 3 sample 0102030405060708090a0b0c000001c2 1 - unread 4\n",
+        ),
+    ];
+    for (body, line) in lines {
+        let out = heard(rt.alloc(), &Raw, sample(1, None, body)?)?;
+        assert_eq!(rt; out.as_slice(), line.as_bytes(), "for {line}");
+    }
+    Ok(())
+}
+
+#[test]
+fn prints_answers(rt: HostRuntime) -> Result<(), Fail> {
+    let lines: [(&[Locator], &[u8], &str); 3] = [
+        (&[], &[], "4294967296:2 answer - -\n"),
+        (
+            &[HERE],
+            &[0x52, 0x54],
+            "4294967296:2 answer 192.0.2.17:7410 5254\n",
+        ),
+        (
+            &[THERE, HERE],
+            &[0x0f],
+            "4294967296:2 answer 10.20.30.255:65535,192.0.2.17:7410 0f\n",
+        ),
+    ];
+    for (to, octets, line) in lines {
+        let mut out = Vec::new(rt.alloc());
+        push_answer(&mut out, PLACE, to, octets)?;
+        assert_eq!(rt; out.as_slice(), line.as_bytes(), "for {line}");
+    }
+    Ok(())
+}
+
+#[test]
+fn prints_matches_and_statuses(rt: HostRuntime) -> Result<(), Fail> {
+    let status = Status {
+        matched_total: 4,
+        matched_now: 3,
+        incompatible_total: 2_147_483_647,
+        last_policy: Some(23),
+        lost_total: 5,
+        samples: 60,
+    };
+    let quiet = Status {
+        incompatible_total: 0,
+        last_policy: None,
+        ..status
+    };
+    let mut out = Vec::new(rt.alloc());
+    push_match(&mut out, 0, WRITER)?;
+    push_match(&mut out, 12, WRITER)?;
+    push_status(&mut out, 0, &status)?;
+    push_status(&mut out, 12, &quiet)?;
+    let lines = "match 0 0102030405060708090a0b0c000001c2
+match 12 0102030405060708090a0b0c000001c2
+status 0 4 3 2147483647 23 5 60
+status 12 4 3 0 - 5 60
+";
+    assert_eq!(rt; out.as_slice(), lines.as_bytes());
+    Ok(())
+}
