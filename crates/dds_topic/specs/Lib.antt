@@ -4,5 +4,4 @@ pub mod RawMeaning
 pub mod ShapeMeaning
 pub mod ShapeLaw
 pub mod ShapeType
-pub mod Shown
 pub mod SensorMeaning

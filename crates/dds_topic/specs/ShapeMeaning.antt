@@ -11,7 +11,7 @@ use Rattle.rtps_cdr.specs.Reading.{Cursor, start, value_of, moved, text_in, sign
 use Rattle.rtps_cdr.specs.Following.{after_read, and_then}
 use Rattle.rtps_cdr.specs.Writing.{written}
 use Rattle.dds_topic.specs.Encapsulation.{order_by}
-use Rattle.dds_topic.specs.Shown.{shown}
+use Rattle.rtps_ascii.specs.Hex.{hex_text}
 use Rattle.dds_topic.specs.declared.unread.Unread.{Unread as UnreadCode}
 use Rattle.dds_topic.specs.declared.unread.Unread.TheVariants.{Malformed}
 use Rattle.dds_topic.specs.declared.shape.Shape.{Shape}
@@ -64,4 +64,4 @@ shape_hash_of_key kind body = and_then (order_by kind) (λ e. and_then (color_of
 
 -- the color in hex and the three numbers, with blanks between
 abbrev pub shape_text : ShapeMeaning → List ℕ
-shape_text s = shown s.color ++ (codes " " ++ (signed_decimal s.x ++ (codes " " ++ (signed_decimal s.y ++ (codes " " ++ signed_decimal s.size)))))
+shape_text s = hex_text s.color ++ (codes " " ++ (signed_decimal s.x ++ (codes " " ++ (signed_decimal s.y ++ (codes " " ++ signed_decimal s.size)))))

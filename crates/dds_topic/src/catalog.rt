@@ -1,6 +1,6 @@
 //! What a data type has to answer.
 
-ghost use Rattle.std.specs.Prelude.{◌≡◌, ℕ, List, Result, Ok, IfOk};
+ghost use Rattle.std.specs.Prelude.{◌≡◌, ◌++◌, ℕ, List, Result, Ok, IfOk, OnOk};
 ghost use Rattle.rtps_types.specs.declared.identity.KeyHash.{KeyHash};
 ghost use Rattle.dds_topic.specs.declared.unread.Unread.{Unread};
 ghost use Rattle.dds_topic.specs.Answer.{Gives};
@@ -8,7 +8,7 @@ ghost use Rattle.dds_topic.specs.Answer.{Gives};
 use crate::CatalogError;
 use rtps_cdr::NoMemory;
 use rtps_types::KeyHash;
-use std::alloc::Global;
+use std::alloc::{AllocError, Allocator, Global};
 
 /// One data type: how its payloads are decoded, and how its values are told apart.
 ///
@@ -21,6 +21,10 @@ use std::alloc::Global;
 pub trait Catalog: Send + Sync + Drop {
     /// A value of the type.
     type Value: Send + Drop;
+
+    /// What is kept from one value to the next, so that a key that came before is told faster; `()`
+    /// where nothing is.
+    type Memo: Default + Send + Drop;
 
     // What a value means.
     ghost Meaning: { Type 0 };
@@ -52,6 +56,15 @@ pub trait Catalog: Send + Sync + Drop {
     fn key_of(&self, alloc: Global, value: &Self::Value) -> Result<KeyHash, NoMemory>
         ensures { IfOk result (λ h. h ≡ hash self.now (view value.now)) };
 
+    /// The same, with what was kept of the keys of earlier values.
+    fn key_by(
+        &self,
+        memo: &mut Self::Memo,
+        alloc: Global,
+        value: &Self::Value,
+    ) -> Result<KeyHash, NoMemory>
+        ensures { IfOk result (λ h. h ≡ hash self.now (view value.now)) };
+
     /// The value's key as the body of a key payload: little-endian, without encapsulation.
     fn key_payload(&self, alloc: Global, value: &Self::Value) -> Result<Vec<u8>, NoMemory>
         ensures { IfOk result (λ v. v.items ≡ key self.now (view value.now)) };
@@ -66,7 +79,15 @@ pub trait Catalog: Send + Sync + Drop {
 
 /// A catalog whose values can be printed.
 pub trait TextCatalog: Catalog {
-    /// What stands for the value in a printed line, in ASCII and without a line end.
+    /// Adds what stands for the value in a printed line, in ASCII and without a line end.
+    fn push_text<A: Allocator>(
+        &self,
+        out: &mut Vec<u8, A>,
+        value: &Self::Value,
+    ) -> Result<(), AllocError>
+        ensures { OnOk result (out.new.items ≡ out.old.items ++ Self.text_of self.now (Self.view value.now)) };
+
+    /// The same in memory of its own.
     fn text(&self, alloc: Global, value: &Self::Value) -> Result<Vec<u8>, NoMemory>
         ensures { IfOk result (λ v. v.items ≡ Self.text_of self.now (Self.view value.now)) };
 }

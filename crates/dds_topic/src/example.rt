@@ -28,6 +28,8 @@ pub struct Sensors;
 impl Catalog for Sensors {
     type Value = Sensor;
 
+    type Memo = ();
+
     ghost Meaning = { ℕ × ℕ × ℤ };
 
     ghost view = { λ s. (s.station, s.channel, s.value) };
@@ -55,6 +57,10 @@ impl Catalog for Sensors {
     }
 
     fn key_of(&self, _: Global, value: &Sensor) -> Result<KeyHash, NoMemory> {
+        Ok(padded(value.station, value.channel))
+    }
+
+    fn key_by(&self, _: &mut (), _: Global, value: &Sensor) -> Result<KeyHash, NoMemory> {
         Ok(padded(value.station, value.channel))
     }
 

@@ -6,10 +6,10 @@
 #![tactic(auto)]
 
 mod catalog;
+mod color_keys;
 mod encapsulation;
 #[cfg(test)]
 mod example;
-mod hexed;
 pub mod laws;
 mod raw;
 mod shape;
@@ -19,6 +19,7 @@ mod tests;
 mod unread;
 
 pub use catalog::{Catalog, TextCatalog};
+pub use color_keys::ColorKeys;
 pub use encapsulation::byte_order;
 pub use raw::{Raw, RawValue};
 pub use rtps_cdr::NoMemory;

@@ -1,14 +1,14 @@
 //! Payloads as they stand.
 
 ghost use Rattle.std.specs.Prelude.{◌≡◌, Ok, IfOk, IsOkAnd, [], refl};
+ghost use Rattle.rtps_ascii.specs.Hex.{hex_text};
 ghost use Rattle.dds_topic.specs.RawMeaning.{RawMeaning, raw_view, no_key};
-ghost use Rattle.dds_topic.specs.Shown.{shown};
 
-use crate::hexed::show;
 use crate::{Catalog, CatalogError, TextCatalog};
+use rtps_ascii::push_hex;
 use rtps_cdr::NoMemory;
 use rtps_types::KeyHash;
-use std::alloc::{Allocator, Global};
+use std::alloc::{AllocError, Allocator, Global};
 
 /// A body with the kind of its encapsulation.
 #[derive(Debug, Drop)]
@@ -36,6 +36,8 @@ pub fn raw_value<A: Allocator>(alloc: A, kind: u16, body: &[u8]) -> Result<RawVa
 impl Catalog for Raw {
     type Value = RawValue;
 
+    type Memo = ();
+
     ghost Meaning = { RawMeaning };
 
     ghost view = { raw_view };
@@ -48,13 +50,19 @@ impl Catalog for Raw {
 
     ghost hash_of_key = { λ _ _ _. Ok no_key };
 
-    ghost text_of = { λ _ v. shown v.body };
+    ghost text_of = { λ _ v. hex_text v.body };
 
     fn decode(&self, alloc: Global, kind: u16, body: &[u8]) -> Result<RawValue, CatalogError> {
         Ok(raw_value(alloc, kind, body)?)
     }
 
     fn key_of(&self, _: Global, _: &RawValue) -> Result<KeyHash, NoMemory>
+        ensures { result ≡ Ok no_key }
+    {
+        Ok(NO_KEY)
+    }
+
+    fn key_by(&self, _: &mut (), _: Global, _: &RawValue) -> Result<KeyHash, NoMemory>
         ensures { result ≡ Ok no_key }
     {
         Ok(NO_KEY)
@@ -76,7 +84,17 @@ impl Catalog for Raw {
 }
 
 impl TextCatalog for Raw {
+    fn push_text<A: Allocator>(
+        &self,
+        out: &mut Vec<u8, A>,
+        value: &RawValue,
+    ) -> Result<(), AllocError> {
+        push_hex(out, value.body.as_slice())
+    }
+
     fn text(&self, alloc: Global, value: &RawValue) -> Result<Vec<u8>, NoMemory> {
-        Ok(show(alloc, value.body.as_slice())?.into_bytes())
+        let mut out = Vec::new(alloc);
+        self.push_text(&mut out, value)?;
+        Ok(out)
     }
 }

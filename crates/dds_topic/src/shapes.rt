@@ -1,6 +1,6 @@
 //! The type of the Shapes demo.
 
-ghost use Rattle.std.specs.Prelude.{◌≡◌, ◌≤◌, ◌+◌, ◌^◌, ◌<◌, length, Ok, IfOk, OnOk};
+ghost use Rattle.std.specs.Prelude.{◌≡◌, ◌≤◌, ◌++◌, ◌+◌, ◌^◌, ◌<◌, length, Ok, IfOk, OnOk};
 ghost use Rattle.std.specs.String.{string_bytes};
 ghost use Rattle.rtps_cdr.specs.Cdr.{Text};
 ghost use Rattle.rtps_cdr.specs.Writing.{written};
@@ -8,13 +8,14 @@ ghost use Rattle.dds_topic.specs.Answer.{Gives};
 ghost use Rattle.dds_topic.specs.ShapeMeaning.{ShapeMeaning, shape_view, shape_in, shape_meaning, color_of, color_hash, color_key, shape_hash_of_key, shape_text, behind_text};
 ghost use Rattle.dds_topic.specs.ShapeLaw.{shape_key_again};
 
+use crate::color_keys::ColorKeys;
 use crate::encapsulation::byte_order;
-use crate::hexed::show;
 use crate::{Catalog, CatalogError, Shape, TextCatalog, Unread};
 use md5::{Digest, Md5};
+use rtps_ascii::{push_hex, push_octet, push_signed};
 use rtps_cdr::{CdrReader, CdrWriter, NoMemory};
 use rtps_types::{Endian, KeyHash};
-use std::alloc::{Allocator, Global};
+use std::alloc::{AllocError, Allocator, Global};
 
 /// The catalog of the Shapes demo: `string<128> color` (the key), `long x`, `long y`,
 /// `long shapesize`, in plain CDR of either byte order.
@@ -69,7 +70,7 @@ pub fn key_octets<A: Allocator>(alloc: A, color: &str) -> Result<Vec<u8, A>, NoM
 }
 
 /// The hash of a color: of its length, which counts its NUL, of the color and of the NUL.
-fn hash_of(color: &str) -> KeyHash
+pub(crate) fn hash_of(color: &str) -> KeyHash
     requires { length color.now ≤ 128 }
     ensures { result ≡ color_hash color.now }
 {
@@ -80,17 +81,23 @@ fn hash_of(color: &str) -> KeyHash
     KeyHash(hasher.finalize())
 }
 
-/// The text of a shape.
-pub fn line_of<A: Allocator + Copy>(alloc: A, shape: &Shape) -> Result<Vec<u8, A>, NoMemory>
-    ensures { IfOk result (λ v. v.items ≡ shape_text (shape_view shape.now)) }
+/// Adds the text of a shape: its color in hex, where it is and its size.
+fn push_shape<A: Allocator>(out: &mut Vec<u8, A>, shape: &Shape) -> Result<(), AllocError>
+    ensures { OnOk result (out.new.items ≡ out.old.items ++ shape_text (shape_view shape.now)) }
 {
-    let color = show(alloc, shape.color.as_bytes())?;
-    let text = format!(in alloc; "{color} {} {} {}", shape.x, shape.y, shape.size)?;
-    Ok(text.into_bytes())
+    push_hex(out, shape.color.as_bytes())?;
+    push_octet(out, b' ')?;
+    push_signed(out, shape.x)?;
+    push_octet(out, b' ')?;
+    push_signed(out, shape.y)?;
+    push_octet(out, b' ')?;
+    push_signed(out, shape.size)
 }
 
 impl Catalog for Shapes {
     type Value = Shape;
+
+    type Memo = ColorKeys;
 
     ghost Meaning = { ShapeMeaning };
 
@@ -117,6 +124,15 @@ impl Catalog for Shapes {
         Ok(hash_of(value.color.as_str()))
     }
 
+    fn key_by(
+        &self,
+        memo: &mut ColorKeys,
+        alloc: Global,
+        value: &Shape,
+    ) -> Result<KeyHash, NoMemory> {
+        memo.key(alloc, value.color.as_str())
+    }
+
     fn key_payload(&self, alloc: Global, value: &Shape) -> Result<Vec<u8>, NoMemory> {
         key_octets(alloc, value.color.as_str())
     }
@@ -131,7 +147,17 @@ impl Catalog for Shapes {
 }
 
 impl TextCatalog for Shapes {
+    fn push_text<A: Allocator>(
+        &self,
+        out: &mut Vec<u8, A>,
+        value: &Shape,
+    ) -> Result<(), AllocError> {
+        push_shape(out, value)
+    }
+
     fn text(&self, alloc: Global, value: &Shape) -> Result<Vec<u8>, NoMemory> {
-        line_of(alloc, value)
+        let mut out = Vec::new(alloc);
+        self.push_text(&mut out, value)?;
+        Ok(out)
     }
 }

@@ -4,10 +4,11 @@ ghost use Rattle.std.specs.Prelude.{Ok};
 ghost use Rattle.dds_topic.specs.Answer.{Gives};
 
 use crate::example::{Sensor, Sensors};
-use crate::hexed::show;
 use crate::raw::raw_value;
-use crate::shapes::{key_octets, line_of, read_shape};
-use crate::{Catalog, CatalogError, NoMemory, Raw, Shape, Shapes, TextCatalog, Unread, byte_order};
+use crate::shapes::{key_octets, read_shape};
+use crate::{
+    Catalog, CatalogError, ColorKeys, NoMemory, Raw, Shape, Shapes, TextCatalog, Unread, byte_order,
+};
 use linked_list_allocator::LocalHeap;
 use rtps_cdr::{CdrReader, CdrWriter};
 use rtps_types::{Endian, KeyHash};
@@ -62,6 +63,49 @@ fn a_blue_shape(rt: HostRuntime) -> Result<(), Fail> {
         assert_eq!(rt; Shapes.key_of_payload(alloc, 0, b"\0\0\0\x05BLUE\0")?, blue);
         assert_eq!(rt; Shapes.key_of_payload(alloc, kind, body.as_slice())?, blue);
     }
+    Ok(())
+}
+
+/// Colors, and the MD5 of each one's key in big-endian CDR, by another program.
+const KEYS: [(&str, &str); 10] = [
+    ("BLUE", "cac217c318363f8ef1160eeedef9e886"),
+    ("RED", "d36de865fac295155f18df7157b217e6"),
+    ("GREEN", "30219b4293ba6b3fee6a4fe029813882"),
+    ("YELLOW", "9ed0e8b29f0249becf6b24567d3b0da9"),
+    ("MAGENTA", "f9625959be09d27fb02b253a3c34ae5f"),
+    ("CYAN", "9a645a7c40249a606e2fc7e727beee86"),
+    ("ORANGE", "f7633de59c2ab88464ba6718232d3921"),
+    ("PURPLE", "76ccd5cd1341d7749828d43ec1432aca"),
+    ("BLACK", "ade9b9b23b1c95e5979c1be3ad79b312"),
+    ("", "113b7f2f33d9035e4d9c5f52fc8b54d6"),
+];
+
+/// The body of a shape of this color, in little-endian CDR.
+fn body_in(alloc: Global, color: &str) -> Result<Vec<u8>, Fail> {
+    if color.len() > 8 {
+        return Err(Fail::new("a longer color than the table has"));
+    }
+    let mut writer = CdrWriter::new(alloc, Endian::Little);
+    writer.write_string(color)?;
+    for number in 0..3 {
+        writer.write_u32(number)?;
+    }
+    Ok(writer.finish())
+}
+
+#[test]
+fn keys_are_told_again(rt: HostRuntime) -> Result<(), Fail> {
+    let alloc = rt.alloc();
+    let mut memo = ColorKeys::default();
+    for (color, digits) in KEYS.iter().chain(&KEYS[..3]).chain(KEYS.iter().rev()) {
+        let body = body_in(alloc, color)?;
+        let shape = Shapes.decode(alloc, 1, body.as_slice())?;
+        let wanted = hash(alloc, digits)?;
+        assert_eq!(rt; Shapes.key_by(&mut memo, alloc, &shape)?, wanted);
+        assert_eq!(rt; Shapes.key_by(&mut memo, alloc, &shape)?, wanted);
+    }
+    let raw = Raw.decode(alloc, 1, b"\x01")?;
+    assert_eq!(rt; Raw.key_by(&mut (), alloc, &raw)?, KeyHash([0; 16]));
     Ok(())
 }
 
@@ -207,8 +251,8 @@ fn refused_growths(rt: HostRuntime) -> Result<(), Fail> {
     let alloc = rt.alloc();
     let body = b"\x19\0\0\0abcdefghijklmnopqrstuvwx\0\0\0\0\x0a\0\0\0\x14\0\0\0\x1e\0\0\0";
     let shape = Shapes.decode(alloc, 1, body)?;
-    let mut refused = [false; 5];
-    let mut made = [false; 5];
+    let mut refused = [false; 4];
+    let mut made = [false; 4];
     for size in 0..24 {
         let heap = LocalHeap::new(alloc, size * 16)?;
         let decoded = read_shape(&heap, &mut CdrReader::new(body, Endian::Little));
@@ -217,17 +261,14 @@ fn refused_growths(rt: HostRuntime) -> Result<(), Fail> {
         let key = key_octets(&heap, "BLUE");
         refused[1] |= key == Err(NoMemory);
         made[1] |= key.is_ok();
-        let line = line_of(&heap, &shape);
-        refused[2] |= line == Err(NoMemory);
-        made[2] |= line.is_ok();
+        let text = Shapes.push_text(&mut Vec::new(&heap), &shape);
+        refused[2] |= text.is_err();
+        made[2] |= text.is_ok();
         let value = raw_value(&heap, 1, body);
         refused[3] |= matches!(value, Err(NoMemory));
         made[3] |= value.is_ok();
-        let digits = show(&heap, body);
-        refused[4] |= digits.is_err();
-        made[4] |= digits.is_ok();
     }
-    assert_eq!(rt; refused, [true; 5]);
-    assert_eq!(rt; made, [true; 5]);
+    assert_eq!(rt; refused, [true; 4]);
+    assert_eq!(rt; made, [true; 4]);
     Ok(())
 }

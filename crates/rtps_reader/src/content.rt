@@ -36,10 +36,11 @@ const UNREGISTERED: u8 = 0x02;
 /// Without status bits it is the value that the catalog decodes. With them it tells the end of an
 /// instance, whose key comes from the value, else from the key payload, else, where there is no
 /// payload, from the key hash that was sent with the change. What the catalog can't read is
-/// presented as unread, with its reason.
+/// presented as unread, with its reason. `memo` is what the catalog keeps of earlier values.
 pub fn body_of<C: Catalog>(
     alloc: Global,
     catalog: &C,
+    memo: &mut C::Memo,
     content: &Content<'_>,
 ) -> Result<Body<C::Value>, NoMemory>
     ensures { IfOk result (λ b. body_map C.view b ≡ body_by (C.meaning catalog.now) (C.hash catalog.now) (C.hash_of_key catalog.now) (carried content.now)) }
@@ -47,7 +48,7 @@ pub fn body_of<C: Catalog>(
     if content.status & (DISPOSED | UNREGISTERED) == 0 {
         return match value_of(alloc, catalog, content) {
             Ok(value) => {
-                let hash = catalog.key_of(alloc, &value)?;
+                let hash = catalog.key_by(memo, alloc, &value)?;
                 Ok(Body::Value(hash, value))
             }
             Err(CatalogError::Unread(unread)) => Ok(Body::Unread(unread)),

@@ -22,6 +22,7 @@ pub(crate) fn tell<C: Catalog, A: Allocator>(
     status: Status,
     values: Global,
     catalog: &C,
+    memo: &mut C::Memo,
     place: Place,
     writer: Guid,
     effects: Option<Effects<'_, A>>,
@@ -36,7 +37,7 @@ pub(crate) fn tell<C: Catalog, A: Allocator>(
         return Ok(status);
     };
     let samples = effects.ready.len() as u64;
-    present(values, catalog, place, writer, &effects, notices)?;
+    present(values, catalog, memo, place, writer, &effects, notices)?;
     Ok(counted_in(status, effects.lost, samples))
 }
 
@@ -46,6 +47,7 @@ pub(crate) fn tell<C: Catalog, A: Allocator>(
 fn present<C: Catalog, A: Allocator>(
     values: Global,
     catalog: &C,
+    memo: &mut C::Memo,
     place: Place,
     writer: Guid,
     effects: &Effects<'_, A>,
@@ -56,7 +58,8 @@ fn present<C: Catalog, A: Allocator>(
         ++ (loses place writer effects.now.lost ++ map (presented (body_by (C.meaning catalog.now) (C.hash catalog.now) (C.hash_of_key catalog.now)) place writer) (map change_view effects.now.ready.items))) }
 {
     tell_lost::<C, A>(place, writer, effects.lost, notices)?;
-    tell_ready(values, catalog, place, writer, &effects.ready, notices)
+    let ready = &effects.ready;
+    tell_ready(values, catalog, memo, place, writer, ready, notices)
 }
 
 /// Adds a notice of what was lost, where anything was.
@@ -83,6 +86,7 @@ fn tell_lost<C: Catalog, A: Allocator>(
 fn tell_ready<C: Catalog, A: Allocator>(
     values: Global,
     catalog: &C,
+    memo: &mut C::Memo,
     place: Place,
     writer: Guid,
     ready: &[Change<'_, A>],
@@ -99,7 +103,7 @@ fn tell_ready<C: Catalog, A: Allocator>(
             hash: change.hash,
             payload: change.payload.as_slice(),
         };
-        let body = body_of(values, catalog, &content)?;
+        let body = body_of(values, catalog, memo, &content)?;
         notices.push(Notice {
             place,
             writer,

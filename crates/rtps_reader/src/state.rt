@@ -122,7 +122,8 @@ impl<A: Allocator + Copy> ReaderState<A> {
 
     /// Takes one step, and adds what it gives behind what is in `output`: of an event that is for the
     /// reader and comes from a writer that it is matched with, what was lost and then the samples
-    /// that are ready. Any other event changes nothing. `values` is where values are decoded.
+    /// that are ready. Any other event changes nothing. `values` is where values are decoded,
+    /// and `memo` what the catalog keeps of earlier ones.
     ///
     /// After want of memory the reader is spent: each later step answers so too.
     pub fn step<C: Catalog>(
@@ -130,6 +131,7 @@ impl<A: Allocator + Copy> ReaderState<A> {
         alloc: A,
         values: Global,
         catalog: &C,
+        memo: &mut C::Memo,
         step: &Step<'_>,
         output: &mut Output<C::Value, A>,
     ) -> Result<(), ReaderError>
@@ -144,7 +146,7 @@ impl<A: Allocator + Copy> ReaderState<A> {
     {
         match &step.what {
             Asked::Event(event) => {
-                self.on_event(alloc, values, catalog, step.place, event, output)
+                self.on_event(alloc, values, catalog, memo, step.place, event, output)
             }
         }
     }
@@ -155,6 +157,7 @@ impl<A: Allocator + Copy> ReaderState<A> {
         alloc: A,
         values: Global,
         catalog: &C,
+        memo: &mut C::Memo,
         place: Place,
         event: &Event<'_>,
         output: &mut Output<C::Value, A>,
@@ -184,6 +187,7 @@ impl<A: Allocator + Copy> ReaderState<A> {
             self.status,
             values,
             catalog,
+            memo,
             place,
             writer,
             effects,

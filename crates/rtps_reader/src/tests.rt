@@ -3,7 +3,7 @@
 mod state;
 
 use crate::*;
-use dds_topic::{Raw, Shapes, Unread};
+use dds_topic::{ColorKeys, Raw, Shapes, Unread};
 use rtps_types::KeyHash;
 use rtps_wire::Form;
 use std::alloc::Global;
@@ -37,9 +37,11 @@ fn content(form: Form, status: u8, hash: Option<KeyHash>, payload: &[u8]) -> Con
 
 #[test]
 fn values(rt: HostRuntime) -> Result<(), Fail> {
+    let mut memo = ColorKeys::default();
     match body_of(
         rt.alloc(),
         &Shapes,
+        &mut memo,
         &content(Form::Value, 0, Some(SENT), &BLUE),
     )? {
         Body::Value(hash, shape) => {
@@ -50,7 +52,12 @@ fn values(rt: HostRuntime) -> Result<(), Fail> {
         _ => assert!(rt; false, "no value"),
     }
     // Other bits of the status say nothing.
-    match body_of(rt.alloc(), &Raw, &content(Form::Value, 0xfc, None, &BLUE))? {
+    match body_of(
+        rt.alloc(),
+        &Raw,
+        &mut (),
+        &content(Form::Value, 0xfc, None, &BLUE),
+    )? {
         Body::Value(hash, raw) => {
             assert_eq!(rt; hash, KeyHash([0; 16]));
             assert_eq!(rt; raw.body.len(), 24);
@@ -62,6 +69,7 @@ fn values(rt: HostRuntime) -> Result<(), Fail> {
 
 #[test]
 fn ends_of_instances(rt: HostRuntime) -> Result<(), Fail> {
+    let mut memo = ColorKeys::default();
     // The key comes from the value, from the key payload, or from what was sent with the change.
     for (form, payload, hash) in [
         (Form::Value, BLUE.as_slice(), BLUE_HASH),
@@ -72,6 +80,7 @@ fn ends_of_instances(rt: HostRuntime) -> Result<(), Fail> {
             match body_of(
                 rt.alloc(),
                 &Shapes,
+                &mut memo,
                 &content(form, status, Some(SENT), payload),
             )? {
                 Body::Disposed(key) => {
@@ -91,7 +100,7 @@ fn ends_of_instances(rt: HostRuntime) -> Result<(), Fail> {
 
 /// What can't be read, and why.
 fn reason(alloc: Global, content: Content<'_>) -> Result<Option<Unread>, Fail> {
-    match body_of(alloc, &Shapes, &content)? {
+    match body_of(alloc, &Shapes, &mut ColorKeys::default(), &content)? {
         Body::Unread(unread) => Ok(Some(unread)),
         _ => Ok(None),
     }

@@ -28,6 +28,8 @@ const DATAGRAM_LIMIT: u64 = 281_474_976_710_656;
 #[derive(Drop)]
 pub struct SerialEngine<C: Catalog, A: Allocator = Global> {
     catalog: C,
+    /// What the catalog keeps of the values that it decoded.
+    memo: C::Memo,
     config: Config,
     /// How many datagrams were taken.
     index: u64,
@@ -95,6 +97,7 @@ impl<C: Catalog, A: Allocator + Copy> SerialEngine<C, A> {
         let readers = first_readers(alloc, config.own, &config.readers, &fixed)?;
         Ok(SerialEngine {
             catalog,
+            memo: C::Memo::default(),
             config,
             index: 0,
             failed: false,
@@ -102,24 +105,27 @@ impl<C: Catalog, A: Allocator + Copy> SerialEngine<C, A> {
         })
     }
 
-    /// Takes the next datagram, at most 65,507 octets, and gives all that follows from it in the
-    /// order in which it comes: by place, then by rank, and of one reader its notices before its
-    /// answer. `values` is where values are decoded.
+    /// Takes the next datagram, at most 65,507 octets, and puts all that follows from it in
+    /// `reports`, in place of what is there, in the order in which it comes: by place, then by rank,
+    /// and of one reader its notices before its answer. `values` is where values are decoded.
+    ///
+    /// After a refusal `reports` says nothing.
     #[tactic(auto, unfolding(crate::specs::Standing::Takes))]
     pub fn take_in_order(
         &mut self,
         alloc: A,
         values: Global,
         octets: &[u8],
-    ) -> Result<Vec<Report<C::Value, A>, A>, EngineError>
+        reports: &mut Vec<Report<C::Value, A>, A>,
+    ) -> Result<(), EngineError>
         requires { length octets.now ≤ 65507 }
         ensures takes { Takes result self.old self.new }
         ensures same { (self.new.catalog ≡ self.old.catalog) × (self.new.config ≡ self.old.config) }
         ensures stands { (datagrams : List (List ℕ)) → StandsAt (body_by (C.meaning self.old.catalog) (C.hash self.old.catalog) (C.hash_of_key self.old.catalog)) datagrams self.old
             → OnOk result (StandsAt (body_by (C.meaning self.old.catalog) (C.hash self.old.catalog) (C.hash_of_key self.old.catalog)) (datagrams ++ octets.now ∷ []) self.new) }
         ensures put { (datagrams : List (List ℕ)) → StandsAt (body_by (C.meaning self.old.catalog) (C.hash self.old.catalog) (C.hash_of_key self.old.catalog)) datagrams self.old
-            → IfOk result (λ reports. (run (body_by (C.meaning self.old.catalog) (C.hash self.old.catalog) (C.hash_of_key self.old.catalog)) self.old.config (datagrams ++ octets.now ∷ [])).put
-            ≡ (run (body_by (C.meaning self.old.catalog) (C.hash self.old.catalog) (C.hash_of_key self.old.catalog)) self.old.config datagrams).put ++ map (report_view C.view) reports.items) }
+            → OnOk result ((run (body_by (C.meaning self.old.catalog) (C.hash self.old.catalog) (C.hash_of_key self.old.catalog)) self.old.config (datagrams ++ octets.now ∷ [])).put
+            ≡ (run (body_by (C.meaning self.old.catalog) (C.hash self.old.catalog) (C.hash_of_key self.old.catalog)) self.old.config datagrams).put ++ map (report_view C.view) reports.new.items) }
     {
         if self.failed {
             return Err(EngineError::Failed);
@@ -128,18 +134,20 @@ impl<C: Catalog, A: Allocator + Copy> SerialEngine<C, A> {
             return Err(EngineError::Spent);
         }
         self.failed = true;
-        let reports = take_datagram(
+        take_datagram(
             &mut self.readers,
             alloc,
             values,
             &self.catalog,
+            &mut self.memo,
             self.config.own,
             self.index,
             octets,
+            reports,
         )?;
         self.index += 1;
         self.failed = false;
-        Ok(reports)
+        Ok(())
     }
 
     /// Takes the next datagram, at most 65,507 octets, and gives what each reader is told and what is
@@ -163,7 +171,8 @@ impl<C: Catalog, A: Allocator + Copy> SerialEngine<C, A> {
             → IfOk result (Adds C.view (run (body_by (C.meaning self.old.catalog) (C.hash self.old.catalog) (C.hash_of_key self.old.catalog)) self.old.config datagrams)
             (run (body_by (C.meaning self.old.catalog) (C.hash self.old.catalog) (C.hash_of_key self.old.catalog)) self.old.config (datagrams ++ octets.now ∷ []))) }
     {
-        let reports = self.take_in_order(alloc, values, octets)?;
+        let mut reports = Vec::new(alloc);
+        self.take_in_order(alloc, values, octets, &mut reports)?;
         self.failed = true;
         let outcome = dealt::<C, A>(alloc, self.readers.len(), reports)?;
         self.failed = false;

@@ -1,6 +1,6 @@
 //! The steps of the readers, one event after the other.
 
-ghost use Rattle.std.specs.Prelude.{◌≡◌, ℕ, ◌≤◌, ◌++◌, IfErr, IfOk, None, OnOk, Some, false, if◌then◌else◌, length, map, nat_lt};
+ghost use Rattle.std.specs.Prelude.{◌≡◌, ℕ, ◌≤◌, ◌++◌, [], IfErr, IfOk, None, OnOk, Some, false, if◌then◌else◌, length, map, nat_lt};
 ghost use Rattle.rtps_serial.specs.declared.errors.EngineError.TheVariants as engine;
 ghost use Rattle.rtps_serial.specs.Seen.{matches_below};
 ghost use Rattle.rtps_discovery.specs.Addressed.{is_discovery};
@@ -24,46 +24,48 @@ use rtps_types::{Guid, GuidPrefix};
 use std::alloc::{AllocError, Allocator, Global};
 use std::collections::BTreeSet;
 
-/// Gives an event to one reader, and adds what it is told.
+/// Gives an event to one reader, and adds what it is told. `output` is room for that, empty before
+/// and after.
 fn step_one<C: Catalog, A: Allocator + Copy>(
     reader: &mut ReaderState<A>,
     alloc: A,
     values: Global,
     catalog: &C,
+    memo: &mut C::Memo,
     event: &Event<'_>,
+    output: &mut Output<C::Value, A>,
     reports: &mut Vec<Report<C::Value, A>, A>,
 ) -> Result<(), AllocError>
     requires other { is_discovery (view event.now).writer ≡ false }
+    requires empty { output.old.notices.items ≡ [] }
+    ensures empty { OnOk result (output.new.notices.items ≡ []) }
     ensures stands { (r : Reader) → StandsAt r reader.old → OnOk result (StandsAt (reader_by (view event.now) r) reader.new) }
     ensures rank { reader.new.rank ≡ reader.old.rank }
     ensures put { (r : Reader) → StandsAt r reader.old → OnOk result (map (report_view C.view) reports.new.items
         ≡ map (report_view C.view) reports.old.items
         ++ puts (body_by (C.meaning catalog.now) (C.hash catalog.now) (C.hash_of_key catalog.now)) (view event.now) reader.old.rank r) }
 {
-    let mut output = Output {
-        notices: Vec::new(alloc),
-        answers: Vec::new(alloc),
-    };
     let step = Step {
         place: event.place,
         what: Asked::Event(*event),
     };
-    match reader.step(alloc, values, catalog, &step, &mut output) {
+    match reader.step(alloc, values, catalog, memo, &step, output) {
         Ok(()) => {}
         Err(_) => return Err(AllocError),
     }
-    report_all::<C, A>(reader.rank(), output.notices, reports)
+    report_all::<C, A>(reader.rank(), &mut output.notices, reports)
 }
 
-/// Adds notices of the reader of a rank.
+/// Moves notices of the reader of a rank behind the reports.
 fn report_all<C: Catalog, A: Allocator>(
     rank: u32,
-    notices: Vec<Notice<C::Value>, A>,
+    notices: &mut Vec<Notice<C::Value>, A>,
     reports: &mut Vec<Report<C::Value, A>, A>,
 ) -> Result<(), AllocError>
-    ensures { OnOk result (map (report_view C.view) reports.new.items ≡ map (report_view C.view) reports.old.items ++ map (Hears rank) (map (notice_view C.view) notices.items)) }
+    ensures empty { notices.new.items ≡ [] }
+    ensures moved { OnOk result (map (report_view C.view) reports.new.items ≡ map (report_view C.view) reports.old.items ++ map (Hears rank) (map (notice_view C.view) notices.old.items)) }
 {
-    for notice in notices {
+    for notice in notices.drain(..) {
         match reports.push(Report::Notice { rank, notice }) {
             Ok(()) => {}
             Err(_) => return Err(AllocError),
@@ -78,6 +80,7 @@ fn step_all<C: Catalog, A: Allocator + Copy>(
     alloc: A,
     values: Global,
     catalog: &C,
+    memo: &mut C::Memo,
     event: &Event<'_>,
     reports: &mut Vec<Report<C::Value, A>, A>,
 ) -> Result<(), AllocError>
@@ -89,40 +92,56 @@ fn step_all<C: Catalog, A: Allocator + Copy>(
     if is_discovery(event.writer) {
         return Ok(());
     }
+    let mut output = Output {
+        notices: Vec::new(alloc),
+        answers: Vec::new(alloc),
+    };
     for at in 0..readers.len() {
-        step_one(&mut readers[at], alloc, values, catalog, event, reports)?;
+        step_one(
+            &mut readers[at],
+            alloc,
+            values,
+            catalog,
+            memo,
+            event,
+            &mut output,
+            reports,
+        )?;
     }
     Ok(())
 }
 
-/// Gives the events of a datagram to all readers, one by one.
+/// Gives the events of a datagram to all readers, one by one. What follows from it takes the place of
+/// what is in `reports`.
 pub(crate) fn take_datagram<C: Catalog, A: Allocator + Copy>(
     readers: &mut [ReaderState<A>],
     alloc: A,
     values: Global,
     catalog: &C,
+    memo: &mut C::Memo,
     own: GuidPrefix,
     index: u64,
     octets: &[u8],
-) -> Result<Vec<Report<C::Value, A>, A>, EngineError>
+    reports: &mut Vec<Report<C::Value, A>, A>,
+) -> Result<(), EngineError>
     requires { length octets.now ≤ 65507 }
     ensures failed { IfErr result (λ e. e ≡ engine.NoMemory) }
     ensures stands { (w : World C.Meaning) → AllStand w.readers readers.old
         → OnOk result (AllStand (world_run (body_by (C.meaning catalog.now) (C.hash catalog.now) (C.hash_of_key catalog.now)) w (events_of own index octets.now)).readers readers.new) }
     ensures put { (w : World C.Meaning) → AllStand w.readers readers.old → w.count ≡ length readers.old
-        → IfOk result (λ reports. (world_run (body_by (C.meaning catalog.now) (C.hash catalog.now) (C.hash_of_key catalog.now)) w (events_of own index octets.now)).put ≡ w.put ++ map (report_view C.view) reports.items) }
+        → OnOk result ((world_run (body_by (C.meaning catalog.now) (C.hash catalog.now) (C.hash_of_key catalog.now)) w (events_of own index octets.now)).put ≡ w.put ++ map (report_view C.view) reports.new.items) }
 {
     let Ok(events) = events(alloc, own, index, octets) else {
         return Err(EngineError::NoMemory);
     };
-    let mut reports = Vec::new(alloc);
+    reports.clear();
     for event in &events {
-        match step_all(readers, alloc, values, catalog, event, &mut reports) {
+        match step_all(readers, alloc, values, catalog, memo, event, reports) {
             Ok(()) => {}
             Err(_) => return Err(EngineError::NoMemory),
         }
     }
-    Ok(reports)
+    Ok(())
 }
 
 /// The matches of all readers, by rank.

@@ -133,7 +133,8 @@ fn all_comes_by_place_and_then_by_rank(rt: HostRuntime) -> Result<(), Fail> {
     let mut engine = two_readers(rt.alloc())?;
     let changes = [(FOR_ALL, 1), (FOR_SECOND, 2), (FOR_ALL, 3)];
     let octets = datagram(rt.alloc(), &changes)?;
-    let reports = engine.take_in_order(rt.alloc(), rt.alloc(), octets.as_slice())?;
+    let mut reports = Vec::new(rt.alloc());
+    engine.take_in_order(rt.alloc(), rt.alloc(), octets.as_slice(), &mut reports)?;
     let expected: [(u32, (u64, u32, u64, u64)); 6] = [
         (0, (0, 1, 1, 0)),
         (1, (0, 1, 1, 0)),

@@ -1,4 +1,3 @@
-pub mod Hex
 pub mod Line
 pub mod Views
 pub mod EventLines

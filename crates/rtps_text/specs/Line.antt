@@ -10,7 +10,7 @@ use Rattle.rtps_wire.specs.declared.data.Form.{Form}
 use Rattle.rtps_wire.specs.declared.data.Form.TheVariants.{Value, Key, Other, Nothing}
 use Rattle.rtps_receiver.specs.Brought.{Announced, AnnouncedFragments, Brought, Change, Fragments, Passed, Whole, Fragment, Heartbeat, Gap, HeartbeatFrag}
 use Rattle.rtps_receiver.specs.Events.{Happening}
-use Rattle.rtps_text.specs.Hex.{hex_text}
+use Rattle.rtps_ascii.specs.Hex.{hex_text}
 
 -- two texts with a blank between
 infixr 10 ◌then◌

@@ -9,7 +9,7 @@ use Rattle.rtps_reader.specs.declared.body.Body.{Body}
 use Rattle.rtps_reader.specs.declared.body.Body.TheVariants as body
 use Rattle.rtps_reader.specs.declared.status.Status.{Status}
 use Rattle.rtps_reader.specs.Reader.{Notice, Told, Presents, Begins, Ends, Refuses, Loses}
-use Rattle.rtps_text.specs.Hex.{hex_text}
+use Rattle.rtps_ascii.specs.Hex.{hex_text}
 use Rattle.rtps_text.specs.Line.{◌then◌, place_text, time_text}
 
 -- an endpoint's prefix and its entity id, with nothing between (DDSI-RTPS 8.2.4.1)

@@ -5,8 +5,7 @@ ghost use Rattle.rtps_text.specs.Told.{answer_line};
 
 use crate::context::push_place;
 use crate::locators::push_locators;
-use crate::octets::push_hex;
-use crate::word::{push_octet, push_word};
+use rtps_ascii::{push_hex, push_octet, push_word};
 use rtps_types::{Locator, Place};
 use std::alloc::{AllocError, Allocator};
 

@@ -5,9 +5,8 @@ ghost use Rattle.rtps_receiver.specs.Addressed.{body_view};
 ghost use Rattle.rtps_text.specs.Line.{body_text, flags_text, form_word, fragment_text, gap_text, hash_text, heartbeat_frag_text, heartbeat_text, pieces_text, whole_text};
 ghost use Rattle.rtps_text.specs.Views.{fragment_view, gap_view, heartbeat_frag_view, heartbeat_view, whole_view};
 
-use crate::numbers::{push_members, push_number, push_signed};
-use crate::octets::push_hex;
-use crate::word::{push_octet, push_word};
+use crate::numbers::push_members;
+use rtps_ascii::{push_hex, push_number, push_octet, push_signed, push_word};
 use rtps_receiver::{Body, Fragment, Gap, Heartbeat, HeartbeatFrag, Whole};
 use rtps_types::KeyHash;
 use rtps_wire::Form;

@@ -4,9 +4,7 @@ ghost use Rattle.std.specs.Prelude.{◌≡◌, ◌++◌, OnOk};
 ghost use Rattle.rtps_receiver.specs.Events.{view};
 ghost use Rattle.rtps_text.specs.Line.{context_text, place_text, time_text};
 
-use crate::numbers::push_number;
-use crate::octets::push_hex;
-use crate::word::push_octet;
+use rtps_ascii::{push_hex, push_number, push_octet};
 use rtps_receiver::Event;
 use rtps_types::{Place, Timestamp};
 use std::alloc::{AllocError, Allocator};

@@ -3,7 +3,7 @@
 ghost use Rattle.std.specs.Prelude.{◌≡◌, ◌++◌, OnOk};
 ghost use Rattle.rtps_text.specs.Told.{guid_text};
 
-use crate::octets::push_hex;
+use rtps_ascii::push_hex;
 use rtps_types::Guid;
 use std::alloc::{AllocError, Allocator};
 

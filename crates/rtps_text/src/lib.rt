@@ -13,12 +13,10 @@ mod line;
 mod locators;
 mod notice;
 mod numbers;
-mod octets;
 mod replaying;
 mod reports;
 mod sample;
 mod summary;
-mod word;
 
 pub use answer::push_answer;
 pub use dumping::{dump, dump_in};

@@ -6,7 +6,7 @@ ghost use Rattle.rtps_text.specs.Line.{line_of};
 
 use crate::body::push_body;
 use crate::context::push_context;
-use crate::word::push_octet;
+use rtps_ascii::push_octet;
 use rtps_receiver::Event;
 use std::alloc::{AllocError, Allocator};
 

@@ -3,8 +3,7 @@
 ghost use Rattle.std.specs.Prelude.{◌≡◌, ◌++◌, OnOk};
 ghost use Rattle.rtps_text.specs.Told.{address_text, locator_text, locators_text, more_locators};
 
-use crate::numbers::push_number;
-use crate::word::push_octet;
+use rtps_ascii::{push_number, push_octet};
 use rtps_types::Locator;
 use std::alloc::{AllocError, Allocator};
 

@@ -8,19 +8,16 @@ ghost use Rattle.rtps_text.specs.Told.{guid_text, heard_line, told_text};
 
 use crate::context::push_place;
 use crate::guid::push_guid;
-use crate::numbers::push_number;
 use crate::sample::push_sample;
-use crate::word::{push_octet, push_word};
 use dds_topic::TextCatalog;
+use rtps_ascii::{push_number, push_octet, push_word};
 use rtps_reader::{Notice, Told};
 use rtps_types::Guid;
-use std::alloc::{AllocError, Allocator, Global};
+use std::alloc::{AllocError, Allocator};
 
-/// Adds the line of what the reader of this rank tells, with its end. The text of a value is made
-/// in `values` first.
+/// Adds the line of what the reader of this rank tells, with its end.
 pub fn push_notice<C: TextCatalog, A: Allocator>(
     out: &mut Vec<u8, A>,
-    values: Global,
     catalog: &C,
     rank: u32,
     notice: &Notice<C::Value>,
@@ -31,14 +28,13 @@ pub fn push_notice<C: TextCatalog, A: Allocator>(
     push_word(out, " reader ")?;
     push_number(out, u64::from(rank))?;
     push_octet(out, b' ')?;
-    push_told(out, values, catalog, notice.writer, &notice.what)?;
+    push_told(out, catalog, notice.writer, &notice.what)?;
     push_octet(out, b'\n')
 }
 
 /// Adds what is told of the match with a writer.
 fn push_told<C: TextCatalog, A: Allocator>(
     out: &mut Vec<u8, A>,
-    values: Global,
     catalog: &C,
     writer: Guid,
     what: &Told<C::Value>,
@@ -49,7 +45,7 @@ fn push_told<C: TextCatalog, A: Allocator>(
         Told::Sample { number, time, body } => {
             push_about(out, "sample", writer)?;
             push_octet(out, b' ')?;
-            push_sample(out, values, catalog, *number, *time, body)
+            push_sample(out, catalog, *number, *time, body)
         }
         Told::Matched => push_about(out, "matched", writer),
         Told::Unmatched => push_about(out, "unmatched", writer),

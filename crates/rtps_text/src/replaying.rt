@@ -13,7 +13,7 @@ use crate::reports::push_reports;
 use dds_topic::TextCatalog;
 use rtps_discovery::Config;
 use rtps_records::{MAX_LEN, RunFault, flush_all, next_record, put_all, read_magic, spill, zeros};
-use rtps_serial::SerialEngine;
+use rtps_serial::{Report, SerialEngine};
 use std::alloc::{AllocError, Allocator, Global};
 use std::io::{Read, Write};
 
@@ -21,9 +21,11 @@ use std::io::{Read, Write};
 #[derive(Drop)]
 struct RunLines<C: TextCatalog, B: Allocator> {
     engine: SerialEngine<C, B>,
+    /// What the last datagram gave.
+    reports: Vec<Report<C::Value, B>, B>,
     /// Where what one datagram gives is kept while it is printed.
     alloc: B,
-    /// Where values are decoded and their texts are made.
+    /// Where values are decoded.
     values: Global,
     /// Whether matches and statuses are printed behind the last record.
     summary: bool,
@@ -44,8 +46,11 @@ impl<C: TextCatalog, B: Allocator + Copy> RunLines<C, B> {
             (λ records said. HasSaid (C.text_of catalog) (body_by (C.meaning catalog) (C.hash catalog) (C.hash_of_key catalog)) records said self.new.engine)
             _number octets.now out.old.items out.new.items) }
     {
-        match self.engine.take_in_order(self.alloc, self.values, octets) {
-            Ok(reports) => push_reports(out, self.values, self.engine.catalog(), &reports),
+        match self
+            .engine
+            .take_in_order(self.alloc, self.values, octets, &mut self.reports)
+        {
+            Ok(()) => push_reports(out, self.engine.catalog(), &self.reports),
             Err(_) => Err(AllocError),
         }
     }
@@ -165,7 +170,7 @@ pub fn replay<C: TextCatalog, R: Read, W: Write>(
     replay_in(&alloc, alloc, config, catalog, summary, reader, writer)
 }
 
-/// The same over any allocator. `values` is where values are decoded and their texts are made.
+/// The same over any allocator. `values` is where values are decoded.
 pub fn replay_in<C: TextCatalog, B: Allocator, R: Read, W: Write>(
     alloc: &B,
     values: Global,
@@ -189,6 +194,7 @@ pub fn replay_in<C: TextCatalog, B: Allocator, R: Read, W: Write>(
     };
     let mut lines = RunLines {
         engine,
+        reports: Vec::new(alloc),
         alloc,
         values,
         summary,

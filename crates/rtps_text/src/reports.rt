@@ -8,19 +8,18 @@ use crate::answer::push_answer;
 use crate::notice::push_notice;
 use dds_topic::TextCatalog;
 use rtps_serial::Report;
-use std::alloc::{AllocError, Allocator, Global};
+use std::alloc::{AllocError, Allocator};
 
 /// Adds the lines of all that an engine gives, in its order.
 pub(crate) fn push_reports<C: TextCatalog, A: Allocator, B: Allocator>(
     out: &mut Vec<u8, A>,
-    values: Global,
     catalog: &C,
     reports: &[Report<C::Value, B>],
 ) -> Result<(), AllocError>
     ensures { OnOk result (out.new.items ≡ out.old.items ++ put_lines (C.text_of catalog.now) (map (report_view C.view) reports.now)) }
 {
     for report in reports {
-        push_report(out, values, catalog, report)?;
+        push_report(out, catalog, report)?;
     }
     Ok(())
 }
@@ -28,14 +27,13 @@ pub(crate) fn push_reports<C: TextCatalog, A: Allocator, B: Allocator>(
 /// Adds the line of one thing.
 fn push_report<C: TextCatalog, A: Allocator, B: Allocator>(
     out: &mut Vec<u8, A>,
-    values: Global,
     catalog: &C,
     report: &Report<C::Value, B>,
 ) -> Result<(), AllocError>
     ensures { OnOk result (out.new.items ≡ out.old.items ++ put_line (C.text_of catalog.now) (report_view C.view report.now)) }
 {
     match report {
-        Report::Notice { rank, notice } => push_notice(out, values, catalog, *rank, notice),
+        Report::Notice { rank, notice } => push_notice(out, catalog, *rank, notice),
         Report::Answer(answer) => {
             push_answer(
                 out,

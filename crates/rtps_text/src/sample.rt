@@ -5,23 +5,20 @@ ghost use Rattle.std.specs.Fmt.{decimal};
 ghost use Rattle.rtps_types.specs.Number.{value_of};
 ghost use Rattle.dds_topic.specs.Answer.{code_of};
 ghost use Rattle.rtps_reader.specs.Body.{body_map};
-ghost use Rattle.rtps_text.specs.Hex.{hex_text};
+ghost use Rattle.rtps_ascii.specs.Hex.{hex_text};
 ghost use Rattle.rtps_text.specs.Line.{◌then◌, time_text};
 ghost use Rattle.rtps_text.specs.Told.{sample_text};
 
 use crate::context::push_time;
-use crate::numbers::push_number;
-use crate::octets::push_hex;
-use crate::word::{push_octet, push_word};
 use dds_topic::{TextCatalog, Unread};
+use rtps_ascii::{push_hex, push_number, push_octet, push_word};
 use rtps_reader::Body;
 use rtps_types::{KeyHash, Number, Timestamp};
-use std::alloc::{AllocError, Allocator, Global};
+use std::alloc::{AllocError, Allocator};
 
 /// Adds a change's number and time, and what it is presented as.
 pub(crate) fn push_sample<C: TextCatalog, A: Allocator>(
     out: &mut Vec<u8, A>,
-    values: Global,
     catalog: &C,
     number: Number,
     time: Option<Timestamp>,
@@ -33,20 +30,19 @@ pub(crate) fn push_sample<C: TextCatalog, A: Allocator>(
     push_octet(out, b' ')?;
     push_time(out, time)?;
     push_octet(out, b' ')?;
-    push_presented(out, values, catalog, body)
+    push_presented(out, catalog, body)
 }
 
 /// Adds what a change is presented as.
 fn push_presented<C: TextCatalog, A: Allocator>(
     out: &mut Vec<u8, A>,
-    values: Global,
     catalog: &C,
     body: &Body<C::Value>,
 ) -> Result<(), AllocError>
     ensures { OnOk result (out.new.items ≡ out.old.items ++ sample_text (C.text_of catalog.now) (body_map C.view body.now)) }
 {
     match body {
-        Body::Value(_, value) => push_value(out, values, catalog, value),
+        Body::Value(_, value) => push_value(out, catalog, value),
         Body::Disposed(hash) => push_ended(out, "disposed", *hash),
         Body::Unregistered(hash) => push_ended(out, "unregistered", *hash),
         Body::Unread(unread) => push_unread(out, *unread),
@@ -55,17 +51,13 @@ fn push_presented<C: TextCatalog, A: Allocator>(
 
 fn push_value<C: TextCatalog, A: Allocator>(
     out: &mut Vec<u8, A>,
-    values: Global,
     catalog: &C,
     value: &C::Value,
 ) -> Result<(), AllocError>
     ensures { OnOk result (out.new.items ≡ out.old.items ++ (codes "value" then C.text_of catalog.now (C.view value.now))) }
 {
-    let Ok(text) = catalog.text(values, value) else {
-        return Err(AllocError);
-    };
     push_word(out, "value ")?;
-    out.extend_from_slice(text.as_slice())
+    catalog.push_text(out, value)
 }
 
 /// Adds how an instance ended, and the hash of its key.

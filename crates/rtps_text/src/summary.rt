@@ -4,8 +4,7 @@ ghost use Rattle.std.specs.Prelude.{◌≡◌, ◌++◌, OnOk};
 ghost use Rattle.rtps_text.specs.Told.{match_line, matches_text, policy_text, status_line};
 
 use crate::guid::push_guid;
-use crate::numbers::push_number;
-use crate::word::{push_octet, push_word};
+use rtps_ascii::{push_number, push_octet, push_word};
 use rtps_reader::Status;
 use rtps_types::Guid;
 use std::alloc::{AllocError, Allocator};

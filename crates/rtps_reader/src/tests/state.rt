@@ -1,7 +1,7 @@
 //! What a best-effort reader tells of events that were written down by hand.
 
 use crate::*;
-use dds_topic::{Shape, Shapes};
+use dds_topic::{ColorKeys, Shape, Shapes};
 use rtps_receiver::{Body as Brought, Event, Whole};
 use rtps_types::{EntityId, Guid, GuidPrefix, Locators, Number, Place, WriterFacts};
 use rtps_wire::Form;
@@ -81,6 +81,7 @@ fn told(alloc: Global, reader: &mut ReaderState) -> Result<Output<Shape>, Fail> 
         notices: Vec::new(alloc),
         answers: Vec::new(alloc),
     };
+    let mut memo = ColorKeys::default();
     for (datagram, source, to, number) in [
         (0, THEIRS, READER, 5),
         (1, THEIRS, EVERY_READER, 8),
@@ -89,7 +90,7 @@ fn told(alloc: Global, reader: &mut ReaderState) -> Result<Output<Shape>, Fail> 
         (4, GuidPrefix([12; 12]), READER, 9),
     ] {
         let step = step(datagram, source, to, number)?;
-        reader.step(alloc, alloc, &Shapes, &step, &mut output)?;
+        reader.step(alloc, alloc, &Shapes, &mut memo, &step, &mut output)?;
     }
     Ok(output)
 }

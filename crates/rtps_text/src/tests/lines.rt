@@ -52,7 +52,7 @@ fn heard<C: TextCatalog>(
         what,
     };
     let mut out = Vec::new(alloc);
-    push_notice(&mut out, alloc, catalog, 3, &notice)?;
+    push_notice(&mut out, catalog, 3, &notice)?;
     Ok(out)
 }
 

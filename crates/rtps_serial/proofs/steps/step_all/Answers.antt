@@ -28,6 +28,7 @@ loop-at-preserved g c =
     (all at c.index-readers-at.result (omega (arith, below, c.loop-at.invariant.count))) in
     record {
       count = search rules;
+      empty = c.in_ok-step_one.ensures.empty;
       left = left_more c.args.readers.now c.loop-at.readers at c.step_one.new.reader c.loop-at.invariant.left;
       done = λ rs all. done_more (λ k. reader_by event (rs k)) c.loop-at.readers at c.step_one.new.reader below (c.loop-at.invariant.done rs all)
           (record { stands = c.in_ok-step_one.ensures.stands (rs at) (one rs all).stands; ranked = c.in_ok-step_one.ensures.rank ∙ (one rs all).ranked });

@@ -19,7 +19,7 @@ returns-clause-put g c r kept =
     let answers = body_by (g.C.Catalog.meaning c.args.catalog.now) (g.C.Catalog.hash c.args.catalog.now) (g.C.Catalog.hash_of_key c.args.catalog.now) in
     let event = view c.args.event.now in
     let rank = c.args.reader.now.rank in
-    let told : map (notice_view g.C.Catalog.view) c.step.new.output.notices.items ≡ tells answers r event.place event = rw c.new.ensures.items at (c.in-Ok.ensures.notices r kept) in
+    let told : map (notice_view g.C.Catalog.view) c.step.new.output.notices.items ≡ tells answers r event.place event = rw c.requires.empty at (c.in-Ok.ensures.notices r kept) in
     let ranked = c.rank.ensures ∙ c.in-Ok.ensures.place.0 in
     let said : map (Hears c.rank.result) (map (notice_view g.C.Catalog.view) c.step.new.output.notices.items) ≡ _ = ap (λ k. map (Hears k) (map (notice_view g.C.Catalog.view) c.step.new.output.notices.items)) ranked ∙ ap (map (Hears rank)) told ∙ sym (puts_told answers event rank r c.requires.other) in
-    on_ok_then c.report_all.result (λ e. e ∙ ap (λ l. map (report_view g.C.Catalog.view) c.args.reports.now.items ++ l) said) c.report_all.ensures
+    on_ok_then c.report_all.result (λ e. e ∙ ap (λ l. map (report_view g.C.Catalog.view) c.args.reports.now.items ++ l) said) c.report_all.ensures.moved

@@ -1,10 +1,10 @@
 use Rattle.std.proofs.lemmas.Result.{on_ok_weaker}
 use Rattle.std.specs.Prelude.{codes, ◌∷◌, [], decimal}
 use Rattle.rtps_types.specs.Number.{value_of}
-use Rattle.rtps_text.specs.Hex.{hex_text}
+use Rattle.rtps_ascii.specs.Hex.{hex_text}
 use Rattle.rtps_text.specs.Line.{form_word, pieces_text}
 use Rattle.rtps_text.specs.Views.{fragment_view}
-use Rattle.rtps_text.proofs.Appended.{added_is_joined}
+use Rattle.rtps_ascii.proofs.Appended.{added_is_joined}
 use Rattle.rtps_text.proofs.body.push_fragment.Goals as goal
 
 pub returns : goal.returns

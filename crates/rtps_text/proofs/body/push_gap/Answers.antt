@@ -4,7 +4,7 @@ use Rattle.rtps_types.specs.Number.{value_of}
 use Rattle.rtps_types.specs.NumberSet.{members}
 use Rattle.rtps_types.specs.Sets.{sn_view}
 use Rattle.rtps_text.specs.Line.{numbers_text}
-use Rattle.rtps_text.proofs.Appended.{added_is_joined}
+use Rattle.rtps_ascii.proofs.Appended.{added_is_joined}
 use Rattle.rtps_text.proofs.body.push_gap.Goals as goal
 
 pub returns : goal.returns

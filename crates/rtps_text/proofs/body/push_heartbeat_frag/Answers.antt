@@ -4,7 +4,7 @@ use Rattle.std.specs.Prelude.{codes, ◌∷◌, [], decimal}
 use Rattle.std.specs.Fmt.{signed_decimal}
 use Rattle.std.specs.Int.{w32}
 use Rattle.rtps_types.specs.Number.{value_of}
-use Rattle.rtps_text.proofs.Appended.{added_is_joined}
+use Rattle.rtps_ascii.proofs.Appended.{added_is_joined}
 use Rattle.rtps_text.proofs.body.push_heartbeat_frag.Goals as goal
 
 pub returns : goal.returns

@@ -1,9 +1,9 @@
 use Rattle.std.proofs.lemmas.Result.{on_ok_weaker}
 use Rattle.std.specs.Prelude.{codes, ◌∷◌, [], decimal}
 use Rattle.rtps_types.specs.Number.{value_of}
-use Rattle.rtps_text.specs.Hex.{hex_text}
+use Rattle.rtps_ascii.specs.Hex.{hex_text}
 use Rattle.rtps_text.specs.Line.{form_word, hash_text}
-use Rattle.rtps_text.proofs.Appended.{added_is_joined}
+use Rattle.rtps_ascii.proofs.Appended.{added_is_joined}
 use Rattle.rtps_text.proofs.body.push_whole.Goals as goal
 
 pub returns : goal.returns

@@ -3,7 +3,7 @@ use Rattle.std.specs.Prelude.{codes, ◌∷◌, []}
 use Rattle.rtps_receiver.specs.Addressed.{body_view}
 use Rattle.rtps_receiver.specs.Events.{view}
 use Rattle.rtps_text.specs.Line.{body_text, context_text}
-use Rattle.rtps_text.proofs.Appended.{added_is_joined}
+use Rattle.rtps_ascii.proofs.Appended.{added_is_joined}
 use Rattle.rtps_text.proofs.line.push_line.Goals as goal
 
 pub returns : goal.returns

@@ -1,7 +1,7 @@
 use Rattle.std.proofs.Common.{[], ◌∷◌, sym, ◌∙◌, ap, ◌++◌, List, ℕ, append_assoc}
 use Rattle.std.specs.Prelude.{codes, decimal}
 use Rattle.rtps_text.specs.Line.{more_text}
-use Rattle.rtps_text.proofs.Appended.{added_is_joined}
+use Rattle.rtps_ascii.proofs.Appended.{added_is_joined}
 use Rattle.rtps_text.proofs.Rows.{more_text-append}
 use Rattle.rtps_text.proofs.numbers.push_members.Goals as goal
 

@@ -1,7 +1,7 @@
 use Rattle.std.proofs.lemmas.Result.{on_ok_weaker}
 use Rattle.std.specs.Prelude.{codes, ◌∷◌, [], decimal}
 use Rattle.rtps_text.specs.Told.{matches_text}
-use Rattle.rtps_text.proofs.Appended.{added_is_joined}
+use Rattle.rtps_ascii.proofs.Appended.{added_is_joined}
 use Rattle.rtps_text.proofs.summary.push_status.Goals as goal
 
 pub returns : goal.returns

@@ -13,7 +13,7 @@ returns-clause-adds g c datagrams kept =
     let answers = body_by (g.C.Catalog.meaning catalog) (g.C.Catalog.hash catalog) (g.C.Catalog.hash_of_key catalog) in
     let config = c.args.self.now.config in
     let taken = datagrams ++ c.args.octets.now ∷ [] in
-    let stands = c.in_ok-reports.ensures.stands datagrams kept in
+    let stands = c.in_ok-take_in_order.ensures.stands datagrams kept in
     let counted : length c.take_in_order.new.self.readers ≡ c.len.result = search rules in
-    let count = run_count answers config taken ∙ ap (λ (k : Config). length k.readers.items) (sym c.in_ok-reports.ensures.same.1) ∙ sym stands.count ∙ counted in
-    adds_dealt g.C.Catalog.view (run answers config datagrams) (run answers config taken) c.len.result (map (report_view g.C.Catalog.view) c.in_ok-reports.reports.items) c.in_ok-outcome.outcome count (c.in_ok-reports.ensures.put datagrams kept) c.in_ok-outcome.ensures
+    let count = run_count answers config taken ∙ ap (λ (k : Config). length k.readers.items) (sym c.in_ok-take_in_order.ensures.same.1) ∙ sym stands.count ∙ counted in
+    adds_dealt g.C.Catalog.view (run answers config datagrams) (run answers config taken) c.len.result (map (report_view g.C.Catalog.view) c.take_in_order.new.reports.items) c.in_ok-outcome.outcome count (c.in_ok-take_in_order.ensures.put datagrams kept) c.in_ok-outcome.ensures

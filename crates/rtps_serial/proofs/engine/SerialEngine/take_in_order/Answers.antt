@@ -18,7 +18,7 @@ returns-clause-stands g c = rw (sym c.self.view_is) (λ datagrams kept.
       index = omega (arith, kept.index, length-append datagrams (octets ∷ []));
       count = ap length (front_back _ _ _ whole) ∙ omega (arith, c.take_datagram.auto.readers, ap length c.deref_mut.ensures.value, kept.count);
       readers = subst (AllStand (run answers c.self.inside.config (datagrams ++ octets ∷ [])).readers) (sym (front_back _ _ _ whole))
-          (subst (λ (v : World g.C.Catalog.Meaning). AllStand v.readers c.take_datagram.new.readers) (sym next) ((rw c.deref_mut.ensures.value at c.in_ok-reports.ensures.stands) world kept.readers));
+          (subst (λ (v : World g.C.Catalog.Meaning). AllStand v.readers c.take_datagram.new.readers) (sym next) ((rw c.deref_mut.ensures.value at c.in_ok-take_datagram.ensures.stands) world kept.readers));
     })
 
 pub returns-clause-put : goal.returns-clause-put
@@ -27,4 +27,4 @@ returns-clause-put g c = rw (sym c.self.view_is) (λ datagrams kept.
     let octets = c.args.octets.now in
     let world = run answers c.self.inside.config datagrams in
     let next = run_more answers c.self.inside.config datagrams octets c.self.inside.index kept.index in
-    ap (λ (v : World g.C.Catalog.Meaning). v.put) next ∙ (rw c.deref_mut.ensures.value at c.in_ok-reports.ensures.put) world kept.readers (run_count answers c.self.inside.config datagrams ∙ sym kept.count))
+    ap (λ (v : World g.C.Catalog.Meaning). v.put) next ∙ (rw c.deref_mut.ensures.value at c.in_ok-take_datagram.ensures.put) world kept.readers (run_count answers c.self.inside.config datagrams ∙ sym kept.count))

@@ -1,0 +1,13 @@
+//! Octets and numbers as ASCII text, pushed behind what stands.
+#![tactic(auto)]
+
+mod hex_digits;
+mod numbers;
+mod word;
+
+pub use hex_digits::push_hex;
+pub use numbers::{push_number, push_signed};
+pub use word::{push_octet, push_word};
+
+#[cfg(test)]
+mod tests;

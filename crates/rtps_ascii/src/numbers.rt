@@ -1,0 +1,23 @@
+//! Numbers in decimal.
+
+ghost use Rattle.std.specs.Prelude.{◌≡◌, ◌++◌, OnOk};
+ghost use Rattle.std.specs.Fmt.{decimal, signed_decimal};
+
+use itoa::Buffer;
+use std::alloc::{AllocError, Allocator};
+
+/// Adds a number in decimal.
+pub fn push_number<A: Allocator>(out: &mut Vec<u8, A>, number: u64) -> Result<(), AllocError>
+    ensures { OnOk result (out.new.items ≡ out.old.items ++ decimal number) }
+{
+    let mut buffer = Buffer::new();
+    out.extend_from_slice(buffer.format(number).as_bytes())
+}
+
+/// Adds a number in decimal, with a minus below 0.
+pub fn push_signed<A: Allocator>(out: &mut Vec<u8, A>, signed: i32) -> Result<(), AllocError>
+    ensures { OnOk result (out.new.items ≡ out.old.items ++ signed_decimal signed) }
+{
+    let mut buffer = Buffer::new();
+    out.extend_from_slice(buffer.format(signed).as_bytes())
+}

@@ -1,0 +1,49 @@
+//! Each push, behind what stands.
+
+use crate::*;
+use linked_list_allocator::LocalHeap;
+use std::test::Fail;
+
+#[test]
+fn what_is_pushed_stands_behind(rt: HostRuntime) -> Result<(), Fail> {
+    let mut out = b"> ".to_vec(rt.alloc())?;
+    push_word(&mut out, "sample ")?;
+    push_hex(&mut out, b"\x00\x9f\xab")?;
+    push_octet(&mut out, b' ')?;
+    push_hex(&mut out, b"")?;
+    push_octet(&mut out, b' ')?;
+    push_number(&mut out, 18_446_744_073_709_551_615)?;
+    push_octet(&mut out, b' ')?;
+    push_signed(&mut out, -2_147_483_648)?;
+    assert_eq!(rt;
+        out.as_slice(),
+        b"> sample 009fab - 18446744073709551615 -2147483648".as_slice()
+    );
+    Ok(())
+}
+
+#[test]
+fn refused_growths(rt: HostRuntime) -> Result<(), Fail> {
+    let (mut refused, mut pushed) = (0, 0);
+    for step in 0..16 {
+        let heap = LocalHeap::new(rt.alloc(), step * 8)?;
+        let outcomes = [
+            push_word(
+                &mut Vec::new(&heap),
+                "a word that is longer than the least heap",
+            ),
+            push_octet(&mut Vec::new(&heap), b' '),
+            push_hex(&mut Vec::new(&heap), b"\x00\x9f\xab"),
+            push_number(&mut Vec::new(&heap), 256),
+            push_signed(&mut Vec::new(&heap), -1),
+        ];
+        for (bit, outcome) in outcomes.iter().enumerate() {
+            match outcome {
+                Ok(()) => pushed |= 1 << bit,
+                Err(_) => refused |= 1 << bit,
+            }
+        }
+    }
+    assert_eq!(rt; (refused, pushed), (31, 31));
+    Ok(())
+}
