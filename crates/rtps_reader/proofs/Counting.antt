@@ -1,12 +1,12 @@
 -- What notices add to the totals of a reader.
-use Rattle.std.proofs.Common.{◌≡◌, ◌+◌, ◌==◌, Bool, true, false, if◌then◌else◌, ℕ, zero, suc, min, List, [], ◌∷◌, ◌++◌, length, map, sum, Option, Some, None, refl, sym, ap, ◌∙◌, arith}
+use Rattle.std.proofs.Common.{◌≡◌, ◌+◌, Bool, true, false, if◌then◌else◌, ℕ, suc, List, [], ◌∷◌, ◌++◌, length, map, sum, Option, Some, None, refl, ap, ◌∙◌, arith}
 use Rattle.std.proofs.lemmas.Grind.{common_steps}
 use Rattle.std.proofs.lemmas.List.{append-nil, map-append}
 use Rattle.std.proofs.lemmas.List.Sums.{sum_by-append}
 use Rattle.rtps_types.specs.declared.identity.Guid.{Guid}
 use Rattle.rtps_proxy.specs.BestEffort.{lost, ready}
 use Rattle.rtps_proxy.specs.History.{Came, Sample}
-use Rattle.rtps_reader.specs.Reader.{Mark, ASample, ALoss, Match, Reader, extended, lost_in, marks_lost, marks_of, past_of, samples_in, same_guid, status_of}
+use Rattle.rtps_reader.specs.Reader.{Mark, ASample, Match, Reader, extended, lost_in, marks_lost, marks_of, samples_in, same_guid, status_of}
 use Rattle.rtps_reader.specs.Standing.{status_given}
 use Rattle.rtps_reader.specs.Status.{capped}
 

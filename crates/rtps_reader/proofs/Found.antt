@@ -1,5 +1,5 @@
 -- The match with a writer, found among the matches of a reader.
-use Rattle.std.proofs.Common.{◌≡◌, ◌<◌, ◌≤◌, ℕ, zero, suc, Bool, true, false, List, [], ◌∷◌, length, map, Option, Some, None, refl, sym, ap, ◌∙◌, get_or, set, arith}
+use Rattle.std.proofs.Common.{◌≡◌, ◌<◌, ◌≤◌, ℕ, zero, suc, Bool, true, false, List, [], ◌∷◌, length, map, Some, None, refl, sym, ap, ◌∙◌, get_or, set, arith}
 use Rattle.std.specs.List.{position, position_or_len}
 use Rattle.std.proofs.lemmas.Grind.{common_steps}
 use Rattle.std.proofs.lemmas.List.Sums.{fails_before_first}
@@ -8,7 +8,7 @@ use Rattle.rtps_proxy.specs.Effects.{BestEffortStandsAt}
 use Rattle.rtps_proxy.specs.History.{Came}
 use Rattle.rtps_reader.specs.declared.state.Seat.{Seat}
 use Rattle.rtps_reader.specs.Reader.{Match, extended, past_of, same_guid}
-use Rattle.rtps_reader.specs.Standing.{AllStand, SeatKept, seat_view}
+use Rattle.rtps_reader.specs.Standing.{AllStand, seat_view}
 
 -- where no place passes, each item fails
 pub fails_everywhere : {X : Type 0} (p : X → Bool) (xs : List X) → position p xs ≡ None → (k : ℕ) (d : X) → k < length xs → p (get_or xs k d) ≡ false

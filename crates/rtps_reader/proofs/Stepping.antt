@@ -1,5 +1,5 @@
 -- What a reader keeps and tells behind an event that is for it.
-use Rattle.std.proofs.Common.{◌≡◌, Bool, true, false, List, Option, refl, sym, ap, subst, ◌∙◌}
+use Rattle.std.proofs.Common.{◌≡◌, true, false, refl, ap, subst, ◌∙◌}
 use Rattle.rtps_types.specs.declared.place.Place.{Place}
 use Rattle.rtps_receiver.specs.Events.{Happening}
 use Rattle.rtps_reader.proofs.Counting.{length-extended, status_more}

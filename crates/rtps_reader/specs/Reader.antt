@@ -1,18 +1,16 @@
 -- A reader, by all that came for it (DDSI-RTPS 8.4.10 to 8.4.12): its matches, each with its history, and all that it told.
-use Rattle.std.specs.Prelude.{◌≡◌, ℕ, ◌+◌, List, [], ◌∷◌, ◌++◌, length, map, sum, Bool, ◌&&◌, ◌||◌, ◌==◌, Option, Some, None, Result, if◌then◌else◌, replicate}
+use Rattle.std.specs.Prelude.{ℕ, List, [], ◌∷◌, ◌++◌, length, map, sum, Bool, ◌&&◌, ◌||◌, ◌==◌, Option, Some, None, if◌then◌else◌, replicate}
 use Rattle.std.specs.Str.{bytes_eq}
 use Rattle.rtps_types.specs.declared.identity.EntityId.{EntityId}
 use Rattle.rtps_types.specs.declared.identity.Guid.{Guid}
-use Rattle.rtps_types.specs.declared.identity.KeyHash.{KeyHash}
 use Rattle.rtps_types.specs.declared.place.Place.{Place}
 use Rattle.rtps_types.specs.declared.time.Timestamp.{Timestamp}
 use Rattle.rtps_receiver.specs.Events.{Happening}
 use Rattle.rtps_proxy.specs.History.{Came, Sample}
 use Rattle.rtps_proxy.specs.BestEffort.{lost, ready}
-use Rattle.dds_topic.specs.declared.unread.Unread.{Unread as UnreadCode}
 use Rattle.rtps_reader.specs.declared.body.Body.{Body}
 use Rattle.rtps_reader.specs.declared.status.Status.{Status}
-use Rattle.rtps_reader.specs.Body.{Carried, body_by}
+use Rattle.rtps_reader.specs.Body.{Carried}
 use Rattle.rtps_reader.specs.Status.{capped}
 
 -- a match: its writer, and what came for it since it began, the newest first

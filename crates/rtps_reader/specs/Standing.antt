@@ -1,5 +1,5 @@
 -- What the code keeps of a reader.
-use Rattle.std.specs.Prelude.{◌≡◌, ◌+◌, false, Bool, ℕ, List, [], ◌∷◌, map, length, Option, Some, None}
+use Rattle.std.specs.Prelude.{◌≡◌, ◌+◌, false, Bool, ℕ, List, [], ◌∷◌, length, Option, Some, None}
 use Rattle.rtps_types.specs.declared.identity.EntityId.{EntityId}
 use Rattle.rtps_types.specs.declared.identity.Guid.{Guid}
 use Rattle.rtps_types.specs.declared.identity.GuidPrefix.{GuidPrefix}

@@ -2,7 +2,7 @@ use Rattle.std.proofs.Common.{◌≡◌, true, refl, sym, ap, subst, ◌++◌, m
 use Rattle.rtps_receiver.specs.Events.{view}
 use Rattle.rtps_reader.specs.Body.{body_by}
 use Rattle.rtps_reader.specs.Notices.{notice_view}
-use Rattle.rtps_reader.specs.Standing.{AllStand, StandsAt}
+use Rattle.rtps_reader.specs.Standing.{StandsAt}
 use Rattle.rtps_reader.proofs.Stepping.{stands_for, told_for}
 use Rattle.rtps_reader.specs.Reader.{came_of, names, past_of, writer_of}
 use Rattle.rtps_reader.proofs.state.ReaderState.on_event.Goals as goal
