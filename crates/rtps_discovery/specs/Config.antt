@@ -7,8 +7,6 @@ use Rattle.rtps_types.specs.declared.identity.GuidPrefix.{GuidPrefix}
 use Rattle.rtps_types.specs.declared.identity.Guid.{Guid}
 use Rattle.dds_qos.specs.declared.policies.Ownership.{Ownership}
 use Rattle.dds_qos.specs.declared.policies.Ownership.TheVariants.{Shared, Exclusive}
-use Rattle.dds_qos.specs.declared.policies.Reliability.{Reliability}
-use Rattle.dds_qos.specs.declared.policies.Reliability.TheVariants.{BestEffort, Reliable}
 use Rattle.rtps_discovery.specs.declared.config.ReaderConfig.{ReaderConfig}
 use Rattle.rtps_discovery.specs.declared.config.FixedMatch.{FixedMatch}
 use Rattle.rtps_discovery.specs.declared.config.Config.{Config}
@@ -31,13 +29,9 @@ abbrev pub is_exclusive : Ownership → Bool
 is_exclusive Shared = false
 is_exclusive Exclusive = true
 
-abbrev pub is_reliable : Reliability → Bool
-is_reliable BestEffort = false
-is_reliable Reliable = true
-
--- another kind, ownership that isn't shared, or a wish for reliability, as reliable readers aren't built yet
+-- another kind, or ownership that isn't shared
 abbrev pub is_bad_reader : ReaderConfig → Bool
-is_bad_reader r = not (is_reader r.entity) || (is_exclusive r.requested.policies.ownership || is_reliable r.requested.policies.reliability)
+is_bad_reader r = not (is_reader r.entity) || is_exclusive r.requested.policies.ownership
 
 -- a rank that none of the readers has, another kind, or a writer of our own
 abbrev pub is_bad_fixed : GuidPrefix → ℕ → FixedMatch → Bool

@@ -5,7 +5,7 @@ ghost use Rattle.std.specs.List.{list_any};
 ghost use Rattle.rtps_discovery.specs.Config.{check_of, has_twice, is_bad_fixed, is_bad_reader, is_reader, is_same_entity, is_same_pair, is_writer};
 
 use crate::{Config, FixedMatch, ReaderConfig};
-use dds_qos::{Ownership, Reliability};
+use dds_qos::Ownership;
 use rtps_types::{EntityId, GuidPrefix};
 use thiserror::Error;
 
@@ -16,8 +16,7 @@ pub enum ConfigFault {
     #[error("there is no reader, or there are more than 256")]
     Readers,
     /// A reader whose kind, the last octet of its entity, is neither 04 nor 07 (DDSI-RTPS 9.3.1.2), an
-    /// entity that stands twice, a reader that doesn't share ownership, or one that asks for
-    /// reliability: reliable readers aren't built yet.
+    /// entity that stands twice, or a reader that doesn't share ownership.
     #[error("a reader isn't taken")]
     BadReader,
     /// A fixed match with a rank that no reader has, with a writer whose kind is neither 02 nor 03
@@ -44,9 +43,7 @@ fn is_writer(entity: EntityId) -> bool
 fn is_bad_reader(reader: &ReaderConfig) -> bool
     ensures { result ≡ is_bad_reader reader.now }
 {
-    !is_reader(reader.entity)
-        || matches!(reader.requested.policies.ownership, Ownership::Exclusive)
-        || matches!(reader.requested.policies.reliability, Reliability::Reliable)
+    !is_reader(reader.entity) || matches!(reader.requested.policies.ownership, Ownership::Exclusive)
 }
 
 fn is_same_entity(one: &ReaderConfig, other: &ReaderConfig) -> bool

@@ -99,6 +99,11 @@ fn told(alloc: Global, row: Row<'_>) -> Result<Result<(), ConfigFault>, Fail> {
 #[test]
 fn a_good_configuration_is_taken(rt: HostRuntime) -> Result<(), Fail> {
     assert_eq!(rt; told(rt.alloc(), GOOD)?, Ok(()));
+    let reliable = Row {
+        reliability: Reliability::Reliable,
+        ..GOOD
+    };
+    assert_eq!(rt; told(rt.alloc(), reliable)?, Ok(()));
     let no_reader = Row {
         readers: &[],
         fixed: &[(0, WRITER)],
@@ -121,10 +126,6 @@ fn bad_readers_are_told_before_fixed_matches(rt: HostRuntime) -> Result<(), Fail
         },
         Row {
             ownership: Ownership::Exclusive,
-            ..GOOD
-        },
-        Row {
-            reliability: Reliability::Reliable,
             ..GOOD
         },
         Row {

@@ -4,6 +4,7 @@ use Rattle.std.specs.List.{list_any, range_with_len}
 use Rattle.std.proofs.lemmas.List.{map-append}
 use Rattle.std.proofs.lemmas.List.FromFn.{map-range_with_len_more}
 use Rattle.clap.specs.Words.{Text}
+use Rattle.dds_qos.specs.declared.policies.Reliability.{Reliability}
 use Rattle.rtps_discovery.specs.Config.{has_twice}
 use Rattle.rtps_discovery.specs.declared.config.ReaderConfig.{ReaderConfig}
 use Rattle.rtps_listen.specs.Configs.{reader_in, reader_of, readers_of}
@@ -13,10 +14,10 @@ pub ranks_more : {X : Type 0} (f : ℕ → X) (n : ℕ) → map f (range_with_le
 ranks_more f n = map-range_with_len_more f 0 n n (omega arith)
 
 -- and one reader more
-pub readers_more : (all before : List ReaderConfig) (last : ReaderConfig) (topic : Text) (n : ℕ) → all ≡ before ++ last ∷ []
-    → map reader_in before ≡ readers_of topic n → reader_in last ≡ reader_of topic n → map reader_in all ≡ readers_of topic (n + 1)
-readers_more all before last topic n more have is =
-    ap (map reader_in) more ∙ map-append reader_in before (last ∷ []) ∙ ap₂ (λ xs x. xs ++ x ∷ []) have is ∙ sym (ranks_more (reader_of topic) n)
+pub readers_more : (all before : List ReaderConfig) (last : ReaderConfig) (topic : Text) (reliability : Reliability) (n : ℕ) → all ≡ before ++ last ∷ []
+    → map reader_in before ≡ readers_of topic reliability n → reader_in last ≡ reader_of topic reliability n → map reader_in all ≡ readers_of topic reliability (n + 1)
+readers_more all before last topic reliability n more have is =
+    ap (map reader_in) more ∙ map-append reader_in before (last ∷ []) ∙ ap₂ (λ xs x. xs ++ x ∷ []) have is ∙ sym (ranks_more (reader_of topic reliability) n)
 
 -- no item of some ranks passes a test
 pub no_rank_passes : {X : Type 0} (p : X → Bool) (f : ℕ → X) (a n : ℕ) → ((k : ℕ) → a ≤ k → k < a + n → p (f k) ≡ false) → list_any p (map f (range_with_len a n)) ≡ false

@@ -10,7 +10,8 @@ use Rattle.rtps_types.specs.declared.identity.Guid.{Guid}
 use Rattle.rtps_types.specs.declared.identity.GuidPrefix.{GuidPrefix}
 use Rattle.dds_qos.specs.Defaults.{default_policies}
 use Rattle.dds_qos.specs.declared.policies.Policies.{Policies}
-use Rattle.dds_qos.specs.declared.policies.Reliability.TheVariants.{BestEffort}
+use Rattle.dds_qos.specs.declared.policies.Reliability.{Reliability}
+use Rattle.dds_qos.specs.declared.policies.Reliability.TheVariants.{BestEffort, Reliable}
 use Rattle.rtps_discovery.specs.Config.{is_writer}
 use Rattle.rtps_discovery.specs.declared.config.Config.{Config}
 use Rattle.rtps_discovery.specs.declared.config.FixedMatch.{FixedMatch}
@@ -19,7 +20,7 @@ use Rattle.rtps_records.specs.declared.fault.RunFault.TheVariants.{NoMemory}
 use Rattle.rtps_listen.specs.Identities.{IsGuidText, IsPrefixText, WritesGuid, WritesPrefix}
 use Rattle.rtps_listen.specs.declared.options.Options.{Options}
 use Rattle.rtps_listen.specs.declared.fault.ListenFault.{ListenFault}
-use Rattle.rtps_listen.specs.declared.fault.ListenFault.TheVariants.{BadPrefix, BadWriter, NotBuilt, Run}
+use Rattle.rtps_listen.specs.declared.fault.ListenFault.TheVariants.{BadPrefix, BadWriter, Run}
 
 -- what is asked of a reader, whatever room its texts have
 pub record Reader : Type 0 where
@@ -42,19 +43,24 @@ reader_in r = record {
 abbrev pub entity_of : ℕ → EntityId
 entity_of rank = record { 0 = 0x00 ∷ 0x00 ∷ (rank + 1) ∷ 0x07 ∷ [] }
 
--- the reader of a rank: it has the type of the Shapes demo, and asks for what holds where no policy is given
-abbrev pub reader_of : Text → ℕ → Reader
-reader_of topic rank = record {
+-- what readers ask for: with `--best-effort` for nothing again
+abbrev pub reliability_of : Bool → Reliability
+reliability_of true = BestEffort
+reliability_of false = Reliable
+
+-- the reader of a rank: it has the type of the Shapes demo, and its other policies are what holds where none is given
+abbrev pub reader_of : Text → Reliability → ℕ → Reader
+reader_of topic reliability rank = record {
   entity = entity_of rank;
   topic = topic;
   type_name = codes "ShapeType";
-  policies = default_policies BestEffort;
+  policies = default_policies reliability;
   partitions = [];
 }
 
 -- so many readers, by their ranks
-abbrev pub readers_of : Text → ℕ → List Reader
-readers_of topic count = map (reader_of topic) (range_with_len 0 count)
+abbrev pub readers_of : Text → Reliability → ℕ → List Reader
+readers_of topic reliability count = map (reader_of topic reliability) (range_with_len 0 count)
 
 -- the match of the reader of a rank, which knows no address of the writer
 abbrev pub match_of : Guid → ℕ → FixedMatch
@@ -75,7 +81,7 @@ NamesWriter (Some text) (Some writer) = WritesGuid text.now writer
 -- the configuration of the options, with what their texts write
 pub record IsMadeOf (options : Options) (own : GuidPrefix) (writer : Option Guid) (config : Config) : Type 0 where
   pub prefix : config.own ≡ own
-  pub readers : map reader_in config.readers.items ≡ readers_of options.topic.now options.readers
+  pub readers : map reader_in config.readers.items ≡ readers_of options.topic.now (reliability_of options.best_effort) options.readers
   pub fixed : config.fixed.items ≡ matches_of writer options.readers
 
 -- what the texts of options write
@@ -105,16 +111,14 @@ IsFixedText (Some text) = IsGuidText text.now
 
 -- what is refused first, in this order; memory is taken before the writer is judged
 pub record Refuses {T : Type 0} (options : Options) (result : Result T ListenFault) : Type 0 where
-  pub reliable : options.best_effort ≡ false → result ≡ Err NotBuilt
-  pub prefix : options.best_effort ≡ true → ¬ IsPrefixText options.own.now → result ≡ Err BadPrefix
-  pub fixed : options.best_effort ≡ true → IsPrefixText options.own.now → ¬ IsFixedText options.fixed
+  pub prefix : ¬ IsPrefixText options.own.now → result ≡ Err BadPrefix
+  pub fixed : IsPrefixText options.own.now → ¬ IsFixedText options.fixed
       → result ≡ Err BadWriter
-  pub writer : options.best_effort ≡ true → IsPrefixText options.own.now → IsUnmatched options
+  pub writer : IsPrefixText options.own.now → IsUnmatched options
       → (result ≡ Err BadWriter) ⊎ (result ≡ Err (Run NoMemory))
 
 -- what is wrong with options that are refused by this fault, memory apart
 abbrev pub IsCause : Options → ListenFault → Type 0
-IsCause options NotBuilt = options.best_effort ≡ false
 IsCause options BadPrefix = ¬ IsPrefixText options.own.now
 IsCause options BadWriter = ¬ IsFixedText options.fixed ⊎ IsUnmatched options
 IsCause options (Run NoMemory) = Unit {0}

@@ -2,12 +2,12 @@
 
 ghost use Rattle.std.specs.Prelude.{◌≡◌, ◌<◌, ◌≤◌, ◌↔◌, IfErr, IfOk, IsOk, Ok, map};
 ghost use Rattle.rtps_discovery.specs.Config.{check_of};
-ghost use Rattle.rtps_listen.specs.Configs.{IsCause, IsConfigOf, IsFixedText, IsMadeOf, NamesWriter, Refuses, matches_of, reader_in, reader_of, readers_of};
+ghost use Rattle.rtps_listen.specs.Configs.{IsCause, IsConfigOf, IsFixedText, IsMadeOf, NamesWriter, Refuses, matches_of, reader_in, reader_of, readers_of, reliability_of};
 
 use crate::fault::ListenFault;
 use crate::options::Options;
 use crate::prefix::{prefix_of, writer_of};
-use dds_qos::Requested;
+use dds_qos::{Reliability, Requested};
 use rtps_discovery::{Config, FixedMatch, ReaderConfig, check};
 use rtps_records::RunFault;
 use rtps_types::{EntityId, Guid, GuidPrefix, Locators};
@@ -16,28 +16,51 @@ use std::alloc::{AllocError, Global};
 /// The type of each reader.
 const TYPE_NAME: &str = "ShapeType";
 
-/// The reader of a rank.
-fn reader_for(alloc: Global, topic: &str, rank: u8) -> Result<ReaderConfig, AllocError>
-    requires { rank < 8 }
-    ensures { IfOk result (λ reader. reader_in reader ≡ reader_of topic.now rank) }
+/// What readers ask for: a best-effort one asks for nothing again.
+fn reliability_of(best_effort: bool) -> Reliability
+    ensures { result ≡ reliability_of best_effort }
 {
+    if best_effort {
+        Reliability::BestEffort
+    } else {
+        Reliability::Reliable
+    }
+}
+
+/// The reader of a rank.
+fn reader_for(
+    alloc: Global,
+    topic: &str,
+    reliability: Reliability,
+    rank: u8,
+) -> Result<ReaderConfig, AllocError>
+    requires { rank < 8 }
+    ensures { IfOk result (λ reader. reader_in reader ≡ reader_of topic.now reliability rank) }
+{
+    let mut requested = Requested::new(alloc);
+    requested.policies.reliability = reliability;
     Ok(ReaderConfig {
         entity: EntityId([0x00, 0x00, rank + 1, 0x07]),
         topic: String::from_str(alloc, topic)?,
         type_name: String::from_str(alloc, TYPE_NAME)?,
-        requested: Requested::new(alloc),
+        requested,
     })
 }
 
 /// The readers, in the order of their ranks.
 #[tactic(auto, using(crate::proofs::Ranks::readers_more))]
-fn readers_for(alloc: Global, topic: &str, count: u8) -> Result<Vec<ReaderConfig>, AllocError>
+fn readers_for(
+    alloc: Global,
+    topic: &str,
+    reliability: Reliability,
+    count: u8,
+) -> Result<Vec<ReaderConfig>, AllocError>
     requires { count ≤ 8 }
-    ensures { IfOk result (λ readers. map reader_in readers.items ≡ readers_of topic.now count) }
+    ensures { IfOk result (λ readers. map reader_in readers.items ≡ readers_of topic.now reliability count) }
 {
     let mut readers = Vec::new(alloc);
     for rank in 0..count {
-        readers.push(reader_for(alloc, topic, rank)?)?;
+        readers.push(reader_for(alloc, topic, reliability, rank)?)?;
     }
     Ok(readers)
 }
@@ -74,9 +97,10 @@ fn config_with(
 ) -> Result<Config, AllocError>
     ensures { IfOk result (IsMadeOf options.now own writer) }
 {
+    let reliability = reliability_of(options.best_effort);
     Ok(Config {
         own,
-        readers: readers_for(alloc, options.topic, options.readers)?,
+        readers: readers_for(alloc, options.topic, reliability, options.readers)?,
         fixed: matches_for(alloc, writer, options.readers)?,
     })
 }
@@ -104,9 +128,6 @@ pub fn config_of(alloc: Global, options: &Options<'_>) -> Result<Config, ListenF
     ensures config { IfOk result (IsConfigOf options.now) }
     ensures taken { IfOk result (λ config. check_of config ≡ Ok tt) }
 {
-    if !options.best_effort {
-        return Err(ListenFault::NotBuilt);
-    }
     let Some(own) = prefix_of(options.own) else {
         return Err(ListenFault::BadPrefix);
     };

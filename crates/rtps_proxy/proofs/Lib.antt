@@ -1,0 +1,12 @@
+pub mod Apart
+pub mod Moved
+pub mod Ordering
+pub mod Waiting
+pub mod Standing
+pub mod Taking
+pub mod Frontier
+pub mod Beats
+pub mod Naming
+pub mod ByKind
+pub mod Members
+pub mod Presenting

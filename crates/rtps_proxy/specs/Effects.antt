@@ -1,5 +1,6 @@
 -- What a proxy keeps of a history, and what it gives at an event.
-use Rattle.std.specs.Prelude.{◌≡◌, ℕ, false, List, map, Option, None}
+use Rattle.std.specs.Prelude.{◌≡◌, ℕ, ◌%◌, ◌^◌, Bool, true, false, List, map, Option, Some, None, if◌then◌else◌, is_some, ℤ, int_lt}
+use Rattle.std.specs.Option.{option_map}
 use Rattle.rtps_types.specs.Number.{value_of}
 use Rattle.rtps_types.specs.declared.time.Timestamp.{Timestamp}
 use Rattle.rtps_receiver.specs.declared.body.Body.{Body}
@@ -8,9 +9,14 @@ use Rattle.rtps_proxy.specs.declared.change.Change.{Change}
 use Rattle.rtps_proxy.specs.declared.change.Payload.{Payload}
 use Rattle.rtps_proxy.specs.declared.change.Payload.TheVariants as payload
 use Rattle.rtps_proxy.specs.declared.effects.Effects.{Effects}
-use Rattle.rtps_proxy.specs.BestEffort.{lost, ready, top_of}
-use Rattle.rtps_proxy.specs.History.{Came, Sample}
-use Rattle.rtps_proxy.specs.Kept.{Kept}
+use Rattle.rtps_proxy.specs.Answer.{answers}
+use Rattle.rtps_proxy.specs.BestEffort as best
+use Rattle.rtps_proxy.specs.History.{Came, Sample, announced_of, has_heartbeat, is_new}
+use Rattle.rtps_proxy.specs.Kept.{Awaited, BestEffort, Kept, Reliable, Standing, Whom}
+use Rattle.rtps_proxy.specs.Received as reliable
+use Rattle.rtps_proxy.specs.Received.{held, in_order, is_settled}
+use Rattle.rtps_proxy.specs.Replies.{Sent, reply, reply_view}
+use Rattle.rtps_proxy.specs.Runs.{marks}
 
 abbrev pub octets_of : {A : Type 0} → Payload A → List ℕ
 octets_of (payload.Lent octets) = octets.now
@@ -24,13 +30,46 @@ change_view c = record { number = value_of c.number; time = c.time; form = c.for
 abbrev pub came : Option Timestamp → Body → Came
 came time b = record { time = time; body = body_view b }
 
--- a best-effort proxy keeps what follows from these events, the newest first
-pub record BestEffortStandsAt (past : List Came) (proxy : Kept) : Type 0 where
-  pub sound : proxy.spent ≡ false
-  pub top : proxy.top ≡ top_of past
+-- the count is above the greatest so far
+abbrev pub exceeds : Option ℤ → ℤ → Bool
+exceeds None count = true
+exceeds (Some greatest) count = int_lt greatest count
 
--- what an event gives a best-effort reader
-pub record AreEffects {A : Type 0} (past : List Came) (event : Came) (effects : Effects A) : Type 0 where
-  pub lost : effects.lost ≡ lost past event
-  pub ready : map change_view effects.ready.items ≡ ready past event
-  pub answer : effects.answer ≡ None
+-- what is kept for a reliable reader of these events, the newest first
+pub record ReliableStandsAt (past : List Came) (proxy : Awaited) : Type 0 where
+  pub counts : (count : ℤ) → is_new past count ≡ exceeds proxy.accepted count
+  pub begun : has_heartbeat past ≡ is_some proxy.accepted
+  pub announced : proxy.announced ≡ announced_of past
+  pub settled : (n : ℕ) → is_settled past n ≡ marks proxy.frontier proxy.runs n
+  pub held : proxy.held ≡ in_order (held past)
+  pub answers : proxy.answers ≡ answers past % 2 ^ 32
+
+-- and what is kept for a reader, by whether it is reliable
+abbrev pub StateStandsAt : List Came → Bool → Standing → Type 0
+StateStandsAt past false (BestEffort top) = top ≡ best.top_of past
+StateStandsAt past true (Reliable r) = ReliableStandsAt past r
+StateStandsAt past false (Reliable r) = ⊥
+StateStandsAt past true (BestEffort top) = ⊥
+
+-- a proxy keeps what follows from these events, the newest first
+pub record StandsAt (past : List Came) (proxy : Kept) : Type 0 where
+  pub sound : proxy.spent ≡ false
+  pub state : StateStandsAt past proxy.whom.reliable proxy.state
+
+-- how many numbers are given up at an event, by whether the reader is reliable
+abbrev pub lost_of : Bool → List Came → Came → ℕ
+lost_of is_reliable past e = if is_reliable then reliable.lost past e else best.lost past e
+
+-- the changes that are ready at an event
+abbrev pub ready_of : Bool → List Came → Came → List Sample
+ready_of is_reliable past e = if is_reliable then reliable.ready past e else best.ready past e
+
+-- what is said to the writer at an event: a best-effort reader says nothing
+abbrev pub answer_of : Whom → List Came → Came → Option Sent
+answer_of w past e = if w.reliable then reply w past e else None
+
+-- what an event gives
+pub record AreEffects {A : Type 0} (whom : Whom) (past : List Came) (event : Came) (effects : Effects A) : Type 0 where
+  pub lost : effects.lost ≡ lost_of whom.reliable past event
+  pub ready : map change_view effects.ready.items ≡ ready_of whom.reliable past event
+  pub answer : option_map reply_view effects.answer ≡ answer_of whom past event

@@ -1,5 +1,5 @@
 -- What came for one match since it began (DDSI-RTPS 8.4.12). A history is the list of its events, the newest first; nothing is forgotten.
-use Rattle.std.specs.Prelude.{ℕ, ◌+◌, max, Bool, true, false, ◌&&◌, ◌||◌, ◌==◌, nat_lt, nat_le, List, [], ◌∷◌, if◌then◌else◌, Option, ℤ, int_lt}
+use Rattle.std.specs.Prelude.{ℕ, max, Bool, true, false, ◌&&◌, ◌||◌, ◌==◌, nat_lt, nat_le, List, [], ◌∷◌, if◌then◌else◌, Option, ℤ, int_lt}
 use Rattle.std.specs.List.{list_any}
 use Rattle.rtps_types.specs.declared.identity.KeyHash.{KeyHash}
 use Rattle.rtps_types.specs.declared.time.Timestamp.{Timestamp}

@@ -1,10 +1,16 @@
 -- What a proxy keeps (DDSI-RTPS 8.4.10.4).
-use Rattle.std.specs.Prelude.{ℕ, Bool, List}
+use Rattle.std.specs.Prelude.{ℕ, ℤ, Bool, List, Option, map}
 use Rattle.rtps_types.specs.declared.identity.EntityId.{EntityId}
 use Rattle.rtps_types.specs.declared.identity.Guid.{Guid}
 use Rattle.rtps_types.specs.declared.identity.GuidPrefix.{GuidPrefix}
 use Rattle.rtps_types.specs.declared.locator.Locator.{Locator}
-use Rattle.rtps_proxy.specs.declared.proxy.ProxyConfig.{ProxyConfig}
+use Rattle.rtps_types.specs.declared.number.Number.{Number}
+use Rattle.rtps_proxy.specs.declared.config.ProxyConfig.{ProxyConfig}
+use Rattle.rtps_proxy.specs.declared.reliable.Reliable as kept
+use Rattle.rtps_proxy.specs.declared.state.State.{State}
+use Rattle.rtps_proxy.specs.declared.state.State.TheVariants as code
+use Rattle.rtps_proxy.specs.Held.{held_view}
+use Rattle.rtps_proxy.specs.History.{Sample}
 
 -- whom a proxy stands for, and for whom
 pub record Whom : Type 0 where
@@ -17,7 +23,28 @@ pub record Whom : Type 0 where
 abbrev pub whom : {A : Type 0} → ProxyConfig A → Whom
 whom c = record { own = c.own; writer = c.writer; reader = c.reader; reliable = c.reliable; locators = c.locators }
 
+-- what is kept for a reliable reader: the greatest count of a heartbeat that was accepted, the announced number, the settled numbers as those below a frontier and runs, the held changes in order, and the number of answers
+pub record Awaited : Type 0 where
+  pub accepted : Option ℤ
+  pub announced : ℕ
+  pub frontier : ℕ
+  pub runs : List (Number × Number)
+  pub held : List Sample
+  pub answers : ℕ
+
+abbrev pub awaited : {A : Type 0} → kept.Reliable A → Awaited
+awaited r = record { accepted = r.accepted; announced = r.announced; frontier = r.settled.frontier; runs = r.settled.runs; held = map held_view r.held.items; answers = r.answers }
+
+-- for a best-effort reader the greatest number that was taken is kept
+pub data Standing : Type 0 where
+  BestEffort : (top : ℕ) → Standing
+  Reliable : Awaited → Standing
+
+abbrev pub standing : {A : Type 0} → State A → Standing
+standing (code.BestEffort top) = BestEffort top
+standing (code.Reliable r) = Reliable (awaited r)
+
 pub record Kept : Type 0 where
   pub whom : Whom
   pub spent : Bool
-  pub top : ℕ
+  pub state : Standing

@@ -4,5 +4,10 @@ pub mod Settled
 pub mod Received
 pub mod Answer
 pub mod BestEffort
+pub mod Runs
+pub mod Held
 pub mod Kept
+pub mod Replies
 pub mod Effects
+pub mod Steps
+pub mod Presentation

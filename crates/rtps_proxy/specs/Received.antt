@@ -1,9 +1,9 @@
 -- What a reliable reader receives and presents of a match (DDSI-RTPS 8.4.12.3), without fragments.
-use Rattle.std.specs.Prelude.{ℕ, suc, ◌+◌, max, Bool, not, ◌&&◌, nat_lt, List, [], ◌∷◌, filter, if◌then◌else◌}
+use Rattle.std.specs.Prelude.{ℕ, ◌+◌, max, Bool, not, ◌&&◌, nat_lt, List, [], ◌∷◌, filter, if◌then◌else◌}
 use Rattle.rtps_types.specs.NumberSet.{members}
 use Rattle.rtps_receiver.specs.Brought.{Brought, Whole, Fragment, Heartbeat, Gap, HeartbeatFrag}
 use Rattle.rtps_proxy.specs.History.{Came, Sample, first_of, has_heartbeat, sample_of}
-use Rattle.rtps_proxy.specs.Numbers.{all_below, count_failing, first_failing}
+use Rattle.rtps_proxy.specs.Numbers.{count_failing, first_failing}
 use Rattle.rtps_proxy.specs.Settled.{has_room_by, held_by, is_covered_by, is_settled_by}
 
 -- a change is taken where its number isn't settled and there is room for it

@@ -1,5 +1,5 @@
 -- Numbers of which nothing more is awaited (DDSI-RTPS 8.4.12.3), given the changes that were received.
-use Rattle.std.specs.Prelude.{ℕ, suc, Bool, not, ◌&&◌, ◌||◌, ◌==◌, nat_lt, List, length, filter}
+use Rattle.std.specs.Prelude.{ℕ, suc, Bool, not, ◌||◌, ◌==◌, nat_lt, List, length, filter}
 use Rattle.std.specs.List.{list_any}
 use Rattle.rtps_proxy.specs.History.{Came, Sample, first_of, is_irrelevant}
 use Rattle.rtps_proxy.specs.Numbers.{all_below}

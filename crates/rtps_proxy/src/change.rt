@@ -1,5 +1,11 @@
 //! A change that is ready to be presented.
 
+ghost use Rattle.std.specs.Prelude.{◌≡◌};
+ghost use Rattle.rtps_types.specs.Number.{value_of};
+ghost use Rattle.rtps_proxy.specs.Effects.{change_view, octets_of};
+ghost use Rattle.rtps_proxy.specs.History.{Sample};
+
+use rtps_receiver::Whole;
 use rtps_types::{KeyHash, Number, Octets, Timestamp};
 use rtps_wire::Form;
 use std::alloc::{Allocator, Global};
@@ -28,9 +34,6 @@ pub struct Change<'a, A: Allocator = Global> {
 }
 
 impl<A: Allocator> Payload<'_, A> {
-    ghost use Rattle.std.specs.Prelude.{◌≡◌};
-    ghost use Rattle.rtps_proxy.specs.Effects.{octets_of};
-
     pub fn as_slice(&self) -> &[u8]
         ensures { result.now ≡ octets_of self.now }
     {
@@ -38,5 +41,19 @@ impl<A: Allocator> Payload<'_, A> {
             Payload::Lent(octets) => octets,
             Payload::Kept(octets) => octets.as_slice(),
         }
+    }
+}
+
+/// The change as it lies in the datagram.
+pub(crate) fn lent<'a, A: Allocator>(time: Option<Timestamp>, whole: &Whole<'a>) -> Change<'a, A>
+    ensures { change_view result ≡ (record { number = value_of whole.now.number; time = time; form = whole.now.form; status = whole.now.status; hash = whole.now.hash; payload = whole.now.payload.now }) }
+{
+    Change {
+        number: whole.number,
+        time,
+        form: whole.form,
+        status: whole.status,
+        hash: whole.hash,
+        payload: Payload::Lent(whole.payload),
     }
 }

@@ -1,5 +1,7 @@
 //! What an event gives.
 
+ghost use Rattle.std.specs.Prelude.{◌≡◌, None};
+
 use crate::change::Change;
 use rtps_types::Reply;
 use std::alloc::{AllocError, AllocFailed, Allocator, Global};
@@ -34,4 +36,17 @@ pub struct Effects<'a, A: Allocator = Global> {
     pub ready: Vec<Change<'a, A>, A>,
     /// What is said to the writer.
     pub answer: Option<Reply<A>>,
+}
+
+/// What an event gives that makes these changes ready and does nothing else.
+pub(crate) fn only_ready<'a, A: Allocator>(ready: Vec<Change<'a, A>, A>) -> Effects<'a, A>
+    ensures lost { result.lost ≡ 0 }
+    ensures ready { result.ready.items ≡ ready.entry.items }
+    ensures answer { result.answer ≡ None }
+{
+    Effects {
+        lost: 0,
+        ready,
+        answer: None,
+    }
 }

@@ -1,13 +1,25 @@
 //! What a reader keeps of one writer that it is matched with (DDSI-RTPS 8.4.10.4, `WriterProxy`).
 #![tactic(auto)]
 
+mod best_effort;
 mod change;
+mod config;
 mod effects;
+mod gap;
+mod heartbeat;
+mod held;
+pub mod laws;
 mod proxy;
-
-pub use change::{Change, Payload};
-pub use effects::{Effects, ProxyError};
-pub use proxy::{ProxyConfig, WriterProxy};
-
+mod reliable;
+mod runs;
+mod settled;
+mod state;
 #[cfg(test)]
 mod tests;
+mod whole;
+mod window;
+
+pub use change::{Change, Payload};
+pub use config::ProxyConfig;
+pub use effects::{Effects, ProxyError};
+pub use proxy::WriterProxy;

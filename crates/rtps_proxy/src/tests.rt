@@ -1,11 +1,19 @@
-//! What a best-effort reader takes of one writer, by numbers that were written down by hand.
+//! What a reader takes of one writer, by numbers that were written down by hand.
 
 use crate::*;
-use rtps_receiver::{Body, Fragment, HeartbeatFrag, Whole, events};
-use rtps_types::{EntityId, Guid, GuidPrefix, KeyHash, Locators, Number, Timestamp};
+use rtps_receiver::{Gap, Heartbeat, Whole};
+use rtps_types::{
+    EntityId, Guid, GuidPrefix, KeyHash, Locator, Locators, Number, SnSet, Timestamp,
+};
 use rtps_wire::Form;
-use std::alloc::Global;
+use std::alloc::{AllocError, Allocator, Global};
 use std::test::Fail;
+
+mod answers;
+mod best_effort;
+mod held;
+mod memory;
+mod runs;
 
 const TIME: Timestamp = Timestamp {
     seconds: 5,
@@ -16,17 +24,31 @@ const HASH: KeyHash = KeyHash([3; 16]);
 
 const PAYLOAD: [u8; 4] = [0xde, 0xad, 0xbe, 0xef];
 
-fn new_proxy(alloc: Global) -> WriterProxy {
-    WriterProxy::new(ProxyConfig {
-        own: GuidPrefix([11; 12]),
-        writer: Guid {
-            prefix: GuidPrefix([10; 12]),
-            entity: EntityId([0, 0, 1, 2]),
+/// Where the writer is reached.
+const LOCATOR: Locator = Locator {
+    port: 7411,
+    address: [127, 0, 0, 1],
+};
+
+/// The greatest sequence number, 2^62.
+const MAX: u64 = 4_611_686_018_427_387_904;
+
+/// The proxy of a match of reader 00000107 with writer 00000102.
+fn new_proxy<A: Allocator + Copy>(alloc: A, reliable: bool) -> Result<WriterProxy<A>, AllocError> {
+    let locators = Vec::from_slice(alloc, &[LOCATOR])?;
+    Ok(WriterProxy::new(
+        alloc,
+        ProxyConfig {
+            own: GuidPrefix([11; 12]),
+            writer: Guid {
+                prefix: GuidPrefix([10; 12]),
+                entity: EntityId([0, 0, 1, 2]),
+            },
+            reader: EntityId([0, 0, 1, 7]),
+            reliable,
+            locators: Locators::new(locators),
         },
-        reader: EntityId([0, 0, 1, 7]),
-        reliable: false,
-        locators: Locators::new(Vec::new(alloc)),
-    })
+    ))
 }
 
 fn number_of(value: u64) -> Result<Number, Fail> {
@@ -37,7 +59,7 @@ fn number_of(value: u64) -> Result<Number, Fail> {
 }
 
 /// The change of this number.
-fn whole(value: u64) -> Result<Whole<'static>, Fail> {
+fn whole_of(value: u64) -> Result<Whole<'static>, Fail> {
     Ok(Whole {
         number: number_of(value)?,
         form: Form::Key,
@@ -47,99 +69,78 @@ fn whole(value: u64) -> Result<Whole<'static>, Fail> {
     })
 }
 
-/// What a change of this number gives: how many are lost, and how many are ready.
-fn taken(alloc: Global, proxy: &mut WriterProxy, value: u64) -> Result<(u64, usize), Fail> {
-    let effects = proxy.on_whole(alloc, None, &whole(value)?)?;
-    Ok((effects.lost, effects.ready.len()))
-}
-
-#[test]
-fn only_rising_numbers_are_taken(rt: HostRuntime) -> Result<(), Fail> {
-    let mut proxy = new_proxy(rt.alloc());
-    // Nothing before the first sample is lost.
-    assert_eq!(rt; taken(rt.alloc(), &mut proxy, 5)?, (0, 1));
-    assert_eq!(rt; taken(rt.alloc(), &mut proxy, 6)?, (0, 1));
-    assert_eq!(rt; taken(rt.alloc(), &mut proxy, 9)?, (2, 1));
-    assert_eq!(rt; taken(rt.alloc(), &mut proxy, 9)?, (0, 0));
-    assert_eq!(rt; taken(rt.alloc(), &mut proxy, 8)?, (0, 0));
-    // 2^62 is the last number that there is.
-    assert_eq!(rt;
-        taken(rt.alloc(), &mut proxy, 4_611_686_018_427_387_904)?,
-        (4_611_686_018_427_387_894, 1)
-    );
-    Ok(())
-}
-
-#[test]
-fn a_change_comes_as_it_was_sent(rt: HostRuntime) -> Result<(), Fail> {
-    let mut proxy = new_proxy(rt.alloc());
-    let whole = whole(7)?;
-    let effects = proxy.on_whole(rt.alloc(), Some(TIME), &whole)?;
-    assert!(rt; effects.answer.is_none());
-    assert_eq!(rt; effects.ready.len(), 1);
-    let change = &effects.ready[0];
-    assert_eq!(rt; change.number.get(), 7);
-    assert_eq!(rt; change.time, Some(TIME));
-    assert_eq!(rt; change.form, Form::Key);
-    assert_eq!(rt; change.status, 1);
-    assert_eq!(rt; change.hash, Some(HASH));
-    assert_eq!(rt; change.payload.as_slice(), PAYLOAD.as_slice());
-    Ok(())
-}
-
-#[test]
-fn other_events_give_nothing(rt: HostRuntime) -> Result<(), Fail> {
-    // HEARTBEAT 1 to 9, GAP from 1 with an empty list at 3, and DATA 1, each from 00000102 to 00000107.
-    let octets: [u8; 112] = [
-        0x52, 0x54, 0x50, 0x53, 2, 3, 2, 5, 10, 10, 10, 10, 10, 10, 10, 10, 10, 10, 10, 10, //
-        0x07, 0x01, 28, 0, 0, 0, 1, 7, 0, 0, 1, 2, 0, 0, 0, 0, 1, 0, 0, 0, 0, 0, 0, 0, 9, 0, 0, 0, //
-        1, 0, 0, 0, //
-        0x08, 0x01, 28, 0, 0, 0, 1, 7, 0, 0, 1, 2, 0, 0, 0, 0, 1, 0, 0, 0, 0, 0, 0, 0, 3, 0, 0, 0, //
-        0, 0, 0, 0, //
-        0x15, 0x05, 24, 0, 0, 0, 16, 0, 0, 0, 1, 7, 0, 0, 1, 2, 0, 0, 0, 0, 1, 0, 0, 0, //
-        0xde, 0xad, 0xbe, 0xef,
-    ];
-    let mut proxy = new_proxy(rt.alloc());
-    let found = events(rt.alloc(), GuidPrefix([11; 12]), 0, &octets)?;
-    assert_eq!(rt; found.len(), 3);
-    for event in found.as_slice() {
-        let effects = proxy.on_event(rt.alloc(), event.time, &event.body)?;
-        assert_eq!(rt; effects.lost, 0);
-        assert!(rt; effects.answer.is_none());
-        let wanted = match event.body {
-            Body::Whole(_) => 1,
-            _ => 0,
-        };
-        assert_eq!(rt; effects.ready.len(), wanted);
+/// A heartbeat that is no sign of life.
+fn announcing(first: u64, last: u64, count: i32, final_flag: bool) -> Result<Heartbeat, Fail> {
+    if last > MAX {
+        return Err(Fail::new("no last number"));
     }
-    assert!(rt; matches!(found[2].body, Body::Whole(_)));
-    Ok(())
+    Ok(Heartbeat {
+        first: number_of(first)?,
+        last,
+        count,
+        final_flag,
+        liveliness: false,
+    })
 }
 
-#[test]
-fn fragments_give_nothing(rt: HostRuntime) -> Result<(), Fail> {
-    let mut proxy = new_proxy(rt.alloc());
-    let fragment = Fragment {
-        number: number_of(1)?,
-        start: 1,
-        count: 1,
-        size: 4,
-        sample: 4,
-        form: Form::Value,
-        status: 0,
-        hash: None,
-        payload: &PAYLOAD,
-    };
-    let effects = proxy.on_fragment(rt.alloc(), None, &fragment)?;
-    assert_eq!(rt; (effects.lost, effects.ready.len()), (0, 0));
-    let heartbeat = HeartbeatFrag {
-        number: number_of(2)?,
-        last: 1,
-        count: 1,
-    };
-    let effects = proxy.on_heartbeat_frag(rt.alloc(), None, &heartbeat)?;
-    assert_eq!(rt; (effects.lost, effects.ready.len()), (0, 0));
-    // They count as not come.
-    assert_eq!(rt; taken(rt.alloc(), &mut proxy, 1)?, (0, 1));
-    Ok(())
+/// A gap without a list.
+fn gap_of(start: u64, base: u64) -> Result<Gap, Fail> {
+    if base == 0 || base > MAX {
+        return Err(Fail::new("no base"));
+    }
+    Ok(Gap {
+        start: number_of(start)?,
+        list: SnSet {
+            base,
+            bits: 0,
+            words: [0; 8],
+        },
+    })
+}
+
+/// What a change of this number gives.
+fn on_whole(alloc: Global, proxy: &mut WriterProxy, value: u64) -> Result<Effects<'static>, Fail> {
+    Ok(proxy.on_whole(alloc, None, &whole_of(value)?)?)
+}
+
+/// What a gap without a list gives.
+fn on_gap(
+    alloc: Global,
+    proxy: &mut WriterProxy,
+    start: u64,
+    base: u64,
+) -> Result<Effects<'static>, Fail> {
+    Ok(proxy.on_gap(alloc, None, &gap_of(start, base)?)?)
+}
+
+/// What a heartbeat with flag F gives.
+fn on_final(
+    alloc: Global,
+    proxy: &mut WriterProxy,
+    first: u64,
+    last: u64,
+    count: i32,
+) -> Result<Effects<'static>, Fail> {
+    Ok(proxy.on_heartbeat(alloc, None, &announcing(first, last, count, true)?)?)
+}
+
+/// What a heartbeat without flag F gives.
+fn on_asking(
+    alloc: Global,
+    proxy: &mut WriterProxy,
+    first: u64,
+    last: u64,
+    count: i32,
+) -> Result<Effects<'static>, Fail> {
+    Ok(proxy.on_heartbeat(alloc, None, &announcing(first, last, count, false)?)?)
+}
+
+/// Whether the changes that are ready have these numbers.
+fn has_ready<A: Allocator>(effects: &Effects<'_, A>, numbers: &[u64]) -> bool {
+    effects.ready.len() == numbers.len()
+        && effects
+            .ready
+            .iter()
+            .zip(numbers.iter())
+            .all(|(change, number)| change.number.get() == *number)
 }

@@ -4,9 +4,8 @@ use Rattle.std.proofs.lemmas.Grind.{common_steps}
 use Rattle.std.proofs.lemmas.List.{append-nil, map-append}
 use Rattle.std.proofs.lemmas.List.Sums.{sum_by-append}
 use Rattle.rtps_types.specs.declared.identity.Guid.{Guid}
-use Rattle.rtps_proxy.specs.BestEffort.{lost, ready}
 use Rattle.rtps_proxy.specs.History.{Came, Sample}
-use Rattle.rtps_reader.specs.Reader.{Mark, ASample, Match, Reader, extended, lost_in, marks_lost, marks_of, samples_in, same_guid, status_of}
+use Rattle.rtps_reader.specs.Reader.{Mark, ASample, Match, Reader, extended, lost_at, lost_in, ready_at, marks_lost, marks_of, samples_in, same_guid, status_of}
 use Rattle.rtps_reader.specs.Standing.{status_given}
 use Rattle.rtps_reader.specs.Status.{capped}
 
@@ -54,16 +53,16 @@ capped_more a b c is = omega (arith, is)
 
 pub length-extended : (w : Guid) (e : Came) (ms : List Match) → length (extended w e ms) ≡ length ms
 length-extended w e [] = refl
-length-extended w e (m ∷ ms) = by_case (same_guid m.writer w) (length-extended w e ms)
+length-extended w e (m ∷ ms) = by_case (same_guid m.whom.writer w) (length-extended w e ms)
   where
-    by_case : (b : Bool) → length (extended w e ms) ≡ length ms → length (if b then record { writer = m.writer; past = e ∷ m.past } ∷ ms else m ∷ extended w e ms) ≡ suc (length ms)
+    by_case : (b : Bool) → length (extended w e ms) ≡ length ms → length (if b then record { whom = m.whom; past = e ∷ m.past } ∷ ms else m ∷ extended w e ms) ≡ suc (length ms)
     by_case true rest = refl
     by_case false rest = ap suc rest
 
 -- the status counts what an event made the reader tell
-pub status_more : (r : Reader) (ms : List Match) (e : Came) (p : Option (List Came)) → length ms ≡ length r.matches → status_given (status_of r) e p ≡ status_of (record { entity = r.entity; fixed = r.fixed; matches = ms; heard = r.heard ++ marks_of e p })
+pub status_more : (r : Reader) (ms : List Match) (e : Came) (p : Option Match) → length ms ≡ length r.matches → status_given (status_of r) e p ≡ status_of (record { entity = r.entity; fixed = r.fixed; matches = ms; heard = r.heard ++ marks_of e p })
 status_more r ms e None same = rw (append-nil r.heard, same) refl
-status_more r ms e (Some past) same =
-    let losses = capped_more (sum (map lost_in r.heard)) (lost past e) _ (lost_more r.heard (lost past e) (ready past e)) in
-    let samples = capped_more (sum (map samples_in r.heard)) (length (ready past e)) _ (samples_more r.heard (lost past e) (ready past e)) in
+status_more r ms e (Some m) same =
+    let losses = capped_more (sum (map lost_in r.heard)) (lost_at m e) _ (lost_more r.heard (lost_at m e) (ready_at m e)) in
+    let samples = capped_more (sum (map samples_in r.heard)) (length (ready_at m e)) _ (samples_more r.heard (lost_at m e) (ready_at m e)) in
     rw (same, losses, samples) refl

@@ -4,11 +4,11 @@ use Rattle.std.specs.List.{position, position_or_len}
 use Rattle.std.proofs.lemmas.Grind.{common_steps}
 use Rattle.std.proofs.lemmas.List.Sums.{fails_before_first}
 use Rattle.rtps_types.specs.declared.identity.Guid.{Guid}
-use Rattle.rtps_proxy.specs.Effects.{BestEffortStandsAt}
+use Rattle.rtps_proxy.specs.Effects.{StandsAt}
 use Rattle.rtps_proxy.specs.History.{Came}
 use Rattle.rtps_reader.specs.declared.state.Seat.{Seat}
-use Rattle.rtps_reader.specs.Reader.{Match, extended, past_of, same_guid}
-use Rattle.rtps_reader.specs.Standing.{AllStand, seat_view}
+use Rattle.rtps_reader.specs.Reader.{Match, extended, match_with, same_guid}
+use Rattle.rtps_reader.specs.Standing.{AllStand, Stands, seat_view}
 
 -- where no place passes, each item fails
 pub fails_everywhere : {X : Type 0} (p : X → Bool) (xs : List X) → position p xs ≡ None → (k : ℕ) (d : X) → k < length xs → p (get_or xs k d) ≡ false
@@ -17,40 +17,40 @@ fails_everywhere p xs none k d lt =
     fails_before_first p xs k d (omega arith)
 
 -- nothing comes for a writer that is not matched
-pub not_matched : {A : Type 0} (w : Guid) (e : Came) (ms : List Match) (ss : List (Seat A)) → AllStand ms (map seat_view ss) → ((k : ℕ) (d : Seat A) → k < length ss → same_guid (get_or ss k d).writer w ≡ false) → (extended w e ms ≡ ms) × (past_of w ms ≡ None)
+pub not_matched : {A : Type 0} (w : Guid) (e : Came) (ms : List Match) (ss : List (Seat A)) → AllStand ms (map seat_view ss) → ((k : ℕ) (d : Seat A) → k < length ss → same_guid (get_or ss k d).writer w ≡ false) → (extended w e ms ≡ ms) × (match_with w ms ≡ None)
 not_matched w e [] [] all fails = (refl, refl)
 not_matched w e [] (s ∷ ss) all fails = absurd all
 not_matched w e (m ∷ ms) [] all fails = absurd all
 not_matched w e (m ∷ ms) (s ∷ ss) all fails =
-    let here : same_guid m.writer w ≡ false = rw all.0 (fails 0 s (omega arith)) in
-    let rest = not_matched w e ms ss all.2 (λ k d lt. fails (suc k) d (omega arith)) in
+    let here : same_guid m.whom.writer w ≡ false = rw all.0.writer (fails 0 s (omega arith)) in
+    let rest = not_matched w e ms ss all.1 (λ k d lt. fails (suc k) d (omega arith)) in
     rw here (ap (λ (ns : List Match). m ∷ ns) rest.0, rest.1)
 
 -- what stands of the first match with a writer, and what stands once an event came for it
 pub record Found {A : Type 0} (w : Guid) (e : Came) (ms : List Match) (ss : List (Seat A)) (i : ℕ) (d : Seat A) : Type 0 where
-  pub past : List Came
-  pub is : past_of w ms ≡ Some past
-  pub stands : BestEffortStandsAt past (seat_view (get_or ss i d)).proxy
-  pub after : (new : Seat A) → new.writer ≡ (get_or ss i d).writer → BestEffortStandsAt (e ∷ past) (seat_view new).proxy → AllStand (extended w e ms) (map seat_view (set ss i new))
+  pub match : Match
+  pub is : match_with w ms ≡ Some match
+  pub stands : Stands match (seat_view (get_or ss i d))
+  pub after : (new : Seat A) → Stands (record { whom = match.whom; past = e ∷ match.past }) (seat_view new) → AllStand (extended w e ms) (map seat_view (set ss i new))
 
 pub matched : {A : Type 0} (w : Guid) (e : Came) (ms : List Match) (ss : List (Seat A)) (i : ℕ) (d : Seat A) → AllStand ms (map seat_view ss) → i < length ss → same_guid (get_or ss i d).writer w ≡ true → ((k : ℕ) → k < i → same_guid (get_or ss k d).writer w ≡ false) → Found w e ms ss i d
 matched w e [] [] i d all lt passes fails = absurd (omega arith)
 matched w e [] (s ∷ ss) i d all lt passes fails = absurd all
 matched w e (m ∷ ms) [] i d all lt passes fails = absurd all
 matched w e (m ∷ ms) (s ∷ ss) zero d all lt passes fails =
-    let here : same_guid m.writer w ≡ true = rw all.0 passes in
+    let here : same_guid m.whom.writer w ≡ true = rw all.0.writer passes in
     record {
-      past = m.past;
+      match = m;
       is = rw here refl;
-      stands = all.1;
-      after = λ new same stands. rw here (all.0 ∙ sym same, stands, all.2);
+      stands = all.0;
+      after = λ new stands. rw here (stands, all.1);
     }
 matched w e (m ∷ ms) (s ∷ ss) (suc j) d all lt passes fails =
-    let here : same_guid m.writer w ≡ false = rw all.0 (fails 0 (omega arith)) in
-    let rest = matched w e ms ss j d all.2 (omega arith) passes (λ k lt. fails (suc k) (omega arith)) in
+    let here : same_guid m.whom.writer w ≡ false = rw all.0.writer (fails 0 (omega arith)) in
+    let rest = matched w e ms ss j d all.1 (omega arith) passes (λ k lt. fails (suc k) (omega arith)) in
     record {
-      past = rest.past;
+      match = rest.match;
       is = rw here rest.is;
       stands = rest.stands;
-      after = λ new same stands. rw here (all.0, all.1, rest.after new same stands);
+      after = λ new stands. rw here (all.0, rest.after new stands);
     }

@@ -1,33 +1,34 @@
 -- The matches of a reader, one beside the other.
-use Rattle.std.proofs.Common.{◌≡◌, suc, List, [], ◌∷◌, ◌++◌, length, map, refl, ap}
+use Rattle.std.proofs.Common.{◌≡◌, Bool, suc, List, [], ◌∷◌, ◌++◌, length, map, refl, ap}
 use Rattle.std.proofs.lemmas.List.{map_push}
 use Rattle.rtps_types.specs.declared.traffic.WriterFacts.{WriterFacts}
 use Rattle.rtps_reader.specs.declared.state.Seat.{Seat}
-use Rattle.rtps_proxy.specs.Effects.{BestEffortStandsAt}
+use Rattle.rtps_types.specs.declared.identity.EntityId.{EntityId}
+use Rattle.rtps_types.specs.declared.identity.GuidPrefix.{GuidPrefix}
 use Rattle.rtps_reader.specs.Reader.{Match, fresh}
-use Rattle.rtps_reader.specs.Standing.{AllStand, SeatKept, fresh_for, seat_view, writer_in}
+use Rattle.rtps_reader.specs.Standing.{AllStand, SeatKept, Stands, fresh_for, seat_view, whom_for}
 
 -- one match more
-pub all_stand_push : (ms : List Match) (ss : List SeatKept) (m : Match) (s : SeatKept) → AllStand ms ss → m.writer ≡ s.writer → BestEffortStandsAt m.past s.proxy → AllStand (ms ++ m ∷ []) (ss ++ s ∷ [])
-all_stand_push [] [] m s all w p = (w, p, tt)
-all_stand_push [] (t ∷ ss) m s all w p = absurd all
-all_stand_push (n ∷ ms) [] m s all w p = absurd all
-all_stand_push (n ∷ ms) (t ∷ ss) m s all w p = (all.0, all.1, all_stand_push ms ss m s all.2 w p)
+pub all_stand_push : (ms : List Match) (ss : List SeatKept) (m : Match) (s : SeatKept) → AllStand ms ss → Stands m s → AllStand (ms ++ m ∷ []) (ss ++ s ∷ [])
+all_stand_push [] [] m s all p = (p, tt)
+all_stand_push [] (t ∷ ss) m s all p = absurd all
+all_stand_push (n ∷ ms) [] m s all p = absurd all
+all_stand_push (n ∷ ms) (t ∷ ss) m s all p = (all.0, all_stand_push ms ss m s all.1 p)
 
 -- one fixed match more
-pub all_stand_more : {A : Type 0} (facts : List (WriterFacts A)) (seats : List (Seat A)) (f : WriterFacts A) (s : Seat A) → AllStand (map fresh_for facts) (map seat_view seats) → f.writer ≡ s.writer → BestEffortStandsAt [] s.proxy → AllStand (map fresh_for (facts ++ f ∷ [])) (map seat_view (seats ++ s ∷ []))
-all_stand_more facts seats f s all w p =
-    rw (map_push fresh_for facts f, map_push seat_view seats s) (all_stand_push (map fresh_for facts) (map seat_view seats) (fresh_for f) (seat_view s) all w p)
+pub all_stand_more : {A : Type 0} (f : WriterFacts A → Match) (facts : List (WriterFacts A)) (seats : List (Seat A)) (one : WriterFacts A) (s : Seat A) → AllStand (map f facts) (map seat_view seats) → Stands (f one) (seat_view s) → AllStand (map f (facts ++ one ∷ [])) (map seat_view (seats ++ s ∷ []))
+all_stand_more f facts seats one s all p =
+    rw (map_push f facts one, map_push seat_view seats s) (all_stand_push (map f facts) (map seat_view seats) (f one) (seat_view s) all p)
 
--- the matches at the start are fresh ones of the writers
-pub fresh_all : {A : Type 0} (facts : List (WriterFacts A)) → map fresh (map writer_in facts) ≡ map fresh_for facts
-fresh_all [] = refl
-fresh_all (f ∷ facts) = ap (λ (ms : List Match). fresh_for f ∷ ms) (fresh_all facts)
+-- the matches at the start are fresh ones
+pub fresh_all : {A : Type 0} (own : GuidPrefix) (entity : EntityId) (is_reliable : Bool) (facts : List (WriterFacts A)) → map fresh (map (whom_for own entity is_reliable) facts) ≡ map (fresh_for own entity is_reliable) facts
+fresh_all own entity is_reliable [] = refl
+fresh_all own entity is_reliable (f ∷ facts) = ap (λ (ms : List Match). fresh_for own entity is_reliable f ∷ ms) (fresh_all own entity is_reliable facts)
 
-pub length-fresh : {A : Type 0} (facts : List (WriterFacts A)) → length (map fresh (map writer_in facts)) ≡ length facts
-length-fresh [] = refl
-length-fresh (f ∷ facts) = ap suc (length-fresh facts)
+pub length-fresh : {A : Type 0} (own : GuidPrefix) (entity : EntityId) (is_reliable : Bool) (facts : List (WriterFacts A)) → length (map fresh (map (whom_for own entity is_reliable) facts)) ≡ length facts
+length-fresh own entity is_reliable [] = refl
+length-fresh own entity is_reliable (f ∷ facts) = ap suc (length-fresh own entity is_reliable facts)
 
-pub length-writers : {A : Type 0} (facts : List (WriterFacts A)) → length (map writer_in facts) ≡ length facts
-length-writers [] = refl
-length-writers (f ∷ facts) = ap suc (length-writers facts)
+pub length-whoms : {A : Type 0} (own : GuidPrefix) (entity : EntityId) (is_reliable : Bool) (facts : List (WriterFacts A)) → length (map (whom_for own entity is_reliable) facts) ≡ length facts
+length-whoms own entity is_reliable [] = refl
+length-whoms own entity is_reliable (f ∷ facts) = ap suc (length-whoms own entity is_reliable facts)

@@ -7,16 +7,28 @@ use Rattle.rtps_types.specs.declared.place.Place.{Place}
 use Rattle.rtps_types.specs.declared.time.Timestamp.{Timestamp}
 use Rattle.rtps_receiver.specs.Events.{Happening}
 use Rattle.rtps_proxy.specs.History.{Came, Sample}
-use Rattle.rtps_proxy.specs.BestEffort.{lost, ready}
+use Rattle.rtps_proxy.specs.Effects.{answer_of, lost_of, ready_of}
+use Rattle.rtps_proxy.specs.Kept.{Whom}
+use Rattle.rtps_proxy.specs.Replies.{Sent}
 use Rattle.rtps_reader.specs.declared.body.Body.{Body}
 use Rattle.rtps_reader.specs.declared.status.Status.{Status}
 use Rattle.rtps_reader.specs.Body.{Carried}
 use Rattle.rtps_reader.specs.Status.{capped}
 
--- a match: its writer, and what came for it since it began, the newest first
+-- a match: between whom it stands, and what came for it since it began, the newest first
 pub record Match : Type 0 where
-  pub writer : Guid
+  pub whom : Whom
   pub past : List Came
+
+-- how many numbers are given up at an event, the changes that are ready then, and what is said to the writer
+abbrev pub lost_at : Match → Came → ℕ
+lost_at m e = lost_of m.whom.reliable m.past e
+
+abbrev pub ready_at : Match → Came → List Sample
+ready_at m e = ready_of m.whom.reliable m.past e
+
+abbrev pub answer_at : Match → Came → Option Sent
+answer_at m e = answer_of m.whom m.past e
 
 -- what is told of a match, by a value's meaning
 pub data Told (M : Type 0) : Type 0 where
@@ -64,15 +76,15 @@ names entity reader = bytes_eq reader.0 entity.0 || bytes_eq reader.0 (replicate
 abbrev pub is_for : EntityId → Happening → Bool
 is_for entity h = names entity h.reader
 
--- what came for the match with a writer
-abbrev pub past_of : Guid → List Match → Option (List Came)
-past_of w [] = None
-past_of w (m ∷ ms) = if same_guid m.writer w then Some m.past else past_of w ms
+-- the match with a writer
+abbrev pub match_with : Guid → List Match → Option Match
+match_with w [] = None
+match_with w (m ∷ ms) = if same_guid m.whom.writer w then Some m else match_with w ms
 
 -- the event comes for the match with its writer
 abbrev pub extended : Guid → Came → List Match → List Match
 extended w e [] = []
-extended w e (m ∷ ms) = if same_guid m.writer w then record { writer = m.writer; past = e ∷ m.past } ∷ ms else m ∷ extended w e ms
+extended w e (m ∷ ms) = if same_guid m.whom.writer w then record { whom = m.whom; past = e ∷ m.past } ∷ ms else m ∷ extended w e ms
 
 abbrev pub came_of : Happening → Came
 came_of h = record { time = h.time; body = h.body }
@@ -87,20 +99,33 @@ presented answers place w s = record { place = place; writer = w; what = Present
 abbrev pub loses : {M : Type 0} → Place → Guid → ℕ → List (Notice M)
 loses place w count = if count == 0 then [] else record { place = place; writer = w; what = Loses count } ∷ []
 
-abbrev pub told_of : {M : Type 0} → Answers M → Place → Guid → Came → Option (List Came) → List (Notice M)
+abbrev pub told_of : {M : Type 0} → Answers M → Place → Guid → Came → Option Match → List (Notice M)
 told_of answers place w e None = []
-told_of answers place w e (Some past) = loses place w (lost past e) ++ map (presented answers place w) (ready past e)
+told_of answers place w e (Some m) = loses place w (lost_at m e) ++ map (presented answers place w) (ready_at m e)
 
 -- what an event makes a reader tell: nothing where it isn't for it, or its writer isn't matched
 abbrev pub tells : {M : Type 0} → Answers M → Reader → Place → Happening → List (Notice M)
-tells answers r place h = if is_for r.entity h then told_of answers place (writer_of h) (came_of h) (past_of (writer_of h) r.matches) else []
+tells answers r place h = if is_for r.entity h then told_of answers place (writer_of h) (came_of h) (match_with (writer_of h) r.matches) else []
+
+-- what is said, with the place of the event that it answers
+abbrev pub placed : Place → Option Sent → List (Place × Sent)
+placed place None = []
+placed place (Some sent) = (place, sent) ∷ []
+
+abbrev pub sent_of : Place → Came → Option Match → List (Place × Sent)
+sent_of place e None = []
+sent_of place e (Some m) = placed place (answer_at m e)
+
+-- what an event makes a reader send
+abbrev pub sends : Reader → Place → Happening → List (Place × Sent)
+sends r place h = if is_for r.entity h then sent_of place (came_of h) (match_with (writer_of h) r.matches) else []
 
 abbrev pub marks_lost : ℕ → List Mark
 marks_lost count = if count == 0 then [] else ALoss count ∷ []
 
-abbrev pub marks_of : Came → Option (List Came) → List Mark
+abbrev pub marks_of : Came → Option Match → List Mark
 marks_of e None = []
-marks_of e (Some past) = marks_lost (lost past e) ++ map (λ s. ASample) (ready past e)
+marks_of e (Some m) = marks_lost (lost_at m e) ++ map (λ s. ASample) (ready_at m e)
 
 abbrev pub reader_after : Reader → Happening → Reader
 reader_after r h =
@@ -109,20 +134,20 @@ reader_after r h =
       entity = r.entity;
       fixed = r.fixed;
       matches = extended (writer_of h) (came_of h) r.matches;
-      heard = r.heard ++ marks_of (came_of h) (past_of (writer_of h) r.matches);
+      heard = r.heard ++ marks_of (came_of h) (match_with (writer_of h) r.matches);
     }
     else r
 
 -- a match to which nothing came yet
-abbrev pub fresh : Guid → Match
-fresh w = record { writer = w; past = [] }
+abbrev pub fresh : Whom → Match
+fresh w = record { whom = w; past = [] }
 
 -- a reader at the start: its fixed matches stand, and nothing came yet
-abbrev pub first_reader : EntityId → List Guid → Reader
-first_reader entity writers = record {
+abbrev pub first_reader : EntityId → List Whom → Reader
+first_reader entity whoms = record {
   entity = entity;
-  fixed = length writers;
-  matches = map fresh writers;
+  fixed = length whoms;
+  matches = map fresh whoms;
   heard = [];
 }
 

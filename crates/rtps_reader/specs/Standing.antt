@@ -5,13 +5,13 @@ use Rattle.rtps_types.specs.declared.identity.Guid.{Guid}
 use Rattle.rtps_types.specs.declared.identity.GuidPrefix.{GuidPrefix}
 use Rattle.rtps_types.specs.declared.traffic.WriterFacts.{WriterFacts}
 use Rattle.rtps_proxy.specs.declared.effects.Effects.{Effects}
-use Rattle.rtps_proxy.specs.Effects.{AreEffects, BestEffortStandsAt}
-use Rattle.rtps_proxy.specs.BestEffort.{lost, ready}
+use Rattle.rtps_proxy.specs.Effects as proxy
+use Rattle.rtps_proxy.specs.Effects.{AreEffects}
 use Rattle.rtps_proxy.specs.History.{Came}
-use Rattle.rtps_proxy.specs.Kept.{Kept}
+use Rattle.rtps_proxy.specs.Kept.{Kept, Whom}
 use Rattle.rtps_reader.specs.declared.state.Seat.{Seat}
 use Rattle.rtps_reader.specs.declared.status.Status.{Status}
-use Rattle.rtps_reader.specs.Reader.{Match, Reader, fresh, status_of}
+use Rattle.rtps_reader.specs.Reader.{Match, Reader, fresh, lost_at, ready_at, status_of}
 use Rattle.rtps_reader.specs.Status.{capped}
 
 -- one match, as it is kept
@@ -27,12 +27,18 @@ pub record ReaderKept : Type 0 where
   pub seats : List SeatKept
   pub status : Status
 
+-- a match is kept
+pub record Stands (m : Match) (seat : SeatKept) : Type 0 where
+  pub writer : m.whom.writer ≡ seat.writer
+  pub whom : m.whom ≡ seat.proxy.whom
+  pub stands : proxy.StandsAt m.past seat.proxy
+
 -- each match is kept, in order
 abbrev pub AllStand : List Match → List SeatKept → Type 0
 AllStand [] [] = Unit {0}
 AllStand [] (s ∷ ss) = ⊥
 AllStand (m ∷ ms) [] = ⊥
-AllStand (m ∷ ms) (s ∷ ss) = (m.writer ≡ s.writer) × BestEffortStandsAt m.past s.proxy × AllStand ms ss
+AllStand (m ∷ ms) (s ∷ ss) = Stands m s × AllStand ms ss
 
 -- the state keeps what follows from all that came for the reader
 pub record StandsAt (r : Reader) (state : ReaderKept) : Type 0 where
@@ -50,20 +56,20 @@ abbrev pub status_after : Status → ℕ → ℕ → Status
 status_after s lost samples = record s { lost_total = capped (s.lost_total + lost); samples = capped (s.samples + samples) }
 
 -- the status once an event came for the match with its writer, if there is one
-abbrev pub status_given : Status → Came → Option (List Came) → Status
+abbrev pub status_given : Status → Came → Option Match → Status
 status_given s e None = s
-status_given s e (Some past) = status_after s (lost past e) (length (ready past e))
+status_given s e (Some m) = status_after s (lost_at m e) (length (ready_at m e))
 
--- the writer of a fixed match, and the match at the start
-abbrev pub writer_in : {A : Type 0} → WriterFacts A → Guid
-writer_in facts = facts.writer
+-- between whom a fixed match of a reader stands, and the match at the start
+abbrev pub whom_for : {A : Type 0} → GuidPrefix → EntityId → Bool → WriterFacts A → Whom
+whom_for own entity is_reliable facts = record { own = own; writer = facts.writer; reader = entity; reliable = is_reliable; locators = facts.locators }
 
-abbrev pub fresh_for : {A : Type 0} → WriterFacts A → Match
-fresh_for facts = fresh facts.writer
+abbrev pub fresh_for : {A : Type 0} → GuidPrefix → EntityId → Bool → WriterFacts A → Match
+fresh_for own entity is_reliable facts = fresh (whom_for own entity is_reliable facts)
 
 -- what the match with a writer gave at an event, if there is one
-abbrev pub AreTaken : {A : Type 0} → Option (List Came) → Came → Option (Effects A) → Type 0
+abbrev pub AreTaken : {A : Type 0} → Option Match → Came → Option (Effects A) → Type 0
 AreTaken None e None = Unit {0}
 AreTaken None e (Some effects) = ⊥
-AreTaken (Some past) e None = ⊥
-AreTaken (Some past) e (Some effects) = AreEffects past e effects
+AreTaken (Some m) e None = ⊥
+AreTaken (Some m) e (Some effects) = AreEffects m.whom m.past e effects

@@ -1,20 +1,22 @@
 //! Presenting what an event gave.
 
 ghost use Rattle.std.specs.Prelude.{◌≡◌, ◌++◌, length, List, map, IfOk, OnOk, Option};
+ghost use Rattle.std.specs.Option.{option_map};
 ghost use Rattle.rtps_proxy.specs.Effects.{change_view};
 ghost use Rattle.rtps_proxy.specs.History.{Came};
+ghost use Rattle.rtps_proxy.specs.Replies.{reply_view};
 ghost use Rattle.rtps_reader.specs.Body.{body_by};
-ghost use Rattle.rtps_reader.specs.Notices.{notice_view};
-ghost use Rattle.rtps_reader.specs.Reader.{loses, presented, told_of};
+ghost use Rattle.rtps_reader.specs.Notices.{answer_view, notice_view};
+ghost use Rattle.rtps_reader.specs.Reader.{Match, loses, placed, presented, sent_of, told_of};
 ghost use Rattle.rtps_reader.specs.Standing.{AreTaken, status_after, status_given};
 
 use crate::content::{Content, body_of};
-use crate::notice::{Notice, Told};
+use crate::notice::{Notice, Output, Told};
 use crate::state::ReaderError;
 use crate::status::{Status, counted};
 use dds_topic::Catalog;
 use rtps_proxy::{Change, Effects};
-use rtps_types::{Guid, Place};
+use rtps_types::{Guid, Place, Reply};
 use std::alloc::{Allocator, Global};
 
 /// Adds what the match with a writer gave at an event, if there is one, and answers the status then.
@@ -26,19 +28,25 @@ pub(crate) fn tell<C: Catalog, A: Allocator>(
     place: Place,
     writer: Guid,
     effects: Option<Effects<'_, A>>,
-    notices: &mut Vec<Notice<C::Value>, A>,
+    output: &mut Output<C::Value, A>,
 ) -> Result<Status, ReaderError>
-    ensures notices { (past : Option (List Came)) (e : Came) → AreTaken past e effects.entry → OnOk result (map (notice_view C.view) notices.new.items
-        ≡ map (notice_view C.view) notices.old.items
-        ++ told_of (body_by (C.meaning catalog.now) (C.hash catalog.now) (C.hash_of_key catalog.now)) place writer e past) }
-    ensures status { (past : Option (List Came)) (e : Came) → AreTaken past e effects.entry → IfOk result (λ s. s ≡ status_given status e past) }
+    ensures notices { (found : Option Match) (e : Came) → AreTaken found e effects.entry → OnOk result (map (notice_view C.view) output.new.notices.items
+        ≡ map (notice_view C.view) output.old.notices.items
+        ++ told_of (body_by (C.meaning catalog.now) (C.hash catalog.now) (C.hash_of_key catalog.now)) place writer e found) }
+    ensures answers { (found : Option Match) (e : Came) → AreTaken found e effects.entry → OnOk result (map answer_view output.new.answers.items
+        ≡ map answer_view output.old.answers.items
+        ++ sent_of place e found) }
+    ensures status { (found : Option Match) (e : Came) → AreTaken found e effects.entry → IfOk result (λ s. s ≡ status_given status e found) }
 {
     let Some(effects) = effects else {
         return Ok(status);
     };
     let samples = effects.ready.len() as u64;
+    let lost = effects.lost;
+    let notices = &mut output.notices;
     present(values, catalog, memo, place, writer, &effects, notices)?;
-    Ok(counted_in(status, effects.lost, samples))
+    say(place, effects.answer, &mut output.answers)?;
+    Ok(counted_in(status, lost, samples))
 }
 
 /// Adds the notices of an event's effects behind those that are there: what was lost, then the
@@ -60,6 +68,20 @@ fn present<C: Catalog, A: Allocator>(
     tell_lost::<C, A>(place, writer, effects.lost, notices)?;
     let ready = &effects.ready;
     tell_ready(values, catalog, memo, place, writer, ready, notices)
+}
+
+/// Adds what is said to the writer, if anything is, with the place of the event that it answers.
+fn say<A: Allocator>(
+    place: Place,
+    answer: Option<Reply<A>>,
+    answers: &mut Vec<(Place, Reply<A>), A>,
+) -> Result<(), ReaderError>
+    ensures { OnOk result (map answer_view answers.new.items ≡ map answer_view answers.old.items ++ placed place (option_map reply_view answer)) }
+{
+    if let Some(reply) = answer {
+        answers.push((place, reply))?;
+    }
+    Ok(())
 }
 
 /// Adds a notice of what was lost, where anything was.

@@ -5,11 +5,11 @@ ghost use Rattle.std.specs.BTreeSet.{insert_key};
 ghost use Rattle.rtps_proxy.specs.Effects.{came};
 ghost use Rattle.rtps_receiver.specs.Events.{view};
 ghost use Rattle.rtps_reader.specs.Body.{body_by};
-ghost use Rattle.rtps_reader.specs.Notices.{notice_view};
-ghost use Rattle.rtps_reader.specs.Reader.{Match, Reader, extended, first_reader, names, past_of, reader_after, same_guid, tells};
+ghost use Rattle.rtps_reader.specs.Notices.{answer_view, notice_view};
+ghost use Rattle.rtps_reader.specs.Reader.{Match, Reader, extended, first_reader, match_with, names, reader_after, same_guid, sends, tells};
 ghost use Rattle.rtps_reader.specs.Asked.{asked};
 ghost use Rattle.rtps_reader.specs.Listed.{match_order, with_writers};
-ghost use Rattle.rtps_reader.specs.Standing.{AllStand, AreTaken, StandsAt, fresh_for, seat_view, writer_in};
+ghost use Rattle.rtps_reader.specs.Standing.{AllStand, AreTaken, StandsAt, fresh_for, seat_view, whom_for};
 
 use crate::notice::Output;
 use crate::present::tell;
@@ -66,7 +66,7 @@ pub(crate) struct Seat<A: Allocator> {
     proxy: WriterProxy<A>,
 }
 
-/// A best-effort reader: its matches, and what is counted of it.
+/// A reader: its matches, and what is counted of it.
 #[derive(Drop)]
 pub struct ReaderState<A: Allocator = Global> {
     rank: u32,
@@ -87,8 +87,7 @@ impl<A: Allocator> Model for ReaderState<A> {
 }
 
 impl<A: Allocator + Copy> ReaderState<A> {
-    /// A reader at the start, whose fixed matches stand and are counted. Reliable readers aren't
-    /// built yet.
+    /// A reader at the start, whose fixed matches stand and are counted.
     pub fn new(
         alloc: A,
         rank: u32,
@@ -97,8 +96,7 @@ impl<A: Allocator + Copy> ReaderState<A> {
         reliable: bool,
         fixed: &[WriterFacts<A>],
     ) -> Result<ReaderState<A>, ReaderError>
-        requires best_effort { reliable ≡ false }
-        ensures stands { IfOk result (StandsAt (first_reader entity (map writer_in fixed.now))) }
+        ensures stands { IfOk result (StandsAt (first_reader entity (map (whom_for own entity reliable) fixed.now))) }
         ensures place { IfOk result (λ r. (r.rank ≡ rank) × (r.own ≡ own)) }
     {
         let seats = seats_for(alloc, own, entity, reliable, fixed)?;
@@ -122,7 +120,7 @@ impl<A: Allocator + Copy> ReaderState<A> {
 
     /// Takes one step, and adds what it gives behind what is in `output`: of an event that is for the
     /// reader and comes from a writer that it is matched with, what was lost and then the samples
-    /// that are ready. Any other event changes nothing. `values` is where values are decoded,
+    /// that are ready, and what is said to the writer. Any other event changes nothing. `values` is where values are decoded,
     /// and `memo` what the catalog keeps of earlier ones.
     ///
     /// After want of memory the reader is spent: each later step answers so too.
@@ -139,7 +137,9 @@ impl<A: Allocator + Copy> ReaderState<A> {
         ensures notices { (r : Reader) → StandsAt r self.old → OnOk result (map (notice_view C.view) output.new.notices.items
             ≡ map (notice_view C.view) output.old.notices.items
             ++ tells (body_by (C.meaning catalog.now) (C.hash catalog.now) (C.hash_of_key catalog.now)) r step.now.place (asked step.now.what)) }
-        ensures answers { output.new.answers ≡ output.old.answers }
+        ensures answers { (r : Reader) → StandsAt r self.old → OnOk result (map answer_view output.new.answers.items
+            ≡ map answer_view output.old.answers.items
+            ++ sends r step.now.place (asked step.now.what)) }
         ensures place { (self.new.rank ≡ self.old.rank) × (self.new.own ≡ self.old.own) }
         ensures err { OnErr result (self.new.spent ≡ true) }
         ensures spent { self.old.spent ≡ true → IsErr result }
@@ -166,7 +166,9 @@ impl<A: Allocator + Copy> ReaderState<A> {
         ensures notices { (r : Reader) → StandsAt r self.old → OnOk result (map (notice_view C.view) output.new.notices.items
             ≡ map (notice_view C.view) output.old.notices.items
             ++ tells (body_by (C.meaning catalog.now) (C.hash catalog.now) (C.hash_of_key catalog.now)) r place (view event.now)) }
-        ensures answers { output.new.answers ≡ output.old.answers }
+        ensures answers { (r : Reader) → StandsAt r self.old → OnOk result (map answer_view output.new.answers.items
+            ≡ map answer_view output.old.answers.items
+            ++ sends r place (view event.now)) }
         ensures place { (self.new.rank ≡ self.old.rank) × (self.new.own ≡ self.old.own) }
         ensures err { OnErr result (self.new.spent ≡ true) }
         ensures spent { self.old.spent ≡ true → IsErr result }
@@ -191,7 +193,7 @@ impl<A: Allocator + Copy> ReaderState<A> {
             place,
             writer,
             effects,
-            &mut output.notices,
+            output,
         )?;
         self.spent = false;
         Ok(())
@@ -228,19 +230,19 @@ fn seats_for<A: Allocator + Copy>(
     reliable: bool,
     fixed: &[WriterFacts<A>],
 ) -> Result<Vec<Seat<A>, A>, ReaderError>
-    requires best_effort { reliable ≡ false }
-    ensures { IfOk result (λ seats. AllStand (map fresh_for fixed.now) (map seat_view seats.items)) }
+    ensures { IfOk result (λ seats. AllStand (map (fresh_for own entity reliable) fixed.now) (map seat_view seats.items)) }
 {
     let mut seats = Vec::new(alloc);
     for facts in fixed {
         let locators = Vec::from_slice(alloc, facts.locators.as_slice())?;
-        let proxy = WriterProxy::new(ProxyConfig {
+        let config = ProxyConfig {
             own,
             writer: facts.writer,
             reader: entity,
             reliable,
             locators: Locators::new(locators),
-        });
+        };
+        let proxy = WriterProxy::new(alloc, config);
         seats.push(Seat {
             writer: facts.writer,
             proxy,
@@ -257,14 +259,14 @@ fn is_for(entity: EntityId, reader: EntityId) -> bool
 }
 
 /// Gives an event to the match with its writer, if there is one.
-fn take_event<'a, A: Allocator>(
+fn take_event<'a, A: Allocator + Copy>(
     seats: &mut Vec<Seat<A>, A>,
     alloc: A,
     writer: Guid,
     event: &Event<'a>,
 ) -> Result<Option<Effects<'a, A>>, ReaderError>
     ensures stands { (ms : List Match) → AllStand ms (map seat_view seats.old.items) → OnOk result (AllStand (extended writer (came event.now.time event.now.body) ms) (map seat_view seats.new.items)) }
-    ensures effects { (ms : List Match) → AllStand ms (map seat_view seats.old.items) → IfOk result (AreTaken (past_of writer ms) (came event.now.time event.now.body)) }
+    ensures effects { (ms : List Match) → AllStand ms (map seat_view seats.old.items) → IfOk result (AreTaken (match_with writer ms) (came event.now.time event.now.body)) }
 {
     let Some(at) = seat_of(seats, writer) else {
         return Ok(None);

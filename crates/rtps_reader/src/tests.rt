@@ -1,5 +1,6 @@
 //! Bodies of changes that were written down by hand.
 
+mod reliable;
 mod state;
 
 use crate::*;

@@ -15,7 +15,7 @@ one_more : {X : Type 0} (b : Bool) (x : X) (xs ys : List X) → (if b then x ∷
 one_more true x xs ys = refl
 one_more false x xs ys = refl
 
-notices_by-append : {M : Type 0} (rank : ℕ) (xs ys : List (Put M)) → notices_by rank (xs ++ ys) ≡ notices_by rank xs ++ notices_by rank ys
+pub notices_by-append : {M : Type 0} (rank : ℕ) (xs ys : List (Put M)) → notices_by rank (xs ++ ys) ≡ notices_by rank xs ++ notices_by rank ys
 notices_by-append rank [] ys = refl
 notices_by-append rank (Hears by n ∷ xs) ys = rw (notices_by-append rank xs ys) (one_more (by == rank) n (notices_by rank xs) (notices_by rank ys))
 notices_by-append rank (Sends a ∷ xs) ys = notices_by-append rank xs ys

@@ -3,3 +3,7 @@ pub mod Dealt
 pub mod Ranks
 pub mod Reached
 pub mod Running
+pub mod Places
+pub mod Shown
+pub mod Matched
+pub mod Presenting

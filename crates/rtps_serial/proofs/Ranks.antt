@@ -1,5 +1,5 @@
 -- States by rank, one after the other.
-use Rattle.std.proofs.Common.{◌≡◌, ℕ, suc, ◌+◌, ◌<◌, ◌≤◌, List, [], ◌∷◌, ◌++◌, length, map, get_or, set, refl, sym, ap, ◌∙◌, subst, arith, below_more, length-append, get_or-set_same, get_or-set_other}
+use Rattle.std.proofs.Common.{◌≡◌, Bool, false, ℕ, suc, ◌+◌, ◌<◌, ◌≤◌, List, [], ◌∷◌, ◌++◌, length, map, get_or, set, refl, sym, ap, ◌∙◌, subst, arith, below_more, length-append, get_or-set_same, get_or-set_other}
 use Rattle.std.proofs.lemmas.List.{get_or-map, get_or_append_left}
 use Rattle.std.proofs.Math.Seq.{get_or-append_seam}
 use Rattle.rtps_types.specs.declared.identity.EntityId.{EntityId}
@@ -10,9 +10,12 @@ use Rattle.rtps_reader.specs.Reader.{Match, Reader, first_reader}
 use Rattle.rtps_reader.specs.Standing as reader
 use Rattle.rtps_reader.specs.Standing.{ReaderKept, SeatKept}
 use Rattle.rtps_reader.specs.Listed.{with_writers}
-use Rattle.rtps_serial.specs.Run.{entity_of}
+use Rattle.rtps_types.specs.declared.identity.GuidPrefix.{GuidPrefix}
+use Rattle.rtps_serial.specs.Run.{Facts, entity_of, is_reliable, is_reliable_at, reader_first, whom_of}
 use Rattle.rtps_serial.specs.Seen.{matches_below}
-use Rattle.rtps_serial.specs.Standing.{AllStand, StandsFor}
+use Rattle.rtps_types.specs.declared.traffic.WriterFacts.{WriterFacts}
+use Rattle.rtps_proxy.specs.Kept.{Whom}
+use Rattle.rtps_serial.specs.Standing.{AllStand, StandsFor, facts_in}
 
 -- one state more
 pub all_stand_push : (readers : ℕ → Reader) (states : List ReaderKept) (s : ReaderKept) (n : ℕ) → length states ≡ n → AllStand readers states → StandsFor (readers n) n s → AllStand readers (states ++ s ∷ [])
@@ -40,21 +43,32 @@ pub left_more : (old states : List ReaderKept) (at : ℕ) (s : ReaderKept)
 left_more old states at s left rank other above = get_or-set_other states at rank s other (λ e. omega (arith, above, e)) ∙ left rank other (omega (arith, above))
 
 -- matches and what is kept of them have the same writers
-pub same_writers : (ms : List Match) (ss : List SeatKept) → reader.AllStand ms ss → map (λ (s : SeatKept). s.writer) ss ≡ map (λ (m : Match). m.writer) ms
+pub same_writers : (ms : List Match) (ss : List SeatKept) → reader.AllStand ms ss → map (λ (s : SeatKept). s.writer) ss ≡ map (λ (m : Match). m.whom.writer) ms
 same_writers [] [] all = refl
 same_writers [] (s ∷ ss) all = absurd all
 same_writers (m ∷ ms) [] all = absurd all
-same_writers (m ∷ ms) (s ∷ ss) all = ap (λ (w : Guid). w ∷ map (λ (s : SeatKept). s.writer) ss) (sym all.0) ∙ ap (λ (l : List Guid). m.writer ∷ l) (same_writers ms ss all.2)
+same_writers (m ∷ ms) (s ∷ ss) all = ap (λ (w : Guid). w ∷ map (λ (s : SeatKept). s.writer) ss) (sym all.0.writer) ∙ ap (λ (l : List Guid). m.whom.writer ∷ l) (same_writers ms ss all.1)
+
+-- between whom matches stand, by their facts
+pub whoms_in : {A : Type 0} (own : GuidPrefix) (entity : EntityId) (b : Bool) (facts : List (WriterFacts A)) → map (whom_of own entity b) (map facts_in facts) ≡ map (reader.whom_for own entity b) facts
+whoms_in own entity b [] = refl
+whoms_in own entity b (f ∷ facts) = ap (λ (l : List Whom). whom_of own entity b (facts_in f) ∷ l) (whoms_in own entity b facts)
 
 -- one reader more at the start
-pub first_more : (readers : List ReaderConfig) (matched : ℕ → List Guid) (states : List ReaderKept) (s : ReaderKept) (n : ℕ) (config : ReaderConfig) (writers : List Guid)
-    → length states ≡ n → n < length readers → config ≡ get_or readers n config → writers ≡ matched n
-    → reader.StandsAt (first_reader config.entity writers) s → s.rank ≡ n
-    → AllStand (λ rank. first_reader (entity_of readers rank) (matched rank)) states → AllStand (λ rank. first_reader (entity_of readers rank) (matched rank)) (states ++ s ∷ [])
-first_more readers matched states s n config writers e below is same stands ranked all =
+pub first_more : (own : GuidPrefix) (readers : List ReaderConfig) (matched : ℕ → List Facts) (states : List ReaderKept) (s : ReaderKept) (n : ℕ) (config : ReaderConfig) (facts : List Facts)
+    → length states ≡ n → n < length readers → config ≡ get_or readers n config → facts ≡ matched n
+    → reader.StandsAt (first_reader config.entity (map (whom_of own config.entity (is_reliable config.requested.policies.reliability)) facts)) s → s.rank ≡ n
+    → AllStand (λ rank. reader_first own readers rank (matched rank)) states → AllStand (λ rank. reader_first own readers rank (matched rank)) (states ++ s ∷ [])
+first_more own readers matched states s n config facts e below is same stands ranked all =
     let entity : config.entity ≡ entity_of readers n = ap (λ (c : ReaderConfig). c.entity) is ∙ sym (get_or-map (λ (c : ReaderConfig). c.entity) readers n config unknown_entity below) in
+    let asking : is_reliable config.requested.policies.reliability ≡ is_reliable_at readers n = ap (λ (c : ReaderConfig). is_reliable c.requested.policies.reliability) is ∙ sym (get_or-map (λ (c : ReaderConfig). is_reliable c.requested.policies.reliability) readers n config false below) in
     all_stand_push _ states s n e all
-    (record { stands = subst (λ (w : List Guid). reader.StandsAt (first_reader (entity_of readers n) w) s) same (subst (λ (k : EntityId). reader.StandsAt (first_reader k writers) s) entity stands); ranked = ranked })
+    (record {
+      stands = subst (λ (fs : List Facts). reader.StandsAt (reader_first own readers n fs) s) same
+          (subst (λ (b : Bool). reader.StandsAt (first_reader (entity_of readers n) (map (whom_of own (entity_of readers n) b) facts)) s) asking
+          (subst (λ (k : EntityId). reader.StandsAt (first_reader k (map (whom_of own k (is_reliable config.requested.policies.reliability)) facts)) s) entity stands));
+      ranked = ranked;
+    })
 
 -- the matches of one rank more
 pub matches_more : (readers : ℕ → Reader) (n : ℕ) (state : ReaderKept) (listed : List (ℕ × Guid)) → listed ≡ matches_below readers n → StandsFor (readers n) n state

@@ -3,3 +3,4 @@ pub mod Run
 pub mod Seen
 pub mod Standing
 pub mod Outcome
+pub mod Presentation

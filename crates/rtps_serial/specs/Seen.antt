@@ -25,7 +25,7 @@ status_seen w rank = if nat_lt rank w.count then Some (status_of (w.readers rank
 -- the matches of the readers of the ranks below a count, ordered by rank and then by writer
 abbrev pub matches_below : (ℕ → Reader) → ℕ → List (ℕ × Guid)
 matches_below readers zero = []
-matches_below readers (suc rank) = with_writers (matches_below readers rank) rank (map (λ m. m.writer) (readers rank).matches)
+matches_below readers (suc rank) = with_writers (matches_below readers rank) rank (map (λ m. m.whom.writer) (readers rank).matches)
 
 abbrev pub matches_seen : {M : Type 0} → World M → List (ℕ × Guid)
 matches_seen w = matches_below w.readers w.count

@@ -9,7 +9,8 @@ use Rattle.rtps_serial.specs.declared.errors.EngineError.{EngineError}
 use Rattle.rtps_serial.specs.declared.errors.EngineError.TheVariants.{NoMemory, Failed, Spent}
 use Rattle.rtps_serial.specs.declared.errors.StartError.{StartError}
 use Rattle.rtps_serial.specs.declared.errors.StartError.TheVariants as start
-use Rattle.rtps_serial.specs.Run.{run}
+use Rattle.rtps_types.specs.declared.traffic.WriterFacts.{WriterFacts}
+use Rattle.rtps_serial.specs.Run.{Facts, run}
 
 pub record EngineKept (C : Type 0) : Type 0 where
   pub catalog : C
@@ -19,6 +20,10 @@ pub record EngineKept (C : Type 0) : Type 0 where
   pub failed : Bool
   -- by rank
   pub readers : List ReaderKept
+
+-- a writer and its locators, without where they lie in memory
+abbrev pub facts_in : {A : Type 0} → WriterFacts A → Facts
+facts_in facts = (facts.writer, facts.locators)
 
 -- the state of a rank keeps the reader of that rank
 pub record StandsFor (r : Reader) (rank : ℕ) (state : ReaderKept) : Type 0 where

@@ -1,13 +1,14 @@
 -- The world and its step (DDSI-RTPS 8.3.4, 8.4.10): every reader by its rank, and all that was put out, in the order in which it
 -- came.
-use Rattle.std.specs.Prelude.{ℕ, zero, suc, List, [], ◌++◌, map, Bool, Option, if◌then◌else◌}
+use Rattle.std.specs.Prelude.{ℕ, zero, suc, List, [], ◌++◌, map, Bool, Option, Some, if◌then◌else◌}
 use Rattle.std.specs.List.{list_any}
 use Rattle.rtps_types.specs.declared.identity.Guid.{Guid}
 use Rattle.rtps_types.specs.declared.locator.Locator.{Locator}
 use Rattle.rtps_types.specs.declared.place.Place.{Place}
 use Rattle.rtps_receiver.specs.Events.{Happening}
 use Rattle.rtps_discovery.specs.Addressed.{is_addressed}
-use Rattle.rtps_reader.specs.Reader.{Answers, Match, Notice, Reader, reader_after, same_guid, tells}
+use Rattle.rtps_proxy.specs.Replies.{Sent}
+use Rattle.rtps_reader.specs.Reader.{Answers, Match, Notice, Reader, reader_after, same_guid, sends, tells}
 
 -- an answering datagram: the place that it answers, the rank of the reader that sends it (none: discovery does), where it goes and
 -- its octets
@@ -29,7 +30,7 @@ pub record World (M : Type 0) : Type 0 where
   pub put : List (Put M)
 
 abbrev pub is_matched : List Match → Guid → Bool
-is_matched matches writer = list_any (λ m. same_guid m.writer writer) matches
+is_matched matches writer = list_any (λ m. same_guid m.whom.writer writer) matches
 
 -- an event reaches a reader that it is addressed to
 abbrev pub reaches : Happening → Reader → Bool
@@ -39,9 +40,13 @@ reaches e r = is_addressed (is_matched r.matches) r.entity e
 abbrev pub reader_by : Happening → Reader → Reader
 reader_by e r = if reaches e r then reader_after r e else r
 
--- what the reader of a rank puts out at an event: its notices, in order; a best-effort reader answers nothing
+-- an answer of the reader of a rank, with the place of the event that it answers
+abbrev pub sent_by : {M : Type 0} → ℕ → Place × Sent → Put M
+sent_by rank s = Sends (record { place = s.0; rank = Some rank; to = s.1.to; octets = s.1.octets })
+
+-- what the reader of a rank puts out at an event: its notices, in order, and then its answer
 abbrev pub puts : {M : Type 0} → Answers M → Happening → ℕ → Reader → List (Put M)
-puts answers e rank r = if reaches e r then map (Hears rank) (tells answers r e.place e) else []
+puts answers e rank r = if reaches e r then map (Hears rank) (tells answers r e.place e) ++ map (sent_by rank) (sends r e.place e) else []
 
 -- what the readers of the ranks below a count put out at an event, by rising rank
 abbrev pub puts_below : {M : Type 0} → Answers M → Happening → (ℕ → Reader) → ℕ → List (Put M)

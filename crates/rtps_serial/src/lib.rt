@@ -8,6 +8,7 @@
 mod deal;
 mod engine;
 mod errors;
+pub mod laws;
 mod outcome;
 mod start;
 mod steps;

@@ -1,12 +1,11 @@
 //! The readers of a configuration, at the start.
 
-ghost use Rattle.std.specs.Prelude.{◌≡◌, ℕ, ◌<◌, ◌≤◌, IfOk, length, map, slice_index_or};
-ghost use Rattle.rtps_reader.specs.Standing.{writer_in};
-ghost use Rattle.rtps_reader.specs.Reader.{first_reader};
-ghost use Rattle.rtps_serial.specs.Run.{entity_of, fixed_of};
-ghost use Rattle.rtps_serial.specs.Standing.{AllStand};
+ghost use Rattle.std.specs.Prelude.{◌≡◌, List, ℕ, ◌<◌, ◌≤◌, IfOk, length, map, slice_index_or};
+ghost use Rattle.rtps_serial.specs.Run.{Facts, fixed_of, is_reliable, reader_first};
+ghost use Rattle.rtps_serial.specs.Standing.{AllStand, facts_in};
 
 use crate::deal::{empty_lists, push_by};
+use dds_qos::Reliability;
 use rtps_discovery::{FixedMatch, ReaderConfig};
 use rtps_reader::ReaderState;
 use rtps_types::{GuidPrefix, Locators, WriterFacts};
@@ -19,7 +18,7 @@ pub(crate) fn fixed_by_rank<A: Allocator + Copy>(
     fixed: &[FixedMatch],
 ) -> Result<Vec<Vec<WriterFacts<A>, A>, A>, AllocError>
     ensures count { IfOk result (λ lists. length lists.items ≡ readers) }
-    ensures fixed { IfOk result (λ lists. (rank : ℕ) (other : _) → rank < readers → map writer_in (slice_index_or lists.items rank other).items ≡ fixed_of fixed.now rank) }
+    ensures fixed { IfOk result (λ lists. (rank : ℕ) (other : _) → rank < readers → map facts_in (slice_index_or lists.items rank other).items ≡ fixed_of fixed.now rank) }
 {
     let mut lists = empty_lists(alloc, readers)?;
     for pair in fixed {
@@ -33,6 +32,13 @@ pub(crate) fn fixed_by_rank<A: Allocator + Copy>(
     Ok(lists)
 }
 
+/// Whether a reader asks for what is missing.
+fn is_reliable(reader: &ReaderConfig) -> bool
+    ensures { result ≡ is_reliable reader.now.requested.policies.reliability }
+{
+    matches!(reader.requested.policies.reliability, Reliability::Reliable)
+}
+
 /// Readers to which nothing came yet.
 pub(crate) fn first_readers<A: Allocator + Copy>(
     alloc: A,
@@ -43,13 +49,14 @@ pub(crate) fn first_readers<A: Allocator + Copy>(
     requires fixed { length fixed.now ≡ length readers.now }
     requires few { length readers.now ≤ 256 }
     ensures count { IfOk result (λ states. length states.items ≡ length readers.now) }
-    ensures stand { (matched : ℕ → _) → ((rank : ℕ) (other : _) → rank < length readers.now → map writer_in (slice_index_or fixed.now rank other).items ≡ matched rank)
-        → IfOk result (λ states. AllStand (λ rank. first_reader (entity_of readers.now rank) (matched rank)) states.items) }
+    ensures stand { (matched : ℕ → List Facts) → ((rank : ℕ) (other : _) → rank < length readers.now → map facts_in (slice_index_or fixed.now rank other).items ≡ matched rank)
+        → IfOk result (λ states. AllStand (λ rank. reader_first own readers.now rank (matched rank)) states.items) }
 {
     let mut states = Vec::new(alloc);
     for (rank, reader) in readers.iter().enumerate() {
         let fixed = fixed[rank].as_slice();
-        match ReaderState::new(alloc, rank as u32, own, reader.entity, false, fixed) {
+        let reliable = is_reliable(reader);
+        match ReaderState::new(alloc, rank as u32, own, reader.entity, reliable, fixed) {
             Ok(state) => states.push(state)?,
             Err(_) => return Err(AllocError),
         }

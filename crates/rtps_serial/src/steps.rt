@@ -8,19 +8,19 @@ ghost use Rattle.rtps_receiver.specs.Events.{events_of, view};
 ghost use Rattle.rtps_reader.specs.Body.{body_by};
 ghost use Rattle.rtps_reader.specs.Reader.{Reader, status_of};
 ghost use Rattle.rtps_reader.specs.Standing.{StandsAt};
-ghost use Rattle.rtps_reader.specs.Notices.{notice_view};
+ghost use Rattle.rtps_reader.specs.Notices.{answer_view, notice_view};
 ghost use Rattle.rtps_serial.specs.Outcome.{report_view};
 ghost use Rattle.rtps_serial.specs.Standing.{AllStand};
-ghost use Rattle.rtps_serial.specs.World.{Hears, World, puts, puts_below, reader_by};
+ghost use Rattle.rtps_serial.specs.World.{Hears, World, puts, puts_below, reader_by, sent_by};
 ghost use Rattle.rtps_serial.specs.Run.{world_run};
 
 use crate::errors::EngineError;
-use crate::outcome::Report;
+use crate::outcome::{Answer, Report};
 use dds_topic::{Catalog, NoMemory};
 use rtps_discovery::is_discovery;
 use rtps_reader::{Asked, Notice, Output, ReaderState, Status, Step};
 use rtps_receiver::{Event, events};
-use rtps_types::{Guid, GuidPrefix};
+use rtps_types::{Guid, GuidPrefix, Place, Reply};
 use std::alloc::{AllocError, Allocator, Global};
 use std::collections::BTreeSet;
 
@@ -37,8 +37,8 @@ fn step_one<C: Catalog, A: Allocator + Copy>(
     reports: &mut Vec<Report<C::Value, A>, A>,
 ) -> Result<(), AllocError>
     requires other { is_discovery (view event.now).writer ≡ false }
-    requires empty { output.old.notices.items ≡ [] }
-    ensures empty { OnOk result (output.new.notices.items ≡ []) }
+    requires empty { (output.old.notices.items ≡ []) × (output.old.answers.items ≡ []) }
+    ensures empty { OnOk result ((output.new.notices.items ≡ []) × (output.new.answers.items ≡ [])) }
     ensures stands { (r : Reader) → StandsAt r reader.old → OnOk result (StandsAt (reader_by (view event.now) r) reader.new) }
     ensures rank { reader.new.rank ≡ reader.old.rank }
     ensures put { (r : Reader) → StandsAt r reader.old → OnOk result (map (report_view C.view) reports.new.items
@@ -53,7 +53,8 @@ fn step_one<C: Catalog, A: Allocator + Copy>(
         Ok(()) => {}
         Err(_) => return Err(AllocError),
     }
-    report_all::<C, A>(reader.rank(), &mut output.notices, reports)
+    report_all::<C, A>(reader.rank(), &mut output.notices, reports)?;
+    send_all::<C, A>(reader.rank(), &mut output.answers, reports)
 }
 
 /// Moves notices of the reader of a rank behind the reports.
@@ -67,6 +68,30 @@ fn report_all<C: Catalog, A: Allocator>(
 {
     for notice in notices.drain(..) {
         match reports.push(Report::Notice { rank, notice }) {
+            Ok(()) => {}
+            Err(_) => return Err(AllocError),
+        }
+    }
+    Ok(())
+}
+
+/// Moves answers of the reader of a rank behind the reports.
+fn send_all<C: Catalog, A: Allocator>(
+    rank: u32,
+    answers: &mut Vec<(Place, Reply<A>), A>,
+    reports: &mut Vec<Report<C::Value, A>, A>,
+) -> Result<(), AllocError>
+    ensures empty { answers.new.items ≡ [] }
+    ensures moved { OnOk result (map (report_view C.view) reports.new.items ≡ map (report_view C.view) reports.old.items ++ map (sent_by rank) (map answer_view answers.old.items)) }
+{
+    for (place, reply) in answers.drain(..) {
+        let answer = Answer {
+            place,
+            rank: Some(rank),
+            to: reply.to,
+            octets: reply.octets,
+        };
+        match reports.push(Report::Answer(answer)) {
             Ok(()) => {}
             Err(_) => return Err(AllocError),
         }

@@ -2,6 +2,8 @@
 
 ghost use Rattle.std.specs.Prelude.{◌≤◌, IfOk, length};
 
+mod reliable;
+
 use crate::*;
 use dds_qos::{Reliability, Requested};
 use dds_topic::{Shape, Shapes};
@@ -52,8 +54,13 @@ fn datagram(alloc: Global, changes: &[(&str, u8)]) -> Result<Vec<u8>, Fail>
     Ok(octets)
 }
 
-/// Best-effort readers, and fixed matches by rank.
-fn config(alloc: Global, readers: u8, fixed: &[(u32, Guid)]) -> Result<Config, Fail> {
+/// Readers that ask for this, and fixed matches by rank.
+fn config_of(
+    alloc: Global,
+    reliability: Reliability,
+    readers: u8,
+    fixed: &[(u32, Guid)],
+) -> Result<Config, Fail> {
     let mut config = Config {
         own: OURS,
         readers: Vec::new(alloc),
@@ -61,7 +68,7 @@ fn config(alloc: Global, readers: u8, fixed: &[(u32, Guid)]) -> Result<Config, F
     };
     for rank in 0..readers {
         let mut requested = Requested::new(alloc);
-        requested.policies.reliability = Reliability::BestEffort;
+        requested.policies.reliability = reliability;
         config.readers.push(ReaderConfig {
             entity: EntityId([0, 0, rank + 1, 7]),
             topic: String::from_str(alloc, "Square")?,
@@ -77,6 +84,11 @@ fn config(alloc: Global, readers: u8, fixed: &[(u32, Guid)]) -> Result<Config, F
         })?;
     }
     Ok(config)
+}
+
+/// Best-effort readers, and fixed matches by rank.
+fn config(alloc: Global, readers: u8, fixed: &[(u32, Guid)]) -> Result<Config, Fail> {
+    config_of(alloc, Reliability::BestEffort, readers, fixed)
 }
 
 /// Two readers that are both matched with the writer.
@@ -174,6 +186,7 @@ fn a_value_is_decoded(rt: HostRuntime) -> Result<(), Fail> {
         }
     }
     assert!(rt; found);
+    laws::presented::<Shape>();
     Ok(())
 }
 

@@ -1,5 +1,6 @@
 //! Lines against a record file that was written down by hand.
 
+mod answers;
 mod lines;
 mod runs;
 

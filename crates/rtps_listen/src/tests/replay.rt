@@ -136,9 +136,8 @@ fn writers(rt: HostRuntime) {
 }
 
 /// Options that are refused, and by which fault. The faults are in the order in which they are found.
-const REFUSED: [(bool, &str, Option<&str>, ListenFault); 7] = [
-    (false, "0b", Some("0b"), ListenFault::NotBuilt),
-    (false, OURS, None, ListenFault::NotBuilt),
+const REFUSED: [(bool, &str, Option<&str>, ListenFault); 6] = [
+    (false, "0b", Some("0b"), ListenFault::BadPrefix),
     (true, "0b", Some("0b"), ListenFault::BadPrefix),
     (true, THEIRS, None, ListenFault::BadPrefix),
     (true, OURS, Some(OURS), ListenFault::BadWriter),
@@ -197,6 +196,7 @@ fn configuration_of_eight_readers(rt: HostRuntime) -> Result<(), Fail> {
     let mut options = texts(OURS, Some("0102030405060708090a0bac00ab0102"));
     options.readers = 8;
     options.topic = "Circle";
+    options.best_effort = false;
     let config = config_of(rt.alloc(), &options)?;
     assert_eq!(rt; check(&config), Ok(()));
     assert_eq!(rt; config.own, GuidPrefix([0x0b; 12]));
@@ -206,6 +206,10 @@ fn configuration_of_eight_readers(rt: HostRuntime) -> Result<(), Fail> {
     for (reader, key) in config.readers.as_slice().iter().zip(keys) {
         assert_eq!(rt; reader.entity, EntityId([0, 0, key, 7]));
         assert_eq!(rt; reader.topic.as_str(), "Circle");
+        assert_eq!(rt;
+            reader.requested.policies.reliability,
+            Reliability::Reliable
+        );
     }
     let ranks = [0u32, 1, 2, 3, 4, 5, 6, 7];
     for (pair, rank) in config.fixed.as_slice().iter().zip(ranks) {

@@ -62,8 +62,8 @@ fn file(alloc: Global) -> Result<Vec<u8>, Fail> {
     Ok(file)
 }
 
-/// Two readers that are matched with the writer from the start.
-fn config(alloc: Global) -> Result<Config, Fail>
+/// Two readers that ask for this and are matched with the writer from the start.
+pub(super) fn config_of(alloc: Global, reliability: Reliability) -> Result<Config, Fail>
     ensures { IfOk result (λ config. check_of config ≡ Ok tt) }
 {
     let mut config = Config {
@@ -73,7 +73,7 @@ fn config(alloc: Global) -> Result<Config, Fail>
     };
     for rank in 0..2u8 {
         let mut requested = Requested::new(alloc);
-        requested.policies.reliability = Reliability::BestEffort;
+        requested.policies.reliability = reliability;
         config.readers.push(ReaderConfig {
             entity: EntityId([0, 0, rank + 1, 7]),
             topic: String::from_str(alloc, "Square")?,
@@ -92,8 +92,15 @@ fn config(alloc: Global) -> Result<Config, Fail>
     }
 }
 
+/// Two best-effort readers.
+fn config(alloc: Global) -> Result<Config, Fail>
+    ensures { IfOk result (λ config. check_of config ≡ Ok tt) }
+{
+    config_of(alloc, Reliability::BestEffort)
+}
+
 /// These lines, each with its end.
-fn text(alloc: Global, lines: &[&str]) -> Result<String, Fail> {
+pub(super) fn text(alloc: Global, lines: &[&str]) -> Result<String, Fail> {
     let mut text = String::new(alloc);
     for line in lines {
         text.push_str(line)?;

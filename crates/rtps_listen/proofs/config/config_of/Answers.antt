@@ -4,26 +4,23 @@ use Rattle.rtps_listen.proofs.config.config_of.Goals as goal
 
 pub returns-in_default-clause-refused : goal.returns-in_default-clause-refused
 returns-in_default-clause-refused c = record {
-  reliable = λ h. cc;
-  prefix = λ h bad. refl;
-  fixed = λ h good bad. let none : false ≡ true = c.in_default.ensures.found.1 good in cc;
-  writer = λ h good unmatched. let none : false ≡ true = c.in_default.ensures.found.1 good in cc;
+  prefix = λ bad. refl;
+  fixed = λ good bad. let none : false ≡ true = c.in_default.ensures.found.1 good in cc;
+  writer = λ good unmatched. let none : false ≡ true = c.in_default.ensures.found.1 good in cc;
 }
 
 pub returns-in_default-config_with-clause-refused : goal.returns-in_default-config_with-clause-refused
 returns-in_default-config_with-clause-refused c = record {
-  reliable = λ h. cc;
-  prefix = λ h bad. absurd (bad (c.in-Some.ensures.found.0 refl));
-  fixed = λ h good bad. absurd (bad (c.in-Ok.ensures.found.0 refl));
-  writer = λ h good unmatched. inr refl;
+  prefix = λ bad. absurd (bad (c.in-Some.ensures.found.0 refl));
+  fixed = λ good bad. absurd (bad (c.in-Ok.ensures.found.0 refl));
+  writer = λ good unmatched. inr refl;
 }
 
 pub returns-in-Ok-check-clause-refused : goal.returns-in-Ok-check-clause-refused
 returns-in-Ok-check-clause-refused c = record {
-  reliable = λ h. cc;
-  prefix = λ h bad. absurd (bad (c.in-Some.ensures.found.0 refl));
-  fixed = λ h good bad. absurd (bad (c.in-Ok.ensures.found.0 refl));
-  writer = λ h good unmatched. absurd
+  prefix = λ bad. absurd (bad (c.in-Some.ensures.found.0 refl));
+  fixed = λ good bad. absurd (bad (c.in-Ok.ensures.found.0 refl));
+  writer = λ good unmatched. absurd
       (taken_matched c.args.options.now c.in-Some.own c.in-Ok.writer c.in-Ok-config_with.config c.in-Ok-config_with.ensures
       (record { prefix = c.in-Some.ensures.value; fixed = c.in-Ok.ensures.value }) (sym c.check.ensures.checked ∙ c.in-Ok-check.is) unmatched);
 }

@@ -3,4 +3,4 @@ use Rattle.rtps_reader.specs.Standing.{AllStand, fresh_for, seat_view}
 use Rattle.rtps_reader.proofs.state.seats_for.Given as goal
 
 abbrev pub invariant-loop-facts : goal.invariant-loop-facts
-invariant-loop-facts g l = AllStand (map fresh_for (take l.facts-index l.fixed)) (map seat_view l.seats.items)
+invariant-loop-facts g l = AllStand (map (fresh_for l.own l.entity l.reliable) (take l.facts-index l.fixed)) (map seat_view l.seats.items)

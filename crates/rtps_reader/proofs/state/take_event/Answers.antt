@@ -1,9 +1,9 @@
 use Rattle.std.proofs.Common.{◌≡◌, Some, None, sym, ap, ◌∙◌, subst, get_or}
 use Rattle.std.specs.List.{position}
 use Rattle.std.proofs.lemmas.List.Quantifiers.{position-Some}
-use Rattle.rtps_proxy.specs.Effects.{came, BestEffortStandsAt}
+use Rattle.rtps_proxy.specs.Effects.{came}
 use Rattle.rtps_reader.specs.declared.state.Seat.{Seat}
-use Rattle.rtps_reader.specs.Standing.{seat_view}
+use Rattle.rtps_reader.specs.Standing.{Stands, seat_view}
 use Rattle.rtps_reader.specs.Reader.{same_guid}
 use Rattle.rtps_reader.proofs.Found.{fails_everywhere, matched, not_matched}
 use Rattle.rtps_reader.proofs.state.take_event.Goals as goal
@@ -30,7 +30,8 @@ returns-clause-stands g c ms all =
     let place = position-Some (λ seat. same_guid seat.writer c.args.writer) items c.in-Some.at item at in
     let found = matched c.args.writer (came c.args.event.now.time c.args.event.now.body) ms items c.in-Some.at item all place.0 place.1 place.2 in
     let is : get_or items c.in-Some.at item ≡ item = sym c.index_mut.ensures.value in
-    found.after _ (ap (λ s. s.writer) (sym is)) (c.in_ok-effects.ensures.stands found.past (subst (λ (s : Seat _). BestEffortStandsAt found.past (seat_view s).proxy) is found.stands))
+    let one : Stands found.match (seat_view item) = subst (λ (s : Seat _). Stands found.match (seat_view s)) is found.stands in
+    found.after _ (record { writer = one.writer; whom = one.whom ∙ sym c.in_ok-effects.ensures.whom; stands = c.in_ok-effects.ensures.stands found.match.past one.stands })
 
 pub returns-clause-effects : goal.returns-clause-effects
 returns-clause-effects g c ms all =
@@ -40,4 +41,5 @@ returns-clause-effects g c ms all =
     let place = position-Some (λ seat. same_guid seat.writer c.args.writer) items c.in-Some.at item at in
     let found = matched c.args.writer (came c.args.event.now.time c.args.event.now.body) ms items c.in-Some.at item all place.0 place.1 place.2 in
     let is : get_or items c.in-Some.at item ≡ item = sym c.index_mut.ensures.value in
-    rw found.is (c.in_ok-effects.ensures.effects found.past (subst (λ (s : Seat _). BestEffortStandsAt found.past (seat_view s).proxy) is found.stands))
+    let one : Stands found.match (seat_view item) = subst (λ (s : Seat _). Stands found.match (seat_view s)) is found.stands in
+    rw (found.is, one.whom) (c.in_ok-effects.ensures.effects found.match.past one.stands)

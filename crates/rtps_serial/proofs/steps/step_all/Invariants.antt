@@ -12,7 +12,7 @@ use Rattle.rtps_serial.proofs.steps.step_all.Given as goal
 abbrev pub invariant-loop-at : goal.invariant-loop-at
 invariant-loop-at g l = record {
   count : length l.readers ≡ length l.fn.readers;
-  empty : l.output.notices.items ≡ [];
+  empty : (l.output.notices.items ≡ []) × (l.output.answers.items ≡ []);
   left : (rank : ℕ) (other : ReaderKept) → l.at ≤ rank → slice_index_or l.readers rank other ≡ slice_index_or l.fn.readers rank other;
   done : (rs : ℕ → Reader) → AllStand rs l.fn.readers → (rank : ℕ) (other : ReaderKept) → rank < l.at → StandsFor (reader_by (view l.event) (rs rank)) rank (slice_index_or l.readers rank other);
   put : (rs : ℕ → Reader) → AllStand rs l.fn.readers → map (report_view g.C.Catalog.view) l.reports.items

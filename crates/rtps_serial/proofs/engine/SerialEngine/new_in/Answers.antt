@@ -1,5 +1,5 @@
 use Rattle.std.proofs.Common.{◌∙◌, ap, arith, map, refl, rules, slice_index_or}
-use Rattle.rtps_reader.specs.Standing.{writer_in}
+use Rattle.rtps_serial.specs.Standing.{facts_in}
 use Rattle.rtps_serial.specs.Run.{fixed_of}
 use Rattle.rtps_serial.proofs.engine.SerialEngine.new_in.Goals as goal
 
@@ -8,5 +8,5 @@ returns-clause-stands g c = record {
   sound = refl;
   index = refl;
   count = search rules;
-  readers = (rw c.deref-2.ensures.value at c.in_ok-readers.ensures.stand) (fixed_of c.args.config.fixed.items) (λ rank other below. ap (λ l. map writer_in (slice_index_or l rank other).items) c.deref-3.ensures.value ∙ c.in_ok-fixed.ensures.fixed rank other (omega (arith, below, c.len.ensures)) ∙ ap (λ l. fixed_of l rank) c.deref.ensures.value);
+  readers = (rw c.deref-2.ensures.value at c.in_ok-readers.ensures.stand) (fixed_of c.args.config.fixed.items) (λ rank other below. ap (λ l. map facts_in (slice_index_or l rank other).items) c.deref-3.ensures.value ∙ c.in_ok-fixed.ensures.fixed rank other (omega (arith, below, c.len.ensures)) ∙ ap (λ l. fixed_of l rank) c.deref.ensures.value);
 }

@@ -1,0 +1,104 @@
+use Rattle.std.proofs.Common.{◌≡◌, ◌++◌, ◌<◌, ◌≤◌, ap, map, refl, sym, ◌∙◌, [], ◌∷◌, false, length, rules, List}
+use Rattle.std.proofs.lemmas.List.{length-map}
+use Rattle.rtps_types.specs.Number.{value_of}
+use Rattle.rtps_receiver.specs.Brought.{Change}
+use Rattle.rtps_proxy.specs.Effects.{change_view}
+use Rattle.rtps_proxy.specs.Held.{IsRising, front_below, held_view}
+use Rattle.rtps_proxy.specs.History.{Came, Sample, sample_of}
+use Rattle.rtps_proxy.specs.Received.{held, in_order, put}
+use Rattle.rtps_proxy.proofs.Apart.{apart_from}
+use Rattle.rtps_proxy.proofs.Ordering.{in_order_rises}
+use Rattle.rtps_proxy.proofs.Standing.{Shows, lost_nothing, none_ready, same_held}
+use Rattle.rtps_proxy.proofs.Taking.{Takes, change_at, held_at_once, held_then, left_received, left_settled, none_yet, ready_at_once, taken_shows, takes, takes_is}
+use Rattle.rtps_proxy.proofs.reliable.Reliable.on_whole.Goals as goal
+
+pub returns-then-not-is_taken : goal.returns-then-not-is_taken
+returns-then-not-is_taken g c = λ whom past at.
+    let w = c.args.whole.now in
+    let change : Change = record { number = value_of w.number; form = w.form; status = w.status; hash = w.hash; payload = w.payload.now } in
+    let event : Came = change_at c.args.time change in
+    let old = c.args.self.now.settled in
+    let before : Shows past old.frontier old.runs = record { settled = at.settled; apart = apart_from old.frontier old.runs old.apart } in
+    let counted : c.len.result ≡ length (map held_view c.args.self.now.held.items) = rw (length-map c.args.self.now.held.items held_view) (search rules) in
+    let left : takes past change.number ≡ false = takes_is past change.number old.frontier old.runs c.len.result (map held_view c.args.self.now.held.items) before at.held counted ∙ rw c.get-number.ensures.value at (sym c.is_taken.ensures ∙ c.if-not-is_taken.true) in
+    let same = left_settled past c.args.time change left in
+    record {
+      stands = record {
+        counts = at.counts;
+        begun = at.begun;
+        announced = at.announced;
+        settled = λ m. same m ∙ at.settled m;
+        held = at.held ∙ ap in_order (sym (same_held past event same (left_received past c.args.time change left)));
+        answers = at.answers;
+      };
+      lost = c.only_ready.ensures.lost ∙ sym (lost_nothing past event refl);
+      ready = ap (map change_view) (c.only_ready.ensures.ready ∙ c.new-ready.ensures.items) ∙ sym (none_ready past event same);
+      answer = rw c.only_ready.ensures.answer refl;
+    }
+
+pub returns-then-number-self : goal.returns-then-number-self
+returns-then-number-self g c = λ whom past at.
+    let w = c.args.whole.now in
+    let change : Change = record { number = value_of w.number; form = w.form; status = w.status; hash = w.hash; payload = w.payload.now } in
+    let event : Came = change_at c.args.time change in
+    let old = c.args.self.now.settled in
+    let new = c.add.new.self in
+    let waiting = map held_view c.args.self.now.held.items in
+    let before : Shows past old.frontier old.runs = record { settled = at.settled; apart = apart_from old.frontier old.runs old.apart } in
+    let counted : c.len.result ≡ length waiting = rw (length-map c.args.self.now.held.items held_view) (search rules) in
+    let takes_it : Takes past c.args.time change old.frontier new.frontier old.runs new.runs waiting = record {
+      before = before;
+      taken = takes_is past change.number old.frontier old.runs c.len.result waiting before at.held counted ∙ rw c.get-number.ensures.value at (sym c.is_taken.ensures ∙ c.if-not-is_taken.false);
+      adds = rw c.get-number.ensures.value at c.in_ok-add.ensures.ok;
+      apart = apart_from new.frontier new.runs new.apart;
+      waits = at.held;
+    } in
+    let behind : new.frontier ≤ change.number = rw c.get-number.ensures.value at c.if-number-self.true in
+    let rising : IsRising waiting = rw at.held (in_order_rises (held past)) in
+    let put_in : map held_view c.hold.new.held.items ≡ put (sample_of c.args.time change) waiting = c.in_ok-hold.ensures rising ∙ ap (λ (s : Sample). put s waiting) c.in_ok-kept.ensures in
+    record {
+      stands = record {
+        counts = at.counts;
+        begun = at.begun;
+        announced = at.announced;
+        settled = (taken_shows past c.args.time change old.frontier new.frontier old.runs new.runs waiting takes_it).settled;
+        held = put_in ∙ held_then past c.args.time change old.frontier new.frontier old.runs new.runs waiting takes_it behind;
+        answers = at.answers;
+      };
+      lost = c.only_ready-then-number-self.ensures.lost ∙ sym (lost_nothing past event refl);
+      ready = ap (map change_view) (c.only_ready-then-number-self.ensures.ready ∙ c.new-ready.ensures.items) ∙ sym (none_yet past c.args.time change old.frontier new.frontier old.runs new.runs waiting takes_it behind);
+      answer = rw c.only_ready-then-number-self.ensures.answer refl;
+    }
+
+pub returns : goal.returns
+returns g c = λ whom past at.
+    let w = c.args.whole.now in
+    let change : Change = record { number = value_of w.number; form = w.form; status = w.status; hash = w.hash; payload = w.payload.now } in
+    let event : Came = change_at c.args.time change in
+    let old = c.args.self.now.settled in
+    let new = c.add.new.self in
+    let waiting = map held_view c.args.self.now.held.items in
+    let before : Shows past old.frontier old.runs = record { settled = at.settled; apart = apart_from old.frontier old.runs old.apart } in
+    let counted : c.len.result ≡ length waiting = rw (length-map c.args.self.now.held.items held_view) (search rules) in
+    let takes_it : Takes past c.args.time change old.frontier new.frontier old.runs new.runs waiting = record {
+      before = before;
+      taken = takes_is past change.number old.frontier old.runs c.len.result waiting before at.held counted ∙ rw c.get-number.ensures.value at (sym c.is_taken.ensures ∙ c.if-not-is_taken.false);
+      adds = rw c.get-number.ensures.value at c.in_ok-add.ensures.ok;
+      apart = apart_from new.frontier new.runs new.apart;
+      waits = at.held;
+    } in
+    let below : change.number < new.frontier = rw c.get-number.ensures.value at c.if-number-self.false in
+    let first : map change_view c.push.new.self.items ≡ sample_of c.args.time change ∷ [] = rw (c.in_ok-push.ensures.items, c.new-ready.ensures.items, c.lent.ensures) refl in
+    record {
+      stands = record {
+        counts = at.counts;
+        begun = at.begun;
+        announced = at.announced;
+        settled = (taken_shows past c.args.time change old.frontier new.frontier old.runs new.runs waiting takes_it).settled;
+        held = c.in_ok-release.ensures.left ∙ held_at_once past c.args.time change old.frontier new.frontier old.runs new.runs waiting takes_it below;
+        answers = at.answers;
+      };
+      lost = c.only_ready-2.ensures.lost ∙ sym (lost_nothing past event refl);
+      ready = ap (map change_view) c.only_ready-2.ensures.ready ∙ c.in_ok-release.ensures.taken ∙ ap (λ (ss : List Sample). ss ++ front_below new.frontier waiting) first ∙ ready_at_once past c.args.time change old.frontier new.frontier old.runs new.runs waiting takes_it below;
+      answer = rw c.only_ready-2.ensures.answer refl;
+    }

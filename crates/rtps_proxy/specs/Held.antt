@@ -1,0 +1,40 @@
+-- Changes that wait behind a number that isn't settled, in order.
+use Rattle.std.specs.Prelude.{ℕ, ◌<◌, ◌≤◌, nat_lt, Bool, false, not, List, [], ◌∷◌, take, drop, if◌then◌else◌}
+use Rattle.std.specs.List.{AllByRecursion}
+use Rattle.rtps_types.specs.Number.{value_of}
+use Rattle.rtps_proxy.specs.declared.held.Held.{Held}
+use Rattle.rtps_proxy.specs.History.{Sample}
+
+-- the change without where it lies in memory
+abbrev pub held_view : {A : Type 0} → Held A → Sample
+held_view c = record { number = value_of c.number; time = c.time; form = c.form; status = c.status; hash = c.hash; payload = c.payload }
+
+-- no number is less than an earlier one
+abbrev pub IsRising : List Sample → Type 0
+IsRising [] = Unit {0}
+IsRising (s ∷ ss) = AllByRecursion (λ t. s.number ≤ t.number) ss × IsRising ss
+
+-- the first ones, up to a place, have numbers below n, and the others have not
+abbrev pub IsPlace : ℕ → ℕ → List Sample → Type 0
+IsPlace n at ss = AllByRecursion (λ s. s.number < n) (take at ss) × AllByRecursion (λ s. n ≤ s.number) (drop at ss)
+
+abbrev pub is_below : ℕ → Sample → Bool
+is_below n s = nat_lt s.number n
+
+abbrev pub not_below : ℕ → Sample → Bool
+not_below n s = not (is_below n s)
+
+-- those at the front with a number below n
+abbrev pub front_below : ℕ → List Sample → List Sample
+front_below n [] = []
+front_below n (s ∷ ss) = if nat_lt s.number n then s ∷ front_below n ss else []
+
+-- and those behind them
+abbrev pub behind_front : ℕ → List Sample → List Sample
+behind_front n [] = []
+behind_front n (s ∷ ss) = if nat_lt s.number n then behind_front n ss else s ∷ ss
+
+-- there is one at the front with a number below n
+abbrev pub starts_below : ℕ → List Sample → Bool
+starts_below n [] = false
+starts_below n (s ∷ ss) = nat_lt s.number n

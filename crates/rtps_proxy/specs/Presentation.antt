@@ -1,0 +1,51 @@
+-- Presentation in one match (DDSI-RTPS 8.4.12.3, 8.3.7): what a reliable reader presents, against what the writer's submessages say.
+use Rattle.std.specs.Prelude.{◌≡◌, ℕ, ◌<◌, ◌≤◌, ◌⊎◌, ◌==◌, List, [], ◌∷◌, ◌++◌, Option, IsTrue}
+use Rattle.std.specs.List.{list_any, AllByRecursion}
+use Rattle.rtps_types.specs.declared.time.Timestamp.{Timestamp}
+use Rattle.rtps_receiver.specs.Brought.{Brought, Whole, Fragment, Heartbeat, Gap, HeartbeatFrag}
+use Rattle.rtps_proxy.specs.History.{Came, Sample, is_new, names, sample_of}
+use Rattle.rtps_proxy.specs.Received.{ready}
+
+-- all samples that were presented, in order
+abbrev pub presented : List Came → List Sample
+presented [] = []
+presented (e ∷ past) = presented past ++ ready past e
+
+-- each sequence number is above all before it
+abbrev pub RisesStrictly : List ℕ → Type 0
+RisesStrictly [] = Unit {0}
+RisesStrictly (n ∷ ns) = AllByRecursion (λ m. n < m) ns × RisesStrictly ns
+
+-- a DATA is the sample: its number, its time and all that it carries
+abbrev pub IsSample : Option Timestamp → Brought → Sample → Type 0
+IsSample time (Whole c) s = sample_of time c ≡ s
+IsSample time (Fragment f) s = ⊥
+IsSample time (Heartbeat h) s = ⊥
+IsSample time (Gap g) s = ⊥
+IsSample time (HeartbeatFrag h) s = ⊥
+
+-- a DATA of the match brought the sample
+abbrev pub Brings : List Came → Sample → Type 0
+Brings [] s = ⊥
+Brings (e ∷ past) s = IsSample e.time e.body s ⊎ Brings past s
+
+-- a GAP names the sequence number, or a HEARTBEAT that is accepted says that the first number available is above it
+abbrev pub GivesUp : List Came → Brought → ℕ → Type 0
+GivesUp past (Whole c) k = ⊥
+GivesUp past (Fragment f) k = ⊥
+GivesUp past (Heartbeat h) k = IsTrue (is_new past h.count) × (k < h.first)
+GivesUp past (Gap g) k = IsTrue (names (Gap g) k)
+GivesUp past (HeartbeatFrag h) k = ⊥
+
+-- a GAP or a HEARTBEAT of the match gave the sequence number up
+abbrev pub IsGivenUp : List Came → ℕ → Type 0
+IsGivenUp [] k = ⊥
+IsGivenUp (e ∷ past) k = GivesUp past e.body k ⊎ IsGivenUp past k
+
+-- the sample of a sequence number was presented
+abbrev pub IsPresented : List Came → ℕ → Type 0
+IsPresented past k = IsTrue (list_any (λ s. s.number == k) (presented past))
+
+-- each sequence number below that of the sample was given up by then, or presented
+abbrev pub PassesOverOnly : List Came → Sample → Type 0
+PassesOverOnly past s = (k : ℕ) → 1 ≤ k → k < s.number → IsGivenUp past k ⊎ IsPresented past k

@@ -1,0 +1,46 @@
+-- The datagram that carries an answer to a writer: ACKNACK (DDSI-RTPS 8.3.7.1, 9.4.5.2).
+use Rattle.std.specs.Prelude.{ℕ, pos, ◌-◌, ◌/◌, ◌%◌, ◌^◌, List, [], ◌∷◌, ◌++◌, replicate, if◌then◌else◌, bit_or, slice_index, slice_set, Option}
+use Rattle.std.specs.Option.{option_map}
+use Rattle.rtps_types.specs.declared.field.Endian.TheVariants.{Little}
+use Rattle.rtps_types.specs.declared.locator.Locator.{Locator}
+use Rattle.rtps_types.specs.declared.traffic.Reply.{Reply}
+use Rattle.rtps_types.specs.Field.{spelled, spelled_sn}
+use Rattle.rtps_types.specs.NumberSet.{NumberSet}
+use Rattle.rtps_wire.specs.Answering.{answering, sent_words, spelled_words}
+use Rattle.rtps_proxy.specs.Answer.{Acknack, answer}
+use Rattle.rtps_proxy.specs.History.{Came}
+use Rattle.rtps_proxy.specs.Kept.{Whom}
+
+-- a datagram, and where it goes
+pub record Sent : Type 0 where
+  pub to : List Locator
+  pub octets : List ℕ
+
+abbrev pub reply_view : {A : Type 0} → Reply A → Sent
+reply_view r = record { to = r.to; octets = r.octets }
+
+-- the bit of an offset: bit 31 - offset % 32 of word offset / 32 (9.4.2.6)
+abbrev pub with_bit : List ℕ → ℕ → List ℕ
+with_bit words offset = slice_set words (offset / 32) (bit_or (slice_index words (offset / 32)) (2 ^ (31 - offset % 32)))
+
+-- the bits of these numbers too
+abbrev pub with_bits : ℕ → List ℕ → List ℕ → List ℕ
+with_bits base words [] = words
+with_bits base words (n ∷ ns) = with_bits base (with_bit words (n - base)) ns
+
+-- the set of the members, in eight words
+abbrev pub set_of : Acknack → NumberSet
+set_of a = record { base = a.base; bits = a.bits; words = with_bits a.base (replicate 8 0) a.members }
+
+-- readerId, writerId, readerSNState, count
+abbrev pub acknack_body : Whom → Acknack → List ℕ
+acknack_body w a =
+    w.reader.0 ++ w.writer.entity.0 ++ spelled_sn Little (pos a.base) ++ spelled Little 4 a.bits ++ spelled_words (sent_words (set_of a)) ++ spelled Little 4 a.count
+
+-- an ACKNACK with flag E, 1, and flag F, 2, where it is final, to the writer's locators
+unfoldable pub reply_of : Whom → Acknack → Sent
+reply_of w a = record { to = w.locators; octets = answering w.own w.writer.prefix 0x06 (if a.final then 3 else 1) (acknack_body w a) }
+
+-- what a reliable reader sends at an event
+abbrev pub reply : Whom → List Came → Came → Option Sent
+reply w past e = option_map (reply_of w) (answer past e)

@@ -1,0 +1,50 @@
+-- Runs of settled numbers, each by its first and its last number, and the set that they are with all numbers below a frontier.
+use Rattle.std.specs.Prelude.{◌≡◌, ℕ, ◌+◌, ◌-◌, ◌<◌, ◌≤◌, min, Bool, true, ◌&&◌, ◌||◌, List, [], ◌∷◌, nat_lt, nat_le}
+use Rattle.std.specs.List.{list_any, AllByRecursion}
+use Rattle.rtps_types.specs.declared.number.Number.{Number}
+use Rattle.rtps_types.specs.Number.{value_of}
+use Rattle.rtps_proxy.specs.History.{Came}
+use Rattle.rtps_proxy.specs.Received.{frontier_of, is_settled}
+
+-- a run is its first and its last number
+abbrev pub Run : Type 0
+Run = Number × Number
+
+abbrev pub start_of : Run → ℕ
+start_of r = value_of r.0
+
+-- the number behind the last one
+abbrev pub end_of : Run → ℕ
+end_of r = value_of r.1 + 1
+
+-- a number in a run
+abbrev pub within : ℕ → Run → Bool
+within n r = nat_le (value_of r.0) n && nat_le n (value_of r.1)
+
+-- a number below the frontier, or in a run
+abbrev pub marks : ℕ → List Run → ℕ → Bool
+marks frontier runs n = nat_lt n frontier || list_any (within n) runs
+
+-- runs in order, the first of them behind a number, and each behind the one before it with a number between them
+abbrev pub AreApart : ℕ → List Run → Type 0
+AreApart low [] = Unit {0}
+AreApart low (r ∷ rs) = (low < start_of r) × ((start_of r < end_of r) × AreApart (end_of r) rs)
+
+-- the same as a test
+abbrev pub are_apart : ℕ → List Run → Bool
+are_apart low [] = true
+are_apart low (r ∷ rs) = nat_lt low (start_of r) && (nat_lt (start_of r) (end_of r) && are_apart (end_of r) rs)
+
+-- runs that end below a number, with a number between
+abbrev pub EndBelow : ℕ → List Run → Type 0
+EndBelow n runs = AllByRecursion (λ r. end_of r < n) runs
+
+-- how many of the numbers from low on and below high are in none of the runs behind low
+abbrev pub missing_from : ℕ → List Run → ℕ → ℕ
+missing_from low [] high = high - low
+missing_from low (r ∷ rs) high = (min (start_of r) high - low) + missing_from (end_of r) rs high
+
+-- these are the greatest runs of settled numbers above the frontier, in order
+pub record AreRuns (past : List Came) (runs : List Run) : Type 0 where
+  pub apart : AreApart (frontier_of past) runs
+  pub settled : (n : ℕ) → frontier_of past ≤ n → is_settled past n ≡ list_any (within n) runs

@@ -1,0 +1,26 @@
+-- What one event makes of what is kept, and what it gives, by whether the reader is reliable.
+use Rattle.std.specs.Prelude.{◌≡◌, ℕ, List, ◌∷◌, map, None}
+use Rattle.std.specs.Option.{option_map}
+use Rattle.rtps_proxy.specs.declared.effects.Effects.{Effects}
+use Rattle.rtps_proxy.specs.BestEffort as best
+use Rattle.rtps_proxy.specs.Effects.{AreEffects, ReliableStandsAt, StateStandsAt, change_view}
+use Rattle.rtps_proxy.specs.History.{Came}
+use Rattle.rtps_proxy.specs.Kept.{Awaited, Standing, Whom}
+use Rattle.rtps_proxy.specs.Received as reliable
+use Rattle.rtps_proxy.specs.Replies.{reply, reply_view}
+
+pub record BestEffortStep {A : Type 0} (past : List Came) (event : Came) (top : ℕ) (effects : Effects A) : Type 0 where
+  pub taken : top ≡ best.top_of (event ∷ past)
+  pub lost : effects.lost ≡ best.lost past event
+  pub ready : map change_view effects.ready.items ≡ best.ready past event
+  pub answer : effects.answer ≡ None
+
+pub record ReliableStep {A : Type 0} (whom : Whom) (past : List Came) (event : Came) (kept : Awaited) (effects : Effects A) : Type 0 where
+  pub stands : ReliableStandsAt (event ∷ past) kept
+  pub lost : effects.lost ≡ reliable.lost past event
+  pub ready : map change_view effects.ready.items ≡ reliable.ready past event
+  pub answer : option_map reply_view effects.answer ≡ reply whom past event
+
+pub record StateStep {A : Type 0} (whom : Whom) (past : List Came) (event : Came) (state : Standing) (effects : Effects A) : Type 0 where
+  pub stands : StateStandsAt (event ∷ past) whom.reliable state
+  pub gives : AreEffects whom past event effects

@@ -1,0 +1,18 @@
+//! Whom a proxy stands for.
+
+use rtps_types::{EntityId, Guid, GuidPrefix, Locators};
+use std::alloc::{Allocator, Global};
+
+/// Whom a proxy stands for, and for whom.
+#[derive(Debug, Drop)]
+pub struct ProxyConfig<A: Allocator = Global> {
+    /// Our participant.
+    pub own: GuidPrefix,
+    pub writer: Guid,
+    /// The reader that is matched with the writer.
+    pub reader: EntityId,
+    /// Whether the reader asks for what is missing.
+    pub reliable: bool,
+    /// Where answers go.
+    pub locators: Locators<A>,
+}

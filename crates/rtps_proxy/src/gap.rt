@@ -1,0 +1,47 @@
+//! A gap, for a reliable reader (DDSI-RTPS 8.3.7.4).
+
+ghost use Rattle.std.specs.Prelude.{◌≡◌, List, ◌||◌, ◌&&◌, ◌==◌, ℕ, nat_le, nat_lt, IfOk, OnOk, Option};
+ghost use Rattle.std.specs.List.{list_any};
+ghost use Rattle.rtps_types.specs.declared.time.Timestamp.{Timestamp};
+ghost use Rattle.rtps_types.specs.Number.{value_of};
+ghost use Rattle.rtps_types.specs.NumberSet.{members};
+ghost use Rattle.rtps_types.specs.Sets.{sn_view};
+ghost use Rattle.rtps_receiver.specs.declared.body.Body.TheVariants as body;
+ghost use Rattle.rtps_proxy.specs.Effects.{ReliableStandsAt, came};
+ghost use Rattle.rtps_proxy.specs.History.{Came, names};
+ghost use Rattle.rtps_proxy.specs.Kept.{Whom, awaited};
+ghost use Rattle.rtps_proxy.specs.Runs.{marks};
+ghost use Rattle.rtps_proxy.specs.Steps.{ReliableStep};
+ghost use Rattle.rtps_receiver.specs.Addressed.{body_view};
+
+use crate::effects::{Effects, ProxyError, only_ready};
+use crate::held::release;
+use crate::reliable::Reliable;
+use crate::settled::Settled;
+use rtps_receiver::Gap;
+use std::alloc::Allocator;
+
+/// Adds the numbers that a gap names: its range as one run, then the members of its list.
+fn give_up<A: Allocator>(settled: &mut Settled<A>, gap: &Gap) -> Result<(), ProxyError>
+    ensures { OnOk result ((n : ℕ) → marks settled.new.frontier settled.new.runs n
+        ≡ (names (body_view (body.Gap gap.now)) n || marks settled.old.frontier settled.old.runs n)) }
+{
+    settled.add(gap.start.get(), gap.list.base)?;
+    for member in gap.list.members() {
+        settled.add(member, member + 1)?;
+    }
+    Ok(())
+}
+
+impl<A: Allocator + Copy> Reliable<A> {
+    /// Takes in a gap.
+    pub fn on_gap<'a>(&mut self, alloc: A, gap: &Gap) -> Result<Effects<'a, A>, ProxyError>
+        ensures { (whom : Whom) (past : List Came) (time : Option Timestamp) → ReliableStandsAt past (awaited self.old)
+            → IfOk result (ReliableStep whom past (came time (body.Gap gap.now)) (awaited self.new)) }
+    {
+        let mut ready = Vec::new(alloc);
+        give_up(&mut self.settled, gap)?;
+        release(&mut self.held, self.settled.frontier, &mut ready)?;
+        Ok(only_ready(ready))
+    }
+}

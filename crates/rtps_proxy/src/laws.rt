@@ -1,0 +1,30 @@
+//! Laws of the definitions.
+
+ghost use Rattle.std.specs.Prelude.{◌≡◌, ◌<◌, ℕ, Bool, List, ◌∷◌, false, map, true};
+ghost use Rattle.std.specs.List.{AllByRecursion};
+ghost use Rattle.rtps_types.specs.NumberSet.{members};
+ghost use Rattle.rtps_proxy.specs.Answer.{acknack_by};
+ghost use Rattle.rtps_proxy.specs.Replies.{set_of};
+ghost use Rattle.rtps_proxy.specs.History.{Came};
+ghost use Rattle.rtps_proxy.specs.Presentation.{Brings, PassesOverOnly, RisesStrictly, presented};
+ghost use Rattle.rtps_proxy.specs.Received.{frontier_of, is_settled, ready};
+
+/// The frontier is the least number that isn't settled.
+pub fn frontier_is_least()
+    ensures below { (past : List Came) (n : ℕ) → n < frontier_of past → is_settled past n ≡ true }
+    ensures itself { (past : List Came) → is_settled past (frontier_of past) ≡ false }
+{}
+
+/// The set of an answer names exactly the numbers that are missing.
+pub fn an_answer_names_its_members()
+    ensures { (settled : ℕ → Bool) (base announced earlier : ℕ) → members (set_of (acknack_by settled base announced earlier)) ≡ (acknack_by settled base announced earlier).members }
+{}
+
+/// In the match of a reliable reader the sequence numbers of the samples rise strictly; a DATA of the
+/// match brought each sample by then; and each number that a sample passes over was given up by then,
+/// by a GAP or an accepted HEARTBEAT of the match.
+pub fn presents_in_order()
+    ensures rising { (past : List Came) → RisesStrictly (map (λ s. s.number) (presented past)) }
+    ensures received { (past : List Came) (e : Came) → AllByRecursion (Brings (e ∷ past)) (ready past e) }
+    ensures passed_over { (past : List Came) (e : Came) → AllByRecursion (PassesOverOnly (e ∷ past)) (ready past e) }
+{}

@@ -1,0 +1,202 @@
+//! The settled numbers of a match (DDSI-RTPS 8.4.12.3), in runs: numbers reach 2^62, so no step goes
+//! number by number.
+
+ghost use Rattle.std.specs.Prelude.{◌≡◌, ℕ, ◌+◌, ◌^◌, ◌<◌, ◌≤◌, true, ◌&&◌, ◌||◌, nat_le, nat_lt, [], length, take, drop, OnOk};
+ghost use Rattle.std.specs.Prelude.{min, max};
+ghost use Rattle.std.specs.List.{list_any, AllByRecursion};
+ghost use Rattle.rtps_types.specs.Number.{value_of};
+ghost use Rattle.rtps_types.specs.SequenceNumber.{IsNumber};
+ghost use Rattle.rtps_proxy.specs.Numbers.{count_failing};
+ghost use Rattle.rtps_proxy.specs.Runs.{AreApart, EndBelow, are_apart, end_of, marks, start_of, within};
+
+use crate::effects::ProxyError;
+use crate::runs::Runs;
+use rtps_types::Number;
+use std::alloc::Allocator;
+
+/// A set of numbers: all below the frontier, which is not in it, and those in the runs, which are in
+/// order and don't touch one another.
+#[derive(Drop)]
+pub(crate) struct Settled<A: Allocator> {
+    pub frontier: u64,
+    pub runs: Runs<A>,
+    ghost begun: { 1 ≤ frontier },
+    ghost small: { frontier ≤ 2 ^ 62 + 1 },
+    ghost apart: { are_apart frontier runs ≡ true },
+}
+
+/// The number with a value that one may have.
+fn number_at(value: u64) -> Number
+    requires { IsNumber value }
+    ensures { value_of result ≡ value }
+{
+    Number::new(value).unwrap()
+}
+
+/// Whether a run ends below a number, with a number between.
+fn is_before(run: &(Number, Number), number: u64) -> bool
+    ensures { result ≡ nat_lt (end_of run.now) number }
+{
+    run.1.get() + 1 < number
+}
+
+/// How many runs end below a number, with a number between.
+fn first_reaching(runs: &[(Number, Number)], number: u64) -> usize
+    requires { (low : ℕ) × AreApart low runs.now }
+    ensures within { result ≤ length runs.now }
+    ensures before { EndBelow number (take result runs.now) }
+    ensures behind { AllByRecursion (λ r. number ≤ end_of r) (drop result runs.now) }
+{
+    let count = runs.len();
+    if count == 0 {
+        return 0;
+    }
+    // Most numbers come behind all runs, or before them.
+    if is_before(&runs[count - 1], number) {
+        return count;
+    }
+    if !is_before(&runs[0], number) {
+        return 0;
+    }
+    runs.partition_point(|run| is_before(run, number))
+}
+
+/// The first run from `at` on that reaches a number, where those before it end before the number and
+/// none of the others ends before the number below it.
+pub(crate) fn next_reaching(runs: &[(Number, Number)], at: usize, number: u64) -> usize
+    requires apart { (low : ℕ) × AreApart low runs.now }
+    requires within { at ≤ length runs.now }
+    requires before { EndBelow (number + 1) (take at runs.now) }
+    requires behind { AllByRecursion (λ r. number ≤ end_of r) (drop at runs.now) }
+    ensures within { result ≤ length runs.now }
+    ensures before { EndBelow (number + 1) (take result runs.now) }
+    ensures behind { AllByRecursion (λ r. number + 1 ≤ end_of r) (drop result runs.now) }
+{
+    if at == runs.len() {
+        return at;
+    }
+    if runs[at].1.get() < number {
+        return at + 1;
+    }
+    at
+}
+
+/// Whether a number is in the run at a place, if there is one, where it doesn't end before the number.
+pub(crate) fn is_begun(runs: &[(Number, Number)], at: usize, number: u64) -> bool
+    requires apart { (low : ℕ) × AreApart low runs.now }
+    requires before { EndBelow (number + 1) (take at runs.now) }
+    requires behind { AllByRecursion (λ r. number + 1 ≤ end_of r) (drop at runs.now) }
+    ensures { result ≡ list_any (within number) runs.now }
+{
+    at < runs.len() && runs[at].0.get() <= number
+}
+
+/// A run joined with those from `at` on that it touches, and the place behind these.
+fn joined_from(
+    runs: &[(Number, Number)],
+    at: usize,
+    run: (Number, Number),
+) -> ((Number, Number), usize)
+    requires within { at ≤ length runs.now }
+    requires some { start_of run < end_of run }
+    requires behind { AllByRecursion (λ r. start_of run ≤ end_of r) (drop at runs.now) }
+    ensures within { result.1 ≤ length runs.now }
+    ensures order { at ≤ result.1 }
+    ensures starts { start_of result.0 ≤ start_of run }
+    ensures ends { end_of run ≤ end_of result.0 }
+    ensures some { start_of result.0 < end_of result.0 }
+    ensures joins { (n : ℕ) → (within n result.0 || list_any (within n) (drop result.1 runs.now)) ≡ (within n run || list_any (within n) (drop at runs.now)) }
+    ensures rest { (low : ℕ) → AreApart low runs.now → AreApart (end_of result.0) (drop result.1 runs.now) }
+    ensures first { (low : ℕ) → AreApart low runs.now → low < start_of run → low < start_of result.0 }
+    ensures before { (low : ℕ) → AreApart low runs.now → EndBelow (start_of run) (take at runs.now) → EndBelow (start_of result.0) (take at runs.now) }
+{
+    let mut joined = run;
+    let mut next = at;
+    while next < runs.len() {
+        let other = runs[next];
+        if other.0.get() > joined.1.get() + 1 {
+            break;
+        }
+        joined = hull(joined, other);
+        next += 1;
+    }
+    (joined, next)
+}
+
+/// From the lesser first number to the greater last one.
+fn hull(a: (Number, Number), b: (Number, Number)) -> (Number, Number)
+    ensures starts { start_of result ≡ min (start_of a) (start_of b) }
+    ensures ends { end_of result ≡ max (end_of a) (end_of b) }
+{
+    let first = if a.0.get() <= b.0.get() { a.0 } else { b.0 };
+    let last = if a.1.get() <= b.1.get() { b.1 } else { a.1 };
+    (first, last)
+}
+
+impl<A: Allocator> Settled<A> {
+    /// The numbers below 1.
+    pub fn new(alloc: A) -> Settled<A>
+        ensures frontier { result.frontier ≡ 1 }
+        ensures runs { result.runs ≡ [] }
+    {
+        Settled {
+            frontier: 1,
+            runs: Runs::new(alloc),
+        }
+    }
+
+    /// Whether a number is in the set.
+    pub fn contains(&self, number: u64) -> bool
+        requires { number ≤ 2 ^ 62 + 1 }
+        ensures { result ≡ marks self.now.frontier self.now.runs number }
+    {
+        if number < self.frontier {
+            return true;
+        }
+        let runs = self.runs.as_slice();
+        let at = first_reaching(runs, number + 1);
+        is_begun(runs, at, number)
+    }
+
+    /// Adds the numbers from `start` on and below `end`.
+    pub fn add(&mut self, start: u64, end: u64) -> Result<(), ProxyError>
+        requires { end ≤ 2 ^ 62 + 1 }
+        ensures ok { OnOk result ((n : ℕ) → marks self.new.frontier self.new.runs n
+            ≡ ((nat_le start n && nat_lt n end) || marks self.old.frontier self.old.runs n)) }
+    {
+        if end <= start || end <= self.frontier {
+            return Ok(());
+        }
+        let start = start.max(self.frontier);
+        let run = (number_at(start), number_at(end - 1));
+        let runs = self.runs.as_slice();
+        let at = first_reaching(runs, start);
+        let (joined, next) = joined_from(runs, at, run);
+        if start == self.frontier {
+            self.frontier = joined.1.get() + 1;
+            self.runs.give_up(next);
+        } else if at == next {
+            self.runs.insert(at, joined)?;
+        } else {
+            self.runs.replace(at, next, joined);
+        }
+        Ok(())
+    }
+
+    /// How many numbers below `end` are not in the set.
+    pub fn count_missing(&self, end: u64) -> u64
+        requires { end ≤ 2 ^ 62 + 1 }
+        ensures { result ≡ count_failing (marks self.now.frontier self.now.runs) end }
+    {
+        let mut at = self.frontier;
+        let mut count = 0;
+        for run in self.runs.as_slice() {
+            if at >= end {
+                return count;
+            }
+            count += run.0.get().min(end) - at;
+            at = run.1.get() + 1;
+        }
+        count + end.saturating_sub(at)
+    }
+}

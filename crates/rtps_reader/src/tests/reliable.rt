@@ -1,0 +1,157 @@
+//! What a reliable reader tells and answers to a datagram that was written down by hand.
+
+ghost use Rattle.std.specs.Prelude.{◌≤◌, IfOk, length};
+
+use crate::*;
+use dds_topic::{ColorKeys, Shape, Shapes};
+use linked_list_allocator::LocalHeap;
+use rtps_receiver::events;
+use rtps_types::{EntityId, Guid, GuidPrefix, Locator, Locators, WriterFacts};
+use std::alloc::{Allocator, Global};
+use std::test::Fail;
+
+const OURS: GuidPrefix = GuidPrefix([11; 12]);
+
+/// Where the writer is reached.
+const LOCATOR: Locator = Locator {
+    port: 7411,
+    address: [127, 0, 0, 1],
+};
+
+/// Changes 1 and 3; a heartbeat of the numbers 1 to 3; a gap that names 2; and a heartbeat of the numbers
+/// 6 and 7 that asks for no answer.
+const DATAGRAM: [&str; 6] = [
+    "52545053020500000a0a0a0a0a0a0a0a0a0a0a0a",
+    "1505300000001000000001070000010200000000010000000001000005000000424c5545000000000a000000140000001e000000",
+    "1505300000001000000001070000010200000000030000000001000005000000424c5545000000000a000000140000001e000000",
+    "07011c0000000107000001020000000001000000000000000300000001000000",
+    "08011c0000000107000001020000000002000000000000000300000000000000",
+    "07031c0000000107000001020000000006000000000000000700000002000000",
+];
+
+/// The answers: 2 is missing, and then 6 and 7 are.
+const ANSWERS: [&str; 2] = [
+    "52545053020500000b0b0b0b0b0b0b0b0b0b0b0b0e010c000a0a0a0a0a0a0a0a0a0a0a0a06011c0000000107000001020000000002000000010000000000008001000000",
+    "52545053020500000b0b0b0b0b0b0b0b0b0b0b0b0e010c000a0a0a0a0a0a0a0a0a0a0a0a06011c000000010700000102000000000600000002000000000000c002000000",
+];
+
+/// A reliable reader that is matched with the writer from the start.
+fn reader<A: Allocator + Copy>(alloc: A) -> Result<ReaderState<A>, ReaderError> {
+    let mut fixed = Vec::new(alloc);
+    fixed.push(WriterFacts {
+        writer: Guid {
+            prefix: GuidPrefix([10; 12]),
+            entity: EntityId([0, 0, 1, 2]),
+        },
+        locators: Locators::new(Vec::from_slice(alloc, &[LOCATOR])?),
+    })?;
+    let entity = EntityId([0, 0, 1, 7]);
+    ReaderState::new(alloc, 0, OURS, entity, true, fixed.as_slice())
+}
+
+fn datagram(alloc: Global) -> Result<Vec<u8>, Fail>
+    ensures { IfOk result (λ octets. length octets.items ≤ 65507) }
+{
+    let mut octets = Vec::new(alloc);
+    for part in DATAGRAM {
+        octets.extend_from_slice(hex::decode(alloc, part)?.as_slice())?;
+    }
+    if octets.len() > 65_507 {
+        return Err(Fail::new("the datagram is too long"));
+    }
+    Ok(octets)
+}
+
+/// What a reader tells and answers to the events of a datagram. `values` is where values are decoded.
+fn told<A: Allocator + Copy>(
+    alloc: A,
+    values: Global,
+    reader: &mut ReaderState<A>,
+    octets: &[u8],
+) -> Result<Output<Shape, A>, ReaderError>
+    requires { length octets.now ≤ 65507 }
+{
+    let mut output = Output {
+        notices: Vec::new(alloc),
+        answers: Vec::new(alloc),
+    };
+    let mut memo = ColorKeys::default();
+    let Ok(events) = events(values, OURS, 0, octets) else {
+        return Err(ReaderError::NoMemory);
+    };
+    for event in &events {
+        let step = Step {
+            place: event.place,
+            what: Asked::Event(*event),
+        };
+        reader.step(alloc, values, &Shapes, &mut memo, &step, &mut output)?;
+    }
+    Ok(output)
+}
+
+#[test]
+fn samples_come_in_order_and_losses_before_them(rt: HostRuntime) -> Result<(), Fail> {
+    let mut reader = reader(rt.alloc())?;
+    let octets = datagram(rt.alloc())?;
+    let output = told(rt.alloc(), rt.alloc(), &mut reader, octets.as_slice())?;
+    let expected: [(u32, u64, u64); 3] = [(1, 1, 0), (4, 3, 0), (5, 0, 2)];
+    assert_eq!(rt; output.notices.len(), expected.len());
+    for (notice, expected) in output.notices.iter().zip(&expected) {
+        let (number, lost) = match &notice.what {
+            Told::Sample { number, .. } => (number.get(), 0),
+            Told::Lost { count } => (0, *count),
+            _ => (0, 0),
+        };
+        assert_eq!(rt; (notice.place.submessage, number, lost), *expected);
+    }
+    let status = reader.status();
+    assert_eq!(rt; (status.lost_total, status.samples), (2, 2));
+    Ok(())
+}
+
+#[test]
+fn heartbeats_are_answered_to_the_writers_locators(rt: HostRuntime) -> Result<(), Fail> {
+    let mut reader = reader(rt.alloc())?;
+    let octets = datagram(rt.alloc())?;
+    let output = told(rt.alloc(), rt.alloc(), &mut reader, octets.as_slice())?;
+    assert_eq!(rt; output.answers.len(), ANSWERS.len());
+    for ((place, reply), expected) in output.answers.iter().zip(&ANSWERS) {
+        let octets = hex::decode(rt.alloc(), *expected)?;
+        assert_eq!(rt; reply.octets.as_slice(), octets.as_slice());
+        assert_eq!(rt; reply.to.as_slice(), [LOCATOR].as_slice());
+        assert_eq!(rt; place.datagram, 0);
+    }
+    assert_eq!(rt; output.answers[0].0.submessage, 3);
+    assert_eq!(rt; output.answers[1].0.submessage, 5);
+    Ok(())
+}
+
+#[test]
+fn a_reader_without_memory_is_spent(rt: HostRuntime) -> Result<(), Fail> {
+    let octets = datagram(rt.alloc())?;
+    let mut refused = false;
+    let mut taken = false;
+    for step in 0..64 {
+        let heap = LocalHeap::new(rt.alloc(), 256 + step * 64)?;
+        let Ok(mut reader) = reader(&heap) else {
+            continue;
+        };
+        match told(&heap, rt.alloc(), &mut reader, octets.as_slice()) {
+            Ok(output) => {
+                taken = true;
+                assert_eq!(rt; output.notices.len(), 3);
+                assert_eq!(rt; output.answers.len(), 2);
+            }
+            Err(error) => {
+                refused = true;
+                assert_eq!(rt; error, ReaderError::NoMemory);
+                match told(&heap, rt.alloc(), &mut reader, octets.as_slice()) {
+                    Ok(_) => assert!(rt; false, "at {step}"),
+                    Err(error) => assert_eq!(rt; error, ReaderError::NoMemory),
+                }
+            }
+        }
+    }
+    assert!(rt; refused && taken);
+    Ok(())
+}

@@ -1,0 +1,195 @@
+-- The samples of one match, with their places.
+use Rattle.std.proofs.Common.{◌≡◌, ℕ, ◌<◌, ◌≤◌, ◌⊎◌, Bool, true, false, ◌||◌, List, [], ◌∷◌, ◌++◌, map, refl, sym, ◌∙◌, ap, subst, arith, eqb, inl, inr}
+use Rattle.std.specs.List.{list_any, AllByRecursion}
+use Rattle.std.proofs.lemmas.Bool.Decides.{nat_tests}
+use Rattle.std.proofs.lemmas.List.{map-append}
+use Rattle.std.proofs.lemmas.List.Folds.{list_any-append}
+use Rattle.rtps_types.specs.declared.place.Place.{Place}
+use Rattle.rtps_receiver.specs.Events.{Happening}
+use Rattle.rtps_proxy.specs.History.{Came, Sample}
+use Rattle.rtps_proxy.specs.Presentation.{Brings, IsGivenUp, IsPresented, RisesStrictly, presented}
+use Rattle.rtps_proxy.specs.Received.{ready}
+use Rattle.rtps_proxy.proofs.Presenting.{presented_rises, ready_brought, ready_passes_over}
+use Rattle.rtps_reader.specs.Reader.{Answers, came_of, carried_by}
+use Rattle.rtps_serial.specs.Presentation.{ArePresented, IsBrought, PassesOverOnly, Shown, came_by, not_after}
+use Rattle.rtps_serial.proofs.Places.{PlacesFall, all_append, all_both, all_map, all_of_map, all_weaker}
+
+-- a sample, as a reader tells it at a place
+abbrev pub shown : {M : Type 0} → Answers M → Place → Sample → Shown M
+shown answers place s = record { place = place; number = s.number; time = s.time; body = answers (carried_by s) }
+
+-- the samples that these submessages of a match give, the newest submessage first
+abbrev pub shown_behind : {M : Type 0} → Answers M → List Happening → List (Shown M)
+shown_behind answers [] = []
+shown_behind answers (e ∷ es) = shown_behind answers es ++ map (shown answers e.place) (ready (map came_of es) (came_of e))
+
+same_numbers : {M : Type 0} (answers : Answers M) (place : Place) (ss : List Sample) → map (λ (s : Shown M). s.number) (map (shown answers place) ss) ≡ map (λ (s : Sample). s.number) ss
+same_numbers answers place [] = refl
+same_numbers answers place (s ∷ ss) = ap (λ (l : List ℕ). s.number ∷ l) (same_numbers answers place ss)
+
+numbers_are : {M : Type 0} (answers : Answers M) (es : List Happening) → map (λ (s : Shown M). s.number) (shown_behind answers es) ≡ map (λ (s : Sample). s.number) (presented (map came_of es))
+numbers_are answers [] = refl
+numbers_are {M} answers (e ∷ es) =
+    map-append (λ (s : Shown M). s.number) (shown_behind answers es) (map (shown answers e.place) (ready (map came_of es) (came_of e)))
+    ∙ ap (λ (l : List ℕ). l ++ map (λ (s : Shown M). s.number) (map (shown answers e.place) (ready (map came_of es) (came_of e)))) (numbers_are answers es)
+    ∙ ap (λ (l : List ℕ). map (λ (s : Sample). s.number) (presented (map came_of es)) ++ l) (same_numbers answers e.place (ready (map came_of es) (came_of e)))
+    ∙ sym (map-append (λ (s : Sample). s.number) (presented (map came_of es)) (ready (map came_of es) (came_of e)))
+
+any_same : {M : Type 0} (answers : Answers M) (place : Place) (k : ℕ) (ss : List Sample) → list_any (λ (s : Shown M). eqb s.number k) (map (shown answers place) ss) ≡ list_any (λ (s : Sample). eqb s.number k) ss
+any_same answers place k [] = refl
+any_same answers place k (s ∷ ss) = ap (λ b. eqb s.number k || b) (any_same answers place k ss)
+
+any_shown : {M : Type 0} (answers : Answers M) (k : ℕ) (es : List Happening) → list_any (λ (s : Shown M). eqb s.number k) (shown_behind answers es) ≡ list_any (λ (s : Sample). eqb s.number k) (presented (map came_of es))
+any_shown answers k [] = refl
+any_shown {M} answers k (e ∷ es) =
+    list_any-append (λ (s : Shown M). eqb s.number k) (shown_behind answers es) (map (shown answers e.place) (ready (map came_of es) (came_of e)))
+    ∙ ap (λ b. b || list_any (λ (s : Shown M). eqb s.number k) (map (shown answers e.place) (ready (map came_of es) (came_of e)))) (any_shown answers k es)
+    ∙ ap (λ b. list_any (λ (s : Sample). eqb s.number k) (presented (map came_of es)) || b) (any_same answers e.place k (ready (map came_of es) (came_of e)))
+    ∙ sym (list_any-append (λ (s : Sample). eqb s.number k) (presented (map came_of es)) (ready (map came_of es) (came_of e)))
+
+-- a sample stands where a submessage stands
+all_placed : {M : Type 0} (answers : Answers M) (P : Place → Type 0) (es : List Happening) → AllByRecursion (λ e. P e.place) es → AllByRecursion (λ s. P s.place) (shown_behind answers es)
+all_placed answers P [] h = tt
+all_placed {M} answers P (e ∷ es) h =
+    all_append (λ (s : Shown M). P s.place) (shown_behind answers es) (map (shown answers e.place) (ready (map came_of es) (came_of e))) (all_placed answers P es h.1) (at_one (ready (map came_of es) (came_of e)))
+  where
+    at_one : (ss : List Sample) → AllByRecursion (λ (s : Shown M). P s.place) (map (shown answers e.place) ss)
+    at_one [] = tt
+    at_one (s ∷ ss) = (h.0, at_one ss)
+
+other_way : (a b : Place) → not_after a b ≡ false → not_after b a ≡ true
+other_way a b h = grind (arith, nat_tests)
+
+same_place : (a : Place) → not_after a a ≡ true
+same_place a = grind (arith, nat_tests)
+
+earlier : (a b c : Place) → not_after a b ≡ false → not_after a c ≡ true → not_after b c ≡ true
+earlier a b c h k = grind (arith, nat_tests)
+
+-- a submessage behind a place didn't come by then
+came_later : (place : Place) (e : Happening) (es : List Happening) → not_after e.place place ≡ false → came_by place (e ∷ es) ≡ came_by place es
+came_later place e es h = rw h refl
+
+came_here : (place : Place) (e : Happening) (es : List Happening) → not_after e.place place ≡ true → came_by place (e ∷ es) ≡ came_of e ∷ came_by place es
+came_here place e es h = rw h refl
+
+-- all of these came by then
+came_all : (place : Place) (es : List Happening) → AllByRecursion (λ d. not_after d.place place ≡ true) es → came_by place es ≡ map came_of es
+came_all place [] h = refl
+came_all place (e ∷ es) h = came_here place e es h.0 ∙ ap (λ (l : List Came). came_of e ∷ l) (came_all place es h.1)
+
+came_upto : (place : Place) (e : Happening) (es : List Happening) → not_after e.place place ≡ true → AllByRecursion (λ d. not_after e.place d.place ≡ false) es → came_by place (e ∷ es) ≡ came_of e ∷ map came_of es
+came_upto place e es h falls =
+    came_here place e es h
+    ∙ ap (λ (l : List Came). came_of e ∷ l) (came_all place es (all_weaker (λ d. not_after e.place d.place ≡ false) (λ d. not_after d.place place ≡ true) es (λ d l. earlier e.place d.place place l h) falls))
+
+-- what holds of each sample at its event holds of it in the end, given what came by its place
+by_place : {M : Type 0} (answers : Answers M) (G : List Came → Shown M → Type 0)
+    → ((past : List Came) (e : Happening) → AllByRecursion (λ s. G (came_of e ∷ past) (shown answers e.place s)) (ready past (came_of e)))
+    → (es : List Happening) → PlacesFall es → AllByRecursion (λ s. G (came_by s.place es) s) (shown_behind answers es)
+by_place answers G each [] falls = tt
+by_place answers G each (e ∷ es) falls =
+    all_append (λ s. G (came_by s.place (e ∷ es)) s) (shown_behind answers es) (map (shown answers e.place) (ready (map came_of es) (came_of e)))
+    (all_both (λ s. not_after e.place s.place ≡ false) (λ s. G (came_by s.place es) s) (λ s. G (came_by s.place (e ∷ es)) s) (shown_behind answers es)
+    (λ s later h. subst (λ l. G l s) (sym (came_later s.place e es later)) h)
+    (all_placed answers (λ place. not_after e.place place ≡ false) es falls.0) (by_place answers G each es falls.1))
+    (all_map (λ s. G (came_by s.place (e ∷ es)) s) (shown answers e.place) (ready (map came_of es) (came_of e))
+    (all_weaker (λ s. G (came_of e ∷ map came_of es) (shown answers e.place s)) (λ s. G (came_by e.place (e ∷ es)) (shown answers e.place s)) (ready (map came_of es) (came_of e))
+    (λ s h. subst (λ l. G l (shown answers e.place s)) (sym (came_upto e.place e es (same_place e.place) falls.0)) h)
+    (each (map came_of es) e)))
+
+brought : {M : Type 0} (answers : Answers M) (es : List Happening) → PlacesFall es → AllByRecursion (λ s. IsBrought answers (came_by s.place es) s) (shown_behind answers es)
+brought answers = by_place answers (IsBrought answers) each
+  where
+    each : (past : List Came) (e : Happening) → AllByRecursion (λ s. IsBrought answers (came_of e ∷ past) (shown answers e.place s)) (ready past (came_of e))
+    each past e = all_weaker (Brings (came_of e ∷ past)) (λ s. IsBrought answers (came_of e ∷ past) (shown answers e.place s)) (ready past (came_of e)) (λ s h. record { change = s; came = h; number = refl; time = refl; body = refl }) (ready_brought past (came_of e))
+
+-- each lesser number was given up or presented
+abbrev Passes : List Came → ℕ → Type 0
+Passes past n = (k : ℕ) → 1 ≤ k → k < n → IsGivenUp past k ⊎ IsPresented past k
+
+passes : {M : Type 0} (answers : Answers M) (es : List Happening) → PlacesFall es → AllByRecursion (λ (s : Shown M). Passes (came_by s.place es) s.number) (shown_behind answers es)
+passes {M} answers = by_place answers (λ past (s : Shown M). Passes past s.number) (λ past e. ready_passes_over past (came_of e))
+
+or_left : (a b : Bool) → a ≡ true → (a || b) ≡ true
+or_left true b h = refl
+or_left false b h = absurd cc
+
+-- what was presented by a place was presented in the end
+presented_within : (place : Place) (k : ℕ) (es : List Happening) → PlacesFall es → IsPresented (came_by place es) k → IsPresented (map came_of es) k
+presented_within place k [] falls h = h
+presented_within place k (e ∷ es) falls h = by_test (not_after e.place place) refl (presented_within place k es falls.1)
+  where
+    by_test : (b : Bool) → not_after e.place place ≡ b → (IsPresented (came_by place es) k → IsPresented (map came_of es) k) → IsPresented (map came_of (e ∷ es)) k
+    by_test true is rest = subst (λ l. IsPresented l k) (came_upto place e es is falls.0) h
+    by_test false is rest =
+        list_any-append (λ (s : Sample). eqb s.number k) (presented (map came_of es)) (ready (map came_of es) (came_of e))
+        ∙ or_left _ _ (rest (subst (λ l. IsPresented l k) (came_later place e es is) h))
+
+-- no number below all of these is among them
+none_among : {M : Type 0} (n k : ℕ) (ss : List (Shown M)) → AllByRecursion (λ s. n ≤ s.number) ss → k < n → list_any (λ s. eqb s.number k) ss ≡ false
+none_among n k [] low less = refl
+none_among n k (s ∷ ss) low less =
+    let here : n ≤ s.number = low.0 in
+    let rest : list_any (λ s. eqb s.number k) ss ≡ false = none_among n k ss low.1 less in
+    let differ : eqb s.number k ≡ false = grind (arith, nat_tests) in
+    rw differ rest
+
+in_rest : (a b : Bool) → a ≡ false → (a || b) ≡ true → b ≡ true
+in_rest true b h k = absurd cc
+in_rest false b h k = k
+
+-- where the numbers rise, what was presented isn't between two neighbours
+neighbours : {M : Type 0} (events : List Happening) (last : ℕ) (ss : List (Shown M)) → AllByRecursion (λ s. last ≤ s.number) ss → RisesStrictly (map (λ (s : Shown M). s.number) ss)
+    → AllByRecursion (λ s. (k : ℕ) → last < k → k < s.number → IsGivenUp (came_by s.place events) k ⊎ (list_any (λ (t : Shown M). eqb t.number k) ss ≡ true)) ss → PassesOverOnly events last ss
+neighbours events last [] low rises h = tt
+neighbours {M} events last (s ∷ ss) low rises h = (here, neighbours events s.number ss above rises.1 later)
+  where
+    above : AllByRecursion (λ (t : Shown M). s.number ≤ t.number) ss
+    above = all_weaker (λ (t : Shown M). s.number < t.number) (λ t. s.number ≤ t.number) ss (λ t l. omega arith) (all_of_map (λ n. s.number < n) (λ (t : Shown M). t.number) ss rises.0)
+
+    here : (k : ℕ) → last < k → k < s.number → IsGivenUp (came_by s.place events) k
+    here k more less = elim (h.0 k more less) [
+      | inl up ↦ up
+      | inr among ↦ (
+          let none : list_any (λ (t : Shown M). eqb t.number k) (s ∷ ss) ≡ false = none_among s.number k (s ∷ ss) (omega arith, above) less in
+          let both : true ≡ false = sym among ∙ none in
+          absurd cc
+          )
+    ]
+
+    one : (t : Shown M) → ((k : ℕ) → last < k → k < t.number → IsGivenUp (came_by t.place events) k ⊎ (list_any (λ (t : Shown M). eqb t.number k) (s ∷ ss) ≡ true))
+        → (k : ℕ) → s.number < k → k < t.number → IsGivenUp (came_by t.place events) k ⊎ (list_any (λ (t : Shown M). eqb t.number k) ss ≡ true)
+    one t f k more less =
+        let low_here : last ≤ s.number = low.0 in
+        elim (f k (omega arith) less) [
+          | inl up ↦ inl up
+          | inr among ↦ (
+              let differ : eqb s.number k ≡ false = grind (arith, nat_tests) in
+              inr (in_rest (eqb s.number k) (list_any (λ (t : Shown M). eqb t.number k) ss) differ among)
+              )
+        ]
+
+    later : AllByRecursion (λ t. (k : ℕ) → s.number < k → k < t.number → IsGivenUp (came_by t.place events) k ⊎ (list_any (λ (t : Shown M). eqb t.number k) ss ≡ true)) ss
+    later = all_weaker (λ t. (k : ℕ) → last < k → k < t.number → IsGivenUp (came_by t.place events) k ⊎ (list_any (λ (t : Shown M). eqb t.number k) (s ∷ ss) ≡ true)) _ ss one h.1
+
+all_from_zero : {M : Type 0} (ss : List (Shown M)) → AllByRecursion (λ s. 0 ≤ s.number) ss
+all_from_zero [] = tt
+all_from_zero (s ∷ ss) = (omega arith, all_from_zero ss)
+
+-- the samples that the submessages of a match give, where these stand in order
+pub are_presented : {M : Type 0} (answers : Answers M) (es : List Happening) → PlacesFall es → ArePresented answers es (shown_behind answers es)
+are_presented {M} answers es falls = record {
+  rising = rising;
+  received = brought answers es falls;
+  passed_over = neighbours es 0 (shown_behind answers es) (all_from_zero (shown_behind answers es)) rising (all_weaker (λ (s : Shown M). Passes (came_by s.place es) s.number) _ (shown_behind answers es) among (passes answers es falls));
+}
+  where
+    rising : RisesStrictly (map (λ (s : Shown M). s.number) (shown_behind answers es))
+    rising = subst RisesStrictly (sym (numbers_are answers es)) (presented_rises (map came_of es))
+
+    among : (s : Shown M) → Passes (came_by s.place es) s.number → (k : ℕ) → 0 < k → k < s.number → IsGivenUp (came_by s.place es) k ⊎ (list_any (λ (t : Shown M). eqb t.number k) (shown_behind answers es) ≡ true)
+    among s f k more less = elim (f k (omega arith) less) [
+      | inl up ↦ inl up
+      | inr was ↦ inr (any_shown answers k es ∙ presented_within s.place k es falls was)
+    ]

@@ -1,0 +1,79 @@
+-- Presentation in a run (DDSI-RTPS 8.4.12.3, 8.3.7): what a reliable reader is told of the samples of a writer, against the
+-- submessages alone that came for their match.
+use Rattle.std.specs.Prelude.{◌≡◌, ℕ, ◌<◌, ◌==◌, ◌&&◌, ◌||◌, nat_lt, nat_le, Bool, List, [], ◌∷◌, ◌++◌, map, filter, reverse, Option, if◌then◌else◌}
+use Rattle.std.specs.List.{AllByRecursion}
+use Rattle.rtps_types.specs.declared.identity.EntityId.{EntityId}
+use Rattle.rtps_types.specs.declared.identity.Guid.{Guid}
+use Rattle.rtps_types.specs.declared.place.Place.{Place}
+use Rattle.rtps_types.specs.declared.time.Timestamp.{Timestamp}
+use Rattle.rtps_receiver.specs.Events.{Happening}
+use Rattle.rtps_discovery.specs.Addressed.{is_addressed}
+use Rattle.rtps_discovery.specs.declared.config.Config.{Config}
+use Rattle.rtps_proxy.specs.History.{Came, Sample}
+use Rattle.rtps_proxy.specs.Presentation.{Brings, IsGivenUp, RisesStrictly}
+use Rattle.rtps_reader.specs.declared.body.Body.{Body}
+use Rattle.rtps_reader.specs.Reader.{Answers, Notice, Told, Presents, Begins, Ends, Refuses, Loses, came_of, carried_by, same_guid}
+use Rattle.rtps_serial.specs.Run.{entity_of, events_from, run}
+use Rattle.rtps_serial.specs.Seen.{notices_by}
+
+-- a sample as a reader tells it, with the place of the submessage at which it is presented
+pub record Shown (M : Type 0) : Type 0 where
+  pub place : Place
+  pub number : ℕ
+  pub time : Option Timestamp
+  pub body : Body M
+
+-- the sample that a notice tells, where it tells one
+abbrev pub shown_in : {M : Type 0} → Place → Told M → List (Shown M)
+shown_in place (Presents number time body) = record { place = place; number = number; time = time; body = body } ∷ []
+shown_in place Begins = []
+shown_in place Ends = []
+shown_in place (Refuses policy) = []
+shown_in place (Loses count) = []
+
+-- the samples of a writer among these notices, in order
+abbrev pub samples_of : {M : Type 0} → Guid → List (Notice M) → List (Shown M)
+samples_of writer [] = []
+samples_of writer (n ∷ ns) = if same_guid n.writer writer then shown_in n.place n.what ++ samples_of writer ns else samples_of writer ns
+
+-- a place is not after another: it is in an earlier datagram, or in the same one at no later submessage
+abbrev pub not_after : Place → Place → Bool
+not_after a b = nat_lt a.datagram b.datagram || (a.datagram == b.datagram && nat_le a.submessage b.submessage)
+
+-- the submessages for the match of a writer and a reader, the newest first
+abbrev pub events_for : Guid → EntityId → List Happening → List Happening
+events_for writer reader events = reverse (filter (is_addressed (same_guid writer) reader) events)
+
+-- what came of these submessages by a place, the newest first
+abbrev pub came_by : Place → List Happening → List Came
+came_by place events = map came_of (filter (λ e. not_after e.place place) events)
+
+-- a DATA brought the sample: its sequence number, its time, and a body that is what the catalog answers of what the DATA carries
+pub record IsBrought {M : Type 0} (answers : Answers M) (past : List Came) (s : Shown M) : Type 0 where
+  pub change : Sample
+  pub came : Brings past change
+  pub number : s.number ≡ change.number
+  pub time : s.time ≡ change.time
+  pub body : s.body ≡ answers (carried_by change)
+
+-- each sequence number between that of a sample and that of the sample before it was given up by then
+abbrev pub PassesOverOnly : {M : Type 0} → List Happening → ℕ → List (Shown M) → Type 0
+PassesOverOnly events last [] = Unit {0}
+PassesOverOnly events last (s ∷ ss) = ((k : ℕ) → last < k → k < s.number → IsGivenUp (came_by s.place events) k) × PassesOverOnly events s.number ss
+
+-- the samples of a match, against its submessages, the newest first
+pub record ArePresented {M : Type 0} (answers : Answers M) (events : List Happening) (samples : List (Shown M)) : Type 0 where
+  -- each sequence number is above all before it
+  pub rising : RisesStrictly (map (λ s. s.number) samples)
+  -- a DATA that isn't after the sample's place brought it
+  pub received : AllByRecursion (λ s. IsBrought answers (came_by s.place events) s) samples
+  -- from 1 on, each sequence number that no sample has was given up by the place of the next sample
+  pub passed_over : PassesOverOnly events 0 samples
+
+-- the samples of a writer that the reader of a rank was told of in a run
+abbrev pub samples_in : {M : Type 0} → Answers M → Config → List (List ℕ) → ℕ → Guid → List (Shown M)
+samples_in answers config datagrams rank writer = samples_of writer (notices_by rank (run answers config datagrams).put)
+
+-- the submessages of a run for the match of a writer and the reader of a rank, the newest first
+abbrev pub events_in : Config → List (List ℕ) → ℕ → Guid → List Happening
+events_in config datagrams rank writer = events_for writer (entity_of config.readers.items rank) (events_from config.own 0 datagrams)

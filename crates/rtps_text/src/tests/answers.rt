@@ -1,0 +1,72 @@
+//! Runs of reliable readers over a record file that was written down by hand.
+
+use super::runs::{config_of, text};
+use crate::{replay, replay_in};
+use dds_qos::Reliability;
+use dds_topic::Shapes;
+use linked_list_allocator::LocalHeap;
+use rtps_records::RunFault;
+use std::alloc::Global;
+use std::test::Fail;
+
+/// `RDG1`, and a datagram with the changes 1 and 3 and a heartbeat of the numbers 1 to 3.
+const FILE: [&str; 6] = [
+    "52444731",
+    "0000009c",
+    "52545053020500000a0a0a0a0a0a0a0a0a0a0a0a",
+    "1505300000001000000000000000010200000000010000000001000005000000424c5545000000000a000000140000001e000000",
+    "1505300000001000000000000000010200000000030000000001000005000000424c5545000000000a000000140000001e000000",
+    "07011c0000000000000001020000000001000000000000000300000001000000",
+];
+
+/// Both readers wait for number 2, and ask for it.
+const LINES: [&str; 4] = [
+    "0:1 reader 0 sample 0a0a0a0a0a0a0a0a0a0a0a0a00000102 1 - value 424c5545 10 20 30",
+    "0:1 reader 1 sample 0a0a0a0a0a0a0a0a0a0a0a0a00000102 1 - value 424c5545 10 20 30",
+    "0:3 answer - 52545053020500000b0b0b0b0b0b0b0b0b0b0b0b0e010c000a0a0a0a0a0a0a0a0a0a0a0a06011c0000000107000001020000000002000000010000000000008001000000",
+    "0:3 answer - 52545053020500000b0b0b0b0b0b0b0b0b0b0b0b0e010c000a0a0a0a0a0a0a0a0a0a0a0a06011c0000000207000001020000000002000000010000000000008001000000",
+];
+
+fn file(alloc: Global) -> Result<Vec<u8>, Fail> {
+    let mut file = Vec::new(alloc);
+    for part in FILE {
+        file.extend_from_slice(hex::decode(alloc, part)?.as_slice())?;
+    }
+    Ok(file)
+}
+
+#[test]
+fn prints_what_readers_answer(rt: HostRuntime) -> Result<(), Fail> {
+    let alloc = rt.alloc();
+    let file = file(alloc)?;
+    let config = config_of(alloc, Reliability::Reliable)?;
+    let mut out = Vec::new(alloc);
+    let outcome = replay(alloc, config, Shapes, false, &mut file.as_slice(), &mut out);
+    assert_eq!(rt; outcome, Ok(()));
+    assert_eq!(rt; out.as_slice(), text(alloc, &LINES)?.as_bytes());
+    Ok(())
+}
+
+#[test]
+fn prints_a_front_where_a_growth_for_an_answer_is_refused(rt: HostRuntime) -> Result<(), Fail> {
+    let alloc = rt.alloc();
+    let file = file(alloc)?;
+    let text = text(alloc, &LINES)?;
+    let mut refused = 0;
+    for step in 0..60 {
+        let heap = LocalHeap::new(alloc, 65_400 + step * 128)?;
+        let config = config_of(alloc, Reliability::Reliable)?;
+        let mut out = Vec::new(alloc);
+        let reader = &mut file.as_slice();
+        let outcome = replay_in(&heap, alloc, config, Shapes, false, reader, &mut out);
+        if outcome.is_ok() {
+            assert_eq!(rt; out.as_slice(), text.as_bytes());
+        } else {
+            refused = step;
+            assert_eq!(rt; outcome, Err(RunFault::NoMemory), "at {step}");
+            assert!(rt; text.as_bytes().starts_with(out.as_slice()));
+        }
+    }
+    assert!(rt; 0 < refused && refused < 59);
+    Ok(())
+}
