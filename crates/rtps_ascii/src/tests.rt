@@ -12,12 +12,14 @@ fn what_is_pushed_stands_behind(rt: HostRuntime) -> Result<(), Fail> {
     push_octet(&mut out, b' ')?;
     push_hex(&mut out, b"")?;
     push_octet(&mut out, b' ')?;
-    push_number(&mut out, 18_446_744_073_709_551_615)?;
-    push_octet(&mut out, b' ')?;
+    for number in [18_446_744_073_709_551_615, 0, 9, 10] {
+        push_number(&mut out, number)?;
+        push_octet(&mut out, b' ')?;
+    }
     push_signed(&mut out, -2_147_483_648)?;
     assert_eq!(rt;
         out.as_slice(),
-        b"> sample 009fab - 18446744073709551615 -2147483648".as_slice()
+        b"> sample 009fab - 18446744073709551615 0 9 10 -2147483648".as_slice()
     );
     Ok(())
 }
