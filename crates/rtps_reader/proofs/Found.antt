@@ -1,10 +1,9 @@
 -- The match with a writer, found among the matches of a reader.
-use Rattle.std.proofs.Common.{◌≡◌, ◌<◌, ◌≤◌, ℕ, zero, suc, Bool, true, false, List, [], ◌∷◌, length, map, Some, None, refl, sym, ap, ◌∙◌, get_or, set, arith}
+use Rattle.std.proofs.Common.{◌≡◌, ◌<◌, ◌≤◌, ℕ, zero, suc, Bool, true, false, List, [], ◌∷◌, length, map, Some, None, refl, ap, get_or, set, arith}
 use Rattle.std.specs.List.{position, position_or_len}
 use Rattle.std.proofs.lemmas.Grind.{common_steps}
 use Rattle.std.proofs.lemmas.List.Sums.{fails_before_first}
 use Rattle.rtps_types.specs.declared.identity.Guid.{Guid}
-use Rattle.rtps_proxy.specs.Effects.{StandsAt}
 use Rattle.rtps_proxy.specs.History.{Came}
 use Rattle.rtps_reader.specs.declared.state.Seat.{Seat}
 use Rattle.rtps_reader.specs.Reader.{Match, extended, match_with, same_guid}

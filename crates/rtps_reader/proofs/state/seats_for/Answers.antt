@@ -1,7 +1,6 @@
 use Rattle.std.proofs.Common.{◌≡◌, ◌+◌, List, [], ◌∷◌, ◌++◌, take, refl, sym, ap, ◌∙◌}
 use Rattle.std.proofs.lemmas.List.{take_more}
 use Rattle.rtps_types.specs.declared.locator.Locator.{Locator}
-use Rattle.rtps_proxy.specs.Kept.{Whom}
 use Rattle.rtps_reader.specs.Standing.{whom_for}
 use Rattle.rtps_reader.proofs.Seats.{all_stand_more}
 use Rattle.rtps_reader.proofs.state.seats_for.Goals as goal
