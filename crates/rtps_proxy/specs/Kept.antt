@@ -23,7 +23,8 @@ pub record Whom : Type 0 where
 abbrev pub whom : {A : Type 0} → ProxyConfig A → Whom
 whom c = record { own = c.own; writer = c.writer; reader = c.reader; reliable = c.reliable; locators = c.locators }
 
--- what is kept for a reliable reader: the greatest count of a heartbeat that was accepted, the announced number, the settled numbers as those below a frontier and runs, the held changes in order, and the number of answers
+-- what is kept for a reliable reader: the greatest count of a heartbeat that was accepted, the announced number, the settled
+-- numbers as those below a frontier and runs, the held changes in order, and the number of answers
 pub record Awaited : Type 0 where
   pub accepted : Option ℤ
   pub announced : ℕ

@@ -9,18 +9,21 @@ use Rattle.rtps_proxy.specs.Kept.{Awaited, Standing, Whom}
 use Rattle.rtps_proxy.specs.Received as reliable
 use Rattle.rtps_proxy.specs.Replies.{reply, reply_view}
 
+-- a best-effort reader's step (DDSI-RTPS 8.4.11): the greatest number taken then, and what the event gives
 pub record BestEffortStep {A : Type 0} (past : List Came) (event : Came) (top : ℕ) (effects : Effects A) : Type 0 where
   pub taken : top ≡ best.top_of (event ∷ past)
   pub lost : effects.lost ≡ best.lost past event
   pub ready : map change_view effects.ready.items ≡ best.ready past event
   pub answer : effects.answer ≡ None
 
+-- a reliable reader's step (DDSI-RTPS 8.4.12): what is kept then, and what the event gives
 pub record ReliableStep {A : Type 0} (whom : Whom) (past : List Came) (event : Came) (kept : Awaited) (effects : Effects A) : Type 0 where
   pub stands : ReliableStandsAt (event ∷ past) kept
   pub lost : effects.lost ≡ reliable.lost past event
   pub ready : map change_view effects.ready.items ≡ reliable.ready past event
   pub answer : option_map reply_view effects.answer ≡ reply whom past event
 
+-- either's
 pub record StateStep {A : Type 0} (whom : Whom) (past : List Came) (event : Came) (state : Standing) (effects : Effects A) : Type 0 where
   pub stands : StateStandsAt (event ∷ past) whom.reliable state
   pub gives : AreEffects whom past event effects

@@ -85,6 +85,7 @@ impl<A: Allocator> Runs<A> {
         ensures { self.new ≡ drop count self.old }
     {
         let room = self.room + count;
+        // Up to four fifths of the list may be room.
         if room / 4 <= self.list.len() - room {
             self.room = room;
             return;
@@ -139,8 +140,8 @@ fn put_down<A: Allocator>(
     list[place + count] = run;
 }
 
-/// Puts a run in the place of the last of those from `first` on to `last`, and moves the runs from `place`
-/// on and before these up to it.
+/// Puts a run in the place of those from `first` to `last`, where the last of them stands, and moves the
+/// runs from `place` on and before `first` up to it.
 fn lift<A: Allocator>(
     list: &mut Vec<(Number, Number), A>,
     place: usize,

@@ -120,8 +120,8 @@ impl<A: Allocator + Copy> ReaderState<A> {
 
     /// Takes one step, and adds what it gives behind what is in `output`: of an event that is for the
     /// reader and comes from a writer that it is matched with, what was lost and then the samples
-    /// that are ready, and what is said to the writer. Any other event changes nothing. `values` is where values are decoded,
-    /// and `memo` what the catalog keeps of earlier ones.
+    /// that are ready, and what is said to the writer. Any other event changes nothing. `values` is
+    /// where values are decoded, and `memo` what the catalog keeps of earlier ones.
     ///
     /// After want of memory the reader is spent: each later step answers so too.
     pub fn step<C: Catalog>(
