@@ -20,13 +20,16 @@ view p = record { id = p.id; value = p.value.now }
 abbrev pub Read : Type 0
 Read = Result (Option Parameter × List ℕ) ParamFault
 
+-- a parameter, where its length is a multiple of four and so much is left; the length is judged first
 abbrev pub parameter_of : ℕ → ℕ → List ℕ → Read
 parameter_of id len more =
     if len % 4 == 0 then (if nat_lt (length more) len then Err Short else Ok (Some (record { id = id; value = take len more }), drop len more)) else Err OddLength
 
+-- the id 1 is the end, whatever its length
 abbrev pub headed : Endian → ℕ → ℕ → List ℕ → Read
 headed e id len more = if id == 1 then Ok (None, more) else parameter_of id len more
 
+-- what stands at the front, by its two octets of id and two of length
 unfoldable pub front_of : Endian → List ℕ → Read
 front_of e [] = Err NoEnd
 front_of e (a ∷ []) = Err Short
@@ -50,6 +53,7 @@ pub record Reading : Type 0 where
   pub parameters : List Parameter
   pub outcome : Result (List ℕ) ParamFault
 
+-- what was read at the front, and then the others behind it
 abbrev pub go_on : Read → Reading → Reading
 go_on (Err f) others = record { parameters = []; outcome = Err f }
 go_on (Ok (None, rest)) others = record { parameters = []; outcome = Ok rest }
@@ -73,6 +77,7 @@ reading e octets = reading_behind e 0 octets
 abbrev pub is_shown : Parameter → Bool
 is_shown p = not (p.id == 0)
 
+-- the parameters without padding
 abbrev pub shown : Endian → List ℕ → List Parameter
 shown e octets = filter is_shown (reading e octets).parameters
 

@@ -4,3 +4,5 @@ pub mod NumberSet
 pub mod Order
 pub mod Number
 pub mod Sets
+pub mod Place
+pub mod Duration

@@ -1,10 +1,7 @@
 -- The sequence numbers that a change may have, 1 to 2^62 (DDSI-RTPS 8.3.5.4).
 use Rattle.std.specs.Prelude.{ℕ, ◌^◌, ◌≤◌, Option, Some, None, ◌&&◌, nat_le, if◌then◌else◌}
 
--- the greatest of them
-abbrev pub max_number : ℕ
-max_number = 2 ^ 62
-
+-- a number that a change may have
 abbrev pub IsNumber : ℕ → Type 0
 IsNumber n = (1 ≤ n) × (n ≤ 2 ^ 62)
 

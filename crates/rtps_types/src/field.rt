@@ -5,7 +5,7 @@ ghost use Rattle.rtps_types.specs.Field.{number_at, octets_at, put_at, sequence_
 
 use byteorder::{BigEndian, ByteOrder, LittleEndian};
 
-/// The order of a number's octets, which flag E of a submessage tells (DDSI-RTPS 9.4.1).
+/// The order of a number's octets, which flag E of a submessage tells (DDSI-RTPS 9.4.5.1.2).
 #[derive(Clone, Copy, Debug, PartialEq, Eq)]
 pub enum Endian {
     /// The highest octet first.
@@ -86,7 +86,6 @@ pub fn put_octets(octets: &mut [u8], at: usize, field: &[u8])
 }
 
 /// Puts a 16-bit number into the two octets at `at`.
-
 pub fn put_u16(octets: &mut [u8], at: usize, endian: Endian, value: u16)
     requires { at + 2 ≤ length octets.old }
     ensures octets { octets.new ≡ put_at at (spelled endian 2 value) octets.old }
@@ -102,7 +101,6 @@ pub fn put_u16(octets: &mut [u8], at: usize, endian: Endian, value: u16)
 }
 
 /// Puts a 32-bit number into the four octets at `at`.
-
 pub fn put_u32(octets: &mut [u8], at: usize, endian: Endian, value: u32)
     requires { at + 4 ≤ length octets.old }
     ensures octets { octets.new ≡ put_at at (spelled endian 4 value) octets.old }
@@ -118,7 +116,6 @@ pub fn put_u32(octets: &mut [u8], at: usize, endian: Endian, value: u32)
 }
 
 /// Puts a 64-bit number into the eight octets at `at`.
-
 pub fn put_u64(octets: &mut [u8], at: usize, endian: Endian, value: u64)
     requires { at + 8 ≤ length octets.old }
     ensures octets { octets.new ≡ put_at at (spelled endian 8 value) octets.old }

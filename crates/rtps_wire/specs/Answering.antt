@@ -36,7 +36,7 @@ sent_words s = take (word_count s) s.words
 abbrev pub spelled_words : List ℕ → List ℕ
 spelled_words words = flat_map (spelled Little 4) words
 
--- flag E, 1, and flag F, 2, where nothing is missing: then no answer is asked for
+-- flag E, 1, and flag F, 2, where the set has no offset, so that nothing is missing: then no answer is asked for
 abbrev pub acknack_flags : NumberSet → ℕ
 acknack_flags missing = if missing.bits == 0 then 3 else 1
 

@@ -33,7 +33,7 @@ entity_at octets at = option_map (λ id. record { 0 = id }) (octets_at 4 octets 
 abbrev pub prefix_at : List ℕ → ℕ → Option GuidPrefix
 prefix_at octets at = option_map (λ prefix. record { 0 = prefix }) (octets_at 12 octets at)
 
--- a count of 32 bits, which is signed (DDSI-RTPS 9.3.2.1, `Count_t`)
+-- a count of 32 bits, which is signed (DDSI-RTPS 9.3.2, `Count_t`)
 abbrev pub count_at : Endian → List ℕ → ℕ → Option ℤ
 count_at e octets at = option_map (cast_signed w32) (number_at e 4 octets at)
 

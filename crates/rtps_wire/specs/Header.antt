@@ -9,6 +9,7 @@ use Rattle.rtps_wire.specs.declared.message.HeaderFault.TheVariants.{Short, NotR
 abbrev pub protocol : List ℕ
 protocol = 82 ∷ 84 ∷ 80 ∷ 83 ∷ []
 
+-- the header of a message, or the first of these faults: too short, no RTPS, another major version than 2
 abbrev pub header_of : List ℕ → Result Header HeaderFault
 header_of octets =
     if nat_lt (length octets) 20 then Err Short else

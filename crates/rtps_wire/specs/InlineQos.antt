@@ -22,6 +22,7 @@ abbrev pub last_value : ℕ → List Parameter → Option (List ℕ)
 last_value id [] = None
 last_value id (p ∷ ps) = or_else (last_value id ps) (if p.id == id then Some p.value else None)
 
+-- a key hash is the first 16 octets of its parameter's value
 abbrev pub key_hash : List ℕ → KeyHash
 key_hash value = record { 0 = take 16 value }
 
@@ -37,6 +38,7 @@ inline_from (Ok c) =
     })
     else None
 
+-- what the list at the front of octets says
 unfoldable pub inline_of : Endian → List ℕ → Option InlineQos
 inline_of e octets = inline_from (contents e octets)
 

@@ -22,13 +22,16 @@ body_length id stated left = if runs_to_end id stated then left else stated
 abbrev pub Read : Type 0
 Read = Result (Option (Item × List ℕ)) SubmessageFault
 
+-- a body that has the form of its kind is a submessage
 abbrev pub item_of : ℕ → ℕ → Option Content → List ℕ → Read
 item_of id flags None after = Err Invalid
 item_of id flags (Some c) after = Ok (Some (record { id = id; flags = flags; content = c }, after))
 
+-- a body of this length, where so much is left
 abbrev pub body_of : ℕ → ℕ → ℕ → List ℕ → Read
 body_of id flags len rest = if nat_lt (length rest) len then Err Length else item_of id flags (parts_of id flags (take len rest)) (drop len rest)
 
+-- what stands at the front, by its four octets of header and its body
 unfoldable pub front_of : List ℕ → Read
 front_of [] = Ok None
 front_of (id ∷ []) = Err Rest
@@ -46,6 +49,7 @@ pub record Reading : Type 0 where
   pub items : List Item
   pub fault : Option SubmessageFault
 
+-- what was read at the front, and then the others behind it
 abbrev pub go_on : Read → Reading → Reading
 go_on (Err f) others = record { items = []; fault = Some f }
 go_on (Ok None) others = record { items = []; fault = None }

@@ -30,6 +30,7 @@ pub data Content : Type 0 where
   Frag : Fragments → Content
   Skipped : Content
 
+-- a valid submessage: its kind, its flags, and what it says
 pub record Item : Type 0 where
   pub id : ℕ
   pub flags : ℕ

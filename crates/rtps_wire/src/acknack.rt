@@ -16,7 +16,7 @@ pub struct AckNack {
     pub reader: Guid,
     /// The writer that is answered.
     pub writer: Guid,
-    /// The changes that are missing; those below its base are not.
+    /// The changes that are missing; those below its base are not. Without an offset none is.
     pub missing: SnSet,
     /// Rises from one answer to the next.
     pub count: u32,
@@ -27,8 +27,8 @@ const ACKNACK: u8 = 0x06;
 /// Flag F: no answer is asked for.
 const FINAL: u8 = 0x02;
 
-/// The datagram with which a reader answers a writer's heartbeat; flag F is set where nothing is
-/// missing. It fails only for want of memory.
+/// The datagram with which a reader answers a writer's heartbeat; flag F is set where `missing` has
+/// no offset. It fails only for want of memory.
 pub fn write_acknack<A: Allocator>(alloc: A, answer: AckNack) -> Result<Octets<A>, AllocError>
     ensures octets { IfOk result (λ octets. octets ≡ acknack_octets answer) }
     ensures message { IfOk result (λ octets. IsOnly octets
@@ -56,7 +56,7 @@ pub fn write_acknack<A: Allocator>(alloc: A, answer: AckNack) -> Result<Octets<A
     Ok(Octets::new(octets))
 }
 
-/// Flag F stands where nothing is missing: no answer is asked for then.
+/// Flag F stands where the set has no offset, so that nothing is missing: no answer is asked for then.
 fn flags_of(missing: &SnSet) -> u8
     ensures { result ≡ acknack_flags (sn_view missing.now) }
 {

@@ -1,6 +1,6 @@
 //! The submessages of a message, one after the other (DDSI-RTPS 8.3.4.1, 9.4.5.1).
 
-ghost use Rattle.std.specs.Prelude.{◌≡◌, ◌≤◌, List, Option, [], length};
+ghost use Rattle.std.specs.Prelude.{◌≡◌, ◌≤◌, List, Option, None, [], ◌∷◌, length};
 ghost use Rattle.std.specs.Iterator.{item_count};
 ghost use Rattle.rtps_wire.specs.declared.submessage.SubmessageFault.{SubmessageFault};
 ghost use Rattle.rtps_wire.specs.Message.{IsReading};
@@ -76,10 +76,11 @@ impl<'a> Submessages<'a> {
     }
 
     /// What keeps the octets that are left from being submessages, or `None` where nothing is left;
-    /// to be asked once there is no next submessage.
+    /// to be asked once there is no next submessage, and `None` before.
     #[tactic(auto, using(crate::proofs::Steps::reading_item, crate::proofs::Steps::reading_end, crate::proofs::Steps::reading_fault))]
     pub fn fault(&self) -> Option<SubmessageFault>
         ensures ended { self.now.items ≡ [] → result ≡ self.now.fault }
+        ensures before { (next : Item) (others : List Item) → self.now.items ≡ next ∷ others → result ≡ None }
     {
         match read_front(self.rest) {
             Front::Fault(fault) => Some(fault),
