@@ -24,12 +24,14 @@ impl<A: Allocator> Model for Partitions<A> {
 }
 
 impl<A: Allocator> Partitions<A> {
+    /// Partitions of these names.
     pub fn new(names: Vec<String<A>, A>) -> Partitions<A>
         ensures { result ≡ map string_bytes names.items }
     {
         Partitions { names }
     }
 
+    /// The names, in the order in which they were given.
     pub fn names(&self) -> &[String<A>]
         ensures { map string_bytes result.now ≡ self.now }
     {

@@ -1,4 +1,4 @@
-//! The defaults of DDS 1.4, section 2.2.3, and names that stay.
+//! The defaults of DDS 1.4, section 2.2.3, names that stay, and numbers of variants.
 
 use crate::*;
 use rtps_types::Duration;
@@ -54,4 +54,36 @@ fn partitions_keep_their_names(rt: HostRuntime) -> Result<(), Fail> {
     assert_eq!(rt; kept[0].as_str(), "left");
     assert_eq!(rt; kept[1].as_str(), "");
     Ok(())
+}
+
+#[test]
+fn variants_have_the_numbers_of_messages(rt: HostRuntime) {
+    let durability = [
+        Durability::Volatile as u8,
+        Durability::TransientLocal as u8,
+        Durability::Transient as u8,
+        Durability::Persistent as u8,
+    ];
+    assert_eq!(rt; durability, [0, 1, 2, 3]);
+    let scopes = [
+        AccessScope::Instance as u8,
+        AccessScope::Topic as u8,
+        AccessScope::Group as u8,
+    ];
+    assert_eq!(rt; scopes, [0, 1, 2]);
+    let liveliness = [
+        LivelinessKind::Automatic as u8,
+        LivelinessKind::ManualByParticipant as u8,
+        LivelinessKind::ManualByTopic as u8,
+    ];
+    assert_eq!(rt; liveliness, [0, 1, 2]);
+    let ownership = [Ownership::Shared as u8, Ownership::Exclusive as u8];
+    assert_eq!(rt; ownership, [0, 1]);
+    let reliability = [Reliability::BestEffort as u8, Reliability::Reliable as u8];
+    assert_eq!(rt; reliability, [1, 2]);
+    let order = [
+        DestinationOrder::ByReceptionTimestamp as u8,
+        DestinationOrder::BySourceTimestamp as u8,
+    ];
+    assert_eq!(rt; order, [0, 1]);
 }

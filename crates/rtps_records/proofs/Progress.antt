@@ -71,13 +71,13 @@ one_record said then_said before now after old new n len kept out buffer p read 
 pub spilled : (said : List (List ℕ) → List ℕ → Type 0) (before now old mid new : Option (List ℕ)) (n : ℕ) (kept left : List ℕ)
     → Progress said before now old mid n kept → Spills mid new kept left → Progress said before now old new n left
 spilled said before now old mid new n kept left p s = elim s [
-  | inl out ↦ rw out.1 (record {
+  | inl out ↦ rw out.2 (record {
     records = p.records;
     written = p.written ++ kept;
     count = p.count;
     each = p.each;
     read = p.read;
-    wrote = Appends-trans _ _ _ _ _ p.wrote out.0;
+    wrote = Appends-trans _ _ _ _ _ p.wrote out.1;
     says = subst (said p.records) (sym (append-nil (p.written ++ kept))) p.says;
   })
   | inr same ↦ record {
@@ -86,8 +86,8 @@ spilled said before now old mid new n kept left p s = elim s [
     count = p.count;
     each = p.each;
     read = p.read;
-    wrote = Appends-kept _ _ _ _ p.wrote same.0;
-    says = rw same.1 p.says;
+    wrote = Appends-kept _ _ _ _ p.wrote same.1;
+    says = rw same.2 p.says;
   }
 ]
 
@@ -128,13 +128,13 @@ faulted text (Some input) None old new n fault p stands = absurd p.read
 faulted text (Some input) (Some rest) old new n fault p stands =
     (p.records, (rest, holds input (Some rest) p.records rest p.read p.each refl, subst (λ k. EndsBy (Some fault) k rest) (sym p.count) stands), p.wrote)
 
-cut_off : (text : List (List ℕ) → List ℕ) (before now after old new : Option (List ℕ)) (n : ℕ) → Finished text before now old new n → (x : List ℕ) × Consumes now after x × IsPartial x
+cut_off : (text : List (List ℕ) → List ℕ) (before now after old new : Option (List ℕ)) (n : ℕ) → Finished text before now old new n → (x : List ℕ) × Consumes now after x × IsPartial n x
     → WroteRead text before after old new
 unfolding WroteRead
 cut_off text before now after old new n p part = (
   (magic ++ flat_map frame p.records) ++ part.0,
   Consumes-trans _ _ _ _ _ p.read part.1,
-  inr (p.records, part.0, record { whole = append_assoc magic (flat_map frame p.records) part.0; each = p.each }, part.2, p.wrote),
+  inr (p.records, part.0, record { whole = append_assoc magic (flat_map frame p.records) part.0; each = p.each }, subst (λ k. IsPartial k part.0) (sym p.count) part.2, p.wrote),
 )
 
 -- a read fault before the magic was read

@@ -27,12 +27,12 @@ whole_record a b c head part rest m n told four spelled enough long all p q =
     subst (Consumes a c) (sym frame_is ∙ ap frame (sym octets_are)) (Consumes-trans a b c _ _ p q)
 
 -- a read of the length, and one of too few octets
-pub part_record : (a b c : Option (List ℕ)) (head part : List ℕ) (m n : ℕ) → length head ≡ 4 → 4 ≤ m → from_be_bytes w32 head ≤ 65507 → n < from_be_bytes w32 head → n ≤ length part
-    → Consumes a b (take m head) → Consumes b c (take n part) → (x : List ℕ) × Consumes a c x × IsPartial x
-part_record a b c head part m n four enough small short fits p q =
+pub part_record : (a b c : Option (List ℕ)) (head part : List ℕ) (m n number : ℕ) → number < 4294967295 → length head ≡ 4 → 4 ≤ m → from_be_bytes w32 head ≤ 65507 → n < from_be_bytes w32 head → n ≤ length part
+    → Consumes a b (take m head) → Consumes b c (take n part) → (x : List ℕ) × Consumes a c x × IsPartial number x
+part_record a b c head part m n number below four enough small short fits p q =
     let same = take_all m head (omega arith) in
     let len : length (take n part) ≡ n = length-take-le n part fits in
-    (head ++ take n part, subst (λ l. Consumes a c (l ++ take n part)) same (Consumes-trans a b c _ _ p q), inr (cut_record head (take n part) four small (omega arith)))
+    (head ++ take n part, subst (λ l. Consumes a c (l ++ take n part)) same (Consumes-trans a b c _ _ p q), inr (below, cut_record head (take n part) four small (omega arith)))
 
 -- too few octets for the magic, or others
 pub other_short : (a b : Option (List ℕ)) (bs : List ℕ) → Consumes a b bs → IsAtEnd b → length bs < 4 → IfSome a IsOther

@@ -51,9 +51,9 @@ Reads octets records fault = (rest : List ℕ) × Holds octets records rest × E
 abbrev pub IsOther : List ℕ → Type 0
 IsOther octets = (more : List ℕ) → ¬ (octets ≡ magic ++ more)
 
--- what was read holds no whole record
-abbrev pub IsPartial : List ℕ → Type 0
-IsPartial octets = (octets ≡ []) ⊎ IsCut octets
+-- what was read behind n records holds no whole record; behind the greatest number of records it is nothing
+abbrev pub IsPartial : ℕ → List ℕ → Type 0
+IsPartial n octets = (octets ≡ []) ⊎ ((n < 4294967295) × IsCut octets)
 
 -- the fault that stands before the records
 abbrev pub FaultFirst : RunFault → Option (List ℕ) → Option (List ℕ) → Type 0
@@ -67,7 +67,7 @@ FaultFirst NoMemory before after = ⊥
 
 -- the fault that stands behind n records
 abbrev pub FaultHere : RunFault → ℕ → Option (List ℕ) → Option (List ℕ) → Type 0
-FaultHere CannotRead n before after = (taken : List ℕ) × Consumes before after taken × IsPartial taken
+FaultHere CannotRead n before after = (taken : List ℕ) × Consumes before after taken × IsPartial n taken
 FaultHere NotRecordFile n before after = ⊥
 FaultHere (CutRecord at) n before after = IfSome before (EndsBy (Some (CutRecord at)) n)
 FaultHere (RecordTooLong at) n before after = IfSome before (EndsBy (Some (RecordTooLong at)) n)

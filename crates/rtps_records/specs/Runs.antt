@@ -1,6 +1,6 @@
 -- What a run leaves written, by the text of records, by what the reader had left before and after it, and by the writer's
 -- contents before and after it.
-use Rattle.std.specs.Prelude.{◌≡◌, ℕ, ◌<◌, List, [], ◌++◌, ◌⊎◌, length, take, Option, Some, IfSome}
+use Rattle.std.specs.Prelude.{◌≡◌, ℕ, ◌<◌, ◌≤◌, List, [], ◌++◌, ◌⊎◌, length, take, Option, Some, IfSome}
 use Rattle.std.specs.Io.KnownBytes.{Appends, Consumes, Keeps}
 use Rattle.rtps_records.specs.declared.fault.RunFault.{RunFault}
 use Rattle.rtps_records.specs.declared.fault.RunFault.TheVariants.{CannotRead, NotRecordFile, CutRecord, RecordTooLong, TooManyRecords, CannotWrite, NoMemory}
@@ -17,7 +17,7 @@ unfoldable pub WroteRead : (List (List ℕ) → List ℕ) → Option (List ℕ) 
 WroteRead text before after old new =
     (taken : List ℕ) × Consumes before after taken
     × (((length taken < 4) × Keeps old new)
-    ⊎ ((records : List (List ℕ)) × (rest : List ℕ) × Holds taken records rest × IsPartial rest × Appends old new (text records)))
+    ⊎ ((records : List (List ℕ)) × (rest : List ℕ) × Holds taken records rest × IsPartial (length records) rest × Appends old new (text records)))
 
 -- nothing was written, or what was written is a front of the text of records that the input begins with
 unfoldable pub WroteFront : (List (List ℕ) → List ℕ) → Option (List ℕ) → Option (List ℕ) → Option (List ℕ) → Type 0
@@ -39,9 +39,9 @@ Stops text TooManyRecords before after old new = WroteAll text before old new (S
 abbrev pub PutsFront : Option (List ℕ) → Option (List ℕ) → List ℕ → Type 0
 PutsFront old new octets = (n : ℕ) × Appends old new (take n octets)
 
--- octets were written and gave way to none, or they are kept back
+-- octets of 64 KiB or more were written and gave way to none; fewer are kept back
 abbrev pub Spills : Option (List ℕ) → Option (List ℕ) → List ℕ → List ℕ → Type 0
-Spills old new before after = (Appends old new before × (after ≡ [])) ⊎ (Keeps old new × (after ≡ before))
+Spills old new before after = ((65536 ≤ length before) × Appends old new before × (after ≡ [])) ⊎ ((length before < 65536) × Keeps old new × (after ≡ before))
 
 -- Some octets were written. Where a printer has said its text up to those that were kept back, they are these octets and the
 -- rest of its text.

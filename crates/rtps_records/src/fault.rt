@@ -1,3 +1,5 @@
+//! Why a run over a record file ends early.
+
 use thiserror::Error;
 
 /// Why a run over a record file ended before its end.

@@ -1,6 +1,6 @@
 //! The text of a whole record file.
 
-ghost use Rattle.std.specs.Prelude.{◌≡◌, ℕ, ◌≤◌, List, [], length, IfErr, OnOk, OnErr, IfOk, vec_len};
+ghost use Rattle.std.specs.Prelude.{◌≡◌, ℕ, ◌≤◌, List, [], length, All, IfErr, OnOk, OnErr, IfOk, vec_len};
 ghost use Rattle.rtps_records.specs.declared.fault.RunFault.TheVariants.{CannotWrite};
 ghost use Rattle.std.specs.Prelude.{None};
 ghost use Rattle.rtps_records.specs.Runs.{Closes, ClosesNot, PutsFront, Spills, Stops, WroteAll};
@@ -51,9 +51,10 @@ pub fn print_records_in<A: Allocator, P: Printer, R: Read, W: Write>(
     run(printer, reader, writer, buffer.as_mut_slice(), &mut text)
 }
 
-/// A buffer of this many octets.
+/// A buffer of this many octets, all of them zeros.
 pub fn zeros<A: Allocator>(alloc: A, count: usize) -> Result<Vec<u8, A>, AllocError>
-    ensures { IfOk result (λ v. vec_len v ≡ count) }
+    ensures count { IfOk result (λ v. vec_len v ≡ count) }
+    ensures zeros { IfOk result (λ v. All (λ octet. octet ≡ 0) v.items) }
 {
     vec![in alloc; 0u8; count]
 }
@@ -105,11 +106,13 @@ fn run<A: Allocator, P: Printer, R: Read, W: Write>(
     unreachable!()
 }
 
-/// Writes a text that has grown to 64 KiB, and empties it; a shorter one is kept back.
+/// Writes a text that has grown to 64 KiB, and empties it; a shorter one is kept back, and nothing is
+/// written then. A fault is always `CannotWrite`; a front of the text may have been written.
 pub fn spill<A: Allocator, W: Write>(writer: &mut W, text: &mut Vec<u8, A>) -> Result<(), RunFault>
     ensures ok { OnOk result (Spills (W.contents writer.old) (W.contents writer.new) text.old.items text.new.items) }
     ensures fault { IfErr result (λ fault. fault ≡ CannotWrite) }
     ensures front { OnErr result (PutsFront (W.contents writer.old) (W.contents writer.new) text.old.items) }
+    ensures long { OnErr result (65536 ≤ length text.old.items) }
 {
     if text.len() < KEPT_BACK {
         return Ok(());

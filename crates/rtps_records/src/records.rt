@@ -9,10 +9,13 @@ use crate::fault::RunFault;
 use crate::transfer::fill;
 use std::io::Read;
 
-/// The greatest length of a record.
+/// The greatest length of a record, in octets.
 pub const MAX_LEN: usize = 65_507;
 
 /// Reads the four octets that a record file begins with.
+///
+/// `NotRecordFile` where others stand there or the file ends before them, `CannotRead` where a read
+/// fails before.
 pub fn read_magic<R: Read>(reader: &mut R) -> Result<(), RunFault>
     ensures ok { OnOk result (Consumes (R.remaining reader.old) (R.remaining reader.new) magic) }
     ensures fault { IfErr result (λ fault. FaultFirst fault (R.remaining reader.old) (R.remaining reader.new)) }
@@ -36,7 +39,12 @@ fn length_of(head: &[u8; 4]) -> u32
     u32::from_be_bytes(*head)
 }
 
-/// Reads record `number` into the front of the buffer and gives its length, or `None` at the end.
+/// Reads record `number`, counted from 0, into the front of the buffer, which has room for the longest
+/// one, and gives its length in octets, or `None` where the file ends before it.
+///
+/// `CutRecord` where the file ends inside the record, `RecordTooLong` for a length above 65,507 octets
+/// whatever follows it, `TooManyRecords` where an octet stands behind 4,294,967,295 records, and
+/// `CannotRead` where a read fails before the record is whole.
 pub fn next_record<R: Read>(
     reader: &mut R,
     buffer: &mut [u8],

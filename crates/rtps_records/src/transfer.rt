@@ -38,7 +38,7 @@ pub(crate) fn fill<R: Read>(reader: &mut R, buffer: &mut [u8]) -> (usize, io::Re
 }
 
 /// Writes all octets, or as many of them as the writer takes. An interrupted write is tried again;
-/// one that takes nothing is a fault.
+/// one that fails, or takes nothing, is `CannotWrite`.
 pub fn put_all<W: Write>(writer: &mut W, octets: &[u8]) -> Result<(), RunFault>
     ensures ok { OnOk result (Appends (W.contents writer.old) (W.contents writer.new) octets.now) }
     ensures fault { IfErr result (λ fault. fault ≡ CannotWrite) }
@@ -62,7 +62,8 @@ pub fn put_all<W: Write>(writer: &mut W, octets: &[u8]) -> Result<(), RunFault>
     Err(RunFault::CannotWrite)
 }
 
-/// Has the writer pass on what it holds. An interrupted flush is tried again.
+/// Has the writer pass on what it holds. An interrupted flush is tried again; one that fails is
+/// `CannotWrite`.
 pub fn flush_all<W: Write>(writer: &mut W) -> Result<(), RunFault>
     ensures keeps { Keeps (W.contents writer.old) (W.contents writer.new) }
     ensures fault { IfErr result (λ fault. fault ≡ CannotWrite) }

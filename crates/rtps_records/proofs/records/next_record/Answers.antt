@@ -4,7 +4,7 @@ use Rattle.rtps_records.proofs.records.next_record.Goals as goal
 
 pub returns-then-is_err-3-clause-fault : goal.returns-then-is_err-3-clause-fault
 returns-then-is_err-3-clause-fault g c =
-    part_record _ _ _ c.fill-count.new.buffer c.fill-count-2.new.buffer c.fill-count.result.0 c.fill-count-2.result.0 (search rules) (search rules) (search rules) (search rules) (search rules)
+    part_record _ _ _ c.fill-count.new.buffer c.fill-count-2.new.buffer c.fill-count.result.0 c.fill-count-2.result.0 _ (search rules) (search rules) (search rules) (search rules) (search rules) (search rules)
     c.fill-count.ensures.taken c.fill-count-2.ensures.taken
 
 pub returns-clause-some : goal.returns-clause-some
