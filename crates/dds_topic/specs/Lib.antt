@@ -1,4 +1,5 @@
 pub mod Answer
+pub mod ColorText
 pub mod Encapsulation
 pub mod RawMeaning
 pub mod ShapeMeaning

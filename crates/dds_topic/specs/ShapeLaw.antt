@@ -3,7 +3,6 @@ use Rattle.std.proofs.Common.{◌≡◌, ℕ, ◌++◌, List, [], length, Ok, na
 use Rattle.std.proofs.lemmas.Grind.{common_steps}
 use Rattle.std.proofs.lemmas.List.{append-nil}
 use Rattle.std.proofs.lemmas.Str.{IsUtf8-from_is_utf8}
-use Rattle.std.specs.String.{string_bytes}
 use Rattle.rtps_types.specs.declared.field.Endian.TheVariants.{Little}
 use Rattle.rtps_cdr.specs.Cdr.{Text}
 use Rattle.rtps_cdr.specs.Reading.{start, text_in}
@@ -14,7 +13,7 @@ use Rattle.dds_topic.specs.ShapeMeaning.{shape_view, color_key, color_hash, shap
 
 pub shape_key_again : {A : Type 0} (v : Shape A) → shape_hash_of_key 1 (color_key (shape_view v).color) ≡ Ok (color_hash (shape_view v).color)
 shape_key_again v =
-    let color : List ℕ = string_bytes v.color in
+    let color : List ℕ = v.color in
     let read : text_in (start Little (written Text 0 Little color ++ [])) ≡ Ok (color, length (written Text 0 Little color)) =
     (each_again [] [] Little).text color (omega (arith, v.short), IsUtf8-from_is_utf8 color v.utf8) ∙ ap (λ (n : ℕ). Ok (color, n)) (omega arith) in
     let again : text_in (start Little (written Text 0 Little color)) ≡ Ok (color, length (written Text 0 Little color)) = rw append-nil at read in

@@ -1,7 +1,6 @@
 -- What the bodies of the Shapes demo mean.
 use Rattle.std.specs.Prelude.{ℕ, ℤ, List, ◌++◌, length, Result, Ok, Err, nat_lt, if◌then◌else◌, codes}
 use Rattle.std.specs.Int.{w32}
-use Rattle.std.specs.String.{string_bytes}
 use Rattle.std.specs.Fmt.{signed_decimal}
 use Rattle.md5.specs.Md5.{md5}
 use Rattle.rtps_types.specs.declared.field.Endian.TheVariants.{Big, Little}
@@ -24,7 +23,7 @@ pub record ShapeMeaning : Type 0 where
   pub size : ℤ
 
 abbrev pub shape_view : {A : Type 0} → Shape A → ShapeMeaning
-shape_view s = record { color = string_bytes s.color; x = s.x; y = s.y; size = s.size }
+shape_view s = record { color = s.color; x = s.x; y = s.y; size = s.size }
 
 abbrev pub behind_text : Cursor → Cursor
 behind_text c = moved c (text_in c)

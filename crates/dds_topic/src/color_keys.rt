@@ -1,9 +1,9 @@
 //! The keys of the colors that came last.
 
-ghost use Rattle.std.specs.Prelude.{◌≡◌, ◌≤◌, length, IfOk};
-ghost use Rattle.std.specs.String.{string_bytes};
+ghost use Rattle.std.specs.Prelude.{◌≡◌, ◌≤◌, length, IfOk, IfSome};
 ghost use Rattle.dds_topic.specs.ShapeMeaning.{color_hash};
 
+use crate::color::Color;
 use crate::shapes::hash_of;
 use rtps_cdr::NoMemory;
 use rtps_types::KeyHash;
@@ -15,9 +15,9 @@ const PLACES: usize = 8;
 /// A color and the hash of its key.
 #[derive(Debug, Drop)]
 struct ColorKey {
-    color: String,
+    color: Color,
     hash: KeyHash,
-    ghost right: { hash ≡ color_hash (string_bytes color) },
+    ghost right: { hash ≡ color_hash color },
 }
 
 /// The colors that came last with the hashes of their keys: a color that comes again isn't hashed
@@ -27,6 +27,8 @@ pub struct ColorKeys {
     known: [Option<ColorKey>; PLACES],
     /// The place that is taken next.
     next: usize,
+    /// The place of the color that came last: it mostly comes again, for the next reader.
+    last: usize,
 }
 
 impl Default for ColorKeys {
@@ -34,6 +36,7 @@ impl Default for ColorKeys {
         ColorKeys {
             known: [None, None, None, None, None, None, None, None],
             next: 0,
+            last: 0,
         }
     }
 }
@@ -44,18 +47,31 @@ impl ColorKeys {
         requires { length color.now ≤ 128 }
         ensures { IfOk result (λ h. h ≡ color_hash color.now) }
     {
-        for place in &self.known {
-            if let Some(key) = place {
-                if key.color.as_str() == color {
-                    return Ok(key.hash);
-                }
+        if let Some(hash) = known_hash(&self.known[self.last % PLACES], color) {
+            return Ok(hash);
+        }
+        for (at, place) in self.known.iter().enumerate() {
+            if let Some(hash) = known_hash(place, color) {
+                self.last = at;
+                return Ok(hash);
             }
         }
         let hash = hash_of(color);
-        let color = String::from_str(alloc, color)?;
+        let color = Color::new(alloc, color)?;
         let at = self.next % PLACES;
         self.known[at] = Some(ColorKey { color, hash });
         self.next = (at + 1) % PLACES;
+        self.last = at;
         Ok(hash)
+    }
+}
+
+/// The hash of a color's key, where the color stands in this place.
+fn known_hash(place: &Option<ColorKey>, color: &str) -> Option<KeyHash>
+    ensures { IfSome result (λ h. h ≡ color_hash color.now) }
+{
+    match place {
+        Some(key) if key.color.as_str() == color => Some(key.hash),
+        _ => None,
     }
 }

@@ -6,6 +6,7 @@
 #![tactic(auto)]
 
 mod catalog;
+mod color;
 mod color_keys;
 mod encapsulation;
 #[cfg(test)]
@@ -19,6 +20,7 @@ mod tests;
 mod unread;
 
 pub use catalog::{Catalog, TextCatalog};
+pub use color::Color;
 pub use color_keys::ColorKeys;
 pub use encapsulation::byte_order;
 pub use raw::{Raw, RawValue};

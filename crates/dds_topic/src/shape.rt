@@ -2,19 +2,19 @@
 
 ghost use Rattle.std.specs.Prelude.{◌≡◌, ◌≤◌, length, true};
 ghost use Rattle.std.specs.Str.{is_utf8};
-ghost use Rattle.std.specs.String.{string_bytes};
 
+use crate::color::Color;
 use std::alloc::{Allocator, Global};
 
 /// A shape, `ShapeType` of the Shapes demo: its color is its key.
 #[derive(Debug, Drop)]
 pub struct Shape<A: Allocator = Global> {
     /// At most 128 octets of UTF-8.
-    pub color: String<A>,
+    pub color: Color<A>,
     pub x: i32,
     pub y: i32,
     /// The member `shapesize`.
     pub size: i32,
-    ghost short: { length (string_bytes color) ≤ 128 },
-    ghost utf8: { is_utf8 (string_bytes color) ≡ true },
+    ghost short: { length color ≤ 128 },
+    ghost utf8: { is_utf8 color ≡ true },
 }

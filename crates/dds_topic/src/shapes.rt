@@ -1,13 +1,13 @@
 //! The type of the Shapes demo.
 
 ghost use Rattle.std.specs.Prelude.{◌≡◌, ◌≤◌, ◌++◌, ◌+◌, ◌^◌, ◌<◌, length, Ok, IfOk, OnOk};
-ghost use Rattle.std.specs.String.{string_bytes};
 ghost use Rattle.rtps_cdr.specs.Cdr.{Text};
 ghost use Rattle.rtps_cdr.specs.Writing.{written};
 ghost use Rattle.dds_topic.specs.Answer.{Gives};
 ghost use Rattle.dds_topic.specs.ShapeMeaning.{ShapeMeaning, shape_view, shape_in, shape_meaning, color_of, color_hash, color_key, shape_hash_of_key, shape_text, behind_text};
 ghost use Rattle.dds_topic.specs.ShapeLaw.{shape_key_again};
 
+use crate::color::Color;
 use crate::color_keys::ColorKeys;
 use crate::encapsulation::byte_order;
 use crate::{Catalog, CatalogError, Shape, TextCatalog, Unread};
@@ -52,10 +52,10 @@ pub fn read_shape<A: Allocator>(
 {
     let text = read_color(reader)?;
     let _octets = text.as_bytes();
+    let color = Color::new(alloc, text)?;
     let x = reader.read_i32()?;
     let y = reader.read_i32()?;
     let size = reader.read_i32()?;
-    let color = String::from_str(alloc, text)?;
     Ok(Shape { color, x, y, size })
 }
 
@@ -85,7 +85,7 @@ pub(crate) fn hash_of(color: &str) -> KeyHash
 fn push_shape<A: Allocator>(out: &mut Vec<u8, A>, shape: &Shape) -> Result<(), AllocError>
     ensures { OnOk result (out.new.items ≡ out.old.items ++ shape_text (shape_view shape.now)) }
 {
-    push_hex(out, shape.color.as_bytes())?;
+    push_hex(out, shape.color.as_str().as_bytes())?;
     push_octet(out, b' ')?;
     push_signed(out, shape.x)?;
     push_octet(out, b' ')?;
@@ -119,7 +119,7 @@ impl Catalog for Shapes {
     }
 
     fn key_of(&self, _: Global, value: &Shape) -> Result<KeyHash, NoMemory>
-        ensures { result ≡ Ok (color_hash (string_bytes value.now.color)) }
+        ensures { result ≡ Ok (color_hash value.now.color) }
     {
         Ok(hash_of(value.color.as_str()))
     }
