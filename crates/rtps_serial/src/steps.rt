@@ -5,6 +5,7 @@ ghost use Rattle.rtps_serial.specs.declared.errors.EngineError.TheVariants as en
 ghost use Rattle.rtps_serial.specs.Seen.{matches_below};
 ghost use Rattle.rtps_discovery.specs.Addressed.{is_discovery};
 ghost use Rattle.rtps_receiver.specs.Events.{events_of, view};
+ghost use Rattle.rtps_reader.specs.Asked.{asked};
 ghost use Rattle.rtps_reader.specs.Body.{body_by};
 ghost use Rattle.rtps_reader.specs.Reader.{Reader, status_of};
 ghost use Rattle.rtps_reader.specs.Standing.{StandsAt};
@@ -24,32 +25,29 @@ use rtps_types::{Guid, GuidPrefix, Place, Reply};
 use std::alloc::{AllocError, Allocator, Global};
 use std::collections::BTreeSet;
 
-/// Gives an event to one reader, and adds what it is told. `output` is room for that, empty before
-/// and after.
+/// Gives an event to one reader, and adds what it is told. `step` holds the event and its place, and
+/// `output` is room for what the reader tells, empty before and after.
 fn step_one<C: Catalog, A: Allocator + Copy>(
     reader: &mut ReaderState<A>,
     alloc: A,
     values: Global,
     catalog: &C,
     memo: &mut C::Memo,
-    event: &Event<'_>,
+    step: &Step<'_>,
     output: &mut Output<C::Value, A>,
     reports: &mut Vec<Report<C::Value, A>, A>,
 ) -> Result<(), AllocError>
-    requires other { is_discovery (view event.now).writer ≡ false }
+    requires place { step.now.place ≡ (asked step.now.what).place }
+    requires other { is_discovery (asked step.now.what).writer ≡ false }
     requires empty { (output.old.notices.items ≡ []) × (output.old.answers.items ≡ []) }
     ensures empty { OnOk result ((output.new.notices.items ≡ []) × (output.new.answers.items ≡ [])) }
-    ensures stands { (r : Reader) → StandsAt r reader.old → OnOk result (StandsAt (reader_by (view event.now) r) reader.new) }
+    ensures stands { (r : Reader) → StandsAt r reader.old → OnOk result (StandsAt (reader_by (asked step.now.what) r) reader.new) }
     ensures rank { reader.new.rank ≡ reader.old.rank }
     ensures put { (r : Reader) → StandsAt r reader.old → OnOk result (map (report_view C.view) reports.new.items
         ≡ map (report_view C.view) reports.old.items
-        ++ puts (body_by (C.meaning catalog.now) (C.hash catalog.now) (C.hash_of_key catalog.now)) (view event.now) reader.old.rank r) }
+        ++ puts (body_by (C.meaning catalog.now) (C.hash catalog.now) (C.hash_of_key catalog.now)) (asked step.now.what) reader.old.rank r) }
 {
-    let step = Step {
-        place: event.place,
-        what: Asked::Event(*event),
-    };
-    match reader.step(alloc, values, catalog, memo, &step, output) {
+    match reader.step(alloc, values, catalog, memo, step, output) {
         Ok(()) => {}
         Err(_) => return Err(AllocError),
     }
@@ -84,6 +82,9 @@ fn send_all<C: Catalog, A: Allocator>(
     ensures empty { answers.new.items ≡ [] }
     ensures moved { OnOk result (map (report_view C.view) reports.new.items ≡ map (report_view C.view) reports.old.items ++ map (sent_by rank) (map answer_view answers.old.items)) }
 {
+    if answers.is_empty() {
+        return Ok(());
+    }
     for (place, reply) in answers.drain(..) {
         let answer = Answer {
             place,
@@ -117,6 +118,10 @@ fn step_all<C: Catalog, A: Allocator + Copy>(
     if is_discovery(event.writer) {
         return Ok(());
     }
+    let step = Step {
+        place: event.place,
+        what: Asked::Event(*event),
+    };
     let mut output = Output {
         notices: Vec::new(alloc),
         answers: Vec::new(alloc),
@@ -128,7 +133,7 @@ fn step_all<C: Catalog, A: Allocator + Copy>(
             values,
             catalog,
             memo,
-            event,
+            &step,
             &mut output,
             reports,
         )?;

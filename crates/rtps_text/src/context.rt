@@ -1,6 +1,8 @@
 //! What stands before an event's body: its place and its context.
 
-ghost use Rattle.std.specs.Prelude.{◌≡◌, ◌++◌, OnOk};
+ghost use Rattle.std.specs.Prelude.{◌≡◌, ◌++◌, OnOk, length};
+ghost use Rattle.std.specs.Int.{w32, to_be_bytes};
+ghost use Rattle.rtps_ascii.specs.Hex.{hex_text};
 ghost use Rattle.rtps_receiver.specs.Events.{view};
 ghost use Rattle.rtps_text.specs.Line.{context_text, place_text, time_text};
 
@@ -28,9 +30,23 @@ pub(crate) fn push_time<A: Allocator>(
     let Some(time) = time else {
         return push_octet(out, b'-');
     };
-    push_hex(out, &time.seconds.to_be_bytes())?;
-    push_octet(out, b'.')?;
-    push_hex(out, &time.fraction.to_be_bytes())
+    let mut digits = [b'.'; 17];
+    let (seconds, rest) = digits.split_at_mut(8);
+    let (_, fraction) = rest.split_at_mut(1);
+    write_hex(time.seconds, seconds);
+    write_hex(time.fraction, fraction);
+    out.extend_from_slice(&digits)
+}
+
+/// Writes a number as eight digits.
+fn write_hex(number: u32, digits: &mut [u8])
+    requires { length digits.old ≡ 8 }
+    ensures { digits.new ≡ hex_text (to_be_bytes w32 number) }
+{
+    match hex::encode_to_slice(&number.to_be_bytes(), digits) {
+        Ok(()) => {}
+        Err(_) => unreachable!(),
+    }
 }
 
 /// Adds an event's place, source, time, writer and reader.

@@ -6,8 +6,7 @@ ghost use Rattle.rtps_reader.specs.Notices.{notice_view, told_view};
 ghost use Rattle.rtps_text.specs.Line.{◌then◌};
 ghost use Rattle.rtps_text.specs.Told.{guid_text, heard_line, told_text};
 
-use crate::context::push_place;
-use crate::guid::push_guid;
+use crate::last_line::LastLine;
 use crate::sample::push_sample;
 use dds_topic::TextCatalog;
 use rtps_ascii::{push_number, push_octet, push_word};
@@ -15,26 +14,29 @@ use rtps_reader::{Notice, Told};
 use rtps_types::Guid;
 use std::alloc::{AllocError, Allocator};
 
-/// Adds the line of what the reader of this rank tells, with its end.
-pub fn push_notice<C: TextCatalog, A: Allocator>(
+/// Adds the line of what the reader of this rank tells, with its end. `last` keeps what the line
+/// before it began with.
+pub fn push_notice<C: TextCatalog, A: Allocator, B: Allocator + Copy>(
     out: &mut Vec<u8, A>,
+    last: &mut LastLine<B>,
     catalog: &C,
     rank: u32,
     notice: &Notice<C::Value>,
 ) -> Result<(), AllocError>
     ensures { OnOk result (out.new.items ≡ out.old.items ++ heard_line (C.text_of catalog.now) rank (notice_view C.view notice.now)) }
 {
-    push_place(out, notice.place)?;
+    last.push_place(out, notice.place)?;
     push_word(out, " reader ")?;
     push_number(out, u64::from(rank))?;
     push_octet(out, b' ')?;
-    push_told(out, catalog, notice.writer, &notice.what)?;
+    push_told(out, last, catalog, notice.writer, &notice.what)?;
     push_octet(out, b'\n')
 }
 
 /// Adds what is told of the match with a writer.
-fn push_told<C: TextCatalog, A: Allocator>(
+fn push_told<C: TextCatalog, A: Allocator, B: Allocator + Copy>(
     out: &mut Vec<u8, A>,
+    last: &mut LastLine<B>,
     catalog: &C,
     writer: Guid,
     what: &Told<C::Value>,
@@ -43,22 +45,23 @@ fn push_told<C: TextCatalog, A: Allocator>(
 {
     match what {
         Told::Sample { number, time, body } => {
-            push_about(out, "sample", writer)?;
+            push_about(out, last, "sample", writer)?;
             push_octet(out, b' ')?;
             push_sample(out, catalog, *number, *time, body)
         }
-        Told::Matched => push_about(out, "matched", writer),
-        Told::Unmatched => push_about(out, "unmatched", writer),
+        Told::Matched => push_about(out, last, "matched", writer),
+        Told::Unmatched => push_about(out, last, "unmatched", writer),
         Told::Incompatible { policy } => {
-            push_counted(out, "incompatible", writer, u64::from(*policy))
+            push_counted(out, last, "incompatible", writer, u64::from(*policy))
         }
-        Told::Lost { count } => push_counted(out, "lost", writer, *count),
+        Told::Lost { count } => push_counted(out, last, "lost", writer, *count),
     }
 }
 
 /// Adds a word and the writer that it is about.
-fn push_about<A: Allocator>(
+fn push_about<A: Allocator, B: Allocator + Copy>(
     out: &mut Vec<u8, A>,
+    last: &mut LastLine<B>,
     word: &str,
     writer: Guid,
 ) -> Result<(), AllocError>
@@ -66,19 +69,20 @@ fn push_about<A: Allocator>(
 {
     push_word(out, word)?;
     push_octet(out, b' ')?;
-    push_guid(out, writer)
+    last.push_writer(out, writer)
 }
 
 /// Adds a word, the writer that it is about, and a number.
-fn push_counted<A: Allocator>(
+fn push_counted<A: Allocator, B: Allocator + Copy>(
     out: &mut Vec<u8, A>,
+    last: &mut LastLine<B>,
     word: &str,
     writer: Guid,
     number: u64,
 ) -> Result<(), AllocError>
     ensures { OnOk result (out.new.items ≡ out.old.items ++ (word.now then guid_text writer then decimal number)) }
 {
-    push_about(out, word, writer)?;
+    push_about(out, last, word, writer)?;
     push_octet(out, b' ')?;
     push_number(out, number)
 }

@@ -9,6 +9,7 @@ ghost use Rattle.rtps_records.specs.Text.{Ends, Says};
 ghost use Rattle.rtps_text.specs.Replayed.{HasSaid, replay_text};
 
 use crate::closing::push_summary;
+use crate::last_line::LastLine;
 use crate::reports::push_reports;
 use dds_topic::TextCatalog;
 use rtps_discovery::Config;
@@ -23,6 +24,8 @@ struct RunLines<C: TextCatalog, B: Allocator> {
     engine: SerialEngine<C, B>,
     /// What the last datagram gave.
     reports: Vec<Report<C::Value, B>, B>,
+    /// What the last line began with.
+    last: LastLine<B>,
     /// Where what one datagram gives is kept while it is printed.
     alloc: B,
     /// Where values are decoded.
@@ -50,7 +53,7 @@ impl<C: TextCatalog, B: Allocator + Copy> RunLines<C, B> {
             .engine
             .take_in_order(self.alloc, self.values, octets, &mut self.reports)
         {
-            Ok(()) => push_reports(out, self.engine.catalog(), &self.reports),
+            Ok(()) => push_reports(out, &mut self.last, self.engine.catalog(), &self.reports),
             Err(_) => Err(AllocError),
         }
     }
@@ -195,6 +198,7 @@ pub fn replay_in<C: TextCatalog, B: Allocator, R: Read, W: Write>(
     let mut lines = RunLines {
         engine,
         reports: Vec::new(alloc),
+        last: LastLine::none(alloc),
         alloc,
         values,
         summary,

@@ -1,6 +1,7 @@
 //! The lines of a run against lines that were written down by hand.
 
-use crate::{push_answer, push_match, push_notice, push_status};
+use super::text;
+use crate::{LastLine, push_answer, push_match, push_notice, push_status};
 use dds_topic::{Catalog, Raw, RawValue, Shapes, TextCatalog, Unread};
 use rtps_reader::{Body, Notice, Status, Told};
 use rtps_types::{EntityId, Guid, GuidPrefix, KeyHash, Locator, Number, Place, Timestamp};
@@ -52,7 +53,7 @@ fn heard<C: TextCatalog>(
         what,
     };
     let mut out = Vec::new(alloc);
-    push_notice(&mut out, catalog, 3, &notice)?;
+    push_notice(&mut out, &mut LastLine::none(alloc), catalog, 3, &notice)?;
     Ok(out)
 }
 
@@ -90,6 +91,36 @@ fn prints_what_is_told_of_matches(rt: HostRuntime) -> Result<(), Fail> {
         let out = heard(rt.alloc(), &Raw, what)?;
         assert_eq!(rt; out.as_slice(), line.as_bytes(), "for {line}");
     }
+    Ok(())
+}
+
+/// Three lines, of two places and two writers, with what each keeps of the one before.
+#[test]
+fn prints_lines_one_after_the_other(rt: HostRuntime) -> Result<(), Fail> {
+    let other = Guid {
+        entity: EntityId([0, 0, 2, 0xc2]),
+        ..WRITER
+    };
+    let next = Place {
+        submessage: 3,
+        ..PLACE
+    };
+    let mut last = LastLine::none(rt.alloc());
+    let mut out = Vec::new(rt.alloc());
+    for (place, writer) in [(PLACE, WRITER), (PLACE, other), (next, other)] {
+        let notice = Notice {
+            place,
+            writer,
+            what: Told::Matched,
+        };
+        push_notice(&mut out, &mut last, &Raw, 0, &notice)?;
+    }
+    let lines = [
+        "4294967296:2 reader 0 matched 0102030405060708090a0b0c000001c2",
+        "4294967296:2 reader 0 matched 0102030405060708090a0b0c000002c2",
+        "4294967296:3 reader 0 matched 0102030405060708090a0b0c000002c2",
+    ];
+    assert_eq!(rt; out.as_slice(), text(rt.alloc(), &lines)?.as_bytes());
     Ok(())
 }
 
