@@ -6,27 +6,23 @@ use arrayvec::ArrayString;
 use std::alloc::{AllocError, Allocator, Global};
 use std::marker::Model;
 
-/// A text, where the shape lies if it is short.
-#[derive(Debug, Drop)]
-pub(crate) enum ColorText<A: Allocator> {
-    /// At most 16 octets.
-    Inline(ArrayString<16>),
-    Allocated(String<A>),
-}
-
 /// The name of a color. Up to 16 octets of it take no memory of their own.
 #[derive(Debug, Drop)]
 pub struct Color<A: Allocator = Global> {
-    text: ColorText<A>,
+    /// A name that fits.
+    short: ArrayString<16>,
+    /// A longer one, else empty.
+    long: String<A>,
 }
 
 impl<A: Allocator> Model for Color<A> {
     ghost use Rattle.std.specs.Prelude.{List, ℕ};
-    ghost use Rattle.dds_topic.specs.ColorText.{text_octets};
+    ghost use Rattle.std.specs.String.{string_bytes};
+    ghost use Rattle.dds_topic.specs.ColorText.{longer_or};
 
     ghost Value = { List ℕ };
 
-    ghost view = { λ c. text_octets c.text };
+    ghost view = { λ c. longer_or c.short.bytes (string_bytes c.long) };
 }
 
 impl<A: Allocator> Color<A> {
@@ -34,20 +30,25 @@ impl<A: Allocator> Color<A> {
     pub fn new(alloc: A, name: &str) -> Result<Color<A>, AllocError>
         ensures { IfOk result (λ color. color ≡ name.now) }
     {
-        let text = match ArrayString::from(name) {
-            Ok(short) => ColorText::Inline(short),
-            Err(_) => ColorText::Allocated(String::from_str(alloc, name)?),
-        };
-        Ok(Color { text })
+        match ArrayString::from(name) {
+            Ok(short) => Ok(Color {
+                short,
+                long: String::new(alloc),
+            }),
+            Err(_) => Ok(Color {
+                short: ArrayString::new(),
+                long: String::from_str(alloc, name)?,
+            }),
+        }
     }
 
     /// Its name.
     pub fn as_str(&self) -> &str
         ensures { result.now ≡ self.now }
     {
-        match &self.text {
-            ColorText::Inline(short) => short.as_str(),
-            ColorText::Allocated(long) => long.as_str(),
+        if self.long.is_empty() {
+            return self.short.as_str();
         }
+        self.long.as_str()
     }
 }
