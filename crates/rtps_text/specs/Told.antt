@@ -16,11 +16,6 @@ use Rattle.rtps_text.specs.Line.{◌then◌, place_text, time_text}
 abbrev pub guid_text : Guid → List ℕ
 guid_text g = hex_text g.prefix.0 ++ hex_text g.entity.0
 
--- the text of what is known, if anything is
-abbrev pub known : {K : Type 0} → (K → List ℕ) → Option K → List ℕ
-known text None = []
-known text (Some k) = text k
-
 -- what a change is presented as (DDS 1.4, 2.2.2.5.1.3): a value, the end of an instance by the hash of its key, or why it is unread
 abbrev pub sample_text : {M : Type 0} → (M → List ℕ) → Body M → List ℕ
 sample_text text (body.Value h m) = codes "value" then text m

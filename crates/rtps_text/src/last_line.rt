@@ -1,33 +1,43 @@
-//! What the last line said of its place and its writer: most lines in a row say the same.
+//! What the last line said of its place, its writer and its change: most lines in a row say the same.
 
-ghost use Rattle.std.specs.Prelude.{◌≡◌, ◌++◌, OnOk, Some};
-ghost use Rattle.rtps_text.specs.Line.{place_text};
-ghost use Rattle.rtps_text.specs.Told.{guid_text, known};
+ghost use Rattle.std.specs.Prelude.{◌≡◌, ◌++◌, OnOk};
+ghost use Rattle.std.specs.Option.{ForSome};
+ghost use Rattle.std.specs.Fmt.{decimal};
+ghost use Rattle.rtps_types.specs.Number.{value_of};
+ghost use Rattle.rtps_text.specs.Line.{◌then◌, place_text, time_text};
+ghost use Rattle.rtps_text.specs.Told.{guid_text};
 
-use crate::context::push_place;
+use crate::context::{push_place, push_time};
 use crate::guid::push_guid;
-use rtps_types::{Guid, Place};
+use rtps_ascii::{push_number, push_octet};
+use rtps_types::{Guid, Number, Place, Timestamp};
 use std::alloc::{AllocError, Allocator, Global};
 
-/// The place and the writer of the last line, with their texts.
+/// A place, a writer and a change, each with its text, so that it need not be spelled again.
 #[derive(Drop)]
 pub struct LastLine<A: Allocator = Global> {
-    place: LastPlace<A>,
-    writer: LastWriter<A>,
+    place: Option<Place>,
+    place_octets: Vec<u8, A>,
+    writer: Option<Guid>,
+    writer_octets: Vec<u8, A>,
+    /// A change's number and time.
+    change: Option<(Number, Option<Timestamp>)>,
+    change_octets: Vec<u8, A>,
+    ghost place_right: { ForSome place (λ p. place_octets.items ≡ place_text p) },
+    ghost writer_right: { ForSome writer (λ w. writer_octets.items ≡ guid_text w) },
+    ghost change_right: { ForSome change (λ c. change_octets.items ≡ (decimal (value_of c.0) then time_text c.1)) },
 }
 
 impl<A: Allocator + Copy> LastLine<A> {
     /// No line yet. No memory is taken.
     pub fn none(alloc: A) -> LastLine<A> {
         LastLine {
-            place: LastPlace {
-                place: None,
-                text: Vec::new(alloc),
-            },
-            writer: LastWriter {
-                writer: None,
-                text: Vec::new(alloc),
-            },
+            place: None,
+            place_octets: Vec::new(alloc),
+            writer: None,
+            writer_octets: Vec::new(alloc),
+            change: None,
+            change_octets: Vec::new(alloc),
         }
     }
 
@@ -39,10 +49,13 @@ impl<A: Allocator + Copy> LastLine<A> {
     ) -> Result<(), AllocError>
         ensures { OnOk result (out.new.items ≡ out.old.items ++ place_text place) }
     {
-        if self.place.place != Some(place) {
-            self.place.turn_to(place)?;
+        if self.place != Some(place) {
+            self.place = None;
+            self.place_octets.clear();
+            push_place(&mut self.place_octets, place)?;
+            self.place = Some(place);
         }
-        out.extend_from_slice(self.place.text.as_slice())
+        out.extend_from_slice(self.place_octets.as_slice())
     }
 
     /// Adds a writer.
@@ -53,65 +66,43 @@ impl<A: Allocator + Copy> LastLine<A> {
     ) -> Result<(), AllocError>
         ensures { OnOk result (out.new.items ≡ out.old.items ++ guid_text writer) }
     {
-        if self.writer.writer != Some(writer) {
-            self.writer.turn_to(writer)?;
+        if self.writer != Some(writer) {
+            self.writer = None;
+            self.writer_octets.clear();
+            push_guid(&mut self.writer_octets, writer)?;
+            self.writer = Some(writer);
         }
-        out.extend_from_slice(self.writer.text.as_slice())
+        out.extend_from_slice(self.writer_octets.as_slice())
     }
-}
 
-/// The last place.
-#[derive(Drop)]
-struct LastPlace<A: Allocator> {
-    place: Option<Place>,
-    text: Vec<u8, A>,
-    ghost right: { text.items ≡ known place_text place },
-}
-
-impl<A: Allocator> LastPlace<A> {
-    /// Keeps the text of another place. A refusal leaves none.
-    fn turn_to(&mut self, place: Place) -> Result<(), AllocError>
-        ensures { OnOk result (self.new.place ≡ Some place) }
+    /// Adds the number and the time of a change.
+    pub(crate) fn push_change<B: Allocator>(
+        &mut self,
+        out: &mut Vec<u8, B>,
+        number: Number,
+        time: Option<Timestamp>,
+    ) -> Result<(), AllocError>
+        ensures { OnOk result (out.new.items ≡ out.old.items ++ (decimal (value_of number) then time_text time)) }
     {
-        self.place = None;
-        self.text.clear();
-        match push_place(&mut self.text, place) {
-            Ok(()) => {
-                self.place = Some(place);
-                Ok(())
-            }
-            Err(_) => {
-                self.text.clear();
-                Err(AllocError)
-            }
+        if self.change != Some((number, time)) {
+            self.change = None;
+            self.change_octets.clear();
+            push_dated(&mut self.change_octets, number, time)?;
+            self.change = Some((number, time));
         }
+        out.extend_from_slice(self.change_octets.as_slice())
     }
 }
 
-/// The last writer.
-#[derive(Drop)]
-struct LastWriter<A: Allocator> {
-    writer: Option<Guid>,
-    text: Vec<u8, A>,
-    ghost right: { text.items ≡ known guid_text writer },
-}
-
-impl<A: Allocator> LastWriter<A> {
-    /// Keeps the text of another writer. A refusal leaves none.
-    fn turn_to(&mut self, writer: Guid) -> Result<(), AllocError>
-        ensures { OnOk result (self.new.writer ≡ Some writer) }
-    {
-        self.writer = None;
-        self.text.clear();
-        match push_guid(&mut self.text, writer) {
-            Ok(()) => {
-                self.writer = Some(writer);
-                Ok(())
-            }
-            Err(_) => {
-                self.text.clear();
-                Err(AllocError)
-            }
-        }
-    }
+/// Adds a number and a time.
+fn push_dated<A: Allocator>(
+    out: &mut Vec<u8, A>,
+    number: Number,
+    time: Option<Timestamp>,
+) -> Result<(), AllocError>
+    ensures { OnOk result (out.new.items ≡ out.old.items ++ (decimal (value_of number) then time_text time)) }
+{
+    push_number(out, number.get())?;
+    push_octet(out, b' ')?;
+    push_time(out, time)
 }

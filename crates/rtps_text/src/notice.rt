@@ -7,7 +7,7 @@ ghost use Rattle.rtps_text.specs.Line.{◌then◌};
 ghost use Rattle.rtps_text.specs.Told.{guid_text, heard_line, told_text};
 
 use crate::last_line::LastLine;
-use crate::sample::push_sample;
+use crate::sample::push_presented;
 use dds_topic::TextCatalog;
 use rtps_ascii::{push_number, push_octet, push_word};
 use rtps_reader::{Notice, Told};
@@ -47,7 +47,9 @@ fn push_told<C: TextCatalog, A: Allocator, B: Allocator + Copy>(
         Told::Sample { number, time, body } => {
             push_about(out, last, "sample", writer)?;
             push_octet(out, b' ')?;
-            push_sample(out, catalog, *number, *time, body)
+            last.push_change(out, *number, *time)?;
+            push_octet(out, b' ')?;
+            push_presented(out, catalog, body)
         }
         Told::Matched => push_about(out, last, "matched", writer),
         Told::Unmatched => push_about(out, last, "unmatched", writer),

@@ -1,40 +1,21 @@
-//! A change that is presented, as text.
+//! What a change is presented as, as text.
 
 ghost use Rattle.std.specs.Prelude.{◌≡◌, ◌++◌, OnOk, codes};
 ghost use Rattle.std.specs.Fmt.{decimal};
-ghost use Rattle.rtps_types.specs.Number.{value_of};
 ghost use Rattle.dds_topic.specs.Answer.{code_of};
 ghost use Rattle.rtps_reader.specs.Body.{body_map};
 ghost use Rattle.rtps_ascii.specs.Hex.{hex_text};
-ghost use Rattle.rtps_text.specs.Line.{◌then◌, time_text};
+ghost use Rattle.rtps_text.specs.Line.{◌then◌};
 ghost use Rattle.rtps_text.specs.Told.{sample_text};
 
-use crate::context::push_time;
 use dds_topic::{TextCatalog, Unread};
 use rtps_ascii::{push_hex, push_number, push_octet, push_word};
 use rtps_reader::Body;
-use rtps_types::{KeyHash, Number, Timestamp};
+use rtps_types::KeyHash;
 use std::alloc::{AllocError, Allocator};
 
-/// Adds a change's number and time, and what it is presented as.
-pub(crate) fn push_sample<C: TextCatalog, A: Allocator>(
-    out: &mut Vec<u8, A>,
-    catalog: &C,
-    number: Number,
-    time: Option<Timestamp>,
-    body: &Body<C::Value>,
-) -> Result<(), AllocError>
-    ensures { OnOk result (out.new.items ≡ out.old.items ++ (decimal (value_of number) then time_text time then sample_text (C.text_of catalog.now) (body_map C.view body.now))) }
-{
-    push_number(out, number.get())?;
-    push_octet(out, b' ')?;
-    push_time(out, time)?;
-    push_octet(out, b' ')?;
-    push_presented(out, catalog, body)
-}
-
 /// Adds what a change is presented as.
-fn push_presented<C: TextCatalog, A: Allocator>(
+pub(crate) fn push_presented<C: TextCatalog, A: Allocator>(
     out: &mut Vec<u8, A>,
     catalog: &C,
     body: &Body<C::Value>,
