@@ -1,11 +1,11 @@
 -- What a line asks for, by the subcommand that clap finds in it and by what clap finds behind that.
-use Rattle.std.specs.Prelude.{◌≡◌, List, [], Option, Some, None, codes, Result, Err}
+use Rattle.std.specs.Prelude.{◌≡◌, List, [], Option, Some, None, codes, Result, Err, IfErr}
 use Rattle.clap.specs.Words.{Row, Text}
 use Rattle.rtps_listen.specs.declared.asked.Asked.{Asked}
 use Rattle.rtps_listen.specs.declared.asked.Asked.TheVariants.{Dump, Replay, Other}
 use Rattle.rtps_listen.specs.declared.fault.ListenFault.{ListenFault}
-use Rattle.rtps_listen.specs.declared.fault.ListenFault.TheVariants.{BadPrefix, NotBuilt}
-use Rattle.rtps_listen.specs.Configs.{Refuses}
+use Rattle.rtps_listen.specs.declared.fault.ListenFault.TheVariants.{BadPrefix, NotBuilt, Run}
+use Rattle.rtps_listen.specs.Configs.{IsReplayCause, Refuses}
 use Rattle.rtps_listen.specs.Identities.{IsPrefixText}
 use Rattle.rtps_listen.specs.Line.{own_text}
 use Rattle.rtps_listen.specs.Options.{AreOptions, text_or}
@@ -30,8 +30,14 @@ Asks (Dump file own) found =
 Asks (Replay options) found = IsReplay found × AreOptions options (rows_behind found)
 Asks Other found = ¬ IsDump found × ¬ IsReplay found
 
--- what is refused before a file is opened
+-- what is wrong where `dump` ends with this fault: with its prefix, or with its run
+abbrev pub IsDumpCause : Text → ListenFault → Type 0
+IsDumpCause own BadPrefix = ¬ IsPrefixText own
+IsDumpCause own (Run fault) = Unit {0}
+IsDumpCause own _ = ⊥
+
+-- what is refused before a file is opened, and for no other cause
 unfoldable pub RefusesFirst : Asked → Result (Unit {0}) ListenFault → Type 0
-RefusesFirst (Dump file own) result = ¬ IsPrefixText own.now → result ≡ Err BadPrefix
-RefusesFirst (Replay options) result = Refuses options result
+RefusesFirst (Dump file own) result = (¬ IsPrefixText own.now → result ≡ Err BadPrefix) × IfErr result (IsDumpCause own.now)
+RefusesFirst (Replay options) result = Refuses options result × IfErr result (IsReplayCause options)
 RefusesFirst Other result = result ≡ Err NotBuilt

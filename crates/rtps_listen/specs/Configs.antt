@@ -123,3 +123,10 @@ IsCause options BadPrefix = ¬ IsPrefixText options.own.now
 IsCause options BadWriter = ¬ IsFixedText options.fixed ⊎ IsUnmatched options
 IsCause options (Run NoMemory) = Unit {0}
 IsCause options _ = ⊥
+
+-- what is wrong where `replay` ends with this fault: with its options, or with its run
+abbrev pub IsReplayCause : Options → ListenFault → Type 0
+IsReplayCause options BadPrefix = ¬ IsPrefixText options.own.now
+IsReplayCause options BadWriter = ¬ IsFixedText options.fixed ⊎ IsUnmatched options
+IsReplayCause options (Run fault) = Unit {0}
+IsReplayCause options _ = ⊥

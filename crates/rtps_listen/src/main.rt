@@ -1,11 +1,11 @@
 //! Prints what record files hold, and what readers make of it.
 #![tactic(auto)]
 
-ghost use Rattle.std.specs.Prelude.{◌≡◌, Ok};
+ghost use Rattle.std.specs.Prelude.{◌≡◌, IfErr, Ok};
 ghost use Rattle.rtps_discovery.specs.Config.{check_of};
 ghost use Rattle.std.specs.Process.{exit_status};
-ghost use Rattle.rtps_listen.specs.Asked.{RefusesFirst};
-ghost use Rattle.rtps_listen.specs.Configs.{Refuses};
+ghost use Rattle.rtps_listen.specs.Asked.{IsDumpCause, RefusesFirst};
+ghost use Rattle.rtps_listen.specs.Configs.{IsReplayCause, Refuses};
 ghost use Rattle.rtps_listen.specs.Identities.{IsPrefixText};
 ghost use Rattle.rtps_listen.specs.Status.{status_after};
 
@@ -100,7 +100,8 @@ fn answer(rt: &HostRuntime, asked: Asked<'_>) -> Result<(), ListenFault>
 }
 
 fn answer_dump(rt: &HostRuntime, file: &str, own: &str) -> Result<(), ListenFault>
-    ensures { ¬ IsPrefixText own.now → result ≡ Err ListenFault.BadPrefix }
+    ensures refused { ¬ IsPrefixText own.now → result ≡ Err ListenFault.BadPrefix }
+    ensures cause { IfErr result (IsDumpCause own.now) }
 {
     let Some(own) = prefix_of(own) else {
         return Err(ListenFault::BadPrefix);
@@ -112,7 +113,8 @@ fn answer_dump(rt: &HostRuntime, file: &str, own: &str) -> Result<(), ListenFaul
 }
 
 fn answer_replay(rt: &HostRuntime, options: &Options<'_>) -> Result<(), ListenFault>
-    ensures { Refuses options.now result }
+    ensures refused { Refuses options.now result }
+    ensures cause { IfErr result (IsReplayCause options.now) }
 {
     match config_of(rt.alloc(), options) {
         Ok(config) => replay_file(rt, config, options),
@@ -123,6 +125,7 @@ fn answer_replay(rt: &HostRuntime, options: &Options<'_>) -> Result<(), ListenFa
 /// The run over standard input where the name is `-`, else over the file of that name.
 fn replay_file(rt: &HostRuntime, config: Config, options: &Options<'_>) -> Result<(), ListenFault>
     requires checked { check_of config ≡ Ok tt }
+    ensures cause { IfErr result (IsReplayCause options.now) }
 {
     let outcome = if options.file == "-" {
         replay_from(rt, config, options, rt.stdin())
