@@ -1,6 +1,10 @@
 -- The texts of records, one record more.
 use Rattle.std.proofs.Common.{◌≡◌, ℕ, ◌+◌, List, [], ◌∷◌, ◌++◌, arith, length, sym, ap, ◌∙◌, append-nil, append_assoc, add-zero, zero-add}
-use Rattle.rtps_records.specs.Text.{text_from, text_of, Says, Ends}
+use Rattle.rtps_records.specs.Text.{text_from, text_of, IsFront, Says, Ends}
+
+-- a whole text begins itself
+pub whole_is_front : (text : List ℕ) (said : List ℕ) → said ≡ text → IsFront said text
+whole_is_front text said e = ([], sym e ∙ sym (append-nil said))
 
 text_more : (line : ℕ → List ℕ → List ℕ) (n : ℕ) (xs : List (List ℕ)) (x : List ℕ) → text_from line n (xs ++ x ∷ []) ≡ text_from line n xs ++ line (n + length xs) x
 text_more line n [] x = append-nil (line n x) ∙ ap (λ k. line k x) (sym (add-zero n))

@@ -1,16 +1,17 @@
 -- A run so far: the records that were read, and what was said and written of them.
-use Rattle.std.proofs.Common.{◌≡◌, ℕ, ◌+◌, ◌<◌, ◌≤◌, inl, inr, List, [], ◌∷◌, ◌++◌, Option, None, Some, IfSome, arith, refl, length, take, drop, sym, ap, subst, ◌∙◌, length-append, length-take, append-nil, append_assoc, take-append-drop, take_all}
+use Rattle.std.proofs.Common.{◌≡◌, ℕ, ◌+◌, ◌<◌, ◌≤◌, inl, inr, List, [], ◌∷◌, ◌++◌, Option, None, Some, IfSome, arith, refl, length, take, drop, sym, ap, subst, ◌∙◌, length-append, length-take, append-nil, append_assoc, take-append-drop}
 use Rattle.std.specs.List.{flat_map, AllByRecursion}
 use Rattle.std.proofs.lemmas.Grind.{flat_map-append}
-use Rattle.std.specs.Io.KnownBytes.{Appends, Consumes, IsAtEnd, Keeps}
+use Rattle.std.specs.Io.KnownBytes.{Appends, Consumes, IsAtEnd}
 use Rattle.std.proofs.KnownBytes.{Consumes-trans, Appends-trans, Appends-nil, Appends-kept, Keeps-refl}
 use Rattle.rtps_records.specs.declared.fault.RunFault.{RunFault}
 use Rattle.rtps_records.specs.declared.fault.RunFault.TheVariants.{CannotRead, NotRecordFile, CutRecord, RecordTooLong, TooManyRecords, CannotWrite, NoMemory}
 use Rattle.rtps_records.specs.RecordFile.{magic, frame, Holds, EndsBy, IsRecord, IsPartial, FaultHere, FaultFirst}
-use Rattle.rtps_records.specs.Text.{IsFront, Says, Ends}
+use Rattle.rtps_records.specs.Text.{IsFront, Says, Ends, text_of}
+use Rattle.rtps_records.proofs.Printed.{ends_here}
 use Rattle.rtps_records.specs.Runs.{WroteAll, WroteRead, WroteFront, PutsFront, Spills, Stops, Closes, ClosesNot}
 
--- n records were read; the printer has said of them what was written and what is kept back
+-- n records were read; what is said of them was written or is kept back
 pub record Progress (said : List (List ℕ) → List ℕ → Type 0) (before now old new : Option (List ℕ)) (n : ℕ) (kept : List ℕ) : Type 0 where
   pub records : List (List ℕ)
   pub written : List ℕ
@@ -91,7 +92,7 @@ spilled said before now old mid new n kept left p s = elim s [
   }
 ]
 
--- the printer has said its last, and all of it was written
+-- the last text was said, and all of it was written
 pub closed : (said : List (List ℕ) → List ℕ → Type 0) (text whole : List (List ℕ) → List ℕ) (before now old mid new : Option (List ℕ)) (n : ℕ) (kept : List ℕ)
     → Progress said before now old mid n kept → ((records : List (List ℕ)) → text records ≡ whole records) → Closes said text mid new kept
     → Finished whole before now old new n
@@ -234,13 +235,13 @@ stops_closing said text whole before now after old mid new n kept fault p fronts
       )
 ]
 
--- what the printer has to say behind the text that was kept back
-pub closes : (said : List (List ℕ) → List ℕ → Type 0) (text : List (List ℕ) → List ℕ) (old mid new : Option (List ℕ)) (kept out : List ℕ) → Ends said text kept out → Appends old mid out → Keeps mid new
+-- what is to be said behind the text that was kept back was written with it
+pub closes : (said : List (List ℕ) → List ℕ → Type 0) (text : List (List ℕ) → List ℕ) (old new : Option (List ℕ)) (kept out : List ℕ) → Ends said text kept out → Appends old new out
     → Closes said text old new kept
 unfolding Ends Closes
-closes said text old mid new kept out e put keeps = (
+closes said text old new kept out e put = (
   out,
-  Appends-kept _ _ _ _ put keeps,
+  put,
   λ records written s. e.2 records (written ++ kept) s ∙ append_assoc written kept e.0 ∙ ap (λ l. written ++ l) (sym e.1),
 )
 
@@ -252,11 +253,12 @@ closes_not said text fault old new kept out same e put = inr (
   (out, put, λ records written s. e.2 records (written ++ kept) s ∙ append_assoc written kept e.0 ∙ ap (λ l. written ++ l) (sym e.1)),
 )
 
-pub closes_at_flush : (said : List (List ℕ) → List ℕ → Type 0) (text : List (List ℕ) → List ℕ) (fault : RunFault) (old mid new : Option (List ℕ)) (kept out : List ℕ) → fault ≡ CannotWrite → Ends said text kept out
-    → Appends old mid out → Keeps mid new → ClosesNot fault said text old new kept
-closes_at_flush said text fault old mid new kept out same e put keeps =
-    closes_not said text fault old new kept out same e (length out, subst (Appends old new) (sym (take_all (length out) out (omega arith))) (Appends-kept _ _ _ _ put keeps))
-
 pub closes_without : (said : List (List ℕ) → List ℕ → Type 0) (text : List (List ℕ) → List ℕ) (old : Option (List ℕ)) (kept : List ℕ) → ClosesNot NoMemory said text old old kept
 unfolding ClosesNot
 closes_without said text old kept = inl (refl, Keeps-refl old)
+
+-- the texts of all records that were read were written
+pub printed : (line : ℕ → List ℕ → List ℕ) (before now old mid new : Option (List ℕ)) (n : ℕ) (kept : List ℕ) → Progress (λ records said. said ≡ text_of line records) before now old mid n kept
+    → Appends mid new kept → Finished (text_of line) before now old new n
+printed line before now old mid new n kept p put =
+    closed _ _ _ _ _ _ _ _ _ _ p (λ records. refl) (closes (λ records said. said ≡ text_of line records) (text_of line) _ _ kept kept (ends_here line kept) put)

@@ -43,8 +43,8 @@ PutsFront old new octets = (n : ℕ) × Appends old new (take n octets)
 abbrev pub Spills : Option (List ℕ) → Option (List ℕ) → List ℕ → List ℕ → Type 0
 Spills old new before after = ((65536 ≤ length before) × Appends old new before × (after ≡ [])) ⊎ ((length before < 65536) × Keeps old new × (after ≡ before))
 
--- Some octets were written. Where a printer has said its text up to those that were kept back, they are these octets and the
--- rest of its text.
+-- Some octets were written. Where the text of some records was said up to those that were kept back, they are these octets
+-- and the rest of that text.
 unfoldable pub Closes : (List (List ℕ) → List ℕ → Type 0) → (List (List ℕ) → List ℕ) → Option (List ℕ) → Option (List ℕ) → List ℕ → Type 0
 Closes said text old new kept =
     (put : List ℕ) × Appends old new put

@@ -3,16 +3,16 @@
 
 mod fault;
 pub mod laws;
-mod printer;
 mod printing;
+mod record_text;
 mod records;
 mod transfer;
 
 pub use fault::RunFault;
-pub use printer::{EachRecord, Printer, RecordText};
 pub use printing::{print_records, print_records_in, spill, zeros};
+pub use record_text::RecordText;
 pub use records::{MAX_LEN, next_record, read_magic};
-pub use transfer::{flush_all, put_all};
+pub use transfer::put_last;
 
 #[cfg(test)]
 mod tests;

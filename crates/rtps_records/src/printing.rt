@@ -1,14 +1,14 @@
 //! The text of a whole record file.
 
-ghost use Rattle.std.specs.Prelude.{◌≡◌, ℕ, ◌≤◌, List, [], length, All, IfErr, OnOk, OnErr, IfOk, vec_len};
+ghost use Rattle.std.specs.Prelude.{◌≡◌, ◌≤◌, [], length, All, IfErr, OnOk, OnErr, IfOk, None, vec_len};
 ghost use Rattle.rtps_records.specs.declared.fault.RunFault.TheVariants.{CannotWrite};
-ghost use Rattle.std.specs.Prelude.{None};
-ghost use Rattle.rtps_records.specs.Runs.{Closes, ClosesNot, PutsFront, Spills, Stops, WroteAll};
+ghost use Rattle.rtps_records.specs.Runs.{PutsFront, Spills, Stops, WroteAll};
+ghost use Rattle.rtps_records.specs.Text.{text_of};
 
 use crate::fault::RunFault;
-use crate::printer::Printer;
+use crate::record_text::RecordText;
 use crate::records::{MAX_LEN, next_record, read_magic};
-use crate::transfer::{flush_all, put_all};
+use crate::transfer::{put_all, put_last};
 use std::alloc::{AllocError, Allocator, Global};
 use std::io::{Read, Write};
 
@@ -20,35 +20,33 @@ const KEPT_BACK: usize = 65_536;
 ///
 /// A write fault that is met while the records before a fault are printed takes that fault's
 /// place, and so does want of memory.
-pub fn print_records<P: Printer, R: Read, W: Write>(
+pub fn print_records<T: RecordText, R: Read, W: Write>(
     alloc: Global,
-    printer: &mut P,
+    lines: &T,
     reader: &mut R,
     writer: &mut W,
 ) -> Result<(), RunFault>
-    requires fresh { P.has_said printer.old [] [] }
-    ensures ok { OnOk result (WroteAll (P.text printer.old) (R.remaining reader.old) (W.contents writer.old) (W.contents writer.new) None) }
-    ensures fault { IfErr result (λ fault. Stops (P.text printer.old) fault (R.remaining reader.old) (R.remaining reader.new) (W.contents writer.old) (W.contents writer.new)) }
+    ensures ok { OnOk result (WroteAll (text_of (T.text lines.now)) (R.remaining reader.old) (W.contents writer.old) (W.contents writer.new) None) }
+    ensures fault { IfErr result (λ fault. Stops (text_of (T.text lines.now)) fault (R.remaining reader.old) (R.remaining reader.new) (W.contents writer.old) (W.contents writer.new)) }
 {
-    print_records_in(&alloc, printer, reader, writer)
+    print_records_in(&alloc, lines, reader, writer)
 }
 
 /// The same over any allocator.
-pub fn print_records_in<A: Allocator, P: Printer, R: Read, W: Write>(
+pub fn print_records_in<A: Allocator, T: RecordText, R: Read, W: Write>(
     alloc: &A,
-    printer: &mut P,
+    lines: &T,
     reader: &mut R,
     writer: &mut W,
 ) -> Result<(), RunFault>
-    requires fresh { P.has_said printer.old [] [] }
-    ensures ok { OnOk result (WroteAll (P.text printer.old) (R.remaining reader.old) (W.contents writer.old) (W.contents writer.new) None) }
-    ensures fault { IfErr result (λ fault. Stops (P.text printer.old) fault (R.remaining reader.old) (R.remaining reader.new) (W.contents writer.old) (W.contents writer.new)) }
+    ensures ok { OnOk result (WroteAll (text_of (T.text lines.now)) (R.remaining reader.old) (W.contents writer.old) (W.contents writer.new) None) }
+    ensures fault { IfErr result (λ fault. Stops (text_of (T.text lines.now)) fault (R.remaining reader.old) (R.remaining reader.new) (W.contents writer.old) (W.contents writer.new)) }
 {
     let Ok(mut buffer) = zeros(alloc, MAX_LEN) else {
         return Err(RunFault::NoMemory);
     };
     let mut text = Vec::new(alloc);
-    run(printer, reader, writer, buffer.as_mut_slice(), &mut text)
+    run(lines, reader, writer, buffer.as_mut_slice(), &mut text)
 }
 
 /// A buffer of this many octets, all of them zeros.
@@ -60,8 +58,8 @@ pub fn zeros<A: Allocator>(alloc: A, count: usize) -> Result<Vec<u8, A>, AllocEr
 }
 
 /// Does so with a buffer for one record and with room for text.
-fn run<A: Allocator, P: Printer, R: Read, W: Write>(
-    printer: &mut P,
+fn run<A: Allocator, T: RecordText, R: Read, W: Write>(
+    lines: &T,
     reader: &mut R,
     writer: &mut W,
     buffer: &mut [u8],
@@ -69,9 +67,8 @@ fn run<A: Allocator, P: Printer, R: Read, W: Write>(
 ) -> Result<(), RunFault>
     requires room { 65507 ≤ length buffer.old }
     requires empty { text.old.items ≡ [] }
-    requires fresh { P.has_said printer.old [] [] }
-    ensures ok { OnOk result (WroteAll (P.text printer.old) (R.remaining reader.old) (W.contents writer.old) (W.contents writer.new) None) }
-    ensures fault { IfErr result (λ fault. Stops (P.text printer.old) fault (R.remaining reader.old) (R.remaining reader.new) (W.contents writer.old) (W.contents writer.new)) }
+    ensures ok { OnOk result (WroteAll (text_of (T.text lines.now)) (R.remaining reader.old) (W.contents writer.old) (W.contents writer.new) None) }
+    ensures fault { IfErr result (λ fault. Stops (text_of (T.text lines.now)) fault (R.remaining reader.old) (R.remaining reader.new) (W.contents writer.old) (W.contents writer.new)) }
 {
     match read_magic(reader) {
         Ok(()) => {}
@@ -80,7 +77,7 @@ fn run<A: Allocator, P: Printer, R: Read, W: Write>(
     for number in 0..4_294_967_296u64 {
         match next_record(reader, buffer, number as u32) {
             Ok(Some(len)) => {
-                match printer.print(number as u32, &buffer[..len], text) {
+                match lines.push_text(number as u32, &buffer[..len], text) {
                     Ok(()) => {}
                     Err(_) => return Err(RunFault::NoMemory),
                 }
@@ -90,13 +87,13 @@ fn run<A: Allocator, P: Printer, R: Read, W: Write>(
                 }
             }
             Ok(None) => {
-                return match close(printer, writer, text) {
+                return match put_last(writer, text.as_slice()) {
                     Ok(()) => Ok(()),
                     Err(fault) => Err(fault),
                 };
             }
             Err(fault) => {
-                return match close(printer, writer, text) {
+                return match put_last(writer, text.as_slice()) {
                     Ok(()) => Err(fault),
                     Err(last_fault) => Err(last_fault),
                 };
@@ -123,27 +120,4 @@ pub fn spill<A: Allocator, W: Write>(writer: &mut W, text: &mut Vec<u8, A>) -> R
     }
     text.clear();
     Ok(())
-}
-
-/// Has the printer say its last, and writes it behind the text that was kept back.
-fn close<A: Allocator, P: Printer, W: Write>(
-    printer: &mut P,
-    writer: &mut W,
-    text: &mut Vec<u8, A>,
-) -> Result<(), RunFault>
-    ensures ok { OnOk result (Closes (P.has_said printer.old) (P.text printer.old) (W.contents writer.old) (W.contents writer.new) text.old.items) }
-    ensures fault { IfErr result (λ fault. ClosesNot fault (P.has_said printer.old) (P.text printer.old) (W.contents writer.old) (W.contents writer.new) text.old.items) }
-{
-    match printer.finish(text) {
-        Ok(()) => {}
-        Err(_) => return Err(RunFault::NoMemory),
-    }
-    match put_all(writer, text.as_slice()) {
-        Ok(()) => {}
-        Err(fault) => return Err(fault),
-    }
-    match flush_all(writer) {
-        Ok(()) => Ok(()),
-        Err(fault) => Err(fault),
-    }
 }

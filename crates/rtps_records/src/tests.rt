@@ -1,10 +1,9 @@
-ghost use Rattle.std.specs.Prelude.{◌≡◌, ℕ, List, [], ◌∷◌, ◌++◌, length};
+ghost use Rattle.std.specs.Prelude.{[], ◌∷◌, ◌++◌, length};
 ghost use Rattle.std.specs.Fmt.{decimal};
-ghost use Rattle.rtps_records.specs.Text.{nothing_is_front};
 
 use crate::{
-    EachRecord, MAX_LEN, Printer, RecordText, RunFault, flush_all, next_record, print_records,
-    print_records_in, put_all, read_magic, spill, zeros,
+    MAX_LEN, RecordText, RunFault, next_record, print_records, print_records_in, put_last,
+    read_magic, spill, zeros,
 };
 use linked_list_allocator::LocalHeap;
 use std::alloc::{AllocError, Allocator, Global};
@@ -30,36 +29,6 @@ impl RecordText for Lengths {
             Err(_) => Err(AllocError),
         }
     }
-}
-
-/// Says nothing of a record, and behind the last how many there were.
-#[derive(Drop)]
-struct Count(u64);
-
-impl Printer for Count {
-    ghost text = { λ _ records. decimal (length records) };
-
-    ghost has_said = { λ p records said. (p.0 ≡ length records) × (said ≡ []) };
-
-    fn print<A: Allocator>(
-        &mut self,
-        number: u32,
-        _octets: &[u8],
-        _out: &mut Vec<u8, A>,
-    ) -> Result<(), AllocError> {
-        self.0 = u64::from(number) + 1;
-        Ok(())
-    }
-
-    fn finish<A: Allocator>(&mut self, out: &mut Vec<u8, A>) -> Result<(), AllocError> {
-        let count = self.0;
-        match write!(out, "{count}") {
-            Ok(()) => Ok(()),
-            Err(_) => Err(AllocError),
-        }
-    }
-
-    ghost said_is_front = { λ p records said h. nothing_is_front said (decimal (length records)) h.1 };
 }
 
 /// Gives its octets a few at a time, is interrupted before each read that succeeds, and fails
@@ -157,7 +126,7 @@ fn text_len(read: usize) -> usize {
 fn printed(alloc: Global, file: &[u8]) -> (Result<(), RunFault>, Vec<u8>) {
     let mut out = Vec::new(alloc);
     let mut rest = file;
-    let outcome = print_records(alloc, &mut EachRecord(Lengths), &mut rest, &mut out);
+    let outcome = print_records(alloc, &Lengths, &mut rest, &mut out);
     (outcome, out)
 }
 
@@ -229,8 +198,7 @@ fn text_is_kept_back_until_it_is_long(rt: HostRuntime) -> Result<(), Fail> {
     text.push(1)?;
     assert_eq!(rt; spill(&mut out, &mut text), Ok(()));
     assert_eq!(rt; (out.len(), text.len()), (65_536, 0));
-    assert_eq!(rt; put_all(&mut out, b"hi"), Ok(()));
-    assert_eq!(rt; flush_all(&mut out), Ok(()));
+    assert_eq!(rt; put_last(&mut out, b"hi"), Ok(()));
     assert_eq!(rt; out.get(65_534..), Some(b"\0\x01hi".as_slice()));
     Ok(())
 }
@@ -258,12 +226,7 @@ fn stops_at_each_octet(rt: HostRuntime) -> Result<(), Fail> {
                 most,
                 is_interrupted: false,
             };
-            let outcome = print_records(
-                rt.alloc(),
-                &mut EachRecord(Lengths),
-                &mut reader,
-                &mut out,
-            );
+            let outcome = print_records(rt.alloc(), &Lengths, &mut reader, &mut out);
             assert_eq!(rt; outcome, Err(RunFault::CannotRead));
             assert_eq!(rt;
                 out.as_slice(),
@@ -280,7 +243,7 @@ fn writes_a_front_at_each_fault(rt: HostRuntime) -> Result<(), Fail> {
     for calls in 0..14 {
         let mut writer = Refusing::new(rt.alloc(), calls, 1);
         let mut file = FILE.as_slice();
-        let outcome = print_records(rt.alloc(), &mut EachRecord(Lengths), &mut file, &mut writer);
+        let outcome = print_records(rt.alloc(), &Lengths, &mut file, &mut writer);
         let wanted = if calls == 13 {
             Ok(())
         } else {
@@ -293,8 +256,8 @@ fn writes_a_front_at_each_fault(rt: HostRuntime) -> Result<(), Fail> {
         );
     }
     let mut writer = Refusing::new(rt.alloc(), 99, 0);
-    let mut file = b"RDG1\0".as_slice();
-    let outcome = print_records(rt.alloc(), &mut Count(0), &mut file, &mut writer);
+    let mut file = b"RDG1\0\0\0\0\0".as_slice();
+    let outcome = print_records(rt.alloc(), &Lengths, &mut file, &mut writer);
     assert_eq!(rt;
         outcome,
         Err(RunFault::CannotWrite),
@@ -304,13 +267,13 @@ fn writes_a_front_at_each_fault(rt: HostRuntime) -> Result<(), Fail> {
 }
 
 #[test]
-fn ends_with_the_last_text(rt: HostRuntime) -> Result<(), Fail> {
+fn ends_as_the_file_ends(rt: HostRuntime) -> Result<(), Fail> {
     for (file, text, outcome) in [
-        (FILE.as_slice(), b"3".as_slice(), Ok(())),
-        (b"RDG1".as_slice(), b"0".as_slice(), Ok(())),
+        (FILE.as_slice(), TEXT.as_slice(), Ok(())),
+        (b"RDG1".as_slice(), b"".as_slice(), Ok(())),
         (
             b"RDG1\0\0\0\0\0".as_slice(),
-            b"1".as_slice(),
+            b"0 0\n".as_slice(),
             Err(RunFault::CutRecord(1)),
         ),
         (
@@ -322,7 +285,7 @@ fn ends_with_the_last_text(rt: HostRuntime) -> Result<(), Fail> {
         let mut out = Vec::new(rt.alloc());
         let mut rest = file;
         assert_eq!(rt;
-            print_records(rt.alloc(), &mut Count(0), &mut rest, &mut out),
+            print_records(rt.alloc(), &Lengths, &mut rest, &mut out),
             outcome
         );
         assert_eq!(rt; out.as_slice(), text);
@@ -337,7 +300,7 @@ fn stops_where_a_growth_is_refused(rt: HostRuntime) -> Result<(), Fail> {
         let heap = LocalHeap::new(rt.alloc(), 65_400 + step * 8)?;
         let mut out = Vec::new(rt.alloc());
         let mut file = FILE.as_slice();
-        let outcome = print_records_in(&heap, &mut EachRecord(Lengths), &mut file, &mut out);
+        let outcome = print_records_in(&heap, &Lengths, &mut file, &mut out);
         if outcome.is_ok() {
             assert_eq!(rt; out.as_slice(), TEXT.as_slice());
         } else {
@@ -363,7 +326,7 @@ fn writes_long_texts_in_parts(rt: HostRuntime) -> Result<(), Fail> {
     assert_eq!(rt; out.as_slice(), text.as_bytes());
     let mut writer = Refusing::new(rt.alloc(), 1, usize::MAX);
     let mut rest = file.as_slice();
-    let outcome = print_records(rt.alloc(), &mut EachRecord(Lengths), &mut rest, &mut writer);
+    let outcome = print_records(rt.alloc(), &Lengths, &mut rest, &mut writer);
     assert_eq!(rt; outcome, Err(RunFault::CannotWrite));
     assert!(rt; text.as_bytes().starts_with(writer.kept.as_slice()));
     assert!(rt; 0 < writer.kept.len() && writer.kept.len() < text.len());
@@ -372,7 +335,7 @@ fn writes_long_texts_in_parts(rt: HostRuntime) -> Result<(), Fail> {
         let heap = LocalHeap::new(rt.alloc(), 65_600 + step * 16_384)?;
         let mut out = Vec::new(rt.alloc());
         let mut rest = file.as_slice();
-        let outcome = print_records_in(&heap, &mut EachRecord(Lengths), &mut rest, &mut out);
+        let outcome = print_records_in(&heap, &Lengths, &mut rest, &mut out);
         assert!(rt; text.as_bytes().starts_with(out.as_slice()));
         if outcome.is_ok() {
             assert_eq!(rt; out.len(), text.len());

@@ -39,7 +39,7 @@ pub(crate) fn fill<R: Read>(reader: &mut R, buffer: &mut [u8]) -> (usize, io::Re
 
 /// Writes all octets, or as many of them as the writer takes. An interrupted write is tried again;
 /// one that fails, or takes nothing, is `CannotWrite`.
-pub fn put_all<W: Write>(writer: &mut W, octets: &[u8]) -> Result<(), RunFault>
+pub(crate) fn put_all<W: Write>(writer: &mut W, octets: &[u8]) -> Result<(), RunFault>
     ensures ok { OnOk result (Appends (W.contents writer.old) (W.contents writer.new) octets.now) }
     ensures fault { IfErr result (λ fault. fault ≡ CannotWrite) }
     ensures front { OnErr result (PutsFront (W.contents writer.old) (W.contents writer.new) octets.now) }
@@ -64,7 +64,7 @@ pub fn put_all<W: Write>(writer: &mut W, octets: &[u8]) -> Result<(), RunFault>
 
 /// Has the writer pass on what it holds. An interrupted flush is tried again; one that fails is
 /// `CannotWrite`.
-pub fn flush_all<W: Write>(writer: &mut W) -> Result<(), RunFault>
+fn flush_all<W: Write>(writer: &mut W) -> Result<(), RunFault>
     ensures keeps { Keeps (W.contents writer.old) (W.contents writer.new) }
     ensures fault { IfErr result (λ fault. fault ≡ CannotWrite) }
 {
@@ -79,4 +79,21 @@ pub fn flush_all<W: Write>(writer: &mut W) -> Result<(), RunFault>
         }
     }
     Err(RunFault::CannotWrite)
+}
+
+/// Writes all octets, and has the writer pass on what it holds. A fault is always `CannotWrite`; a
+/// front of the octets may have been written.
+pub fn put_last<W: Write>(writer: &mut W, octets: &[u8]) -> Result<(), RunFault>
+    ensures ok { OnOk result (Appends (W.contents writer.old) (W.contents writer.new) octets.now) }
+    ensures fault { IfErr result (λ fault. fault ≡ CannotWrite) }
+    ensures front { OnErr result (PutsFront (W.contents writer.old) (W.contents writer.new) octets.now) }
+{
+    match put_all(writer, octets) {
+        Ok(()) => {}
+        Err(fault) => return Err(fault),
+    }
+    match flush_all(writer) {
+        Ok(()) => Ok(()),
+        Err(fault) => Err(fault),
+    }
 }

@@ -11,7 +11,7 @@ use Rattle.rtps_serial.specs.Seen.{status_seen}
 use Rattle.rtps_serial.specs.World.{Put, World}
 use Rattle.rtps_serial.specs.Run.{run}
 use Rattle.rtps_serial.specs.Standing.{EngineKept, StandsAt}
-use Rattle.rtps_text.specs.Replayed.{HasSaid, put_line, put_lines, replay_text, said_is_front, status_lines, status_text, summary_text}
+use Rattle.rtps_text.specs.Replayed.{HasSaid, put_line, put_lines, replay_text, status_lines, status_text, summary_text}
 
 -- a text that grows begins as before
 pub front_more : (a b c x : List ℕ) → IsFront a b → c ≡ b ++ x → IsFront a c
@@ -57,7 +57,8 @@ ends_summed text answers engine true old new e front sums = (
 
 -- what was said begins the whole text
 pub fronts : {C M : Type 0} (text : M → List ℕ) (answers : Answers M) (summary : Bool) (engine : EngineKept C) (records : List (List ℕ)) (said : List ℕ) → HasSaid text answers records said engine → IsFront said (replay_text text answers engine.config summary records)
-fronts text answers summary engine records said h = said_is_front text answers summary records said engine h
+fronts text answers summary engine records said h =
+    let rest = if summary then summary_text (run answers engine.config records) else [] in (rest, ap (λ l. l ++ rest) (sym h.lines))
 
 pub same_text : {M : Type 0} (text : M → List ℕ) (answers : Answers M) (a b : Config) (s t : Bool) → a ≡ b → s ≡ t → (records : List (List ℕ)) → replay_text text answers a s records ≡ replay_text text answers b t records
 same_text text answers a b s t e f records = ap (λ (c : Config). replay_text text answers c s records) e ∙ ap (λ u. replay_text text answers b u records) f

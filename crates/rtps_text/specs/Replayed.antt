@@ -1,12 +1,10 @@
 -- The text of a run over the records of a file.
 use Rattle.std.specs.Prelude.{◌≡◌, ℕ, zero, suc, List, [], ◌++◌, Bool, Option, None, Some, if◌then◌else◌}
 use Rattle.std.specs.List.{flat_map}
-use Rattle.std.proofs.Common.{ap, sym}
 use Rattle.rtps_types.specs.declared.identity.Guid.{Guid}
 use Rattle.rtps_discovery.specs.declared.config.Config.{Config}
 use Rattle.rtps_reader.specs.declared.status.Status.{Status}
 use Rattle.rtps_reader.specs.Reader.{Answers, Reader, status_of}
-use Rattle.rtps_records.specs.Text.{IsFront}
 use Rattle.rtps_serial.specs.World.{Put, Hears, Sends, World}
 use Rattle.rtps_serial.specs.Run.{run}
 use Rattle.rtps_serial.specs.Seen.{matches_seen}
@@ -47,8 +45,3 @@ replay_text text answers config summary records =
 pub record HasSaid {C M : Type 0} (text : M → List ℕ) (answers : Answers M) (records : List (List ℕ)) (said : List ℕ) (engine : EngineKept C) : Type 0 where
   pub stands : StandsAt answers records engine
   pub lines : said ≡ put_lines text (run answers engine.config records).put
-
-pub said_is_front : {C M : Type 0} (text : M → List ℕ) (answers : Answers M) (summary : Bool) (records : List (List ℕ)) (said : List ℕ) (engine : EngineKept C)
-    → HasSaid text answers records said engine → IsFront said (replay_text text answers engine.config summary records)
-said_is_front text answers summary records said engine h =
-    let rest = if summary then summary_text (run answers engine.config records) else [] in (rest, ap (λ l. l ++ rest) (sym h.lines))

@@ -6,7 +6,7 @@ ghost use Rattle.rtps_records.specs.Text.{text_of};
 ghost use Rattle.rtps_text.specs.EventLines.{lines_of};
 
 use crate::event_lines::EventLines;
-use rtps_records::{EachRecord, RunFault, print_records_in};
+use rtps_records::{RunFault, print_records_in};
 use rtps_types::GuidPrefix;
 use std::alloc::{Allocator, Global};
 use std::io::{Read, Write};
@@ -38,6 +38,5 @@ pub fn dump_in<A: Allocator, R: Read, W: Write>(
     ensures ok { OnOk result (WroteAll (text_of (lines_of own)) (R.remaining reader.old) (W.contents writer.old) (W.contents writer.new) None) }
     ensures fault { IfErr result (λ fault. Stops (text_of (lines_of own)) fault (R.remaining reader.old) (R.remaining reader.new) (W.contents writer.old) (W.contents writer.new)) }
 {
-    let mut printer = EachRecord(EventLines { own, alloc });
-    print_records_in(alloc, &mut printer, reader, writer)
+    print_records_in(alloc, &EventLines { own, alloc }, reader, writer)
 }

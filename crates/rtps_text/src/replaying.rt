@@ -13,7 +13,7 @@ use crate::last_line::LastLine;
 use crate::reports::push_reports;
 use dds_topic::TextCatalog;
 use rtps_discovery::Config;
-use rtps_records::{MAX_LEN, RunFault, flush_all, next_record, put_all, read_magic, spill, zeros};
+use rtps_records::{MAX_LEN, RunFault, next_record, put_last, read_magic, spill, zeros};
 use rtps_serial::{Report, SerialEngine};
 use std::alloc::{AllocError, Allocator, Global};
 use std::io::{Read, Write};
@@ -91,11 +91,7 @@ fn close<C: TextCatalog, A: Allocator, B: Allocator + Copy, W: Write>(
         Ok(()) => {}
         Err(_) => return Err(RunFault::NoMemory),
     }
-    match put_all(writer, text.as_slice()) {
-        Ok(()) => {}
-        Err(fault) => return Err(fault),
-    }
-    match flush_all(writer) {
+    match put_last(writer, text.as_slice()) {
         Ok(()) => Ok(()),
         Err(fault) => Err(fault),
     }

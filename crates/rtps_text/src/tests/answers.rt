@@ -1,6 +1,7 @@
 //! Runs of reliable readers over a record file that was written down by hand.
 
-use super::runs::{config_of, text};
+use super::runs::config_of;
+use super::text;
 use crate::{replay, replay_in};
 use dds_qos::Reliability;
 use dds_topic::Shapes;

@@ -3,7 +3,7 @@
 ghost use Rattle.std.specs.Prelude.{◌≡◌, IfOk, Ok};
 ghost use Rattle.rtps_discovery.specs.Config.{check_of};
 
-use super::Failing;
+use super::{Failing, text};
 use crate::{replay, replay_in};
 use dds_qos::{Reliability, Requested};
 use dds_topic::{Raw, Shapes};
@@ -97,16 +97,6 @@ fn config(alloc: Global) -> Result<Config, Fail>
     ensures { IfOk result (λ config. check_of config ≡ Ok tt) }
 {
     config_of(alloc, Reliability::BestEffort)
-}
-
-/// These lines, each with its end.
-pub(super) fn text(alloc: Global, lines: &[&str]) -> Result<String, Fail> {
-    let mut text = String::new(alloc);
-    for line in lines {
-        text.push_str(line)?;
-        text.push_str("\n")?;
-    }
-    Ok(text)
 }
 
 #[test]
