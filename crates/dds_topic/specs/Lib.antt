@@ -1,5 +1,5 @@
 pub mod Answer
-pub mod ColorText
+pub mod Color
 pub mod Encapsulation
 pub mod RawMeaning
 pub mod ShapeMeaning

@@ -18,7 +18,7 @@ pub struct Color<A: Allocator = Global> {
 impl<A: Allocator> Model for Color<A> {
     ghost use Rattle.std.specs.Prelude.{List, ℕ};
     ghost use Rattle.std.specs.String.{string_bytes};
-    ghost use Rattle.dds_topic.specs.ColorText.{longer_or};
+    ghost use Rattle.dds_topic.specs.Color.{longer_or};
 
     ghost Value = { List ℕ };
 

@@ -176,7 +176,7 @@ impl<A: Allocator + Copy> ReaderState<A> {
         if self.spent {
             return Err(ReaderError::NoMemory);
         }
-        if !is_for(self.entity, event.reader) {
+        if !is_named(self.entity, event.reader) {
             return Ok(());
         }
         let writer = Guid {
@@ -222,7 +222,6 @@ impl<A: Allocator + Copy> ReaderState<A> {
 }
 
 /// Matches to which nothing came yet.
-#[tactic(auto, using(crate::proofs::Seats::all_stand_push))]
 fn seats_for<A: Allocator + Copy>(
     alloc: A,
     own: GuidPrefix,
@@ -252,7 +251,7 @@ fn seats_for<A: Allocator + Copy>(
 }
 
 /// Whether an event that names this reader is for a reader of ours: it names it, or it names none.
-fn is_for(entity: EntityId, reader: EntityId) -> bool
+fn is_named(entity: EntityId, reader: EntityId) -> bool
     ensures { result ≡ names entity reader }
 {
     reader == entity || reader == UNKNOWN
