@@ -4,7 +4,7 @@ ghost use Rattle.std.specs.Prelude.{◌≡◌};
 ghost use Rattle.std.specs.Option.{option_map};
 ghost use Rattle.rtps_wire.specs.Data.{data_of, data_view, form_of, qos_of};
 
-use crate::fields::{get_entity, get_positive};
+use crate::fields::{get_entity, get_positive, get_rest};
 use crate::inline_qos::{InlineQos, read_inline_qos};
 use rtps_types::{Endian, EntityId, KeyHash, get_u16};
 
@@ -64,13 +64,13 @@ pub(crate) fn read_data(flags: u8, endian: Endian, body: &[u8]) -> Option<Data<'
     if offset < LEAST_OFFSET {
         return None;
     }
-    let rest = body.get(4 + offset..)?;
+    let rest = get_rest(body, 4 + offset)?;
     let qos = qos_at(flags, endian, rest)?;
     let form = form_at(flags)?;
     let payload = if flags & (DATA | KEY) == 0 {
         &[]
     } else {
-        rest.get(qos.used..)?
+        get_rest(rest, qos.used)?
     };
     Some(Data {
         reader,

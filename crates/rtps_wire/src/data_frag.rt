@@ -5,7 +5,7 @@ ghost use Rattle.std.specs.Option.{option_map};
 ghost use Rattle.rtps_wire.specs.DataFrag.{data_frag_of, frag_form_of, frag_view};
 
 use crate::data::{Form, qos_at};
-use crate::fields::{get_entity, get_positive};
+use crate::fields::{get_entity, get_positive, get_rest};
 use rtps_types::{Endian, EntityId, KeyHash, get_u16, get_u32};
 
 /// The fields of a DATA_FRAG.
@@ -57,9 +57,9 @@ pub(crate) fn read_data_frag(flags: u8, endian: Endian, body: &[u8]) -> Option<D
     if start == 0 || offset < LEAST_OFFSET {
         return None;
     }
-    let rest = body.get(4 + offset..)?;
+    let rest = get_rest(body, 4 + offset)?;
     let qos = qos_at(flags, endian, rest)?;
-    let payload = rest.get(qos.used..)?;
+    let payload = get_rest(rest, qos.used)?;
     Some(DataFrag {
         reader,
         writer,

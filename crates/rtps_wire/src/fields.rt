@@ -1,7 +1,8 @@
 //! The fields that bodies of several kinds have.
 
 ghost use Rattle.std.specs.Prelude.{◌≡◌, ◌^◌, ◌<◌, ◌≤◌, IfSome};
-ghost use Rattle.rtps_wire.specs.Fields.{count_at, endian_of, entity_at, natural_at, positive_at, prefix_at};
+ghost use Rattle.std.specs.Option.{option_map};
+ghost use Rattle.rtps_wire.specs.Fields.{count_at, endian_of, entity_at, from, natural_at, positive_at, prefix_at};
 
 use rtps_types::{Endian, EntityId, GuidPrefix, get_octets, get_sn, get_u32};
 
@@ -17,6 +18,13 @@ pub(crate) fn endian_at(flags: u8) -> Endian
     } else {
         Endian::Big
     }
+}
+
+/// The octets from `at` on, which may be the end.
+pub(crate) fn get_rest(octets: &[u8], at: usize) -> Option<&[u8]>
+    ensures { option_map (λ rest. rest.now) result ≡ from octets.now at }
+{
+    octets.get(at..)
 }
 
 pub(crate) fn get_entity(octets: &[u8], at: usize) -> Option<EntityId>

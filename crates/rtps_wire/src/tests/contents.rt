@@ -5,25 +5,26 @@ use crate::*;
 use rtps_types::KeyHash;
 use std::test::Fail;
 
+/// A count of bits, how many words of ones stand behind it, and where that is a set from the base 5
+/// on, its last member, if it has one.
+const SETS: [(u32, u8, Option<Option<u64>>); 12] = [
+    (0, 0, Some(None)),
+    (0, 1, Some(None)),
+    (1, 1, Some(Some(5))),
+    (1, 0, None),
+    (32, 1, Some(Some(36))),
+    (32, 0, None),
+    (33, 2, Some(Some(37))),
+    (33, 1, None),
+    (256, 8, Some(Some(260))),
+    (256, 7, None),
+    (257, 9, None),
+    (0xffff_ffff, 8, None),
+];
+
 #[test]
 fn sets_have_their_words_and_at_most_256_bits(rt: HostRuntime) -> Result<(), Fail> {
-    // a count of bits, how many words of ones stand behind it, and where that is a set from the
-    // base 5 on, its last member, if it has one
-    let table = [
-        (0u32, 0, Some(None)),
-        (0, 1, Some(None)),
-        (1, 1, Some(Some(5))),
-        (1, 0, None),
-        (32, 1, Some(Some(36))),
-        (32, 0, None),
-        (33, 2, Some(Some(37))),
-        (33, 1, None),
-        (256, 8, Some(Some(260))),
-        (256, 7, None),
-        (257, 9, None),
-        (0xffff_ffff, 8, None),
-    ];
-    for (bits, words, last) in table {
+    for (bits, words, last) in SETS {
         let front = b"\x08\x01\x00\x00\
             \x00\x00\x01\x07\x00\x00\x01\x02\
             \x00\x00\x00\x00\x04\x00\x00\x00\

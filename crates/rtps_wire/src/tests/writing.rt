@@ -112,9 +112,7 @@ fn an_acknack_names_what_is_missing(rt: HostRuntime) -> Result<(), Fail> {
             count,
         };
         let octets = write_acknack(rt.alloc(), answer)?;
-        let mut expected: Vec<u8> = Vec::from_slice(rt.alloc(), FRONT)?;
-        expected.extend_from_slice(submessage)?;
-        assert_eq!(rt; octets.as_slice(), expected.as_slice());
+        assert_eq!(rt; octets.as_slice().strip_prefix(FRONT), Some(submessage));
     }
     Ok(())
 }
@@ -185,9 +183,7 @@ fn a_nack_frag_names_fragments_that_are_missing(rt: HostRuntime) -> Result<(), F
             count,
         };
         let octets = write_nack_frag(rt.alloc(), answer)?;
-        let mut expected: Vec<u8> = Vec::from_slice(rt.alloc(), FRONT)?;
-        expected.extend_from_slice(submessage)?;
-        assert_eq!(rt; octets.as_slice(), expected.as_slice());
+        assert_eq!(rt; octets.as_slice().strip_prefix(FRONT), Some(submessage));
     }
     Ok(())
 }
