@@ -144,3 +144,8 @@ fn has_ready<A: Allocator>(effects: &Effects<'_, A>, numbers: &[u64]) -> bool {
             .zip(numbers.iter())
             .all(|(change, number)| change.number.get() == *number)
 }
+
+/// The same of effects that are looked at no further.
+fn gives<A: Allocator>(effects: Effects<'_, A>, numbers: &[u64]) -> bool {
+    has_ready(&effects, numbers)
+}

@@ -1,10 +1,11 @@
 -- States by rank, one after the other.
-use Rattle.std.proofs.Common.{◌≡◌, Bool, false, ℕ, suc, ◌+◌, ◌<◌, ◌≤◌, List, [], ◌∷◌, ◌++◌, length, map, get_or, set, refl, sym, ap, ◌∙◌, subst, arith, below_more, length-append, get_or-set_same, get_or-set_other}
-use Rattle.std.proofs.lemmas.List.{get_or-map, get_or_append_left}
+use Rattle.std.proofs.Common.{◌≡◌, Bool, false, true, ℕ, suc, ◌+◌, ◌<◌, ◌≤◌, List, [], ◌∷◌, ◌++◌, if◌then◌else◌, length, map, get_or, set, refl, sym, ap, ◌∙◌, subst, append_assoc, arith, below_more, length-append, get_or-set_same, get_or-set_other}
+use Rattle.std.proofs.lemmas.List.{get_or-map, get_or_append_left, map_push}
 use Rattle.std.proofs.Math.Seq.{get_or-append_seam}
 use Rattle.rtps_types.specs.declared.identity.EntityId.{EntityId}
 use Rattle.rtps_types.specs.declared.identity.Guid.{Guid}
 use Rattle.rtps_discovery.specs.Addressed.{unknown_entity}
+use Rattle.rtps_discovery.specs.declared.config.FixedMatch.{FixedMatch}
 use Rattle.rtps_discovery.specs.declared.config.ReaderConfig.{ReaderConfig}
 use Rattle.rtps_reader.specs.Reader.{Match, Reader, first_reader}
 use Rattle.rtps_reader.specs.Standing as reader
@@ -17,14 +18,33 @@ use Rattle.rtps_types.specs.declared.traffic.WriterFacts.{WriterFacts}
 use Rattle.rtps_proxy.specs.Kept.{Whom}
 use Rattle.rtps_serial.specs.Standing.{AllStand, StandsFor, facts_in}
 
+-- one item more, where each item is as its place asks
+pub each_push : {X : Type 0} (P : ℕ → X → Type 0) (xs : List X) (x : X) (n : ℕ) → length xs ≡ n → ((k : ℕ) (other : X) → k < n → P k (get_or xs k other)) → P n x
+    → (k : ℕ) (other : X) → k < n + 1 → P k (get_or (xs ++ x ∷ []) k other)
+each_push P xs x n e all one k other below =
+    below_more (λ k. P k (get_or (xs ++ x ∷ []) k other)) n
+    (λ k less. subst (P k) (sym (get_or_append_left xs (x ∷ []) other k (omega (arith, less, e)))) (all k other less))
+    (subst (P n) (sym (get_or-append_seam xs x [] other) ∙ ap (λ k. get_or (xs ++ x ∷ []) k other) e) one)
+    k below
+
 -- one state more
 pub all_stand_push : (readers : ℕ → Reader) (states : List ReaderKept) (s : ReaderKept) (n : ℕ) → length states ≡ n → AllStand readers states → StandsFor (readers n) n s → AllStand readers (states ++ s ∷ [])
 all_stand_push readers states s n e all one rank other below =
-    let fits : rank < n + 1 = omega (arith, below, length-append states (s ∷ []), e) in
-    below_more (λ k. StandsFor (readers k) k (get_or (states ++ s ∷ []) k other)) n
-    (λ k less. subst (StandsFor (readers k) k) (sym (get_or_append_left states (s ∷ []) other k (omega (arith, less, e)))) (all k other (omega (arith, less, e))))
-    (subst (StandsFor (readers n) n) (sym (get_or-append_seam states s [] other) ∙ ap (λ k. get_or (states ++ s ∷ []) k other) e) one)
-    rank fits
+    each_push (λ k t. StandsFor (readers k) k t) states s n e (λ k other less. all k other (omega (arith, less, e))) one rank other (omega (arith, below, length-append states (s ∷ []), e))
+
+-- a count that is at the end of a loop, and what is below it
+pub is_end : (at n : ℕ) → at ≤ n → n ≤ at → at ≡ n
+is_end at n within past = omega arith
+
+pub below_end : (rank at n m : ℕ) → n ≡ m → m ≤ at → rank < n → rank < at
+below_end rank at n m same past below = omega arith
+
+pub still_below : (at n m : ℕ) → n ≡ m → at < m → at < n
+still_below at n m same below = omega arith
+
+-- one part more is put behind what was there
+pub put_more : {P : Type 0} (old reports new before one all : List P) → new ≡ reports ++ one → reports ≡ old ++ before → before ++ one ≡ all → new ≡ old ++ all
+put_more old reports new before one all put first rest = put ∙ ap (λ l. l ++ one) first ∙ append_assoc old before one ∙ ap (λ l. old ++ l) rest
 
 -- the states below a place stand, and so does the one that is put there
 pub done_more : (readers : ℕ → Reader) (states : List ReaderKept) (at : ℕ) (s : ReaderKept) → at < length states
@@ -53,6 +73,15 @@ same_writers (m ∷ ms) (s ∷ ss) all = ap (λ (w : Guid). w ∷ map (λ (s : S
 pub whoms_in : {A : Type 0} (own : GuidPrefix) (entity : EntityId) (b : Bool) (facts : List (WriterFacts A)) → map (whom_of own entity b) (map facts_in facts) ≡ map (reader.whom_for own entity b) facts
 whoms_in own entity b [] = refl
 whoms_in own entity b (f ∷ facts) = ap (λ (l : List Whom). whom_of own entity b (facts_in f) ∷ l) (whoms_in own entity b facts)
+
+-- one fixed match more that is dealt out, where the test says that it is of the rank
+pub fixed_more : {A : Type 0} (b : Bool) (m : FixedMatch) (left : List FixedMatch) (facts : WriterFacts A) (old new : List (WriterFacts A))
+    → facts_in facts ≡ (m.writer, m.locators) → new ≡ (if b then old ++ facts ∷ [] else old)
+    → map facts_in new ++ map (λ (m : FixedMatch). (m.writer, m.locators)) left ≡ map facts_in old ++ map (λ (m : FixedMatch). (m.writer, m.locators)) (if b then m ∷ left else left)
+fixed_more true m left facts old new same pushed =
+    let rest : List Facts = map (λ (m : FixedMatch). (m.writer, m.locators)) left in
+    ap (λ l. map facts_in l ++ rest) pushed ∙ ap (λ l. l ++ rest) (map_push facts_in old facts) ∙ append_assoc (map facts_in old) (facts_in facts ∷ []) rest ∙ ap (λ (f : Facts). map facts_in old ++ f ∷ rest) same
+fixed_more false m left facts old new same pushed = ap (λ l. map facts_in l ++ map (λ (m : FixedMatch). (m.writer, m.locators)) left) pushed
 
 -- one reader more at the start
 pub first_more : (own : GuidPrefix) (readers : List ReaderConfig) (matched : ℕ → List Facts) (states : List ReaderKept) (s : ReaderKept) (n : ℕ) (config : ReaderConfig) (facts : List Facts)

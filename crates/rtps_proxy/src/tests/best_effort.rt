@@ -10,8 +10,12 @@ use std::test::Fail;
 
 /// What a change of this number gives: how many are lost, and how many are ready.
 fn taken(alloc: Global, proxy: &mut WriterProxy, value: u64) -> Result<(u64, usize), Fail> {
-    let effects = on_whole(alloc, proxy, value)?;
-    Ok((effects.lost, effects.ready.len()))
+    Ok(counts(on_whole(alloc, proxy, value)?))
+}
+
+/// How many numbers are lost, and how many changes are ready.
+fn counts(effects: Effects<'_>) -> (u64, usize) {
+    (effects.lost, effects.ready.len())
 }
 
 #[test]
@@ -91,15 +95,15 @@ fn fragments_give_nothing(rt: HostRuntime) -> Result<(), Fail> {
         hash: None,
         payload: &PAYLOAD,
     };
-    let effects = proxy.on_fragment(rt.alloc(), None, &fragment)?;
-    assert_eq!(rt; (effects.lost, effects.ready.len()), (0, 0));
+    let given = counts(proxy.on_fragment(rt.alloc(), None, &fragment)?);
+    assert_eq!(rt; given, (0, 0));
     let heartbeat = HeartbeatFrag {
         number: number_of(2)?,
         last: 1,
         count: 1,
     };
-    let effects = proxy.on_heartbeat_frag(rt.alloc(), None, &heartbeat)?;
-    assert_eq!(rt; (effects.lost, effects.ready.len()), (0, 0));
+    let given = counts(proxy.on_heartbeat_frag(rt.alloc(), None, &heartbeat)?);
+    assert_eq!(rt; given, (0, 0));
     // They count as not come.
     assert_eq!(rt; taken(rt.alloc(), &mut proxy, 1)?, (0, 1));
     Ok(())

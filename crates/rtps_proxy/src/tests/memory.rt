@@ -1,6 +1,6 @@
 //! Refused growths.
 
-use super::{announcing, gap_of, has_ready, new_proxy, whole_of};
+use super::{announcing, gap_of, gives, new_proxy, whole_of};
 use crate::*;
 use linked_list_allocator::LocalHeap;
 use std::alloc::Allocator;
@@ -14,21 +14,24 @@ fn serves<A: Allocator + Copy>(alloc: A, proxy: &mut WriterProxy<A>) -> Result<b
     let Ok(waits) = proxy.on_whole(alloc, None, &later) else {
         return Ok(false);
     };
+    let waits = gives(waits, &[]);
     let Ok(passes) = proxy.on_gap(alloc, None, &gap_of(5, 6)?) else {
         return Ok(false);
     };
+    let passes = gives(passes, &[]);
     let Ok(answers) = proxy.on_heartbeat(alloc, None, &asking) else {
         return Ok(false);
     };
+    let answers = speaks(answers);
     let Ok(releases) = proxy.on_gap(alloc, None, &gap_of(1, 3)?) else {
         return Ok(false);
     };
-    Ok(
-        has_ready(&waits, &[])
-            && has_ready(&passes, &[])
-            && answers.answer.is_some()
-            && has_ready(&releases, &[3]),
-    )
+    Ok(waits && passes && answers && gives(releases, &[3]))
+}
+
+/// Whether something is said.
+fn speaks<A: Allocator>(effects: Effects<'_, A>) -> bool {
+    effects.answer.is_some()
 }
 
 #[test]

@@ -1,6 +1,6 @@
 //! Runs of settled numbers.
 
-use super::{MAX, has_ready, new_proxy, on_gap, on_whole};
+use super::{MAX, gives, has_ready, new_proxy, on_gap, on_whole};
 use crate::*;
 use rtps_receiver::{Body, events};
 use rtps_types::{GuidPrefix, Number};
@@ -43,7 +43,7 @@ fn a_gap_joins_all_that_it_touches(rt: HostRuntime) -> Result<(), Fail> {
     let _ = on_gap(rt.alloc(), &mut proxy, 6, 12)?;
     assert!(rt; has_runs(proxy.runs(), &[(2, 2), (5, 11), (20, 20)]));
     let all = on_gap(rt.alloc(), &mut proxy, 1, MAX)?;
-    assert!(rt; has_ready(&all, &[2, 5, 9, 20]));
+    assert!(rt; gives(all, &[2, 5, 9, 20]));
     assert!(rt; has_runs(proxy.runs(), &[]));
     Ok(())
 }
