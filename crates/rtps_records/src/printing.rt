@@ -57,7 +57,7 @@ pub fn zeros<A: Allocator>(alloc: A, count: usize) -> Result<Vec<u8, A>, AllocEr
     vec![in alloc; 0u8; count]
 }
 
-/// Does so with a buffer for one record and with room for text.
+/// Prints the records of a file, with a buffer for one of them and with room for text.
 fn run<A: Allocator, T: RecordText, R: Read, W: Write>(
     lines: &T,
     reader: &mut R,
