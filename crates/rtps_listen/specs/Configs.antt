@@ -126,7 +126,5 @@ IsCause options _ = ⊥
 
 -- what is wrong where `replay` ends with this fault: with its options, or with its run
 abbrev pub IsReplayCause : Options → ListenFault → Type 0
-IsReplayCause options BadPrefix = ¬ IsPrefixText options.own.now
-IsReplayCause options BadWriter = ¬ IsFixedText options.fixed ⊎ IsUnmatched options
 IsReplayCause options (Run fault) = Unit {0}
-IsReplayCause options _ = ⊥
+IsReplayCause options fault = IsCause options fault

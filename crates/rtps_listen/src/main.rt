@@ -108,7 +108,7 @@ fn answer_dump(rt: &HostRuntime, file: &str, own: &str) -> Result<(), ListenFaul
     };
     match dump_file(rt, own, file) {
         Ok(()) => Ok(()),
-        Err(fault) => Err(ListenFault::Run(fault)),
+        Err(run_fault) => Err(ListenFault::Run(run_fault)),
     }
 }
 
