@@ -1,0 +1,1 @@
+"""What ./check and ./run are made of: proofs, tests, edits and programs of the crates, over the work of earlier runs."""

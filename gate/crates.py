@@ -1,0 +1,81 @@
+"""The crates that crates.txt names, and sums of what they hold."""
+
+import hashlib
+import subprocess
+from dataclasses import dataclass
+from pathlib import Path
+
+TOP = Path(__file__).resolve().parent.parent
+PARTS = ("src", "specs", "proofs")
+
+
+@dataclass(frozen=True)
+class Crate:
+    name: str
+    folder: Path
+    line: str
+    """Its line of crates.txt."""
+    below: tuple
+    """The crates of the repository that it stands on, lowest first."""
+
+    @property
+    def out(self):
+        """Where rt keeps its work."""
+        return self.folder / "out"
+
+    @property
+    def is_program(self):
+        return (self.folder / "src" / "main.rt").is_file()
+
+    def files(self, *parts):
+        """Its files in these folders, in order."""
+        found = (path for part in parts or PARTS for path in (self.folder / part).rglob("*"))
+        return sorted(path for path in found if path.is_file())
+
+    def has_tests(self):
+        return any("#[test]" in path.read_text(encoding="utf-8") for path in self.files("src"))
+
+    def lines(self):
+        """How many lines it has, as a measure of the work of proving it."""
+        return sum(path.read_bytes().count(b"\n") for path in self.files())
+
+
+def crates_in(top):
+    """The crates of a repository, lowest first."""
+    lines = {}
+    for line in (top / "crates.txt").read_text(encoding="utf-8").splitlines():
+        line = line.partition("#")[0].strip()
+        if line:
+            lines[line.partition(":")[0].split()[0]] = line
+    made = {}
+
+    def make(name):
+        if name not in made:
+            uses = [use for use in lines[name].partition(":")[2].split() if use in lines]
+            each = [crate for use in uses for crate in (*make(use).below, make(use))]
+            made[name] = Crate(name, top / "crates" / name, lines[name], tuple(dict.fromkeys(each)))
+        return made[name]
+
+    return sorted(map(make, lines), key=lambda crate: len(crate.below))
+
+
+def sum_of(files, top):
+    """One sum of the names and the contents of files below a folder."""
+    total = hashlib.sha256()
+    for path in files:
+        each = hashlib.sha256(path.read_bytes()).hexdigest()
+        total.update(f"{path.relative_to(top)}\0{each}\n".encode())
+    return total.hexdigest()
+
+
+def proof_sum(crate, toolchain):
+    """A sum of all that the proof of a crate hangs on: its files, the crates below it, the toolchain."""
+    total = hashlib.sha256(toolchain.encode())
+    for each in (*crate.below, crate):
+        total.update(f"{each.line}\n{sum_of(each.files(), each.folder)}\n".encode())
+    return total.hexdigest()
+
+
+def toolchain_line():
+    """What the toolchain says of itself."""
+    return subprocess.run(["rt", "version"], stdout=subprocess.PIPE, text=True, check=True).stdout.strip()

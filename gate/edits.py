@@ -1,0 +1,244 @@
+"""Must-fail edits: wrong bodies that the checker has to refuse.
+
+Edits of different functions are tried in one check of a copy of the crate, which looks at the modules of these
+functions and at what they call. There an edit counts as refused only where the checker says of the very function that
+holds it that a goal of its own is not proved. Edits whose functions wait for others that were edited are tried again,
+without those that were refused. What leaves a doubt is tried alone, by a check of the whole crate: an edit outside a
+function's body, one in several functions, and one that was not refused among others. An edit of a function that
+another's proof names is never among others.
+"""
+
+import re
+from dataclasses import dataclass
+
+MOST_AT_ONCE = 10
+FUNCTION = re.compile(r"( *)(?:pub(?:\([a-z]+\))? )?(?:const )?fn (\w+)")
+PROOF_NAMES = re.compile(r"has no field|is not in scope|has no `|was not admitted|was rejected")
+
+
+@dataclass(frozen=True)
+class Function:
+    """A function of a crate's source."""
+
+    file: str
+    owner: str
+    """The type of the impl block that it is in, if it is in one."""
+    of_trait: bool
+    """Whether that block is a trait's."""
+    name: str
+    first: int
+    """The first line after the brace that opens its body, from 0."""
+    last: int
+    """The line of the brace that closes it."""
+
+    def modules(self):
+        """The modules that it is in, from the crate on."""
+        inside = self.file.removeprefix("src/").removesuffix(".rt").split("/")
+        return [] if inside in (["lib"], ["main"]) else inside
+
+    def asked(self, crate):
+        """What a check is asked to look at: itself, or its module where it is a trait's, whose name the path would need."""
+        own = [] if self.of_trait else [*filter(None, [self.owner]), self.name]
+        return "::".join([crate, *self.modules(), *own])
+
+    def path(self, crate):
+        """What the checker calls it, as a pattern: after the type comes the trait's name, where there is one."""
+        owner = [rf"{self.owner}\w*"] if self.owner else []
+        return "::".join([crate, *self.modules(), *owner, self.name])
+
+    def folder(self):
+        """Where the proof of it is, as a pattern."""
+        owner = [rf"{self.owner}\w*"] if self.owner else []
+        return "/".join(["proofs", *self.modules(), *owner, self.name])
+
+
+@dataclass
+class Edit:
+    name: str
+    pairs: list
+    """File, old text and new text of each change."""
+    function: Function = None
+    """The function whose body holds all changes, if one does."""
+
+
+class BadEdit(Exception):
+    """An edit that can't be applied."""
+
+
+def read_edit(path):
+    """Reads an edit: lines `file:`, and pairs of lines `old:` and `new:`."""
+    file, old, pairs = None, None, []
+    for line in path.read_text(encoding="utf-8").split("\n"):
+        if line.startswith("file: "):
+            file = line[6:].strip()
+            if not re.fullmatch(r"(src|specs|proofs)(/\w+)+\.(rt|antt)", file):
+                raise BadEdit(f"it changes no file of src, specs or proofs: {file}")
+        elif line.startswith("old: "):
+            old = line[5:]
+        elif line.startswith("new:"):
+            if not file or not old:
+                raise BadEdit("a new text has no file or no old text before it")
+            pairs.append((file, old, line[4:].removeprefix(" ")))
+            old = None
+    if not pairs:
+        raise BadEdit("it has no old and new text")
+    return Edit(path.stem, pairs)
+
+
+def apply(edit, texts, folder):
+    """Makes an edit's changes to the texts of files, which are read from a folder where they aren't there yet."""
+    for file, old, new in edit.pairs:
+        if file not in texts:
+            if not (folder / file).is_file():
+                raise BadEdit(f"there is no file {file}")
+            texts[file] = (folder / file).read_text(encoding="utf-8")
+        found = texts[file].count(old)
+        if found != 1:
+            raise BadEdit(f"an old text is in {file} {found} times, and not once")
+        texts[file] = texts[file].replace(old, new)
+
+
+def functions_of(file, text):
+    """The functions of a source file that have a body of their own lines, as its layout shows them."""
+    lines, found, owner, of_trait = text.split("\n"), [], "", False
+    for at, line in enumerate(lines):
+        block = re.match(r"impl\b(?:<.*?>+)? *(.* for )?(?:\w+::)*(\w+)", line)
+        owner = block[2] if block else "" if line == "}" else owner
+        of_trait = bool(block[1]) if block else of_trait
+        head = FUNCTION.match(line)
+        if not head:
+            continue
+        indent = head[1]
+        for first in range(at, len(lines)):
+            opens = lines[first] == f"{indent}{{"
+            if first == at or lines[first].startswith(f"{indent})"):
+                opens = opens or lines[first].endswith(" {")
+            if opens or lines[first].startswith(f"{indent}}}") or lines[first].endswith("{}"):
+                break
+        if opens:
+            last = next((end for end in range(first, len(lines)) if lines[end] == f"{indent}}}"), first)
+            found.append(Function(file, owner if indent else "", bool(indent) and of_trait, head[2], first + 1, last))
+    return found
+
+
+def function_of(edit, folder):
+    """The function whose body holds all of an edit's changes, if there is one."""
+    found = set()
+    for file, old, _ in edit.pairs:
+        if not file.startswith("src/"):
+            return None
+        text = (folder / file).read_text(encoding="utf-8")
+        line = text[: text.find(old)].count("\n")
+        holds = [each for each in functions_of(file, text) if each.first <= line < each.last]
+        found.add(holds[-1] if holds else None)
+    return found.pop() if len(found) == 1 else None
+
+
+def is_named_elsewhere(function, folder):
+    """Whether a proof outside a function's own names it."""
+    own = re.compile(function.folder() + "/")
+    word = re.compile(rf"\b{function.folder().replace('/', '[.]')}\b")
+    proofs = ((path.relative_to(folder).as_posix(), path) for path in (folder / "proofs").rglob("*.antt"))
+    return any(not own.match(name) and word.search(path.read_text(encoding="utf-8")) for name, path in proofs)
+
+
+def reach_of(folder):
+    """By function of a crate, the functions that its body reaches, as far as the text of its calls tells: a name before
+    a parenthesis is a free function, a name after a dot or a type's name is a method of that name."""
+    bodies = {}
+    for path in sorted((folder / "src").rglob("*.rt")):
+        text = path.read_text(encoding="utf-8")
+        lines = text.split("\n")
+        for function in functions_of(path.relative_to(folder).as_posix(), text):
+            bodies[function] = "\n".join(lines[function.first : function.last])
+    free = {function.name for function in bodies if not function.owner}
+    methods = {function.name for function in bodies if function.owner}
+    reach = {}
+    for function, body in bodies.items():
+        calls = re.findall(r"(\.|\w+::)?\b(\w+)(?:::<[^()]*>)?\(", body)
+        named = {(name, False) for before, name in calls if before != "." and name in free}
+        named |= {(name, True) for before, name in calls if before and name in methods}
+        reach[function] = {other for other in bodies if (other.name, bool(other.owner)) in named}
+    grows = True
+    while grows:
+        grows = False
+        for found in reach.values():
+            more = set().union(*(reach[other] for other in found)) - found
+            found |= more
+            grows = grows or bool(more)
+    return reach
+
+
+def groups_of(edits, folder):
+    """Edits in groups to be tried in one check each, and those that are tried alone by a check of the whole crate. No
+    function of a group reaches another one, so that none waits for another."""
+    own, groups, whole, reach = [], [], [], reach_of(folder)
+    for edit in edits:
+        edit.function = function_of(edit, folder)
+        if edit.function is None:
+            whole.append(edit)
+        elif is_named_elsewhere(edit.function, folder):
+            own.append([edit])
+        else:
+            group = next((group for group in groups if is_apart(edit, group, reach)), None)
+            if group is None:
+                groups.append([edit])
+            else:
+                group.append(edit)
+    return groups + own, whole
+
+
+def is_apart(edit, group, reach):
+    """Whether there is room for an edit in a group, and its function and those of the group don't reach each other."""
+    this, others = edit.function, [other.function for other in group]
+    meets = (this == other or this in reach[other] or other in reach[this] for other in others)
+    return len(group) < MOST_AT_ONCE and not any(meets)
+
+
+def said_in_group(edit, crate, lines):
+    """What the checker says of an edit among others: `refused` where a goal of the edited function's own is not proved,
+    whatever others do; `waits` where the function waits for another; else `doubt`."""
+    pattern = re.compile(rf"fn {edit.function.path(crate)}: (.*)")
+    said = [found[1] for found in map(pattern.fullmatch, lines) if found]
+    if len(said) != 1 or not said[0].startswith(("no proof", "not proved")):
+        return "doubt"
+    if re.search(r"which (is|are) not proved|rests on|waits for", said[0]):
+        return "waits"
+    proof = re.compile(rf"(\./)?{edit.function.folder()}/\w+\.antt:\d+:\d+: error: (.*)")
+    faults = [found[2] for found in map(proof.match, lines) if found]
+    is_own = "did not prove" in said[0] or any(not PROOF_NAMES.search(fault) for fault in faults)
+    return "refused" if is_own else "doubt"
+
+
+def after_group(group, crate, lines):
+    """Of edits that were tried in one check, those that are refused, those to be tried again together, and those to be
+    tried alone."""
+    said = {edit.name: said_in_group(edit, crate, lines) for edit in group}
+    refused, waits, doubts = ([edit for edit in group if said[edit.name] == word] for word in ("refused", "waits", "doubt"))
+    return (refused, waits, doubts) if refused else (refused, [], waits + doubts)
+
+
+def unreadable(edit, lines):
+    """The first line that says that the edited text can't be read, where no contract was tried, if there is one."""
+    changed = {file for file, _, _ in edit.pairs}
+    for line in lines:
+        found = re.match(r"(?:\./)?(\S+?):\d+:\d+: error(\[\S+\])?: (?:(`[^`]*`): )?(.*)", line)
+        if not found or not (found[1] in changed or found[1].startswith(("src/", "specs/"))):
+            continue
+        said = re.sub(r"`[^`]*`", "", found[4])
+        cannot = r"is not in scope|has no field|is no name|operand is missing|expected the end|cannot continue"
+        if found[2] or not found[3] or re.search(cannot, said):
+            return line
+    return None
+
+
+def judge_alone(edit, status, lines):
+    """Whether the checker refuses a crate with this edit alone, and what to say of it."""
+    fault = unreadable(edit, lines)
+    if fault:
+        return False, f"BAD EDIT: the edited text can't be read, so no contract was tried: {fault[:200]}"
+    if status == 1 and "logic=not-proved" in lines:
+        return True, "refused"
+    if status == 0:
+        return False, "NOT REFUSED: the crate is still proved with this edit"
+    return False, f"BAD EDIT: the check ended with status {status} and judged nothing"

@@ -1,0 +1,93 @@
+"""Copies of a crate and of what is below it, in which one rt works while others work elsewhere.
+
+An rt holds the folders of its crate and of all crates below it, so two of them share no copy. The crates below need
+only their built library there.
+"""
+
+import fcntl
+import shutil
+import subprocess
+import threading
+from collections import defaultdict
+from contextlib import contextmanager
+from pathlib import Path
+
+from gate.crates import PARTS, Crate
+from gate.kept import link_tree
+
+BESIDE = ("data", "stdin", "stdout", "args", "status")
+
+
+@contextmanager
+def only_run(top):
+    """Waits until no other run works in a repository, and gives the folder for its rooms: in the folder of git, which
+    no other command reads for sources."""
+    words = ["git", "rev-parse", "--absolute-git-dir"]
+    found = subprocess.run(words, cwd=top, stdout=subprocess.PIPE, stderr=subprocess.DEVNULL, text=True, check=False)
+    folder = Path(found.stdout.strip()) if found.returncode == 0 else top / "target"
+    folder.mkdir(exist_ok=True)
+    with open(folder / "check.lock", "w", encoding="utf-8") as lock:
+        fcntl.flock(lock, fcntl.LOCK_EX)
+        try:
+            yield folder / "check-rooms"
+        finally:
+            shutil.rmtree(folder / "check-rooms", ignore_errors=True)
+
+
+class Rooms:
+    def __init__(self, folder):
+        self.folder = folder
+        self.count = 0
+        self.locks = defaultdict(threading.Lock)
+        shutil.rmtree(folder, ignore_errors=True)
+
+    @contextmanager
+    def of(self, crates):
+        """A repository of these crates alone, each with its library, the last one, lowest first, with all its work."""
+        with self.locks[""]:
+            self.count += 1
+            at = self.folder / str(self.count)
+        try:
+            for each in crates:
+                is_last = each is crates[-1]
+                copied(each, at / "crates" / each.name, PARTS + BESIDE * is_last)
+                for part in ("rlib", "incremental") if is_last else ("rlib",):
+                    with self.locks[each.name]:
+                        if (each.out / part).is_dir():
+                            link_tree(each.out / part, at / "crates" / each.name / "out" / part)
+            (at / "crates.txt").write_text("".join(f"{each.line}\n" for each in crates), encoding="utf-8")
+            yield at
+        finally:
+            shutil.rmtree(at, ignore_errors=True)
+
+    @contextmanager
+    def room(self, crate, texts=None):
+        """A copy of a crate with the work that it has so far, some of its files with texts of their own."""
+        with self.of((*crate.below, crate)) as at:
+            inside = Crate(crate.name, at / "crates" / crate.name, crate.line, crate.below)
+            for path, text in (texts or {}).items():
+                (inside.folder / path).write_text(text, encoding="utf-8")
+            yield inside
+
+    def adopt(self, crate, inside):
+        """Gives a crate the work that was done in a room."""
+        with self.locks[crate.name]:
+            crate.out.mkdir(exist_ok=True)
+            for part in ("rlib", "incremental"):
+                if (inside.out / part).is_dir():
+                    shutil.rmtree(crate.out / part, ignore_errors=True)
+                    (inside.out / part).rename(crate.out / part)
+            if (inside.out / crate.name).is_file():
+                for path in (inside.out / crate.name, inside.out / f"{crate.name}.stamp"):
+                    if path.is_file():
+                        path.replace(crate.out / path.name)
+
+
+def copied(crate, to, parts):
+    """Copies these files and folders of a crate."""
+    to.mkdir(parents=True)
+    for part in parts:
+        if (crate.folder / part).is_dir():
+            shutil.copytree(crate.folder / part, to / part)
+        elif (crate.folder / part).is_file():
+            shutil.copyfile(crate.folder / part, to / part)
