@@ -1,5 +1,5 @@
 -- What a proxy keeps of a history, and what it gives at an event.
-use Rattle.std.specs.Prelude.{◌≡◌, ℕ, ◌%◌, ◌^◌, Bool, true, false, List, map, Option, Some, None, if◌then◌else◌, is_some, ℤ, int_lt}
+use Rattle.std.specs.Prelude.{◌≡◌, ℕ, ◌%◌, ◌^◌, Bool, true, false, List, ◌∷◌, map, Result, IfOk, IsErr, OnErr, OnOk, Option, Some, None, if◌then◌else◌, is_some, ℤ, int_lt}
 use Rattle.std.specs.Option.{option_map}
 use Rattle.rtps_types.specs.Number.{value_of}
 use Rattle.rtps_types.specs.declared.time.Timestamp.{Timestamp}
@@ -73,3 +73,13 @@ pub record AreEffects {A : Type 0} (whom : Whom) (past : List Came) (event : Cam
   pub lost : effects.lost ≡ lost_of whom.reliable past event
   pub ready : map change_view effects.ready.items ≡ ready_of whom.reliable past event
   pub answer : option_map reply_view effects.answer ≡ answer_of whom past event
+
+-- How an event is taken in: what is kept then follows from it too, and it gives what it must; a refused growth leaves the proxy
+-- spent. One that is spent refuses each event, and nothing changes.
+pub record TakesIn {A E : Type 0} (old new : Kept) (event : Came) (result : Result (Effects A) E) : Type 0 where
+  pub stands : (past : List Came) → StandsAt past old → OnOk result (StandsAt (event ∷ past) new)
+  pub effects : (past : List Came) → StandsAt past old → IfOk result (AreEffects old.whom past event)
+  pub whom : new.whom ≡ old.whom
+  pub err : OnErr result (new.spent ≡ true)
+  pub spent : old.spent ≡ true → IsErr result
+  pub still : old.spent ≡ true → new ≡ old

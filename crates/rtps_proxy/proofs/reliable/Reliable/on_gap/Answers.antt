@@ -11,9 +11,9 @@ pub returns : goal.returns
 returns g c = λ whom past time at.
     let event : Came = came time (body.Gap c.args.gap.now) in
     let old = c.args.self.now.settled in
-    let new = c.give_up.new.settled in
+    let new = c.add_named.new.self in
     let before : Shows past old.frontier old.runs = record { settled = at.settled; apart = apart_from old.frontier old.runs old.apart } in
-    let after = names_shows past event old.frontier new.frontier old.runs new.runs before refl refl c.in_ok-give_up.ensures (apart_from new.frontier new.runs new.apart) in
+    let after = names_shows past event old.frontier new.frontier old.runs new.runs before refl refl c.in_ok-add_named.ensures (apart_from new.frontier new.runs new.apart) in
     let none_first : map change_view c.new-ready.result.items ++ front_below new.frontier (map held_view c.args.self.now.held.items) ≡ front_below new.frontier (map held_view c.args.self.now.held.items) = rw c.new-ready.ensures.items refl in
     record {
       stands = record {

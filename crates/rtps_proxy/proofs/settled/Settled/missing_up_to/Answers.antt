@@ -3,12 +3,12 @@ use Rattle.std.specs.List.{AllByRecursion, list_any}
 use Rattle.rtps_proxy.specs.Runs.{AreApart, EndBelow, end_of, marks, within}
 use Rattle.rtps_proxy.proofs.Apart.{apart_from, contains_is, end_more, reach_first}
 use Rattle.rtps_proxy.proofs.Naming.{walked_from, walked_on, walked_past}
-use Rattle.rtps_proxy.proofs.window.missing_up_to.Goals as goal
-use Rattle.rtps_proxy.proofs.window.missing_up_to.Goals.{then-not-is_begun, else-not-is_begun}
+use Rattle.rtps_proxy.proofs.settled.Settled.missing_up_to.Goals as goal
+use Rattle.rtps_proxy.proofs.settled.Settled.missing_up_to.Goals.{then-not-is_begun, else-not-is_begun}
 
 pub loop-offset-init : goal.loop-offset-init
 loop-offset-init g c =
-    let s = c.args.settled.now in
+    let s = c.args.self.now in
     record {
       within = omega arith;
       before = tt;
@@ -18,7 +18,7 @@ loop-offset-init g c =
 
 pub next_reaching-at-requires-clause-apart : goal.next_reaching-at-requires-clause-apart
 next_reaching-at-requires-clause-apart g c =
-    let s = c.args.settled.now in
+    let s = c.args.self.now in
     let apart : AreApart s.frontier s.runs = apart_from s.frontier s.runs s.apart in
     (s.frontier, rw c.as_slice-runs.ensures apart)
 
@@ -27,13 +27,13 @@ next_reaching-at-requires-clause-behind g c = rw (c.from.ensures, c.as_slice-run
 
 pub is_begun-requires-clause-apart : goal.is_begun-requires-clause-apart
 is_begun-requires-clause-apart g c =
-    let s = c.args.settled.now in
+    let s = c.args.self.now in
     let apart : AreApart s.frontier s.runs = apart_from s.frontier s.runs s.apart in
     (s.frontier, rw c.as_slice-runs.ensures apart)
 
 pub loop-offset-preserved : goal.loop-offset-preserved
 loop-offset-preserved g c =
-    let s = c.args.settled.now in
+    let s = c.args.self.now in
     let runs = s.runs in
     let p = marks s.frontier runs in
     let base = s.frontier in
