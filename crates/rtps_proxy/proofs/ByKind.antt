@@ -4,8 +4,9 @@ use Rattle.std.specs.List.{list_any}
 use Rattle.std.proofs.lemmas.Bool.Decides.{nat_tests}
 use Rattle.rtps_types.specs.declared.time.Timestamp.{Timestamp}
 use Rattle.rtps_receiver.specs.Brought.{Brought, Whole, Fragment, Heartbeat, Gap, HeartbeatFrag}
+use Rattle.rtps_proxy.specs.Changes.{change_view}
 use Rattle.rtps_proxy.specs.declared.effects.Effects.{Effects}
-use Rattle.rtps_proxy.specs.Effects.{ReliableStandsAt, StateStandsAt, change_view}
+use Rattle.rtps_proxy.specs.Effects.{ReliableStandsAt, StateStandsAt}
 use Rattle.rtps_proxy.specs.History.{Came}
 use Rattle.rtps_proxy.specs.Kept.{Awaited, Reliable, Whom}
 use Rattle.rtps_proxy.specs.Received.{frontier_of, in_order}

@@ -10,7 +10,7 @@ use Rattle.rtps_proxy.specs.declared.reliable.Reliable as kept
 use Rattle.rtps_proxy.specs.declared.state.State.{State}
 use Rattle.rtps_proxy.specs.declared.state.State.TheVariants as code
 use Rattle.rtps_proxy.specs.Answer.{Acknack, acknack_by}
-use Rattle.rtps_proxy.specs.Held.{held_view}
+use Rattle.rtps_proxy.specs.Changes.{change_view}
 use Rattle.rtps_proxy.specs.History.{Sample}
 use Rattle.rtps_proxy.specs.Runs.{marks}
 
@@ -36,7 +36,7 @@ pub record Awaited : Type 0 where
   pub answers : ℕ
 
 abbrev pub awaited : {A : Type 0} → kept.Reliable A → Awaited
-awaited r = record { accepted = r.accepted; announced = r.announced; frontier = r.settled.frontier; runs = r.settled.runs; held = map held_view r.held.items; answers = r.answers }
+awaited r = record { accepted = r.accepted; announced = r.announced; frontier = r.settled.frontier; runs = r.settled.runs; held = map change_view r.held.items; answers = r.answers }
 
 -- the settled numbers
 abbrev pub marked : Awaited → ℕ → Bool

@@ -12,7 +12,7 @@ ghost use Rattle.rtps_proxy.specs.History.{Came, names};
 ghost use Rattle.rtps_proxy.specs.Kept.{Whom, awaited};
 ghost use Rattle.rtps_proxy.specs.Runs.{marks};
 ghost use Rattle.rtps_proxy.specs.Steps.{ReliableStep};
-ghost use Rattle.rtps_receiver.specs.Addressed.{body_view};
+ghost use Rattle.rtps_receiver.specs.Views.{body_view};
 
 use crate::effects::{Effects, ProxyError};
 use crate::held::release;

@@ -2,9 +2,9 @@
 
 ghost use Rattle.std.specs.Prelude.{◌^◌, ◌≤◌};
 
+use crate::change::Change;
 use crate::config::ProxyConfig;
 use crate::effects::{Effects, ProxyError};
-use crate::held::Held;
 use crate::settled::Settled;
 use rtps_receiver::Body;
 use rtps_types::Timestamp;
@@ -20,7 +20,7 @@ pub(crate) struct Reliable<A: Allocator> {
     pub announced: u64,
     pub settled: Settled<A>,
     /// The changes that were received after a number that isn't settled.
-    pub held: VecDeque<Held<A>, A>,
+    pub held: VecDeque<Change<'static, A>, A>,
     /// How many answers there were, modulo 2^32.
     pub answers: u32,
     ghost small: { announced ≤ 2 ^ 62 },

@@ -10,9 +10,9 @@ ghost use Rattle.rtps_proxy.specs.Runs.{IsPlaceOf};
 ghost use Rattle.rtps_proxy.specs.Steps.{BestEffortStep, ReliableStep};
 
 use crate::best_effort::BestEffort;
-use crate::change::lent;
+use crate::change::Change;
 use crate::effects::{Effects, ProxyError};
-use crate::held::{hold, kept, release};
+use crate::held::{hold, release};
 use crate::reliable::Reliable;
 use rtps_receiver::Whole;
 use rtps_types::Timestamp;
@@ -38,7 +38,7 @@ impl BestEffort {
         if number <= self.top {
             return Ok(Effects::only_ready(ready));
         }
-        ready.push(lent(time, whole))?;
+        ready.push(Change::lent(time, whole))?;
         let lost = if self.top == 0 {
             0
         } else {
@@ -84,11 +84,11 @@ impl<A: Allocator + Copy> Reliable<A> {
         };
         self.settled.add_at(at, number, number + 1)?;
         if number >= self.settled.frontier {
-            hold(&mut self.held, kept(alloc, time, whole)?)?;
+            hold(&mut self.held, Change::kept(alloc, time, whole)?)?;
             return Ok(Effects::none(alloc));
         }
         let mut ready = Vec::new(alloc);
-        ready.push(lent(time, whole))?;
+        ready.push(Change::lent(time, whole))?;
         release(&mut self.held, self.settled.frontier, &mut ready)?;
         Ok(Effects::only_ready(ready))
     }

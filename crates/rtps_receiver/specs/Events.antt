@@ -12,8 +12,9 @@ use Rattle.rtps_wire.specs.Header.{header_of}
 use Rattle.rtps_wire.specs.Reading.{reading}
 use Rattle.rtps_wire.specs.Submessage.{Content, Item}
 use Rattle.rtps_receiver.specs.declared.event.Event.{Event}
-use Rattle.rtps_receiver.specs.Addressed.{Addressed, addressed, body_view, taken_of}
+use Rattle.rtps_receiver.specs.Addressed.{Addressed, addressed, taken_of}
 use Rattle.rtps_receiver.specs.Brought.{Brought}
+use Rattle.rtps_receiver.specs.Views.{body_view}
 use Rattle.rtps_receiver.specs.Context.{destination_of, source_of, time_of}
 
 -- an event, without where its octets lie in memory

@@ -1,6 +1,6 @@
 use Rattle.std.proofs.Common.{subst, sym, inl, inr}
 use Rattle.rtps_receiver.specs.declared.body.Body.{Body}
-use Rattle.rtps_receiver.specs.Addressed.{body_view}
+use Rattle.rtps_receiver.specs.Views.{body_view}
 use Rattle.rtps_proxy.specs.Kept.{awaited, whom}
 use Rattle.rtps_proxy.proofs.ByKind.{IsQuiet, quiet_reliable}
 use Rattle.rtps_proxy.proofs.reliable.Reliable.on_event.Goals as goal

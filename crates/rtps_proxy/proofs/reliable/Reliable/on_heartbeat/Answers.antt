@@ -5,9 +5,10 @@ use mir.Syntax.{w32}
 use mir.Val.{to_z, of_z}
 use Rattle.rtps_types.specs.Number.{value_of}
 use Rattle.rtps_receiver.specs.Brought.{Announced}
+use Rattle.rtps_proxy.specs.Changes.{change_view}
 use Rattle.rtps_proxy.specs.Answer.{is_answered}
-use Rattle.rtps_proxy.specs.Effects.{ReliableStandsAt, change_view, exceeds}
-use Rattle.rtps_proxy.specs.Held.{front_below, held_view}
+use Rattle.rtps_proxy.specs.Effects.{ReliableStandsAt, exceeds}
+use Rattle.rtps_proxy.specs.Held.{front_below}
 use Rattle.rtps_proxy.specs.History.{Came, announced_of, has_heartbeat, is_new}
 use Rattle.rtps_proxy.specs.Kept.{Awaited, whom}
 use Rattle.rtps_proxy.specs.Received.{in_order, lost}
@@ -46,7 +47,7 @@ returns g c = λ past time at.
     let event : Came = beat_at time h in
     let old = c.args.self.now.settled in
     let new = c.add.new.self in
-    let waiting = map held_view c.args.self.now.held.items in
+    let waiting = map change_view c.args.self.now.held.items in
     let e : to_z w32 (of_z w32 b.count) ≡ b.count = to_z-of_z w32 b.count (search rules) in
     let exceeded : exceeds c.args.self.now.accepted b.count ≡ true = rw e at (sym c.is_accepted.ensures ∙ c.if-not-is_accepted.false) in
     let accepted : is_new past b.count ≡ true = at.counts b.count ∙ exceeded in

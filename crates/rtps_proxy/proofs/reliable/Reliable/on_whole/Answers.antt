@@ -1,9 +1,9 @@
 use Rattle.std.proofs.Common.{◌≡◌, ◌++◌, ◌<◌, ◌≤◌, ap, map, refl, sym, ◌∙◌, [], ◌∷◌, false, length, rules, List}
 use Rattle.std.proofs.lemmas.List.{length-map}
-use Rattle.rtps_types.specs.Number.{value_of}
 use Rattle.rtps_receiver.specs.Brought.{Change}
-use Rattle.rtps_proxy.specs.Effects.{change_view}
-use Rattle.rtps_proxy.specs.Held.{IsRising, front_below, held_view}
+use Rattle.rtps_receiver.specs.Views.{whole_view}
+use Rattle.rtps_proxy.specs.Changes.{change_view}
+use Rattle.rtps_proxy.specs.Held.{IsRising, front_below}
 use Rattle.rtps_proxy.specs.History.{Came, Sample, sample_of}
 use Rattle.rtps_proxy.specs.Received.{held, in_order, put}
 use Rattle.rtps_proxy.proofs.Apart.{apart_from}
@@ -15,12 +15,12 @@ use Rattle.rtps_proxy.proofs.reliable.Reliable.on_whole.Goals as goal
 pub returns-in_default : goal.returns-in_default
 returns-in_default g c = λ whom past at.
     let w = c.args.whole.now in
-    let change : Change = record { number = value_of w.number; form = w.form; status = w.status; hash = w.hash; payload = w.payload.now } in
+    let change : Change = whole_view w in
     let event : Came = change_at c.args.time change in
     let old = c.args.self.now.settled in
-    let waiting = map held_view c.args.self.now.held.items in
+    let waiting = map change_view c.args.self.now.held.items in
     let before : Shows past old.frontier old.runs = record { settled = at.settled; apart = apart_from old.frontier old.runs old.apart } in
-    let counted : length c.args.self.now.held.items ≡ length waiting = rw (length-map c.args.self.now.held.items held_view) (search rules) in
+    let counted : length c.args.self.now.held.items ≡ length waiting = rw (length-map c.args.self.now.held.items change_view) (search rules) in
     let left : takes past change.number ≡ false = takes_is past change.number old.frontier old.runs (length c.args.self.now.held.items) waiting before at.held counted ∙ rw c.get-number.ensures.value at (sym c.in_default.ensures.taken) in
     let same = left_settled past c.args.time change left in
     record {
@@ -40,13 +40,13 @@ returns-in_default g c = λ whom past at.
 pub returns-then-number-self : goal.returns-then-number-self
 returns-then-number-self g c = λ whom past at.
     let w = c.args.whole.now in
-    let change : Change = record { number = value_of w.number; form = w.form; status = w.status; hash = w.hash; payload = w.payload.now } in
+    let change : Change = whole_view w in
     let event : Came = change_at c.args.time change in
     let old = c.args.self.now.settled in
     let new = c.add_at.new.self in
-    let waiting = map held_view c.args.self.now.held.items in
+    let waiting = map change_view c.args.self.now.held.items in
     let before : Shows past old.frontier old.runs = record { settled = at.settled; apart = apart_from old.frontier old.runs old.apart } in
-    let counted : length c.args.self.now.held.items ≡ length waiting = rw (length-map c.args.self.now.held.items held_view) (search rules) in
+    let counted : length c.args.self.now.held.items ≡ length waiting = rw (length-map c.args.self.now.held.items change_view) (search rules) in
     let takes_it : Takes past c.args.time change old.frontier new.frontier old.runs new.runs waiting = record {
       before = before;
       taken = takes_is past change.number old.frontier old.runs (length c.args.self.now.held.items) waiting before at.held counted ∙ rw c.get-number.ensures.value at (sym c.in-Some.ensures.taken);
@@ -56,7 +56,7 @@ returns-then-number-self g c = λ whom past at.
     } in
     let behind : new.frontier ≤ change.number = rw c.get-number.ensures.value at c.if-number-self.true in
     let rising : IsRising waiting = rw at.held (in_order_rises (held past)) in
-    let put_in : map held_view c.hold.new.held.items ≡ put (sample_of c.args.time change) waiting = c.in_ok-hold.ensures rising ∙ ap (λ (s : Sample). put s waiting) c.in_ok-kept.ensures in
+    let put_in : map change_view c.hold.new.held.items ≡ put (sample_of c.args.time change) waiting = c.in_ok-hold.ensures rising ∙ ap (λ (s : Sample). put s waiting) c.in_ok-kept.ensures in
     record {
       stands = record {
         counts = at.counts;
@@ -74,13 +74,13 @@ returns-then-number-self g c = λ whom past at.
 pub returns : goal.returns
 returns g c = λ whom past at.
     let w = c.args.whole.now in
-    let change : Change = record { number = value_of w.number; form = w.form; status = w.status; hash = w.hash; payload = w.payload.now } in
+    let change : Change = whole_view w in
     let event : Came = change_at c.args.time change in
     let old = c.args.self.now.settled in
     let new = c.add_at.new.self in
-    let waiting = map held_view c.args.self.now.held.items in
+    let waiting = map change_view c.args.self.now.held.items in
     let before : Shows past old.frontier old.runs = record { settled = at.settled; apart = apart_from old.frontier old.runs old.apart } in
-    let counted : length c.args.self.now.held.items ≡ length waiting = rw (length-map c.args.self.now.held.items held_view) (search rules) in
+    let counted : length c.args.self.now.held.items ≡ length waiting = rw (length-map c.args.self.now.held.items change_view) (search rules) in
     let takes_it : Takes past c.args.time change old.frontier new.frontier old.runs new.runs waiting = record {
       before = before;
       taken = takes_is past change.number old.frontier old.runs (length c.args.self.now.held.items) waiting before at.held counted ∙ rw c.get-number.ensures.value at (sym c.in-Some.ensures.taken);
