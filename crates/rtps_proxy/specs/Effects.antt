@@ -1,30 +1,19 @@
 -- What a proxy keeps of a history, and what it gives at an event.
-use Rattle.std.specs.Prelude.{◌≡◌, ℕ, ◌%◌, ◌^◌, Bool, true, false, List, map, Option, Some, None, if◌then◌else◌, is_some, ℤ, int_lt}
+use Rattle.std.specs.Prelude.{◌≡◌, ℕ, ◌%◌, ◌^◌, Bool, true, false, List, ◌∷◌, map, Result, IfOk, IsErr, OnErr, OnOk, Option, Some, None, if◌then◌else◌, is_some, ℤ, int_lt}
 use Rattle.std.specs.Option.{option_map}
-use Rattle.rtps_types.specs.Number.{value_of}
 use Rattle.rtps_types.specs.declared.time.Timestamp.{Timestamp}
 use Rattle.rtps_receiver.specs.declared.body.Body.{Body}
-use Rattle.rtps_receiver.specs.Addressed.{body_view}
-use Rattle.rtps_proxy.specs.declared.change.Change.{Change}
-use Rattle.rtps_proxy.specs.declared.change.Payload.{Payload}
-use Rattle.rtps_proxy.specs.declared.change.Payload.TheVariants as payload
+use Rattle.rtps_receiver.specs.Views.{body_view}
 use Rattle.rtps_proxy.specs.declared.effects.Effects.{Effects}
 use Rattle.rtps_proxy.specs.Answer.{answers}
 use Rattle.rtps_proxy.specs.BestEffort as best
+use Rattle.rtps_proxy.specs.Changes.{change_view}
 use Rattle.rtps_proxy.specs.History.{Came, Sample, announced_of, has_heartbeat, is_new}
 use Rattle.rtps_proxy.specs.Kept.{Awaited, BestEffort, Kept, Reliable, Standing, Whom}
 use Rattle.rtps_proxy.specs.Received as reliable
 use Rattle.rtps_proxy.specs.Received.{held, in_order, is_settled}
 use Rattle.rtps_proxy.specs.Replies.{Sent, reply, reply_view}
 use Rattle.rtps_proxy.specs.Runs.{marks}
-
-abbrev pub octets_of : {A : Type 0} → Payload A → List ℕ
-octets_of (payload.Lent octets) = octets.now
-octets_of (payload.Kept octets) = octets
-
--- a change, without where its payload lies in memory
-abbrev pub change_view : {A : Type 0} → Change A → Sample
-change_view c = record { number = value_of c.number; time = c.time; form = c.form; status = c.status; hash = c.hash; payload = octets_of c.payload }
 
 -- what an event brings, as it comes for a match
 abbrev pub came : Option Timestamp → Body → Came
@@ -73,3 +62,13 @@ pub record AreEffects {A : Type 0} (whom : Whom) (past : List Came) (event : Cam
   pub lost : effects.lost ≡ lost_of whom.reliable past event
   pub ready : map change_view effects.ready.items ≡ ready_of whom.reliable past event
   pub answer : option_map reply_view effects.answer ≡ answer_of whom past event
+
+-- How an event is taken in: what is kept then follows from it too, and it gives what it must; a refused growth leaves the proxy
+-- spent. One that is spent refuses each event, and nothing changes.
+pub record TakesIn {A E : Type 0} (old new : Kept) (event : Came) (result : Result (Effects A) E) : Type 0 where
+  pub stands : (past : List Came) → StandsAt past old → OnOk result (StandsAt (event ∷ past) new)
+  pub effects : (past : List Came) → StandsAt past old → IfOk result (AreEffects old.whom past event)
+  pub whom : new.whom ≡ old.whom
+  pub err : OnErr result (new.spent ≡ true)
+  pub spent : old.spent ≡ true → IsErr result
+  pub still : old.spent ≡ true → new ≡ old

@@ -1,13 +1,7 @@
 -- Changes that wait behind a number that isn't settled, in order.
 use Rattle.std.specs.Prelude.{ℕ, ◌<◌, ◌≤◌, nat_lt, Bool, false, not, List, [], ◌∷◌, take, drop, if◌then◌else◌}
 use Rattle.std.specs.List.{AllByRecursion}
-use Rattle.rtps_types.specs.Number.{value_of}
-use Rattle.rtps_proxy.specs.declared.held.Held.{Held}
 use Rattle.rtps_proxy.specs.History.{Sample}
-
--- the change without where it lies in memory
-abbrev pub held_view : {A : Type 0} → Held A → Sample
-held_view c = record { number = value_of c.number; time = c.time; form = c.form; status = c.status; hash = c.hash; payload = c.payload }
 
 -- no number is less than an earlier one
 abbrev pub IsRising : List Sample → Type 0

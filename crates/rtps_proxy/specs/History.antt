@@ -1,10 +1,9 @@
 -- What came for one match since it began (DDSI-RTPS 8.4.12). A history is the list of its events, the newest first; nothing is forgotten.
 use Rattle.std.specs.Prelude.{ℕ, max, Bool, true, false, ◌&&◌, ◌||◌, ◌==◌, nat_lt, nat_le, List, [], ◌∷◌, if◌then◌else◌, Option, ℤ, int_lt}
 use Rattle.std.specs.List.{list_any}
-use Rattle.rtps_types.specs.declared.identity.KeyHash.{KeyHash}
 use Rattle.rtps_types.specs.declared.time.Timestamp.{Timestamp}
 use Rattle.rtps_types.specs.NumberSet.{members}
-use Rattle.rtps_wire.specs.declared.data.Form.{Form}
+use Rattle.rtps_wire.specs.declared.data.ChangeInfo.{ChangeInfo}
 use Rattle.rtps_receiver.specs.Brought.{Brought, Change, Whole, Fragment, Heartbeat, Gap, HeartbeatFrag}
 
 -- an event of a match: what was brought, and when it was sent
@@ -16,13 +15,11 @@ pub record Came : Type 0 where
 pub record Sample : Type 0 where
   pub number : ℕ
   pub time : Option Timestamp
-  pub form : Form
-  pub status : ℕ
-  pub hash : Option KeyHash
+  pub info : ChangeInfo
   pub payload : List ℕ
 
 abbrev pub sample_of : Option Timestamp → Change → Sample
-sample_of time c = record { number = c.number; time = time; form = c.form; status = c.status; hash = c.hash; payload = c.payload }
+sample_of time c = record { number = c.number; time = time; info = c.info; payload = c.payload }
 
 -- the count is above those of all heartbeats so far, as signed 32-bit numbers: a heartbeat with it is accepted
 abbrev pub is_new_in : Brought → ℤ → Bool

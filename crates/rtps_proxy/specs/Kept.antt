@@ -1,5 +1,5 @@
 -- What a proxy keeps (DDSI-RTPS 8.4.10.4).
-use Rattle.std.specs.Prelude.{ℕ, ℤ, Bool, List, Option, map}
+use Rattle.std.specs.Prelude.{ℕ, ℤ, ◌+◌, ◌%◌, ◌^◌, Bool, not, ◌&&◌, ◌||◌, nat_le, if◌then◌else◌, List, Option, map}
 use Rattle.rtps_types.specs.declared.identity.EntityId.{EntityId}
 use Rattle.rtps_types.specs.declared.identity.Guid.{Guid}
 use Rattle.rtps_types.specs.declared.identity.GuidPrefix.{GuidPrefix}
@@ -9,8 +9,10 @@ use Rattle.rtps_proxy.specs.declared.config.ProxyConfig.{ProxyConfig}
 use Rattle.rtps_proxy.specs.declared.reliable.Reliable as kept
 use Rattle.rtps_proxy.specs.declared.state.State.{State}
 use Rattle.rtps_proxy.specs.declared.state.State.TheVariants as code
-use Rattle.rtps_proxy.specs.Held.{held_view}
+use Rattle.rtps_proxy.specs.Answer.{Acknack, acknack_by}
+use Rattle.rtps_proxy.specs.Changes.{change_view}
 use Rattle.rtps_proxy.specs.History.{Sample}
+use Rattle.rtps_proxy.specs.Runs.{marks}
 
 -- whom a proxy stands for, and for whom
 pub record Whom : Type 0 where
@@ -34,7 +36,24 @@ pub record Awaited : Type 0 where
   pub answers : ℕ
 
 abbrev pub awaited : {A : Type 0} → kept.Reliable A → Awaited
-awaited r = record { accepted = r.accepted; announced = r.announced; frontier = r.settled.frontier; runs = r.settled.runs; held = map held_view r.held.items; answers = r.answers }
+awaited r = record { accepted = r.accepted; announced = r.announced; frontier = r.settled.frontier; runs = r.settled.runs; held = map change_view r.held.items; answers = r.answers }
+
+-- the settled numbers
+abbrev pub marked : Awaited → ℕ → Bool
+marked r = marks r.frontier r.runs
+
+-- what the next answer asks for
+abbrev pub asked_by : Awaited → Acknack
+asked_by r = acknack_by (marked r) r.frontier r.announced r.answers
+
+-- an accepted heartbeat with these flags is answered
+abbrev pub asks_by : Awaited → Bool → Bool → Bool
+asks_by r final_flag liveliness = not final_flag || (not liveliness && nat_le r.frontier r.announced)
+
+-- what is kept after a heartbeat was answered, or not
+abbrev pub counts_answer : Bool → Awaited → Awaited
+counts_answer is_answered r =
+    record r { answers = if is_answered then (r.answers + 1) % 2 ^ 32 else r.answers }
 
 -- for a best-effort reader the greatest number that was taken is kept
 pub data Standing : Type 0 where
@@ -42,7 +61,7 @@ pub data Standing : Type 0 where
   Reliable : Awaited → Standing
 
 abbrev pub standing : {A : Type 0} → State A → Standing
-standing (code.BestEffort top) = BestEffort top
+standing (code.BestEffort b) = BestEffort b.top
 standing (code.Reliable r) = Reliable (awaited r)
 
 pub record Kept : Type 0 where

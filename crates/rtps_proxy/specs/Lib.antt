@@ -5,6 +5,7 @@ pub mod Received
 pub mod Answer
 pub mod BestEffort
 pub mod Runs
+pub mod Changes
 pub mod Held
 pub mod Kept
 pub mod Replies

@@ -1,5 +1,5 @@
 -- Runs of settled numbers, each by its first and its last number, and the set that they are with all numbers below a frontier.
-use Rattle.std.specs.Prelude.{◌≡◌, ℕ, ◌+◌, ◌-◌, ◌<◌, ◌≤◌, min, Bool, true, ◌&&◌, ◌||◌, List, [], ◌∷◌, nat_lt, nat_le}
+use Rattle.std.specs.Prelude.{◌≡◌, ℕ, ◌+◌, ◌-◌, ◌<◌, ◌≤◌, min, Bool, true, ◌&&◌, ◌||◌, List, [], ◌∷◌, length, take, drop, nat_lt, nat_le}
 use Rattle.std.specs.List.{list_any, AllByRecursion}
 use Rattle.rtps_types.specs.declared.number.Number.{Number}
 use Rattle.rtps_types.specs.Number.{value_of}
@@ -38,6 +38,12 @@ are_apart low (r ∷ rs) = nat_lt low (start_of r) && (nat_lt (start_of r) (end_
 -- runs that end below a number, with a number between
 abbrev pub EndBelow : ℕ → List Run → Type 0
 EndBelow n runs = AllByRecursion (λ r. end_of r < n) runs
+
+-- the place of a number among runs: those before it end before the number, with a number between, and none from it on does
+pub record IsPlaceOf (n at : ℕ) (runs : List Run) : Type 0 where
+  pub within : at ≤ length runs
+  pub before : EndBelow n (take at runs)
+  pub behind : AllByRecursion (λ r. n ≤ end_of r) (drop at runs)
 
 -- how many of the numbers from low on and below high are in none of the runs behind low
 abbrev pub missing_from : ℕ → List Run → ℕ → ℕ

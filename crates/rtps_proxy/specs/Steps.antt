@@ -3,7 +3,8 @@ use Rattle.std.specs.Prelude.{◌≡◌, ℕ, List, ◌∷◌, map, None}
 use Rattle.std.specs.Option.{option_map}
 use Rattle.rtps_proxy.specs.declared.effects.Effects.{Effects}
 use Rattle.rtps_proxy.specs.BestEffort as best
-use Rattle.rtps_proxy.specs.Effects.{AreEffects, ReliableStandsAt, StateStandsAt, change_view}
+use Rattle.rtps_proxy.specs.Changes.{change_view}
+use Rattle.rtps_proxy.specs.Effects.{AreEffects, ReliableStandsAt, StateStandsAt}
 use Rattle.rtps_proxy.specs.History.{Came}
 use Rattle.rtps_proxy.specs.Kept.{Awaited, Standing, Whom}
 use Rattle.rtps_proxy.specs.Received as reliable

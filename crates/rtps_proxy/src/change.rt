@@ -1,13 +1,14 @@
-//! A change that is ready to be presented.
+//! A change that is ready to be presented, or that waits for earlier ones.
 
-ghost use Rattle.std.specs.Prelude.{◌≡◌};
-ghost use Rattle.rtps_types.specs.Number.{value_of};
-ghost use Rattle.rtps_proxy.specs.Effects.{change_view, octets_of};
-ghost use Rattle.rtps_proxy.specs.History.{Sample};
+ghost use Rattle.std.specs.Prelude.{◌≡◌, IfOk};
+ghost use Rattle.rtps_receiver.specs.Views.{whole_view};
+ghost use Rattle.rtps_proxy.specs.Changes.{change_view, octets_of};
+ghost use Rattle.rtps_proxy.specs.History.{sample_of};
 
+use crate::effects::ProxyError;
 use rtps_receiver::Whole;
-use rtps_types::{KeyHash, Number, Octets, Timestamp};
-use rtps_wire::Form;
+use rtps_types::{Number, Octets, Timestamp};
+use rtps_wire::ChangeInfo;
 use std::alloc::{Allocator, Global};
 
 /// The octets of a payload.
@@ -19,17 +20,13 @@ pub enum Payload<'a, A: Allocator = Global> {
     Kept(Octets<A>),
 }
 
-/// A change that is ready, with the time of the event that brought it.
+/// A change, with the time of the event that brought it.
 #[derive(Debug, Drop)]
 pub struct Change<'a, A: Allocator = Global> {
     pub number: Number,
     pub time: Option<Timestamp>,
-    pub form: Form,
-    /// The last octet of its status info, 0 where there is none.
-    pub status: u8,
-    /// The key hash that was sent with it.
-    pub hash: Option<KeyHash>,
-    /// Its encapsulation and what stands behind it.
+    pub info: ChangeInfo,
+    /// Its encapsulation and what follows.
     pub payload: Payload<'a, A>,
 }
 
@@ -44,16 +41,35 @@ impl<A: Allocator> Payload<'_, A> {
     }
 }
 
-/// The change as it lies in the datagram.
-pub(crate) fn lent<'a, A: Allocator>(time: Option<Timestamp>, whole: &Whole<'a>) -> Change<'a, A>
-    ensures { change_view result ≡ (record { number = value_of whole.now.number; time = time; form = whole.now.form; status = whole.now.status; hash = whole.now.hash; payload = whole.now.payload.now }) }
-{
-    Change {
-        number: whole.number,
-        time,
-        form: whole.form,
-        status: whole.status,
-        hash: whole.hash,
-        payload: Payload::Lent(whole.payload),
+impl<'a, A: Allocator> Change<'a, A> {
+    /// The change as it lies in the datagram.
+    pub(crate) fn lent(time: Option<Timestamp>, whole: &Whole<'a>) -> Change<'a, A>
+        ensures { change_view result ≡ sample_of time (whole_view whole.now) }
+    {
+        Change {
+            number: whole.number,
+            time,
+            info: whole.info,
+            payload: Payload::Lent(whole.payload),
+        }
+    }
+}
+
+impl<A: Allocator> Change<'static, A> {
+    /// The change with a payload of its own, for which the datagram isn't needed.
+    pub(crate) fn kept(
+        alloc: A,
+        time: Option<Timestamp>,
+        whole: &Whole<'_>,
+    ) -> Result<Change<'static, A>, ProxyError>
+        ensures { IfOk result (λ change. change_view change ≡ sample_of time (whole_view whole.now)) }
+    {
+        let octets = Vec::from_slice(alloc, whole.payload)?;
+        Ok(Change {
+            number: whole.number,
+            time,
+            info: whole.info,
+            payload: Payload::Kept(Octets::new(octets)),
+        })
     }
 }

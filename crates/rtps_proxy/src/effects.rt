@@ -1,31 +1,13 @@
 //! What an event gives.
 
-ghost use Rattle.std.specs.Prelude.{◌≡◌, None};
+ghost use Rattle.std.specs.Prelude.{◌≡◌, [], None};
 
 use crate::change::Change;
 use rtps_types::Reply;
-use std::alloc::{AllocError, AllocFailed, Allocator, Global};
-use thiserror::Error;
+use std::alloc::{AllocError, Allocator, Global};
 
-/// Why an event could not be taken in.
-#[derive(Clone, Copy, Debug, PartialEq, Eq, Error)]
-pub enum ProxyError {
-    /// The allocator refused a growth, now or at an earlier event.
-    #[error("out of memory")]
-    NoMemory,
-}
-
-impl<T: Drop> From<AllocFailed<T>> for ProxyError {
-    fn from(_failed: AllocFailed<T>) -> ProxyError {
-        ProxyError::NoMemory
-    }
-}
-
-impl From<AllocError> for ProxyError {
-    fn from(_failed: AllocError) -> ProxyError {
-        ProxyError::NoMemory
-    }
-}
+/// Why an event could not be taken in: the allocator refused a growth, now or at an earlier event.
+pub type ProxyError = AllocError;
 
 /// What an event gives, in this order.
 #[derive(Debug, Drop)]
@@ -38,15 +20,26 @@ pub struct Effects<'a, A: Allocator = Global> {
     pub answer: Option<Reply<A>>,
 }
 
-/// What an event gives that makes these changes ready and does nothing else.
-pub(crate) fn only_ready<'a, A: Allocator>(ready: Vec<Change<'a, A>, A>) -> Effects<'a, A>
-    ensures lost { result.lost ≡ 0 }
-    ensures ready { result.ready.items ≡ ready.entry.items }
-    ensures answer { result.answer ≡ None }
-{
-    Effects {
-        lost: 0,
-        ready,
-        answer: None,
+impl<'a, A: Allocator> Effects<'a, A> {
+    /// Nothing happens.
+    pub(crate) fn none(alloc: A) -> Effects<'a, A>
+        ensures lost { result.lost ≡ 0 }
+        ensures ready { result.ready.items ≡ [] }
+        ensures answer { result.answer ≡ None }
+    {
+        Effects::only_ready(Vec::new(alloc))
+    }
+
+    /// These changes are ready, and nothing else happens.
+    pub(crate) fn only_ready(ready: Vec<Change<'a, A>, A>) -> Effects<'a, A>
+        ensures lost { result.lost ≡ 0 }
+        ensures ready { result.ready.items ≡ ready.entry.items }
+        ensures answer { result.answer ≡ None }
+    {
+        Effects {
+            lost: 0,
+            ready,
+            answer: None,
+        }
     }
 }

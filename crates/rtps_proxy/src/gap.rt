@@ -12,25 +12,27 @@ ghost use Rattle.rtps_proxy.specs.History.{Came, names};
 ghost use Rattle.rtps_proxy.specs.Kept.{Whom, awaited};
 ghost use Rattle.rtps_proxy.specs.Runs.{marks};
 ghost use Rattle.rtps_proxy.specs.Steps.{ReliableStep};
-ghost use Rattle.rtps_receiver.specs.Addressed.{body_view};
+ghost use Rattle.rtps_receiver.specs.Views.{body_view};
 
-use crate::effects::{Effects, ProxyError, only_ready};
+use crate::effects::{Effects, ProxyError};
 use crate::held::release;
 use crate::reliable::Reliable;
 use crate::settled::Settled;
 use rtps_receiver::Gap;
 use std::alloc::Allocator;
 
-/// Adds the numbers that a gap names: its range as one run, then the members of its list.
-fn give_up<A: Allocator>(settled: &mut Settled<A>, gap: &Gap) -> Result<(), ProxyError>
-    ensures { OnOk result ((n : ℕ) → marks settled.new.frontier settled.new.runs n
-        ≡ (names (body_view (body.Gap gap.now)) n || marks settled.old.frontier settled.old.runs n)) }
-{
-    settled.add(gap.start.get(), gap.list.base)?;
-    for member in gap.list.members() {
-        settled.add(member, member + 1)?;
+impl<A: Allocator> Settled<A> {
+    /// Adds the numbers that a gap names: its range as one run, then the members of its list.
+    fn add_named(&mut self, gap: &Gap) -> Result<(), ProxyError>
+        ensures { OnOk result ((n : ℕ) → marks self.new.frontier self.new.runs n
+            ≡ (names (body_view (body.Gap gap.now)) n || marks self.old.frontier self.old.runs n)) }
+    {
+        self.add(gap.start.get(), gap.list.base)?;
+        for member in gap.list.members() {
+            self.add(member, member + 1)?;
+        }
+        Ok(())
     }
-    Ok(())
 }
 
 impl<A: Allocator + Copy> Reliable<A> {
@@ -39,9 +41,9 @@ impl<A: Allocator + Copy> Reliable<A> {
         ensures { (whom : Whom) (past : List Came) (time : Option Timestamp) → ReliableStandsAt past (awaited self.old)
             → IfOk result (ReliableStep whom past (came time (body.Gap gap.now)) (awaited self.new)) }
     {
+        self.settled.add_named(gap)?;
         let mut ready = Vec::new(alloc);
-        give_up(&mut self.settled, gap)?;
         release(&mut self.held, self.settled.frontier, &mut ready)?;
-        Ok(only_ready(ready))
+        Ok(Effects::only_ready(ready))
     }
 }

@@ -2,8 +2,12 @@
 
 ghost use Rattle.std.specs.Prelude.{◌^◌, ◌≤◌};
 
-use crate::held::Held;
+use crate::change::Change;
+use crate::config::ProxyConfig;
+use crate::effects::{Effects, ProxyError};
 use crate::settled::Settled;
+use rtps_receiver::Body;
+use rtps_types::Timestamp;
 use std::alloc::Allocator;
 use std::collections::VecDeque;
 
@@ -15,19 +19,21 @@ pub(crate) struct Reliable<A: Allocator> {
     /// The greatest number that an accepted heartbeat named.
     pub announced: u64,
     pub settled: Settled<A>,
-    /// The changes that were received behind a number that isn't settled.
-    pub held: VecDeque<Held<A>, A>,
+    /// The changes that were received after a number that isn't settled.
+    pub held: VecDeque<Change<'static, A>, A>,
     /// How many answers there were, modulo 2^32.
     pub answers: u32,
     ghost small: { announced ≤ 2 ^ 62 },
 }
 
 impl<A: Allocator + Copy> Reliable<A> {
-    ghost use Rattle.std.specs.Prelude.{[]};
-    ghost use Rattle.rtps_proxy.specs.Effects.{ReliableStandsAt};
-    ghost use Rattle.rtps_proxy.specs.Kept.{awaited};
+    ghost use Rattle.std.specs.Prelude.{[], List, IfOk};
+    ghost use Rattle.rtps_proxy.specs.Effects.{ReliableStandsAt, came};
+    ghost use Rattle.rtps_proxy.specs.History.{Came};
+    ghost use Rattle.rtps_proxy.specs.Kept.{awaited, whom};
+    ghost use Rattle.rtps_proxy.specs.Steps.{ReliableStep};
 
-    /// Nothing came yet.
+    /// Nothing has come yet.
     pub fn new(alloc: A) -> Reliable<A>
         ensures { ReliableStandsAt [] (awaited result) }
     {
@@ -37,6 +43,25 @@ impl<A: Allocator + Copy> Reliable<A> {
             settled: Settled::new(alloc),
             held: VecDeque::new(alloc),
             answers: 0,
+        }
+    }
+
+    /// Takes in what an event brings, by its kind. Fragments are not put together yet.
+    pub fn on_event<'a>(
+        &mut self,
+        alloc: A,
+        config: &ProxyConfig<A>,
+        time: Option<Timestamp>,
+        brought: &Body<'a>,
+    ) -> Result<Effects<'a, A>, ProxyError>
+        ensures { (past : List Came) → ReliableStandsAt past (awaited self.old)
+            → IfOk result (ReliableStep (whom config.now) past (came time brought.now) (awaited self.new)) }
+    {
+        match brought {
+            Body::Whole(whole) => self.on_whole(alloc, time, whole),
+            Body::Heartbeat(heartbeat) => self.on_heartbeat(alloc, config, heartbeat),
+            Body::Gap(gap) => self.on_gap(alloc, gap),
+            Body::Fragment(_) | Body::HeartbeatFrag(_) => Ok(Effects::none(alloc)),
         }
     }
 }

@@ -1,13 +1,13 @@
 //! The settled numbers of a match (DDSI-RTPS 8.4.12.3), in runs: numbers reach 2^62, so no step goes
 //! number by number.
 
-ghost use Rattle.std.specs.Prelude.{◌≡◌, ℕ, ◌+◌, ◌^◌, ◌<◌, ◌≤◌, true, ◌&&◌, ◌||◌, nat_le, nat_lt, [], length, take, drop, OnOk};
+ghost use Rattle.std.specs.Prelude.{◌≡◌, ℕ, ◌+◌, ◌^◌, ◌<◌, ◌≤◌, true, ◌&&◌, ◌||◌, nat_le, nat_lt, [], length, take, drop, not, is_some, IfSome, OnOk};
 ghost use Rattle.std.specs.Prelude.{min, max};
 ghost use Rattle.std.specs.List.{list_any, AllByRecursion};
 ghost use Rattle.rtps_types.specs.Number.{value_of};
 ghost use Rattle.rtps_types.specs.SequenceNumber.{IsNumber};
 ghost use Rattle.rtps_proxy.specs.Numbers.{count_failing};
-ghost use Rattle.rtps_proxy.specs.Runs.{AreApart, EndBelow, are_apart, end_of, marks, start_of, within};
+ghost use Rattle.rtps_proxy.specs.Runs.{AreApart, EndBelow, IsPlaceOf, are_apart, end_of, marks, start_of, within};
 
 use crate::effects::ProxyError;
 use crate::runs::Runs;
@@ -51,7 +51,7 @@ fn first_reaching(runs: &[(Number, Number)], number: u64) -> usize
     if count == 0 {
         return 0;
     }
-    // Most numbers come behind all runs, or before them.
+    // Most numbers come after all runs, or before them.
     if is_before(&runs[count - 1], number) {
         return count;
     }
@@ -91,7 +91,7 @@ pub(crate) fn is_begun(runs: &[(Number, Number)], at: usize, number: u64) -> boo
     at < runs.len() && runs[at].0.get() <= number
 }
 
-/// A run joined with those from `at` on that it touches, and the place behind these.
+/// A run joined with those from `at` on that it touches, and the place after these.
 fn joined_from(
     runs: &[(Number, Number)],
     at: usize,
@@ -145,17 +145,21 @@ impl<A: Allocator> Settled<A> {
         }
     }
 
-    /// Whether a number is in the set.
-    pub fn contains(&self, number: u64) -> bool
+    /// The place of a number that isn't in the set.
+    pub fn place_of(&self, number: u64) -> Option<usize>
         requires { number ≤ 2 ^ 62 + 1 }
-        ensures { result ≡ marks self.now.frontier self.now.runs number }
+        ensures missing { is_some result ≡ not (marks self.now.frontier self.now.runs number) }
+        ensures place { IfSome result (λ at. IsPlaceOf number at self.now.runs) }
     {
         if number < self.frontier {
-            return true;
+            return None;
         }
         let runs = self.runs.as_slice();
-        let at = first_reaching(runs, number + 1);
-        is_begun(runs, at, number)
+        let at = first_reaching(runs, number);
+        if is_begun(runs, next_reaching(runs, at, number), number) {
+            return None;
+        }
+        Some(at)
     }
 
     /// Adds the numbers from `start` on and below `end`.
@@ -168,10 +172,21 @@ impl<A: Allocator> Settled<A> {
             return Ok(());
         }
         let start = start.max(self.frontier);
+        let at = first_reaching(self.runs.as_slice(), start);
+        self.add_at(at, start, end)
+    }
+
+    /// Adds the numbers from `start` on and below `end`, where `at` is the place of `start`.
+    pub fn add_at(&mut self, at: usize, start: u64, end: u64) -> Result<(), ProxyError>
+        requires some { start < end }
+        requires above { self.old.frontier ≤ start }
+        requires small { end ≤ 2 ^ 62 + 1 }
+        requires place { IsPlaceOf start at self.old.runs }
+        ensures ok { OnOk result ((n : ℕ) → marks self.new.frontier self.new.runs n
+            ≡ ((nat_le start n && nat_lt n end) || marks self.old.frontier self.old.runs n)) }
+    {
         let run = (number_at(start), number_at(end - 1));
-        let runs = self.runs.as_slice();
-        let at = first_reaching(runs, start);
-        let (joined, next) = joined_from(runs, at, run);
+        let (joined, next) = joined_from(self.runs.as_slice(), at, run);
         if start == self.frontier {
             self.frontier = joined.1.get() + 1;
             self.runs.give_up(next);

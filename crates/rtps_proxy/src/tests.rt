@@ -5,7 +5,7 @@ use rtps_receiver::{Gap, Heartbeat, Whole};
 use rtps_types::{
     EntityId, Guid, GuidPrefix, KeyHash, Locator, Locators, Number, SnSet, Timestamp,
 };
-use rtps_wire::Form;
+use rtps_wire::{ChangeInfo, Form};
 use std::alloc::{AllocError, Allocator, Global};
 use std::test::Fail;
 
@@ -21,6 +21,13 @@ const TIME: Timestamp = Timestamp {
 };
 
 const HASH: KeyHash = KeyHash([3; 16]);
+
+/// What comes with each change here.
+const INFO: ChangeInfo = ChangeInfo {
+    form: Form::Key,
+    status: 1,
+    hash: Some(HASH),
+};
 
 const PAYLOAD: [u8; 4] = [0xde, 0xad, 0xbe, 0xef];
 
@@ -62,9 +69,7 @@ fn number_of(value: u64) -> Result<Number, Fail> {
 fn whole_of(value: u64) -> Result<Whole<'static>, Fail> {
     Ok(Whole {
         number: number_of(value)?,
-        form: Form::Key,
-        status: 1,
-        hash: Some(HASH),
+        info: INFO,
         payload: &PAYLOAD,
     })
 }

@@ -1,19 +1,19 @@
-//! A change in one piece, for a reliable reader (DDSI-RTPS 8.3.7.2).
+//! A change in one piece (DDSI-RTPS 8.3.7.2).
 
-ghost use Rattle.std.specs.Prelude.{◌≡◌, ◌≤◌, ◌^◌, List, IfOk, Option, not, ◌&&◌, ◌||◌, nat_le, nat_lt};
-ghost use Rattle.rtps_types.specs.declared.time.Timestamp.{Timestamp};
+ghost use Rattle.std.specs.Prelude.{◌≡◌, ◌≤◌, ◌^◌, List, IfOk, IfSome, is_some, length, not, ◌&&◌, ◌||◌, nat_le, nat_lt};
 ghost use Rattle.rtps_receiver.specs.declared.body.Body.TheVariants as body;
+ghost use Rattle.rtps_proxy.specs.BestEffort.{top_of};
 ghost use Rattle.rtps_proxy.specs.Effects.{ReliableStandsAt, came};
 ghost use Rattle.rtps_proxy.specs.History.{Came};
-ghost use Rattle.rtps_proxy.specs.Kept.{Whom, awaited};
-ghost use Rattle.rtps_proxy.specs.Runs.{marks};
-ghost use Rattle.rtps_proxy.specs.Steps.{ReliableStep};
+ghost use Rattle.rtps_proxy.specs.Kept.{Whom, awaited, marked};
+ghost use Rattle.rtps_proxy.specs.Runs.{IsPlaceOf};
+ghost use Rattle.rtps_proxy.specs.Steps.{BestEffortStep, ReliableStep};
 
-use crate::change::lent;
-use crate::effects::{Effects, ProxyError, only_ready};
-use crate::held::{hold, kept, release};
+use crate::best_effort::BestEffort;
+use crate::change::Change;
+use crate::effects::{Effects, ProxyError};
+use crate::held::{hold, release};
 use crate::reliable::Reliable;
-use crate::settled::Settled;
 use rtps_receiver::Whole;
 use rtps_types::Timestamp;
 use std::alloc::Allocator;
@@ -21,15 +21,53 @@ use std::alloc::Allocator;
 /// How many changes may wait.
 const ROOM: usize = 65_536;
 
-/// Whether a change is taken: its number isn't settled, and is the least such or there is room.
-fn is_taken<A: Allocator>(settled: &Settled<A>, held: usize, number: u64) -> bool
-    requires { number ≤ 2 ^ 62 }
-    ensures { result ≡ (not (marks settled.now.frontier settled.now.runs number) && (nat_le number settled.now.frontier || nat_lt held 65536)) }
-{
-    !settled.contains(number) && (number <= settled.frontier || held < ROOM)
+impl BestEffort {
+    /// Takes in a change. A number that isn't above the greatest one taken counts as not come; the
+    /// numbers that are skipped are lost, none before the first sample.
+    pub fn on_whole<'a, A: Allocator>(
+        &mut self,
+        alloc: A,
+        time: Option<Timestamp>,
+        whole: &Whole<'a>,
+    ) -> Result<Effects<'a, A>, ProxyError>
+        ensures { (past : List Came) → self.old.top ≡ top_of past
+            → IfOk result (BestEffortStep past (came time (body.Whole whole.now)) self.new.top) }
+    {
+        let number = whole.number.get();
+        let mut ready = Vec::new(alloc);
+        if number <= self.top {
+            return Ok(Effects::only_ready(ready));
+        }
+        ready.push(Change::lent(time, whole))?;
+        let lost = if self.top == 0 {
+            0
+        } else {
+            number - self.top - 1
+        };
+        self.top = number;
+        Ok(Effects {
+            lost,
+            ready,
+            answer: None,
+        })
+    }
 }
 
 impl<A: Allocator + Copy> Reliable<A> {
+    /// The place of a number among the runs, if a change with it is taken: it isn't settled, and it is
+    /// the least such number or there is room.
+    fn place_for(&self, number: u64) -> Option<usize>
+        requires { number ≤ 2 ^ 62 }
+        ensures taken { is_some result ≡ (not (marked (awaited self.now) number)
+            && (nat_le number self.now.settled.frontier || nat_lt (length self.now.held.items) 65536)) }
+        ensures place { IfSome result (λ at. IsPlaceOf number at self.now.settled.runs) }
+    {
+        if number > self.settled.frontier && self.held.len() >= ROOM {
+            return None;
+        }
+        self.settled.place_of(number)
+    }
+
     /// Takes in a change. One that is ready at once stays where the datagram lies.
     pub fn on_whole<'a>(
         &mut self,
@@ -41,17 +79,17 @@ impl<A: Allocator + Copy> Reliable<A> {
             → IfOk result (ReliableStep whom past (came time (body.Whole whole.now)) (awaited self.new)) }
     {
         let number = whole.number.get();
-        let mut ready = Vec::new(alloc);
-        if !is_taken(&self.settled, self.held.len(), number) {
-            return Ok(only_ready(ready));
-        }
-        self.settled.add(number, number + 1)?;
+        let Some(at) = self.place_for(number) else {
+            return Ok(Effects::none(alloc));
+        };
+        self.settled.add_at(at, number, number + 1)?;
         if number >= self.settled.frontier {
-            hold(&mut self.held, kept(alloc, time, whole)?)?;
-            return Ok(only_ready(ready));
+            hold(&mut self.held, Change::kept(alloc, time, whole)?)?;
+            return Ok(Effects::none(alloc));
         }
-        ready.push(lent(time, whole))?;
+        let mut ready = Vec::new(alloc);
+        ready.push(Change::lent(time, whole))?;
         release(&mut self.held, self.settled.frontier, &mut ready)?;
-        Ok(only_ready(ready))
+        Ok(Effects::only_ready(ready))
     }
 }

@@ -18,24 +18,26 @@ fn set_bit(words: &mut [u32; 8], offset: u32)
     words[(offset / 32) as usize] |= 1 << (31 - offset % 32);
 }
 
-/// Those of the 256 numbers from the frontier on that are missing, up to the announced one.
-pub(crate) fn missing_up_to<A: Allocator>(settled: &Settled<A>, announced: u64) -> SnSet
-    requires { announced ≤ 2 ^ 62 }
-    ensures { sn_view result ≡ set_of (acknack_by (marks settled.now.frontier settled.now.runs) settled.now.frontier announced 0) }
-{
-    let base = settled.frontier;
-    let count = (announced + 1).saturating_sub(base).min(256) as u32;
-    let mut words = [0; 8];
-    let mut bits: u32 = 0;
-    let runs = settled.runs.as_slice();
-    let mut at = 0;
-    for offset in 0..count {
-        let number = base + u64::from(offset);
-        at = next_reaching(runs, at, number);
-        if !is_begun(runs, at, number) {
-            set_bit(&mut words, offset);
-            bits = offset + 1;
+impl<A: Allocator> Settled<A> {
+    /// Those of the 256 numbers from the frontier on that are missing, up to the announced one.
+    pub fn missing_up_to(&self, announced: u64) -> SnSet
+        requires { announced ≤ 2 ^ 62 }
+        ensures { sn_view result ≡ set_of (acknack_by (marks self.now.frontier self.now.runs) self.now.frontier announced 0) }
+    {
+        let base = self.frontier;
+        let count = (announced + 1).saturating_sub(base).min(256) as u32;
+        let mut words = [0; 8];
+        let mut bits: u32 = 0;
+        let runs = self.runs.as_slice();
+        let mut at = 0;
+        for offset in 0..count {
+            let number = base + u64::from(offset);
+            at = next_reaching(runs, at, number);
+            if !is_begun(runs, at, number) {
+                set_bit(&mut words, offset);
+                bits = offset + 1;
+            }
         }
+        SnSet { base, bits, words }
     }
-    SnSet { base, bits, words }
 }

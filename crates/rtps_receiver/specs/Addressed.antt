@@ -1,15 +1,11 @@
 -- What a submessage brings to readers, by its kind (DDSI-RTPS 8.3.7).
 use Rattle.std.specs.Prelude.{ℕ, List, [], ◌∷◌, Option, Some, None, ◌&&◌, nat_le, if◌then◌else◌}
 use Rattle.std.specs.List.{list_all}
+use Rattle.std.specs.Option.{option_map}
 use Rattle.rtps_types.specs.declared.identity.EntityId.{EntityId}
-use Rattle.rtps_types.specs.Number.{value_of}
 use Rattle.rtps_types.specs.NumberSet.{members}
-use Rattle.rtps_types.specs.Sets.{sn_view}
 use Rattle.rtps_wire.specs.Submessage.{Content}
 use Rattle.rtps_wire.specs.Submessage as wire
-use Rattle.rtps_receiver.specs.declared.addressed.Addressed as kept
-use Rattle.rtps_receiver.specs.declared.body.Body.{Body}
-use Rattle.rtps_receiver.specs.declared.body.Body.TheVariants as code
 use Rattle.rtps_receiver.specs.Brought.{Brought, Whole, Fragment, Heartbeat, Gap, HeartbeatFrag, is_taken}
 
 -- what is addressed, by whom, to whom
@@ -20,8 +16,8 @@ pub record Addressed : Type 0 where
 
 -- the five kinds that bring something to readers
 abbrev pub addressed : Content → Option Addressed
-addressed (wire.Whole d) = Some (record { writer = d.writer; reader = d.reader; body = Whole (record { number = d.number; form = d.form; status = d.status; hash = d.hash; payload = d.payload }) })
-addressed (wire.Frag d) = Some (record { writer = d.writer; reader = d.reader; body = Fragment (record { number = d.number; start = d.start; count = d.count; size = d.size; sample = d.sample; form = d.form; status = d.status; hash = d.hash; payload = d.payload }) })
+addressed (wire.Whole d) = Some (record { writer = d.writer; reader = d.reader; body = Whole (record { number = d.number; info = d.info; payload = d.payload }) })
+addressed (wire.Frag d) = Some (record { writer = d.writer; reader = d.reader; body = Fragment (record { number = d.number; start = d.start; count = d.count; size = d.size; sample = d.sample; info = d.info; payload = d.payload }) })
 addressed (wire.HeartbeatOf h) = Some (record { writer = h.writer; reader = h.reader; body = Heartbeat (record { first = h.first; last = h.last; count = h.count; final_flag = h.final_flag; liveliness = h.liveliness }) })
 addressed (wire.GapOf g) = Some (record { writer = g.writer; reader = g.reader; body = Gap (record { start = g.start; list = g.list }) })
 addressed (wire.HeartbeatFragOf h) = Some (record { writer = h.writer; reader = h.reader; body = HeartbeatFrag (record { number = h.number; last = h.last; count = h.count }) })
@@ -55,12 +51,6 @@ abbrev pub taken_of : Option Addressed → Option Addressed
 taken_of None = None
 taken_of (Some a) = taken a
 
-abbrev pub body_view : Body → Brought
-body_view (code.Whole w) = Whole (record { number = value_of w.number; form = w.form; status = w.status; hash = w.hash; payload = w.payload.now })
-body_view (code.Fragment f) = Fragment (record { number = value_of f.number; start = f.start; count = f.count; size = f.size; sample = f.sample; form = f.form; status = f.status; hash = f.hash; payload = f.payload.now })
-body_view (code.Heartbeat h) = Heartbeat (record { first = value_of h.first; last = h.last; count = h.count; final_flag = h.final_flag; liveliness = h.liveliness })
-body_view (code.Gap g) = Gap (record { start = value_of g.start; list = sn_view g.list })
-body_view (code.HeartbeatFrag h) = HeartbeatFrag (record { number = value_of h.number; last = h.last; count = h.count })
-
-abbrev pub view : kept.Addressed → Addressed
-view a = record { writer = a.writer; reader = a.reader; body = body_view a.body }
+-- what a submessage brings, if it is taken
+abbrev pub brought_by : Content → Option Brought
+brought_by c = option_map (λ a. a.body) (taken_of (addressed c))

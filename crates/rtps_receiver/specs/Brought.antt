@@ -1,9 +1,8 @@
 -- What an event brings, without where its octets lie in memory.
-use Rattle.std.specs.Prelude.{ℕ, ℤ, ◌^◌, List, ◌∷◌, Bool, Option, nat_le}
+use Rattle.std.specs.Prelude.{ℕ, ℤ, ◌^◌, List, ◌∷◌, Bool, nat_le}
 use Rattle.std.specs.List.{list_all}
-use Rattle.rtps_types.specs.declared.identity.KeyHash.{KeyHash}
 use Rattle.rtps_types.specs.NumberSet.{NumberSet, members}
-use Rattle.rtps_wire.specs.declared.data.Form.{Form}
+use Rattle.rtps_wire.specs.declared.data.ChangeInfo.{ChangeInfo}
 
 -- a number that a change may have is at most 2^62
 abbrev pub is_taken : ℕ → Bool
@@ -16,9 +15,7 @@ are_taken s = list_all is_taken (s.base ∷ members s)
 -- a change in one piece
 pub record Change : Type 0 where
   pub number : ℕ
-  pub form : Form
-  pub status : ℕ
-  pub hash : Option KeyHash
+  pub info : ChangeInfo
   pub payload : List ℕ
 
 -- fragments of a change, from number start on
@@ -28,9 +25,7 @@ pub record Fragments : Type 0 where
   pub count : ℕ
   pub size : ℕ
   pub sample : ℕ
-  pub form : Form
-  pub status : ℕ
-  pub hash : Option KeyHash
+  pub info : ChangeInfo
   pub payload : List ℕ
 
 -- which numbers a writer has

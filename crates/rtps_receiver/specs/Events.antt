@@ -1,5 +1,5 @@
 -- The events of a datagram (DDSI-RTPS 8.3.4): its valid submessages of five kinds that are addressed to us, each with its context.
-use Rattle.std.specs.Prelude.{ℕ, ◌+◌, List, [], ◌∷◌, ◌++◌, drop, Option, Some, None, Result, Ok, Err, if◌then◌else◌, option_to_list}
+use Rattle.std.specs.Prelude.{ℕ, ◌+◌, List, [], ◌∷◌, ◌++◌, drop, Option, None, Result, Ok, Err, if◌then◌else◌, option_to_list}
 use Rattle.std.specs.Option.{option_map}
 use Rattle.std.specs.Str.{bytes_eq}
 use Rattle.rtps_types.specs.declared.identity.EntityId.{EntityId}
@@ -12,8 +12,9 @@ use Rattle.rtps_wire.specs.Header.{header_of}
 use Rattle.rtps_wire.specs.Reading.{reading}
 use Rattle.rtps_wire.specs.Submessage.{Content, Item}
 use Rattle.rtps_receiver.specs.declared.event.Event.{Event}
-use Rattle.rtps_receiver.specs.Addressed.{Addressed, addressed, body_view, taken_of}
+use Rattle.rtps_receiver.specs.Addressed.{Addressed, addressed, taken_of}
 use Rattle.rtps_receiver.specs.Brought.{Brought}
+use Rattle.rtps_receiver.specs.Views.{body_view}
 use Rattle.rtps_receiver.specs.Context.{destination_of, source_of, time_of}
 
 -- an event, without where its octets lie in memory

@@ -1,4 +1,5 @@
 pub mod Brought
+pub mod Views
 pub mod Addressed
 pub mod Context
 pub mod Events

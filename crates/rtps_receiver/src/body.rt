@@ -4,8 +4,8 @@ ghost use Rattle.std.specs.Prelude.{◌≡◌, ◌^◌, ◌≤◌, true};
 ghost use Rattle.rtps_types.specs.Sets.{sn_view};
 ghost use Rattle.rtps_receiver.specs.Brought.{are_taken};
 
-use rtps_types::{KeyHash, Number, SnSet};
-use rtps_wire::Form;
+use rtps_types::{Number, SnSet};
+use rtps_wire::ChangeInfo;
 
 /// What an event brings.
 #[derive(Clone, Copy, Debug)]
@@ -21,12 +21,8 @@ pub enum Body<'a> {
 #[derive(Clone, Copy, Debug)]
 pub struct Whole<'a> {
     pub number: Number,
-    pub form: Form,
-    /// The last octet of the change's status info, 0 where there is none.
-    pub status: u8,
-    /// The key hash that was sent with the change.
-    pub hash: Option<KeyHash>,
-    /// Its encapsulation and what stands behind it; empty where no payload is told.
+    pub info: ChangeInfo,
+    /// Its encapsulation and what follows; empty where no payload was sent.
     pub payload: &'a [u8],
 }
 
@@ -42,11 +38,7 @@ pub struct Fragment<'a> {
     pub size: u16,
     /// The octets of the whole payload.
     pub sample: u32,
-    pub form: Form,
-    /// The last octet of the change's status info, 0 where there is none.
-    pub status: u8,
-    /// The key hash that was sent with the fragments.
-    pub hash: Option<KeyHash>,
+    pub info: ChangeInfo,
     /// The octets of the fragments, and maybe more.
     pub payload: &'a [u8],
 }

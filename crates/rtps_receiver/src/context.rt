@@ -6,7 +6,7 @@ ghost use Rattle.rtps_wire.specs.Submessage.{parts_view};
 ghost use Rattle.rtps_receiver.specs.Events.{view};
 ghost use Rattle.rtps_receiver.specs.Running.{after, event_in, first_context};
 
-use crate::addressed::addressed_by;
+use crate::brought::{fragment_of, gap_of, heartbeat_frag_of, heartbeat_of, whole_of};
 use crate::event::Event;
 use rtps_types::{GuidPrefix, Place, Timestamp};
 use rtps_wire::Parts;
@@ -20,7 +20,7 @@ pub(crate) struct Context {
     time: Option<Timestamp>,
 }
 
-/// The destination that stands for whoever reads.
+/// The destination that means whoever reads.
 const UNKNOWN: GuidPrefix = GuidPrefix([0; 12]);
 
 impl Context {
@@ -36,7 +36,7 @@ impl Context {
         }
     }
 
-    /// Takes in what a submessage says of those behind it.
+    /// Takes in what a submessage says of those after it.
     pub(crate) fn see(&mut self, parts: &Parts<'_>)
         ensures { self.new ≡ after self.old (parts_view parts.now) }
     {
@@ -64,16 +64,25 @@ impl Context {
         if self.destination != self.own {
             return None;
         }
-        match addressed_by(parts) {
-            Some(addressed) => Some(Event {
-                place,
-                source: self.source,
-                time: self.time,
-                writer: addressed.writer,
-                reader: addressed.reader,
-                body: addressed.body,
-            }),
-            None => None,
-        }
+        let (writer, reader, body) = match parts {
+            Parts::Data(data) => (data.writer, data.reader, whole_of(data)),
+            Parts::DataFrag(data) => (data.writer, data.reader, fragment_of(data)),
+            Parts::Heartbeat(beat) => (beat.writer, beat.reader, heartbeat_of(beat)),
+            Parts::Gap(gap) => (gap.writer, gap.reader, gap_of(gap)),
+            Parts::HeartbeatFrag(beat) => (beat.writer, beat.reader, heartbeat_frag_of(beat)),
+            Parts::Pad
+            | Parts::InfoTimestamp(_)
+            | Parts::InfoSource(_)
+            | Parts::InfoDestination(_)
+            | Parts::Skipped => return None,
+        };
+        Some(Event {
+            place,
+            source: self.source,
+            time: self.time,
+            writer,
+            reader,
+            body: body?,
+        })
     }
 }

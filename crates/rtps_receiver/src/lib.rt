@@ -1,8 +1,8 @@
 //! The events of a datagram, each with its context (DDSI-RTPS 8.3.4).
 #![tactic(auto)]
 
-mod addressed;
 mod body;
+mod brought;
 mod context;
 mod event;
 mod receive;

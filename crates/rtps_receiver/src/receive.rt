@@ -7,21 +7,10 @@ use crate::context::Context;
 use crate::event::Event;
 use rtps_types::{GuidPrefix, Place};
 use rtps_wire::{Submessages, header};
-use std::alloc::{AllocFailed, Allocator};
-use thiserror::Error;
+use std::alloc::{AllocError, Allocator};
 
-/// Why the events of a datagram could not be told.
-#[derive(Debug, Drop, Error)]
-pub enum ReceiverError {
-    #[error("out of memory")]
-    NoMemory,
-}
-
-impl<T: Drop> From<AllocFailed<T>> for ReceiverError {
-    fn from(_failed: AllocFailed<T>) -> ReceiverError {
-        ReceiverError::NoMemory
-    }
-}
+/// Why the events of a datagram could not be found: the allocator refused a growth.
+pub type ReceiverError = AllocError;
 
 /// How many octets the header of a message takes.
 const HEADER: usize = 20;
@@ -29,7 +18,7 @@ const HEADER: usize = 20;
 /// The events of one datagram, in order (DDSI-RTPS 8.3.4): its valid submessages of the five kinds
 /// that bring something to readers, where their destination is the participant `own` and they name
 /// no number above 2^62. `index` is the datagram's place in the run, counted from 0. A bad header
-/// gives none; what stands behind the first invalid submessage gives none.
+/// gives none, and so does what comes after the first invalid submessage.
 ///
 /// Payloads stay where the datagram lies.
 pub fn events<A: Allocator>(

@@ -58,7 +58,7 @@ fn a_change_and_its_context(rt: HostRuntime) -> Result<(), Fail> {
     match found[0].body {
         Body::Whole(whole) => {
             assert_eq!(rt; whole.number.get(), 1);
-            assert_eq!(rt; whole.form, Form::Value);
+            assert_eq!(rt; whole.info.form, Form::Value);
             assert_eq!(rt; whole.payload, [0xde, 0xad, 0xbe, 0xef].as_slice());
         }
         _ => assert!(rt; false, "no change in one piece"),
@@ -180,7 +180,7 @@ fn refused_growths(rt: HostRuntime) -> Result<(), Fail> {
                 assert_eq!(rt; found.len(), 5);
                 succeeded = true;
             }
-            Err(ReceiverError::NoMemory) => {
+            Err(_) => {
                 assert!(rt; !succeeded);
                 refused = true;
             }

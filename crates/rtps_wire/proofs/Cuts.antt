@@ -13,7 +13,7 @@ use Rattle.rtps_wire.specs.Submessage.{Content, Item, parts_of}
 use Rattle.rtps_wire.proofs.Grammar.{one_reading}
 use Rattle.rtps_wire.proofs.Steps.{reading_end, reading_fault, reading_item}
 
-items_of : List ℕ → List Item
+unfoldable pub items_of : List ℕ → List Item
 items_of octets = (reading octets).items
 
 fault_items : (octets : List ℕ) (f : SubmessageFault) → front_of octets ≡ Err f → items_of octets ≡ []
@@ -24,7 +24,7 @@ nothing_items : items_of [] ≡ []
 unfolding items_of front_of
 nothing_items = ap (λ (r : Reading). r.items) (reading_end [] refl)
 
-item_items : (octets rest : List ℕ) (i : Item) → front_of octets ≡ Ok (Some (i, rest)) → items_of octets ≡ i ∷ items_of rest
+pub item_items : (octets rest : List ℕ) (i : Item) → front_of octets ≡ Ok (Some (i, rest)) → items_of octets ≡ i ∷ items_of rest
 unfolding items_of
 item_items octets rest i h = ap (λ (r : Reading). r.items) (reading_item octets rest i h)
 

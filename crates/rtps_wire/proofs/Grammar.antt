@@ -60,7 +60,7 @@ nothing_front : (octets : List ℕ) → octets ≡ [] → front_of octets ≡ Ok
 unfolding front_of
 nothing_front octets e = rw e refl
 
-before_front : (i : Item) (octets rest : List ℕ) → IsBefore i octets rest → front_of octets ≡ Ok (Some (i, rest))
+pub before_front : (i : Item) (octets rest : List ℕ) → IsBefore i octets rest → front_of octets ≡ Ok (Some (i, rest))
 before_front i octets rest b = framed_front i.id i.flags octets b.body rest b.framed ∙ rw b.valid refl
 
 ends_front : (octets : List ℕ) (fault : Option SubmessageFault) → EndsWith octets fault → reading octets ≡ record { items = []; fault = fault }

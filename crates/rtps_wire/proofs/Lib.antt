@@ -6,3 +6,4 @@ pub mod Bounds
 pub mod OneReading
 pub mod Sent
 pub mod Cuts
+mod CutMessages

@@ -9,6 +9,7 @@ use Rattle.std.proofs.lemmas.List.{append-nil, append_assoc, drop_at, get_or-tak
 use Rattle.rtps_types.specs.declared.field.Endian.TheVariants.{Little}
 use Rattle.rtps_types.specs.declared.identity.EntityId.{EntityId}
 use Rattle.rtps_types.specs.declared.identity.GuidPrefix.{GuidPrefix}
+use Rattle.rtps_types.specs.Number.{value_of}
 use Rattle.rtps_types.specs.Field.{number, number_at, octets_at, put_at, sequence_number_at, spelled, spelled_sn}
 use Rattle.rtps_types.specs.NumberSet.{NumberSet, members, names}
 use Rattle.rtps_types.specs.Sets.{frag_view, sn_view}
@@ -320,7 +321,7 @@ pub record NackFragIsSized (a : NackFrag) : Type 0 where
   pub to : length a.writer.prefix.0 ≡ 12
   pub reader : length a.reader.entity.0 ≡ 4
   pub writer : length a.writer.entity.0 ≡ 4
-  pub signed : a.number < 2 ^ 63
+  pub signed : value_of a.number < 2 ^ 63
   pub base : a.missing.base < 2 ^ 32
   pub few : a.missing.bits ≤ 256
   pub words : length a.missing.words ≡ 8
@@ -332,7 +333,7 @@ pub record NackFragFields (a : NackFrag) (body : List ℕ) : Type 0 where
   pub length : length body ≡ 28 + 4 * word_count (frag_view a.missing)
   pub reader : entity_at body 0 ≡ Some a.reader.entity
   pub writer : entity_at body 4 ≡ Some a.writer.entity
-  pub number : sequence_number_at Little body 8 ≡ Some (pos a.number)
+  pub number : sequence_number_at Little body 8 ≡ Some (pos (value_of a.number))
   pub base : number_at Little 4 body 16 ≡ Some a.missing.base
   pub bits : number_at Little 4 body 20 ≡ Some a.missing.bits
   pub words : words_at Little (word_count (frag_view a.missing)) body 24 ≡ Some (read_words (frag_view a.missing))
@@ -344,7 +345,7 @@ nack_frag_fields a h =
     let n = word_count s in
     let r = a.reader.entity.0 in
     let w = a.writer.entity.0 in
-    let sn = spelled_sn Little (pos a.number) in
+    let sn = spelled_sn Little (pos (value_of a.number)) in
     let base = spelled Little 4 s.base in
     let bits = spelled Little 4 s.bits in
     let words = spelled_words (sent_words s) in
@@ -357,13 +358,13 @@ nack_frag_fields a h =
     let size : length words ≡ 4 * n = length-spelled_words (sent_words s) ∙ ap (λ (m : ℕ). 4 * m) taken in
     let six = length_2 (r ++ w ++ sn ++ base ++ bits) words 24 (4 * n) five size in
     let all = length_2 (r ++ w ++ sn ++ base ++ bits ++ words) count (24 + 4 * n) 4 six refl in
-    let fits : FitsSigned w64 (pos a.number) = record { sfits = h.signed } in
+    let fits : FitsSigned w64 (pos (value_of a.number)) = record { sfits = h.signed } in
     let few : s.bits < 256 ^ 4 = omega (arith, h.few) in
     record {
       length = all ∙ omega arith;
       reader = entity_there 0 [] (w ++ (sn ++ (base ++ (bits ++ (words ++ count))))) (nack_frag_body a) a.reader.entity (seven_1 r w sn base bits words count) refl h.reader;
       writer = entity_there 4 r (sn ++ (base ++ (bits ++ (words ++ count)))) (nack_frag_body a) a.writer.entity (seven_1 r w sn base bits words count) h.reader h.writer;
-      number = ap (λ (o : List ℕ). sequence_number_at Little o 8) (seven_2 r w sn base bits words count) ∙ sn_there 8 (pos a.number) (r ++ w) (base ++ (bits ++ (words ++ count))) two fits;
+      number = ap (λ (o : List ℕ). sequence_number_at Little o 8) (seven_2 r w sn base bits words count) ∙ sn_there 8 (pos (value_of a.number)) (r ++ w) (base ++ (bits ++ (words ++ count))) two fits;
       base = ap (λ (o : List ℕ). number_at Little 4 o 16) (seven_3 r w sn base bits words count) ∙ number_there 16 4 s.base (r ++ w ++ sn) (bits ++ (words ++ count)) three h.base;
       bits = ap (λ (o : List ℕ). number_at Little 4 o 20) (seven_4 r w sn base bits words count) ∙ number_there 20 4 s.bits (r ++ w ++ sn ++ base) (words ++ count) four few;
       words = ap (λ (o : List ℕ). words_at Little n o 24) (seven_5 r w sn base bits words count) ∙ words_there 24 n (r ++ w ++ sn ++ base ++ bits) (sent_words s) count five taken (h.again count);
@@ -401,8 +402,8 @@ regrouped_more : (front a b c d e f g : List ℕ) → front ++ a ++ b ++ c ++ d 
 regrouped_more front a b c d e f g = simp append_assoc
 
 -- the fields one after the other are the datagram
-pub nack_frag_built : (a : NackFrag) (n : ℕ) (words : List ℕ) → NackFragIsSized a → n ≡ 28 + 4 * word_count (frag_view a.missing) → words ≡ sent_words (frag_view a.missing) → opened a.reader.prefix a.writer.prefix ++ (0x12 ∷ 1 ∷ []) ++ spelled Little 2 n ++ a.reader.entity.0 ++ a.writer.entity.0 ++ spelled_sn Little (pos a.number) ++ spelled Little 4 a.missing.base ++ spelled Little 4 a.missing.bits ++ spelled_words words ++ spelled Little 4 a.count ≡ nack_frag_octets a
+pub nack_frag_built : (a : NackFrag) (n : ℕ) (words : List ℕ) → NackFragIsSized a → n ≡ 28 + 4 * word_count (frag_view a.missing) → words ≡ sent_words (frag_view a.missing) → opened a.reader.prefix a.writer.prefix ++ (0x12 ∷ 1 ∷ []) ++ spelled Little 2 n ++ a.reader.entity.0 ++ a.writer.entity.0 ++ spelled_sn Little (pos (value_of a.number)) ++ spelled Little 4 a.missing.base ++ spelled Little 4 a.missing.bits ++ spelled_words words ++ spelled Little 4 a.count ≡ nack_frag_octets a
 unfolding nack_frag_octets
 nack_frag_built a n words h size ws =
     let len : n ≡ length (nack_frag_body a) = size ∙ sym (nack_frag_fields a h).length in
-    rw (ws, len) (regrouped_more (opened a.reader.prefix a.writer.prefix ++ (0x12 ∷ 1 ∷ []) ++ spelled Little 2 (length (nack_frag_body a))) a.reader.entity.0 a.writer.entity.0 (spelled_sn Little (pos a.number)) (spelled Little 4 a.missing.base) (spelled Little 4 a.missing.bits) (spelled_words (sent_words (frag_view a.missing))) (spelled Little 4 a.count))
+    rw (ws, len) (regrouped_more (opened a.reader.prefix a.writer.prefix ++ (0x12 ∷ 1 ∷ []) ++ spelled Little 2 (length (nack_frag_body a))) a.reader.entity.0 a.writer.entity.0 (spelled_sn Little (pos (value_of a.number))) (spelled Little 4 a.missing.base) (spelled Little 4 a.missing.bits) (spelled_words (sent_words (frag_view a.missing))) (spelled Little 4 a.count))

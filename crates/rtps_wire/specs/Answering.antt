@@ -4,6 +4,7 @@ use Rattle.std.specs.List.{flat_map}
 use Rattle.rtps_types.specs.declared.field.Endian.TheVariants.{Little}
 use Rattle.rtps_types.specs.declared.identity.GuidPrefix.{GuidPrefix}
 use Rattle.rtps_types.specs.Field.{number_at, sequence_number_at, spelled, spelled_sn}
+use Rattle.rtps_types.specs.Number.{value_of}
 use Rattle.rtps_types.specs.NumberSet.{NumberSet, members}
 use Rattle.rtps_types.specs.Sets.{frag_view, sn_view}
 use Rattle.rtps_wire.specs.declared.acknack.AckNack.{AckNack}
@@ -51,7 +52,7 @@ acknack_octets a = answering a.reader.prefix a.writer.prefix 0x06 (acknack_flags
 -- readerId, writerId, writerSN, fragmentNumberState, count
 abbrev pub nack_frag_body : NackFrag → List ℕ
 nack_frag_body a =
-    a.reader.entity.0 ++ a.writer.entity.0 ++ spelled_sn Little (pos a.number) ++ spelled Little 4 a.missing.base ++ spelled Little 4 a.missing.bits ++ spelled_words (sent_words (frag_view a.missing)) ++ spelled Little 4 a.count
+    a.reader.entity.0 ++ a.writer.entity.0 ++ spelled_sn Little (pos (value_of a.number)) ++ spelled Little 4 a.missing.base ++ spelled Little 4 a.missing.bits ++ spelled_words (sent_words (frag_view a.missing)) ++ spelled Little 4 a.count
 
 unfoldable pub nack_frag_octets : NackFrag → List ℕ
 nack_frag_octets a = answering a.reader.prefix a.writer.prefix 0x12 1 (nack_frag_body a)
@@ -88,7 +89,7 @@ pub record TellsNackFrag (a : NackFrag) (octets : List ℕ) : Type 0 where
   pub framed : IsFramed 0x12 1 (drop 36 octets) body []
   pub reader : entity_at body 0 ≡ Some a.reader.entity
   pub writer : entity_at body 4 ≡ Some a.writer.entity
-  pub number : sequence_number_at Little body 8 ≡ Some (pos a.number)
+  pub number : sequence_number_at Little body 8 ≡ Some (pos (value_of a.number))
   pub base : number_at Little 4 body 16 ≡ Some a.missing.base
   pub bits : number_at Little 4 body 20 ≡ Some a.missing.bits
   pub words : words_at Little (word_count (frag_view a.missing)) body 24 ≡ Some (read_words (frag_view a.missing))

@@ -1,13 +1,27 @@
 -- What a message that was cut short is read as (DDSI-RTPS 8.3.4.1, 9.4.5.1).
-use Rattle.std.specs.Prelude.{◌≡◌, ℕ, List, [], ◌∷◌, ◌++◌, take, Option, true}
+use Rattle.std.specs.Prelude.{◌≡◌, ℕ, ◌+◌, ◌-◌, ◌≤◌, List, [], ◌∷◌, ◌++◌, length, take, drop, Option, Err, true, nat_lt, MatchBool}
 use Rattle.rtps_types.specs.Field.{number}
+use Rattle.rtps_wire.specs.declared.message.Header.{Header}
+use Rattle.rtps_wire.specs.declared.message.HeaderFault.TheVariants.{Short}
 use Rattle.rtps_wire.specs.declared.submessage.SubmessageFault.{SubmessageFault}
 use Rattle.rtps_wire.specs.Fields.{endian_of}
-use Rattle.rtps_wire.specs.Message.{IsReading}
+use Rattle.rtps_wire.specs.Header.{header_of}
+use Rattle.rtps_wire.specs.Message.{IsBefore, IsMessage}
+use Rattle.rtps_wire.specs.OneReading.{IsOnly}
 use Rattle.rtps_wire.specs.Reading.{runs_to_end}
 use Rattle.rtps_wire.specs.Submessage.{Item}
 
--- a submessage stands last in octets, and its stated length is a 0 that stands for all that follows
+-- octets begin with these submessages, each before all that follows it, and then comes a rest
+abbrev pub BeginWith : List ℕ → List Item → List ℕ → Type 0
+BeginWith octets [] rest = octets ≡ rest
+BeginWith octets (i ∷ is) rest = (after : List ℕ) × IsBefore i octets after × BeginWith after is rest
+
+-- the submessages that end at or before place n are read of a cut, before any other
+abbrev pub KeepsWhatEnds : List ℕ → ℕ → List Item → Type 0
+KeepsWhatEnds octets n cut =
+    (first : List Item) (rest : List ℕ) → BeginWith octets first rest → length octets ≤ n + length rest → (others : List Item) × (cut ≡ first ++ others)
+
+-- a submessage is the last one in octets, and its stated length is a 0 that stands for all that follows
 pub record RunsToEnd (i : Item) (octets : List ℕ) : Type 0 where
   pub before : List ℕ
   pub third : ℕ
@@ -31,7 +45,16 @@ pub record AreFirst (cut whole : List Item) (octets : List ℕ) : Type 0 where
   pub of_cut : cut ≡ first ++ last
   pub ran : IsLast last octets
 
--- wherever octets are cut
+-- the first n octets of a message have the same header; all submessages that end among them are read, and no others but for one that ran to the end
+pub record ReadsFirst (octets : List ℕ) (n : ℕ) (header : Header) (whole : List Item) : Type 0 where
+  pub cut : List Item
+  pub cause : Option SubmessageFault
+  pub message : IsOnly (take n octets) header cut cause
+  pub ended : KeepsWhatEnds (drop 20 octets) (n - 20) cut
+  pub first : AreFirst cut whole (drop 20 (take n octets))
+
+-- wherever a message is cut: fewer octets than its header are too short, and others are read as far as they go
 abbrev pub CutsReadFirst : Type 0
 CutsReadFirst =
-    (octets : List ℕ) (n : ℕ) (whole cut : List Item) (fault cause : Option SubmessageFault) → IsReading octets whole fault → IsReading (take n octets) cut cause → AreFirst cut whole (take n octets)
+    (octets : List ℕ) (n : ℕ) (header : Header) (whole : List Item) (fault : Option SubmessageFault) → IsMessage octets header whole fault
+    → MatchBool (nat_lt n 20) (header_of (take n octets) ≡ Err Short) (ReadsFirst octets n header whole)

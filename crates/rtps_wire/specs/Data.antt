@@ -2,8 +2,8 @@
 use Rattle.std.specs.Prelude.{ℕ, List, [], ◌+◌, Option, Some, None, ◌&&◌, nat_lt, if◌then◌else◌}
 use Rattle.rtps_types.specs.declared.field.Endian.{Endian}
 use Rattle.rtps_types.specs.declared.identity.EntityId.{EntityId}
-use Rattle.rtps_types.specs.declared.identity.KeyHash.{KeyHash}
 use Rattle.rtps_types.specs.Field.{number_at}
+use Rattle.rtps_wire.specs.declared.data.ChangeInfo.{ChangeInfo}
 use Rattle.rtps_wire.specs.declared.data.Data.{Data}
 use Rattle.rtps_wire.specs.declared.data.Form.{Form}
 use Rattle.rtps_wire.specs.declared.data.Form.TheVariants.{Value, Key, Other, Nothing}
@@ -16,13 +16,11 @@ pub record Change : Type 0 where
   pub reader : EntityId
   pub writer : EntityId
   pub number : ℕ
-  pub form : Form
-  pub status : ℕ
-  pub hash : Option KeyHash
+  pub info : ChangeInfo
   pub payload : List ℕ
 
 abbrev pub data_view : Data → Change
-data_view d = record { reader = d.reader; writer = d.writer; number = d.number; form = d.form; status = d.status; hash = d.hash; payload = d.payload.now }
+data_view d = record { reader = d.reader; writer = d.writer; number = d.number; info = d.info; payload = d.payload.now }
 
 -- flag Q, 2, says that inline QoS follows
 abbrev pub qos_of : ℕ → Endian → List ℕ → Option InlineQos
@@ -36,11 +34,11 @@ form_of flags =
     if has 4 flags then Some Value else
     if has 8 flags then Some Key else Some Nothing
 
--- the payload runs from behind the inline QoS to the end, where D or K says that there is one
+-- the payload runs from after the inline QoS to the end, where D or K says that there is one
 abbrev pub payload_of : ℕ → List ℕ → ℕ → Option (List ℕ)
 payload_of flags rest used = if has 12 flags then from rest used else Some []
 
--- octetsToInlineQos counts from just behind itself; invalid below 16 and past the end
+-- octetsToInlineQos counts from just after itself; invalid below 16 and past the end
 unfoldable pub data_of : ℕ → Endian → List ℕ → Option Change
 data_of flags e body = do
   offset ← number_at e 2 body 2
@@ -51,4 +49,4 @@ data_of flags e body = do
   qos ← qos_of flags e rest
   form ← form_of flags
   payload ← payload_of flags rest qos.used
-  Some (record { reader = reader; writer = writer; number = number; form = form; status = qos.status; hash = qos.hash; payload = payload })
+  Some (record { reader = reader; writer = writer; number = number; info = record { form = form; status = qos.status; hash = qos.hash }; payload = payload })

@@ -2,8 +2,8 @@
 use Rattle.std.specs.Prelude.{ℕ, List, ◌+◌, Option, Some, None, ◌==◌, nat_lt, if◌then◌else◌}
 use Rattle.rtps_types.specs.declared.field.Endian.{Endian}
 use Rattle.rtps_types.specs.declared.identity.EntityId.{EntityId}
-use Rattle.rtps_types.specs.declared.identity.KeyHash.{KeyHash}
 use Rattle.rtps_types.specs.Field.{number_at}
+use Rattle.rtps_wire.specs.declared.data.ChangeInfo.{ChangeInfo}
 use Rattle.rtps_wire.specs.declared.data.Form.{Form}
 use Rattle.rtps_wire.specs.declared.data.Form.TheVariants.{Value, Key, Other}
 use Rattle.rtps_wire.specs.declared.data_frag.DataFrag.{DataFrag}
@@ -19,19 +19,17 @@ pub record Fragments : Type 0 where
   pub count : ℕ
   pub size : ℕ
   pub sample : ℕ
-  pub form : Form
-  pub status : ℕ
-  pub hash : Option KeyHash
+  pub info : ChangeInfo
   pub payload : List ℕ
 
 abbrev pub frag_view : DataFrag → Fragments
-frag_view d = record { reader = d.reader; writer = d.writer; number = d.number; start = d.start; count = d.count; size = d.size; sample = d.sample; form = d.form; status = d.status; hash = d.hash; payload = d.payload.now }
+frag_view d = record { reader = d.reader; writer = d.writer; number = d.number; start = d.start; count = d.count; size = d.size; sample = d.sample; info = d.info; payload = d.payload.now }
 
 -- flag N, 8, says no standard form, K, 4, a key; else it is a value
 abbrev pub frag_form_of : ℕ → Form
 frag_form_of flags = if has 8 flags then Other else if has 4 flags then Key else Value
 
--- octetsToInlineQos counts from just behind itself; invalid below 28 and past the end, and where the fragments begin with number 0
+-- octetsToInlineQos counts from just after itself; invalid below 28 and past the end, and where the fragments begin with number 0
 unfoldable pub data_frag_of : ℕ → Endian → List ℕ → Option Fragments
 data_frag_of flags e body = do
   offset ← number_at e 2 body 2
@@ -45,4 +43,4 @@ data_frag_of flags e body = do
   rest ← if start == 0 then None else if nat_lt offset 28 then None else from body (4 + offset)
   qos ← qos_of flags e rest
   payload ← from rest qos.used
-  Some (record { reader = reader; writer = writer; number = number; start = start; count = count; size = size; sample = sample; form = frag_form_of flags; status = qos.status; hash = qos.hash; payload = payload })
+  Some (record { reader = reader; writer = writer; number = number; start = start; count = count; size = size; sample = sample; info = record { form = frag_form_of flags; status = qos.status; hash = qos.hash }; payload = payload })

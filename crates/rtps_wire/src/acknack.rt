@@ -28,7 +28,7 @@ const ACKNACK: u8 = 0x06;
 const FINAL: u8 = 0x02;
 
 /// The datagram with which a reader answers a writer's heartbeat; flag F is set where `missing` has
-/// no offset. It fails only for want of memory.
+/// no offset. It fails only where memory runs out.
 pub fn write_acknack<A: Allocator>(alloc: A, answer: AckNack) -> Result<Octets<A>, AllocError>
     ensures octets { IfOk result (λ octets. octets ≡ acknack_octets answer) }
     ensures message { IfOk result (λ octets. IsOnly octets
@@ -56,7 +56,7 @@ pub fn write_acknack<A: Allocator>(alloc: A, answer: AckNack) -> Result<Octets<A
     Ok(Octets::new(octets))
 }
 
-/// Flag F stands where the set has no offset, so that nothing is missing: no answer is asked for then.
+/// Flag F is set where the set has no offset, so that nothing is missing: no answer is asked for then.
 fn flags_of(missing: &SnSet) -> u8
     ensures { result ≡ acknack_flags (sn_view missing.now) }
 {

@@ -21,6 +21,16 @@ pub enum Form {
     Nothing,
 }
 
+/// What comes with a change besides its number and its payload.
+#[derive(Clone, Copy, Debug, PartialEq, Eq)]
+pub struct ChangeInfo {
+    pub form: Form,
+    /// The last octet of the status info in the inline QoS, 0 where there is none.
+    pub status: u8,
+    /// The key hash in the inline QoS.
+    pub hash: Option<KeyHash>,
+}
+
 /// The fields of a DATA.
 #[derive(Clone, Copy, Debug)]
 pub struct Data<'a> {
@@ -28,12 +38,8 @@ pub struct Data<'a> {
     pub writer: EntityId,
     /// The number of the change, at least 1.
     pub number: u64,
-    pub form: Form,
-    /// The last octet of the status info in the inline QoS, 0 where there is none.
-    pub status: u8,
-    /// The key hash in the inline QoS.
-    pub hash: Option<KeyHash>,
-    /// What stands behind the inline QoS, its encapsulation first; empty where no payload is told.
+    pub info: ChangeInfo,
+    /// What follows the inline QoS, the encapsulation first; empty where the flags announce no payload.
     pub payload: &'a [u8],
 }
 
@@ -76,9 +82,11 @@ pub(crate) fn read_data(flags: u8, endian: Endian, body: &[u8]) -> Option<Data<'
         reader,
         writer,
         number,
-        form,
-        status: qos.status,
-        hash: qos.hash,
+        info: ChangeInfo {
+            form,
+            status: qos.status,
+            hash: qos.hash,
+        },
         payload,
     })
 }

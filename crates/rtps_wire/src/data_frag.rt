@@ -4,9 +4,9 @@ ghost use Rattle.std.specs.Prelude.{◌≡◌};
 ghost use Rattle.std.specs.Option.{option_map};
 ghost use Rattle.rtps_wire.specs.DataFrag.{data_frag_of, frag_form_of, frag_view};
 
-use crate::data::{Form, qos_at};
+use crate::data::{ChangeInfo, Form, qos_at};
 use crate::fields::{get_entity, get_positive, get_rest};
-use rtps_types::{Endian, EntityId, KeyHash, get_u16, get_u32};
+use rtps_types::{Endian, EntityId, get_u16, get_u32};
 
 /// The fields of a DATA_FRAG.
 #[derive(Clone, Copy, Debug)]
@@ -23,12 +23,8 @@ pub struct DataFrag<'a> {
     pub size: u16,
     /// The octets of the whole payload.
     pub sample: u32,
-    pub form: Form,
-    /// The last octet of the status info in the inline QoS, 0 where there is none.
-    pub status: u8,
-    /// The key hash in the inline QoS.
-    pub hash: Option<KeyHash>,
-    /// What stands behind the inline QoS: the octets of the fragments, and maybe more.
+    pub info: ChangeInfo,
+    /// What follows the inline QoS: the octets of the fragments, and maybe more.
     pub payload: &'a [u8],
 }
 
@@ -68,9 +64,11 @@ pub(crate) fn read_data_frag(flags: u8, endian: Endian, body: &[u8]) -> Option<D
         count,
         size,
         sample,
-        form: form_at(flags),
-        status: qos.status,
-        hash: qos.hash,
+        info: ChangeInfo {
+            form: form_at(flags),
+            status: qos.status,
+            hash: qos.hash,
+        },
         payload,
     })
 }

@@ -14,8 +14,9 @@ pub fn one_datagram_one_reading()
     ensures { EachHasOneReading }
 {}
 
-/// Wherever a message is cut, the submessages before the cut are read as they were; the last one
-/// that is read may be another where its stated length is 0, so that it runs to the end.
+/// Wherever a message is cut, each submessage that ends at or before the cut is read as it was. No
+/// other is, but for one whose stated length is 0, so that it runs to the end. A message that is cut
+/// in its header is too short.
 pub fn cuts_read_first()
     ensures { CutsReadFirst }
 {}

@@ -23,7 +23,7 @@ mod submessages;
 mod tests;
 
 pub use acknack::{AckNack, write_acknack};
-pub use data::{Data, Form};
+pub use data::{ChangeInfo, Data, Form};
 pub use data_frag::DataFrag;
 pub use gap::Gap;
 pub use heartbeat::Heartbeat;

@@ -1,11 +1,11 @@
 //! NACK_FRAG: which fragments of a change a reader misses (DDSI-RTPS 8.3.7.11, 9.4.5.13).
 
-ghost use Rattle.std.specs.Prelude.{◌≡◌, ◌^◌, ◌<◌, None, IfOk};
+ghost use Rattle.std.specs.Prelude.{◌≡◌, None, IfOk};
 ghost use Rattle.rtps_wire.specs.Answering.{TellsNackFrag, answer_items, nack_frag_octets, our_header};
 ghost use Rattle.rtps_wire.specs.OneReading.{IsOnly};
 
 use crate::answering::{LITTLE, begin, push_octets, push_sn, push_u32, push_words};
-use rtps_types::{FragSet, Guid, Octets};
+use rtps_types::{FragSet, Guid, Number, Octets};
 use std::alloc::{AllocError, Allocator};
 
 /// What a NACK_FRAG tells a writer.
@@ -16,7 +16,7 @@ pub struct NackFrag {
     /// The writer that is answered.
     pub writer: Guid,
     /// The change.
-    pub number: u64,
+    pub number: Number,
     /// Its fragments that are missing.
     pub missing: FragSet,
     /// Rises from one answer to the next.
@@ -25,9 +25,8 @@ pub struct NackFrag {
 
 const NACK_FRAG: u8 = 0x12;
 
-/// The datagram with which a reader asks a writer for fragments. It fails only for want of memory.
+/// The datagram with which a reader asks a writer for fragments. It fails only where memory runs out.
 pub fn write_nack_frag<A: Allocator>(alloc: A, answer: NackFrag) -> Result<Octets<A>, AllocError>
-    requires { answer.number < 2 ^ 63 }
     ensures octets { IfOk result (λ octets. octets ≡ nack_frag_octets answer) }
     ensures message { IfOk result (λ octets. IsOnly octets
         (our_header answer.reader.prefix)
@@ -54,7 +53,7 @@ pub fn write_nack_frag<A: Allocator>(alloc: A, answer: NackFrag) -> Result<Octet
     )?;
     push_octets(&mut octets, &reader.entity.0);
     push_octets(&mut octets, &writer.entity.0);
-    push_sn(&mut octets, number);
+    push_sn(&mut octets, number.get());
     push_u32(&mut octets, missing.base);
     push_u32(&mut octets, missing.bits);
     push_words(&mut octets, &missing.words[..words]);

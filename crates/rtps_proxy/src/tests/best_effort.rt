@@ -1,10 +1,9 @@
 //! What a best-effort reader takes.
 
-use super::{HASH, PAYLOAD, TIME, new_proxy, number_of, on_whole, whole_of};
+use super::{INFO, PAYLOAD, TIME, new_proxy, number_of, on_whole, whole_of};
 use crate::*;
 use rtps_receiver::{Body, Fragment, HeartbeatFrag, events};
 use rtps_types::GuidPrefix;
-use rtps_wire::Form;
 use std::alloc::Global;
 use std::test::Fail;
 
@@ -45,9 +44,7 @@ fn a_change_comes_as_it_was_sent(rt: HostRuntime) -> Result<(), Fail> {
     let change = &effects.ready[0];
     assert_eq!(rt; change.number.get(), 7);
     assert_eq!(rt; change.time, Some(TIME));
-    assert_eq!(rt; change.form, Form::Key);
-    assert_eq!(rt; change.status, 1);
-    assert_eq!(rt; change.hash, Some(HASH));
+    assert_eq!(rt; change.info, INFO);
     assert_eq!(rt; change.payload.as_slice(), PAYLOAD.as_slice());
     Ok(())
 }
@@ -90,9 +87,7 @@ fn fragments_give_nothing(rt: HostRuntime) -> Result<(), Fail> {
         count: 1,
         size: 4,
         sample: 4,
-        form: Form::Value,
-        status: 0,
-        hash: None,
+        info: INFO,
         payload: &PAYLOAD,
     };
     let given = counts(proxy.on_fragment(rt.alloc(), None, &fragment)?);

@@ -1,11 +1,10 @@
 //! Changes that wait, and numbers that are given up.
 
 use super::{
-    HASH, PAYLOAD, TIME, gives, has_ready, new_proxy, on_final, on_gap, on_whole, whole_of,
+    INFO, PAYLOAD, TIME, gives, has_ready, new_proxy, on_final, on_gap, on_whole, whole_of,
 };
 use crate::*;
 use rtps_receiver::{Body, Fragment, HeartbeatFrag};
-use rtps_wire::Form;
 use std::test::Fail;
 
 #[test]
@@ -22,9 +21,7 @@ fn a_later_change_waits(rt: HostRuntime) -> Result<(), Fail> {
     assert!(rt; matches!(kept.payload, Payload::Kept(_)));
     assert_eq!(rt; kept.payload.as_slice(), PAYLOAD.as_slice());
     assert_eq!(rt; kept.time, Some(TIME));
-    assert_eq!(rt; kept.form, Form::Key);
-    assert_eq!(rt; kept.status, 1);
-    assert_eq!(rt; kept.hash, Some(HASH));
+    assert_eq!(rt; kept.info, INFO);
     // Each comes once.
     assert!(rt; has_ready(&on_whole(rt.alloc(), &mut proxy, 2)?, &[]));
     Ok(())
@@ -87,9 +84,7 @@ fn fragments_do_nothing(rt: HostRuntime) -> Result<(), Fail> {
         count: 1,
         size: 4,
         sample: 4,
-        form: Form::Value,
-        status: 0,
-        hash: None,
+        info: INFO,
         payload: &PAYLOAD,
     };
     let effects = proxy.on_fragment(rt.alloc(), None, &fragment)?;

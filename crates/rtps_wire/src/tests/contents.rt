@@ -88,7 +88,7 @@ fn a_change_carries_what_its_flags_say(rt: HostRuntime) -> Result<(), Fail> {
         octets.extend_from_slice(behind)?;
         match (only(octets.as_slice()), carries) {
             (Some(Parts::Data(data)), Some((form, payload))) => {
-                assert_eq!(rt; data.form, form, "{octets:?}");
+                assert_eq!(rt; data.info.form, form, "{octets:?}");
                 assert_eq!(rt; data.payload, payload, "{octets:?}");
             }
             (found, carries) => {
@@ -127,7 +127,7 @@ fn fragments_carry_what_their_flags_say(rt: HostRuntime) -> Result<(), Fail> {
         octets.extend_from_slice(behind)?;
         match (only(octets.as_slice()), carries) {
             (Some(Parts::DataFrag(data)), Some((form, payload))) => {
-                assert_eq!(rt; data.form, form, "{octets:?}");
+                assert_eq!(rt; data.info.form, form, "{octets:?}");
                 assert_eq!(rt; data.payload, payload, "{octets:?}");
             }
             (found, carries) => {
@@ -248,7 +248,7 @@ fn inline_qos_is_good_or_the_change_is_invalid(rt: HostRuntime) -> Result<(), Fa
         let mut octets: Vec<u8> = Vec::from_slice(rt.alloc(), &front)?;
         octets.extend_from_slice(row.octets)?;
         let says = match only(octets.as_slice()) {
-            Some(Parts::Data(data)) => Some((data.status, data.hash)),
+            Some(Parts::Data(data)) => Some((data.info.status, data.info.hash)),
             _ => None,
         };
         assert_eq!(rt; says, row.says, "{:?}", row.octets);

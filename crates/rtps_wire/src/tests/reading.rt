@@ -246,7 +246,7 @@ fn a_change_in_either_order(rt: HostRuntime) -> Result<(), Fail> {
             (READER, WRITER, 9)
         );
         assert_eq!(rt;
-            (data.form, data.status, data.hash),
+            (data.info.form, data.info.status, data.info.hash),
             (Form::Value, 3, Some(HASH))
         );
         assert_eq!(rt; data.payload, b"\x00\x01\x00\x00\xab".as_slice());
@@ -291,7 +291,7 @@ fn fragments_in_either_order(rt: HostRuntime) -> Result<(), Fail> {
             (3, 2, 4, 13)
         );
         assert_eq!(rt;
-            (data.form, data.status, data.hash),
+            (data.info.form, data.info.status, data.info.hash),
             (Form::Key, 0, Some(HASH))
         );
         assert_eq!(rt; data.payload, b"\x01\x02\x03\x04\x05".as_slice());

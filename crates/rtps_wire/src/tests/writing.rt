@@ -3,7 +3,7 @@
 use super::{READER, WRITER};
 use crate::*;
 use linked_list_allocator::LocalHeap;
-use rtps_types::{FragSet, Guid, GuidPrefix, SnSet};
+use rtps_types::{FragSet, Guid, GuidPrefix, Number, SnSet};
 use std::test::Fail;
 
 /// The reader that answers.
@@ -85,7 +85,7 @@ const MISSING: [(SnSet, u32, &[u8]); 5] = [
             \x00\x00\x00\x00\
             \x01\x00\x00\x00",
     ),
-    // words behind the last bit are not sent
+    // words after the last bit are not sent
     (
         SnSet {
             base: (1 << 32) + 2,
@@ -153,7 +153,7 @@ const MISSING_FRAGMENTS: [(u64, FragSet, u32, &[u8]); 3] = [
             \x00\x00\x00\xc0\
             \x01\x00\x00\x00",
     ),
-    // words behind the last bit are not sent
+    // words after the last bit are not sent
     (
         1 << 62,
         FragSet {
@@ -178,7 +178,7 @@ fn a_nack_frag_names_fragments_that_are_missing(rt: HostRuntime) -> Result<(), F
         let answer = NackFrag {
             reader: OURS,
             writer: THEIRS,
-            number,
+            number: number_of(number)?,
             missing,
             count,
         };
@@ -200,21 +200,31 @@ const ACKNACK: AckNack = AckNack {
     count: 1,
 };
 
+fn number_of(value: u64) -> Result<Number, Fail> {
+    match Number::new(value) {
+        Some(number) => Ok(number),
+        None => Err(Fail::new("no number")),
+    }
+}
+
 /// An answer of 100 octets.
-const NACK_FRAG: NackFrag = NackFrag {
-    reader: OURS,
-    writer: THEIRS,
-    number: 1,
-    missing: FragSet {
-        base: 1,
-        bits: 256,
-        words: [1; 8],
-    },
-    count: 1,
-};
+fn nack_frag() -> Result<NackFrag, Fail> {
+    Ok(NackFrag {
+        reader: OURS,
+        writer: THEIRS,
+        number: number_of(1)?,
+        missing: FragSet {
+            base: 1,
+            bits: 256,
+            words: [1; 8],
+        },
+        count: 1,
+    })
+}
 
 #[test]
-fn a_refused_growth_is_want_of_memory(rt: HostRuntime) -> Result<(), Fail> {
+fn a_refused_growth_is_out_of_memory(rt: HostRuntime) -> Result<(), Fail> {
+    let asking = nack_frag()?;
     let (mut refused, mut written) = (0, 0);
     for step in 0..16 {
         let heap = LocalHeap::new(rt.alloc(), step * 16)?;
@@ -225,7 +235,7 @@ fn a_refused_growth_is_want_of_memory(rt: HostRuntime) -> Result<(), Fail> {
             }
             Err(_) => refused |= 1,
         }
-        match write_nack_frag(&heap, NACK_FRAG) {
+        match write_nack_frag(&heap, asking) {
             Ok(octets) => {
                 assert_eq!(rt; octets.as_slice().len(), 100);
                 written |= 2;

@@ -1,15 +1,16 @@
-use Rattle.std.proofs.Common.{◌≡◌, ◌++◌, ◌&&◌, refl, sym, ap, ◌∙◌, ◌∷◌, true, false, max, map, is_some, rules}
+use Rattle.std.proofs.Common.{◌≡◌, ◌++◌, ◌&&◌, ◌||◌, not, leb, Bool, subst, refl, sym, ap, ◌∙◌, ◌∷◌, true, false, max, map, is_some, rules}
 use Rattle.std.specs.Prelude.{int_lt}
 use Rattle.std.proofs.lemmas.Int.{to_z-of_z}
 use mir.Syntax.{w32}
 use mir.Val.{to_z, of_z}
 use Rattle.rtps_types.specs.Number.{value_of}
 use Rattle.rtps_receiver.specs.Brought.{Announced}
+use Rattle.rtps_proxy.specs.Changes.{change_view}
 use Rattle.rtps_proxy.specs.Answer.{is_answered}
-use Rattle.rtps_proxy.specs.Effects.{change_view, exceeds}
-use Rattle.rtps_proxy.specs.Held.{front_below, held_view}
+use Rattle.rtps_proxy.specs.Effects.{ReliableStandsAt, exceeds}
+use Rattle.rtps_proxy.specs.Held.{front_below}
 use Rattle.rtps_proxy.specs.History.{Came, announced_of, has_heartbeat, is_new}
-use Rattle.rtps_proxy.specs.Kept.{whom}
+use Rattle.rtps_proxy.specs.Kept.{Awaited, whom}
 use Rattle.rtps_proxy.specs.Received.{in_order, lost}
 use Rattle.rtps_proxy.proofs.Apart.{apart_from}
 use Rattle.rtps_proxy.proofs.Standing.{Shows, lost_nothing, none_ready, same_held, split_held, split_ready}
@@ -34,9 +35,9 @@ returns-then-not-is_accepted g c = λ past time at.
         held = at.held ∙ ap in_order (sym (same_held past event same refl));
         answers = rw (refused_answers past time h refused) at.answers;
       };
-      lost = c.only_ready.ensures.lost ∙ sym (lost_nothing past event (refused_first past time h refused));
-      ready = ap (map change_view) (c.only_ready.ensures.ready ∙ c.new-ready.ensures.items) ∙ sym (none_ready past event same);
-      answer = rw (c.only_ready.ensures.answer, refused_answer past time h refused) refl;
+      lost = c.none.ensures.lost ∙ sym (lost_nothing past event (refused_first past time h refused));
+      ready = ap (map change_view) c.none.ensures.ready ∙ sym (none_ready past event same);
+      answer = rw (c.none.ensures.answer, refused_answer past time h refused) refl;
     }
 
 pub returns : goal.returns
@@ -46,7 +47,7 @@ returns g c = λ past time at.
     let event : Came = beat_at time h in
     let old = c.args.self.now.settled in
     let new = c.add.new.self in
-    let waiting = map held_view c.args.self.now.held.items in
+    let waiting = map change_view c.args.self.now.held.items in
     let e : to_z w32 (of_z w32 b.count) ≡ b.count = to_z-of_z w32 b.count (search rules) in
     let exceeded : exceeds c.args.self.now.accepted b.count ≡ true = rw e at (sym c.is_accepted.ensures ∙ c.if-not-is_accepted.false) in
     let accepted : is_new past b.count ≡ true = at.counts b.count ∙ exceeded in
@@ -54,20 +55,21 @@ returns g c = λ past time at.
     let adds = rw c.get-first.ensures.value at c.in_ok-add.ensures.ok in
     let after = beat_shows past time h accepted old.frontier new.frontier old.runs new.runs before adds (apart_from new.frontier new.runs new.apart) in
     let announced : c.max-self.result ≡ announced_of (event ∷ past) = c.max-self.ensures ∙ ap (λ n. max n b.last) at.announced ∙ sym (announced_is past time h accepted) in
-    let due : is_answered past event ≡ c.is_answer_due-is_due.result = answered_is past time h accepted new.frontier c.max-self.result new.runs after.0 announced ∙ sym c.is_answer_due-is_due.ensures in
+    let asks : Bool = not b.final_flag || (not b.liveliness && leb new.frontier c.max-self.result) in
+    let due : is_answered past event ≡ asks = answered_is past time h accepted new.frontier c.max-self.result new.runs after.0 announced in
     let begun : has_heartbeat past ≡ is_some c.args.self.now.accepted = at.begun in
     let none_first : map change_view c.new-ready.result.items ++ front_below new.frontier waiting ≡ front_below new.frontier waiting = rw c.new-ready.ensures.items refl in
     let lost_is : c.lost_below-lost.result ≡ lost past event = c.lost_below-lost.ensures ∙ rw (sym begun, c.get-first.ensures.value, beat_lost past time h accepted old.frontier old.runs before) refl in
     record {
-      stands = record {
+      stands = subst (λ (k : Awaited). ReliableStandsAt (event ∷ past) k) (sym c.in_ok-answer.ensures.kept) (record {
         counts = λ next. rw e (ap (λ d. int_lt b.count next && d) (at.counts next) ∙ newer c.args.self.now.accepted b.count next exceeded);
         begun = refl;
         announced = announced;
         settled = after.0.settled;
         held = c.in_ok-release.ensures.left ∙ split_held past event old.frontier new.frontier old.runs new.runs waiting before after.0 after.1 refl at.held;
-        answers = c.in_ok-answer.ensures.count ∙ count_is past event c.is_answer_due-is_due.result c.args.self.now.answers due at.answers;
-      };
+        answers = count_is past event asks c.args.self.now.answers due at.answers;
+      });
       lost = lost_is;
       ready = c.in_ok-release.ensures.taken ∙ none_first ∙ split_ready past event new.frontier new.runs waiting after.0 refl at.held;
-      answer = c.in_ok-answer.ensures.answer ∙ reply_is (whom c.args.config.now) past event c.is_answer_due-is_due.result new.frontier c.max-self.result c.args.self.now.answers new.runs after.0 due announced at.answers;
+      answer = c.in_ok-answer.ensures.answer ∙ reply_is (whom c.args.config.now) past event asks new.frontier c.max-self.result c.args.self.now.answers new.runs after.0 due announced at.answers;
     }

@@ -1,9 +1,9 @@
 use Rattle.std.proofs.Common.{◌≡◌, ◌++◌, ◌<◌, ◌≤◌, ap, map, refl, sym, ◌∙◌, [], ◌∷◌, false, length, rules, List}
 use Rattle.std.proofs.lemmas.List.{length-map}
-use Rattle.rtps_types.specs.Number.{value_of}
 use Rattle.rtps_receiver.specs.Brought.{Change}
-use Rattle.rtps_proxy.specs.Effects.{change_view}
-use Rattle.rtps_proxy.specs.Held.{IsRising, front_below, held_view}
+use Rattle.rtps_receiver.specs.Views.{whole_view}
+use Rattle.rtps_proxy.specs.Changes.{change_view}
+use Rattle.rtps_proxy.specs.Held.{IsRising, front_below}
 use Rattle.rtps_proxy.specs.History.{Came, Sample, sample_of}
 use Rattle.rtps_proxy.specs.Received.{held, in_order, put}
 use Rattle.rtps_proxy.proofs.Apart.{apart_from}
@@ -12,15 +12,16 @@ use Rattle.rtps_proxy.proofs.Standing.{Shows, lost_nothing, none_ready, same_hel
 use Rattle.rtps_proxy.proofs.Taking.{Takes, change_at, held_at_once, held_then, left_received, left_settled, none_yet, ready_at_once, taken_shows, takes, takes_is}
 use Rattle.rtps_proxy.proofs.reliable.Reliable.on_whole.Goals as goal
 
-pub returns-then-not-is_taken : goal.returns-then-not-is_taken
-returns-then-not-is_taken g c = λ whom past at.
+pub returns-in_default : goal.returns-in_default
+returns-in_default g c = λ whom past at.
     let w = c.args.whole.now in
-    let change : Change = record { number = value_of w.number; form = w.form; status = w.status; hash = w.hash; payload = w.payload.now } in
+    let change : Change = whole_view w in
     let event : Came = change_at c.args.time change in
     let old = c.args.self.now.settled in
+    let waiting = map change_view c.args.self.now.held.items in
     let before : Shows past old.frontier old.runs = record { settled = at.settled; apart = apart_from old.frontier old.runs old.apart } in
-    let counted : c.len.result ≡ length (map held_view c.args.self.now.held.items) = rw (length-map c.args.self.now.held.items held_view) (search rules) in
-    let left : takes past change.number ≡ false = takes_is past change.number old.frontier old.runs c.len.result (map held_view c.args.self.now.held.items) before at.held counted ∙ rw c.get-number.ensures.value at (sym c.is_taken.ensures ∙ c.if-not-is_taken.true) in
+    let counted : length c.args.self.now.held.items ≡ length waiting = rw (length-map c.args.self.now.held.items change_view) (search rules) in
+    let left : takes past change.number ≡ false = takes_is past change.number old.frontier old.runs (length c.args.self.now.held.items) waiting before at.held counted ∙ rw c.get-number.ensures.value at (sym c.in_default.ensures.taken) in
     let same = left_settled past c.args.time change left in
     record {
       stands = record {
@@ -31,31 +32,31 @@ returns-then-not-is_taken g c = λ whom past at.
         held = at.held ∙ ap in_order (sym (same_held past event same (left_received past c.args.time change left)));
         answers = at.answers;
       };
-      lost = c.only_ready.ensures.lost ∙ sym (lost_nothing past event refl);
-      ready = ap (map change_view) (c.only_ready.ensures.ready ∙ c.new-ready.ensures.items) ∙ sym (none_ready past event same);
-      answer = rw c.only_ready.ensures.answer refl;
+      lost = c.none.ensures.lost ∙ sym (lost_nothing past event refl);
+      ready = ap (map change_view) c.none.ensures.ready ∙ sym (none_ready past event same);
+      answer = rw c.none.ensures.answer refl;
     }
 
 pub returns-then-number-self : goal.returns-then-number-self
 returns-then-number-self g c = λ whom past at.
     let w = c.args.whole.now in
-    let change : Change = record { number = value_of w.number; form = w.form; status = w.status; hash = w.hash; payload = w.payload.now } in
+    let change : Change = whole_view w in
     let event : Came = change_at c.args.time change in
     let old = c.args.self.now.settled in
-    let new = c.add.new.self in
-    let waiting = map held_view c.args.self.now.held.items in
+    let new = c.add_at.new.self in
+    let waiting = map change_view c.args.self.now.held.items in
     let before : Shows past old.frontier old.runs = record { settled = at.settled; apart = apart_from old.frontier old.runs old.apart } in
-    let counted : c.len.result ≡ length waiting = rw (length-map c.args.self.now.held.items held_view) (search rules) in
+    let counted : length c.args.self.now.held.items ≡ length waiting = rw (length-map c.args.self.now.held.items change_view) (search rules) in
     let takes_it : Takes past c.args.time change old.frontier new.frontier old.runs new.runs waiting = record {
       before = before;
-      taken = takes_is past change.number old.frontier old.runs c.len.result waiting before at.held counted ∙ rw c.get-number.ensures.value at (sym c.is_taken.ensures ∙ c.if-not-is_taken.false);
-      adds = rw c.get-number.ensures.value at c.in_ok-add.ensures.ok;
+      taken = takes_is past change.number old.frontier old.runs (length c.args.self.now.held.items) waiting before at.held counted ∙ rw c.get-number.ensures.value at (sym c.in-Some.ensures.taken);
+      adds = rw c.get-number.ensures.value at c.in_ok-add_at.ensures.ok;
       apart = apart_from new.frontier new.runs new.apart;
       waits = at.held;
     } in
     let behind : new.frontier ≤ change.number = rw c.get-number.ensures.value at c.if-number-self.true in
     let rising : IsRising waiting = rw at.held (in_order_rises (held past)) in
-    let put_in : map held_view c.hold.new.held.items ≡ put (sample_of c.args.time change) waiting = c.in_ok-hold.ensures rising ∙ ap (λ (s : Sample). put s waiting) c.in_ok-kept.ensures in
+    let put_in : map change_view c.hold.new.held.items ≡ put (sample_of c.args.time change) waiting = c.in_ok-hold.ensures rising ∙ ap (λ (s : Sample). put s waiting) c.in_ok-kept.ensures in
     record {
       stands = record {
         counts = at.counts;
@@ -65,25 +66,25 @@ returns-then-number-self g c = λ whom past at.
         held = put_in ∙ held_then past c.args.time change old.frontier new.frontier old.runs new.runs waiting takes_it behind;
         answers = at.answers;
       };
-      lost = c.only_ready-then-number-self.ensures.lost ∙ sym (lost_nothing past event refl);
-      ready = ap (map change_view) (c.only_ready-then-number-self.ensures.ready ∙ c.new-ready.ensures.items) ∙ sym (none_yet past c.args.time change old.frontier new.frontier old.runs new.runs waiting takes_it behind);
-      answer = rw c.only_ready-then-number-self.ensures.answer refl;
+      lost = c.none-then-number-self.ensures.lost ∙ sym (lost_nothing past event refl);
+      ready = ap (map change_view) c.none-then-number-self.ensures.ready ∙ sym (none_yet past c.args.time change old.frontier new.frontier old.runs new.runs waiting takes_it behind);
+      answer = rw c.none-then-number-self.ensures.answer refl;
     }
 
 pub returns : goal.returns
 returns g c = λ whom past at.
     let w = c.args.whole.now in
-    let change : Change = record { number = value_of w.number; form = w.form; status = w.status; hash = w.hash; payload = w.payload.now } in
+    let change : Change = whole_view w in
     let event : Came = change_at c.args.time change in
     let old = c.args.self.now.settled in
-    let new = c.add.new.self in
-    let waiting = map held_view c.args.self.now.held.items in
+    let new = c.add_at.new.self in
+    let waiting = map change_view c.args.self.now.held.items in
     let before : Shows past old.frontier old.runs = record { settled = at.settled; apart = apart_from old.frontier old.runs old.apart } in
-    let counted : c.len.result ≡ length waiting = rw (length-map c.args.self.now.held.items held_view) (search rules) in
+    let counted : length c.args.self.now.held.items ≡ length waiting = rw (length-map c.args.self.now.held.items change_view) (search rules) in
     let takes_it : Takes past c.args.time change old.frontier new.frontier old.runs new.runs waiting = record {
       before = before;
-      taken = takes_is past change.number old.frontier old.runs c.len.result waiting before at.held counted ∙ rw c.get-number.ensures.value at (sym c.is_taken.ensures ∙ c.if-not-is_taken.false);
-      adds = rw c.get-number.ensures.value at c.in_ok-add.ensures.ok;
+      taken = takes_is past change.number old.frontier old.runs (length c.args.self.now.held.items) waiting before at.held counted ∙ rw c.get-number.ensures.value at (sym c.in-Some.ensures.taken);
+      adds = rw c.get-number.ensures.value at c.in_ok-add_at.ensures.ok;
       apart = apart_from new.frontier new.runs new.apart;
       waits = at.held;
     } in
@@ -98,7 +99,7 @@ returns g c = λ whom past at.
         held = c.in_ok-release.ensures.left ∙ held_at_once past c.args.time change old.frontier new.frontier old.runs new.runs waiting takes_it below;
         answers = at.answers;
       };
-      lost = c.only_ready-2.ensures.lost ∙ sym (lost_nothing past event refl);
-      ready = ap (map change_view) c.only_ready-2.ensures.ready ∙ c.in_ok-release.ensures.taken ∙ ap (λ (ss : List Sample). ss ++ front_below new.frontier waiting) first ∙ ready_at_once past c.args.time change old.frontier new.frontier old.runs new.runs waiting takes_it below;
-      answer = rw c.only_ready-2.ensures.answer refl;
+      lost = c.only_ready.ensures.lost ∙ sym (lost_nothing past event refl);
+      ready = ap (map change_view) c.only_ready.ensures.ready ∙ c.in_ok-release.ensures.taken ∙ ap (λ (ss : List Sample). ss ++ front_below new.frontier waiting) first ∙ ready_at_once past c.args.time change old.frontier new.frontier old.runs new.runs waiting takes_it below;
+      answer = rw c.only_ready.ensures.answer refl;
     }

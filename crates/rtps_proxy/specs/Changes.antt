@@ -1,0 +1,14 @@
+-- A change, without where its payload lies in memory.
+use Rattle.std.specs.Prelude.{ℕ, List}
+use Rattle.rtps_types.specs.Number.{value_of}
+use Rattle.rtps_proxy.specs.declared.change.Change.{Change}
+use Rattle.rtps_proxy.specs.declared.change.Payload.{Payload}
+use Rattle.rtps_proxy.specs.declared.change.Payload.TheVariants as payload
+use Rattle.rtps_proxy.specs.History.{Sample}
+
+abbrev pub octets_of : {A : Type 0} → Payload A → List ℕ
+octets_of (payload.Lent octets) = octets.now
+octets_of (payload.Kept octets) = octets
+
+abbrev pub change_view : {A : Type 0} → Change A → Sample
+change_view c = record { number = value_of c.number; time = c.time; info = c.info; payload = octets_of c.payload }

@@ -1,0 +1,33 @@
+-- The body of an event, without where its octets lie in memory.
+use Rattle.rtps_types.specs.Number.{value_of}
+use Rattle.rtps_types.specs.Sets.{sn_view}
+use Rattle.rtps_receiver.specs.declared.body.Body.{Body}
+use Rattle.rtps_receiver.specs.declared.body.Body.TheVariants as code
+use Rattle.rtps_receiver.specs.declared.body.Fragment as fragment
+use Rattle.rtps_receiver.specs.declared.body.Gap as gap
+use Rattle.rtps_receiver.specs.declared.body.Heartbeat as heartbeat
+use Rattle.rtps_receiver.specs.declared.body.HeartbeatFrag as heartbeat_frag
+use Rattle.rtps_receiver.specs.declared.body.Whole as whole
+use Rattle.rtps_receiver.specs.Brought.{Announced, AnnouncedFragments, Brought, Change, Fragments, Passed, Whole, Fragment, Heartbeat, Gap, HeartbeatFrag}
+
+abbrev pub whole_view : whole.Whole → Change
+whole_view w = record { number = value_of w.number; info = w.info; payload = w.payload.now }
+
+abbrev pub fragment_view : fragment.Fragment → Fragments
+fragment_view f = record { number = value_of f.number; start = f.start; count = f.count; size = f.size; sample = f.sample; info = f.info; payload = f.payload.now }
+
+abbrev pub heartbeat_view : heartbeat.Heartbeat → Announced
+heartbeat_view h = record { first = value_of h.first; last = h.last; count = h.count; final_flag = h.final_flag; liveliness = h.liveliness }
+
+abbrev pub gap_view : gap.Gap → Passed
+gap_view g = record { start = value_of g.start; list = sn_view g.list }
+
+abbrev pub heartbeat_frag_view : heartbeat_frag.HeartbeatFrag → AnnouncedFragments
+heartbeat_frag_view h = record { number = value_of h.number; last = h.last; count = h.count }
+
+abbrev pub body_view : Body → Brought
+body_view (code.Whole w) = Whole (whole_view w)
+body_view (code.Fragment f) = Fragment (fragment_view f)
+body_view (code.Heartbeat h) = Heartbeat (heartbeat_view h)
+body_view (code.Gap g) = Gap (gap_view g)
+body_view (code.HeartbeatFrag h) = HeartbeatFrag (heartbeat_frag_view h)
