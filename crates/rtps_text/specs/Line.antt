@@ -53,14 +53,14 @@ numbers_text [] = codes "-"
 numbers_text (n ∷ ns) = decimal n ++ more_text ns
 
 abbrev pub whole_text : Change → List ℕ
-whole_text c = codes "data" then decimal c.number then hex_text (c.status ∷ []) then form_word c.form then hex_text c.payload then hash_text c.hash
+whole_text c = codes "data" then decimal c.number then hex_text (c.info.status ∷ []) then form_word c.info.form then hex_text c.payload then hash_text c.info.hash
 
 -- which fragments they are, and their payload
 abbrev pub pieces_text : Fragments → List ℕ
-pieces_text f = decimal f.start then decimal f.count then decimal f.size then decimal f.sample then hex_text f.payload then hash_text f.hash
+pieces_text f = decimal f.start then decimal f.count then decimal f.size then decimal f.sample then hex_text f.payload then hash_text f.info.hash
 
 abbrev pub fragment_text : Fragments → List ℕ
-fragment_text f = codes "frag" then decimal f.number then hex_text (f.status ∷ []) then form_word f.form then pieces_text f
+fragment_text f = codes "frag" then decimal f.number then hex_text (f.info.status ∷ []) then form_word f.info.form then pieces_text f
 
 abbrev pub heartbeat_text : Announced → List ℕ
 heartbeat_text h = codes "heartbeat" then decimal h.first then decimal h.last then signed_decimal h.count then flags_text h.final_flag h.liveliness

@@ -1,9 +1,9 @@
 //! An event's body as text, by its kind.
 
 ghost use Rattle.std.specs.Prelude.{◌≡◌, ◌++◌, OnOk};
-ghost use Rattle.rtps_receiver.specs.Addressed.{body_view};
+ghost use Rattle.rtps_receiver.specs.Views.{body_view};
 ghost use Rattle.rtps_text.specs.Line.{body_text, flags_text, form_word, fragment_text, gap_text, hash_text, heartbeat_frag_text, heartbeat_text, pieces_text, whole_text};
-ghost use Rattle.rtps_text.specs.Views.{fragment_view, gap_view, heartbeat_frag_view, heartbeat_view, whole_view};
+ghost use Rattle.rtps_receiver.specs.Views.{fragment_view, gap_view, heartbeat_frag_view, heartbeat_view, whole_view};
 
 use crate::numbers::push_members;
 use rtps_ascii::{push_hex, push_number, push_octet, push_signed, push_word};
@@ -82,13 +82,13 @@ fn push_whole<A: Allocator>(out: &mut Vec<u8, A>, whole: &Whole<'_>) -> Result<(
     push_word(out, "data ")?;
     push_number(out, whole.number.get())?;
     push_octet(out, b' ')?;
-    push_hex(out, &[whole.status])?;
+    push_hex(out, &[whole.info.status])?;
     push_octet(out, b' ')?;
-    push_form(out, whole.form)?;
+    push_form(out, whole.info.form)?;
     push_octet(out, b' ')?;
     push_hex(out, whole.payload)?;
     push_octet(out, b' ')?;
-    push_hash(out, whole.hash)
+    push_hash(out, whole.info.hash)
 }
 
 /// Adds which fragments they are, and their payload.
@@ -108,7 +108,7 @@ fn push_pieces<A: Allocator>(
     push_octet(out, b' ')?;
     push_hex(out, fragment.payload)?;
     push_octet(out, b' ')?;
-    push_hash(out, fragment.hash)
+    push_hash(out, fragment.info.hash)
 }
 
 fn push_fragment<A: Allocator>(
@@ -120,9 +120,9 @@ fn push_fragment<A: Allocator>(
     push_word(out, "frag ")?;
     push_number(out, fragment.number.get())?;
     push_octet(out, b' ')?;
-    push_hex(out, &[fragment.status])?;
+    push_hex(out, &[fragment.info.status])?;
     push_octet(out, b' ')?;
-    push_form(out, fragment.form)?;
+    push_form(out, fragment.info.form)?;
     push_octet(out, b' ')?;
     push_pieces(out, fragment)
 }

@@ -4,7 +4,7 @@ ghost use Rattle.std.specs.Prelude.{◌≡◌, ◌++◌};
 ghost use Rattle.rtps_text.specs.EventLines.{lines_of};
 
 use crate::line::push_line;
-use rtps_receiver::{ReceiverError, events};
+use rtps_receiver::events;
 use rtps_records::RecordText;
 use rtps_types::GuidPrefix;
 use std::alloc::{AllocError, Allocator};
@@ -26,10 +26,7 @@ impl<B: Allocator> RecordText for EventLines<'_, B> {
         octets: &[u8],
         out: &mut Vec<u8, A>,
     ) -> Result<(), AllocError> {
-        let found = match events(self.alloc, self.own, u64::from(number), octets) {
-            Ok(found) => found,
-            Err(ReceiverError::NoMemory) => return Err(AllocError),
-        };
+        let found = events(self.alloc, self.own, u64::from(number), octets)?;
         for event in &found {
             push_line(out, event)?;
         }

@@ -3,7 +3,7 @@ use Rattle.std.specs.Prelude.{codes, ◌∷◌, [], decimal}
 use Rattle.rtps_types.specs.Number.{value_of}
 use Rattle.rtps_ascii.specs.Hex.{hex_text}
 use Rattle.rtps_text.specs.Line.{form_word, pieces_text}
-use Rattle.rtps_text.specs.Views.{fragment_view}
+use Rattle.rtps_receiver.specs.Views.{fragment_view}
 use Rattle.rtps_ascii.proofs.Appended.{added_is_joined}
 use Rattle.rtps_text.proofs.body.push_fragment.Goals as goal
 
@@ -11,9 +11,9 @@ pub returns : goal.returns
 returns g c = on_ok_weaker c.push_pieces.result (λ e. rw e (rw c.in_ok-push_octet-3.ensures (rw c.in_ok-push_form.ensures (rw c.in_ok-push_octet-2.ensures (rw c.in_ok-push_hex.ensures (rw c.in_ok-push_octet.ensures (rw c.in_ok-push_number.ensures (rw c.in_ok-push_word.ensures (rw c.get.ensures.value (added_is_joined _ (codes "frag ") (
     (decimal (value_of c.args.fragment.now.number))
     ∷ (codes " ")
-    ∷ (hex_text (c.args.fragment.now.status ∷ []))
+    ∷ (hex_text (c.args.fragment.now.info.status ∷ []))
     ∷ (codes " ")
-    ∷ (form_word c.args.fragment.now.form)
+    ∷ (form_word c.args.fragment.now.info.form)
     ∷ (codes " ")
     ∷ (pieces_text (fragment_view c.args.fragment.now))
     ∷ []))))))))))) c.push_pieces.ensures

@@ -16,5 +16,5 @@ returns g c = on_ok_weaker c.push_hash.result (λ e. rw e (rw c.in_ok-push_octet
     ∷ (codes " ")
     ∷ (hex_text c.args.fragment.now.payload.now)
     ∷ (codes " ")
-    ∷ (hash_text c.args.fragment.now.hash)
+    ∷ (hash_text c.args.fragment.now.info.hash)
     ∷ []))))))))))))))))) c.push_hash.ensures

@@ -10,11 +10,11 @@ pub returns : goal.returns
 returns g c = on_ok_weaker c.push_hash.result (λ e. rw e (rw c.in_ok-push_octet-4.ensures (rw c.in_ok-push_hex-2.ensures (rw c.in_ok-push_octet-3.ensures (rw c.in_ok-push_form.ensures (rw c.in_ok-push_octet-2.ensures (rw c.in_ok-push_hex.ensures (rw c.in_ok-push_octet.ensures (rw c.in_ok-push_number.ensures (rw c.in_ok-push_word.ensures (rw c.get.ensures.value (added_is_joined _ (codes "data ") (
     (decimal (value_of c.args.whole.now.number))
     ∷ (codes " ")
-    ∷ (hex_text (c.args.whole.now.status ∷ []))
+    ∷ (hex_text (c.args.whole.now.info.status ∷ []))
     ∷ (codes " ")
-    ∷ (form_word c.args.whole.now.form)
+    ∷ (form_word c.args.whole.now.info.form)
     ∷ (codes " ")
     ∷ (hex_text c.args.whole.now.payload.now)
     ∷ (codes " ")
-    ∷ (hash_text c.args.whole.now.hash)
+    ∷ (hash_text c.args.whole.now.info.hash)
     ∷ []))))))))))))) c.push_hash.ensures

@@ -1,6 +1,6 @@
 use Rattle.std.proofs.lemmas.Result.{on_ok_weaker}
 use Rattle.std.specs.Prelude.{codes, ◌∷◌, []}
-use Rattle.rtps_receiver.specs.Addressed.{body_view}
+use Rattle.rtps_receiver.specs.Views.{body_view}
 use Rattle.rtps_receiver.specs.Events.{view}
 use Rattle.rtps_text.specs.Line.{body_text, context_text}
 use Rattle.rtps_ascii.proofs.Appended.{added_is_joined}
