@@ -2,6 +2,7 @@
 use Rattle.std.proofs.Common.{◌≡◌, ◌<◌, ◌≤◌, ℕ, zero, suc, Bool, true, false, List, [], ◌∷◌, length, map, Some, None, refl, ap, get_or, set, arith}
 use Rattle.std.specs.List.{position, position_or_len}
 use Rattle.std.proofs.lemmas.Grind.{common_steps}
+use Rattle.std.proofs.lemmas.List.Quantifiers.{position-Some}
 use Rattle.std.proofs.lemmas.List.Sums.{fails_before_first}
 use Rattle.rtps_types.specs.declared.identity.Guid.{Guid}
 use Rattle.rtps_proxy.specs.History.{Came}
@@ -14,6 +15,11 @@ pub fails_everywhere : {X : Type 0} (p : X → Bool) (xs : List X) → position 
 fails_everywhere p xs none k d lt =
     let past : length xs ≤ position_or_len p xs = grind (arith, common_steps) in
     fails_before_first p xs k d (omega arith)
+
+-- a place that passes is one of the list
+pub within : {X : Type 0} (p : X → Bool) (xs : List X) (i : ℕ) → position p xs ≡ Some i → i < length xs
+within p [] i at = absurd (cc (at))
+within p (x ∷ xs) i at = (position-Some p (x ∷ xs) i x at).0
 
 -- nothing comes for a writer that is not matched
 pub not_matched : {A : Type 0} (w : Guid) (e : Came) (ms : List Match) (ss : List (Seat A)) → AllStand ms (map seat_view ss) → ((k : ℕ) (d : Seat A) → k < length ss → same_guid (get_or ss k d).writer w ≡ false) → (extended w e ms ≡ ms) × (match_with w ms ≡ None)

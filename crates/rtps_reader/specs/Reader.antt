@@ -90,7 +90,7 @@ abbrev pub came_of : Happening → Came
 came_of h = record { time = h.time; body = h.body }
 
 abbrev pub carried_by : Sample → Carried
-carried_by s = record { form = s.form; status = s.status; hash = s.hash; payload = s.payload }
+carried_by s = record { form = s.info.form; status = s.info.status; hash = s.info.hash; payload = s.payload }
 
 abbrev pub presented : {M : Type 0} → Answers M → Place → Guid → Sample → Notice M
 presented answers place w s = record { place = place; writer = w; what = Presents s.number s.time (answers (carried_by s)) }

@@ -2,7 +2,7 @@
 
 ghost use Rattle.std.specs.Prelude.{◌≡◌, ◌++◌, length, List, map, IfOk, OnOk, Option};
 ghost use Rattle.std.specs.Option.{option_map};
-ghost use Rattle.rtps_proxy.specs.Effects.{change_view};
+ghost use Rattle.rtps_proxy.specs.Changes.{change_view};
 ghost use Rattle.rtps_proxy.specs.History.{Came};
 ghost use Rattle.rtps_proxy.specs.Replies.{reply_view};
 ghost use Rattle.rtps_reader.specs.Body.{body_by};
@@ -120,9 +120,9 @@ fn tell_ready<C: Catalog, A: Allocator>(
 {
     for change in ready {
         let content = Content {
-            form: change.form,
-            status: change.status,
-            hash: change.hash,
+            form: change.info.form,
+            status: change.info.status,
+            hash: change.info.hash,
             payload: change.payload.as_slice(),
         };
         let body = body_of(values, catalog, memo, &content)?;

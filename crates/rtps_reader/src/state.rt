@@ -16,7 +16,7 @@ use crate::present::tell;
 use crate::status::{Status, counted};
 use crate::step::{Asked, Step};
 use dds_topic::{Catalog, NoMemory};
-use rtps_proxy::{Effects, ProxyConfig, ProxyError, WriterProxy};
+use rtps_proxy::{Effects, ProxyConfig, WriterProxy};
 use rtps_receiver::Event;
 use rtps_types::{EntityId, Guid, GuidPrefix, Locators, Place, WriterFacts};
 use std::alloc::{AllocError, AllocFailed, Allocator, Global};
@@ -46,12 +46,6 @@ impl From<AllocError> for ReaderError {
 
 impl From<NoMemory> for ReaderError {
     fn from(_failed: NoMemory) -> ReaderError {
-        ReaderError::NoMemory
-    }
-}
-
-impl From<ProxyError> for ReaderError {
-    fn from(_failed: ProxyError) -> ReaderError {
         ReaderError::NoMemory
     }
 }

@@ -4,7 +4,7 @@ use crate::*;
 use dds_topic::{ColorKeys, Shape, Shapes};
 use rtps_receiver::{Body as Brought, Event, Whole};
 use rtps_types::{EntityId, Guid, GuidPrefix, Locators, Number, Place, WriterFacts};
-use rtps_wire::Form;
+use rtps_wire::{ChangeInfo, Form};
 use std::alloc::Global;
 use std::test::Fail;
 
@@ -65,9 +65,11 @@ fn step(
             reader,
             body: Brought::Whole(Whole {
                 number,
-                form: Form::Value,
-                status: 0,
-                hash: None,
+                info: ChangeInfo {
+                    form: Form::Value,
+                    status: 0,
+                    hash: None,
+                },
                 payload: &RED,
             }),
         }),

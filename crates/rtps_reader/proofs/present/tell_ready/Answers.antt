@@ -1,7 +1,7 @@
 use Rattle.std.proofs.Common.{◌≡◌, ◌+◌, ◌∷◌, ◌∙◌, ap, drop, sym}
 use Rattle.std.proofs.lemmas.List.{drop_more}
 use Rattle.rtps_types.specs.Number.{value_of}
-use Rattle.rtps_proxy.specs.Effects.{change_view}
+use Rattle.rtps_proxy.specs.Changes.{change_view}
 use Rattle.rtps_reader.specs.Body.{body_by}
 use Rattle.rtps_reader.specs.Notices.{notice_view}
 use Rattle.rtps_reader.specs.Reader.{presented}
@@ -19,5 +19,5 @@ loop-change-preserved g c =
     told_more (notice_view g.C.Catalog.view) (presented answers c.args.place c.args.writer) change_view c.loop-change.notices.items c.push.new.self.items (drop i c.args.ready.now) left
     (record { place = c.args.place; writer = c.args.writer; what = told.Sample change.number change.time c.in_ok-body.body }) change
     c.in_ok-push.ensures.items cut
-    (ap (sample_told c.args.place c.args.writer (value_of change.number) change.time) (c.in_ok-body.ensures ∙ ap (λ o. answers (record { form = change.form; status = change.status; hash = change.hash; payload = o })) c.as_slice.ensures))
+    (ap (sample_told c.args.place c.args.writer (value_of change.number) change.time) (c.in_ok-body.ensures ∙ ap (λ o. answers (record { form = change.info.form; status = change.info.status; hash = change.info.hash; payload = o })) c.as_slice.ensures))
     ∙ c.loop-change.invariant

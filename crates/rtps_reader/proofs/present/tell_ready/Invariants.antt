@@ -1,5 +1,5 @@
 use Rattle.std.proofs.Common.{◌≡◌, ◌++◌, map, drop}
-use Rattle.rtps_proxy.specs.Effects.{change_view}
+use Rattle.rtps_proxy.specs.Changes.{change_view}
 use Rattle.rtps_reader.specs.Body.{body_by}
 use Rattle.rtps_reader.specs.Notices.{notice_view}
 use Rattle.rtps_reader.specs.Reader.{presented}

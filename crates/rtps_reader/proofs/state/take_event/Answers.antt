@@ -1,12 +1,17 @@
-use Rattle.std.proofs.Common.{◌≡◌, Some, None, sym, ◌∙◌, subst, get_or}
+use Rattle.std.proofs.Common.{arith, ◌≡◌, Some, None, sym, ◌∙◌, subst, get_or}
 use Rattle.std.specs.List.{position}
 use Rattle.std.proofs.lemmas.List.Quantifiers.{position-Some}
 use Rattle.rtps_proxy.specs.Effects.{came}
 use Rattle.rtps_reader.specs.declared.state.Seat.{Seat}
 use Rattle.rtps_reader.specs.Standing.{Stands, seat_view}
 use Rattle.rtps_reader.specs.Reader.{same_guid}
-use Rattle.rtps_reader.proofs.Found.{fails_everywhere, matched, not_matched}
+use Rattle.rtps_reader.proofs.Found.{fails_everywhere, matched, not_matched, within}
 use Rattle.rtps_reader.proofs.state.take_event.Goals as goal
+
+pub index_mut-requires : goal.index_mut-requires
+index_mut-requires g c =
+    let at = within (λ (seat : Seat _). same_guid seat.writer c.args.writer) c.deref.result.now c.in-Some.at (sym c.seat_of.ensures ∙ c.in-Some.is) in
+    omega (arith, c.deref.ensures.len, at)
 
 pub returns-in_default-clause-stands : goal.returns-in_default-clause-stands
 returns-in_default-clause-stands g c ms all =
