@@ -3,9 +3,10 @@
 ghost use Rattle.std.specs.Prelude.{◌≡◌};
 ghost use Rattle.rtps_params.specs.Reading.{LeavesLess, front_of, seen};
 
+use crate::ids::SENTINEL;
 use rtps_types::{Endian, get_u16};
 
-/// A parameter; its value is aligned as it stands in the list (DDSI-RTPS 9.4.2.11).
+/// A parameter; its value is aligned as in the list (DDSI-RTPS 9.4.2.11).
 #[derive(Clone, Copy, Debug)]
 pub struct Param<'a> {
     pub id: u16,
@@ -17,13 +18,13 @@ pub struct Param<'a> {
 pub enum ParamFault {
     /// The octets end within a parameter: one to three are left, or a value passes the end.
     Short,
-    /// No octet is left where a parameter or the end of the list should stand.
+    /// No octet is left where a parameter or the end of the list should be.
     NoEnd,
     /// A length is no multiple of four.
     OddLength,
 }
 
-/// What stands at the front of octets, with the octets behind it.
+/// What octets begin with, and the octets after it.
 #[derive(Clone, Copy, Debug)]
 pub enum Front<'a> {
     /// A parameter; padding is one with the id 0.
@@ -33,10 +34,7 @@ pub enum Front<'a> {
     Fault(ParamFault),
 }
 
-/// The id that ends a list, `PID_SENTINEL`; its length says nothing.
-const SENTINEL: u16 = 1;
-
-/// Reads what stands at the front of octets: for whoever takes a list one parameter at a time.
+/// Reads what octets begin with: for whoever takes a list one parameter at a time.
 #[tactic(auto, unfolding(crate::specs::Reading::front_of))]
 pub fn read_front(octets: &[u8], endian: Endian) -> Front<'_>
     ensures value { seen result ≡ front_of endian octets.now }

@@ -5,6 +5,7 @@
 #![tactic(auto)]
 
 mod front;
+pub mod ids;
 mod list;
 #[cfg(test)]
 mod tests;

@@ -5,12 +5,10 @@ ghost use Rattle.std.specs.Iterator.{YieldsFirstBy, item_count};
 ghost use Rattle.rtps_params.specs.Parameters.{IsList, IsFound};
 ghost use Rattle.rtps_params.specs.Reading.{Parameter, Contents, answer, contents, shown, view};
 
+use crate::ids::PAD;
 use crate::{Front, Param, ParamFault, read_front};
 use rtps_types::Endian;
 use std::marker::Model;
-
-/// The id of padding, `PID_PAD`.
-const PAD: u16 = 0;
 
 /// A parameter list without a fault (DDSI-RTPS 9.4.2.11).
 #[derive(Drop)]
@@ -27,7 +25,7 @@ impl<'a> Model for ParamList<'a> {
 }
 
 impl<'a> ParamList<'a> {
-    /// Checks the whole list, up to its end; octets may stand behind it. The refusal is the first
+    /// Checks the whole list, up to its end; octets may follow. The refusal is the first
     /// fault that is met from left to right.
     #[tactic(auto, using(crate::proofs::Steps::leads_on, crate::proofs::Steps::leads_end, crate::proofs::Steps::leads_fault, crate::proofs::Steps::front_shortens))]
     pub fn new(octets: &'a [u8], endian: Endian) -> Result<ParamList<'a>, ParamFault>

@@ -9,7 +9,7 @@ use Rattle.std.proofs.Math.Nat.{add-mod, mod-mod}
 use mathlib.Core.Path.{fun_ext}
 use Rattle.rtps_types.specs.declared.time.Timestamp.{Timestamp}
 use Rattle.rtps_receiver.specs.Brought.{Announced, Heartbeat}
-use Rattle.rtps_proxy.specs.Numbers.{count_failing}
+use Rattle.rtps_proxy.specs.Numbers.{lacks, count_failing}
 use Rattle.rtps_proxy.specs.Runs.{AreApart, Run, marks}
 use Rattle.rtps_proxy.specs.Answer.{Acknack, acknack_by, answer, answers, is_answered, is_incomplete}
 use Rattle.rtps_proxy.specs.Effects.{exceeds}
@@ -18,7 +18,7 @@ use Rattle.rtps_proxy.specs.Kept.{Whom}
 use Rattle.rtps_proxy.specs.Received.{frontier_of, is_settled, received}
 use Rattle.rtps_proxy.specs.Replies.{reply, reply_of}
 use Rattle.rtps_proxy.proofs.Frontier.{frontier_is}
-use Rattle.rtps_proxy.proofs.Standing.{Shows, count_none, covered_is, frontier_rises, or_true}
+use Rattle.rtps_proxy.proofs.Standing.{Shows, count_none, covered_is, frontier_rises, lacks_is, or_true}
 
 abbrev pub beat_at : Option Timestamp → Announced → Came
 beat_at time h = record { time = time; body = Heartbeat h }
@@ -115,10 +115,10 @@ module _ (past : List Came) (time : Option Timestamp) (h : Announced) (accepted 
   incomplete_is : (f : ℕ) (rs : List Run) → Shows (beat_at time h ∷ past) f rs → is_incomplete (beat_at time h ∷ past) ≡ leb f (announced_of (beat_at time h ∷ past))
   incomplete_is f rs shows = rw (covered_is (beat_at time h ∷ past) f rs shows (announced_of (beat_at time h ∷ past))) (grind (arith, nat_tests))
 
-  pub answered_is : (f announced : ℕ) (rs : List Run) → Shows (beat_at time h ∷ past) f rs → announced ≡ announced_of (beat_at time h ∷ past) → is_answered past (beat_at time h) ≡ (not h.final_flag || (not h.liveliness && leb f announced))
+  pub answered_is : (f announced : ℕ) (rs : List Run) → Shows (beat_at time h ∷ past) f rs → announced ≡ announced_of (beat_at time h ∷ past) → is_answered past (beat_at time h) ≡ (not h.final_flag || (not h.liveliness && lacks (marks f rs) announced))
   answered_is f announced rs shows same =
       ap (λ b. b && (not h.final_flag || (not h.liveliness && is_incomplete (beat_at time h ∷ past)))) accepted
-      ∙ ap (λ b. not h.final_flag || (not h.liveliness && b)) (incomplete_is f rs shows ∙ ap (leb f) (sym same))
+      ∙ ap (λ b. not h.final_flag || (not h.liveliness && b)) (incomplete_is f rs shows ∙ ap (leb f) (sym same) ∙ sym (lacks_is f rs shows.apart announced))
 
 pub count_is : (past : List Came) (event : Came) (due : Bool) (earlier : ℕ) → is_answered past event ≡ due → earlier ≡ answers past % 2 ^ 32 → cond due ((earlier + 1) % 2 ^ 32) earlier ≡ answers (event ∷ past) % 2 ^ 32
 count_is past event true earlier is same = rw (is, same) (one_more (answers past) (2 ^ 32))
@@ -129,7 +129,12 @@ answer_is past event true f announced earlier rs shows is same counted =
     let settled : is_settled (event ∷ past) ≡ marks f rs = fun_ext shows.settled in
     let base : frontier_of (event ∷ past) ≡ f = frontier_is (event ∷ past) f rs shows in
     let counts : (earlier + 1) % 2 ^ 32 ≡ (answers past + 1) % 2 ^ 32 = rw counted (one_more (answers past) (2 ^ 32)) in
-    rw (is, settled, base, ← same, ← counts) refl
+    let all = is_settled (event ∷ past) in
+    rw is
+    (ap (λ (p : ℕ → Bool). Some (acknack_by p f announced earlier)) (sym settled)
+    ∙ ap (λ (n : ℕ). Some (acknack_by all n announced earlier)) (sym base)
+    ∙ ap (λ (n : ℕ). Some (acknack_by all (frontier_of (event ∷ past)) n earlier)) same
+    ∙ ap (λ (n : ℕ). Some (record (acknack_by all (frontier_of (event ∷ past)) (announced_of (event ∷ past)) (answers past)) { count = n })) counts)
 answer_is past event false f announced earlier rs shows is same counted = rw is refl
 
 map_due : (w : Whom) (due : Bool) (a : Acknack) → option_map (reply_of w) (cond due (Some a) None) ≡ cond due (Some (reply_of w a)) None

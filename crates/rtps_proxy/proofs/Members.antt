@@ -1,5 +1,5 @@
 -- The set of an answer names exactly its members.
-use Rattle.std.proofs.Common.{◌≡◌, ◌≢◌, ℕ, zero, suc, ◌+◌, ◌-◌, ◌*◌, ◌/◌, ◌%◌, ◌^◌, ◌<◌, ◌≤◌, Bool, true, false, not, ◌&&◌, ◌||◌, cond, List, [], ◌∷◌, map, length, replicate, refl, ◌∙◌, ap, arith, ltb, leb, eqb, inl, inr, max, min, get_or}
+use Rattle.std.proofs.Common.{◌≡◌, ◌≢◌, ℕ, zero, suc, ◌+◌, ◌-◌, ◌*◌, ◌/◌, ◌%◌, ◌^◌, ◌<◌, ◌≤◌, Bool, true, false, not, ◌&&◌, ◌||◌, cond, List, [], ◌∷◌, map, length, replicate, refl, sym, ◌∙◌, ap, arith, ltb, leb, eqb, inl, inr, max, min, get_or}
 use Rattle.std.specs.Prelude.{bit_and, bit_or}
 use Rattle.std.specs.Int.{bit_at}
 use Rattle.std.specs.List.{filter, list_any, range_with_len, AllByRecursion}
@@ -10,7 +10,7 @@ use Rattle.std.proofs.lemmas.Nat.Bits.{and_pow, bit_at_or, bit_at-lt, bit_at-pow
 use Rattle.rtps_types.specs.NumberSet.{members, names}
 use Rattle.rtps_proxy.specs.Numbers.{failing_from}
 use Rattle.rtps_proxy.specs.Answer.{acknack_by, bits_of}
-use Rattle.rtps_proxy.specs.Replies.{set_of, with_bit, with_bits}
+use Rattle.rtps_proxy.specs.Replies.{NamesWhatIsMissing, set_of, with_bit, with_bits}
 
 -- a bit that is set, and another one
 same_bit : (w j : ℕ) → not (eqb (bit_and (bit_or w (2 ^ j)) (2 ^ j)) 0) ≡ true
@@ -185,3 +185,41 @@ members_are settled base announced earlier =
     let start : base + 0 ≡ base = omega arith in
     let all : bits_of base (failing_from settled base (min 256 (announced + 1 - base))) - 0 ≡ bits_of base (failing_from settled base (min 256 (announced + 1 - base))) = omega arith in
     rw all at (rw start at (named_by settled base (min 256 (announced + 1 - base)) (omega arith)))
+
+-- a number is named where it is one of the k from base on that fail
+named : (p : ℕ → Bool) (n base k : ℕ) → list_any (λ m. eqb m n) (failing_from p base k) ≡ ((leb base n && ltb n (base + k)) && not (p n))
+named p n base zero = let none : (leb base n && ltb n (base + 0)) ≡ false = grind (arith, nat_tests) in rw none refl
+named p n base (suc k) =
+    let rest : list_any (λ m. eqb m n) (failing_from p (suc base) k) ≡ ((leb (suc base) n && ltb n (suc base + k)) && not (p n)) = named p n (suc base) k in
+    elim (eqb_tells base n) [
+      | inl w ↦ (
+          let same : base ≡ n = w.1 in
+          let out : (leb (suc base) n && ltb n (suc base + k)) ≡ false = grind (arith, nat_tests) in
+          let inside : (leb base n && ltb n (base + suc k)) ≡ true = grind (arith, nat_tests) in
+          let none : list_any (λ m. eqb m n) (failing_from p (suc base) k) ≡ false = rw out at rest in
+          let here : p n ≡ p base = ap p (sym same) in
+          rw (inside, here) (by_test (p base) none w.0)
+          )
+      | inr w ↦ (
+          let same : (leb (suc base) n && ltb n (suc base + k)) ≡ (leb base n && ltb n (base + suc k)) = (let differ = w.1 in grind (arith, nat_tests)) in
+          by_other (p base) w.0 ∙ rest ∙ ap (λ b. b && not (p n)) same
+          )
+    ]
+  where
+    by_test : (b : Bool) → list_any (λ m. eqb m n) (failing_from p (suc base) k) ≡ false → eqb base n ≡ true → list_any (λ m. eqb m n) (cond b (failing_from p (suc base) k) (base ∷ failing_from p (suc base) k)) ≡ (true && not b)
+    by_test true none e = none
+    by_test false none e = rw e refl
+
+    by_other : (b : Bool) → eqb base n ≡ false → list_any (λ m. eqb m n) (cond b (failing_from p (suc base) k) (base ∷ failing_from p (suc base) k)) ≡ list_any (λ m. eqb m n) (failing_from p (suc base) k)
+    by_other true e = refl
+    by_other false e = rw e refl
+
+-- the 256 numbers from base on, up to the announced one
+window : (base announced n : ℕ) → (leb base n && ltb n (base + min 256 (announced + 1 - base))) ≡ (leb base n && (ltb n (base + 256) && leb n announced))
+window base announced n = grind (arith, nat_tests)
+
+pub missing_are : NamesWhatIsMissing
+missing_are settled base announced earlier n =
+    ap (λ (ms : List ℕ). list_any (λ m. eqb m n) ms) (members_are settled base announced earlier)
+    ∙ named settled n base (min 256 (announced + 1 - base))
+    ∙ ap (λ b. b && not (settled n)) (window base announced n)

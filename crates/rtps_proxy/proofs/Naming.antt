@@ -1,15 +1,17 @@
 -- The missing numbers that an answer names.
-use Rattle.std.proofs.Common.{◌≡◌, ℕ, suc, ◌+◌, ◌-◌, ◌<◌, ◌≤◌, Bool, true, false, cond, List, ◌∷◌, refl, sym, ◌∙◌, ap, arith, ltb, eqb, inl, inr, max, min, replicate}
+use Rattle.std.proofs.Common.{◌≡◌, ℕ, suc, ◌+◌, ◌-◌, ◌<◌, ◌≤◌, Bool, true, false, not, cond, List, ◌∷◌, refl, sym, ◌∙◌, ap, arith, leb, ltb, eqb, inl, inr, max, min, replicate}
 use Rattle.std.proofs.lemmas.Bool.Decides.{nat_tests, leb_tells}
 use Rattle.rtps_types.specs.NumberSet.{NumberSet}
 use Rattle.rtps_types.specs.Sets.{sn_view}
 use Rattle.rtps_types.specs.declared.locator.Locator.{Locator}
 use Rattle.rtps_types.specs.declared.set.SnSet.{SnSet}
 use Rattle.rtps_wire.specs.Answering.{acknack_octets}
-use Rattle.rtps_proxy.specs.Numbers.{failing_from}
+use Rattle.rtps_proxy.specs.Numbers.{lacks, failing_from}
 use Rattle.rtps_proxy.specs.Answer.{Acknack, bits_of}
 use Rattle.rtps_proxy.specs.Kept.{Whom}
 use Rattle.rtps_proxy.specs.Replies.{reply_of, set_of, with_bit, with_bits}
+use Rattle.rtps_proxy.specs.Runs.{AreApart, Run, marks}
+use Rattle.rtps_proxy.proofs.Standing.{lacks_is, marks_at}
 
 -- what is left of a walk over the numbers from base on, behind what the walk has made so far
 pub record Walked (p : ℕ → Bool) (base count offset : ℕ) (made zeros : List ℕ) (reach : ℕ) : Type 0 where
@@ -56,8 +58,8 @@ walked_on p base count offset made zeros reach l fails walked =
     }
 
 -- flag F stands exactly where no bit reaches a number
-pub final_is : (p : ℕ → Bool) (base announced : ℕ) → p base ≡ false → eqb (bits_of base (failing_from p base (min 256 (announced + 1 - base)))) 0 ≡ ltb announced base
-final_is p base announced fails =
+no_bits : (p : ℕ → Bool) (base announced : ℕ) → p base ≡ false → eqb (bits_of base (failing_from p base (min 256 (announced + 1 - base)))) 0 ≡ ltb announced base
+no_bits p base announced fails =
     elim (leb_tells (suc announced) base) [
       | inl w ↦ (
           let none : min 256 (announced + 1 - base) ≡ 0 = omega arith in
@@ -71,6 +73,12 @@ final_is p base announced fails =
   where
     reached : (n : ℕ) → eqb (max (base + 1 - base) n) 0 ≡ false
     reached n = grind (arith, nat_tests)
+
+-- the set has no bit exactly if nothing is missing
+pub final_is : (f : ℕ) (rs : List Run) → AreApart f rs → (announced : ℕ) → eqb (bits_of f (failing_from (marks f rs) f (min 256 (announced + 1 - f)))) 0 ≡ not (lacks (marks f rs) announced)
+final_is f rs apart announced =
+    let tests : ltb announced f ≡ not (leb f announced) = grind (arith, nat_tests) in
+    no_bits (marks f rs) f announced (marks_at f rs apart) ∙ tests ∙ ap not (sym (lacks_is f rs apart announced))
 
 -- the octets that are written say the answer
 pub octets_are : (w : Whom) (a : Acknack) (missing : SnSet) → sn_view missing ≡ set_of a → eqb a.bits 0 ≡ a.final → acknack_octets (record { reader = record { prefix = w.own; entity = w.reader }; writer = w.writer; missing = missing; count = a.count }) ≡ (reply_of w a).octets

@@ -4,7 +4,7 @@ use Rattle.std.specs.List.{filter, list_any}
 use Rattle.std.proofs.lemmas.Bool.Decides.{nat_tests, leb_tells}
 use Rattle.std.proofs.lemmas.List.Elements.{filter_agree}
 use mathlib.Core.Path.{fun_ext}
-use Rattle.rtps_proxy.specs.Numbers.{all_below, count_failing}
+use Rattle.rtps_proxy.specs.Numbers.{lacks, all_below, count_failing}
 use Rattle.rtps_proxy.specs.Runs.{AreApart, Run, marks}
 use Rattle.rtps_proxy.specs.History.{Came, Sample, first_of, has_heartbeat, is_irrelevant, names}
 use Rattle.rtps_proxy.specs.Received.{held, in_order, is_covered, is_settled, lost, ready, received}
@@ -42,6 +42,12 @@ marks_below f rs n l = let e : ltb n f ≡ true = grind (arith, nat_tests) in rw
 
 pub marks_at : (f : ℕ) (rs : List Run) → AreApart f rs → marks f rs f ≡ false
 marks_at f rs apart = let e : ltb f f ≡ false = grind (arith, nat_tests) in rw e (none_behind f f rs apart (omega arith))
+
+-- something up to a number is missing exactly if the frontier is at most that number
+pub lacks_is : (f : ℕ) (rs : List Run) → AreApart f rs → (n : ℕ) → lacks (marks f rs) n ≡ leb f n
+lacks_is f rs apart n =
+    let all : all_below (marks f rs) (suc n) ≡ leb (suc n) f = all_below_is (marks f rs) f (λ k l. marks_below f rs k l) (marks_at f rs apart) (suc n) in
+    ap not all ∙ grind (arith, nat_tests)
 
 -- what a frontier and runs say of a history: which numbers are settled
 pub record Shows (past : List Came) (f : ℕ) (rs : List Run) : Type 0 where

@@ -1,15 +1,15 @@
 -- What a reliable reader answers to a heartbeat (DDSI-RTPS 8.4.12.2, 8.3.7.1).
-use Rattle.std.specs.Prelude.{ℕ, suc, ◌+◌, ◌-◌, ◌%◌, ◌^◌, max, min, Bool, false, not, ◌&&◌, ◌||◌, nat_lt, List, [], ◌∷◌, if◌then◌else◌, Option, Some, None}
+use Rattle.std.specs.Prelude.{ℕ, ◌+◌, ◌-◌, ◌%◌, ◌^◌, max, min, Bool, false, not, ◌&&◌, ◌||◌, List, [], ◌∷◌, if◌then◌else◌, Option, Some, None}
 use Rattle.rtps_receiver.specs.Brought.{Announced, Brought, Whole, Fragment, Heartbeat, Gap, HeartbeatFrag}
 use Rattle.rtps_proxy.specs.History.{Came, announced_of, is_new}
-use Rattle.rtps_proxy.specs.Numbers.{all_below, failing_from}
+use Rattle.rtps_proxy.specs.Numbers.{failing_from, lacks}
 use Rattle.rtps_proxy.specs.Received.{frontier_of, is_settled}
 
--- a number up to the announced one isn't settled
+-- a change of the match is missing
 abbrev pub is_incomplete : List Came → Bool
-is_incomplete past = not (all_below (is_settled past) (suc (announced_of past)))
+is_incomplete past = lacks (is_settled past) (announced_of past)
 
--- what asks for missing numbers: a base, those of the 256 numbers from it on that are missing, and how many bits reach the greatest
+-- what asks for missing numbers: a base, those of the 256 numbers from it on that are missing, how many bits reach the greatest, and whether none is
 pub record Acknack : Type 0 where
   pub base : ℕ
   pub members : List ℕ
@@ -25,7 +25,7 @@ bits_of base (n ∷ ns) = max (n + 1 - base) (bits_of base ns)
 abbrev pub acknack_by : (ℕ → Bool) → ℕ → ℕ → ℕ → Acknack
 acknack_by settled base announced earlier =
     let members = failing_from settled base (min 256 (announced + 1 - base))
-    in record { base = base; members = members; bits = bits_of base members; final = nat_lt announced base; count = (earlier + 1) % 2 ^ 32 }
+    in record { base = base; members = members; bits = bits_of base members; final = not (lacks settled announced); count = (earlier + 1) % 2 ^ 32 }
 
 -- an accepted heartbeat is answered where it isn't final, or isn't about liveliness and something is missing
 abbrev pub asks : List Came → Came → Announced → Bool

@@ -1,5 +1,5 @@
 -- What a proxy keeps (DDSI-RTPS 8.4.10.4).
-use Rattle.std.specs.Prelude.{ℕ, ℤ, ◌+◌, ◌%◌, ◌^◌, Bool, not, ◌&&◌, ◌||◌, nat_le, if◌then◌else◌, List, Option, map}
+use Rattle.std.specs.Prelude.{ℕ, ℤ, ◌+◌, ◌%◌, ◌^◌, Bool, not, ◌&&◌, ◌||◌, if◌then◌else◌, List, Option, map}
 use Rattle.rtps_types.specs.declared.identity.EntityId.{EntityId}
 use Rattle.rtps_types.specs.declared.identity.Guid.{Guid}
 use Rattle.rtps_types.specs.declared.identity.GuidPrefix.{GuidPrefix}
@@ -12,6 +12,7 @@ use Rattle.rtps_proxy.specs.declared.state.State.TheVariants as code
 use Rattle.rtps_proxy.specs.Answer.{Acknack, acknack_by}
 use Rattle.rtps_proxy.specs.Changes.{change_view}
 use Rattle.rtps_proxy.specs.History.{Sample}
+use Rattle.rtps_proxy.specs.Numbers.{lacks}
 use Rattle.rtps_proxy.specs.Runs.{marks}
 
 -- whom a proxy stands for, and for whom
@@ -48,7 +49,7 @@ asked_by r = acknack_by (marked r) r.frontier r.announced r.answers
 
 -- an accepted heartbeat with these flags is answered
 abbrev pub asks_by : Awaited → Bool → Bool → Bool
-asks_by r final_flag liveliness = not final_flag || (not liveliness && nat_le r.frontier r.announced)
+asks_by r final_flag liveliness = not final_flag || (not liveliness && lacks (marked r) r.announced)
 
 -- what is kept after a heartbeat was answered, or not
 abbrev pub counts_answer : Bool → Awaited → Awaited

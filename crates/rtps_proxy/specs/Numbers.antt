@@ -1,10 +1,14 @@
 -- Sets of sequence numbers, as tests: a set may be as large as it likes, and is never listed.
-use Rattle.std.specs.Prelude.{ℕ, zero, suc, ◌+◌, Bool, true, ◌&&◌, List, [], ◌∷◌, if◌then◌else◌}
+use Rattle.std.specs.Prelude.{ℕ, zero, suc, ◌+◌, Bool, true, not, ◌&&◌, List, [], ◌∷◌, if◌then◌else◌}
 
 -- each number below n passes
 abbrev pub all_below : (ℕ → Bool) → ℕ → Bool
 all_below p zero = true
 all_below p (suc n) = p n && all_below p n
+
+-- a number up to n fails
+abbrev pub lacks : (ℕ → Bool) → ℕ → Bool
+lacks p n = not (all_below p (suc n))
 
 -- how many numbers below n fail
 abbrev pub count_failing : (ℕ → Bool) → ℕ → ℕ

@@ -1,13 +1,14 @@
 -- The datagram that carries an answer to a writer: ACKNACK (DDSI-RTPS 8.3.7.1, 9.4.5.2).
-use Rattle.std.specs.Prelude.{ℕ, pos, ◌-◌, ◌/◌, ◌%◌, ◌^◌, List, [], ◌∷◌, ◌++◌, replicate, if◌then◌else◌, bit_or, slice_index, slice_set, Option}
+use Rattle.std.specs.Prelude.{◌≡◌, ℕ, pos, ◌+◌, ◌-◌, ◌/◌, ◌%◌, ◌^◌, Bool, not, ◌&&◌, ◌==◌, nat_le, nat_lt, List, [], ◌∷◌, ◌++◌, replicate, if◌then◌else◌, bit_or, slice_index, slice_set, Option}
+use Rattle.std.specs.List.{list_any}
 use Rattle.std.specs.Option.{option_map}
 use Rattle.rtps_types.specs.declared.field.Endian.TheVariants.{Little}
 use Rattle.rtps_types.specs.declared.locator.Locator.{Locator}
 use Rattle.rtps_types.specs.declared.traffic.Reply.{Reply}
 use Rattle.rtps_types.specs.Field.{spelled, spelled_sn}
-use Rattle.rtps_types.specs.NumberSet.{NumberSet}
+use Rattle.rtps_types.specs.NumberSet.{NumberSet, members}
 use Rattle.rtps_wire.specs.Answering.{answering, sent_words, spelled_words}
-use Rattle.rtps_proxy.specs.Answer.{Acknack, answer}
+use Rattle.rtps_proxy.specs.Answer.{Acknack, acknack_by, answer}
 use Rattle.rtps_proxy.specs.History.{Came}
 use Rattle.rtps_proxy.specs.Kept.{Whom}
 
@@ -40,6 +41,12 @@ acknack_body w a =
 -- an ACKNACK with flag E, 1, and flag F, 2, where it is final, to the writer's locators
 unfoldable pub reply_of : Whom → Acknack → Sent
 reply_of w a = record { to = w.locators; octets = answering w.own w.writer.prefix 0x06 (if a.final then 3 else 1) (acknack_body w a) }
+
+-- an answer names just the numbers that are missing, up to the announced one, among the 256 from its base on
+abbrev pub NamesWhatIsMissing : Type 0
+NamesWhatIsMissing =
+    (settled : ℕ → Bool) (base announced earlier n : ℕ) → list_any (λ m. m == n) (members (set_of (acknack_by settled base announced earlier)))
+    ≡ ((nat_le base n && (nat_lt n (base + 256) && nat_le n announced)) && not (settled n))
 
 -- what a reliable reader sends at an event
 abbrev pub reply : Whom → List Came → Came → Option Sent

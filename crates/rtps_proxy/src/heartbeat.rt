@@ -46,7 +46,7 @@ impl<A: Allocator + Copy> Reliable<A> {
     fn is_answer_due(&self, heartbeat: &Heartbeat) -> bool
         ensures { result ≡ asks_by (awaited self.now) heartbeat.now.final_flag heartbeat.now.liveliness }
     {
-        !heartbeat.final_flag || (!heartbeat.liveliness && self.settled.frontier <= self.announced)
+        !heartbeat.final_flag || (!heartbeat.liveliness && self.settled.lacks(self.announced))
     }
 
     /// The answer to an accepted heartbeat: what is missing, to the writer's locators.

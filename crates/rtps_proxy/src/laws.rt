@@ -4,7 +4,7 @@ ghost use Rattle.std.specs.Prelude.{◌≡◌, ◌<◌, ℕ, Bool, List, ◌∷�
 ghost use Rattle.std.specs.List.{AllByRecursion};
 ghost use Rattle.rtps_types.specs.NumberSet.{members};
 ghost use Rattle.rtps_proxy.specs.Answer.{acknack_by};
-ghost use Rattle.rtps_proxy.specs.Replies.{set_of};
+ghost use Rattle.rtps_proxy.specs.Replies.{NamesWhatIsMissing, set_of};
 ghost use Rattle.rtps_proxy.specs.History.{Came};
 ghost use Rattle.rtps_proxy.specs.Presentation.{Brings, PassesOverOnly, RisesStrictly, presented};
 ghost use Rattle.rtps_proxy.specs.Received.{frontier_of, is_settled, ready};
@@ -15,9 +15,12 @@ pub fn frontier_is_least()
     ensures itself { (past : List Came) → is_settled past (frontier_of past) ≡ false }
 {}
 
-/// The set of an answer names exactly the numbers that are missing.
+/// The set of an answer names its members, and these are just the numbers that are missing, up to the
+/// announced one, among the 256 from its base on.
 pub fn an_answer_names_its_members()
-    ensures { (settled : ℕ → Bool) (base announced earlier : ℕ) → members (set_of (acknack_by settled base announced earlier)) ≡ (acknack_by settled base announced earlier).members }
+    ensures missing { NamesWhatIsMissing }
+    ensures members { (settled : ℕ → Bool) (base announced earlier : ℕ) → members (set_of (acknack_by settled base announced earlier))
+        ≡ (acknack_by settled base announced earlier).members }
 {}
 
 /// In the match of a reliable reader the sequence numbers of the samples rise strictly; a DATA of the

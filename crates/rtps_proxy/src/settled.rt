@@ -6,7 +6,7 @@ ghost use Rattle.std.specs.Prelude.{min, max};
 ghost use Rattle.std.specs.List.{list_any, AllByRecursion};
 ghost use Rattle.rtps_types.specs.Number.{value_of};
 ghost use Rattle.rtps_types.specs.SequenceNumber.{IsNumber};
-ghost use Rattle.rtps_proxy.specs.Numbers.{count_failing};
+ghost use Rattle.rtps_proxy.specs.Numbers.{count_failing, lacks};
 ghost use Rattle.rtps_proxy.specs.Runs.{AreApart, EndBelow, IsPlaceOf, are_apart, end_of, marks, start_of, within};
 
 use crate::effects::ProxyError;
@@ -160,6 +160,13 @@ impl<A: Allocator> Settled<A> {
             return None;
         }
         Some(at)
+    }
+
+    /// Whether a number up to this one isn't in the set.
+    pub fn lacks(&self, number: u64) -> bool
+        ensures { result ≡ lacks (marks self.now.frontier self.now.runs) number }
+    {
+        self.frontier <= number
     }
 
     /// Adds the numbers from `start` on and below `end`.

@@ -1,10 +1,8 @@
 //! What a reader takes of one writer, by numbers that were written down by hand.
 
 use crate::*;
-use rtps_receiver::{Gap, Heartbeat, Whole};
-use rtps_types::{
-    EntityId, Guid, GuidPrefix, KeyHash, Locator, Locators, Number, SnSet, Timestamp,
-};
+use rtps_receiver::{Fragment, Gap, Heartbeat, HeartbeatFrag, Whole};
+use rtps_types::{EntityId, Guid, GuidPrefix, KeyHash, Locator, Locators, Number, SnSet};
 use rtps_wire::{ChangeInfo, Form};
 use std::alloc::{AllocError, Allocator, Global};
 use std::test::Fail;
@@ -15,18 +13,11 @@ mod held;
 mod memory;
 mod runs;
 
-const TIME: Timestamp = Timestamp {
-    seconds: 5,
-    fraction: 7,
-};
-
-const HASH: KeyHash = KeyHash([3; 16]);
-
 /// What comes with each change here.
 const INFO: ChangeInfo = ChangeInfo {
     form: Form::Key,
     status: 1,
-    hash: Some(HASH),
+    hash: Some(KeyHash([3; 16])),
 };
 
 const PAYLOAD: [u8; 4] = [0xde, 0xad, 0xbe, 0xef];
@@ -39,6 +30,42 @@ const LOCATOR: Locator = Locator {
 
 /// The greatest sequence number, 2^62.
 const MAX: u64 = 4_611_686_018_427_387_904;
+
+/// What each answer begins with: its header and INFO_DST.
+const FRONT: &[u8] = b"\x52\x54\x50\x53\x02\x05\x00\x00\
+    \x0b\x0b\x0b\x0b\x0b\x0b\x0b\x0b\x0b\x0b\x0b\x0b\
+    \x0e\x01\x0c\x00\
+    \x0a\x0a\x0a\x0a\x0a\x0a\x0a\x0a\x0a\x0a\x0a\x0a";
+
+/// What comes of the writer.
+#[derive(Clone, Copy)]
+enum What {
+    /// A change with this number.
+    Whole(u64),
+    /// The numbers from the first one on, below the second one, will not come.
+    Gap(u64, u64),
+    /// A heartbeat without flags: its first number, its last number and its count.
+    Asking(u64, u64, i32),
+    /// A heartbeat with flag F.
+    Final(u64, u64, i32),
+    /// A heartbeat with the flags F and L.
+    Alive(u64, u64, i32),
+    /// A fragment of the change with this number.
+    Fragment(u64),
+    /// A heartbeat of fragments of the change with this number.
+    HeartbeatFrag(u64),
+}
+
+/// What comes and what it gives: how many numbers are lost, the numbers of the changes that are ready,
+/// the runs that are then above the frontier, and the submessage of the answer; it is empty where
+/// there is none.
+type Row = (
+    What,
+    u64,
+    &'static [u64],
+    &'static [(u64, u64)],
+    &'static [u8],
+);
 
 /// The proxy of a match of reader 00000107 with writer 00000102.
 fn new_proxy<A: Allocator + Copy>(alloc: A, reliable: bool) -> Result<WriterProxy<A>, AllocError> {
@@ -74,8 +101,8 @@ fn whole_of(value: u64) -> Result<Whole<'static>, Fail> {
     })
 }
 
-/// A heartbeat that is no sign of life.
-fn announcing(first: u64, last: u64, count: i32, final_flag: bool) -> Result<Heartbeat, Fail> {
+/// A heartbeat with this first and last number and this count.
+fn heartbeat_of(first: u64, last: u64, count: i32) -> Result<Heartbeat, Fail> {
     if last > MAX {
         return Err(Fail::new("no last number"));
     }
@@ -83,7 +110,7 @@ fn announcing(first: u64, last: u64, count: i32, final_flag: bool) -> Result<Hea
         first: number_of(first)?,
         last,
         count,
-        final_flag,
+        final_flag: false,
         liveliness: false,
     })
 }
@@ -103,41 +130,68 @@ fn gap_of(start: u64, base: u64) -> Result<Gap, Fail> {
     })
 }
 
-/// What a change of this number gives.
-fn on_whole(alloc: Global, proxy: &mut WriterProxy, value: u64) -> Result<Effects<'static>, Fail> {
-    Ok(proxy.on_whole(alloc, None, &whole_of(value)?)?)
+fn fragment_of(value: u64) -> Result<Fragment<'static>, Fail> {
+    Ok(Fragment {
+        number: number_of(value)?,
+        start: 1,
+        count: 1,
+        size: 4,
+        sample: 4,
+        info: INFO,
+        payload: &PAYLOAD,
+    })
 }
 
-/// What a gap without a list gives.
-fn on_gap(
-    alloc: Global,
-    proxy: &mut WriterProxy,
-    start: u64,
-    base: u64,
-) -> Result<Effects<'static>, Fail> {
-    Ok(proxy.on_gap(alloc, None, &gap_of(start, base)?)?)
+fn heartbeat_frag_of(value: u64) -> Result<HeartbeatFrag, Fail> {
+    Ok(HeartbeatFrag {
+        number: number_of(value)?,
+        last: 1,
+        count: 1,
+    })
 }
 
-/// What a heartbeat with flag F gives.
-fn on_final(
-    alloc: Global,
-    proxy: &mut WriterProxy,
-    first: u64,
-    last: u64,
-    count: i32,
-) -> Result<Effects<'static>, Fail> {
-    Ok(proxy.on_heartbeat(alloc, None, &announcing(first, last, count, true)?)?)
+/// What a proxy gives where this comes.
+fn bring<A: Allocator + Copy>(
+    alloc: A,
+    proxy: &mut WriterProxy<A>,
+    what: What,
+) -> Result<Result<Effects<'static, A>, AllocError>, Fail> {
+    Ok(match what {
+        What::Whole(number) => proxy.on_whole(alloc, None, &whole_of(number)?),
+        What::Gap(start, base) => proxy.on_gap(alloc, None, &gap_of(start, base)?),
+        What::Asking(first, last, count) => {
+            proxy.on_heartbeat(alloc, None, &heartbeat_of(first, last, count)?)
+        }
+        What::Final(first, last, count) => {
+            let mut heartbeat = heartbeat_of(first, last, count)?;
+            heartbeat.final_flag = true;
+            proxy.on_heartbeat(alloc, None, &heartbeat)
+        }
+        What::Alive(first, last, count) => {
+            let mut heartbeat = heartbeat_of(first, last, count)?;
+            heartbeat.final_flag = true;
+            heartbeat.liveliness = true;
+            proxy.on_heartbeat(alloc, None, &heartbeat)
+        }
+        What::Fragment(number) => proxy.on_fragment(alloc, None, &fragment_of(number)?),
+        What::HeartbeatFrag(number) => {
+            proxy.on_heartbeat_frag(alloc, None, &heartbeat_frag_of(number)?)
+        }
+    })
 }
 
-/// What a heartbeat without flag F gives.
-fn on_asking(
-    alloc: Global,
-    proxy: &mut WriterProxy,
-    first: u64,
-    last: u64,
-    count: i32,
-) -> Result<Effects<'static>, Fail> {
-    Ok(proxy.on_heartbeat(alloc, None, &announcing(first, last, count, false)?)?)
+/// Whether effects are those of a row.
+fn gives<A: Allocator>(effects: Effects<'_, A>, row: &Row) -> bool {
+    effects.lost == row.1
+        && has_ready(&effects, row.2)
+        && match &effects.answer {
+            None => row.4.is_empty(),
+            Some(answer) => {
+                !row.4.is_empty()
+                    && answer.octets.as_slice().strip_prefix(FRONT) == Some(row.4)
+                    && answer.to.as_slice() == [LOCATOR].as_slice()
+            }
+        }
 }
 
 /// Whether the changes that are ready have these numbers.
@@ -150,7 +204,26 @@ fn has_ready<A: Allocator>(effects: &Effects<'_, A>, numbers: &[u64]) -> bool {
             .all(|(change, number)| change.number.get() == *number)
 }
 
-/// The same of effects that are looked at no further.
-fn gives<A: Allocator>(effects: Effects<'_, A>, numbers: &[u64]) -> bool {
-    has_ready(&effects, numbers)
+/// Whether the runs have these first and last numbers.
+fn has_runs(runs: &[(Number, Number)], expected: &[(u64, u64)]) -> bool {
+    runs.len() == expected.len()
+        && runs.iter().zip(expected.iter()).all(|(run, pair)| run.0.get() == pair.0
+            && run.1.get() == pair.1)
+}
+
+/// Whether a proxy gives what a row says.
+fn meets(alloc: Global, proxy: &mut WriterProxy, row: &Row) -> Result<bool, Fail> {
+    let effects = bring(alloc, proxy, row.0)??;
+    Ok(gives(effects, row) && has_runs(proxy.runs(), row.3))
+}
+
+/// The place of the first row that a new proxy doesn't meet.
+fn first_unmet(alloc: Global, reliable: bool, rows: &[Row]) -> Result<Option<usize>, Fail> {
+    let mut proxy = new_proxy(alloc, reliable)?;
+    for (at, row) in rows.iter().enumerate() {
+        if !meets(alloc, &mut proxy, row)? {
+            return Ok(Some(at));
+        }
+    }
+    Ok(None)
 }

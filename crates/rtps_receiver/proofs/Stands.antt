@@ -6,7 +6,7 @@ use Rattle.std.proofs.lemmas.List.{append-nil, map_push, take_rest}
 use Rattle.rtps_types.specs.declared.identity.GuidPrefix.{GuidPrefix}
 use Rattle.rtps_wire.specs.Submessage.{Content, Item, Pad, HeartbeatOf, GapOf, Time, Source, Destination, HeartbeatFragOf, Whole, Frag, Skipped}
 use Rattle.rtps_wire.specs.Reading.{Reading, reading}
-use Rattle.rtps_wire.specs.declared.message.Header.{Header}
+use Rattle.rtps_wire.specs.declared.message_header.Header.{Header}
 use Rattle.rtps_wire.specs.Header.{header_of}
 use Rattle.rtps_receiver.specs.declared.event.Event.{Event}
 use Rattle.rtps_receiver.specs.declared.context.Context.{Context}

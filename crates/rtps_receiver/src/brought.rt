@@ -18,27 +18,27 @@ use crate::body::{Body, Fragment, Gap, Heartbeat, HeartbeatFrag, Whole};
 use rtps_types::{MAX_NUMBER, Number, SnSet};
 use rtps_wire::{self, Data, DataFrag};
 
-pub(crate) fn whole_of<'a>(data: &Data<'a>) -> Option<Body<'a>>
-    ensures { option_map body_view result ≡ brought_by (wire.Whole (data_view data.now)) }
+pub(crate) fn whole_of<'a>(change: &Data<'a>) -> Option<Body<'a>>
+    ensures { option_map body_view result ≡ brought_by (wire.Whole (data_view change.now)) }
 {
     Some(Body::Whole(Whole {
-        number: Number::new(data.number)?,
-        info: data.info,
-        payload: data.payload,
+        number: Number::new(change.number)?,
+        info: change.info,
+        payload: change.payload,
     }))
 }
 
-pub(crate) fn fragment_of<'a>(data: &DataFrag<'a>) -> Option<Body<'a>>
-    ensures { option_map body_view result ≡ brought_by (wire.Frag (frag_view data.now)) }
+pub(crate) fn fragment_of<'a>(fragments: &DataFrag<'a>) -> Option<Body<'a>>
+    ensures { option_map body_view result ≡ brought_by (wire.Frag (frag_view fragments.now)) }
 {
     Some(Body::Fragment(Fragment {
-        number: Number::new(data.number)?,
-        start: data.start,
-        count: data.count,
-        size: data.size,
-        sample: data.sample,
-        info: data.info,
-        payload: data.payload,
+        number: Number::new(fragments.number)?,
+        start: fragments.start,
+        count: fragments.count,
+        size: fragments.size,
+        sample: fragments.sample,
+        info: fragments.info,
+        payload: fragments.payload,
     }))
 }
 

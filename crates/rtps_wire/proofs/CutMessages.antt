@@ -6,8 +6,8 @@ use Rattle.std.proofs.lemmas.Bool.{cases_lt, le-ltb, lt-ltb}
 use Rattle.std.proofs.lemmas.Bool.Decides.{nat_tests}
 use Rattle.std.proofs.Math.Seq.{take-append-add}
 use Rattle.std.proofs.lemmas.List.{drop-take, get_or-take, length-append, length-take, take-take}
-use Rattle.rtps_wire.specs.declared.message.Header.{Header}
-use Rattle.rtps_wire.specs.declared.message.HeaderFault.TheVariants.{Short}
+use Rattle.rtps_wire.specs.declared.message_header.Header.{Header}
+use Rattle.rtps_wire.specs.declared.message_header.HeaderFault.TheVariants.{Short}
 use Rattle.rtps_wire.specs.declared.submessage.SubmessageFault.{SubmessageFault}
 use Rattle.rtps_wire.specs.Cuts.{AreFirst, BeginWith, CutsReadFirst, KeepsWhatEnds, ReadsFirst}
 use Rattle.rtps_wire.specs.Header.{header_of, protocol}

@@ -1,8 +1,8 @@
 -- A datagram is read in one way.
 use Rattle.std.proofs.Common.{◌≡◌, ℕ, List, drop, Option, Result, Ok, Err, sym, ap, ◌∙◌, refl}
 use Rattle.std.specs.Prelude.{MatchResult}
-use Rattle.rtps_wire.specs.declared.message.Header.{Header}
-use Rattle.rtps_wire.specs.declared.message.HeaderFault.{HeaderFault}
+use Rattle.rtps_wire.specs.declared.message_header.Header.{Header}
+use Rattle.rtps_wire.specs.declared.message_header.HeaderFault.{HeaderFault}
 use Rattle.rtps_wire.specs.declared.submessage.SubmessageFault.{SubmessageFault}
 use Rattle.rtps_wire.specs.Header.{header_of}
 use Rattle.rtps_wire.specs.Message.{IsMessage}

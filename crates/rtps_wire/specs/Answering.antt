@@ -8,7 +8,7 @@ use Rattle.rtps_types.specs.Number.{value_of}
 use Rattle.rtps_types.specs.NumberSet.{NumberSet, members}
 use Rattle.rtps_types.specs.Sets.{frag_view, sn_view}
 use Rattle.rtps_wire.specs.declared.acknack.AckNack.{AckNack}
-use Rattle.rtps_wire.specs.declared.message.Header.{Header}
+use Rattle.rtps_wire.specs.declared.message_header.Header.{Header}
 use Rattle.rtps_wire.specs.declared.nack_frag.NackFrag.{NackFrag}
 use Rattle.rtps_wire.specs.Fields.{entity_at}
 use Rattle.rtps_wire.specs.Header.{protocol}

@@ -1,8 +1,8 @@
 -- What a message that was cut short is read as (DDSI-RTPS 8.3.4.1, 9.4.5.1).
 use Rattle.std.specs.Prelude.{◌≡◌, ℕ, ◌+◌, ◌-◌, ◌≤◌, List, [], ◌∷◌, ◌++◌, length, take, drop, Option, Err, true, nat_lt, MatchBool}
 use Rattle.rtps_types.specs.Field.{number}
-use Rattle.rtps_wire.specs.declared.message.Header.{Header}
-use Rattle.rtps_wire.specs.declared.message.HeaderFault.TheVariants.{Short}
+use Rattle.rtps_wire.specs.declared.message_header.Header.{Header}
+use Rattle.rtps_wire.specs.declared.message_header.HeaderFault.TheVariants.{Short}
 use Rattle.rtps_wire.specs.declared.submessage.SubmessageFault.{SubmessageFault}
 use Rattle.rtps_wire.specs.Fields.{endian_of}
 use Rattle.rtps_wire.specs.Header.{header_of}

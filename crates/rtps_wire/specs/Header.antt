@@ -1,9 +1,9 @@
 -- The first 20 octets of a message: `RTPS`, the version, the vendor, the prefix of the sender (DDSI-RTPS 8.3.3, 9.4.4).
 use Rattle.std.specs.Prelude.{ℕ, List, [], ◌∷◌, length, take, drop, Result, Ok, Err, nat_lt, nat_eq, ◌==◌, if◌then◌else◌, slice_index}
 use Rattle.std.specs.List.{starts_with}
-use Rattle.rtps_wire.specs.declared.message.Header.{Header}
-use Rattle.rtps_wire.specs.declared.message.HeaderFault.{HeaderFault}
-use Rattle.rtps_wire.specs.declared.message.HeaderFault.TheVariants.{Short, NotRtps, Version}
+use Rattle.rtps_wire.specs.declared.message_header.Header.{Header}
+use Rattle.rtps_wire.specs.declared.message_header.HeaderFault.{HeaderFault}
+use Rattle.rtps_wire.specs.declared.message_header.HeaderFault.TheVariants.{Short, NotRtps, Version}
 
 -- `RTPS`
 abbrev pub protocol : List ℕ

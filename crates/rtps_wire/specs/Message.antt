@@ -3,7 +3,7 @@ use Rattle.std.specs.Prelude.{◌≡◌, ℕ, ◌<◌, List, [], ◌∷◌, ◌+
 use Rattle.rtps_types.specs.Field.{number}
 use Rattle.rtps_wire.specs.declared.submessage.SubmessageFault.{SubmessageFault}
 use Rattle.rtps_wire.specs.declared.submessage.SubmessageFault.TheVariants.{Rest, Length, Invalid}
-use Rattle.rtps_wire.specs.declared.message.Header.{Header}
+use Rattle.rtps_wire.specs.declared.message_header.Header.{Header}
 use Rattle.rtps_wire.specs.Fields.{endian_of}
 use Rattle.rtps_wire.specs.Header.{header_of}
 use Rattle.rtps_wire.specs.Reading.{runs_to_end}

@@ -1,6 +1,6 @@
 -- Datagrams are read in one way (DDSI-RTPS 8.3.3, 8.3.4.1).
 use Rattle.std.specs.Prelude.{◌≡◌, List, ℕ, Option, MatchResult}
-use Rattle.rtps_wire.specs.declared.message.Header.{Header}
+use Rattle.rtps_wire.specs.declared.message_header.Header.{Header}
 use Rattle.rtps_wire.specs.declared.submessage.SubmessageFault.{SubmessageFault}
 use Rattle.rtps_wire.specs.Header.{header_of}
 use Rattle.rtps_wire.specs.Message.{IsMessage}

@@ -5,7 +5,8 @@ ghost use Rattle.rtps_types.specs.Sets.{sn_view};
 ghost use Rattle.rtps_wire.specs.Answering.{TellsAckNack, acknack_flags, acknack_octets, answer_items, our_header};
 ghost use Rattle.rtps_wire.specs.OneReading.{IsOnly};
 
-use crate::answering::{LITTLE, begin, push_octets, push_sn, push_u32, push_words};
+use crate::answering::{begin, push_octets, push_sn, push_u32, push_words};
+use crate::kinds::{ACKNACK, ACKNACK_FINAL, LITTLE};
 use rtps_types::{Guid, Octets, SnSet};
 use std::alloc::{AllocError, Allocator};
 
@@ -21,11 +22,6 @@ pub struct AckNack {
     /// Rises from one answer to the next.
     pub count: u32,
 }
-
-const ACKNACK: u8 = 0x06;
-
-/// Flag F: no answer is asked for.
-const FINAL: u8 = 0x02;
 
 /// The datagram with which a reader answers a writer's heartbeat; flag F is set where `missing` has
 /// no offset. It fails only where memory runs out.
@@ -61,7 +57,7 @@ fn flags_of(missing: &SnSet) -> u8
     ensures { result ≡ acknack_flags (sn_view missing.now) }
 {
     if missing.bits == 0 {
-        LITTLE | FINAL
+        LITTLE | ACKNACK_FINAL
     } else {
         LITTLE
     }

@@ -1,18 +1,16 @@
 //! What the answers to a writer have in common: each is a message of ours with one submessage
-//! behind an INFO_DST, all of it little-endian. Memory is reserved once, for all of its octets.
+//! after an INFO_DST, all of it little-endian. Memory is reserved once, for all of its octets.
 
 ghost use Rattle.std.specs.Prelude.{◌≡◌, ℕ, pos, ◌+◌, ◌*◌, ◌^◌, ◌<◌, ◌≤◌, List, [], ◌∷◌, ◌++◌, length, IfOk, vec_len, vec_capacity};
 ghost use Rattle.rtps_types.specs.Field.{spelled, spelled_sn};
 ghost use Rattle.rtps_wire.specs.Answering.{opened, spelled_words};
 ghost use Rattle.rtps_wire.specs.NumberSets.{words_in};
 
+use crate::kinds::{INFO_DST, LITTLE};
 use rtps_types::{Endian, GuidPrefix, put_sn, put_u16, put_u32};
 use std::alloc::{AllocError, Allocator};
 
-/// Flag E: numbers have the lowest octet first.
-pub(crate) const LITTLE: u8 = 0x01;
-
-/// How many octets stand before the submessage's body.
+/// How many octets come before the submessage's body.
 const FRONT: usize = 40;
 
 /// Begins an answer, up to the header of its submessage, with room for a body of this length.
@@ -31,7 +29,7 @@ pub(crate) fn begin<A: Allocator>(
     let mut octets = Vec::with_capacity(alloc, FRONT + usize::from(length))?;
     push_octets(&mut octets, b"RTPS\x02\x05\x00\x00");
     push_octets(&mut octets, &own.0);
-    push_octets(&mut octets, &[0x0e, LITTLE, 12, 0]);
+    push_octets(&mut octets, &[INFO_DST, LITTLE, 12, 0]);
     push_octets(&mut octets, &to.0);
     push_octets(&mut octets, &[id, flags]);
     push_u16(&mut octets, length);

@@ -6,6 +6,7 @@ ghost use Rattle.rtps_wire.specs.Data.{data_of, data_view, form_of, qos_of};
 
 use crate::fields::{get_entity, get_positive, get_rest};
 use crate::inline_qos::{InlineQos, read_inline_qos};
+use crate::kinds::{DATA_KEY, DATA_NON_STANDARD, DATA_VALUE, INLINE_QOS};
 use rtps_types::{Endian, EntityId, KeyHash, get_u16};
 
 /// What a change carries.
@@ -43,18 +44,6 @@ pub struct Data<'a> {
     pub payload: &'a [u8],
 }
 
-/// Flag Q: inline QoS follows.
-const INLINE_QOS: u8 = 0x02;
-
-/// Flag D: a value follows.
-const DATA: u8 = 0x04;
-
-/// Flag K: a key follows.
-const KEY: u8 = 0x08;
-
-/// Flag N: the payload is in no standard form.
-const NON_STANDARD: u8 = 0x10;
-
 /// How many octets lie at least between octetsToInlineQos and the inline QoS.
 const LEAST_OFFSET: usize = 16;
 
@@ -73,7 +62,7 @@ pub(crate) fn read_data(flags: u8, endian: Endian, body: &[u8]) -> Option<Data<'
     let rest = get_rest(body, 4 + offset)?;
     let qos = qos_at(flags, endian, rest)?;
     let form = form_at(flags)?;
-    let payload = if flags & (DATA | KEY) == 0 {
+    let payload = if flags & (DATA_VALUE | DATA_KEY) == 0 {
         &[]
     } else {
         get_rest(rest, qos.used)?
@@ -109,9 +98,9 @@ pub(crate) fn qos_at(flags: u8, endian: Endian, rest: &[u8]) -> Option<InlineQos
 fn form_at(flags: u8) -> Option<Form>
     ensures { result ≡ form_of flags }
 {
-    match (flags & DATA != 0, flags & KEY != 0) {
+    match (flags & DATA_VALUE != 0, flags & DATA_KEY != 0) {
         (true, true) => None,
-        _ if flags & NON_STANDARD != 0 => Some(Form::Other),
+        _ if flags & DATA_NON_STANDARD != 0 => Some(Form::Other),
         (true, false) => Some(Form::Value),
         (false, true) => Some(Form::Key),
         (false, false) => Some(Form::Nothing),

@@ -6,6 +6,7 @@ ghost use Rattle.rtps_wire.specs.DataFrag.{data_frag_of, frag_form_of, frag_view
 
 use crate::data::{ChangeInfo, Form, qos_at};
 use crate::fields::{get_entity, get_positive, get_rest};
+use crate::kinds::{DATA_FRAG_KEY, DATA_FRAG_NON_STANDARD};
 use rtps_types::{Endian, EntityId, get_u16, get_u32};
 
 /// The fields of a DATA_FRAG.
@@ -27,12 +28,6 @@ pub struct DataFrag<'a> {
     /// What follows the inline QoS: the octets of the fragments, and maybe more.
     pub payload: &'a [u8],
 }
-
-/// Flag K: the fragments are of a key.
-const KEY: u8 = 0x04;
-
-/// Flag N: the payload is in no standard form.
-const NON_STANDARD: u8 = 0x08;
 
 /// How many octets lie at least between octetsToInlineQos and the inline QoS.
 const LEAST_OFFSET: usize = 28;
@@ -77,9 +72,9 @@ pub(crate) fn read_data_frag(flags: u8, endian: Endian, body: &[u8]) -> Option<D
 fn form_at(flags: u8) -> Form
     ensures { result ≡ frag_form_of flags }
 {
-    if flags & NON_STANDARD != 0 {
+    if flags & DATA_FRAG_NON_STANDARD != 0 {
         Form::Other
-    } else if flags & KEY != 0 {
+    } else if flags & DATA_FRAG_KEY != 0 {
         Form::Key
     } else {
         Form::Value

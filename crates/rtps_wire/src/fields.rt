@@ -4,10 +4,8 @@ ghost use Rattle.std.specs.Prelude.{◌≡◌, ◌^◌, ◌<◌, ◌≤◌, IfSo
 ghost use Rattle.std.specs.Option.{option_map};
 ghost use Rattle.rtps_wire.specs.Fields.{count_at, endian_of, entity_at, from, natural_at, positive_at, prefix_at};
 
+use crate::kinds::LITTLE;
 use rtps_types::{Endian, EntityId, GuidPrefix, get_octets, get_sn, get_u32};
-
-/// Flag E of a submessage: its numbers have the lowest octet first (DDSI-RTPS 9.4.5.1.2).
-const LITTLE: u8 = 0x01;
 
 /// The byte order of a submessage with these flags.
 pub(crate) fn endian_at(flags: u8) -> Endian

@@ -4,6 +4,7 @@ ghost use Rattle.std.specs.Prelude.{◌≡◌};
 ghost use Rattle.rtps_wire.specs.Heartbeat.{heartbeat_of};
 
 use crate::fields::{get_count, get_entity, get_natural, get_positive};
+use crate::kinds::{HEARTBEAT_FINAL, HEARTBEAT_LIVELINESS};
 use rtps_types::{Endian, EntityId};
 
 /// The fields of a HEARTBEAT.
@@ -22,12 +23,6 @@ pub struct Heartbeat {
     /// Flag L: the writer only says that it is alive.
     pub liveliness: bool,
 }
-
-/// Flag F.
-const FINAL: u8 = 0x02;
-
-/// Flag L.
-const LIVELINESS: u8 = 0x04;
 
 /// The fields of a HEARTBEAT with these flags, if its body has their form.
 #[tactic(auto, unfolding(crate::specs::Heartbeat::heartbeat_of))]
@@ -48,7 +43,7 @@ pub(crate) fn read_heartbeat(flags: u8, endian: Endian, body: &[u8]) -> Option<H
         first,
         last,
         count,
-        final_flag: flags & FINAL != 0,
-        liveliness: flags & LIVELINESS != 0,
+        final_flag: flags & HEARTBEAT_FINAL != 0,
+        liveliness: flags & HEARTBEAT_LIVELINESS != 0,
     })
 }

@@ -3,17 +3,15 @@
 ghost use Rattle.std.specs.Prelude.{◌≡◌};
 ghost use Rattle.rtps_wire.specs.Info.{time_of};
 
+use crate::kinds::INFO_TS_INVALIDATE;
 use rtps_types::{Endian, Timestamp, get_u32};
 
-/// Flag I: there is no time.
-const INVALIDATE: u8 = 0x02;
-
-/// The time that an INFO_TS tells, if its body has the form that its flags ask for; with flag I it
-/// tells that there is none.
+/// The time that an INFO_TS gives, if its body has the form that its flags ask for; with flag I there
+/// is none.
 pub(crate) fn read_info_ts(flags: u8, endian: Endian, body: &[u8]) -> Option<Option<Timestamp>>
     ensures { result ≡ time_of flags endian body.now }
 {
-    if flags & INVALIDATE != 0 {
+    if flags & INFO_TS_INVALIDATE != 0 {
         return Some(None);
     }
     let seconds = get_u32(body, 0, endian)?;

@@ -3,6 +3,7 @@
 ghost use Rattle.std.specs.Prelude.{◌≡◌};
 ghost use Rattle.rtps_wire.specs.InlineQos.{inline_of};
 
+use rtps_params::ids::{KEY_HASH, STATUS_INFO};
 use rtps_params::{Front, Param, read_front};
 use rtps_types::{Endian, KeyHash, get_octets};
 
@@ -16,12 +17,6 @@ pub(crate) struct InlineQos {
     /// How many octets the list takes.
     pub(crate) used: usize,
 }
-
-/// The key hash, `PID_KEY_HASH`.
-const KEY_HASH: u16 = 0x70;
-
-/// The status info, `PID_STATUS_INFO`.
-const STATUS_INFO: u16 = 0x71;
 
 /// What the parameters up to a place say.
 #[derive(Clone, Copy)]

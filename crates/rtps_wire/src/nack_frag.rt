@@ -4,7 +4,8 @@ ghost use Rattle.std.specs.Prelude.{◌≡◌, None, IfOk};
 ghost use Rattle.rtps_wire.specs.Answering.{TellsNackFrag, answer_items, nack_frag_octets, our_header};
 ghost use Rattle.rtps_wire.specs.OneReading.{IsOnly};
 
-use crate::answering::{LITTLE, begin, push_octets, push_sn, push_u32, push_words};
+use crate::answering::{begin, push_octets, push_sn, push_u32, push_words};
+use crate::kinds::{LITTLE, NACK_FRAG};
 use rtps_types::{FragSet, Guid, Number, Octets};
 use std::alloc::{AllocError, Allocator};
 
@@ -22,8 +23,6 @@ pub struct NackFrag {
     /// Rises from one answer to the next.
     pub count: u32,
 }
-
-const NACK_FRAG: u8 = 0x12;
 
 /// The datagram with which a reader asks a writer for fragments. It fails only where memory runs out.
 pub fn write_nack_frag<A: Allocator>(alloc: A, answer: NackFrag) -> Result<Octets<A>, AllocError>

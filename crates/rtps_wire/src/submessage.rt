@@ -12,6 +12,9 @@ use crate::heartbeat::{Heartbeat, read_heartbeat};
 use crate::heartbeat_frag::{HeartbeatFrag, read_heartbeat_frag};
 use crate::info_src::{InfoSource, read_info_src};
 use crate::info_ts::read_info_ts;
+use crate::kinds::{
+    DATA, DATA_FRAG, GAP, HEARTBEAT, HEARTBEAT_FRAG, INFO_DST, INFO_SRC, INFO_TS, PAD,
+};
 use rtps_types::{GuidPrefix, Timestamp};
 
 /// A valid submessage, whose payload stays where the datagram lies.
@@ -34,7 +37,7 @@ pub enum Parts<'a> {
     InfoTimestamp(Option<Timestamp>),
     /// The source of what follows.
     InfoSource(InfoSource),
-    /// The destination of what follows (8.3.7.7); all zeros stand for whoever reads it.
+    /// The destination of what follows (8.3.7.7); all zeros mean whoever reads it.
     InfoDestination(GuidPrefix),
     HeartbeatFrag(HeartbeatFrag),
     Data(Data<'a>),
@@ -53,24 +56,6 @@ pub enum SubmessageFault {
     /// A body hasn't the form of its kind.
     Invalid,
 }
-
-pub(crate) const PAD: u8 = 0x01;
-
-const HEARTBEAT: u8 = 0x07;
-
-const GAP: u8 = 0x08;
-
-pub(crate) const INFO_TS: u8 = 0x09;
-
-const INFO_SRC: u8 = 0x0c;
-
-const INFO_DST: u8 = 0x0e;
-
-const HEARTBEAT_FRAG: u8 = 0x13;
-
-const DATA: u8 = 0x15;
-
-const DATA_FRAG: u8 = 0x16;
 
 /// What a body says, if it has the form of its kind.
 #[tactic(auto, unfolding(crate::specs::Submessage::parts_of))]

@@ -8,7 +8,8 @@ ghost use Rattle.rtps_wire.specs.Reading.{Reading, Takes, front_of, reading, see
 ghost use Rattle.rtps_wire.specs.Submessage.{Item};
 
 use crate::fields::endian_at;
-use crate::submessage::{INFO_TS, PAD, Submessage, SubmessageFault, read_parts};
+use crate::kinds::{INFO_TS, PAD};
+use crate::submessage::{Submessage, SubmessageFault, read_parts};
 use rtps_types::get_u16;
 use std::marker::Model;
 

@@ -1,104 +1,158 @@
 //! Changes that wait, and numbers that are given up.
 
-use super::{
-    INFO, PAYLOAD, TIME, gives, has_ready, new_proxy, on_final, on_gap, on_whole, whole_of,
-};
+use super::{INFO, MAX, PAYLOAD, Row, What, bring, first_unmet, has_ready, new_proxy, whole_of};
 use crate::*;
-use rtps_receiver::{Body, Fragment, HeartbeatFrag};
+use rtps_receiver::{Body, Whole};
+use rtps_types::Timestamp;
+use std::alloc::Global;
 use std::test::Fail;
+
+const TIME: Timestamp = Timestamp {
+    seconds: 5,
+    fraction: 7,
+};
+
+/// ACKNACK for 1 to 5, as the first answer.
+const FIVE: &[u8] = b"\x06\x01\x1c\x00\
+    \x00\x00\x01\x07\x00\x00\x01\x02\
+    \x00\x00\x00\x00\x01\x00\x00\x00\
+    \x05\x00\x00\x00\
+    \x00\x00\x00\xf8\
+    \x01\x00\x00\x00";
+
+/// Whether a change is as it was sent, at this time.
+fn is_as_sent(change: &Change<'_>, number: u64, time: Option<Timestamp>) -> bool {
+    change.number.get() == number
+        && change.time == time
+        && change.info == INFO
+        && change.payload.as_slice() == PAYLOAD.as_slice()
+}
+
+/// Whether two changes are ready as they were sent: 1, where the datagram lies, and 2, which was kept.
+fn gives_both(effects: Effects<'_>) -> bool {
+    if effects.lost != 0 || effects.answer.is_some() {
+        return false;
+    }
+    let [first, second] = effects.ready.as_slice() else {
+        return false;
+    };
+    is_as_sent(first, 1, None)
+        && matches!(first.payload, Payload::Lent(_))
+        && is_as_sent(second, 2, Some(TIME))
+        && matches!(second.payload, Payload::Kept(_))
+}
+
+/// Whether change 2 waits, and is ready after change 1.
+fn waits(alloc: Global, proxy: &mut WriterProxy) -> Result<bool, Fail> {
+    let later = Body::Whole(whole_of(2)?);
+    let first = Body::Whole(whole_of(1)?);
+    let none = proxy.on_event(alloc, Some(TIME), &later)?;
+    let nothing = has_ready(&none, &[]);
+    Ok(nothing && gives_both(proxy.on_event(alloc, None, &first)?))
+}
 
 #[test]
 fn a_later_change_waits(rt: HostRuntime) -> Result<(), Fail> {
     let mut proxy = new_proxy(rt.alloc(), true)?;
-    let none = proxy.on_event(rt.alloc(), Some(TIME), &Body::Whole(whole_of(2)?))?;
-    assert!(rt; gives(none, &[]));
-    let both = proxy.on_event(rt.alloc(), None, &Body::Whole(whole_of(1)?))?;
-    assert!(rt; has_ready(&both, &[1, 2]));
-    assert_eq!(rt; both.ready.len(), 2);
-    assert!(rt; matches!(both.ready[0].payload, Payload::Lent(_)));
-    assert_eq!(rt; both.ready[0].time, None);
-    let kept = &both.ready[1];
-    assert!(rt; matches!(kept.payload, Payload::Kept(_)));
-    assert_eq!(rt; kept.payload.as_slice(), PAYLOAD.as_slice());
-    assert_eq!(rt; kept.time, Some(TIME));
-    assert_eq!(rt; kept.info, INFO);
-    // Each comes once.
-    assert!(rt; has_ready(&on_whole(rt.alloc(), &mut proxy, 2)?, &[]));
+    assert!(rt; waits(rt.alloc(), &mut proxy)?);
     Ok(())
 }
 
 #[test]
 fn lost_are_those_below_a_raised_first(rt: HostRuntime) -> Result<(), Fail> {
-    let mut proxy = new_proxy(rt.alloc(), true)?;
-    let _ = on_final(rt.alloc(), &mut proxy, 1, 5, 1)?;
-    assert!(rt; has_ready(&on_whole(rt.alloc(), &mut proxy, 1)?, &[1]));
-    assert!(rt; has_ready(&on_whole(rt.alloc(), &mut proxy, 5)?, &[]));
-    assert!(rt; has_ready(&on_whole(rt.alloc(), &mut proxy, 3)?, &[]));
-    assert!(rt; has_ready(&on_gap(rt.alloc(), &mut proxy, 2, 3)?, &[3]));
-    let raised = on_final(rt.alloc(), &mut proxy, 6, 5, 2)?;
-    assert_eq!(rt; raised.lost, 1);
-    assert!(rt; has_ready(&raised, &[5]));
-    assert!(rt; raised.answer.is_none());
+    let rows: [Row; 7] = [
+        (What::Final(1, 5, 1), 0, &[], &[], FIVE),
+        (What::Whole(1), 0, &[1], &[], &[]),
+        (What::Whole(5), 0, &[], &[(5, 5)], &[]),
+        (What::Whole(3), 0, &[], &[(3, 3), (5, 5)], &[]),
+        (What::Gap(2, 3), 0, &[3], &[(5, 5)], &[]),
+        (What::Final(6, 5, 2), 1, &[5], &[], &[]),
+        // Each comes once.
+        (What::Whole(5), 0, &[], &[], &[]),
+    ];
+    assert_eq!(rt; first_unmet(rt.alloc(), true, &rows)?, None);
     Ok(())
 }
 
 #[test]
 fn a_first_heartbeat_loses_nothing(rt: HostRuntime) -> Result<(), Fail> {
-    let mut proxy = new_proxy(rt.alloc(), true)?;
-    let _ = on_whole(rt.alloc(), &mut proxy, 3)?;
-    let first = on_final(rt.alloc(), &mut proxy, 6, 5, 1)?;
-    let lost = first.lost;
-    assert_eq!(rt; lost, 0);
-    assert!(rt; gives(first, &[3]));
-    // It is counted from 6 on.
-    let second = on_final(rt.alloc(), &mut proxy, 9, 8, 2)?;
-    assert_eq!(rt; second.lost, 3);
+    let rows: [Row; 3] = [
+        (What::Whole(3), 0, &[], &[(3, 3)], &[]),
+        (What::Final(6, 5, 1), 0, &[3], &[], &[]),
+        // It is counted from 6 on.
+        (What::Final(9, 8, 2), 3, &[], &[], &[]),
+    ];
+    assert_eq!(rt; first_unmet(rt.alloc(), true, &rows)?, None);
     Ok(())
+}
+
+/// How many changes are ready where the one with this number comes, and the number of the last.
+fn ready_at(alloc: Global, proxy: &mut WriterProxy, number: u64) -> Result<(usize, u64), Fail> {
+    let effects = bring(alloc, proxy, What::Whole(number))??;
+    Ok(last_ready(effects))
+}
+
+fn last_ready(effects: Effects<'_>) -> (usize, u64) {
+    match effects.ready.last() {
+        None => (0, 0),
+        Some(change) => (effects.ready.len(), change.number.get()),
+    }
+}
+
+/// Brings the changes 2 to 65,538, of which the last finds no room. Whether none is ready.
+fn fill(alloc: Global, proxy: &mut WriterProxy) -> Result<bool, Fail> {
+    for number in 2_u64..65_539 {
+        if ready_at(alloc, proxy, number)? != (0, 0) {
+            return Ok(false);
+        }
+    }
+    Ok(true)
 }
 
 #[test]
 fn there_is_room_for_so_many(rt: HostRuntime) -> Result<(), Fail> {
     let mut proxy = new_proxy(rt.alloc(), true)?;
     // 65,536 changes wait for the first one.
-    for number in 2_u64..65_538 {
-        let _ = on_whole(rt.alloc(), &mut proxy, number)?;
-    }
-    let over = on_whole(rt.alloc(), &mut proxy, 65_538)?;
-    assert!(rt; gives(over, &[]));
+    assert!(rt; fill(rt.alloc(), &mut proxy)?);
     // The next one needs no room, and releases them.
-    let all = on_whole(rt.alloc(), &mut proxy, 1)?;
-    assert_eq!(rt; all.ready.len(), 65_537);
-    assert_eq!(rt; all.ready[65_536].number.get(), 65_537);
+    assert_eq!(rt; ready_at(rt.alloc(), &mut proxy, 1)?, (65_537, 65_537));
     // The one that found no room didn't come.
-    let again = on_whole(rt.alloc(), &mut proxy, 65_538)?;
-    assert!(rt; gives(again, &[65_538]));
+    assert_eq!(rt; ready_at(rt.alloc(), &mut proxy, 65_538)?, (1, 65_538));
     Ok(())
 }
 
 #[test]
 fn fragments_do_nothing(rt: HostRuntime) -> Result<(), Fail> {
+    let rows: [Row; 3] = [
+        (What::Fragment(1), 0, &[], &[], &[]),
+        (What::HeartbeatFrag(1), 0, &[], &[], &[]),
+        (What::Whole(1), 0, &[1], &[], &[]),
+    ];
+    assert_eq!(rt; first_unmet(rt.alloc(), true, &rows)?, None);
+    Ok(())
+}
+
+/// Brings every second number, and a long payload after them all: each waits.
+fn spread(alloc: Global, proxy: &mut WriterProxy, payload: &[u8]) -> Result<bool, Fail> {
+    for count in 1_u64..1_000 {
+        if ready_at(alloc, proxy, 2 * count)? != (0, 0) || proxy.runs().len() as u64 != count {
+            return Ok(false);
+        }
+    }
+    let long = Whole {
+        payload,
+        ..whole_of(MAX)?
+    };
+    let effects = proxy.on_whole(alloc, None, &long)?;
+    Ok(last_ready(effects) == (0, 0) && proxy.runs().len() == 1_000)
+}
+
+#[test]
+fn many_runs_and_long_payloads_are_kept(rt: HostRuntime) -> Result<(), Fail> {
+    let payload = [0x5a; 65_463];
     let mut proxy = new_proxy(rt.alloc(), true)?;
-    let fragment = Fragment {
-        number: whole_of(1)?.number,
-        start: 1,
-        count: 1,
-        size: 4,
-        sample: 4,
-        info: INFO,
-        payload: &PAYLOAD,
-    };
-    let effects = proxy.on_fragment(rt.alloc(), None, &fragment)?;
-    assert!(rt; gives(effects, &[]));
-    let frag = HeartbeatFrag {
-        number: whole_of(1)?.number,
-        last: 1,
-        count: 1,
-    };
-    let silent = proxy
-        .on_heartbeat_frag(rt.alloc(), None, &frag)?
-        .answer
-        .is_none();
-    assert!(rt; silent);
-    assert!(rt; has_ready(&on_whole(rt.alloc(), &mut proxy, 1)?, &[1]));
+    assert!(rt; spread(rt.alloc(), &mut proxy, &payload)?);
+    // The first one releases the second, and no other.
+    assert_eq!(rt; ready_at(rt.alloc(), &mut proxy, 1)?, (2, 2));
     Ok(())
 }

@@ -1,4 +1,4 @@
-use Rattle.std.proofs.Common.{◌≡◌, ◌++◌, ◌&&◌, ◌||◌, not, leb, Bool, subst, refl, sym, ap, ◌∙◌, ◌∷◌, true, false, max, map, is_some, rules}
+use Rattle.std.proofs.Common.{◌≡◌, ◌++◌, ◌&&◌, ◌||◌, not, Bool, subst, refl, sym, ap, ◌∙◌, ◌∷◌, true, false, max, map, is_some, rules}
 use Rattle.std.specs.Prelude.{int_lt}
 use Rattle.std.proofs.lemmas.Int.{to_z-of_z}
 use mir.Syntax.{w32}
@@ -11,7 +11,9 @@ use Rattle.rtps_proxy.specs.Effects.{ReliableStandsAt, exceeds}
 use Rattle.rtps_proxy.specs.Held.{front_below}
 use Rattle.rtps_proxy.specs.History.{Came, announced_of, has_heartbeat, is_new}
 use Rattle.rtps_proxy.specs.Kept.{Awaited, whom}
+use Rattle.rtps_proxy.specs.Numbers.{lacks}
 use Rattle.rtps_proxy.specs.Received.{in_order, lost}
+use Rattle.rtps_proxy.specs.Runs.{marks}
 use Rattle.rtps_proxy.proofs.Apart.{apart_from}
 use Rattle.rtps_proxy.proofs.Standing.{Shows, lost_nothing, none_ready, same_held, split_held, split_ready}
 use Rattle.rtps_proxy.proofs.Beats.{announced_is, answered_is, beat_at, beat_lost, beat_shows, count_is, newer, refused_announced, refused_answer, refused_answers, refused_counts, has_greatest, refused_first, refused_settled, reply_is}
@@ -55,7 +57,7 @@ returns g c = λ past time at.
     let adds = rw c.get-first.ensures.value at c.in_ok-add.ensures.ok in
     let after = beat_shows past time h accepted old.frontier new.frontier old.runs new.runs before adds (apart_from new.frontier new.runs new.apart) in
     let announced : c.max-self.result ≡ announced_of (event ∷ past) = c.max-self.ensures ∙ ap (λ n. max n b.last) at.announced ∙ sym (announced_is past time h accepted) in
-    let asks : Bool = not b.final_flag || (not b.liveliness && leb new.frontier c.max-self.result) in
+    let asks : Bool = not b.final_flag || (not b.liveliness && lacks (marks new.frontier new.runs) c.max-self.result) in
     let due : is_answered past event ≡ asks = answered_is past time h accepted new.frontier c.max-self.result new.runs after.0 announced in
     let begun : has_heartbeat past ≡ is_some c.args.self.now.accepted = at.begun in
     let none_first : map change_view c.new-ready.result.items ++ front_below new.frontier waiting ≡ front_below new.frontier waiting = rw c.new-ready.ensures.items refl in

@@ -1,0 +1,52 @@
+//! The first 20 octets of a message (DDSI-RTPS 8.3.3, 9.4.4).
+
+ghost use Rattle.std.specs.Prelude.{◌≡◌};
+ghost use Rattle.rtps_wire.specs.Header.{header_of};
+
+use rtps_types::{GuidPrefix, get_octets};
+
+/// Who sent a message, and by which version of the protocol.
+#[derive(Clone, Copy, Debug, PartialEq, Eq)]
+pub struct Header {
+    /// Major and minor; the major one is 2.
+    pub version: [u8; 2],
+    /// Who made the sender's implementation; any vendor is taken.
+    pub vendor: [u8; 2],
+    /// The participant that sent the message.
+    pub prefix: GuidPrefix,
+}
+
+/// Why octets are no message: the first cause in this order.
+#[derive(Clone, Copy, Debug, PartialEq, Eq)]
+pub enum HeaderFault {
+    /// There are fewer than 20 octets.
+    Short,
+    /// They don't begin with `RTPS`.
+    NotRtps,
+    /// The major version isn't 2.
+    Version,
+}
+
+/// The header at the front of a message, or the first fault that it has.
+pub fn read_header(octets: &[u8]) -> Result<Header, HeaderFault>
+    ensures { result ≡ header_of octets.now }
+{
+    let (Some(version), Some(vendor), Some(prefix)) = (
+        get_octets(octets, 4),
+        get_octets(octets, 6),
+        get_octets(octets, 8),
+    ) else {
+        return Err(HeaderFault::Short);
+    };
+    if !octets.starts_with(b"RTPS") {
+        return Err(HeaderFault::NotRtps);
+    }
+    if octets[4] != 2 {
+        return Err(HeaderFault::Version);
+    }
+    Ok(Header {
+        version,
+        vendor,
+        prefix: GuidPrefix(prefix),
+    })
+}
