@@ -26,7 +26,7 @@ use options::Options;
 use prefix::prefix_of;
 use rtps_discovery::Config;
 use rtps_records::RunFault;
-use rtps_text::{dump, replay};
+use rtps_text::{Setup, dump, replay};
 use rtps_types::GuidPrefix;
 use std::alloc::Global;
 use std::fs::File;
@@ -154,24 +154,21 @@ fn replay_from<R: Read + Drop>(
         return Err(RunFault::NoMemory);
     };
     let mut writer = rt.stdout();
+    let summary = options.summary;
     if options.raw {
-        return replay(
-            alloc,
+        let setup = Setup {
             config,
-            Raw,
-            options.summary,
-            &mut reader,
-            &mut writer,
-        );
+            catalog: Raw,
+            summary,
+        };
+        return replay(alloc, setup, &mut reader, &mut writer);
     }
-    replay(
-        alloc,
+    let setup = Setup {
         config,
-        Shapes,
-        options.summary,
-        &mut reader,
-        &mut writer,
-    )
+        catalog: Shapes,
+        summary,
+    };
+    replay(alloc, setup, &mut reader, &mut writer)
 }
 
 /// Standard input where the name is `-`, else the file of that name.

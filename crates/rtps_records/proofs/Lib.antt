@@ -1,4 +1,5 @@
 pub mod Filled
+pub mod NextRead
 pub mod OneReading
 pub mod Printed
 pub mod Progress

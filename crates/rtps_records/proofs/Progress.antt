@@ -1,5 +1,5 @@
 -- A run so far: the records that were read, and what was said and written of them.
-use Rattle.std.proofs.Common.{◌≡◌, ℕ, ◌+◌, ◌<◌, ◌≤◌, inl, inr, List, [], ◌∷◌, ◌++◌, Option, None, Some, IfSome, arith, refl, length, take, drop, sym, ap, subst, ◌∙◌, length-append, length-take, append-nil, append_assoc, take-append-drop}
+use Rattle.std.proofs.Common.{◌≡◌, ℕ, ◌+◌, ◌<◌, ◌≤◌, inl, inr, List, [], ◌∷◌, ◌++◌, Option, None, Some, IfSome, Result, Ok, Err, IfErr, OnErr, arith, refl, length, take, drop, sym, ap, subst, ◌∙◌, length-append, length-take, append-nil, append_assoc, take-append-drop}
 use Rattle.std.specs.List.{flat_map, AllByRecursion}
 use Rattle.std.proofs.lemmas.Grind.{flat_map-append}
 use Rattle.std.specs.Io.KnownBytes.{Appends, Consumes, IsAtEnd}
@@ -47,7 +47,8 @@ all_more P (y ∷ xs) x all here = (all.0, all_more P xs x all.1 here)
 frames_more : (xs : List (List ℕ)) (x : List ℕ) → flat_map frame xs ++ frame x ≡ flat_map frame (xs ++ x ∷ [])
 frames_more xs x = ap (λ l. flat_map frame xs ++ l) (sym (append-nil (frame x))) ∙ sym (flat_map-append frame xs (x ∷ []))
 
-one_more : (said then_said : List (List ℕ) → List ℕ → Type 0) (before now after old new : Option (List ℕ)) (n : ℕ) (kept out octets : List ℕ)
+-- one record more was read, and its text was added
+pub one_more : (said then_said : List (List ℕ) → List ℕ → Type 0) (before now after old new : Option (List ℕ)) (n : ℕ) (kept out octets : List ℕ)
     → Progress said before now old new n kept → Consumes now after (frame octets) → length octets ≤ 65507 → Says said then_said n octets kept out
     → Progress then_said before after old new (n + 1) out
 unfolding Says
@@ -60,13 +61,6 @@ one_more said then_said before now after old new n kept out octets p read small 
   wrote = p.wrote;
   says = subst (then_said (p.records ++ octets ∷ [])) (append_assoc p.written kept s.0 ∙ ap (λ l. p.written ++ l) (sym s.1)) (s.2 p.records (p.written ++ kept) p.says p.count);
 }
-
-pub one_record : (said then_said : List (List ℕ) → List ℕ → Type 0) (before now after old new : Option (List ℕ)) (n len : ℕ) (kept out buffer : List ℕ)
-    → Progress said before now old new n kept → Consumes now after (frame (take len buffer)) → len ≤ 65507 → Says said then_said n (take len buffer) kept out
-    → Progress then_said before after old new (n + 1) out
-one_record said then_said before now after old new n len kept out buffer p read small s =
-    let fits : length (take len buffer) ≤ 65507 = omega (arith, length-take len buffer) in
-    one_more said then_said before now after old new n kept out (take len buffer) p read fits s
 
 -- the text was written or is kept back
 pub spilled : (said : List (List ℕ) → List ℕ → Type 0) (before now old mid new : Option (List ℕ)) (n : ℕ) (kept left : List ℕ)
@@ -262,3 +256,23 @@ pub printed : (line : ℕ → List ℕ → List ℕ) (before now old mid new : O
     → Appends mid new kept → Finished (text_of line) before now old new n
 printed line before now old mid new n kept p put =
     closed _ _ _ _ _ _ _ _ _ _ p (λ records. refl) (closes (λ records said. said ≡ text_of line records) (text_of line) _ _ kept kept (ends_here line kept) put)
+
+-- a write that fails, in the place of what was to be said
+pub fails_writing : {U : Type 0} (said : List (List ℕ) → List ℕ → Type 0) (text whole : List (List ℕ) → List ℕ) (before now after old mid new : Option (List ℕ)) (n : ℕ) (kept : List ℕ) (r : Result U RunFault)
+    → IfErr r (λ fault. fault ≡ CannotWrite) → OnErr r (PutsFront mid new kept) → Progress said before now old mid n kept → SaidIsFront said text → ((records : List (List ℕ)) → text records ≡ whole records)
+    → IfErr r (λ fault. Stops whole fault before after old new)
+fails_writing said text whole before now after old mid new n kept (Ok x) fault put p fronts same = tt
+fails_writing said text whole before now after old mid new n kept (Err e) fault put p fronts same = stops_writing said text whole before now after old mid new n kept e fault p fronts same put
+
+-- the last text is written, or it isn't
+pub closes_if : {U : Type 0} (said : List (List ℕ) → List ℕ → Type 0) (text : List (List ℕ) → List ℕ) (old new : Option (List ℕ)) (kept out : List ℕ) (r : Result U RunFault) → Ends said text kept out
+    → IfErr r (λ fault. fault ≡ CannotWrite) → OnErr r (PutsFront old new out) → IfErr r (λ fault. ClosesNot fault said text old new kept)
+closes_if said text old new kept out (Ok x) e fault put = tt
+closes_if said text old new kept out (Err f) e fault put = closes_not said text f old new kept out fault e put
+
+-- a run that doesn't come to its last text
+pub fails_closing : {U : Type 0} (said : List (List ℕ) → List ℕ → Type 0) (text whole : List (List ℕ) → List ℕ) (before now after old mid new : Option (List ℕ)) (n : ℕ) (kept : List ℕ) (r : Result U RunFault)
+    → Progress said before now old mid n kept → SaidIsFront said text → ((records : List (List ℕ)) → text records ≡ whole records) → IfErr r (λ fault. ClosesNot fault said text mid new kept)
+    → IfErr r (λ fault. Stops whole fault before after old new)
+fails_closing said text whole before now after old mid new n kept (Ok x) p fronts same c = tt
+fails_closing said text whole before now after old mid new n kept (Err e) p fronts same c = stops_closing said text whole before now after old mid new n kept e p fronts same c

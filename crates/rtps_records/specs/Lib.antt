@@ -1,3 +1,4 @@
+pub mod Reading
 pub mod RecordFile
 pub mod Runs
 pub mod Text

@@ -1,5 +1,9 @@
 //! Why a run over a record file ends early.
 
+ghost use Rattle.std.specs.Prelude.{◌≡◌};
+ghost use Rattle.rtps_records.specs.declared.fault.RunFault.TheVariants.{NoMemory};
+
+use std::alloc::AllocError;
 use thiserror::Error;
 
 /// Why a run over a record file ended before its end.
@@ -17,13 +21,21 @@ pub enum RunFault {
     /// The length of this record, which is counted from 0, is above 65,507.
     #[error("record {0} too long")]
     RecordTooLong(u32),
-    /// An octet stands behind 4,294,967,295 records.
+    /// There are octets after 4,294,967,295 records.
     #[error("too many records")]
     TooManyRecords,
     /// A write failed, or took nothing.
     #[error("cannot write")]
     CannotWrite,
-    /// A growth was refused.
+    /// Out of memory.
     #[error("out of memory")]
     NoMemory,
+}
+
+impl From<AllocError> for RunFault {
+    ghost from_gives = { λ _ fault. fault ≡ NoMemory };
+
+    fn from(_error: AllocError) -> RunFault {
+        RunFault::NoMemory
+    }
 }

@@ -1,18 +1,17 @@
-//! Record files and the text that is printed from them.
+//! Record files, and the text that is printed from them.
 #![tactic(auto)]
 
+mod buffer;
 mod fault;
 pub mod laws;
-mod printing;
-mod record_text;
+mod lines;
 mod records;
 mod transfer;
 
+pub use buffer::{Buffer, MAX_LEN};
 pub use fault::RunFault;
-pub use printing::{print_records, print_records_in, spill, zeros};
-pub use record_text::RecordText;
-pub use records::{MAX_LEN, next_record, read_magic};
-pub use transfer::put_last;
+pub use lines::Lines;
+pub use records::Records;
 
 #[cfg(test)]
 mod tests;

@@ -1,34 +1,172 @@
-//! Records of a record file, one at a time.
+//! The records of a record file, one at a time.
 
-ghost use Rattle.std.specs.Prelude.{◌≡◌, ◌+◌, ◌<◌, ◌≤◌, [], length, take, None, IfOk, IfErr, IfSome, OnSome, OnOk};
+ghost use Rattle.std.specs.Prelude.{◌≡◌, ◌+◌, ◌<◌, ◌≤◌, length, take, None, IfOk, IfErr, IfSome, OnSome, OnOk, []};
+ghost use Rattle.std.specs.Borrow.{sem};
 ghost use Rattle.std.specs.Int.{w32, from_be_bytes, to_be_bytes};
+ghost use Rattle.std.specs.Io.BufRead.{Rests};
 ghost use Rattle.std.specs.Io.KnownBytes.{Consumes, IsAtEnd};
+ghost use Rattle.rtps_records.specs.Reading.{ReadsNext};
 ghost use Rattle.rtps_records.specs.RecordFile.{frame, magic, FaultHere, FaultFirst};
+ghost use mir.Syntax.{named};
 
+use crate::buffer::{Buffer, MAX_LEN};
 use crate::fault::RunFault;
 use crate::transfer::fill;
+use std::alloc::{AllocError, Allocator};
 use std::io::Read;
 
-/// The greatest length of a record, in octets.
-pub const MAX_LEN: usize = 65_507;
+/// The records of a file, in order. `B` is where one of them is kept while it is lent: a [`Buffer`].
+pub struct Records<'a, R, B: Drop = Buffer> {
+    reader: &'a mut R,
+    buffer: B,
+    /// How many records were read.
+    count: u32,
+}
 
-/// Reads the four octets that a record file begins with.
-///
-/// `NotRecordFile` where others stand there or the file ends before them, `CannotRead` where a read
-/// fails before.
-pub fn read_magic<R: Read>(reader: &mut R) -> Result<(), RunFault>
-    ensures ok { OnOk result (Consumes (R.remaining reader.old) (R.remaining reader.new) magic) }
-    ensures fault { IfErr result (λ fault. FaultFirst fault (R.remaining reader.old) (R.remaining reader.new)) }
+impl<R, B: Drop> Drop for Records<'_, R, B> {
+    fn drop(self)
+        ensures { self.exit.0.now ≡ self.entry.reader.now }
+    {
+        let Records {
+            reader: _,
+            buffer: _,
+            count: _,
+        } = self;
+    }
+}
+
+impl<'a, R: Read, A: Allocator> Records<'a, R, Buffer<A>> {
+    ghost use Rattle.rtps_records.specs.contracts.buffer.Buffer.{the_row as buffer_row};
+    ghost use Rattle.rtps_records.specs.contracts.records.Records.{the_row};
+
+    /// The records that are to be read from a reader; first [`Records::open`] them.
+    pub fn new(alloc: A, reader: &'a mut R) -> Result<Records<'a, R, Buffer<A>>, AllocError>
+        ensures same_reader { IfOk result (λ records. records.reader.ghost_name ≡ reader.entry.ghost_name) }
+        ensures unread { IfOk result (λ records. records.reader.now ≡ reader.old) }
+        ensures count { IfOk result (λ records. records.count ≡ 0) }
+    {
+        Ok(Records {
+            reader,
+            buffer: Buffer::new(alloc)?,
+            count: 0,
+        })
+    }
+
+    /// Reads the four octets that a record file begins with.
+    ///
+    /// `NotRecordFile` where it begins otherwise or ends before them, `CannotRead` where a read fails
+    /// before.
+    pub fn open(&mut self) -> Result<(), RunFault>
+        ensures same_reader { self.new.reader.ghost_name ≡ self.old.reader.ghost_name }
+        ensures count { self.new.count ≡ self.old.count }
+        ensures ok { OnOk result (Consumes (R.remaining self.old.reader.now)
+            (R.remaining self.new.reader.now) magic) }
+        ensures fault { IfErr result (λ fault. FaultFirst fault
+            (R.remaining self.old.reader.now) (R.remaining self.new.reader.now)) }
+    {
+        let mut head = [0u8; 4];
+        let filled = fill(self.reader, &mut head);
+        if filled.failed {
+            return Err(RunFault::CannotRead);
+        }
+        if filled.count < 4 || head != *b"RDG1" {
+            return Err(RunFault::NotRecordFile);
+        }
+        Ok(())
+    }
+
+    /// Reads the next record and lends its octets, or gives `None` where the file ends.
+    ///
+    /// `CutRecord` where the file ends inside the record, `RecordTooLong` for a length above 65,507
+    /// octets whatever follows it, `TooManyRecords` where there are octets after 4,294,967,295
+    /// records, and `CannotRead` where a read fails before the record is whole.
+    #[tactic(auto, unfolding(crate::specs::Reading::ReadsNext))]
+    pub fn next(&mut self) -> Result<Option<&[u8]>, RunFault>
+        ensures* reads { sem 𝓛 (Rests
+            (the_row (record { mir = named 0; lft = [] }) R.row (buffer_row A.row A.Allocator))
+            self.entry
+            (λ new. (new.reader.ghost_name ≡ self.old.reader.ghost_name)
+            × ReadsNext (R.remaining self.old.reader.now) (R.remaining new.reader.now)
+            self.old.count new.count result)) }
+    {
+        match self.advance()? {
+            Some(len) => Ok(Some(&self.buffer.octets[..len])),
+            None => Ok(None),
+        }
+    }
+
+    /// How many records were read.
+    pub fn count(&self) -> u32
+        ensures { result ≡ self.now.count }
+    {
+        self.count
+    }
+
+    /// Reads the next record into the front of the buffer, and gives its length in octets, or `None`
+    /// where the file ends.
+    fn advance(&mut self) -> Result<Option<usize>, RunFault>
+        ensures same_reader { self.new.reader.ghost_name ≡ self.old.reader.ghost_name }
+        ensures count { IfOk result (λ next. OnSome next
+            ((self.old.count < 4294967295) × (self.new.count ≡ self.old.count + 1))) }
+        ensures fits { IfOk result (λ next. IfSome next (λ n. n ≤ 65507)) }
+        ensures some { IfOk result (λ next. IfSome next (λ n.
+            Consumes (R.remaining self.old.reader.now) (R.remaining self.new.reader.now)
+            (frame (take n self.new.buffer.octets.items)))) }
+        ensures none { IfOk result (λ next. next ≡ None
+            → IsAtEnd (R.remaining self.old.reader.now)) }
+        ensures fault { IfErr result (λ fault. FaultHere fault self.old.count
+            (R.remaining self.old.reader.now) (R.remaining self.new.reader.now)) }
+    {
+        let next = read_record(self.reader, self.buffer.octets.as_mut_slice(), self.count)?;
+        if next.is_some() {
+            self.count += 1;
+        }
+        Ok(next)
+    }
+}
+
+/// Reads the record after `number` others into the front of a buffer, and gives its length in octets,
+/// or `None` where the file ends.
+pub(crate) fn read_record<R: Read>(
+    reader: &mut R,
+    buffer: &mut [u8],
+    number: u32,
+) -> Result<Option<usize>, RunFault>
+    requires { length buffer.old ≡ 65507 }
+    ensures below { IfOk result (λ next. OnSome next (number < 4294967295)) }
+    ensures fits { IfOk result (λ next. IfSome next (λ n. n ≤ 65507)) }
+    ensures some { IfOk result (λ next. IfSome next (λ n.
+        Consumes (R.remaining reader.old) (R.remaining reader.new) (frame (take n buffer.new)))) }
+    ensures none { IfOk result (λ next. next ≡ None → IsAtEnd (R.remaining reader.old)) }
+    ensures fault { IfErr result (λ fault. FaultHere fault number
+        (R.remaining reader.old) (R.remaining reader.new)) }
 {
     let mut head = [0u8; 4];
-    let (count, outcome) = fill(reader, &mut head);
-    if outcome.is_err() {
+    let filled = fill(reader, &mut head);
+    if filled.count == 0 && !filled.failed {
+        return Ok(None);
+    }
+    if filled.count > 0 && number == u32::MAX {
+        return Err(RunFault::TooManyRecords);
+    }
+    if filled.failed {
         return Err(RunFault::CannotRead);
     }
-    if count < 4 || head != *b"RDG1" {
-        return Err(RunFault::NotRecordFile);
+    if filled.count < 4 {
+        return Err(RunFault::CutRecord(number));
     }
-    Ok(())
+    let told = length_of(&head) as usize;
+    if told > MAX_LEN {
+        return Err(RunFault::RecordTooLong(number));
+    }
+    let filled = fill(reader, &mut buffer[..told]);
+    if filled.failed {
+        return Err(RunFault::CannotRead);
+    }
+    if filled.count < told {
+        return Err(RunFault::CutRecord(number));
+    }
+    Ok(Some(told))
 }
 
 /// The length that four octets tell, of which they are the one spelling.
@@ -37,53 +175,4 @@ fn length_of(head: &[u8; 4]) -> u32
     ensures spelled { to_be_bytes w32 result ≡ head.now }
 {
     u32::from_be_bytes(*head)
-}
-
-/// Reads record `number`, counted from 0, into the front of the buffer, which has room for the longest
-/// one, and gives its length in octets, or `None` where the file ends before it.
-///
-/// `CutRecord` where the file ends inside the record, `RecordTooLong` for a length above 65,507 octets
-/// whatever follows it, `TooManyRecords` where an octet stands behind 4,294,967,295 records, and
-/// `CannotRead` where a read fails before the record is whole.
-pub fn next_record<R: Read>(
-    reader: &mut R,
-    buffer: &mut [u8],
-    number: u32,
-) -> Result<Option<usize>, RunFault>
-    requires { 65507 ≤ length buffer.old }
-    ensures below { IfOk result (λ next. OnSome next (number < 4294967295)) }
-    ensures fits { IfOk result (λ next. IfSome next (λ n. n ≤ 65507)) }
-    ensures some { IfOk result (λ next. IfSome next (λ n. Consumes (R.remaining reader.old) (R.remaining reader.new) (frame (take n buffer.new)))) }
-    ensures none { IfOk result (λ next. next ≡ None → IsAtEnd (R.remaining reader.old)) }
-    ensures fault { IfErr result (λ fault. FaultHere fault number (R.remaining reader.old) (R.remaining reader.new)) }
-{
-    let mut head = [0u8; 4];
-    let (count, outcome) = fill(reader, &mut head);
-    if count == 0 {
-        if outcome.is_err() {
-            return Err(RunFault::CannotRead);
-        }
-        return Ok(None);
-    }
-    if number == u32::MAX {
-        return Err(RunFault::TooManyRecords);
-    }
-    if outcome.is_err() {
-        return Err(RunFault::CannotRead);
-    }
-    if count < 4 {
-        return Err(RunFault::CutRecord(number));
-    }
-    let told = length_of(&head) as usize;
-    if told > MAX_LEN {
-        return Err(RunFault::RecordTooLong(number));
-    }
-    let (count, outcome) = fill(reader, &mut buffer[..told]);
-    if outcome.is_err() {
-        return Err(RunFault::CannotRead);
-    }
-    if count < told {
-        return Err(RunFault::CutRecord(number));
-    }
-    Ok(Some(told))
 }

@@ -1,33 +1,50 @@
-ghost use Rattle.std.specs.Prelude.{[], ◌∷◌, ◌++◌, length};
-ghost use Rattle.std.specs.Fmt.{decimal};
+//! Records and lines, each with readers and writers that fail, and a loop over both.
 
-use crate::{
-    MAX_LEN, RecordText, RunFault, next_record, print_records, print_records_in, put_last,
-    read_magic, spill, zeros,
-};
+use crate::buffer::zeros;
+use crate::records::read_record;
+use crate::{Buffer, Lines, MAX_LEN, Records, RunFault};
 use linked_list_allocator::LocalHeap;
-use std::alloc::{AllocError, Allocator, Global};
+use std::alloc::{Allocator, Global};
 use std::io::{self, Error, ErrorKind, Read, Write};
 use std::test::Fail;
 
-/// A line of a record's number and length.
-#[derive(Drop)]
-struct Lengths;
+/// Prints a line of each record's number and length.
+fn print_lengths<A: Allocator + Copy, R: Read, W: Write>(
+    alloc: A,
+    reader: &mut R,
+    writer: &mut W,
+) -> Result<(), RunFault> {
+    let mut records = Records::new(alloc, reader)?;
+    print_each(&mut records, &mut Lines::new(alloc, writer))
+}
 
-impl RecordText for Lengths {
-    ghost text = { λ _ number octets. decimal number ++ (32 ∷ (decimal (length octets) ++ (10 ∷ []))) };
-
-    fn push_text<A: Allocator>(
-        &self,
-        number: u32,
-        octets: &[u8],
-        out: &mut Vec<u8, A>,
-    ) -> Result<(), AllocError> {
-        let count = octets.len();
-        match writeln!(out, "{number} {count}") {
-            Ok(()) => Ok(()),
-            Err(_) => Err(AllocError),
+fn print_each<A: Allocator, R: Read, W: Write>(
+    records: &mut Records<'_, R, Buffer<A>>,
+    lines: &mut Lines<'_, W, Vec<u8, A>>,
+) -> Result<(), RunFault> {
+    records.open()?;
+    for number in 0..u64::MAX {
+        match records.next() {
+            Ok(Some(octets)) => push_length(&mut lines.text, number, octets.len())?,
+            Ok(None) => return lines.close(),
+            Err(fault) => {
+                lines.close()?;
+                return Err(fault);
+            }
         }
+        lines.write_if_full()?;
+    }
+    Ok(())
+}
+
+fn push_length<A: Allocator>(
+    text: &mut Vec<u8, A>,
+    number: u64,
+    length: usize,
+) -> Result<(), RunFault> {
+    match writeln!(text, "{number} {length}") {
+        Ok(()) => Ok(()),
+        Err(_) => Err(RunFault::NoMemory),
     }
 }
 
@@ -126,7 +143,7 @@ fn text_len(read: usize) -> usize {
 fn printed(alloc: Global, file: &[u8]) -> (Result<(), RunFault>, Vec<u8>) {
     let mut out = Vec::new(alloc);
     let mut rest = file;
-    let outcome = print_records(alloc, &Lengths, &mut rest, &mut out);
+    let outcome = print_lengths(alloc, &mut rest, &mut out);
     (outcome, out)
 }
 
@@ -154,7 +171,7 @@ const ENDS: [(&[u8], &[u8], Result<(), RunFault>); 11] = [
 ];
 
 #[test]
-fn tells_each_end(rt: HostRuntime) -> Result<(), Fail> {
+fn ends_as_each_file_does(rt: HostRuntime) -> Result<(), Fail> {
     for (file, text, outcome) in ENDS {
         let (found, out) = printed(rt.alloc(), file);
         assert_eq!(rt; found, outcome);
@@ -177,41 +194,77 @@ fn takes_the_longest_record(rt: HostRuntime) -> Result<(), Fail> {
 
 #[test]
 fn a_file_is_read_record_by_record(rt: HostRuntime) -> Result<(), Fail> {
-    let mut buffer = [0u8; MAX_LEN];
     let mut file = FILE.as_slice();
-    assert_eq!(rt; read_magic(&mut file), Ok(()));
-    for (number, wanted) in [(0, b"hi".as_slice()), (1, b""), (2, b"abc")] {
-        let next = next_record(&mut file, &mut buffer, number);
-        assert_eq!(rt; next, Ok(Some(wanted.len())));
-        assert_eq!(rt; buffer.get(..wanted.len()), Some(wanted));
+    let mut records = Records::new(rt.alloc(), &mut file)?;
+    assert_eq!(rt; records.open(), Ok(()));
+    for (number, wanted) in [(1, b"hi".as_slice()), (2, b""), (3, b"abc")] {
+        assert_eq!(rt; records.next(), Ok(Some(wanted)));
+        assert_eq!(rt; records.count(), number);
     }
-    assert_eq!(rt; next_record(&mut file, &mut buffer, 3), Ok(None));
+    assert_eq!(rt; records.next(), Ok(None));
+    Ok(())
+}
+
+#[test]
+fn no_record_follows_the_greatest_number(rt: HostRuntime) -> Result<(), Fail> {
+    let mut buffer = zeros(rt.alloc(), MAX_LEN)?;
+    let mut some = b"\0".as_slice();
+    let mut none = b"".as_slice();
+    let next = read_record(&mut some, &mut buffer, u32::MAX);
+    assert_eq!(rt; next, Err(RunFault::TooManyRecords));
+    assert_eq!(rt; read_record(&mut none, &mut buffer, u32::MAX), Ok(None));
     Ok(())
 }
 
 #[test]
 fn text_is_kept_back_until_it_is_long(rt: HostRuntime) -> Result<(), Fail> {
-    let mut out = Vec::new(rt.alloc());
-    let mut text = zeros(rt.alloc(), 65_535)?;
-    assert_eq!(rt; spill(&mut out, &mut text), Ok(()));
-    assert_eq!(rt; (out.len(), text.len()), (0, 65_535));
-    text.push(1)?;
-    assert_eq!(rt; spill(&mut out, &mut text), Ok(()));
-    assert_eq!(rt; (out.len(), text.len()), (65_536, 0));
-    assert_eq!(rt; put_last(&mut out, b"hi"), Ok(()));
-    assert_eq!(rt; out.get(65_534..), Some(b"\0\x01hi".as_slice()));
+    let mut out = Counting::new(rt.alloc());
+    let mut lines = Lines::new(rt.alloc(), &mut out);
+    for _ in 0..65_535u32 {
+        lines.text.push(0)?;
+    }
+    assert_eq!(rt; lines.write_if_full(), Ok(()));
+    assert_eq!(rt; lines.text.len(), 65_535);
+    lines.text.push(1)?;
+    assert_eq!(rt; lines.write_if_full(), Ok(()));
+    assert_eq!(rt; lines.text.len(), 0);
+    lines.text.extend_from_slice(b"hi")?;
+    assert_eq!(rt; lines.close(), Ok(()));
+    drop(lines);
+    assert_eq!(rt; out.kept.get(65_534..), Some(b"\0\x01hi".as_slice()));
+    assert_eq!(rt; (out.writes, out.flushes), (2, 1));
     Ok(())
 }
 
-#[test]
-fn takes_no_record_behind_the_greatest_number(rt: HostRuntime) -> Result<(), Fail> {
-    let mut buffer = [0u8; MAX_LEN];
-    let mut some = b"\0".as_slice();
-    let mut none = b"".as_slice();
-    let behind = next_record(&mut some, &mut buffer, u32::MAX);
-    assert_eq!(rt; behind, Err(RunFault::TooManyRecords));
-    assert_eq!(rt; next_record(&mut none, &mut buffer, u32::MAX), Ok(None));
-    Ok(())
+/// Takes all that it is given, and counts its calls.
+#[derive(Drop)]
+struct Counting {
+    kept: Vec<u8>,
+    writes: u32,
+    flushes: u32,
+}
+
+impl Counting {
+    fn new(alloc: Global) -> Counting {
+        Counting {
+            kept: Vec::new(alloc),
+            writes: 0,
+            flushes: 0,
+        }
+    }
+}
+
+impl Write for Counting {
+    fn write(&mut self, buf: &[u8]) -> io::Result<usize> {
+        self.writes = self.writes.saturating_add(1);
+        self.kept.extend_from_slice(buf)?;
+        Ok(buf.len())
+    }
+
+    fn flush(&mut self) -> io::Result<()> {
+        self.flushes = self.flushes.saturating_add(1);
+        Ok(())
+    }
 }
 
 #[test]
@@ -226,7 +279,7 @@ fn stops_at_each_octet(rt: HostRuntime) -> Result<(), Fail> {
                 most,
                 is_interrupted: false,
             };
-            let outcome = print_records(rt.alloc(), &Lengths, &mut reader, &mut out);
+            let outcome = print_lengths(rt.alloc(), &mut reader, &mut out);
             assert_eq!(rt; outcome, Err(RunFault::CannotRead));
             assert_eq!(rt;
                 out.as_slice(),
@@ -243,7 +296,7 @@ fn writes_a_front_at_each_fault(rt: HostRuntime) -> Result<(), Fail> {
     for calls in 0..14 {
         let mut writer = Refusing::new(rt.alloc(), calls, 1);
         let mut file = FILE.as_slice();
-        let outcome = print_records(rt.alloc(), &Lengths, &mut file, &mut writer);
+        let outcome = print_lengths(rt.alloc(), &mut file, &mut writer);
         let wanted = if calls == 13 {
             Ok(())
         } else {
@@ -257,39 +310,12 @@ fn writes_a_front_at_each_fault(rt: HostRuntime) -> Result<(), Fail> {
     }
     let mut writer = Refusing::new(rt.alloc(), 99, 0);
     let mut file = b"RDG1\0\0\0\0\0".as_slice();
-    let outcome = print_records(rt.alloc(), &Lengths, &mut file, &mut writer);
+    let outcome = print_lengths(rt.alloc(), &mut file, &mut writer);
     assert_eq!(rt;
         outcome,
         Err(RunFault::CannotWrite),
         "in place of the cut record"
     );
-    Ok(())
-}
-
-#[test]
-fn ends_as_the_file_ends(rt: HostRuntime) -> Result<(), Fail> {
-    for (file, text, outcome) in [
-        (FILE.as_slice(), TEXT.as_slice(), Ok(())),
-        (b"RDG1".as_slice(), b"".as_slice(), Ok(())),
-        (
-            b"RDG1\0\0\0\0\0".as_slice(),
-            b"0 0\n".as_slice(),
-            Err(RunFault::CutRecord(1)),
-        ),
-        (
-            b"RDG".as_slice(),
-            b"".as_slice(),
-            Err(RunFault::NotRecordFile),
-        ),
-    ] {
-        let mut out = Vec::new(rt.alloc());
-        let mut rest = file;
-        assert_eq!(rt;
-            print_records(rt.alloc(), &Lengths, &mut rest, &mut out),
-            outcome
-        );
-        assert_eq!(rt; out.as_slice(), text);
-    }
     Ok(())
 }
 
@@ -300,7 +326,7 @@ fn stops_where_a_growth_is_refused(rt: HostRuntime) -> Result<(), Fail> {
         let heap = LocalHeap::new(rt.alloc(), 65_400 + step * 8)?;
         let mut out = Vec::new(rt.alloc());
         let mut file = FILE.as_slice();
-        let outcome = print_records_in(&heap, &Lengths, &mut file, &mut out);
+        let outcome = print_lengths(&heap, &mut file, &mut out);
         if outcome.is_ok() {
             assert_eq!(rt; out.as_slice(), TEXT.as_slice());
         } else {
@@ -326,7 +352,7 @@ fn writes_long_texts_in_parts(rt: HostRuntime) -> Result<(), Fail> {
     assert_eq!(rt; out.as_slice(), text.as_bytes());
     let mut writer = Refusing::new(rt.alloc(), 1, usize::MAX);
     let mut rest = file.as_slice();
-    let outcome = print_records(rt.alloc(), &Lengths, &mut rest, &mut writer);
+    let outcome = print_lengths(rt.alloc(), &mut rest, &mut writer);
     assert_eq!(rt; outcome, Err(RunFault::CannotWrite));
     assert!(rt; text.as_bytes().starts_with(writer.kept.as_slice()));
     assert!(rt; 0 < writer.kept.len() && writer.kept.len() < text.len());
@@ -335,7 +361,7 @@ fn writes_long_texts_in_parts(rt: HostRuntime) -> Result<(), Fail> {
         let heap = LocalHeap::new(rt.alloc(), 65_600 + step * 16_384)?;
         let mut out = Vec::new(rt.alloc());
         let mut rest = file.as_slice();
-        let outcome = print_records_in(&heap, &Lengths, &mut rest, &mut out);
+        let outcome = print_lengths(&heap, &mut rest, &mut out);
         assert!(rt; text.as_bytes().starts_with(out.as_slice()));
         if outcome.is_ok() {
             assert_eq!(rt; out.len(), text.len());

@@ -1,10 +1,12 @@
 -- A run and its text, one record more.
-use Rattle.std.proofs.Common.{◌≡◌, ℕ, suc, ◌+◌, ◌<◌, nat_lt, arith, Option, None, Some, Result, Ok, Err, OnOk, List, [], ◌∷◌, ◌++◌, Bool, true, false, if◌then◌else◌, sym, ap, ◌∙◌, append-nil, append_assoc}
+use Rattle.std.proofs.Common.{◌≡◌, ℕ, suc, ◌+◌, ◌<◌, nat_lt, arith, Option, None, Some, Result, Ok, Err, OnOk, IfErr, subst, List, [], ◌∷◌, ◌++◌, Bool, true, false, if◌then◌else◌, sym, ap, ◌∙◌, append-nil, append_assoc}
 use Rattle.std.proofs.lemmas.Grind.{flat_map-append}
 use Rattle.std.proofs.lemmas.List.{append_cancel_left}
 use Rattle.rtps_discovery.specs.declared.config.Config.{Config}
 use Rattle.rtps_reader.specs.Reader.{Answers, status_of}
+use Rattle.rtps_records.specs.Runs.{Stops}
 use Rattle.rtps_records.specs.Text.{Ends, IsFront, Says}
+use Rattle.rtps_records.specs.declared.fault.RunFault.{RunFault}
 use Rattle.std.proofs.lemmas.Bool.Decides.{nat_tests}
 use Rattle.rtps_reader.specs.declared.status.Status.{Status}
 use Rattle.rtps_serial.specs.Seen.{status_seen}
@@ -62,6 +64,14 @@ fronts text answers summary engine records said h =
 
 pub same_text : {M : Type 0} (text : M → List ℕ) (answers : Answers M) (a b : Config) (s t : Bool) → a ≡ b → s ≡ t → (records : List (List ℕ)) → replay_text text answers a s records ≡ replay_text text answers b t records
 same_text text answers a b s t e f records = ap (λ (c : Config). replay_text text answers c s records) e ∙ ap (λ u. replay_text text answers b u records) f
+
+-- what a run leaves that stops, by what its readers and its catalog were at first
+pub same_stop : {C M U : Type 0} (text : C → M → List ℕ) (answers : C → Answers M) (a b : C) (k l : Config) (s t : Bool) (r : Result U RunFault) (before after old new : Option (List ℕ)) → a ≡ b → k ≡ l → s ≡ t
+    → IfErr r (λ fault. Stops (replay_text (text a) (answers a) k s) fault before after old new) → IfErr r (λ fault. Stops (replay_text (text b) (answers b) l t) fault before after old new)
+same_stop text answers a b k l s t r before after old new e f g h =
+    subst (λ u. IfErr r (λ fault. Stops (replay_text (text b) (answers b) l u) fault before after old new)) g
+    (subst (λ (c : Config). IfErr r (λ fault. Stops (replay_text (text b) (answers b) c s) fault before after old new)) f
+    (subst (λ c. IfErr r (λ fault. Stops (replay_text (text c) (answers c) k s) fault before after old new)) e h))
 
 -- two facts of a result that is Ok, one of them for every list of datagrams, and what follows from both
 pub on_ok_both : {X E : Type 0} {P Q : Type 0} {S F : List (List ℕ) → Type 0} (r : Result X E) → OnOk r P → ((records : List (List ℕ)) → S records → OnOk r (F records)) → (P → ((records : List (List ℕ)) → S records → F records) → Q) → OnOk r Q

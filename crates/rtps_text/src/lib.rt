@@ -21,11 +21,10 @@ mod summary;
 
 pub use answer::push_answer;
 pub use dumping::{dump, dump_in};
-pub use event_lines::EventLines;
 pub use last_line::LastLine;
 pub use line::push_line;
 pub use notice::push_notice;
-pub use replaying::{replay, replay_in};
+pub use replaying::{Setup, replay, replay_in};
 pub use summary::{push_match, push_status};
 
 #[cfg(test)]

@@ -1,7 +1,7 @@
-//! What a run over a whole record file prints: a line for each thing that its readers are told or
+//! What a run over a whole record file prints: a line for each thing that its readers report or
 //! answer.
 
-ghost use Rattle.std.specs.Prelude.{◌≡◌, ◌≤◌, IfErr, None, Ok, OnOk, [], length};
+ghost use Rattle.std.specs.Prelude.{◌≡◌, ◌≤◌, ℕ, IfErr, IfOk, None, Ok, OnOk, [], length};
 ghost use Rattle.rtps_discovery.specs.Config.{check_of};
 ghost use Rattle.rtps_reader.specs.Body.{body_by};
 ghost use Rattle.rtps_records.specs.Runs.{Closes, ClosesNot, Stops, WroteAll};
@@ -13,10 +13,20 @@ use crate::last_line::LastLine;
 use crate::reports::push_reports;
 use dds_topic::TextCatalog;
 use rtps_discovery::Config;
-use rtps_records::{MAX_LEN, RunFault, next_record, put_last, read_magic, spill, zeros};
+use rtps_records::{Buffer, Lines, Records, RunFault};
 use rtps_serial::{Report, SerialEngine};
 use std::alloc::{AllocError, Allocator, Global};
 use std::io::{Read, Write};
+
+/// Which readers a file is replayed to, and what is printed of them.
+#[derive(Drop)]
+pub struct Setup<C: Drop> {
+    pub config: Config,
+    pub catalog: C,
+    /// Whether matches and statuses are printed after the last record.
+    pub summary: bool,
+    ghost checked: { check_of config ≡ Ok tt },
+}
 
 /// An engine whose run is printed.
 #[derive(Drop)]
@@ -30,24 +40,42 @@ struct RunLines<C: TextCatalog, B: Allocator> {
     alloc: B,
     /// Where values are decoded.
     values: Global,
-    /// Whether matches and statuses are printed behind the last record.
+    /// Whether matches and statuses are printed after the last record.
     summary: bool,
 }
 
 impl<C: TextCatalog, B: Allocator + Copy> RunLines<C, B> {
+    /// No datagram was taken, and nothing was printed.
+    fn new(alloc: B, values: Global, setup: Setup<C>) -> Result<RunLines<C, B>, AllocError>
+        ensures same { IfOk result (λ run. (run.engine.catalog ≡ setup.catalog) × (run.engine.config ≡ setup.config) × (run.summary ≡ setup.summary)) }
+        ensures fresh { IfOk result (λ run. HasSaid (C.text_of setup.catalog) (body_by (C.meaning setup.catalog) (C.hash setup.catalog) (C.hash_of_key setup.catalog)) [] [] run.engine) }
+    {
+        let Setup {
+            config,
+            catalog,
+            summary,
+        } = setup;
+        let Ok(engine) = SerialEngine::new_in(alloc, config, catalog) else {
+            return Err(AllocError);
+        };
+        Ok(RunLines {
+            engine,
+            reports: Vec::new(alloc),
+            last: LastLine::none(alloc),
+            alloc,
+            values,
+            summary,
+        })
+    }
+
     /// Gives the engine the datagram of a record, and adds the lines of what follows from it.
-    fn print<A: Allocator>(
-        &mut self,
-        _number: u32,
-        octets: &[u8],
-        out: &mut Vec<u8, A>,
-    ) -> Result<(), AllocError>
+    fn print<A: Allocator>(&mut self, octets: &[u8], out: &mut Vec<u8, A>) -> Result<(), AllocError>
         requires { length octets.now ≤ 65507 }
         ensures same { (self.new.engine.catalog ≡ self.old.engine.catalog) × (self.new.engine.config ≡ self.old.engine.config) × (self.new.summary ≡ self.old.summary) }
-        ensures says { (catalog : C) → self.old.engine.catalog ≡ catalog → OnOk result (Says
+        ensures says { (catalog : C) (number : ℕ) → self.old.engine.catalog ≡ catalog → OnOk result (Says
             (λ records said. HasSaid (C.text_of catalog) (body_by (C.meaning catalog) (C.hash catalog) (C.hash_of_key catalog)) records said self.old.engine)
             (λ records said. HasSaid (C.text_of catalog) (body_by (C.meaning catalog) (C.hash catalog) (C.hash_of_key catalog)) records said self.new.engine)
-            _number octets.now out.old.items out.new.items) }
+            number octets.now out.old.items out.new.items) }
     {
         match self
             .engine
@@ -70,135 +98,105 @@ impl<C: TextCatalog, B: Allocator + Copy> RunLines<C, B> {
         }
         push_summary(out, self.alloc, &self.engine)
     }
-}
 
-/// Adds the last lines, and writes them behind the text that was kept back.
-fn close<C: TextCatalog, A: Allocator, B: Allocator + Copy, W: Write>(
-    lines: &RunLines<C, B>,
-    writer: &mut W,
-    text: &mut Vec<u8, A>,
-) -> Result<(), RunFault>
-    ensures ok { (catalog : C) → lines.now.engine.catalog ≡ catalog → OnOk result (Closes
-        (λ records said. HasSaid (C.text_of catalog) (body_by (C.meaning catalog) (C.hash catalog) (C.hash_of_key catalog)) records said lines.now.engine)
-        (replay_text (C.text_of catalog) (body_by (C.meaning catalog) (C.hash catalog) (C.hash_of_key catalog)) lines.now.engine.config lines.now.summary)
-        (W.contents writer.old) (W.contents writer.new) text.old.items) }
-    ensures fault { (catalog : C) → lines.now.engine.catalog ≡ catalog → IfErr result (λ fault. ClosesNot fault
-        (λ records said. HasSaid (C.text_of catalog) (body_by (C.meaning catalog) (C.hash catalog) (C.hash_of_key catalog)) records said lines.now.engine)
-        (replay_text (C.text_of catalog) (body_by (C.meaning catalog) (C.hash catalog) (C.hash_of_key catalog)) lines.now.engine.config lines.now.summary)
-        (W.contents writer.old) (W.contents writer.new) text.old.items) }
-{
-    match lines.finish(text) {
-        Ok(()) => {}
-        Err(_) => return Err(RunFault::NoMemory),
+    /// Prints the run over a file. Nothing was printed before.
+    fn print_file<R: Read, W: Write>(
+        &mut self,
+        reader: &mut R,
+        writer: &mut W,
+    ) -> Result<(), RunFault>
+        requires fresh { HasSaid (C.text_of self.old.engine.catalog) (body_by (C.meaning self.old.engine.catalog) (C.hash self.old.engine.catalog) (C.hash_of_key self.old.engine.catalog)) [] [] self.old.engine }
+        ensures ok { OnOk result (WroteAll (replay_text (C.text_of self.old.engine.catalog) (body_by (C.meaning self.old.engine.catalog) (C.hash self.old.engine.catalog) (C.hash_of_key self.old.engine.catalog)) self.old.engine.config self.old.summary)
+            (R.remaining reader.old) (W.contents writer.old) (W.contents writer.new) None) }
+        ensures fault { IfErr result (λ fault. Stops (replay_text (C.text_of self.old.engine.catalog) (body_by (C.meaning self.old.engine.catalog) (C.hash self.old.engine.catalog) (C.hash_of_key self.old.engine.catalog)) self.old.engine.config self.old.summary)
+            fault (R.remaining reader.old) (R.remaining reader.new) (W.contents writer.old) (W.contents writer.new)) }
+    {
+        let mut records = Records::new(self.alloc, reader)?;
+        print_run(self, &mut records, &mut Lines::new(self.alloc, writer))
     }
-    match put_last(writer, text.as_slice()) {
-        Ok(()) => Ok(()),
-        Err(fault) => Err(fault),
-    }
-}
 
-/// Prints the run over a file, with a buffer for one record and with room for text.
-fn run<C: TextCatalog, A: Allocator, B: Allocator + Copy, R: Read, W: Write>(
-    lines: &mut RunLines<C, B>,
-    reader: &mut R,
-    writer: &mut W,
-    buffer: &mut [u8],
-    text: &mut Vec<u8, A>,
-) -> Result<(), RunFault>
-    requires room { 65507 ≤ length buffer.old }
-    requires empty { text.old.items ≡ [] }
-    requires fresh { HasSaid (C.text_of lines.old.engine.catalog) (body_by (C.meaning lines.old.engine.catalog) (C.hash lines.old.engine.catalog) (C.hash_of_key lines.old.engine.catalog)) [] [] lines.old.engine }
-    ensures ok { OnOk result (WroteAll (replay_text (C.text_of lines.old.engine.catalog) (body_by (C.meaning lines.old.engine.catalog) (C.hash lines.old.engine.catalog) (C.hash_of_key lines.old.engine.catalog)) lines.old.engine.config lines.old.summary)
-        (R.remaining reader.old) (W.contents writer.old) (W.contents writer.new) None) }
-    ensures fault { IfErr result (λ fault. Stops (replay_text (C.text_of lines.old.engine.catalog) (body_by (C.meaning lines.old.engine.catalog) (C.hash lines.old.engine.catalog) (C.hash_of_key lines.old.engine.catalog)) lines.old.engine.config lines.old.summary)
-        fault (R.remaining reader.old) (R.remaining reader.new) (W.contents writer.old) (W.contents writer.new)) }
-{
-    match read_magic(reader) {
-        Ok(()) => {}
-        Err(fault) => return Err(fault),
+    /// Adds the last lines, and closes the text.
+    fn close<A: Allocator, W: Write>(
+        &self,
+        lines: &mut Lines<'_, W, Vec<u8, A>>,
+    ) -> Result<(), RunFault>
+        ensures same_writer { lines.new.writer.ghost_name ≡ lines.old.writer.ghost_name }
+        ensures ok { (catalog : C) → self.now.engine.catalog ≡ catalog → OnOk result (Closes
+            (λ records said. HasSaid (C.text_of catalog) (body_by (C.meaning catalog) (C.hash catalog) (C.hash_of_key catalog)) records said self.now.engine)
+            (replay_text (C.text_of catalog) (body_by (C.meaning catalog) (C.hash catalog) (C.hash_of_key catalog)) self.now.engine.config self.now.summary)
+            (W.contents lines.old.writer.now) (W.contents lines.new.writer.now) lines.old.text.items) }
+        ensures fault { (catalog : C) → self.now.engine.catalog ≡ catalog → IfErr result (λ fault. ClosesNot fault
+            (λ records said. HasSaid (C.text_of catalog) (body_by (C.meaning catalog) (C.hash catalog) (C.hash_of_key catalog)) records said self.now.engine)
+            (replay_text (C.text_of catalog) (body_by (C.meaning catalog) (C.hash catalog) (C.hash_of_key catalog)) self.now.engine.config self.now.summary)
+            (W.contents lines.old.writer.now) (W.contents lines.new.writer.now) lines.old.text.items) }
+    {
+        self.finish(&mut lines.text)?;
+        lines.close()
     }
-    for number in 0..4_294_967_296u64 {
-        match next_record(reader, buffer, number as u32) {
-            Ok(Some(len)) => {
-                match lines.print(number as u32, &buffer[..len], text) {
-                    Ok(()) => {}
-                    Err(_) => return Err(RunFault::NoMemory),
-                }
-                match spill(writer, text) {
-                    Ok(()) => {}
-                    Err(fault) => return Err(fault),
-                }
-            }
-            Ok(None) => {
-                return match close(lines, writer, text) {
-                    Ok(()) => Ok(()),
-                    Err(fault) => Err(fault),
-                };
-            }
-            Err(fault) => {
-                return match close(lines, writer, text) {
-                    Ok(()) => Err(fault),
-                    Err(last_fault) => Err(last_fault),
-                };
-            }
-        }
-    }
-    unreachable!()
 }
 
 /// Reads a record file to its end or its first fault, gives its datagrams to the readers of a
-/// configuration, and writes a line for each thing that they are told or answer: by place, then by
-/// rank, and of one reader what it is told before what it answers. With `summary` the matches and the
-/// status of each reader stand behind them, also where a record has a fault.
+/// configuration, and writes a line for each thing that they report or answer: by place, then by
+/// rank, and of one reader what it reports before what it answers. With `summary` the matches and
+/// the status of each reader come after them, also where a record has a fault.
 ///
 /// The file is never held as a whole: one record, what it gives and at most 64 KiB of text are.
 pub fn replay<C: TextCatalog, R: Read, W: Write>(
     alloc: Global,
-    config: Config,
-    catalog: C,
-    summary: bool,
+    setup: Setup<C>,
     reader: &mut R,
     writer: &mut W,
 ) -> Result<(), RunFault>
-    requires checked { check_of config ≡ Ok tt }
-    ensures ok { OnOk result (WroteAll (replay_text (C.text_of catalog) (body_by (C.meaning catalog) (C.hash catalog) (C.hash_of_key catalog)) config summary)
+    ensures ok { OnOk result (WroteAll (replay_text (C.text_of setup.catalog) (body_by (C.meaning setup.catalog) (C.hash setup.catalog) (C.hash_of_key setup.catalog)) setup.config setup.summary)
         (R.remaining reader.old) (W.contents writer.old) (W.contents writer.new) None) }
-    ensures fault { IfErr result (λ fault. Stops (replay_text (C.text_of catalog) (body_by (C.meaning catalog) (C.hash catalog) (C.hash_of_key catalog)) config summary)
+    ensures fault { IfErr result (λ fault. Stops (replay_text (C.text_of setup.catalog) (body_by (C.meaning setup.catalog) (C.hash setup.catalog) (C.hash_of_key setup.catalog)) setup.config setup.summary)
         fault (R.remaining reader.old) (R.remaining reader.new) (W.contents writer.old) (W.contents writer.new)) }
 {
-    replay_in(&alloc, alloc, config, catalog, summary, reader, writer)
+    replay_in(alloc, alloc, setup, reader, writer)
 }
 
 /// The same over any allocator. `values` is where values are decoded.
-pub fn replay_in<C: TextCatalog, B: Allocator, R: Read, W: Write>(
-    alloc: &B,
+pub fn replay_in<C: TextCatalog, B: Allocator + Copy, R: Read, W: Write>(
+    alloc: B,
     values: Global,
-    config: Config,
-    catalog: C,
-    summary: bool,
+    setup: Setup<C>,
     reader: &mut R,
     writer: &mut W,
 ) -> Result<(), RunFault>
-    requires checked { check_of config ≡ Ok tt }
-    ensures ok { OnOk result (WroteAll (replay_text (C.text_of catalog) (body_by (C.meaning catalog) (C.hash catalog) (C.hash_of_key catalog)) config summary)
+    ensures ok { OnOk result (WroteAll (replay_text (C.text_of setup.catalog) (body_by (C.meaning setup.catalog) (C.hash setup.catalog) (C.hash_of_key setup.catalog)) setup.config setup.summary)
         (R.remaining reader.old) (W.contents writer.old) (W.contents writer.new) None) }
-    ensures fault { IfErr result (λ fault. Stops (replay_text (C.text_of catalog) (body_by (C.meaning catalog) (C.hash catalog) (C.hash_of_key catalog)) config summary)
+    ensures fault { IfErr result (λ fault. Stops (replay_text (C.text_of setup.catalog) (body_by (C.meaning setup.catalog) (C.hash setup.catalog) (C.hash_of_key setup.catalog)) setup.config setup.summary)
         fault (R.remaining reader.old) (R.remaining reader.new) (W.contents writer.old) (W.contents writer.new)) }
 {
-    let Ok(engine) = SerialEngine::new_in(alloc, config, catalog) else {
-        return Err(RunFault::NoMemory);
-    };
-    let Ok(mut buffer) = zeros(alloc, MAX_LEN) else {
-        return Err(RunFault::NoMemory);
-    };
-    let mut lines = RunLines {
-        engine,
-        reports: Vec::new(alloc),
-        last: LastLine::none(alloc),
-        alloc,
-        values,
-        summary,
-    };
-    let mut text = Vec::new(alloc);
-    run(&mut lines, reader, writer, buffer.as_mut_slice(), &mut text)
+    RunLines::new(alloc, values, setup)?.print_file(reader, writer)
+}
+
+/// Prints the run over all records.
+fn print_run<C: TextCatalog, A: Allocator, B: Allocator + Copy, R: Read, W: Write>(
+    run: &mut RunLines<C, B>,
+    records: &mut Records<'_, R, Buffer<A>>,
+    lines: &mut Lines<'_, W, Vec<u8, A>>,
+) -> Result<(), RunFault>
+    requires unread { records.old.count ≡ 0 }
+    requires empty { lines.old.text.items ≡ [] }
+    requires fresh { HasSaid (C.text_of run.old.engine.catalog) (body_by (C.meaning run.old.engine.catalog) (C.hash run.old.engine.catalog) (C.hash_of_key run.old.engine.catalog)) [] [] run.old.engine }
+    ensures same_reader { records.new.reader.ghost_name ≡ records.old.reader.ghost_name }
+    ensures same_writer { lines.new.writer.ghost_name ≡ lines.old.writer.ghost_name }
+    ensures ok { OnOk result (WroteAll (replay_text (C.text_of run.old.engine.catalog) (body_by (C.meaning run.old.engine.catalog) (C.hash run.old.engine.catalog) (C.hash_of_key run.old.engine.catalog)) run.old.engine.config run.old.summary)
+        (R.remaining records.old.reader.now) (W.contents lines.old.writer.now) (W.contents lines.new.writer.now) None) }
+    ensures fault { IfErr result (λ fault. Stops (replay_text (C.text_of run.old.engine.catalog) (body_by (C.meaning run.old.engine.catalog) (C.hash run.old.engine.catalog) (C.hash_of_key run.old.engine.catalog)) run.old.engine.config run.old.summary)
+        fault (R.remaining records.old.reader.now) (R.remaining records.new.reader.now) (W.contents lines.old.writer.now) (W.contents lines.new.writer.now)) }
+{
+    records.open()?;
+    loop {
+        match records.next() {
+            Ok(Some(octets)) => run.print(octets, &mut lines.text)?,
+            Ok(None) => return run.close(lines),
+            Err(fault) => {
+                run.close(lines)?;
+                return Err(fault);
+            }
+        }
+        lines.write_if_full()?;
+    }
 }

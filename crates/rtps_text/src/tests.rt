@@ -14,7 +14,7 @@ use std::test::Fail;
 
 const OURS: GuidPrefix = GuidPrefix([0x0b; 12]);
 
-/// `RDG1`, and two datagrams: a time and the five kinds of event behind it, and three events that
+/// `RDG1`, and two datagrams: a time and the five kinds of event after it, and three events that
 /// leave out what they can.
 const FILE: [&str; 14] = [
     "52444731",
@@ -119,7 +119,7 @@ fn prints_the_records_before_a_read_that_fails(rt: HostRuntime) -> Result<(), Fa
     for read in [FIRST, FIRST + 2, FIRST + 50] {
         let front = file.as_slice().get(..read).unwrap_or(&[]);
         let mut out = Vec::new(rt.alloc());
-        let outcome = dump_in(&rt.alloc(), OURS, &mut Failing(front), &mut out);
+        let outcome = dump_in(rt.alloc(), OURS, &mut Failing(front), &mut out);
         assert_eq!(rt; outcome, Err(RunFault::CannotRead), "at {read}");
         assert_eq!(rt; out.as_slice(), first.as_bytes(), "at {read}");
     }

@@ -3,7 +3,7 @@
 use crate::config::config_of;
 use crate::options::Options;
 use dds_topic::Shapes;
-use rtps_text::replay;
+use rtps_text::{Setup, replay};
 use std::alloc::Global;
 use std::test::Fail;
 
@@ -81,7 +81,12 @@ impl Capture {
         let config = config_of(alloc, &options)?;
         let mut out = Vec::new(alloc);
         let reader = &mut self.octets.as_slice();
-        replay(alloc, config, Shapes, false, reader, &mut out)?;
+        let setup = Setup {
+            config,
+            catalog: Shapes,
+            summary: false,
+        };
+        replay(alloc, setup, reader, &mut out)?;
         Ok(out)
     }
 }

@@ -1,6 +1,6 @@
 //! Runs of reliable readers over a record file that was written down by hand.
 
-use super::runs::config_of;
+use super::runs::{config_of, setup};
 use super::text;
 use crate::{replay, replay_in};
 use dds_qos::Reliability;
@@ -42,7 +42,12 @@ fn prints_what_readers_answer(rt: HostRuntime) -> Result<(), Fail> {
     let file = file(alloc)?;
     let config = config_of(alloc, Reliability::Reliable)?;
     let mut out = Vec::new(alloc);
-    let outcome = replay(alloc, config, Shapes, false, &mut file.as_slice(), &mut out);
+    let outcome = replay(
+        alloc,
+        setup(config, Shapes, false),
+        &mut file.as_slice(),
+        &mut out,
+    );
     assert_eq!(rt; outcome, Ok(()));
     assert_eq!(rt; out.as_slice(), text(alloc, &LINES)?.as_bytes());
     Ok(())
@@ -59,7 +64,7 @@ fn prints_a_front_where_a_growth_for_an_answer_is_refused(rt: HostRuntime) -> Re
         let config = config_of(alloc, Reliability::Reliable)?;
         let mut out = Vec::new(alloc);
         let reader = &mut file.as_slice();
-        let outcome = replay_in(&heap, alloc, config, Shapes, false, reader, &mut out);
+        let outcome = replay_in(&heap, alloc, setup(config, Shapes, false), reader, &mut out);
         if outcome.is_ok() {
             assert_eq!(rt; out.as_slice(), text.as_bytes());
         } else {

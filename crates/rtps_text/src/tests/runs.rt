@@ -4,9 +4,9 @@ ghost use Rattle.std.specs.Prelude.{◌≡◌, IfOk, Ok};
 ghost use Rattle.rtps_discovery.specs.Config.{check_of};
 
 use super::{Failing, text};
-use crate::{replay, replay_in};
+use crate::{Setup, replay, replay_in};
 use dds_qos::{Reliability, Requested};
-use dds_topic::{Raw, Shapes};
+use dds_topic::{Raw, Shapes, TextCatalog};
 use linked_list_allocator::LocalHeap;
 use rtps_discovery::{Config, FixedMatch, ReaderConfig, check};
 use rtps_records::RunFault;
@@ -99,6 +99,17 @@ fn config(alloc: Global) -> Result<Config, Fail>
     config_of(alloc, Reliability::BestEffort)
 }
 
+/// These readers over values of this catalog.
+pub(super) fn setup<C: TextCatalog>(config: Config, catalog: C, summary: bool) -> Setup<C>
+    requires { check_of config ≡ Ok tt }
+{
+    Setup {
+        config,
+        catalog,
+        summary,
+    }
+}
+
 #[test]
 fn prints_what_readers_are_told(rt: HostRuntime) -> Result<(), Fail> {
     let alloc = rt.alloc();
@@ -106,9 +117,7 @@ fn prints_what_readers_are_told(rt: HostRuntime) -> Result<(), Fail> {
     let mut out = Vec::new(alloc);
     let outcome = replay(
         alloc,
-        config(alloc)?,
-        Shapes,
-        false,
+        setup(config(alloc)?, Shapes, false),
         &mut file.as_slice(),
         &mut out,
     );
@@ -126,9 +135,7 @@ fn prints_a_summary_behind_the_lines(rt: HostRuntime) -> Result<(), Fail> {
     let mut out = Vec::new(alloc);
     let outcome = replay(
         alloc,
-        config(alloc)?,
-        Shapes,
-        true,
+        setup(config(alloc)?, Shapes, true),
         &mut file.as_slice(),
         &mut out,
     );
@@ -144,9 +151,7 @@ fn prints_values_as_they_stand(rt: HostRuntime) -> Result<(), Fail> {
     let mut out = Vec::new(alloc);
     let outcome = replay(
         alloc,
-        config(alloc)?,
-        Raw,
-        false,
+        setup(config(alloc)?, Raw, false),
         &mut file.as_slice(),
         &mut out,
     );
@@ -167,9 +172,7 @@ fn prints_the_records_before_a_fault(rt: HostRuntime) -> Result<(), Fail> {
         let mut out = Vec::new(alloc);
         let outcome = replay(
             alloc,
-            config(alloc)?,
-            Shapes,
-            false,
+            setup(config(alloc)?, Shapes, false),
             &mut Failing(front),
             &mut out,
         );
@@ -192,9 +195,7 @@ fn prints_a_front_of_a_run_where_a_growth_is_refused(rt: HostRuntime) -> Result<
         let outcome = replay_in(
             &heap,
             alloc,
-            config,
-            Shapes,
-            false,
+            setup(config, Shapes, false),
             &mut file.as_slice(),
             &mut out,
         );

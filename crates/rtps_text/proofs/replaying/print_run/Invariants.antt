@@ -1,0 +1,22 @@
+use Rattle.std.proofs.Common.{◌≡◌, ◌-◌, ◌≤◌}
+use Rattle.rtps_reader.specs.Body.{body_by}
+use Rattle.rtps_records.proofs.Progress.{Progress}
+use Rattle.rtps_text.specs.Replayed.{HasSaid}
+use Rattle.rtps_text.proofs.replaying.print_run.Given as goal
+
+abbrev pub invariant-loop-octets : goal.invariant-loop-octets
+invariant-loop-octets g l = record {
+  same_reader : l.records.reader.ghost_name ≡ l.fn.records.reader.ghost_name;
+  same_writer : l.lines.writer.ghost_name ≡ l.fn.lines.writer.ghost_name;
+  few : l.records.count ≤ 4294967295;
+  catalog : l.run.engine.catalog ≡ l.fn.run.engine.catalog;
+  config : l.run.engine.config ≡ l.fn.run.engine.config;
+  summary : l.run.summary ≡ l.fn.run.summary;
+  so_far : Progress
+      (λ records said. HasSaid (g.C.Catalog.text_of l.fn.run.engine.catalog) (body_by (g.C.Catalog.meaning l.fn.run.engine.catalog) (g.C.Catalog.hash l.fn.run.engine.catalog) (g.C.Catalog.hash_of_key l.fn.run.engine.catalog)) records said l.run.engine)
+      (g.R.Read.remaining l.fn.records.reader.now) (g.R.Read.remaining l.records.reader.now)
+      (g.W.Write.contents l.fn.lines.writer.now) (g.W.Write.contents l.lines.writer.now) l.records.count l.lines.text.items;
+}
+
+abbrev pub decreases-loop-octets : goal.decreases-loop-octets
+decreases-loop-octets g l = 4294967295 - l.records.count
