@@ -13,7 +13,7 @@ mod tests;
 
 pub use body::Body;
 pub use content::{Content, body_of};
-pub use notice::{Notice, Output, Told};
+pub use notice::{Notice, NoticeKind, Output};
 pub use state::{ReaderError, ReaderState};
 pub use status::Status;
-pub use step::{Asked, Step};
+pub use step::{Step, StepKind};

@@ -4,7 +4,7 @@ mod reliable;
 mod state;
 
 use crate::*;
-use dds_topic::{ColorKeys, Raw, Shapes, Unread};
+use dds_topic::{Decoder, Raw, Shapes, Unread};
 use rtps_types::KeyHash;
 use rtps_wire::Form;
 use std::alloc::Global;
@@ -38,13 +38,8 @@ fn content(form: Form, status: u8, hash: Option<KeyHash>, payload: &[u8]) -> Con
 
 #[test]
 fn values(rt: HostRuntime) -> Result<(), Fail> {
-    let mut memo = ColorKeys::default();
-    match body_of(
-        rt.alloc(),
-        &Shapes,
-        &mut memo,
-        &content(Form::Value, 0, Some(SENT), &BLUE),
-    )? {
+    let mut shapes = Decoder::new(rt.alloc(), Shapes);
+    match body_of(&mut shapes, &content(Form::Value, 0, Some(SENT), &BLUE))? {
         Body::Value(hash, shape) => {
             assert_eq!(rt; hash, BLUE_HASH);
             assert_eq!(rt; shape.color.as_str(), "BLUE");
@@ -53,12 +48,8 @@ fn values(rt: HostRuntime) -> Result<(), Fail> {
         _ => assert!(rt; false, "no value"),
     }
     // Other bits of the status say nothing.
-    match body_of(
-        rt.alloc(),
-        &Raw,
-        &mut (),
-        &content(Form::Value, 0xfc, None, &BLUE),
-    )? {
+    let mut raw = Decoder::new(rt.alloc(), Raw);
+    match body_of(&mut raw, &content(Form::Value, 0xfc, None, &BLUE))? {
         Body::Value(hash, raw) => {
             assert_eq!(rt; hash, KeyHash([0; 16]));
             assert_eq!(rt; raw.body.len(), 24);
@@ -70,7 +61,7 @@ fn values(rt: HostRuntime) -> Result<(), Fail> {
 
 #[test]
 fn ends_of_instances(rt: HostRuntime) -> Result<(), Fail> {
-    let mut memo = ColorKeys::default();
+    let mut shapes = Decoder::new(rt.alloc(), Shapes);
     // The key comes from the value, from the key payload, or from what was sent with the change.
     for (form, payload, hash) in [
         (Form::Value, BLUE.as_slice(), BLUE_HASH),
@@ -78,12 +69,7 @@ fn ends_of_instances(rt: HostRuntime) -> Result<(), Fail> {
         (Form::Nothing, [].as_slice(), SENT),
     ] {
         for (status, is_disposed) in [(1, true), (3, true), (2, false), (6, false)] {
-            match body_of(
-                rt.alloc(),
-                &Shapes,
-                &mut memo,
-                &content(form, status, Some(SENT), payload),
-            )? {
+            match body_of(&mut shapes, &content(form, status, Some(SENT), payload))? {
                 Body::Disposed(key) => {
                     assert!(rt; is_disposed);
                     assert_eq!(rt; key, hash);
@@ -101,7 +87,7 @@ fn ends_of_instances(rt: HostRuntime) -> Result<(), Fail> {
 
 /// What can't be read, and why.
 fn reason(alloc: Global, content: Content<'_>) -> Result<Option<Unread>, Fail> {
-    match body_of(alloc, &Shapes, &mut ColorKeys::default(), &content)? {
+    match body_of(&mut Decoder::new(alloc, Shapes), &content)? {
         Body::Unread(unread) => Ok(Some(unread)),
         _ => Ok(None),
     }
