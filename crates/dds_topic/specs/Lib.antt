@@ -1,4 +1,5 @@
 pub mod Answer
+pub mod Decoding
 pub mod Color
 pub mod Encapsulation
 pub mod RawMeaning

@@ -1,7 +1,8 @@
--- A payload as it stands.
-use Rattle.std.specs.Prelude.{ℕ, List, replicate}
+-- A payload as it is.
+use Rattle.std.specs.Prelude.{ℕ, List, replicate, Ok}
 use Rattle.rtps_types.specs.declared.identity.KeyHash.{KeyHash}
 use Rattle.dds_topic.specs.declared.raw.RawValue.{RawValue}
+use Rattle.dds_topic.specs.Decoding.{Decoding}
 
 -- the kind of its encapsulation, and its body
 pub record RawMeaning : Type 0 where
@@ -14,3 +15,11 @@ raw_view v = record { kind = v.kind; body = v.body.items }
 -- the hash of every value
 abbrev pub no_key : KeyHash
 no_key = record { 0 = replicate 16 0 }
+
+-- every body is a value, and all values are one instance
+abbrev pub raw_decoding : Decoding RawMeaning
+raw_decoding = record {
+  meaning = λ kind body. Ok (record { kind = kind; body = body });
+  hash = λ v. no_key;
+  hash_of_key = λ kind body. Ok no_key;
+}

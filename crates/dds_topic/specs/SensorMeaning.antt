@@ -1,5 +1,5 @@
 -- An example of a type with two key fields: struct Sensor { @key unsigned long station; @key unsigned long channel;
--- long value; }. Its key has 8 octets, so they are the hash, with zeros behind them (DDSI-RTPS 9.6.4.8).
+-- long value; }. Its key has 8 octets, so they are the hash, with zeros after them (DDSI-RTPS 9.6.4.8).
 use Rattle.std.proofs.Common.{◌≡◌, ℕ, ℤ, ◌<◌, ◌^◌, ◌++◌, List, [], replicate, Result, Ok, refl, arith}
 use Rattle.std.specs.Int.{w32}
 use Rattle.rtps_types.specs.declared.field.Endian.TheVariants.{Big, Little}
@@ -13,6 +13,7 @@ use Rattle.rtps_cdr.proofs.Again.{members_again}
 use Rattle.dds_topic.specs.Encapsulation.{order_by}
 use Rattle.dds_topic.specs.declared.unread.Unread.{Unread as UnreadCode}
 use Rattle.dds_topic.specs.declared.unread.Unread.TheVariants as unread
+use Rattle.dds_topic.specs.Decoding.{Decoding}
 
 abbrev pub key_type : CdrType
 key_type = Both (Unsigned 4) (Unsigned 4)
@@ -34,6 +35,13 @@ hash_of station channel = record { 0 = written key_type 0 Big (station, channel)
 
 abbrev pub sensor_hash_of_key : ℕ → List ℕ → Result KeyHash UnreadCode
 sensor_hash_of_key kind body = and_then (order_by kind) (λ e. and_then (key_in (start e body)) (λ key. Ok (hash_of key.0 key.1)))
+
+abbrev pub sensor_decoding : Decoding (ℕ × ℕ × ℤ)
+sensor_decoding = record {
+  meaning = λ kind body. and_then (order_by kind) (λ e. sensor_in (start e body));
+  hash = λ s. hash_of s.0 s.1;
+  hash_of_key = sensor_hash_of_key;
+}
 
 hashed : (c : Cursor) (station channel : ℕ) → value_of (number_in 4 c) ≡ Ok station → value_of (number_in 4 (after_number c)) ≡ Ok channel → and_then (key_in c) (λ key. Ok (hash_of key.0 key.1)) ≡ Ok (hash_of station channel)
 hashed c station channel first second = rw (first, second) refl

@@ -14,6 +14,7 @@ use Rattle.rtps_ascii.specs.Hex.{hex_text}
 use Rattle.dds_topic.specs.declared.unread.Unread.{Unread as UnreadCode}
 use Rattle.dds_topic.specs.declared.unread.Unread.TheVariants.{Malformed}
 use Rattle.dds_topic.specs.declared.shape.Shape.{Shape}
+use Rattle.dds_topic.specs.Decoding.{Decoding}
 
 -- a shape, without where its color lies
 pub record ShapeMeaning : Type 0 where
@@ -35,7 +36,7 @@ behind_long c = moved c (signed_in w32 c)
 abbrev pub color_of : Cursor → Result (List ℕ) UnreadCode
 color_of c = after_read Malformed (value_of (text_in c)) (λ color. if nat_lt 128 (length color) then Err Malformed else Ok color)
 
--- the three numbers behind it
+-- the three numbers after it
 abbrev pub numbers_of : List ℕ → Cursor → Result ShapeMeaning UnreadCode
 numbers_of color c =
     after_read Malformed (value_of (signed_in w32 c)) (λ x.
@@ -60,6 +61,9 @@ color_hash color = record { 0 = md5 (written Text 0 Big color) }
 
 abbrev pub shape_hash_of_key : ℕ → List ℕ → Result KeyHash UnreadCode
 shape_hash_of_key kind body = and_then (order_by kind) (λ e. and_then (color_of (start e body)) (λ color. Ok (color_hash color)))
+
+abbrev pub shape_decoding : Decoding ShapeMeaning
+shape_decoding = record { meaning = shape_meaning; hash = λ s. color_hash s.color; hash_of_key = shape_hash_of_key }
 
 -- the color in hex and the three numbers, with blanks between
 abbrev pub shape_text : ShapeMeaning → List ℕ

@@ -5,9 +5,8 @@ ghost use Rattle.dds_topic.specs.ShapeMeaning.{color_hash};
 
 use crate::color::Color;
 use crate::shapes::hash_of;
-use rtps_cdr::NoMemory;
 use rtps_types::KeyHash;
-use std::alloc::Global;
+use std::alloc::{AllocError, Global};
 
 /// How many colors are kept.
 const PLACES: usize = 8;
@@ -43,7 +42,7 @@ impl Default for ColorKeys {
 
 impl ColorKeys {
     /// The hash of a color's key.
-    pub(crate) fn key(&mut self, alloc: Global, color: &str) -> Result<KeyHash, NoMemory>
+    pub(crate) fn key(&mut self, alloc: Global, color: &str) -> Result<KeyHash, AllocError>
         requires { length color.now ≤ 128 }
         ensures { IfOk result (λ h. h ≡ color_hash color.now) }
     {

@@ -2,16 +2,13 @@
 //! `struct Sensor { @key unsigned long station; @key unsigned long channel; long value; }`.
 
 ghost use Rattle.std.specs.Prelude.{◌≡◌, ◌<◌, ◌^◌, ℕ, ℤ, [], IfOk};
-ghost use Rattle.dds_topic.specs.SensorMeaning.{key_in, sensor_in, after_number, key_of, hash_of, sensor_hash_of_key, sensor_key_again};
-ghost use Rattle.dds_topic.specs.Encapsulation.{order_by};
+ghost use Rattle.dds_topic.specs.SensorMeaning.{key_of, hash_of, sensor_decoding, sensor_key_again};
 ghost use Rattle.dds_topic.specs.Answer.{Gives};
-ghost use Rattle.rtps_cdr.specs.Reading.{start};
-ghost use Rattle.rtps_cdr.specs.Following.{and_then};
 
-use crate::{Catalog, CatalogError, NoMemory, byte_order};
+use crate::{Catalog, CatalogError, byte_order};
 use rtps_cdr::{CdrReader, CdrWriter};
 use rtps_types::{Endian, KeyHash, put_u32};
-use std::alloc::Global;
+use std::alloc::{AllocError, Global};
 
 #[derive(Debug, Drop)]
 pub struct Sensor {
@@ -34,13 +31,9 @@ impl Catalog for Sensors {
 
     ghost view = { λ s. (s.station, s.channel, s.value) };
 
-    ghost meaning = { λ _ kind body. and_then (order_by kind) (λ e. sensor_in (start e body)) };
-
-    ghost hash = { λ _ s. hash_of s.0 s.1 };
+    ghost decoding = { λ _. sensor_decoding };
 
     ghost key = { λ _ s. key_of s };
-
-    ghost hash_of_key = { λ _ kind body. sensor_hash_of_key kind body };
 
     ghost text_of = { λ _ _. [] };
 
@@ -56,15 +49,15 @@ impl Catalog for Sensors {
         })
     }
 
-    fn key_of(&self, _: Global, value: &Sensor) -> Result<KeyHash, NoMemory> {
+    fn key_of(&self, _: Global, value: &Sensor) -> Result<KeyHash, AllocError> {
         Ok(padded(value.station, value.channel))
     }
 
-    fn key_by(&self, _: &mut (), _: Global, value: &Sensor) -> Result<KeyHash, NoMemory> {
+    fn key_by(&self, _: &mut (), _: Global, value: &Sensor) -> Result<KeyHash, AllocError> {
         Ok(padded(value.station, value.channel))
     }
 
-    fn key_payload(&self, alloc: Global, value: &Sensor) -> Result<Vec<u8>, NoMemory> {
+    fn key_payload(&self, alloc: Global, value: &Sensor) -> Result<Vec<u8>, AllocError> {
         let mut writer = CdrWriter::new(alloc, Endian::Little);
         writer.write_u32(value.station)?;
         writer.write_u32(value.channel)?;

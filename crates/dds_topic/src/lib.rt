@@ -1,13 +1,14 @@
 //! The catalog of one data type: how the payloads of a topic are decoded, and how instances are told
 //! apart (DDSI-RTPS 9.6.4.8, 10).
 //!
-//! A participant is generic in its [`Catalog`]. [`Raw`] decodes every payload as it stands, [`Shapes`]
-//! those of the Shapes demo.
+//! A participant is generic in its [`Catalog`]. [`Raw`] takes every payload as it is, [`Shapes`]
+//! decodes those of the Shapes demo. A [`Decoder`] is a catalog at work.
 #![tactic(auto)]
 
 mod catalog;
 mod color;
 mod color_keys;
+mod decoder;
 mod encapsulation;
 #[cfg(test)]
 mod example;
@@ -22,6 +23,7 @@ mod unread;
 pub use catalog::{Catalog, TextCatalog};
 pub use color::Color;
 pub use color_keys::ColorKeys;
+pub use decoder::Decoder;
 pub use encapsulation::byte_order;
 pub use raw::{Raw, RawValue};
 pub use rtps_cdr::NoMemory;

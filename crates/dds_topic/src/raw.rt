@@ -2,11 +2,10 @@
 
 ghost use Rattle.std.specs.Prelude.{◌≡◌, Ok, IfOk, IsOkAnd, [], refl};
 ghost use Rattle.rtps_ascii.specs.Hex.{hex_text};
-ghost use Rattle.dds_topic.specs.RawMeaning.{RawMeaning, raw_view, no_key};
+ghost use Rattle.dds_topic.specs.RawMeaning.{RawMeaning, raw_view, raw_decoding, no_key};
 
 use crate::{Catalog, CatalogError, TextCatalog};
 use rtps_ascii::push_hex;
-use rtps_cdr::NoMemory;
 use rtps_types::KeyHash;
 use std::alloc::{AllocError, Allocator, Global};
 
@@ -26,7 +25,7 @@ const NO_KEY: KeyHash = KeyHash([0; 16]);
 pub struct Raw;
 
 /// A copy of a body, with its kind.
-pub fn raw_value<A: Allocator>(alloc: A, kind: u16, body: &[u8]) -> Result<RawValue<A>, NoMemory>
+pub fn raw_value<A: Allocator>(alloc: A, kind: u16, body: &[u8]) -> Result<RawValue<A>, AllocError>
     ensures { IfOk result (λ v. raw_view v ≡ record { kind = kind; body = body.now }) }
 {
     let body = Vec::from_slice(alloc, body)?;
@@ -42,13 +41,9 @@ impl Catalog for Raw {
 
     ghost view = { raw_view };
 
-    ghost meaning = { λ _ kind body. Ok (record { kind = kind; body = body }) };
-
-    ghost hash = { λ _ _. no_key };
+    ghost decoding = { λ _. raw_decoding };
 
     ghost key = { λ _ _. [] };
-
-    ghost hash_of_key = { λ _ _ _. Ok no_key };
 
     ghost text_of = { λ _ v. hex_text v.body };
 
@@ -56,19 +51,19 @@ impl Catalog for Raw {
         Ok(raw_value(alloc, kind, body)?)
     }
 
-    fn key_of(&self, _: Global, _: &RawValue) -> Result<KeyHash, NoMemory>
+    fn key_of(&self, _: Global, _: &RawValue) -> Result<KeyHash, AllocError>
         ensures { result ≡ Ok no_key }
     {
         Ok(NO_KEY)
     }
 
-    fn key_by(&self, _: &mut (), _: Global, _: &RawValue) -> Result<KeyHash, NoMemory>
+    fn key_by(&self, _: &mut (), _: Global, _: &RawValue) -> Result<KeyHash, AllocError>
         ensures { result ≡ Ok no_key }
     {
         Ok(NO_KEY)
     }
 
-    fn key_payload(&self, alloc: Global, _: &RawValue) -> Result<Vec<u8>, NoMemory>
+    fn key_payload(&self, alloc: Global, _: &RawValue) -> Result<Vec<u8>, AllocError>
         ensures { IsOkAnd result (λ v. v.items ≡ []) }
     {
         Ok(Vec::new(alloc))
@@ -92,7 +87,7 @@ impl TextCatalog for Raw {
         push_hex(out, value.body.as_slice())
     }
 
-    fn text(&self, alloc: Global, value: &RawValue) -> Result<Vec<u8>, NoMemory> {
+    fn text(&self, alloc: Global, value: &RawValue) -> Result<Vec<u8>, AllocError> {
         let mut out = Vec::new(alloc);
         self.push_text(&mut out, value)?;
         Ok(out)

@@ -4,7 +4,7 @@ ghost use Rattle.std.specs.Prelude.{◌≡◌, ◌≤◌, ◌++◌, ◌+◌, ◌
 ghost use Rattle.rtps_cdr.specs.Cdr.{Text};
 ghost use Rattle.rtps_cdr.specs.Writing.{written};
 ghost use Rattle.dds_topic.specs.Answer.{Gives};
-ghost use Rattle.dds_topic.specs.ShapeMeaning.{ShapeMeaning, shape_view, shape_in, shape_meaning, color_of, color_hash, color_key, shape_hash_of_key, shape_text, behind_text};
+ghost use Rattle.dds_topic.specs.ShapeMeaning.{ShapeMeaning, shape_view, shape_in, shape_meaning, color_of, color_hash, color_key, shape_decoding, shape_hash_of_key, shape_text, behind_text};
 ghost use Rattle.dds_topic.specs.ShapeLaw.{shape_key_again};
 
 use crate::color::Color;
@@ -13,7 +13,7 @@ use crate::encapsulation::byte_order;
 use crate::{Catalog, CatalogError, Shape, TextCatalog, Unread};
 use md5::{Digest, Md5};
 use rtps_ascii::{push_hex, push_octet, push_signed};
-use rtps_cdr::{CdrReader, CdrWriter, NoMemory};
+use rtps_cdr::{CdrReader, CdrWriter};
 use rtps_types::{Endian, KeyHash};
 use std::alloc::{AllocError, Allocator, Global};
 
@@ -60,7 +60,7 @@ pub fn read_shape<A: Allocator>(
 }
 
 /// The octets of a color as a key.
-pub fn key_octets<A: Allocator>(alloc: A, color: &str) -> Result<Vec<u8, A>, NoMemory>
+pub fn key_octets<A: Allocator>(alloc: A, color: &str) -> Result<Vec<u8, A>, AllocError>
     requires { length color.now ≤ 128 }
     ensures { IfOk result (λ v. v.items ≡ color_key color.now) }
 {
@@ -103,13 +103,9 @@ impl Catalog for Shapes {
 
     ghost view = { shape_view };
 
-    ghost meaning = { λ _ kind body. shape_meaning kind body };
-
-    ghost hash = { λ _ s. color_hash s.color };
+    ghost decoding = { λ _. shape_decoding };
 
     ghost key = { λ _ s. color_key s.color };
-
-    ghost hash_of_key = { λ _ kind body. shape_hash_of_key kind body };
 
     ghost text_of = { λ _ s. shape_text s };
 
@@ -118,7 +114,7 @@ impl Catalog for Shapes {
         read_shape(alloc, &mut CdrReader::new(body, endian))
     }
 
-    fn key_of(&self, _: Global, value: &Shape) -> Result<KeyHash, NoMemory>
+    fn key_of(&self, _: Global, value: &Shape) -> Result<KeyHash, AllocError>
         ensures { result ≡ Ok (color_hash value.now.color) }
     {
         Ok(hash_of(value.color.as_str()))
@@ -129,11 +125,11 @@ impl Catalog for Shapes {
         memo: &mut ColorKeys,
         alloc: Global,
         value: &Shape,
-    ) -> Result<KeyHash, NoMemory> {
+    ) -> Result<KeyHash, AllocError> {
         memo.key(alloc, value.color.as_str())
     }
 
-    fn key_payload(&self, alloc: Global, value: &Shape) -> Result<Vec<u8>, NoMemory> {
+    fn key_payload(&self, alloc: Global, value: &Shape) -> Result<Vec<u8>, AllocError> {
         key_octets(alloc, value.color.as_str())
     }
 
@@ -155,7 +151,7 @@ impl TextCatalog for Shapes {
         push_shape(out, value)
     }
 
-    fn text(&self, alloc: Global, value: &Shape) -> Result<Vec<u8>, NoMemory> {
+    fn text(&self, alloc: Global, value: &Shape) -> Result<Vec<u8>, AllocError> {
         let mut out = Vec::new(alloc);
         self.push_text(&mut out, value)?;
         Ok(out)

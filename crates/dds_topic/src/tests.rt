@@ -7,12 +7,12 @@ use crate::example::{Sensor, Sensors};
 use crate::raw::raw_value;
 use crate::shapes::{key_octets, read_shape};
 use crate::{
-    Catalog, CatalogError, ColorKeys, NoMemory, Raw, Shape, Shapes, TextCatalog, Unread, byte_order,
+    Catalog, CatalogError, ColorKeys, Raw, Shape, Shapes, TextCatalog, Unread, byte_order,
 };
 use linked_list_allocator::LocalHeap;
 use rtps_cdr::{CdrReader, CdrWriter};
 use rtps_types::{Endian, KeyHash};
-use std::alloc::Global;
+use std::alloc::{AllocError, Global};
 use std::test::Fail;
 
 const ENCAPSULATION: CatalogError = CatalogError::Unread(Unread::Encapsulation);
@@ -36,7 +36,7 @@ fn hash_by_payload<C: Catalog>(
     catalog: &C,
     value: &C::Value,
 ) -> Result<KeyHash, CatalogError>
-    ensures { Gives (λ h. h) result (Ok (C.hash catalog.now (C.view value.now))) }
+    ensures { Gives (λ h. h) result (Ok ((C.decoding catalog.now).hash (C.view value.now))) }
 {
     let payload = catalog.key_payload(alloc, value)?;
     catalog.key_of_payload(alloc, 1, payload.as_slice())
@@ -259,13 +259,13 @@ fn refused_growths(rt: HostRuntime) -> Result<(), Fail> {
         refused[0] |= matches!(decoded, Err(CatalogError::NoMemory));
         made[0] |= decoded.is_ok();
         let key = key_octets(&heap, "BLUE");
-        refused[1] |= key == Err(NoMemory);
+        refused[1] |= key == Err(AllocError);
         made[1] |= key.is_ok();
         let text = Shapes.push_text(&mut Vec::new(&heap), &shape);
         refused[2] |= text.is_err();
         made[2] |= text.is_ok();
         let value = raw_value(&heap, 1, body);
-        refused[3] |= matches!(value, Err(NoMemory));
+        refused[3] |= matches!(value, Err(AllocError));
         made[3] |= value.is_ok();
     }
     assert_eq!(rt; refused, [true; 4]);

@@ -4,7 +4,7 @@ ghost use Rattle.std.specs.Prelude.{◌≡◌};
 ghost use Rattle.dds_topic.specs.declared.unread.CatalogError.TheVariants as errors;
 ghost use Rattle.dds_topic.specs.declared.unread.Unread.TheVariants.{Malformed};
 
-use rtps_cdr::{CdrFault, NoMemory};
+use rtps_cdr::CdrFault;
 use std::alloc::AllocError;
 use thiserror::Error;
 
@@ -45,7 +45,7 @@ impl Unread {
 #[derive(Clone, Copy, Debug, PartialEq, Eq, Error)]
 pub enum CatalogError {
     /// The allocator refused a growth.
-    #[error("no memory is left")]
+    #[error("out of memory")]
     NoMemory,
     /// The payload can't be read.
     #[error(transparent)]
@@ -56,14 +56,6 @@ impl From<AllocError> for CatalogError {
     ghost from_gives = { λ _ e. e ≡ errors.NoMemory };
 
     fn from(_: AllocError) -> CatalogError {
-        CatalogError::NoMemory
-    }
-}
-
-impl From<NoMemory> for CatalogError {
-    ghost from_gives = { λ _ e. e ≡ errors.NoMemory };
-
-    fn from(_: NoMemory) -> CatalogError {
         CatalogError::NoMemory
     }
 }

@@ -1,9 +1,9 @@
 //! Values against octets from outside.
 
-use crate::{CdrFault, CdrReader, CdrWriter, NoMemory};
+use crate::{CdrFault, CdrReader, CdrWriter};
 use linked_list_allocator::LocalHeap;
 use rtps_types::Endian;
-use std::alloc::Allocator;
+use std::alloc::{AllocError, Allocator};
 use std::test::Fail;
 
 /// Octets that each tell their place.
@@ -212,7 +212,7 @@ fn a_text_ends_with_its_nul(rt: HostRuntime) -> Result<(), Fail> {
 }
 
 /// One value of each type.
-fn write_each<A: Allocator>(writer: &mut CdrWriter<A>) -> Result<(), NoMemory> {
+fn write_each<A: Allocator>(writer: &mut CdrWriter<A>) -> Result<(), AllocError> {
     writer.write_bool(true)?;
     writer.write_u16(0x0203)?;
     writer.write_i8(-1)?;
@@ -270,7 +270,7 @@ fn a_refused_growth_leaves_the_writer(rt: HostRuntime) -> Result<(), Fail> {
             assert!(rt; octets.as_slice() == EACH);
             whole = true;
         } else {
-            assert_eq!(rt; written, Err(NoMemory));
+            assert_eq!(rt; written, Err(AllocError));
             assert!(rt; EACH.starts_with(octets.as_slice()));
             assert!(rt; octets.len() < EACH.len());
             refused = true;

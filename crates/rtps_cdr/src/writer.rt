@@ -5,16 +5,15 @@ ghost use Rattle.std.specs.Int.{w8, w16, w32, w64};
 ghost use Rattle.rtps_cdr.specs.Cdr.{Unsigned, Signed, Boolean, Text, Octets};
 ghost use Rattle.rtps_cdr.specs.Writing.{Output, Writes, appended, field_appended};
 
-use crate::NoMemory;
 use crate::place::gap_before;
 use rtps_types::Endian;
-use std::alloc::{Allocator, Global};
+use std::alloc::{AllocError, Allocator, Global};
 use std::marker::Model;
 
-/// Writes values behind one another into a buffer of its own.
+/// Writes values one after another into a buffer of its own.
 ///
-/// Alignment is counted from the first octet, and the octets of a gap are zeros. Where no memory is
-/// left, the writer is as it was before the call.
+/// Alignment is counted from the first octet, and the octets of a gap are zeros. When a call
+/// is out of memory, the writer is as it was before it.
 #[derive(Drop)]
 pub struct CdrWriter<A: Allocator = Global> {
     octets: Vec<u8, A>,
@@ -48,9 +47,9 @@ impl<A: Allocator> CdrWriter<A> {
         self.octets
     }
 
-    /// Writes a field behind its gap.
+    /// Writes a field after its gap.
     #[tactic(auto, using(crate::proofs::Written::zeros))]
-    fn append(&mut self, size: usize, field: &[u8]) -> Result<(), NoMemory>
+    fn append(&mut self, size: usize, field: &[u8]) -> Result<(), AllocError>
         requires some { 0 < size }
         requires small { size ≤ 8 }
         ensures { self.new ≡ (if is_ok result then field_appended size field.now self.old else self.old) }
@@ -60,13 +59,13 @@ impl<A: Allocator> CdrWriter<A> {
         self.octets.extend_from_slice(gap)?;
         if self.octets.extend_from_slice(field).is_err() {
             self.octets.truncate(start);
-            return Err(NoMemory);
+            return Err(AllocError);
         }
         Ok(())
     }
 
     /// Writes a number of 8 bits.
-    pub fn write_u8(&mut self, value: u8) -> Result<(), NoMemory>
+    pub fn write_u8(&mut self, value: u8) -> Result<(), AllocError>
         ensures value { self.new ≡ (if is_ok result then appended (Unsigned 1) value self.old else self.old) }
         ensures writes { OnOk result (Writes (Unsigned 1) self.old self.new value) }
     {
@@ -77,7 +76,7 @@ impl<A: Allocator> CdrWriter<A> {
     }
 
     /// Writes a number of 16 bits, aligned to 2 octets.
-    pub fn write_u16(&mut self, value: u16) -> Result<(), NoMemory>
+    pub fn write_u16(&mut self, value: u16) -> Result<(), AllocError>
         ensures value { self.new ≡ (if is_ok result then appended (Unsigned 2) value self.old else self.old) }
         ensures writes { OnOk result (Writes (Unsigned 2) self.old self.new value) }
     {
@@ -88,7 +87,7 @@ impl<A: Allocator> CdrWriter<A> {
     }
 
     /// Writes a number of 32 bits, aligned to 4 octets.
-    pub fn write_u32(&mut self, value: u32) -> Result<(), NoMemory>
+    pub fn write_u32(&mut self, value: u32) -> Result<(), AllocError>
         ensures value { self.new ≡ (if is_ok result then appended (Unsigned 4) value self.old else self.old) }
         ensures writes { OnOk result (Writes (Unsigned 4) self.old self.new value) }
     {
@@ -99,7 +98,7 @@ impl<A: Allocator> CdrWriter<A> {
     }
 
     /// Writes a number of 64 bits, aligned to 8 octets.
-    pub fn write_u64(&mut self, value: u64) -> Result<(), NoMemory>
+    pub fn write_u64(&mut self, value: u64) -> Result<(), AllocError>
         ensures value { self.new ≡ (if is_ok result then appended (Unsigned 8) value self.old else self.old) }
         ensures writes { OnOk result (Writes (Unsigned 8) self.old self.new value) }
     {
@@ -110,7 +109,7 @@ impl<A: Allocator> CdrWriter<A> {
     }
 
     /// Writes a number of 8 bits with a sign.
-    pub fn write_i8(&mut self, value: i8) -> Result<(), NoMemory>
+    pub fn write_i8(&mut self, value: i8) -> Result<(), AllocError>
         ensures value { self.new ≡ (if is_ok result then appended (Signed w8) value self.old else self.old) }
         ensures writes { OnOk result (Writes (Signed w8) self.old self.new value) }
     {
@@ -118,7 +117,7 @@ impl<A: Allocator> CdrWriter<A> {
     }
 
     /// Writes a number of 16 bits with a sign, aligned to 2 octets.
-    pub fn write_i16(&mut self, value: i16) -> Result<(), NoMemory>
+    pub fn write_i16(&mut self, value: i16) -> Result<(), AllocError>
         ensures value { self.new ≡ (if is_ok result then appended (Signed w16) value self.old else self.old) }
         ensures writes { OnOk result (Writes (Signed w16) self.old self.new value) }
     {
@@ -126,7 +125,7 @@ impl<A: Allocator> CdrWriter<A> {
     }
 
     /// Writes a number of 32 bits with a sign, aligned to 4 octets.
-    pub fn write_i32(&mut self, value: i32) -> Result<(), NoMemory>
+    pub fn write_i32(&mut self, value: i32) -> Result<(), AllocError>
         ensures value { self.new ≡ (if is_ok result then appended (Signed w32) value self.old else self.old) }
         ensures writes { OnOk result (Writes (Signed w32) self.old self.new value) }
     {
@@ -134,7 +133,7 @@ impl<A: Allocator> CdrWriter<A> {
     }
 
     /// Writes a number of 64 bits with a sign, aligned to 8 octets.
-    pub fn write_i64(&mut self, value: i64) -> Result<(), NoMemory>
+    pub fn write_i64(&mut self, value: i64) -> Result<(), AllocError>
         ensures value { self.new ≡ (if is_ok result then appended (Signed w64) value self.old else self.old) }
         ensures writes { OnOk result (Writes (Signed w64) self.old self.new value) }
     {
@@ -142,7 +141,7 @@ impl<A: Allocator> CdrWriter<A> {
     }
 
     /// Writes a truth value, as an octet that is 0 or 1.
-    pub fn write_bool(&mut self, value: bool) -> Result<(), NoMemory>
+    pub fn write_bool(&mut self, value: bool) -> Result<(), AllocError>
         ensures value { self.new ≡ (if is_ok result then appended Boolean value self.old else self.old) }
         ensures writes { OnOk result (Writes Boolean self.old self.new value) }
     {
@@ -150,7 +149,7 @@ impl<A: Allocator> CdrWriter<A> {
     }
 
     /// Writes how many items a sequence has, of which each is then to be written.
-    pub fn write_len(&mut self, count: u32) -> Result<(), NoMemory>
+    pub fn write_len(&mut self, count: u32) -> Result<(), AllocError>
         ensures value { self.new ≡ (if is_ok result then appended (Unsigned 4) count self.old else self.old) }
         ensures writes { OnOk result (Writes (Unsigned 4) self.old self.new count) }
     {
@@ -159,7 +158,7 @@ impl<A: Allocator> CdrWriter<A> {
 
     /// Writes a text: its length, which counts its NUL, the text and the NUL.
     #[tactic(auto, using(crate::proofs::Written::text_writes))]
-    pub fn write_string(&mut self, text: &str) -> Result<(), NoMemory>
+    pub fn write_string(&mut self, text: &str) -> Result<(), AllocError>
         requires { length text.now + 1 < 2 ^ 32 }
         ensures value { self.new ≡ (if is_ok result then appended Text text.now self.old else self.old) }
         ensures writes { OnOk result (Writes Text self.old self.new text.now) }
@@ -172,8 +171,8 @@ impl<A: Allocator> CdrWriter<A> {
         written
     }
 
-    /// Writes a text, but where no memory is left a part of it may stand.
-    fn put_string(&mut self, text: &str) -> Result<(), NoMemory>
+    /// Writes a text; when it is out of memory, a part of the text may be left.
+    fn put_string(&mut self, text: &str) -> Result<(), AllocError>
         requires { length text.now + 1 < 2 ^ 32 }
         ensures text { IsUtf8 text.now }
         ensures ok { OnOk result (self.new ≡ appended Text text.now self.old) }
@@ -184,8 +183,8 @@ impl<A: Allocator> CdrWriter<A> {
         Ok(self.octets.push(0)?)
     }
 
-    /// Writes octets as they stand, with no gap and no length.
-    pub fn write_octets(&mut self, octets: &[u8]) -> Result<(), NoMemory>
+    /// Writes octets as they are, with no gap and no length.
+    pub fn write_octets(&mut self, octets: &[u8]) -> Result<(), AllocError>
         ensures value { self.new ≡ (if is_ok result then appended (Octets (length octets.now)) octets.now self.old else self.old) }
         ensures writes { OnOk result (Writes (Octets (length octets.now)) self.old self.new octets.now) }
     {

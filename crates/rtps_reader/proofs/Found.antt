@@ -6,9 +6,9 @@ use Rattle.std.proofs.lemmas.List.Quantifiers.{position-Some}
 use Rattle.std.proofs.lemmas.List.Sums.{fails_before_first}
 use Rattle.rtps_types.specs.declared.identity.Guid.{Guid}
 use Rattle.rtps_proxy.specs.History.{Came}
-use Rattle.rtps_reader.specs.declared.state.Seat.{Seat}
+use Rattle.rtps_reader.specs.declared.state.Match as code
 use Rattle.rtps_reader.specs.Reader.{Match, extended, match_with, same_guid}
-use Rattle.rtps_reader.specs.Standing.{AllStand, Stands, seat_view}
+use Rattle.rtps_reader.specs.Standing.{AllStand, Stands, match_view}
 
 -- where no place passes, each item fails
 pub fails_everywhere : {X : Type 0} (p : X → Bool) (xs : List X) → position p xs ≡ None → (k : ℕ) (d : X) → k < length xs → p (get_or xs k d) ≡ false
@@ -22,7 +22,7 @@ within p [] i at = absurd (cc (at))
 within p (x ∷ xs) i at = (position-Some p (x ∷ xs) i x at).0
 
 -- nothing comes for a writer that is not matched
-pub not_matched : {A : Type 0} (w : Guid) (e : Came) (ms : List Match) (ss : List (Seat A)) → AllStand ms (map seat_view ss) → ((k : ℕ) (d : Seat A) → k < length ss → same_guid (get_or ss k d).writer w ≡ false) → (extended w e ms ≡ ms) × (match_with w ms ≡ None)
+pub not_matched : {A : Type 0} (w : Guid) (e : Came) (ms : List Match) (ss : List (code.Match A)) → AllStand ms (map match_view ss) → ((k : ℕ) (d : code.Match A) → k < length ss → same_guid (get_or ss k d).writer w ≡ false) → (extended w e ms ≡ ms) × (match_with w ms ≡ None)
 not_matched w e [] [] all fails = (refl, refl)
 not_matched w e [] (s ∷ ss) all fails = absurd all
 not_matched w e (m ∷ ms) [] all fails = absurd all
@@ -31,14 +31,14 @@ not_matched w e (m ∷ ms) (s ∷ ss) all fails =
     let rest = not_matched w e ms ss all.1 (λ k d lt. fails (suc k) d (omega arith)) in
     rw here (ap (λ (ns : List Match). m ∷ ns) rest.0, rest.1)
 
--- what stands of the first match with a writer, and what stands once an event came for it
-pub record Found {A : Type 0} (w : Guid) (e : Came) (ms : List Match) (ss : List (Seat A)) (i : ℕ) (d : Seat A) : Type 0 where
+-- what holds of the first match with a writer, and what holds once an event came for it
+pub record Found {A : Type 0} (w : Guid) (e : Came) (ms : List Match) (ss : List (code.Match A)) (i : ℕ) (d : code.Match A) : Type 0 where
   pub match : Match
   pub is : match_with w ms ≡ Some match
-  pub stands : Stands match (seat_view (get_or ss i d))
-  pub after : (new : Seat A) → Stands (record { whom = match.whom; past = e ∷ match.past }) (seat_view new) → AllStand (extended w e ms) (map seat_view (set ss i new))
+  pub stands : Stands match (match_view (get_or ss i d))
+  pub after : (new : code.Match A) → Stands (record { whom = match.whom; past = e ∷ match.past }) (match_view new) → AllStand (extended w e ms) (map match_view (set ss i new))
 
-pub matched : {A : Type 0} (w : Guid) (e : Came) (ms : List Match) (ss : List (Seat A)) (i : ℕ) (d : Seat A) → AllStand ms (map seat_view ss) → i < length ss → same_guid (get_or ss i d).writer w ≡ true → ((k : ℕ) → k < i → same_guid (get_or ss k d).writer w ≡ false) → Found w e ms ss i d
+pub matched : {A : Type 0} (w : Guid) (e : Came) (ms : List Match) (ss : List (code.Match A)) (i : ℕ) (d : code.Match A) → AllStand ms (map match_view ss) → i < length ss → same_guid (get_or ss i d).writer w ≡ true → ((k : ℕ) → k < i → same_guid (get_or ss k d).writer w ≡ false) → Found w e ms ss i d
 matched w e [] [] i d all lt passes fails = absurd (omega arith)
 matched w e [] (s ∷ ss) i d all lt passes fails = absurd all
 matched w e (m ∷ ms) [] i d all lt passes fails = absurd all

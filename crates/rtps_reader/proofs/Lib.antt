@@ -1,4 +1,4 @@
-pub mod Seats
+pub mod Matches
 pub mod Telling
 pub mod Found
 pub mod Counting

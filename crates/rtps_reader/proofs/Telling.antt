@@ -1,8 +1,9 @@
--- What is told, one part behind the other.
-use Rattle.std.proofs.Common.{◌≡◌, ℕ, List, [], ◌∷◌, ◌++◌, length, map, Option, Some, None, sym, ap, ◌∙◌, append_assoc}
+-- What is reported, one part after another.
+use Rattle.std.proofs.Common.{◌≡◌, List, [], ◌∷◌, ◌++◌, length, min, take, drop, arith, map, Option, Some, None, refl, subst, sym, ap, ◌∙◌, append_assoc}
 use Rattle.std.specs.Option.{option_map}
-use Rattle.std.proofs.lemmas.List.{length-map, map_push}
+use Rattle.std.proofs.lemmas.List.{length-map, length-take, map_push, take-append-drop, take-append-le}
 use Rattle.rtps_types.specs.declared.identity.Guid.{Guid}
+use Rattle.rtps_types.specs.declared.number.Number.{Number}
 use Rattle.rtps_types.specs.declared.place.Place.{Place}
 use Rattle.rtps_types.specs.declared.time.Timestamp.{Timestamp}
 use Rattle.rtps_proxy.specs.declared.effects.Effects.{Effects}
@@ -11,19 +12,22 @@ use Rattle.rtps_proxy.specs.History.{Came}
 use Rattle.rtps_proxy.specs.Replies.{reply_view}
 use Rattle.rtps_reader.specs.declared.body.Body.{Body}
 use Rattle.rtps_reader.specs.declared.status.Status.{Status}
-use Rattle.rtps_reader.specs.Reader.{Answers, Match, Notice, Presents, loses, lost_at, placed, presented, sent_of, told_of}
+use Rattle.dds_topic.specs.Decoding.{Decoding}
+use Rattle.rtps_reader.specs.declared.notice.Notice.{Notice}
+use Rattle.rtps_reader.specs.declared.notice.NoticeKind.TheVariants as kind
+use Rattle.rtps_reader.specs.Reader.{Match, loses, lost_at, placed, presented, sent_of, told_of}
 use Rattle.rtps_reader.specs.Standing.{AreTaken, status_after, status_given}
 
 pub told_then : {A : Type 0} (old middle new a b : List A) → middle ≡ old ++ a → new ≡ middle ++ b → new ≡ old ++ (a ++ b)
 told_then old middle new a b first second = second ∙ ap (λ l. l ++ b) first ∙ append_assoc old a b
 
--- what the match with a writer gave at an event, as it is told and as it is counted
-pub told_taken : {M A : Type 0} (answers : Answers M) (place : Place) (w : Guid) (found : Option Match) (e : Came) (effects : Effects A) → AreTaken found e (Some effects)
-    → loses place w effects.lost ++ map (presented answers place w) (map change_view effects.ready.items) ≡ told_of answers place w e found
-told_taken answers place w None e effects taken = absurd taken
-told_taken answers place w (Some m) e effects taken =
-    ap (λ n. loses place w n ++ map (presented answers place w) (map change_view effects.ready.items)) taken.lost
-    ∙ ap (λ l. loses place w (lost_at m e) ++ map (presented answers place w) l) taken.ready
+-- what the match with a writer gave at an event, as it is reported and as it is counted
+pub told_taken : {M A : Type 0} (decoding : Decoding M) (place : Place) (w : Guid) (found : Option Match) (e : Came) (effects : Effects A) → AreTaken found e (Some effects)
+    → loses place w effects.lost ++ map (presented decoding place w) (map change_view effects.ready.items) ≡ told_of decoding place w e found
+told_taken decoding place w None e effects taken = absurd taken
+told_taken decoding place w (Some m) e effects taken =
+    ap (λ n. loses place w n ++ map (presented decoding place w) (map change_view effects.ready.items)) taken.lost
+    ∙ ap (λ l. loses place w (lost_at m e) ++ map (presented decoding place w) l) taken.ready
 
 pub said_taken : {A : Type 0} (place : Place) (found : Option Match) (e : Came) (effects : Effects A) → AreTaken found e (Some effects) → placed place (option_map reply_view effects.answer) ≡ sent_of place e found
 said_taken place None e effects taken = absurd taken
@@ -35,10 +39,10 @@ status_taken status (Some m) e effects taken =
     ap (λ n. status_after status n (length effects.ready.items)) taken.lost
     ∙ ap (status_after status (lost_at m e)) (sym (length-map effects.ready.items change_view) ∙ ap length taken.ready)
 
-abbrev pub sample_told : {M : Type 0} → Place → Guid → ℕ → Option Timestamp → Body M → Notice M
-sample_told place w number time b = record { place = place; writer = w; what = Presents number time b }
+abbrev pub sample_told : {M : Type 0} → Place → Guid → Number → Option Timestamp → Body M → Notice M
+sample_told place w number time b = record { place = place; writer = w; what = kind.Sample number time b }
 
--- one item more, behind what was told
+-- one item more, after what was reported
 pub told_more : {R N S P : Type 0} (f : R → P) (h : S → P) (v : N → S) (rs new : List R) (ns left : List N) (r : R) (n : N)
     → new ≡ rs ++ r ∷ [] → ns ≡ n ∷ left → f r ≡ h (v n) → map f new ++ map h (map v left) ≡ map f rs ++ map h (map v ns)
 told_more f h v rs new ns left r n pushed taken same =
@@ -47,3 +51,33 @@ told_more f h v rs new ns left r n pushed taken same =
     ∙ append_assoc (map f rs) (f r ∷ []) (map h (map v left))
     ∙ ap (λ p. map f rs ++ p ∷ map h (map v left)) same
     ∙ ap (λ l. map f rs ++ map h (map v l)) (sym taken)
+
+-- what was in front stays there
+pub kept_more : {X : Type 0} (old xs new : List X) (x : X) → take (length old) xs ≡ old → new ≡ xs ++ x ∷ [] → take (length old) new ≡ old
+kept_more old xs new x kept pushed =
+    let count : length old ≡ min (length old) (length xs) = ap length (sym kept) ∙ length-take (length old) xs in
+    ap (take (length old)) pushed ∙ take-append-le (length old) xs (x ∷ []) (omega (arith, count)) ∙ kept
+
+pub kept_then : {X : Type 0} (old middle new : List X) → take (length old) middle ≡ old → take (length middle) new ≡ middle → take (length old) new ≡ old
+kept_then old middle new first second =
+    let count : length old ≡ min (length old) (length middle) = ap length (sym first) ∙ length-take (length old) middle in
+    let whole : middle ++ drop (length middle) new ≡ new = ap (λ l. l ++ drop (length middle) new) (sym second) ∙ take-append-drop (length middle) new in
+    ap (take (length old)) (sym whole) ∙ take-append-le (length old) middle (drop (length middle) new) (omega (arith, count)) ∙ first
+
+abbrev none_of : (A : Type 0) → Option (Effects A)
+none_of A = None
+
+-- a writer that isn't matched changes no status, and nothing is sent to it
+pub none_counted : {A : Type 0} (status : Status) (found : Option Match) (e : Came) (effects : Option (Effects A)) → effects ≡ None → AreTaken found e effects → status ≡ status_given status e found
+none_counted {A} status found e effects is taken = by_match found (subst (AreTaken found e) is taken)
+  where
+    by_match : (found : Option Match) → AreTaken found e (none_of A) → status ≡ status_given status e found
+    by_match None taken = refl
+    by_match (Some m) taken = absurd taken
+
+pub none_said : {A : Type 0} (place : Place) (found : Option Match) (e : Came) (effects : Option (Effects A)) → effects ≡ None → AreTaken found e effects → sent_of place e found ≡ []
+none_said {A} place found e effects is taken = by_match found (subst (AreTaken found e) is taken)
+  where
+    by_match : (found : Option Match) → AreTaken found e (none_of A) → sent_of place e found ≡ []
+    by_match None taken = refl
+    by_match (Some m) taken = absurd taken

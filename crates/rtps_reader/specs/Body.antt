@@ -1,23 +1,14 @@
--- What a change is presented as, by what it carries and by the catalog's answers (DDSI-RTPS 8.7.3, 9.6.4.9; DDS 1.4, 2.2.2.5.1.3).
+-- What a change is presented as, by what it carries and what the catalog makes of it (DDSI-RTPS 8.7.3, 9.6.4.9; DDS 1.4, 2.2.2.5.1.3).
 use Rattle.std.specs.Prelude.{ℕ, ◌+◌, ◌*◌, ◌%◌, List, length, drop, slice_index, Option, Some, None, Result, Ok, Err, nat_lt, ◌==◌, if◌then◌else◌}
 use Rattle.rtps_types.specs.declared.identity.KeyHash.{KeyHash}
+use Rattle.rtps_wire.specs.declared.data.ChangeInfo.{ChangeInfo}
 use Rattle.rtps_wire.specs.declared.data.Form.{Form}
 use Rattle.rtps_wire.specs.declared.data.Form.TheVariants as form
 use Rattle.dds_topic.specs.declared.unread.Unread.{Unread as UnreadCode}
 use Rattle.dds_topic.specs.declared.unread.Unread.TheVariants.{Encapsulation, NonStandard, NoKey}
+use Rattle.dds_topic.specs.Decoding.{Decoding}
 use Rattle.rtps_reader.specs.declared.body.Body.{Body}
 use Rattle.rtps_reader.specs.declared.body.Body.TheVariants as body
-use Rattle.rtps_reader.specs.declared.content.Content.{Content}
-
--- what a change carries, without where its payload lies in memory
-pub record Carried : Type 0 where
-  pub form : Form
-  pub status : ℕ
-  pub hash : Option KeyHash
-  pub payload : List ℕ
-
-abbrev pub carried : Content → Carried
-carried c = record { form = c.form; status = c.status; hash = c.hash; payload = c.payload.now }
 
 -- a body whose value is what it means
 abbrev pub body_map : {V M : Type 0} → (V → M) → Body V → Body M
@@ -26,7 +17,7 @@ body_map f (body.Disposed h) = body.Disposed h
 body_map f (body.Unregistered h) = body.Unregistered h
 body_map f (body.Unread u) = body.Unread u
 
--- the kind of a payload's encapsulation, its first two octets, and what stands behind the four of it
+-- the kind of a payload's encapsulation, its first two octets, and what follows the four of it
 abbrev pub encapsulated : List ℕ → Result (ℕ × List ℕ) UnreadCode
 encapsulated payload = if nat_lt (length payload) 4 then Err Encapsulation else Ok (slice_index payload 0 * 256 + slice_index payload 1, drop 4 payload)
 
@@ -43,18 +34,18 @@ inline_key (Some h) = Ok h
 inline_key None = Err NoKey
 
 -- the value of a change without status bits: a value payload is decoded; a key, no payload or one in no standard form is unread
-abbrev pub value_for : {M : Type 0} → (ℕ → List ℕ → Result M UnreadCode) → Form → List ℕ → Result M UnreadCode
-value_for meaning form.Value payload = unpacked (encapsulated payload) meaning
-value_for meaning form.Key payload = Err NonStandard
-value_for meaning form.Other payload = Err NonStandard
-value_for meaning form.Nothing payload = Err NonStandard
+abbrev pub value_for : {M : Type 0} → Decoding M → Form → List ℕ → Result M UnreadCode
+value_for decoding form.Value payload = unpacked (encapsulated payload) decoding.meaning
+value_for decoding form.Key payload = Err NonStandard
+value_for decoding form.Other payload = Err NonStandard
+value_for decoding form.Nothing payload = Err NonStandard
 
 -- the key of a change with status bits: that of its value, else its key payload's, else, without payload, the hash that was sent with it
-abbrev pub key_for : {M : Type 0} → (ℕ → List ℕ → Result M UnreadCode) → (M → KeyHash) → (ℕ → List ℕ → Result KeyHash UnreadCode) → Form → Option KeyHash → List ℕ → Result KeyHash UnreadCode
-key_for meaning hash hash_of_key form.Value inline payload = unpacked (encapsulated payload) (λ kind b. hashed_by hash (meaning kind b))
-key_for meaning hash hash_of_key form.Key inline payload = unpacked (encapsulated payload) hash_of_key
-key_for meaning hash hash_of_key form.Other inline payload = Err NonStandard
-key_for meaning hash hash_of_key form.Nothing inline payload = inline_key inline
+abbrev pub key_for : {M : Type 0} → Decoding M → Option KeyHash → Form → List ℕ → Result KeyHash UnreadCode
+key_for decoding sent form.Value payload = unpacked (encapsulated payload) (λ kind b. hashed_by decoding.hash (decoding.meaning kind b))
+key_for decoding sent form.Key payload = unpacked (encapsulated payload) decoding.hash_of_key
+key_for decoding sent form.Other payload = Err NonStandard
+key_for decoding sent form.Nothing payload = inline_key sent
 
 abbrev pub valued : {M : Type 0} → (M → KeyHash) → Result M UnreadCode → Body M
 valued hash (Ok m) = body.Value (hash m) m
@@ -65,7 +56,8 @@ abbrev pub ended : {M : Type 0} → ℕ → Result KeyHash UnreadCode → Body M
 ended status (Ok h) = if status % 2 == 1 then body.Disposed h else body.Unregistered h
 ended status (Err u) = body.Unread u
 
--- the body, by the catalog's answers; only the bits 1 and 2 of the status count
-abbrev pub body_by : {M : Type 0} → (ℕ → List ℕ → Result M UnreadCode) → (M → KeyHash) → (ℕ → List ℕ → Result KeyHash UnreadCode) → Carried → Body M
-body_by meaning hash hash_of_key c =
-    if c.status % 4 == 0 then valued hash (value_for meaning c.form c.payload) else ended c.status (key_for meaning hash hash_of_key c.form c.hash c.payload)
+-- the body; only the bits 1 and 2 of the status count
+abbrev pub body_by : {M : Type 0} → Decoding M → ChangeInfo → List ℕ → Body M
+body_by decoding info payload =
+    if info.status % 4 == 0 then valued decoding.hash (value_for decoding info.form payload)
+    else ended info.status (key_for decoding info.hash info.form payload)

@@ -1,7 +1,7 @@
 pub mod Body
 pub mod Status
+pub mod Steps
 pub mod Reader
 pub mod Standing
 pub mod Notices
-pub mod Asked
 pub mod Listed

@@ -1,23 +1,21 @@
 -- Notices, by what their values mean.
-use Rattle.rtps_types.specs.Number.{value_of}
 use Rattle.rtps_types.specs.declared.place.Place.{Place}
 use Rattle.rtps_types.specs.declared.traffic.Reply.{Reply}
 use Rattle.rtps_proxy.specs.Replies.{Sent, reply_view}
-use Rattle.rtps_reader.specs.declared.notice.Notice as code
-use Rattle.rtps_reader.specs.declared.notice.Told as told
-use Rattle.rtps_reader.specs.declared.notice.Told.TheVariants as variants
+use Rattle.rtps_reader.specs.declared.notice.Notice.{Notice}
+use Rattle.rtps_reader.specs.declared.notice.NoticeKind.{NoticeKind}
+use Rattle.rtps_reader.specs.declared.notice.NoticeKind.TheVariants as kind
 use Rattle.rtps_reader.specs.Body.{body_map}
-use Rattle.rtps_reader.specs.Reader.{Notice, Told, Presents, Begins, Ends, Refuses, Loses}
 
-abbrev pub told_view : {V M : Type 0} → (V → M) → told.Told V → Told M
-told_view f (variants.Sample n t b) = Presents (value_of n) t (body_map f b)
-told_view f variants.Matched = Begins
-told_view f variants.Unmatched = Ends
-told_view f (variants.Incompatible p) = Refuses p
-told_view f (variants.Lost c) = Loses c
+abbrev pub kind_view : {V M : Type 0} → (V → M) → NoticeKind V → NoticeKind M
+kind_view f (kind.Sample number time body) = kind.Sample number time (body_map f body)
+kind_view f kind.Matched = kind.Matched
+kind_view f kind.Unmatched = kind.Unmatched
+kind_view f (kind.Incompatible policy) = kind.Incompatible policy
+kind_view f (kind.Lost count) = kind.Lost count
 
-abbrev pub notice_view : {V M : Type 0} → (V → M) → code.Notice V → Notice M
-notice_view f n = record { place = n.place; writer = n.writer; what = told_view f n.what }
+abbrev pub notice_view : {V M : Type 0} → (V → M) → Notice V → Notice M
+notice_view f n = record { place = n.place; writer = n.writer; what = kind_view f n.what }
 
 -- an answer, with the place of the event that it answers
 abbrev pub answer_view : {A : Type 0} → Place × Reply A → Place × Sent

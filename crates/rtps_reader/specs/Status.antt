@@ -1,6 +1,60 @@
--- Totals, as they are told.
-use Rattle.std.specs.Prelude.{ℕ, min}
+-- The status of a reader: its fixed matches and the notices that it gave out, counted (DDS 1.4, 2.2.4.1).
+use Rattle.std.specs.Prelude.{ℕ, ◌+◌, ◌-◌, Bool, true, false, List, [], ◌∷◌, ◌++◌, length, map, filter, sum, min, Option, Some, None}
+use Rattle.rtps_reader.specs.declared.notice.Notice.{Notice}
+use Rattle.rtps_reader.specs.declared.notice.NoticeKind.{NoticeKind}
+use Rattle.rtps_reader.specs.declared.notice.NoticeKind.TheVariants.{Sample, Matched, Unmatched, Incompatible, Lost}
+use Rattle.rtps_reader.specs.declared.status.Status.{Status}
 
 -- a total stops at 2,147,483,647
 abbrev pub capped : ℕ → ℕ
 capped n = min n 2147483647
+
+abbrev pub is_sample : {M : Type 0} → NoticeKind M → Bool
+is_sample (Sample number time body) = true
+is_sample kind = false
+
+abbrev pub is_beginning : {M : Type 0} → NoticeKind M → Bool
+is_beginning Matched = true
+is_beginning kind = false
+
+abbrev pub is_end : {M : Type 0} → NoticeKind M → Bool
+is_end Unmatched = true
+is_end kind = false
+
+-- how many numbers a notice says are lost
+abbrev pub lost_in : {M : Type 0} → NoticeKind M → ℕ
+lost_in (Lost count) = count
+lost_in kind = 0
+
+-- the policy for which a notice says that a writer is incompatible
+abbrev pub refused_in : {M : Type 0} → NoticeKind M → List ℕ
+refused_in (Incompatible policy) = policy ∷ []
+refused_in kind = []
+
+-- how many of these notices are of such a kind
+abbrev pub count_of : {M : Type 0} → (NoticeKind M → Bool) → List (Notice M) → ℕ
+count_of test given = length (filter (λ n. test n.what) given)
+
+abbrev pub lost_by : {M : Type 0} → List (Notice M) → ℕ
+lost_by given = sum (map (λ n. lost_in n.what) given)
+
+-- the policies of these notices, in order
+abbrev pub refused_by : {M : Type 0} → List (Notice M) → List ℕ
+refused_by [] = []
+refused_by (n ∷ given) = refused_in n.what ++ refused_by given
+
+abbrev pub last_of : List ℕ → Option ℕ
+last_of [] = None
+last_of (p ∷ []) = Some p
+last_of (p ∷ q ∷ ps) = last_of (q ∷ ps)
+
+-- the status of a reader with this many fixed matches, which gave out these notices
+abbrev pub status_of : {M : Type 0} → ℕ → List (Notice M) → Status
+status_of fixed given = record {
+  matched_total = capped (fixed + count_of is_beginning given);
+  matched_now = fixed + count_of is_beginning given - count_of is_end given;
+  incompatible_total = capped (length (refused_by given));
+  last_policy = last_of (refused_by given);
+  lost_total = capped (lost_by given);
+  samples = capped (count_of is_sample given);
+}

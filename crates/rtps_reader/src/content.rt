@@ -1,26 +1,14 @@
-//! What a change carries, and the body that it is presented as.
+//! The body that a change is presented as.
 
 ghost use Rattle.std.specs.Prelude.{◌≡◌, IfOk};
 ghost use Rattle.dds_topic.specs.Answer.{Gives};
-ghost use Rattle.rtps_reader.specs.Body.{body_by, body_map, carried, encapsulated, key_for, value_for};
+ghost use Rattle.rtps_reader.specs.Body.{body_by, body_map, encapsulated, key_for, value_for};
 
 use crate::body::Body;
-use dds_topic::{Catalog, CatalogError, NoMemory, Unread};
+use dds_topic::{Catalog, CatalogError, Decoder, Unread};
 use rtps_types::KeyHash;
-use rtps_wire::Form;
-use std::alloc::Global;
-
-/// What a change carries (DDSI-RTPS 8.7).
-#[derive(Clone, Copy, Debug)]
-pub struct Content<'a> {
-    pub form: Form,
-    /// The last octet of its status info, 0 where there is none.
-    pub status: u8,
-    /// The key hash that was sent with it.
-    pub hash: Option<KeyHash>,
-    /// Its encapsulation and what stands behind it.
-    pub payload: &'a [u8],
-}
+use rtps_wire::{ChangeInfo, Form};
+use std::alloc::AllocError;
 
 /// The octets of an encapsulation: kind and options, two each.
 const ENCAPSULATION: usize = 4;
@@ -33,40 +21,40 @@ const UNREGISTERED: u8 = 0x02;
 
 /// What a change is presented as.
 ///
-/// Without status bits it is the value that the catalog decodes. With them it tells the end of an
+/// Without status bits it is the value that the catalog decodes. With them it is the end of an
 /// instance, whose key comes from the value, else from the key payload, else, where there is no
 /// payload, from the key hash that was sent with the change. What the catalog can't read is
-/// presented as unread, with its reason. `memo` is what the catalog keeps of earlier values.
+/// presented as unread, with its reason.
 pub fn body_of<C: Catalog>(
-    alloc: Global,
-    catalog: &C,
-    memo: &mut C::Memo,
-    content: &Content<'_>,
-) -> Result<Body<C::Value>, NoMemory>
-    ensures { IfOk result (λ b. body_map C.view b ≡ body_by (C.meaning catalog.now) (C.hash catalog.now) (C.hash_of_key catalog.now) (carried content.now)) }
+    decoder: &mut Decoder<C>,
+    info: ChangeInfo,
+    payload: &[u8],
+) -> Result<Body<C::Value>, AllocError>
+    ensures body { IfOk result (λ b. body_map C.view b ≡ body_by (C.decoding decoder.old) info payload.now) }
+    ensures same { decoder.new ≡ decoder.old }
 {
-    if content.status & (DISPOSED | UNREGISTERED) == 0 {
-        return match value_of(alloc, catalog, content) {
+    if info.status & (DISPOSED | UNREGISTERED) == 0 {
+        return match value_of(decoder, info.form, payload) {
             Ok(value) => {
-                let hash = catalog.key_by(memo, alloc, &value)?;
+                let hash = decoder.key_of(&value)?;
                 Ok(Body::Value(hash, value))
             }
             Err(CatalogError::Unread(unread)) => Ok(Body::Unread(unread)),
-            Err(CatalogError::NoMemory) => Err(NoMemory),
+            Err(CatalogError::NoMemory) => Err(AllocError),
         };
     }
-    match key_of(alloc, catalog, content) {
-        Ok(hash) => Ok(if content.status & DISPOSED != 0 {
+    match key_of(decoder, info, payload) {
+        Ok(hash) => Ok(if info.status & DISPOSED != 0 {
             Body::Disposed(hash)
         } else {
             Body::Unregistered(hash)
         }),
         Err(CatalogError::Unread(unread)) => Ok(Body::Unread(unread)),
-        Err(CatalogError::NoMemory) => Err(NoMemory),
+        Err(CatalogError::NoMemory) => Err(AllocError),
     }
 }
 
-/// The kind of a payload's encapsulation, and the body behind it.
+/// The kind of a payload's encapsulation, and the body after it.
 fn unpack(payload: &[u8]) -> Result<(u16, &[u8]), CatalogError>
     ensures { Gives (λ p. (p.0, p.1.now)) result (encapsulated payload.now) }
 {
@@ -80,16 +68,16 @@ fn unpack(payload: &[u8]) -> Result<(u16, &[u8]), CatalogError>
 
 /// The value of a change without status bits.
 fn value_of<C: Catalog>(
-    alloc: Global,
-    catalog: &C,
-    content: &Content<'_>,
+    decoder: &Decoder<C>,
+    form: Form,
+    payload: &[u8],
 ) -> Result<C::Value, CatalogError>
-    ensures { Gives C.view result (value_for (C.meaning catalog.now) content.now.form content.now.payload.now) }
+    ensures { Gives C.view result (value_for (C.decoding decoder.now) form payload.now) }
 {
-    match content.form {
+    match form {
         Form::Value => {
-            let (kind, body) = unpack(content.payload)?;
-            catalog.decode(alloc, kind, body)
+            let (kind, body) = unpack(payload)?;
+            decoder.decode(kind, body)
         }
         Form::Key | Form::Other | Form::Nothing => Err(CatalogError::Unread(Unread::NonStandard)),
     }
@@ -97,24 +85,25 @@ fn value_of<C: Catalog>(
 
 /// The key of a change with status bits.
 fn key_of<C: Catalog>(
-    alloc: Global,
-    catalog: &C,
-    content: &Content<'_>,
+    decoder: &mut Decoder<C>,
+    info: ChangeInfo,
+    payload: &[u8],
 ) -> Result<KeyHash, CatalogError>
-    ensures { Gives (λ h. h) result (key_for (C.meaning catalog.now) (C.hash catalog.now) (C.hash_of_key catalog.now) content.now.form content.now.hash content.now.payload.now) }
+    ensures key { Gives (λ h. h) result (key_for (C.decoding decoder.old) info.hash info.form payload.now) }
+    ensures same { decoder.new ≡ decoder.old }
 {
-    match content.form {
+    match info.form {
         Form::Value => {
-            let (kind, body) = unpack(content.payload)?;
-            let value = catalog.decode(alloc, kind, body)?;
-            Ok(catalog.key_of(alloc, &value)?)
+            let (kind, body) = unpack(payload)?;
+            let value = decoder.decode(kind, body)?;
+            Ok(decoder.key_of(&value)?)
         }
         Form::Key => {
-            let (kind, body) = unpack(content.payload)?;
-            catalog.key_of_payload(alloc, kind, body)
+            let (kind, body) = unpack(payload)?;
+            decoder.key_of_payload(kind, body)
         }
         Form::Other => Err(CatalogError::Unread(Unread::NonStandard)),
-        Form::Nothing => match content.hash {
+        Form::Nothing => match info.hash {
             Some(hash) => Ok(hash),
             None => Err(CatalogError::Unread(Unread::NoKey)),
         },

@@ -12,8 +12,8 @@ mod step;
 mod tests;
 
 pub use body::Body;
-pub use content::{Content, body_of};
-pub use notice::{Notice, Output, Told};
+pub use content::body_of;
+pub use notice::{Notice, NoticeKind, Output};
 pub use state::{ReaderError, ReaderState};
 pub use status::Status;
-pub use step::{Asked, Step};
+pub use step::{Step, StepKind};

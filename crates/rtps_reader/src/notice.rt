@@ -1,22 +1,22 @@
-//! What a reader tells.
+//! What a reader gives out.
 
 use crate::body::Body;
 use rtps_types::{Guid, Number, Place, Reply, Timestamp};
 use std::alloc::{Allocator, Global};
 
-/// Something that a reader tells of a match, in the order in which it came about.
+/// What a reader reports of a match. The notices of a reader come in the order of their causes.
 #[derive(Debug, Drop)]
 pub struct Notice<V> {
-    /// The event that brought it about.
+    /// The event that caused it.
     pub place: Place,
     /// The writer of the match.
     pub writer: Guid,
-    pub what: Told<V>,
+    pub what: NoticeKind<V>,
 }
 
-/// What a notice tells.
+/// What a notice reports.
 #[derive(Debug, Drop)]
-pub enum Told<V> {
+pub enum NoticeKind<V> {
     /// A change, presented (DDS 1.4, 2.2.2.5).
     Sample {
         number: Number,

@@ -1,18 +1,46 @@
 //! What a reader is asked to do.
 
-use rtps_receiver::Event;
-use rtps_types::Place;
+ghost use Rattle.std.specs.Prelude.{◌≡◌};
+ghost use Rattle.rtps_receiver.specs.Events.{view};
+ghost use Rattle.rtps_reader.specs.Steps.{asked, asks_of};
+
+use rtps_receiver::{Body, Event};
+use rtps_types::{Guid, Place, Timestamp};
 
 /// One step of a reader, at a place of the run.
 #[derive(Clone, Copy, Debug)]
 pub struct Step<'a> {
     pub place: Place,
-    pub what: Asked<'a>,
+    pub what: StepKind<'a>,
 }
 
-/// What a step is about.
+/// What a step asks.
 #[derive(Clone, Copy, Debug)]
-pub enum Asked<'a> {
-    /// An event came that may be for the reader.
-    Event(Event<'a>),
+pub enum StepKind<'a> {
+    /// To take in what came from a writer.
+    Event {
+        writer: Guid,
+        time: Option<Timestamp>,
+        body: &'a Body<'a>,
+    },
+}
+
+impl<'a> Step<'a> {
+    /// The step of each reader that an event is for.
+    pub fn of_event(event: &'a Event<'a>) -> Step<'a>
+        ensures place { result.place ≡ event.now.place }
+        ensures what { asked result.what ≡ asks_of (view event.now) }
+    {
+        Step {
+            place: event.place,
+            what: StepKind::Event {
+                writer: Guid {
+                    prefix: event.source,
+                    entity: event.writer,
+                },
+                time: event.time,
+                body: &event.body,
+            },
+        }
+    }
 }

@@ -4,9 +4,9 @@ mod reliable;
 mod state;
 
 use crate::*;
-use dds_topic::{ColorKeys, Raw, Shapes, Unread};
+use dds_topic::{Decoder, Raw, Shapes, Unread};
 use rtps_types::KeyHash;
-use rtps_wire::Form;
+use rtps_wire::{ChangeInfo, Form};
 use std::alloc::Global;
 use std::test::Fail;
 
@@ -27,24 +27,14 @@ const BLUE_HASH: KeyHash = KeyHash([
 /// A hash that no value has.
 const SENT: KeyHash = KeyHash([7; 16]);
 
-fn content(form: Form, status: u8, hash: Option<KeyHash>, payload: &[u8]) -> Content<'_> {
-    Content {
-        form,
-        status,
-        hash,
-        payload,
-    }
+fn info(form: Form, status: u8, hash: Option<KeyHash>) -> ChangeInfo {
+    ChangeInfo { form, status, hash }
 }
 
 #[test]
 fn values(rt: HostRuntime) -> Result<(), Fail> {
-    let mut memo = ColorKeys::default();
-    match body_of(
-        rt.alloc(),
-        &Shapes,
-        &mut memo,
-        &content(Form::Value, 0, Some(SENT), &BLUE),
-    )? {
+    let mut shapes = Decoder::new(rt.alloc(), Shapes);
+    match body_of(&mut shapes, info(Form::Value, 0, Some(SENT)), &BLUE)? {
         Body::Value(hash, shape) => {
             assert_eq!(rt; hash, BLUE_HASH);
             assert_eq!(rt; shape.color.as_str(), "BLUE");
@@ -53,12 +43,8 @@ fn values(rt: HostRuntime) -> Result<(), Fail> {
         _ => assert!(rt; false, "no value"),
     }
     // Other bits of the status say nothing.
-    match body_of(
-        rt.alloc(),
-        &Raw,
-        &mut (),
-        &content(Form::Value, 0xfc, None, &BLUE),
-    )? {
+    let mut raw = Decoder::new(rt.alloc(), Raw);
+    match body_of(&mut raw, info(Form::Value, 0xfc, None), &BLUE)? {
         Body::Value(hash, raw) => {
             assert_eq!(rt; hash, KeyHash([0; 16]));
             assert_eq!(rt; raw.body.len(), 24);
@@ -70,7 +56,7 @@ fn values(rt: HostRuntime) -> Result<(), Fail> {
 
 #[test]
 fn ends_of_instances(rt: HostRuntime) -> Result<(), Fail> {
-    let mut memo = ColorKeys::default();
+    let mut shapes = Decoder::new(rt.alloc(), Shapes);
     // The key comes from the value, from the key payload, or from what was sent with the change.
     for (form, payload, hash) in [
         (Form::Value, BLUE.as_slice(), BLUE_HASH),
@@ -78,12 +64,7 @@ fn ends_of_instances(rt: HostRuntime) -> Result<(), Fail> {
         (Form::Nothing, [].as_slice(), SENT),
     ] {
         for (status, is_disposed) in [(1, true), (3, true), (2, false), (6, false)] {
-            match body_of(
-                rt.alloc(),
-                &Shapes,
-                &mut memo,
-                &content(form, status, Some(SENT), payload),
-            )? {
+            match body_of(&mut shapes, info(form, status, Some(SENT)), payload)? {
                 Body::Disposed(key) => {
                     assert!(rt; is_disposed);
                     assert_eq!(rt; key, hash);
@@ -100,8 +81,8 @@ fn ends_of_instances(rt: HostRuntime) -> Result<(), Fail> {
 }
 
 /// What can't be read, and why.
-fn reason(alloc: Global, content: Content<'_>) -> Result<Option<Unread>, Fail> {
-    match body_of(alloc, &Shapes, &mut ColorKeys::default(), &content)? {
+fn reason(alloc: Global, info: ChangeInfo, payload: &[u8]) -> Result<Option<Unread>, Fail> {
+    match body_of(&mut Decoder::new(alloc, Shapes), info, payload)? {
         Body::Unread(unread) => Ok(Some(unread)),
         _ => Ok(None),
     }
@@ -121,7 +102,7 @@ fn unread(rt: HostRuntime) -> Result<(), Fail> {
         (Form::Value, 0, &BLUE[..27], Unread::Malformed),
         (Form::Nothing, 1, [].as_slice(), Unread::NoKey),
     ] {
-        let found = reason(rt.alloc(), content(form, status, None, payload))?;
+        let found = reason(rt.alloc(), info(form, status, None), payload)?;
         assert_eq!(rt; found, Some(unread));
     }
     Ok(())

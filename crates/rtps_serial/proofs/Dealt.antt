@@ -2,9 +2,8 @@
 use Rattle.std.proofs.Common.{◌≡◌, ℕ, ◌<◌, ◌==◌, List, [], ◌∷◌, ◌++◌, length, map, get_or, Bool, true, false, if◌then◌else◌, refl, sym, ap, ◌∙◌, append-nil}
 use Rattle.std.proofs.lemmas.List.{map_push}
 use Rattle.std.specs.declared.vec.Vec.{Vec}
-use Rattle.rtps_reader.specs.declared.notice.Notice as code
+use Rattle.rtps_reader.specs.declared.notice.Notice.{Notice}
 use Rattle.rtps_reader.specs.Notices.{notice_view}
-use Rattle.rtps_reader.specs.Reader.{Notice}
 use Rattle.rtps_serial.specs.declared.outcome.Answer.{Answer}
 use Rattle.rtps_serial.specs.declared.outcome.Outcome.{Outcome}
 use Rattle.rtps_serial.specs.Outcome.{Adds, Deals, answer_view, notices_in}
@@ -25,15 +24,15 @@ answers_in-append [] ys = refl
 answers_in-append (Hears by n ∷ xs) ys = answers_in-append xs ys
 answers_in-append (Sends a ∷ xs) ys = ap (λ l. a ∷ l) (answers_in-append xs ys)
 
-seen_more : {V M A : Type 0} (f : V → M) (b : Bool) (old new : Vec (code.Notice V) A) (n : code.Notice V) (seen : List (Notice M)) → notices_in f old ≡ seen
+seen_more : {V M A : Type 0} (f : V → M) (b : Bool) (old new : Vec (Notice V) A) (n : Notice V) (seen : List (Notice M)) → notices_in f old ≡ seen
     → new.items ≡ (if b then old.items ++ n ∷ [] else old.items) → notices_in f new ≡ seen ++ (if b then notice_view f n ∷ [] else [])
 seen_more f true old new n seen e h = rw h (map_push (notice_view f) old.items n ∙ ap (λ l. l ++ notice_view f n ∷ []) e)
 seen_more f false old new n seen e h = rw h (e ∙ sym (append-nil seen))
 
 -- a notice more
-pub deal_notice : {V M A : Type 0} (f : V → M) (count : ℕ) (put : List (Put M)) (old new : Outcome V A) (rank : ℕ) (n : code.Notice V)
+pub deal_notice : {V M A : Type 0} (f : V → M) (count : ℕ) (put : List (Put M)) (old new : Outcome V A) (rank : ℕ) (n : Notice V)
     → Deals f count put old → length new.notices.items ≡ length old.notices.items → new.answers.items ≡ old.answers.items
-    → ((at : ℕ) (other : Vec (code.Notice V) A) → at < length old.notices.items → (get_or new.notices.items at other).items ≡ (if rank == at then (get_or old.notices.items at other).items ++ n ∷ [] else (get_or old.notices.items at other).items))
+    → ((at : ℕ) (other : Vec (Notice V) A) → at < length old.notices.items → (get_or new.notices.items at other).items ≡ (if rank == at then (get_or old.notices.items at other).items ++ n ∷ [] else (get_or old.notices.items at other).items))
     → Deals f count (put ++ Hears rank (notice_view f n) ∷ []) new
 deal_notice f count put old new rank n dealt same kept pushed = record {
   readers = same ∙ dealt.readers;

@@ -4,6 +4,9 @@ pub mod Ranks
 pub mod Reached
 pub mod Running
 pub mod Places
+pub mod Taken
 pub mod Shown
 pub mod Matched
 pub mod Presenting
+pub mod Stepped
+pub mod Taking

@@ -9,14 +9,15 @@ use Rattle.rtps_discovery.specs.declared.config.FixedMatch.{FixedMatch}
 use Rattle.rtps_discovery.specs.declared.config.ReaderConfig.{ReaderConfig}
 use Rattle.rtps_reader.specs.Reader.{Match, Reader, first_reader}
 use Rattle.rtps_reader.specs.Standing as reader
-use Rattle.rtps_reader.specs.Standing.{ReaderKept, SeatKept}
+use Rattle.rtps_reader.specs.Standing.{ReaderKept, MatchKept}
 use Rattle.rtps_reader.specs.Listed.{with_writers}
 use Rattle.rtps_types.specs.declared.identity.GuidPrefix.{GuidPrefix}
 use Rattle.rtps_serial.specs.Run.{Facts, entity_of, is_reliable, is_reliable_at, reader_first, whom_of}
 use Rattle.rtps_serial.specs.Seen.{matches_below}
 use Rattle.rtps_types.specs.declared.traffic.WriterFacts.{WriterFacts}
 use Rattle.rtps_proxy.specs.Kept.{Whom}
-use Rattle.rtps_serial.specs.Standing.{AllStand, StandsFor, facts_in}
+use Rattle.rtps_serial.specs.Standing.{AllStandBy, AllStart, StandsFor, facts_in}
+use Rattle.rtps_reader.specs.declared.notice.Notice.{Notice}
 
 -- one item more, where each item is as its place asks
 pub each_push : {X : Type 0} (P : ℕ → X → Type 0) (xs : List X) (x : X) (n : ℕ) → length xs ≡ n → ((k : ℕ) (other : X) → k < n → P k (get_or xs k other)) → P n x
@@ -28,32 +29,33 @@ each_push P xs x n e all one k other below =
     k below
 
 -- one state more
-pub all_stand_push : (readers : ℕ → Reader) (states : List ReaderKept) (s : ReaderKept) (n : ℕ) → length states ≡ n → AllStand readers states → StandsFor (readers n) n s → AllStand readers (states ++ s ∷ [])
-all_stand_push readers states s n e all one rank other below =
-    each_push (λ k t. StandsFor (readers k) k t) states s n e (λ k other less. all k other (omega (arith, less, e))) one rank other (omega (arith, below, length-append states (s ∷ []), e))
+pub all_stand_push : {M : Type 0} (readers : ℕ → Reader) (given : ℕ → List (Notice M)) (states : List ReaderKept) (s : ReaderKept) (n : ℕ) → length states ≡ n
+    → AllStandBy readers given states → StandsFor (readers n) (given n) n s → AllStandBy readers given (states ++ s ∷ [])
+all_stand_push readers given states s n e all one rank other below =
+    each_push (λ k t. StandsFor (readers k) (given k) k t) states s n e (λ k other less. all k other (omega (arith, less, e))) one rank other (omega (arith, below, length-append states (s ∷ []), e))
 
 -- a count that is at the end of a loop, and what is below it
 pub is_end : (at n : ℕ) → at ≤ n → n ≤ at → at ≡ n
 is_end at n within past = omega arith
 
-pub below_end : (rank at n m : ℕ) → n ≡ m → m ≤ at → rank < n → rank < at
-below_end rank at n m same past below = omega arith
+pub fewer_than : (at n m : ℕ) → n ≡ m → m ≤ at → n ≤ at
+fewer_than at n m same past = omega arith
 
 pub still_below : (at n m : ℕ) → n ≡ m → at < m → at < n
 still_below at n m same below = omega arith
 
--- one part more is put behind what was there
+-- one part more is put after what was there
 pub put_more : {P : Type 0} (old reports new before one all : List P) → new ≡ reports ++ one → reports ≡ old ++ before → before ++ one ≡ all → new ≡ old ++ all
 put_more old reports new before one all put first rest = put ∙ ap (λ l. l ++ one) first ∙ append_assoc old before one ∙ ap (λ l. old ++ l) rest
 
--- the states below a place stand, and so does the one that is put there
-pub done_more : (readers : ℕ → Reader) (states : List ReaderKept) (at : ℕ) (s : ReaderKept) → at < length states
-    → ((rank : ℕ) (other : ReaderKept) → rank < at → StandsFor (readers rank) rank (get_or states rank other)) → StandsFor (readers at) at s
-    → (rank : ℕ) (other : ReaderKept) → rank < at + 1 → StandsFor (readers rank) rank (get_or (set states at s) rank other)
-done_more readers states at s fits done one rank other below =
-    below_more (λ k. StandsFor (readers k) k (get_or (set states at s) k other)) at
-    (λ k less. subst (StandsFor (readers k) k) (sym (get_or-set_other states at k s other (λ e. omega (arith, less, e)))) (done k other less))
-    (subst (StandsFor (readers at) at) (sym (get_or-set_same states at s other fits)) one)
+-- the states below a place are done, and so is the one that is put there
+pub done_more : {M : Type 0} (readers : ℕ → Reader) (given : ℕ → List (Notice M)) (states : List ReaderKept) (at : ℕ) (s : ReaderKept) → at < length states
+    → ((rank : ℕ) (other : ReaderKept) → rank < at → StandsFor (readers rank) (given rank) rank (get_or states rank other)) → StandsFor (readers at) (given at) at s
+    → (rank : ℕ) (other : ReaderKept) → rank < at + 1 → StandsFor (readers rank) (given rank) rank (get_or (set states at s) rank other)
+done_more readers given states at s fits done one rank other below =
+    below_more (λ k. StandsFor (readers k) (given k) k (get_or (set states at s) k other)) at
+    (λ k less. subst (StandsFor (readers k) (given k) k) (sym (get_or-set_other states at k s other (λ e. omega (arith, less, e)))) (done k other less))
+    (subst (StandsFor (readers at) (given at) at) (sym (get_or-set_same states at s other fits)) one)
     rank below
 
 -- the states above it are as they were
@@ -63,11 +65,11 @@ pub left_more : (old states : List ReaderKept) (at : ℕ) (s : ReaderKept)
 left_more old states at s left rank other above = get_or-set_other states at rank s other (λ e. omega (arith, above, e)) ∙ left rank other (omega (arith, above))
 
 -- matches and what is kept of them have the same writers
-pub same_writers : (ms : List Match) (ss : List SeatKept) → reader.AllStand ms ss → map (λ (s : SeatKept). s.writer) ss ≡ map (λ (m : Match). m.whom.writer) ms
+pub same_writers : (ms : List Match) (ss : List MatchKept) → reader.AllStand ms ss → map (λ (s : MatchKept). s.writer) ss ≡ map (λ (m : Match). m.whom.writer) ms
 same_writers [] [] all = refl
 same_writers [] (s ∷ ss) all = absurd all
 same_writers (m ∷ ms) [] all = absurd all
-same_writers (m ∷ ms) (s ∷ ss) all = ap (λ (w : Guid). w ∷ map (λ (s : SeatKept). s.writer) ss) (sym all.0.writer) ∙ ap (λ (l : List Guid). m.whom.writer ∷ l) (same_writers ms ss all.1)
+same_writers (m ∷ ms) (s ∷ ss) all = ap (λ (w : Guid). w ∷ map (λ (s : MatchKept). s.writer) ss) (sym all.0.writer) ∙ ap (λ (l : List Guid). m.whom.writer ∷ l) (same_writers ms ss all.1)
 
 -- between whom matches stand, by their facts
 pub whoms_in : {A : Type 0} (own : GuidPrefix) (entity : EntityId) (b : Bool) (facts : List (WriterFacts A)) → map (whom_of own entity b) (map facts_in facts) ≡ map (reader.whom_for own entity b) facts
@@ -86,25 +88,25 @@ fixed_more false m left facts old new same pushed = ap (λ l. map facts_in l ++ 
 -- one reader more at the start
 pub first_more : (own : GuidPrefix) (readers : List ReaderConfig) (matched : ℕ → List Facts) (states : List ReaderKept) (s : ReaderKept) (n : ℕ) (config : ReaderConfig) (facts : List Facts)
     → length states ≡ n → n < length readers → config ≡ get_or readers n config → facts ≡ matched n
-    → reader.StandsAt (first_reader config.entity (map (whom_of own config.entity (is_reliable config.requested.policies.reliability)) facts)) s → s.rank ≡ n
-    → AllStand (λ rank. reader_first own readers rank (matched rank)) states → AllStand (λ rank. reader_first own readers rank (matched rank)) (states ++ s ∷ [])
+    → reader.StartsAt (first_reader config.entity (map (whom_of own config.entity (is_reliable config.requested.policies.reliability)) facts)) s → s.rank ≡ n
+    → AllStart (λ rank. reader_first own readers rank (matched rank)) states → AllStart (λ rank. reader_first own readers rank (matched rank)) (states ++ s ∷ [])
 first_more own readers matched states s n config facts e below is same stands ranked all =
     let entity : config.entity ≡ entity_of readers n = ap (λ (c : ReaderConfig). c.entity) is ∙ sym (get_or-map (λ (c : ReaderConfig). c.entity) readers n config unknown_entity below) in
     let asking : is_reliable config.requested.policies.reliability ≡ is_reliable_at readers n = ap (λ (c : ReaderConfig). is_reliable c.requested.policies.reliability) is ∙ sym (get_or-map (λ (c : ReaderConfig). is_reliable c.requested.policies.reliability) readers n config false below) in
-    all_stand_push _ states s n e all
+    all_stand_push _ _ states s n e all
     (record {
-      stands = subst (λ (fs : List Facts). reader.StandsAt (reader_first own readers n fs) s) same
-          (subst (λ (b : Bool). reader.StandsAt (first_reader (entity_of readers n) (map (whom_of own (entity_of readers n) b) facts)) s) asking
-          (subst (λ (k : EntityId). reader.StandsAt (first_reader k (map (whom_of own k (is_reliable config.requested.policies.reliability)) facts)) s) entity stands));
+      stands = subst (λ (fs : List Facts). reader.StartsAt (reader_first own readers n fs) s) same
+          (subst (λ (b : Bool). reader.StartsAt (first_reader (entity_of readers n) (map (whom_of own (entity_of readers n) b) facts)) s) asking
+          (subst (λ (k : EntityId). reader.StartsAt (first_reader k (map (whom_of own k (is_reliable config.requested.policies.reliability)) facts)) s) entity stands));
       ranked = ranked;
     })
 
 -- the matches of one rank more
-pub matches_more : (readers : ℕ → Reader) (n : ℕ) (state : ReaderKept) (listed : List (ℕ × Guid)) → listed ≡ matches_below readers n → StandsFor (readers n) n state
-    → with_writers listed state.rank (map (λ (s : SeatKept). s.writer) state.seats) ≡ matches_below readers (n + 1)
-matches_more readers n state listed e one =
+pub matches_more : {M : Type 0} (readers : ℕ → Reader) (given : List (Notice M)) (n : ℕ) (state : ReaderKept) (listed : List (ℕ × Guid)) → listed ≡ matches_below readers n → StandsFor (readers n) given n state
+    → with_writers listed state.rank (map (λ (s : MatchKept). s.writer) state.matches) ≡ matches_below readers (n + 1)
+matches_more readers given n state listed e one =
     let next : n + 1 ≡ suc n = omega arith in
-    ap (λ l. with_writers l state.rank (map (λ (s : SeatKept). s.writer) state.seats)) e
-    ∙ ap (λ k. with_writers (matches_below readers n) k (map (λ (s : SeatKept). s.writer) state.seats)) one.ranked
-    ∙ ap (with_writers (matches_below readers n) n) (same_writers (readers n).matches state.seats one.stands.matches)
+    ap (λ l. with_writers l state.rank (map (λ (s : MatchKept). s.writer) state.matches)) e
+    ∙ ap (λ k. with_writers (matches_below readers n) k (map (λ (s : MatchKept). s.writer) state.matches)) one.ranked
+    ∙ ap (with_writers (matches_below readers n) n) (same_writers (readers n).matches state.matches one.stands.matches)
     ∙ sym (ap (matches_below readers) next)

@@ -5,22 +5,22 @@ use Rattle.std.proofs.lemmas.List.{take_more}
 use Rattle.rtps_types.specs.declared.identity.GuidPrefix.{GuidPrefix}
 use Rattle.rtps_receiver.specs.Events.{Happening, events_of}
 use Rattle.rtps_discovery.specs.declared.config.Config.{Config}
-use Rattle.rtps_reader.specs.Reader.{Answers}
+use Rattle.dds_topic.specs.Decoding.{Decoding}
 use Rattle.rtps_serial.specs.World.{World, world_after}
 use Rattle.rtps_serial.specs.Run.{events_from, first_world, run, world_run}
 
-world_run-append : {M : Type 0} (answers : Answers M) (w : World M) (xs ys : List Happening) → world_run answers w (xs ++ ys) ≡ world_run answers (world_run answers w xs) ys
-world_run-append answers w [] ys = refl
-world_run-append answers w (x ∷ xs) ys = world_run-append answers (world_after answers w x) xs ys
+world_run-append : {M : Type 0} (decoding : Decoding M) (w : World M) (xs ys : List Happening) → world_run decoding w (xs ++ ys) ≡ world_run decoding (world_run decoding w xs) ys
+world_run-append decoding w [] ys = refl
+world_run-append decoding w (x ∷ xs) ys = world_run-append decoding (world_after decoding w x) xs ys
 
 -- one event more
-pub world_run_more : {M : Type 0} (answers : Answers M) (w : World M) (es : List Happening) (i : ℕ) (d : Happening) → i < length es
-    → world_run answers w (take (i + 1) es) ≡ world_after answers (world_run answers w (take i es)) (get_or es i d)
-world_run_more answers w es i d h = ap (world_run answers w) (take_more es i d h) ∙ world_run-append answers w (take i es) (get_or es i d ∷ [])
+pub world_run_more : {M : Type 0} (decoding : Decoding M) (w : World M) (es : List Happening) (i : ℕ) (d : Happening) → i < length es
+    → world_run decoding w (take (i + 1) es) ≡ world_after decoding (world_run decoding w (take i es)) (get_or es i d)
+world_run_more decoding w es i d h = ap (world_run decoding w) (take_more es i d h) ∙ world_run-append decoding w (take i es) (get_or es i d ∷ [])
 
-pub count_stays : {M : Type 0} (answers : Answers M) (w : World M) (es : List Happening) → (world_run answers w es).count ≡ w.count
-count_stays answers w [] = refl
-count_stays answers w (e ∷ es) = count_stays answers (world_after answers w e) es
+pub count_stays : {M : Type 0} (decoding : Decoding M) (w : World M) (es : List Happening) → (world_run decoding w es).count ≡ w.count
+count_stays decoding w [] = refl
+count_stays decoding w (e ∷ es) = count_stays decoding (world_after decoding w e) es
 
 events_from-append : (own : GuidPrefix) (n : ℕ) (xs : List (List ℕ)) (y : List ℕ) → events_from own n (xs ++ y ∷ []) ≡ events_from own n xs ++ events_of own (n + length xs) y
 events_from-append own n [] y = let same : n ≡ n + 0 = omega arith in append-nil (events_of own n y) ∙ ap (λ k. events_of own k y) same
@@ -30,17 +30,17 @@ events_from-append own n (x ∷ xs) y =
     ∙ sym (append_assoc (events_of own n x) (events_from own (n + 1) xs) (events_of own (n + length (x ∷ xs)) y))
 
 -- one datagram more
-pub run_more : {M : Type 0} (answers : Answers M) (config : Config) (datagrams : List (List ℕ)) (octets : List ℕ) (index : ℕ) → index ≡ length datagrams
-    → run answers config (datagrams ++ octets ∷ []) ≡ world_run answers (run answers config datagrams) (events_of config.own index octets)
-run_more answers config datagrams octets index e =
+pub run_more : {M : Type 0} (decoding : Decoding M) (config : Config) (datagrams : List (List ℕ)) (octets : List ℕ) (index : ℕ) → index ≡ length datagrams
+    → run decoding config (datagrams ++ octets ∷ []) ≡ world_run decoding (run decoding config datagrams) (events_of config.own index octets)
+run_more decoding config datagrams octets index e =
     let same : 0 + length datagrams ≡ index = omega (arith, e) in
-    ap (world_run answers (first_world config)) (events_from-append config.own 0 datagrams octets)
-    ∙ world_run-append answers (first_world config) (events_from config.own 0 datagrams) (events_of config.own (0 + length datagrams) octets)
-    ∙ ap (λ n. world_run answers (run answers config datagrams) (events_of config.own n octets)) same
+    ap (world_run decoding (first_world config)) (events_from-append config.own 0 datagrams octets)
+    ∙ world_run-append decoding (first_world config) (events_from config.own 0 datagrams) (events_of config.own (0 + length datagrams) octets)
+    ∙ ap (λ n. world_run decoding (run decoding config datagrams) (events_of config.own n octets)) same
 
 -- a run has the readers of its configuration
-pub run_count : {M : Type 0} (answers : Answers M) (config : Config) (datagrams : List (List ℕ)) → (run answers config datagrams).count ≡ length config.readers.items
-run_count answers config datagrams = count_stays answers (first_world config) (events_from config.own 0 datagrams)
+pub run_count : {M : Type 0} (decoding : Decoding M) (config : Config) (datagrams : List (List ℕ)) → (run decoding config datagrams).count ≡ length config.readers.items
+run_count decoding config datagrams = count_stays decoding (first_world config) (events_from config.own 0 datagrams)
 
 -- a front is what was put in front
 pub front_back : {X : Type 0} (n : ℕ) (xs zs : List X) → length xs ≡ n → take n (xs ++ zs) ≡ xs

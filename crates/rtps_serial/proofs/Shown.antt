@@ -10,50 +10,51 @@ use Rattle.rtps_proxy.specs.History.{Came, Sample}
 use Rattle.rtps_proxy.specs.Presentation.{Brings, IsGivenUp, IsPresented, RisesStrictly, presented}
 use Rattle.rtps_proxy.specs.Received.{ready}
 use Rattle.rtps_proxy.proofs.Presenting.{presented_rises, ready_brought, ready_passes_over}
-use Rattle.rtps_reader.specs.Reader.{Answers, came_of, carried_by}
-use Rattle.rtps_serial.specs.Presentation.{ArePresented, IsBrought, PassesOverOnly, Shown, came_by, not_after}
+use Rattle.dds_topic.specs.Decoding.{Decoding}
+use Rattle.rtps_reader.specs.Body.{body_by}
+use Rattle.rtps_serial.specs.Presentation.{ArePresented, IsBrought, PassesOverOnly, Shown, came_by, came_of, not_after}
 use Rattle.rtps_serial.proofs.Places.{PlacesFall, all_append, all_both, all_map, all_of_map, all_weaker}
 
--- a sample, as a reader tells it at a place
-abbrev pub shown : {M : Type 0} → Answers M → Place → Sample → Shown M
-shown answers place s = record { place = place; number = s.number; time = s.time; body = answers (carried_by s) }
+-- a sample, as a reader presents it at a place
+abbrev pub shown : {M : Type 0} → Decoding M → Place → Sample → Shown M
+shown decoding place s = record { place = place; number = s.number; time = s.time; body = body_by decoding s.info s.payload }
 
 -- the samples that these submessages of a match give, the newest submessage first
-abbrev pub shown_behind : {M : Type 0} → Answers M → List Happening → List (Shown M)
-shown_behind answers [] = []
-shown_behind answers (e ∷ es) = shown_behind answers es ++ map (shown answers e.place) (ready (map came_of es) (came_of e))
+abbrev pub shown_after : {M : Type 0} → Decoding M → List Happening → List (Shown M)
+shown_after decoding [] = []
+shown_after decoding (e ∷ es) = shown_after decoding es ++ map (shown decoding e.place) (ready (map came_of es) (came_of e))
 
-same_numbers : {M : Type 0} (answers : Answers M) (place : Place) (ss : List Sample) → map (λ (s : Shown M). s.number) (map (shown answers place) ss) ≡ map (λ (s : Sample). s.number) ss
-same_numbers answers place [] = refl
-same_numbers answers place (s ∷ ss) = ap (λ (l : List ℕ). s.number ∷ l) (same_numbers answers place ss)
+same_numbers : {M : Type 0} (decoding : Decoding M) (place : Place) (ss : List Sample) → map (λ (s : Shown M). s.number) (map (shown decoding place) ss) ≡ map (λ (s : Sample). s.number) ss
+same_numbers decoding place [] = refl
+same_numbers decoding place (s ∷ ss) = ap (λ (l : List ℕ). s.number ∷ l) (same_numbers decoding place ss)
 
-numbers_are : {M : Type 0} (answers : Answers M) (es : List Happening) → map (λ (s : Shown M). s.number) (shown_behind answers es) ≡ map (λ (s : Sample). s.number) (presented (map came_of es))
-numbers_are answers [] = refl
-numbers_are {M} answers (e ∷ es) =
-    map-append (λ (s : Shown M). s.number) (shown_behind answers es) (map (shown answers e.place) (ready (map came_of es) (came_of e)))
-    ∙ ap (λ (l : List ℕ). l ++ map (λ (s : Shown M). s.number) (map (shown answers e.place) (ready (map came_of es) (came_of e)))) (numbers_are answers es)
-    ∙ ap (λ (l : List ℕ). map (λ (s : Sample). s.number) (presented (map came_of es)) ++ l) (same_numbers answers e.place (ready (map came_of es) (came_of e)))
+numbers_are : {M : Type 0} (decoding : Decoding M) (es : List Happening) → map (λ (s : Shown M). s.number) (shown_after decoding es) ≡ map (λ (s : Sample). s.number) (presented (map came_of es))
+numbers_are decoding [] = refl
+numbers_are {M} decoding (e ∷ es) =
+    map-append (λ (s : Shown M). s.number) (shown_after decoding es) (map (shown decoding e.place) (ready (map came_of es) (came_of e)))
+    ∙ ap (λ (l : List ℕ). l ++ map (λ (s : Shown M). s.number) (map (shown decoding e.place) (ready (map came_of es) (came_of e)))) (numbers_are decoding es)
+    ∙ ap (λ (l : List ℕ). map (λ (s : Sample). s.number) (presented (map came_of es)) ++ l) (same_numbers decoding e.place (ready (map came_of es) (came_of e)))
     ∙ sym (map-append (λ (s : Sample). s.number) (presented (map came_of es)) (ready (map came_of es) (came_of e)))
 
-any_same : {M : Type 0} (answers : Answers M) (place : Place) (k : ℕ) (ss : List Sample) → list_any (λ (s : Shown M). eqb s.number k) (map (shown answers place) ss) ≡ list_any (λ (s : Sample). eqb s.number k) ss
-any_same answers place k [] = refl
-any_same answers place k (s ∷ ss) = ap (λ b. eqb s.number k || b) (any_same answers place k ss)
+any_same : {M : Type 0} (decoding : Decoding M) (place : Place) (k : ℕ) (ss : List Sample) → list_any (λ (s : Shown M). eqb s.number k) (map (shown decoding place) ss) ≡ list_any (λ (s : Sample). eqb s.number k) ss
+any_same decoding place k [] = refl
+any_same decoding place k (s ∷ ss) = ap (λ b. eqb s.number k || b) (any_same decoding place k ss)
 
-any_shown : {M : Type 0} (answers : Answers M) (k : ℕ) (es : List Happening) → list_any (λ (s : Shown M). eqb s.number k) (shown_behind answers es) ≡ list_any (λ (s : Sample). eqb s.number k) (presented (map came_of es))
-any_shown answers k [] = refl
-any_shown {M} answers k (e ∷ es) =
-    list_any-append (λ (s : Shown M). eqb s.number k) (shown_behind answers es) (map (shown answers e.place) (ready (map came_of es) (came_of e)))
-    ∙ ap (λ b. b || list_any (λ (s : Shown M). eqb s.number k) (map (shown answers e.place) (ready (map came_of es) (came_of e)))) (any_shown answers k es)
-    ∙ ap (λ b. list_any (λ (s : Sample). eqb s.number k) (presented (map came_of es)) || b) (any_same answers e.place k (ready (map came_of es) (came_of e)))
+any_shown : {M : Type 0} (decoding : Decoding M) (k : ℕ) (es : List Happening) → list_any (λ (s : Shown M). eqb s.number k) (shown_after decoding es) ≡ list_any (λ (s : Sample). eqb s.number k) (presented (map came_of es))
+any_shown decoding k [] = refl
+any_shown {M} decoding k (e ∷ es) =
+    list_any-append (λ (s : Shown M). eqb s.number k) (shown_after decoding es) (map (shown decoding e.place) (ready (map came_of es) (came_of e)))
+    ∙ ap (λ b. b || list_any (λ (s : Shown M). eqb s.number k) (map (shown decoding e.place) (ready (map came_of es) (came_of e)))) (any_shown decoding k es)
+    ∙ ap (λ b. list_any (λ (s : Sample). eqb s.number k) (presented (map came_of es)) || b) (any_same decoding e.place k (ready (map came_of es) (came_of e)))
     ∙ sym (list_any-append (λ (s : Sample). eqb s.number k) (presented (map came_of es)) (ready (map came_of es) (came_of e)))
 
--- a sample stands where a submessage stands
-all_placed : {M : Type 0} (answers : Answers M) (P : Place → Type 0) (es : List Happening) → AllByRecursion (λ e. P e.place) es → AllByRecursion (λ s. P s.place) (shown_behind answers es)
-all_placed answers P [] h = tt
-all_placed {M} answers P (e ∷ es) h =
-    all_append (λ (s : Shown M). P s.place) (shown_behind answers es) (map (shown answers e.place) (ready (map came_of es) (came_of e))) (all_placed answers P es h.1) (at_one (ready (map came_of es) (came_of e)))
+-- a sample is at the place of a submessage
+all_placed : {M : Type 0} (decoding : Decoding M) (P : Place → Type 0) (es : List Happening) → AllByRecursion (λ e. P e.place) es → AllByRecursion (λ s. P s.place) (shown_after decoding es)
+all_placed decoding P [] h = tt
+all_placed {M} decoding P (e ∷ es) h =
+    all_append (λ (s : Shown M). P s.place) (shown_after decoding es) (map (shown decoding e.place) (ready (map came_of es) (came_of e))) (all_placed decoding P es h.1) (at_one (ready (map came_of es) (came_of e)))
   where
-    at_one : (ss : List Sample) → AllByRecursion (λ (s : Shown M). P s.place) (map (shown answers e.place) ss)
+    at_one : (ss : List Sample) → AllByRecursion (λ (s : Shown M). P s.place) (map (shown decoding e.place) ss)
     at_one [] = tt
     at_one (s ∷ ss) = (h.0, at_one ss)
 
@@ -66,7 +67,7 @@ same_place a = grind (arith, nat_tests)
 earlier : (a b c : Place) → not_after a b ≡ false → not_after a c ≡ true → not_after b c ≡ true
 earlier a b c h k = grind (arith, nat_tests)
 
--- a submessage behind a place didn't come by then
+-- a submessage after a place didn't come by then
 came_later : (place : Place) (e : Happening) (es : List Happening) → not_after e.place place ≡ false → came_by place (e ∷ es) ≡ came_by place es
 came_later place e es h = rw h refl
 
@@ -84,32 +85,32 @@ came_upto place e es h falls =
     ∙ ap (λ (l : List Came). came_of e ∷ l) (came_all place es (all_weaker (λ d. not_after e.place d.place ≡ false) (λ d. not_after d.place place ≡ true) es (λ d l. earlier e.place d.place place l h) falls))
 
 -- what holds of each sample at its event holds of it in the end, given what came by its place
-by_place : {M : Type 0} (answers : Answers M) (G : List Came → Shown M → Type 0)
-    → ((past : List Came) (e : Happening) → AllByRecursion (λ s. G (came_of e ∷ past) (shown answers e.place s)) (ready past (came_of e)))
-    → (es : List Happening) → PlacesFall es → AllByRecursion (λ s. G (came_by s.place es) s) (shown_behind answers es)
-by_place answers G each [] falls = tt
-by_place answers G each (e ∷ es) falls =
-    all_append (λ s. G (came_by s.place (e ∷ es)) s) (shown_behind answers es) (map (shown answers e.place) (ready (map came_of es) (came_of e)))
-    (all_both (λ s. not_after e.place s.place ≡ false) (λ s. G (came_by s.place es) s) (λ s. G (came_by s.place (e ∷ es)) s) (shown_behind answers es)
+by_place : {M : Type 0} (decoding : Decoding M) (G : List Came → Shown M → Type 0)
+    → ((past : List Came) (e : Happening) → AllByRecursion (λ s. G (came_of e ∷ past) (shown decoding e.place s)) (ready past (came_of e)))
+    → (es : List Happening) → PlacesFall es → AllByRecursion (λ s. G (came_by s.place es) s) (shown_after decoding es)
+by_place decoding G each [] falls = tt
+by_place decoding G each (e ∷ es) falls =
+    all_append (λ s. G (came_by s.place (e ∷ es)) s) (shown_after decoding es) (map (shown decoding e.place) (ready (map came_of es) (came_of e)))
+    (all_both (λ s. not_after e.place s.place ≡ false) (λ s. G (came_by s.place es) s) (λ s. G (came_by s.place (e ∷ es)) s) (shown_after decoding es)
     (λ s later h. subst (λ l. G l s) (sym (came_later s.place e es later)) h)
-    (all_placed answers (λ place. not_after e.place place ≡ false) es falls.0) (by_place answers G each es falls.1))
-    (all_map (λ s. G (came_by s.place (e ∷ es)) s) (shown answers e.place) (ready (map came_of es) (came_of e))
-    (all_weaker (λ s. G (came_of e ∷ map came_of es) (shown answers e.place s)) (λ s. G (came_by e.place (e ∷ es)) (shown answers e.place s)) (ready (map came_of es) (came_of e))
-    (λ s h. subst (λ l. G l (shown answers e.place s)) (sym (came_upto e.place e es (same_place e.place) falls.0)) h)
+    (all_placed decoding (λ place. not_after e.place place ≡ false) es falls.0) (by_place decoding G each es falls.1))
+    (all_map (λ s. G (came_by s.place (e ∷ es)) s) (shown decoding e.place) (ready (map came_of es) (came_of e))
+    (all_weaker (λ s. G (came_of e ∷ map came_of es) (shown decoding e.place s)) (λ s. G (came_by e.place (e ∷ es)) (shown decoding e.place s)) (ready (map came_of es) (came_of e))
+    (λ s h. subst (λ l. G l (shown decoding e.place s)) (sym (came_upto e.place e es (same_place e.place) falls.0)) h)
     (each (map came_of es) e)))
 
-brought : {M : Type 0} (answers : Answers M) (es : List Happening) → PlacesFall es → AllByRecursion (λ s. IsBrought answers (came_by s.place es) s) (shown_behind answers es)
-brought answers = by_place answers (IsBrought answers) each
+brought : {M : Type 0} (decoding : Decoding M) (es : List Happening) → PlacesFall es → AllByRecursion (λ s. IsBrought decoding (came_by s.place es) s) (shown_after decoding es)
+brought decoding = by_place decoding (IsBrought decoding) each
   where
-    each : (past : List Came) (e : Happening) → AllByRecursion (λ s. IsBrought answers (came_of e ∷ past) (shown answers e.place s)) (ready past (came_of e))
-    each past e = all_weaker (Brings (came_of e ∷ past)) (λ s. IsBrought answers (came_of e ∷ past) (shown answers e.place s)) (ready past (came_of e)) (λ s h. record { change = s; came = h; number = refl; time = refl; body = refl }) (ready_brought past (came_of e))
+    each : (past : List Came) (e : Happening) → AllByRecursion (λ s. IsBrought decoding (came_of e ∷ past) (shown decoding e.place s)) (ready past (came_of e))
+    each past e = all_weaker (Brings (came_of e ∷ past)) (λ s. IsBrought decoding (came_of e ∷ past) (shown decoding e.place s)) (ready past (came_of e)) (λ s h. record { change = s; came = h; number = refl; time = refl; body = refl }) (ready_brought past (came_of e))
 
 -- each lesser number was given up or presented
 abbrev Passes : List Came → ℕ → Type 0
 Passes past n = (k : ℕ) → 1 ≤ k → k < n → IsGivenUp past k ⊎ IsPresented past k
 
-passes : {M : Type 0} (answers : Answers M) (es : List Happening) → PlacesFall es → AllByRecursion (λ (s : Shown M). Passes (came_by s.place es) s.number) (shown_behind answers es)
-passes {M} answers = by_place answers (λ past (s : Shown M). Passes past s.number) (λ past e. ready_passes_over past (came_of e))
+passes : {M : Type 0} (decoding : Decoding M) (es : List Happening) → PlacesFall es → AllByRecursion (λ (s : Shown M). Passes (came_by s.place es) s.number) (shown_after decoding es)
+passes {M} decoding = by_place decoding (λ past (s : Shown M). Passes past s.number) (λ past e. ready_passes_over past (came_of e))
 
 or_left : (a b : Bool) → a ≡ true → (a || b) ≡ true
 or_left true b h = refl
@@ -177,19 +178,19 @@ all_from_zero : {M : Type 0} (ss : List (Shown M)) → AllByRecursion (λ s. 0 �
 all_from_zero [] = tt
 all_from_zero (s ∷ ss) = (omega arith, all_from_zero ss)
 
--- the samples that the submessages of a match give, where these stand in order
-pub are_presented : {M : Type 0} (answers : Answers M) (es : List Happening) → PlacesFall es → ArePresented answers es (shown_behind answers es)
-are_presented {M} answers es falls = record {
+-- the samples that the submessages of a match give, where these are in order
+pub are_presented : {M : Type 0} (decoding : Decoding M) (es : List Happening) → PlacesFall es → ArePresented decoding es (shown_after decoding es)
+are_presented {M} decoding es falls = record {
   rising = rising;
-  received = brought answers es falls;
-  passed_over = neighbours es 0 (shown_behind answers es) (all_from_zero (shown_behind answers es)) rising (all_weaker (λ (s : Shown M). Passes (came_by s.place es) s.number) _ (shown_behind answers es) among (passes answers es falls));
+  received = brought decoding es falls;
+  passed_over = neighbours es 0 (shown_after decoding es) (all_from_zero (shown_after decoding es)) rising (all_weaker (λ (s : Shown M). Passes (came_by s.place es) s.number) _ (shown_after decoding es) among (passes decoding es falls));
 }
   where
-    rising : RisesStrictly (map (λ (s : Shown M). s.number) (shown_behind answers es))
-    rising = subst RisesStrictly (sym (numbers_are answers es)) (presented_rises (map came_of es))
+    rising : RisesStrictly (map (λ (s : Shown M). s.number) (shown_after decoding es))
+    rising = subst RisesStrictly (sym (numbers_are decoding es)) (presented_rises (map came_of es))
 
-    among : (s : Shown M) → Passes (came_by s.place es) s.number → (k : ℕ) → 0 < k → k < s.number → IsGivenUp (came_by s.place es) k ⊎ (list_any (λ (t : Shown M). eqb t.number k) (shown_behind answers es) ≡ true)
+    among : (s : Shown M) → Passes (came_by s.place es) s.number → (k : ℕ) → 0 < k → k < s.number → IsGivenUp (came_by s.place es) k ⊎ (list_any (λ (t : Shown M). eqb t.number k) (shown_after decoding es) ≡ true)
     among s f k more less = elim (f k (omega arith) less) [
       | inl up ↦ inl up
-      | inr was ↦ inr (any_shown answers k es ∙ presented_within s.place k es falls was)
+      | inr was ↦ inr (any_shown decoding k es ∙ presented_within s.place k es falls was)
     ]

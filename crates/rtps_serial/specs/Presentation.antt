@@ -1,5 +1,5 @@
--- Presentation in a run (DDSI-RTPS 8.4.12.3, 8.3.7): what a reliable reader is told of the samples of a writer, against the
--- submessages alone that came for their match.
+-- Presentation in a run (DDSI-RTPS 8.4.12.3, 8.3.7): the samples of a writer that a reliable reader presents, against
+-- the submessages alone that came for their match.
 use Rattle.std.specs.Prelude.{◌≡◌, ℕ, ◌<◌, ◌==◌, ◌&&◌, ◌||◌, nat_lt, nat_le, Bool, List, [], ◌∷◌, ◌++◌, map, filter, reverse, Option, if◌then◌else◌}
 use Rattle.std.specs.List.{AllByRecursion}
 use Rattle.rtps_types.specs.declared.identity.EntityId.{EntityId}
@@ -12,24 +12,27 @@ use Rattle.rtps_discovery.specs.declared.config.Config.{Config}
 use Rattle.rtps_proxy.specs.History.{Came, Sample}
 use Rattle.rtps_proxy.specs.Presentation.{Brings, IsGivenUp, RisesStrictly}
 use Rattle.rtps_reader.specs.declared.body.Body.{Body}
-use Rattle.rtps_reader.specs.Reader.{Answers, Notice, Told, Presents, Begins, Ends, Refuses, Loses, came_of, carried_by, same_guid}
+use Rattle.dds_topic.specs.Decoding.{Decoding}
+use Rattle.rtps_types.specs.Number.{value_of}
+use Rattle.rtps_reader.specs.declared.notice.Notice.{Notice}
+use Rattle.rtps_reader.specs.declared.notice.NoticeKind.{NoticeKind}
+use Rattle.rtps_reader.specs.declared.notice.NoticeKind.TheVariants.{Sample as ASample}
+use Rattle.rtps_reader.specs.Body.{body_by}
+use Rattle.rtps_reader.specs.Reader.{same_guid}
 use Rattle.rtps_serial.specs.Run.{entity_of, events_from, run}
 use Rattle.rtps_serial.specs.Seen.{notices_by}
 
--- a sample as a reader tells it, with the place of the submessage at which it is presented
+-- a sample as a reader presents it, with the place of the submessage at which it is presented
 pub record Shown (M : Type 0) : Type 0 where
   pub place : Place
   pub number : ℕ
   pub time : Option Timestamp
   pub body : Body M
 
--- the sample that a notice tells, where it tells one
-abbrev pub shown_in : {M : Type 0} → Place → Told M → List (Shown M)
-shown_in place (Presents number time body) = record { place = place; number = number; time = time; body = body } ∷ []
-shown_in place Begins = []
-shown_in place Ends = []
-shown_in place (Refuses policy) = []
-shown_in place (Loses count) = []
+-- the sample that a notice presents, where it presents one
+abbrev pub shown_in : {M : Type 0} → Place → NoticeKind M → List (Shown M)
+shown_in place (ASample number time body) = record { place = place; number = value_of number; time = time; body = body } ∷ []
+shown_in place kind = []
 
 -- the samples of a writer among these notices, in order
 abbrev pub samples_of : {M : Type 0} → Guid → List (Notice M) → List (Shown M)
@@ -44,17 +47,20 @@ not_after a b = nat_lt a.datagram b.datagram || (a.datagram == b.datagram && nat
 abbrev pub events_for : Guid → EntityId → List Happening → List Happening
 events_for writer reader events = reverse (filter (is_addressed (same_guid writer) reader) events)
 
+abbrev pub came_of : Happening → Came
+came_of e = record { time = e.time; body = e.body }
+
 -- what came of these submessages by a place, the newest first
 abbrev pub came_by : Place → List Happening → List Came
 came_by place events = map came_of (filter (λ e. not_after e.place place) events)
 
--- a DATA brought the sample: its sequence number, its time, and a body that is what the catalog answers of what the DATA carries
-pub record IsBrought {M : Type 0} (answers : Answers M) (past : List Came) (s : Shown M) : Type 0 where
+-- a DATA brought the sample: its sequence number, its time, and the body that the catalog makes of what the DATA carries
+pub record IsBrought {M : Type 0} (decoding : Decoding M) (past : List Came) (s : Shown M) : Type 0 where
   pub change : Sample
   pub came : Brings past change
   pub number : s.number ≡ change.number
   pub time : s.time ≡ change.time
-  pub body : s.body ≡ answers (carried_by change)
+  pub body : s.body ≡ body_by decoding change.info change.payload
 
 -- each sequence number between that of a sample and that of the sample before it was given up by then
 abbrev pub PassesOverOnly : {M : Type 0} → List Happening → ℕ → List (Shown M) → Type 0
@@ -62,17 +68,17 @@ PassesOverOnly events last [] = Unit {0}
 PassesOverOnly events last (s ∷ ss) = ((k : ℕ) → last < k → k < s.number → IsGivenUp (came_by s.place events) k) × PassesOverOnly events s.number ss
 
 -- the samples of a match, against its submessages, the newest first
-pub record ArePresented {M : Type 0} (answers : Answers M) (events : List Happening) (samples : List (Shown M)) : Type 0 where
+pub record ArePresented {M : Type 0} (decoding : Decoding M) (events : List Happening) (samples : List (Shown M)) : Type 0 where
   -- each sequence number is above all before it
   pub rising : RisesStrictly (map (λ s. s.number) samples)
   -- a DATA that isn't after the sample's place brought it
-  pub received : AllByRecursion (λ s. IsBrought answers (came_by s.place events) s) samples
+  pub received : AllByRecursion (λ s. IsBrought decoding (came_by s.place events) s) samples
   -- from 1 on, each sequence number that no sample has was given up by the place of the next sample
   pub passed_over : PassesOverOnly events 0 samples
 
--- the samples of a writer that the reader of a rank was told of in a run
-abbrev pub samples_in : {M : Type 0} → Answers M → Config → List (List ℕ) → ℕ → Guid → List (Shown M)
-samples_in answers config datagrams rank writer = samples_of writer (notices_by rank (run answers config datagrams).put)
+-- the samples of a writer that the reader of a rank presented in a run
+abbrev pub samples_in : {M : Type 0} → Decoding M → Config → List (List ℕ) → ℕ → Guid → List (Shown M)
+samples_in decoding config datagrams rank writer = samples_of writer (notices_by rank (run decoding config datagrams).put)
 
 -- the submessages of a run for the match of a writer and the reader of a rank, the newest first
 abbrev pub events_in : Config → List (List ℕ) → ℕ → Guid → List Happening

@@ -12,7 +12,8 @@ use Rattle.rtps_discovery.specs.declared.config.Config.{Config}
 use Rattle.rtps_discovery.specs.declared.config.FixedMatch.{FixedMatch}
 use Rattle.rtps_discovery.specs.declared.config.ReaderConfig.{ReaderConfig}
 use Rattle.rtps_proxy.specs.Kept.{Whom}
-use Rattle.rtps_reader.specs.Reader.{Answers, Reader, first_reader}
+use Rattle.dds_topic.specs.Decoding.{Decoding}
+use Rattle.rtps_reader.specs.Reader.{Reader, first_reader}
 use Rattle.rtps_serial.specs.World.{World, world_after}
 
 -- the entity of the reader of a rank
@@ -35,7 +36,7 @@ Facts = Guid × List Locator
 abbrev pub fixed_of : List FixedMatch → ℕ → List Facts
 fixed_of fixed rank = map (λ m. (m.writer, m.locators)) (filter (λ m. m.rank == rank) fixed)
 
--- between whom a match of a reader stands
+-- between whom a match of a reader is
 abbrev pub whom_of : GuidPrefix → EntityId → Bool → Facts → Whom
 whom_of own entity is_asking facts = record { own = own; writer = facts.0; reader = entity; reliable = is_asking; locators = facts.1 }
 
@@ -43,7 +44,7 @@ whom_of own entity is_asking facts = record { own = own; writer = facts.0; reade
 abbrev pub reader_first : GuidPrefix → List ReaderConfig → ℕ → List Facts → Reader
 reader_first own readers rank fixed = first_reader (entity_of readers rank) (map (whom_of own (entity_of readers rank) (is_reliable_at readers rank)) fixed)
 
--- the world at the start: nothing came, and the fixed matches stand
+-- the world at the start: nothing came, and there are the fixed matches
 abbrev pub first_world : {M : Type 0} → Config → World M
 first_world config = record {
   count = length config.readers.items;
@@ -57,10 +58,10 @@ events_from own index [] = []
 events_from own index (datagram ∷ datagrams) = events_of own index datagram ++ events_from own (index + 1) datagrams
 
 -- the events one by one
-abbrev pub world_run : {M : Type 0} → Answers M → World M → List Happening → World M
-world_run answers w [] = w
-world_run answers w (e ∷ es) = world_run answers (world_after answers w e) es
+abbrev pub world_run : {M : Type 0} → Decoding M → World M → List Happening → World M
+world_run decoding w [] = w
+world_run decoding w (e ∷ es) = world_run decoding (world_after decoding w e) es
 
--- the world behind a list of datagrams
-abbrev pub run : {M : Type 0} → Answers M → Config → List (List ℕ) → World M
-run answers config datagrams = world_run answers (first_world config) (events_from config.own 0 datagrams)
+-- the world after a list of datagrams
+abbrev pub run : {M : Type 0} → Decoding M → Config → List (List ℕ) → World M
+run decoding config datagrams = world_run decoding (first_world config) (events_from config.own 0 datagrams)

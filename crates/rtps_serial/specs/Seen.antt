@@ -3,7 +3,9 @@ use Rattle.std.specs.Prelude.{ℕ, zero, suc, List, [], ◌∷◌, map, Option, 
 use Rattle.rtps_types.specs.declared.identity.Guid.{Guid}
 use Rattle.rtps_reader.specs.declared.status.Status.{Status}
 use Rattle.rtps_reader.specs.Listed.{with_writers}
-use Rattle.rtps_reader.specs.Reader.{Notice, Reader, status_of}
+use Rattle.rtps_reader.specs.declared.notice.Notice.{Notice}
+use Rattle.rtps_reader.specs.Reader.{Reader}
+use Rattle.rtps_reader.specs.Status.{status_of}
 use Rattle.rtps_serial.specs.World.{Put, Hears, Sends, Sending, World}
 
 -- the notices of the reader of a rank, in order
@@ -18,9 +20,13 @@ answers_in [] = []
 answers_in (Hears by notice ∷ put) = answers_in put
 answers_in (Sends answer ∷ put) = answer ∷ answers_in put
 
--- the status of the reader of a rank, where there is one
+-- the status of the reader of a rank: its fixed matches and its notices, counted
+abbrev pub status_at : {M : Type 0} → World M → ℕ → Status
+status_at w rank = status_of (w.readers rank).fixed (notices_by rank w.put)
+
+-- the same, where there is such a reader
 abbrev pub status_seen : {M : Type 0} → World M → ℕ → Option Status
-status_seen w rank = if nat_lt rank w.count then Some (status_of (w.readers rank)) else None
+status_seen w rank = if nat_lt rank w.count then Some (status_at w rank) else None
 
 -- the matches of the readers of the ranks below a count, ordered by rank and then by writer
 abbrev pub matches_below : (ℕ → Reader) → ℕ → List (ℕ × Guid)

@@ -1,8 +1,11 @@
 -- What an engine keeps, and when that is what follows from a list of datagrams.
-use Rattle.std.specs.Prelude.{◌≡◌, ◌+◌, ◌^◌, ◌<◌, ◌≤◌, false, Bool, true, ℕ, List, length, slice_index_or, Result, Ok, Err}
+use Rattle.std.specs.Prelude.{◌≡◌, ◌+◌, ◌^◌, ◌<◌, ◌≤◌, false, Bool, true, ℕ, List, [], length, slice_index_or, Result, Ok, Err}
+use Rattle.dds_topic.specs.Decoding.{Decoding}
 use Rattle.rtps_discovery.specs.declared.config.Config.{Config}
 use Rattle.rtps_discovery.specs.declared.faults.ConfigFault.{ConfigFault}
-use Rattle.rtps_reader.specs.Reader.{Answers, Reader}
+use Rattle.rtps_reader.specs.declared.notice.Notice.{Notice}
+use Rattle.rtps_reader.specs.declared.status.Status.{Status}
+use Rattle.rtps_reader.specs.Reader.{Reader}
 use Rattle.rtps_reader.specs.Standing as reader
 use Rattle.rtps_reader.specs.Standing.{ReaderKept}
 use Rattle.rtps_serial.specs.declared.errors.EngineError.{EngineError}
@@ -11,6 +14,8 @@ use Rattle.rtps_serial.specs.declared.errors.StartError.{StartError}
 use Rattle.rtps_serial.specs.declared.errors.StartError.TheVariants as start
 use Rattle.rtps_types.specs.declared.traffic.WriterFacts.{WriterFacts}
 use Rattle.rtps_serial.specs.Run.{Facts, run}
+use Rattle.rtps_serial.specs.Seen.{notices_by, status_at}
+use Rattle.rtps_serial.specs.World.{World}
 
 pub record EngineKept (C : Type 0) : Type 0 where
   pub catalog : C
@@ -18,39 +23,97 @@ pub record EngineKept (C : Type 0) : Type 0 where
   -- how many datagrams were taken
   pub index : ℕ
   pub failed : Bool
-  -- by rank
+  -- by rank, and the statuses after the last datagram that was taken
   pub readers : List ReaderKept
+  pub statuses : List Status
 
 -- a writer and its locators, without where they lie in memory
 abbrev pub facts_in : {A : Type 0} → WriterFacts A → Facts
 facts_in facts = (facts.writer, facts.locators)
 
--- the state of a rank keeps the reader of that rank
-pub record StandsFor (r : Reader) (rank : ℕ) (state : ReaderKept) : Type 0 where
-  pub stands : reader.StandsAt r state
+-- the state of a rank keeps the reader of that rank, which gave out these notices
+pub record StandsFor {M : Type 0} (r : Reader) (given : List (Notice M)) (rank : ℕ) (state : ReaderKept) : Type 0 where
+  pub stands : reader.StandsAt r given state
   pub ranked : state.rank ≡ rank
 
-abbrev pub AllStand : (ℕ → Reader) → List ReaderKept → Type 0
-AllStand readers states = (rank : ℕ) (other : ReaderKept) → rank < length states → StandsFor (readers rank) rank (slice_index_or states rank other)
+abbrev pub AllStandBy : {M : Type 0} → (ℕ → Reader) → (ℕ → List (Notice M)) → List ReaderKept → Type 0
+AllStandBy readers given states = (rank : ℕ) (other : ReaderKept) → rank < length states → StandsFor (readers rank) (given rank) rank (slice_index_or states rank other)
+
+-- each state keeps the reader of its rank in the world, with the notices that it put out
+abbrev pub AllStand : {M : Type 0} → World M → List ReaderKept → Type 0
+AllStand w states = AllStandBy w.readers (λ rank. notices_by rank w.put) states
+
+-- each state keeps the reader of its rank, which gave out no notice yet
+abbrev pub AllStart : (ℕ → Reader) → List ReaderKept → Type 0
+AllStart readers states = AllStandBy {M = Unit {0}} readers (λ rank. []) states
+
+-- the run of the engine's configuration over a list of datagrams
+abbrev pub run_by : {C M : Type 0} → (C → Decoding M) → EngineKept C → List (List ℕ) → World M
+run_by decoding engine datagrams = run (decoding engine.catalog) engine.config datagrams
+
+-- the statuses are those after these datagrams
+pub record ShowsAt {C M : Type 0} (decoding : C → Decoding M) (datagrams : List (List ℕ)) (engine : EngineKept C) : Type 0 where
+  pub count : length engine.statuses ≡ length engine.config.readers.items
+  pub statuses : (rank : ℕ) (other : Status) → rank < length engine.statuses → slice_index_or engine.statuses rank other ≡ status_at (run_by decoding engine datagrams) rank
 
 -- the engine keeps what follows from these datagrams
-pub record StandsAt {C M : Type 0} (answers : Answers M) (datagrams : List (List ℕ)) (engine : EngineKept C) : Type 0 where
+pub record StandsAt {C M : Type 0} (decoding : C → Decoding M) (datagrams : List (List ℕ)) (engine : EngineKept C) : Type 0 where
   pub sound : engine.failed ≡ false
   pub index : engine.index ≡ length datagrams
   pub count : length engine.readers ≡ length engine.config.readers.items
-  pub readers : AllStand (run answers engine.config datagrams).readers engine.readers
+  pub readers : AllStand (run_by decoding engine datagrams) engine.readers
+  pub shows : ShowsAt decoding datagrams engine
 
 -- a run has at most 2^48 datagrams
 abbrev pub datagram_limit : ℕ
 datagram_limit = 2 ^ 48
 
--- How a datagram is taken, and when each refusal comes: Failed exactly where an earlier want of memory left the engine failed,
--- Spent exactly where one datagram more would pass the limit. Either leaves the engine as it was.
+-- How a datagram is taken, and when each refusal comes: Failed exactly where an earlier datagram was out of memory, which leaves
+-- the engine failed, Spent exactly where one datagram more would pass the limit. Either leaves the engine as it was.
 unfoldable pub Takes : {C X : Type 0} → Result X EngineError → EngineKept C → EngineKept C → Type 0
 Takes (Ok x) old new = (old.failed ≡ false) × (old.index < datagram_limit) × (new.failed ≡ false) × (new.index ≡ old.index + 1)
 Takes (Err Failed) old new = (old.failed ≡ true) × (new ≡ old)
 Takes (Err Spent) old new = (old.failed ≡ false) × (datagram_limit ≤ old.index) × (new ≡ old)
 Takes (Err NoMemory) old new = (old.failed ≡ false) × (old.index < datagram_limit) × (new.failed ≡ true)
+
+-- why a datagram is refused before it is looked at
+unfoldable pub Refuses : {C : Type 0} → EngineError → EngineKept C → Type 0
+Refuses Failed engine = engine.failed ≡ true
+Refuses Spent engine = (engine.failed ≡ false) × (datagram_limit ≤ engine.index)
+Refuses NoMemory engine = ⊥
+
+-- only the readers have changed
+pub record IsSteppedFrom {C : Type 0} (old new : EngineKept C) : Type 0 where
+  pub catalog : new.catalog ≡ old.catalog
+  pub config : new.config ≡ old.config
+  pub index : new.index ≡ old.index
+  pub failed : new.failed ≡ old.failed
+  pub statuses : new.statuses ≡ old.statuses
+  pub count : length new.readers ≡ length old.readers
+
+-- one datagram more is taken, and the statuses are those of the readers
+pub record IsFinishedFrom {C : Type 0} (old new : EngineKept C) : Type 0 where
+  pub catalog : new.catalog ≡ old.catalog
+  pub config : new.config ≡ old.config
+  pub index : new.index ≡ old.index + 1
+  pub sound : new.failed ≡ false
+  pub readers : new.readers ≡ old.readers
+  pub count : length new.statuses ≡ length old.statuses
+  pub statuses : (rank : ℕ) (s : Status) (r : ReaderKept) → rank < length old.readers → slice_index_or new.statuses rank s ≡ (slice_index_or old.readers rank r).status
+
+-- What a refused datagram leaves of what the caller lent: Failed and Spent leave it as it was, and NoMemory leaves nothing.
+unfoldable pub Leaves : {X Y : Type 0} → Result X EngineError → List Y → List Y → Type 0
+Leaves (Ok x) old new = Unit {0}
+Leaves (Err Failed) old new = new ≡ old
+Leaves (Err Spent) old new = new ≡ old
+Leaves (Err NoMemory) old new = new ≡ []
+
+-- when a question to the engine is refused: Failed exactly where it has failed
+unfoldable pub Answers : {C X : Type 0} → Result X EngineError → EngineKept C → Type 0
+Answers (Ok x) engine = engine.failed ≡ false
+Answers (Err Failed) engine = engine.failed ≡ true
+Answers (Err Spent) engine = ⊥
+Answers (Err NoMemory) engine = engine.failed ≡ false
 
 -- when an engine is refused, by what the check of its configuration says
 unfoldable pub Starts : {X : Type 0} → Result (Unit {0}) ConfigFault → Result X StartError → Type 0

@@ -7,8 +7,11 @@ use Rattle.rtps_types.specs.declared.locator.Locator.{Locator}
 use Rattle.rtps_types.specs.declared.place.Place.{Place}
 use Rattle.rtps_receiver.specs.Events.{Happening}
 use Rattle.rtps_discovery.specs.Addressed.{is_addressed}
+use Rattle.dds_topic.specs.Decoding.{Decoding}
 use Rattle.rtps_proxy.specs.Replies.{Sent}
-use Rattle.rtps_reader.specs.Reader.{Answers, Match, Notice, Reader, reader_after, same_guid, sends, tells}
+use Rattle.rtps_reader.specs.declared.notice.Notice.{Notice}
+use Rattle.rtps_reader.specs.Reader.{Match, Reader, reader_after, same_guid, sends, tells}
+use Rattle.rtps_reader.specs.Steps.{asks_of}
 
 -- an answering datagram: the place that it answers, the rank of the reader that sends it (none: discovery does), where it goes and
 -- its octets
@@ -38,25 +41,28 @@ reaches e r = is_addressed (is_matched r.matches) r.entity e
 
 -- and no other reader changes
 abbrev pub reader_by : Happening → Reader → Reader
-reader_by e r = if reaches e r then reader_after r e else r
+reader_by e r = if reaches e r then reader_after r (asks_of e) else r
 
 -- an answer of the reader of a rank, with the place of the event that it answers
 abbrev pub sent_by : {M : Type 0} → ℕ → Place × Sent → Put M
 sent_by rank s = Sends (record { place = s.0; rank = Some rank; to = s.1.to; octets = s.1.octets })
 
 -- what the reader of a rank puts out at an event: its notices, in order, and then its answer
-abbrev pub puts : {M : Type 0} → Answers M → Happening → ℕ → Reader → List (Put M)
-puts answers e rank r = if reaches e r then map (Hears rank) (tells answers r e.place e) ++ map (sent_by rank) (sends r e.place e) else []
+abbrev pub puts : {M : Type 0} → Decoding M → Happening → ℕ → Reader → List (Put M)
+puts decoding e rank r =
+    if reaches e r
+    then map (Hears rank) (tells decoding r e.place (asks_of e)) ++ map (sent_by rank) (sends r e.place (asks_of e))
+    else []
 
 -- what the readers of the ranks below a count put out at an event, by rising rank
-abbrev pub puts_below : {M : Type 0} → Answers M → Happening → (ℕ → Reader) → ℕ → List (Put M)
-puts_below answers e readers zero = []
-puts_below answers e readers (suc rank) = puts_below answers e readers rank ++ puts answers e rank (readers rank)
+abbrev pub puts_below : {M : Type 0} → Decoding M → Happening → (ℕ → Reader) → ℕ → List (Put M)
+puts_below decoding e readers zero = []
+puts_below decoding e readers (suc rank) = puts_below decoding e readers rank ++ puts decoding e rank (readers rank)
 
 -- one event: it extends the history of each match that it is addressed to
-abbrev pub world_after : {M : Type 0} → Answers M → World M → Happening → World M
-world_after answers w e = record {
+abbrev pub world_after : {M : Type 0} → Decoding M → World M → Happening → World M
+world_after decoding w e = record {
   count = w.count;
   readers = λ rank. reader_by e (w.readers rank);
-  put = w.put ++ puts_below answers e w.readers w.count;
+  put = w.put ++ puts_below decoding e w.readers w.count;
 }

@@ -18,10 +18,7 @@ pub(crate) fn empty_lists<T: Drop, A: Allocator + Copy>(
 {
     let mut lists = Vec::new(alloc);
     for _at in 0..count {
-        match lists.push(Vec::new(alloc)) {
-            Ok(()) => {}
-            Err(_) => return Err(AllocError),
-        }
+        lists.push(Vec::new(alloc))?;
     }
     Ok(lists)
 }
@@ -40,10 +37,8 @@ pub(crate) fn push_by<T: Drop, A: Allocator>(
     if at >= lists.len() {
         return Ok(());
     }
-    match lists[at].push(item) {
-        Ok(()) => Ok(()),
-        Err(_) => Err(AllocError),
-    }
+    lists[at].push(item)?;
+    Ok(())
 }
 
 /// Deals out what came in order: each reader's notices to its own list, and the answers.
@@ -78,15 +73,13 @@ fn add<C: Catalog, A: Allocator>(
     }
 }
 
-/// Adds an answer behind the others.
+/// Adds an answer after the others.
 fn push_answer<A: Allocator>(
     answers: &mut Vec<Answer<A>, A>,
     answer: Answer<A>,
 ) -> Result<(), AllocError>
     ensures { OnOk result (answers.new.items ≡ answers.old.items ++ answer ∷ []) }
 {
-    match answers.push(answer) {
-        Ok(()) => Ok(()),
-        Err(_) => Err(AllocError),
-    }
+    answers.push(answer)?;
+    Ok(())
 }

@@ -1,23 +1,25 @@
 //! An engine that takes datagrams one by one.
 
-ghost use Rattle.std.specs.Prelude.{◌≡◌, ◌≤◌, ◌++◌, ◌∷◌, [], IfOk, OnOk, List, ℕ, length, map};
+ghost use Rattle.std.specs.Prelude.{◌≡◌, ◌^◌, ◌≤◌, ◌<◌, ◌++◌, ◌∷◌, [], IfErr, IfOk, OnErr, OnOk, List, ℕ, false, length, map, true};
 ghost use Rattle.rtps_discovery.specs.Config.{check_of};
-ghost use Rattle.rtps_reader.specs.Body.{body_by};
+ghost use Rattle.rtps_receiver.specs.Events.{events_of};
 ghost use Rattle.rtps_serial.specs.Outcome.{Adds, report_view};
-ghost use Rattle.rtps_serial.specs.Run.{run};
+ghost use Rattle.rtps_serial.specs.Run.{world_run};
 ghost use Rattle.rtps_serial.specs.Seen.{matches_seen, status_seen};
-ghost use Rattle.rtps_serial.specs.Standing.{StandsAt, Starts, Takes};
+ghost use Rattle.rtps_serial.specs.Standing.{AllStand, Answers, IsFinishedFrom, IsSteppedFrom, Leaves, ShowsAt, StandsAt, Starts, Refuses, Takes, datagram_limit, run_by};
+ghost use Rattle.rtps_serial.specs.World.{World};
 
 use crate::deal::dealt;
 use crate::errors::{EngineError, StartError};
 use crate::outcome::{Outcome, Report};
-use crate::start::{first_readers, fixed_by_rank};
-use crate::steps::{all_matches, status_of, take_datagram};
-use dds_topic::{Catalog, NoMemory};
+use crate::start::{first_readers, first_statuses, fixed_by_rank};
+use crate::steps::{all_matches, show_all, take_events};
+use dds_topic::{Catalog, Decoder};
 use rtps_discovery::{Config, check};
 use rtps_reader::{ReaderState, Status};
+use rtps_receiver::events;
 use rtps_types::Guid;
-use std::alloc::{Allocator, Global};
+use std::alloc::{AllocError, Allocator, Global};
 use std::collections::BTreeSet;
 use std::marker::Model;
 
@@ -27,67 +29,74 @@ const DATAGRAM_LIMIT: u64 = 281_474_976_710_656;
 /// The readers of a participant, which one thread gives their events.
 #[derive(Drop)]
 pub struct SerialEngine<C: Catalog, A: Allocator = Global> {
-    catalog: C,
-    /// What the catalog keeps of the values that it decoded.
-    memo: C::Memo,
+    decoder: Decoder<C>,
     config: Config,
     /// How many datagrams were taken.
     index: u64,
-    /// Whether a datagram found no memory.
+    /// Whether a datagram was out of memory.
     failed: bool,
     /// By rank.
     readers: Vec<ReaderState<A>, A>,
+    /// By rank, as they were after the last datagram that was taken.
+    statuses: Vec<Status, A>,
 }
 
 impl<C: Catalog, A: Allocator> Model for SerialEngine<C, A> {
-    ghost use Rattle.std.specs.Prelude.{◌≤◌, length};
+    ghost use Rattle.std.specs.Prelude.{◌≡◌, ◌≤◌, length};
     ghost use Rattle.rtps_serial.specs.Standing.{EngineKept};
 
     ghost Value = { EngineKept C };
 
-    ghost view = { λ e. record { catalog = e.catalog; config = e.config; index = e.index; failed = e.failed; readers = e.readers.items } };
+    ghost view = { λ e. record { catalog = e.decoder; config = e.config; index = e.index; failed = e.failed; readers = e.readers.items; statuses = e.statuses.items } };
 
-    ghost invariant = { λ e. length e.readers.items ≤ 256 };
+    ghost invariant = { λ e. (length e.readers.items ≤ 256) × (length e.statuses.items ≡ length e.readers.items) };
 }
 
 impl<C: Catalog> SerialEngine<C> {
     /// An engine for this configuration: its readers with their fixed matches, to which nothing came
-    /// yet.
+    /// yet. Values come from `alloc`.
     pub fn new(alloc: Global, config: Config, catalog: C) -> Result<SerialEngine<C>, StartError>
         ensures starts { Starts (check_of config) result }
         ensures same { IfOk result (λ e. (e.catalog ≡ catalog) × (e.config ≡ config)) }
-        ensures stands { IfOk result (StandsAt (body_by (C.meaning catalog) (C.hash catalog) (C.hash_of_key catalog)) []) }
+        ensures stands { IfOk result (StandsAt C.decoding []) }
     {
-        SerialEngine::new_in(alloc, config, catalog)
+        SerialEngine::new_in(alloc, alloc, config, catalog)
     }
 
-    /// Takes the next datagram, at most 65,507 octets, and gives what each reader is told and what is
-    /// to be sent.
+    /// Takes the next datagram, at most 65,507 octets, and gives the notices of each reader and what
+    /// is to be sent.
     ///
-    /// After want of memory the engine has failed: from then on it answers
-    /// [`EngineError::Failed`]. A datagram that would pass 2^48 of them is refused with
-    /// [`EngineError::Spent`] and changes nothing.
+    /// When a datagram is out of memory the engine has failed: from then on it answers
+    /// [`EngineError::Failed`], and its statuses are those before that datagram. A datagram that would
+    /// pass 2^48 of them is refused with [`EngineError::Spent`] and changes nothing.
     pub fn take(&mut self, alloc: Global, octets: &[u8]) -> Result<Outcome<C::Value>, EngineError>
         requires { length octets.now ≤ 65507 }
         ensures takes { Takes result self.old self.new }
         ensures same { (self.new.catalog ≡ self.old.catalog) × (self.new.config ≡ self.old.config) }
-        ensures stands { (datagrams : List (List ℕ)) → StandsAt (body_by (C.meaning self.old.catalog) (C.hash self.old.catalog) (C.hash_of_key self.old.catalog)) datagrams self.old
-            → OnOk result (StandsAt (body_by (C.meaning self.old.catalog) (C.hash self.old.catalog) (C.hash_of_key self.old.catalog)) (datagrams ++ octets.now ∷ []) self.new) }
-        ensures adds { (datagrams : List (List ℕ)) → StandsAt (body_by (C.meaning self.old.catalog) (C.hash self.old.catalog) (C.hash_of_key self.old.catalog)) datagrams self.old
-            → IfOk result (Adds C.view (run (body_by (C.meaning self.old.catalog) (C.hash self.old.catalog) (C.hash_of_key self.old.catalog)) self.old.config datagrams)
-            (run (body_by (C.meaning self.old.catalog) (C.hash self.old.catalog) (C.hash_of_key self.old.catalog)) self.old.config (datagrams ++ octets.now ∷ []))) }
+        ensures stands { (datagrams : List (List ℕ)) → StandsAt C.decoding datagrams self.old
+            → OnOk result (StandsAt C.decoding (datagrams ++ octets.now ∷ []) self.new) }
+        ensures adds { (datagrams : List (List ℕ)) → StandsAt C.decoding datagrams self.old
+            → IfOk result (Adds C.view (run_by C.decoding self.old datagrams)
+            (run_by C.decoding self.old (datagrams ++ octets.now ∷ []))) }
+        ensures shows { (datagrams : List (List ℕ)) → ShowsAt C.decoding datagrams self.old
+            → OnErr result (ShowsAt C.decoding datagrams self.new) }
     {
-        self.take_in(alloc, alloc, octets)
+        self.take_in(alloc, octets)
     }
 }
 
 impl<C: Catalog, A: Allocator + Copy> SerialEngine<C, A> {
-    /// The same over any allocator.
+    /// The same over any allocator. Values come from `values`.
     #[tactic(auto, unfolding(crate::specs::Standing::Starts))]
-    pub fn new_in(alloc: A, config: Config, catalog: C) -> Result<SerialEngine<C, A>, StartError>
+    pub fn new_in(
+        alloc: A,
+        values: Global,
+        config: Config,
+        catalog: C,
+    ) -> Result<SerialEngine<C, A>, StartError>
         ensures starts { Starts (check_of config) result }
         ensures same { IfOk result (λ e. (e.catalog ≡ catalog) × (e.config ≡ config)) }
-        ensures stands { IfOk result (StandsAt (body_by (C.meaning catalog) (C.hash catalog) (C.hash_of_key catalog)) []) }
+        ensures stands { IfOk result (StandsAt C.decoding []) }
     {
         match check(&config) {
             Ok(()) => {}
@@ -95,37 +104,83 @@ impl<C: Catalog, A: Allocator + Copy> SerialEngine<C, A> {
         }
         let fixed = fixed_by_rank(alloc, config.readers.len(), &config.fixed)?;
         let readers = first_readers(alloc, config.own, &config.readers, &fixed)?;
+        let statuses = first_statuses(alloc, &readers)?;
         Ok(SerialEngine {
-            catalog,
-            memo: C::Memo::default(),
+            decoder: Decoder::new(values, catalog),
             config,
             index: 0,
             failed: false,
             readers,
+            statuses,
         })
     }
 
     /// Takes the next datagram, at most 65,507 octets, and puts all that follows from it in
     /// `reports`, in place of what is there, in the order in which it comes: by place, then by rank,
-    /// and of one reader its notices before its answer. `values` is where values are decoded.
+    /// and of one reader its notices before its answer.
     ///
-    /// After a refusal `reports` says nothing.
-    #[tactic(auto, unfolding(crate::specs::Standing::Takes))]
+    /// [`EngineError::Failed`] and [`EngineError::Spent`] leave `reports` as it was,
+    /// [`EngineError::NoMemory`] leaves it empty.
+    #[tactic(auto, unfolding(crate::specs::Standing::Takes, crate::specs::Standing::Refuses, crate::specs::Standing::Leaves))]
     pub fn take_in_order(
         &mut self,
         alloc: A,
-        values: Global,
         octets: &[u8],
         reports: &mut Vec<Report<C::Value, A>, A>,
     ) -> Result<(), EngineError>
         requires { length octets.now ≤ 65507 }
         ensures takes { Takes result self.old self.new }
         ensures same { (self.new.catalog ≡ self.old.catalog) × (self.new.config ≡ self.old.config) }
-        ensures stands { (datagrams : List (List ℕ)) → StandsAt (body_by (C.meaning self.old.catalog) (C.hash self.old.catalog) (C.hash_of_key self.old.catalog)) datagrams self.old
-            → OnOk result (StandsAt (body_by (C.meaning self.old.catalog) (C.hash self.old.catalog) (C.hash_of_key self.old.catalog)) (datagrams ++ octets.now ∷ []) self.new) }
-        ensures put { (datagrams : List (List ℕ)) → StandsAt (body_by (C.meaning self.old.catalog) (C.hash self.old.catalog) (C.hash_of_key self.old.catalog)) datagrams self.old
-            → OnOk result ((run (body_by (C.meaning self.old.catalog) (C.hash self.old.catalog) (C.hash_of_key self.old.catalog)) self.old.config (datagrams ++ octets.now ∷ [])).put
-            ≡ (run (body_by (C.meaning self.old.catalog) (C.hash self.old.catalog) (C.hash_of_key self.old.catalog)) self.old.config datagrams).put ++ map (report_view C.view) reports.new.items) }
+        ensures stands { (datagrams : List (List ℕ)) → StandsAt C.decoding datagrams self.old
+            → OnOk result (StandsAt C.decoding (datagrams ++ octets.now ∷ []) self.new) }
+        ensures put { (datagrams : List (List ℕ)) → StandsAt C.decoding datagrams self.old
+            → OnOk result ((run_by C.decoding self.old (datagrams ++ octets.now ∷ [])).put
+            ≡ (run_by C.decoding self.old datagrams).put ++ map (report_view C.view) reports.new.items) }
+        ensures shows { (datagrams : List (List ℕ)) → ShowsAt C.decoding datagrams self.old
+            → OnErr result (ShowsAt C.decoding datagrams self.new) }
+        ensures leaves { Leaves result reports.old.items reports.new.items }
+    {
+        self.admit()?;
+        if self.report(alloc, octets, reports).is_err() {
+            reports.clear();
+            return Err(EngineError::NoMemory);
+        }
+        self.finish();
+        Ok(())
+    }
+
+    /// Takes the next datagram, at most 65,507 octets, and gives the notices of each reader and what
+    /// is to be sent.
+    ///
+    /// When a datagram is out of memory the engine has failed: from then on it answers
+    /// [`EngineError::Failed`], and its statuses are those before that datagram.
+    #[tactic(auto, unfolding(crate::specs::Standing::Takes, crate::specs::Standing::Refuses))]
+    pub fn take_in(&mut self, alloc: A, octets: &[u8]) -> Result<Outcome<C::Value, A>, EngineError>
+        requires { length octets.now ≤ 65507 }
+        ensures takes { Takes result self.old self.new }
+        ensures same { (self.new.catalog ≡ self.old.catalog) × (self.new.config ≡ self.old.config) }
+        ensures stands { (datagrams : List (List ℕ)) → StandsAt C.decoding datagrams self.old
+            → OnOk result (StandsAt C.decoding (datagrams ++ octets.now ∷ []) self.new) }
+        ensures adds { (datagrams : List (List ℕ)) → StandsAt C.decoding datagrams self.old
+            → IfOk result (Adds C.view (run_by C.decoding self.old datagrams)
+            (run_by C.decoding self.old (datagrams ++ octets.now ∷ []))) }
+        ensures shows { (datagrams : List (List ℕ)) → ShowsAt C.decoding datagrams self.old
+            → OnErr result (ShowsAt C.decoding datagrams self.new) }
+    {
+        self.admit()?;
+        let mut reports = Vec::new(alloc);
+        self.report(alloc, octets, &mut reports)?;
+        let outcome = dealt::<C, A>(alloc, self.readers.len(), reports)?;
+        self.finish();
+        Ok(outcome)
+    }
+
+    /// Refuses a datagram before it is looked at, or has the engine failed until it is taken.
+    #[tactic(auto, unfolding(crate::specs::Standing::Refuses))]
+    fn admit(&mut self) -> Result<(), EngineError>
+        ensures ok { OnOk result ((self.old.failed ≡ false) × (self.old.index < datagram_limit) × (self.new ≡ record self.old { failed = true })) }
+        ensures err { IfErr result (λ e. Refuses e self.old) }
+        ensures still { OnErr result (self.new ≡ self.old) }
     {
         if self.failed {
             return Err(EngineError::Failed);
@@ -134,49 +189,47 @@ impl<C: Catalog, A: Allocator + Copy> SerialEngine<C, A> {
             return Err(EngineError::Spent);
         }
         self.failed = true;
-        take_datagram(
-            &mut self.readers,
-            alloc,
-            values,
-            &self.catalog,
-            &mut self.memo,
-            self.config.own,
-            self.index,
-            octets,
-            reports,
-        )?;
-        self.index += 1;
-        self.failed = false;
         Ok(())
     }
 
-    /// Takes the next datagram, at most 65,507 octets, and gives what each reader is told and what is
-    /// to be sent. `values` is where values are decoded.
-    ///
-    /// After want of memory the engine has failed: from then on it answers
-    /// [`EngineError::Failed`].
-    #[tactic(auto, unfolding(crate::specs::Standing::Takes))]
-    pub fn take_in(
+    /// Gives the events of a datagram to the readers. What follows from it takes the place of what is
+    /// in `reports`.
+    fn report(
         &mut self,
         alloc: A,
-        values: Global,
         octets: &[u8],
-    ) -> Result<Outcome<C::Value, A>, EngineError>
+        reports: &mut Vec<Report<C::Value, A>, A>,
+    ) -> Result<(), AllocError>
         requires { length octets.now ≤ 65507 }
-        ensures takes { Takes result self.old self.new }
-        ensures same { (self.new.catalog ≡ self.old.catalog) × (self.new.config ≡ self.old.config) }
-        ensures stands { (datagrams : List (List ℕ)) → StandsAt (body_by (C.meaning self.old.catalog) (C.hash self.old.catalog) (C.hash_of_key self.old.catalog)) datagrams self.old
-            → OnOk result (StandsAt (body_by (C.meaning self.old.catalog) (C.hash self.old.catalog) (C.hash_of_key self.old.catalog)) (datagrams ++ octets.now ∷ []) self.new) }
-        ensures adds { (datagrams : List (List ℕ)) → StandsAt (body_by (C.meaning self.old.catalog) (C.hash self.old.catalog) (C.hash_of_key self.old.catalog)) datagrams self.old
-            → IfOk result (Adds C.view (run (body_by (C.meaning self.old.catalog) (C.hash self.old.catalog) (C.hash_of_key self.old.catalog)) self.old.config datagrams)
-            (run (body_by (C.meaning self.old.catalog) (C.hash self.old.catalog) (C.hash_of_key self.old.catalog)) self.old.config (datagrams ++ octets.now ∷ []))) }
+        ensures same { IsSteppedFrom self.old self.new }
+        ensures stands { (w : World C.Meaning) → w.count ≡ length self.old.readers → AllStand w self.old.readers
+            → OnOk result (AllStand (world_run (C.decoding self.old.catalog) w
+            (events_of self.old.config.own self.old.index octets.now)) self.new.readers) }
+        ensures put { (w : World C.Meaning) → w.count ≡ length self.old.readers → AllStand w self.old.readers
+            → OnOk result ((world_run (C.decoding self.old.catalog) w
+            (events_of self.old.config.own self.old.index octets.now)).put
+            ≡ w.put ++ map (report_view C.view) reports.new.items) }
     {
-        let mut reports = Vec::new(alloc);
-        self.take_in_order(alloc, values, octets, &mut reports)?;
-        self.failed = true;
-        let outcome = dealt::<C, A>(alloc, self.readers.len(), reports)?;
+        let Ok(events) = events(alloc, self.config.own, self.index, octets) else {
+            return Err(AllocError);
+        };
+        take_events(
+            &mut self.readers,
+            alloc,
+            &mut self.decoder,
+            &events,
+            reports,
+        )
+    }
+
+    /// Counts the datagram as taken, and shows the statuses of the readers.
+    fn finish(&mut self)
+        requires { self.old.index < 2 ^ 48 }
+        ensures { IsFinishedFrom self.old self.new }
+    {
+        show_all(&self.readers, &mut self.statuses);
+        self.index += 1;
         self.failed = false;
-        Ok(outcome)
     }
 
     /// How many readers there are, 1 to 256. Their ranks are the numbers below it.
@@ -186,26 +239,33 @@ impl<C: Catalog, A: Allocator + Copy> SerialEngine<C, A> {
         self.readers.len() as u32
     }
 
-    /// The status of the reader of a rank, or `None` where no reader has it. No memory is taken.
+    /// The status of the reader of a rank, after the last datagram that was taken, or `None` where no
+    /// reader has the rank. No memory is taken.
     pub fn status(&self, rank: u32) -> Option<Status>
-        ensures { (datagrams : List (List ℕ)) → StandsAt (body_by (C.meaning self.now.catalog) (C.hash self.now.catalog) (C.hash_of_key self.now.catalog)) datagrams self.now
-            → result ≡ status_seen (run (body_by (C.meaning self.now.catalog) (C.hash self.now.catalog) (C.hash_of_key self.now.catalog)) self.now.config datagrams) rank }
+        ensures { (datagrams : List (List ℕ)) → ShowsAt C.decoding datagrams self.now
+            → result ≡ status_seen (run_by C.decoding self.now datagrams) rank }
     {
-        status_of(&self.readers, rank)
+        self.statuses.get(rank as usize).copied()
     }
 
-    /// The matches that stand now, a rank and a writer each. A refusal changes nothing.
-    pub fn matches(&self, alloc: A) -> Result<BTreeSet<(u32, Guid), A>, NoMemory>
-        ensures { (datagrams : List (List ℕ)) → StandsAt (body_by (C.meaning self.now.catalog) (C.hash self.now.catalog) (C.hash_of_key self.now.catalog)) datagrams self.now
-            → IfOk result (λ matches. matches.keys ≡ matches_seen (run (body_by (C.meaning self.now.catalog) (C.hash self.now.catalog) (C.hash_of_key self.now.catalog)) self.now.config datagrams)) }
+    /// The matches that there are now, a rank and a writer each. A refusal changes nothing:
+    /// [`EngineError::Failed`] where the engine has failed, and else [`EngineError::NoMemory`].
+    #[tactic(auto, unfolding(crate::specs::Standing::Answers))]
+    pub fn matches(&self, alloc: A) -> Result<BTreeSet<(u32, Guid), A>, EngineError>
+        ensures answers { Answers result self.now }
+        ensures matches { (datagrams : List (List ℕ)) → StandsAt C.decoding datagrams self.now
+            → IfOk result (λ matches. matches.keys ≡ matches_seen (run_by C.decoding self.now datagrams)) }
     {
-        all_matches(alloc, &self.readers)
+        if self.failed {
+            return Err(EngineError::Failed);
+        }
+        Ok(all_matches::<C, A>(alloc, &self.readers)?)
     }
 
     /// The catalog that values are decoded by.
     pub fn catalog(&self) -> &C
         ensures { result.now ≡ self.now.catalog }
     {
-        &self.catalog
+        self.decoder.catalog()
     }
 }

@@ -5,8 +5,7 @@ ghost use Rattle.rtps_serial.specs.declared.errors.EngineError.TheVariants as en
 ghost use Rattle.rtps_serial.specs.declared.errors.StartError.TheVariants as start;
 
 use rtps_discovery::ConfigFault;
-use rtps_reader::ReaderError;
-use std::alloc::{AllocError, AllocFailed};
+use std::alloc::AllocError;
 use thiserror::Error;
 
 /// Why an engine could not be made.
@@ -20,14 +19,6 @@ pub enum StartError {
     Config(ConfigFault),
 }
 
-impl<T: Drop> From<AllocFailed<T>> for StartError {
-    ghost from_gives = { λ _ e. e ≡ start.NoMemory };
-
-    fn from(_failed: AllocFailed<T>) -> StartError {
-        StartError::NoMemory
-    }
-}
-
 impl From<AllocError> for StartError {
     ghost from_gives = { λ _ e. e ≡ start.NoMemory };
 
@@ -36,21 +27,13 @@ impl From<AllocError> for StartError {
     }
 }
 
-impl From<ReaderError> for StartError {
-    ghost from_gives = { λ _ e. e ≡ start.NoMemory };
-
-    fn from(_failed: ReaderError) -> StartError {
-        StartError::NoMemory
-    }
-}
-
-/// Why a datagram could not be taken. Failed is told before Spent.
+/// Why an engine refuses a datagram or a question. Failed comes before Spent.
 #[derive(Clone, Copy, Debug, PartialEq, Eq, Error)]
 pub enum EngineError {
-    /// The allocator refused a growth: the engine has failed.
+    /// The allocator refused a growth: where it was for a datagram, the engine has failed.
     #[error("out of memory")]
     NoMemory,
-    /// An earlier datagram found no memory.
+    /// An earlier datagram was out of memory.
     #[error("the engine has failed")]
     Failed,
     /// The run would pass 2^48 datagrams.

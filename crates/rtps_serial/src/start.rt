@@ -2,12 +2,12 @@
 
 ghost use Rattle.std.specs.Prelude.{◌≡◌, List, ℕ, ◌<◌, ◌≤◌, IfOk, length, map, slice_index_or};
 ghost use Rattle.rtps_serial.specs.Run.{Facts, fixed_of, is_reliable, reader_first};
-ghost use Rattle.rtps_serial.specs.Standing.{AllStand, facts_in};
+ghost use Rattle.rtps_serial.specs.Standing.{AllStart, facts_in};
 
 use crate::deal::{empty_lists, push_by};
 use dds_qos::Reliability;
 use rtps_discovery::{FixedMatch, ReaderConfig};
-use rtps_reader::ReaderState;
+use rtps_reader::{ReaderState, Status};
 use rtps_types::{GuidPrefix, Locators, WriterFacts};
 use std::alloc::{AllocError, Allocator};
 
@@ -18,7 +18,8 @@ pub(crate) fn fixed_by_rank<A: Allocator + Copy>(
     fixed: &[FixedMatch],
 ) -> Result<Vec<Vec<WriterFacts<A>, A>, A>, AllocError>
     ensures count { IfOk result (λ lists. length lists.items ≡ readers) }
-    ensures fixed { IfOk result (λ lists. (rank : ℕ) (other : _) → rank < readers → map facts_in (slice_index_or lists.items rank other).items ≡ fixed_of fixed.now rank) }
+    ensures fixed { IfOk result (λ lists. (rank : ℕ) (other : _) → rank < readers
+        → map facts_in (slice_index_or lists.items rank other).items ≡ fixed_of fixed.now rank) }
 {
     let mut lists = empty_lists(alloc, readers)?;
     for pair in fixed {
@@ -49,17 +50,30 @@ pub(crate) fn first_readers<A: Allocator + Copy>(
     requires fixed { length fixed.now ≡ length readers.now }
     requires few { length readers.now ≤ 256 }
     ensures count { IfOk result (λ states. length states.items ≡ length readers.now) }
-    ensures stand { (matched : ℕ → List Facts) → ((rank : ℕ) (other : _) → rank < length readers.now → map facts_in (slice_index_or fixed.now rank other).items ≡ matched rank)
-        → IfOk result (λ states. AllStand (λ rank. reader_first own readers.now rank (matched rank)) states.items) }
+    ensures start { (matched : ℕ → List Facts) → ((rank : ℕ) (other : _) → rank < length readers.now
+        → map facts_in (slice_index_or fixed.now rank other).items ≡ matched rank)
+        → IfOk result (λ states. AllStart (λ rank. reader_first own readers.now rank (matched rank)) states.items) }
 {
     let mut states = Vec::new(alloc);
     for (rank, reader) in readers.iter().enumerate() {
         let fixed = fixed[rank].as_slice();
         let reliable = is_reliable(reader);
-        match ReaderState::new(alloc, rank as u32, own, reader.entity, reliable, fixed) {
-            Ok(state) => states.push(state)?,
-            Err(_) => return Err(AllocError),
-        }
+        let state = ReaderState::new(alloc, rank as u32, own, reader.entity, reliable, fixed)?;
+        states.push(state)?;
     }
     Ok(states)
+}
+
+/// The statuses of these readers.
+pub(crate) fn first_statuses<A: Allocator + Copy>(
+    alloc: A,
+    readers: &[ReaderState<A>],
+) -> Result<Vec<Status, A>, AllocError>
+    ensures { IfOk result (λ statuses. statuses.items ≡ map (λ r. r.status) readers.now) }
+{
+    let mut statuses = Vec::new(alloc);
+    for reader in readers {
+        statuses.push(reader.status())?;
+    }
+    Ok(statuses)
 }

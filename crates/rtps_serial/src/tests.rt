@@ -9,7 +9,7 @@ use dds_qos::{Reliability, Requested};
 use dds_topic::{Shape, Shapes};
 use linked_list_allocator::LocalHeap;
 use rtps_discovery::{Config, ConfigFault, FixedMatch, ReaderConfig};
-use rtps_reader::{Body, Notice, Status, Told};
+use rtps_reader::{Body, Notice, NoticeKind, Status};
 use rtps_types::{EntityId, Guid, GuidPrefix, Locators, Place};
 use std::alloc::Global;
 use std::test::Fail;
@@ -38,7 +38,7 @@ const FOR_SECOND: &str = "1505300000001000000002070000010200000000";
 /// The shape BLUE at 10, 20 of size 30.
 const BLUE: &str = "0001000005000000424c5545000000000a000000140000001e000000";
 
-/// A datagram of DATA submessages, each with what stands up to its number, and its number.
+/// A datagram of DATA submessages, each by what comes before its number, and by its number.
 fn datagram(alloc: Global, changes: &[(&str, u8)]) -> Result<Vec<u8>, Fail>
     ensures { IfOk result (λ octets. length octets.items ≤ 65507) }
 {
@@ -98,20 +98,20 @@ fn two_readers(alloc: Global) -> Result<SerialEngine<Shapes>, Fail> {
 }
 
 /// The place of a notice, the number of its sample, and how many numbers it says are lost.
-fn told(notice: &Notice<Shape>) -> (u64, u32, u64, u64) {
+fn seen(notice: &Notice<Shape>) -> (u64, u32, u64, u64) {
     let Place {
         datagram,
         submessage,
     } = notice.place;
     match &notice.what {
-        Told::Sample { number, .. } => (datagram, submessage, number.get(), 0),
-        Told::Lost { count } => (datagram, submessage, 0, *count),
+        NoticeKind::Sample { number, .. } => (datagram, submessage, number.get(), 0),
+        NoticeKind::Lost { count } => (datagram, submessage, 0, *count),
         _ => (datagram, submessage, 0, 0),
     }
 }
 
 #[test]
-fn each_reader_is_told_what_it_is_for(rt: HostRuntime) -> Result<(), Fail> {
+fn each_reader_presents_what_is_for_it(rt: HostRuntime) -> Result<(), Fail> {
     let mut engine = two_readers(rt.alloc())?;
     let changes = [(FOR_ALL, 1), (FOR_SECOND, 3), (FOR_ALL, 5)];
     let octets = datagram(rt.alloc(), &changes)?;
@@ -132,7 +132,7 @@ fn each_reader_is_told_what_it_is_for(rt: HostRuntime) -> Result<(), Fail> {
     {
         assert_eq!(rt; notices.len(), expected.len());
         for (notice, expected) in notices.iter().zip(expected) {
-            assert_eq!(rt; told(notice), *expected);
+            assert_eq!(rt; seen(notice), *expected);
             assert_eq!(rt; notice.writer, WRITER);
         }
     }
@@ -146,7 +146,7 @@ fn all_comes_by_place_and_then_by_rank(rt: HostRuntime) -> Result<(), Fail> {
     let changes = [(FOR_ALL, 1), (FOR_SECOND, 2), (FOR_ALL, 3)];
     let octets = datagram(rt.alloc(), &changes)?;
     let mut reports = Vec::new(rt.alloc());
-    engine.take_in_order(rt.alloc(), rt.alloc(), octets.as_slice(), &mut reports)?;
+    engine.take_in_order(rt.alloc(), octets.as_slice(), &mut reports)?;
     let expected: [(u32, (u64, u32, u64, u64)); 6] = [
         (0, (0, 1, 1, 0)),
         (1, (0, 1, 1, 0)),
@@ -158,7 +158,7 @@ fn all_comes_by_place_and_then_by_rank(rt: HostRuntime) -> Result<(), Fail> {
     assert_eq!(rt; reports.len(), expected.len());
     for (report, expected) in reports.iter().zip(&expected) {
         match report {
-            Report::Notice { rank, notice } => assert_eq!(rt; (*rank, told(notice)), *expected),
+            Report::Notice { rank, notice } => assert_eq!(rt; (*rank, seen(notice)), *expected),
             Report::Answer(answer) => assert!(rt; false, "{answer:?}"),
         }
     }
@@ -175,7 +175,7 @@ fn a_value_is_decoded(rt: HostRuntime) -> Result<(), Fail> {
         assert!(rt; !found);
         found = true;
         match &notice.what {
-            Told::Sample {
+            NoticeKind::Sample {
                 body: Body::Value(_, shape),
                 ..
             } => {
@@ -205,13 +205,13 @@ fn statuses_count_over_datagrams(rt: HostRuntime) -> Result<(), Fail> {
         lost_total: 0,
         samples: 0,
     };
-    let told = Status {
+    let busy = Status {
         lost_total: 3,
         samples: 3,
         ..quiet
     };
     assert_eq!(rt; engine.status(0), Some(quiet));
-    assert_eq!(rt; engine.status(1), Some(told));
+    assert_eq!(rt; engine.status(1), Some(busy));
     assert_eq!(rt; engine.status(2), None);
     Ok(())
 }
@@ -254,10 +254,10 @@ fn an_engine_without_memory_has_failed(rt: HostRuntime) -> Result<(), Fail> {
     for step in 0..60 {
         let heap = LocalHeap::new(rt.alloc(), 400 + step * 256)?;
         let config = config(rt.alloc(), 2, &[(0, WRITER), (1, WRITER)])?;
-        let Ok(mut engine) = SerialEngine::new_in(&heap, config, Shapes) else {
+        let Ok(mut engine) = SerialEngine::new_in(&heap, rt.alloc(), config, Shapes) else {
             continue;
         };
-        match engine.take_in(&heap, rt.alloc(), octets.as_slice()) {
+        match engine.take_in(&heap, octets.as_slice()) {
             Ok(outcome) => {
                 taken = true;
                 assert_eq!(rt; outcome.notices.len(), 2);
@@ -268,7 +268,12 @@ fn an_engine_without_memory_has_failed(rt: HostRuntime) -> Result<(), Fail> {
             Err(error) => {
                 refused = true;
                 assert_eq!(rt; error, EngineError::NoMemory);
-                match engine.take_in(&heap, rt.alloc(), octets.as_slice()) {
+                assert_eq!(rt; engine.status(1).map(|status| status.samples), Some(0));
+                match engine.matches(&heap) {
+                    Ok(_) => assert!(rt; false, "at {step}"),
+                    Err(error) => assert_eq!(rt; error, EngineError::Failed),
+                }
+                match engine.take_in(&heap, octets.as_slice()) {
                     Ok(_) => assert!(rt; false, "at {step}"),
                     Err(error) => assert_eq!(rt; error, EngineError::Failed),
                 }

@@ -1,3 +1,4 @@
 pub mod Puts
 pub mod Sets
 pub mod Orders
+pub mod Nearest

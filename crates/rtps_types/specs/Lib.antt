@@ -6,3 +6,4 @@ pub mod Number
 pub mod Sets
 pub mod Place
 pub mod Duration
+pub mod Nearest

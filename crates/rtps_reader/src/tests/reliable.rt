@@ -1,13 +1,13 @@
-//! What a reliable reader tells and answers to a datagram that was written down by hand.
+//! What a reliable reader reports and answers to a datagram that was written down by hand.
 
 ghost use Rattle.std.specs.Prelude.{◌≤◌, IfOk, length};
 
 use crate::*;
-use dds_topic::{ColorKeys, Shape, Shapes};
+use dds_topic::{Decoder, Shape, Shapes};
 use linked_list_allocator::LocalHeap;
 use rtps_receiver::events;
 use rtps_types::{EntityId, Guid, GuidPrefix, Locator, Locators, WriterFacts};
-use std::alloc::{Allocator, Global};
+use std::alloc::{AllocError, Allocator, Global};
 use std::test::Fail;
 
 const OURS: GuidPrefix = GuidPrefix([11; 12]);
@@ -62,8 +62,8 @@ fn datagram(alloc: Global) -> Result<Vec<u8>, Fail>
     Ok(octets)
 }
 
-/// What a reader tells and answers to the events of a datagram. `values` is where values are decoded.
-fn told<A: Allocator + Copy>(
+/// What a reader gives of the events of a datagram. `values` is where values are decoded.
+fn given<A: Allocator + Copy>(
     alloc: A,
     values: Global,
     reader: &mut ReaderState<A>,
@@ -75,16 +75,12 @@ fn told<A: Allocator + Copy>(
         notices: Vec::new(alloc),
         answers: Vec::new(alloc),
     };
-    let mut memo = ColorKeys::default();
+    let mut decoder = Decoder::new(values, Shapes);
     let Ok(events) = events(values, OURS, 0, octets) else {
-        return Err(ReaderError::NoMemory);
+        return Err(AllocError);
     };
     for event in &events {
-        let step = Step {
-            place: event.place,
-            what: Asked::Event(*event),
-        };
-        reader.step(alloc, values, &Shapes, &mut memo, &step, &mut output)?;
+        reader.step(alloc, &mut decoder, &Step::of_event(event), &mut output)?;
     }
     Ok(output)
 }
@@ -93,13 +89,13 @@ fn told<A: Allocator + Copy>(
 fn samples_come_in_order_and_losses_before_them(rt: HostRuntime) -> Result<(), Fail> {
     let mut reader = reader(rt.alloc())?;
     let octets = datagram(rt.alloc())?;
-    let output = told(rt.alloc(), rt.alloc(), &mut reader, octets.as_slice())?;
+    let output = given(rt.alloc(), rt.alloc(), &mut reader, octets.as_slice())?;
     let expected: [(u32, u64, u64); 3] = [(1, 1, 0), (4, 3, 0), (5, 0, 2)];
     assert_eq!(rt; output.notices.len(), expected.len());
     for (notice, expected) in output.notices.iter().zip(&expected) {
         let (number, lost) = match &notice.what {
-            Told::Sample { number, .. } => (number.get(), 0),
-            Told::Lost { count } => (0, *count),
+            NoticeKind::Sample { number, .. } => (number.get(), 0),
+            NoticeKind::Lost { count } => (0, *count),
             _ => (0, 0),
         };
         assert_eq!(rt; (notice.place.submessage, number, lost), *expected);
@@ -113,7 +109,7 @@ fn samples_come_in_order_and_losses_before_them(rt: HostRuntime) -> Result<(), F
 fn heartbeats_are_answered_to_the_writers_locators(rt: HostRuntime) -> Result<(), Fail> {
     let mut reader = reader(rt.alloc())?;
     let octets = datagram(rt.alloc())?;
-    let output = told(rt.alloc(), rt.alloc(), &mut reader, octets.as_slice())?;
+    let output = given(rt.alloc(), rt.alloc(), &mut reader, octets.as_slice())?;
     assert_eq!(rt; output.answers.len(), ANSWERS.len());
     for ((place, reply), expected) in output.answers.iter().zip(&ANSWERS) {
         let octets = hex::decode(rt.alloc(), *expected)?;
@@ -136,7 +132,7 @@ fn a_reader_without_memory_is_spent(rt: HostRuntime) -> Result<(), Fail> {
         let Ok(mut reader) = reader(&heap) else {
             continue;
         };
-        match told(&heap, rt.alloc(), &mut reader, octets.as_slice()) {
+        match given(&heap, rt.alloc(), &mut reader, octets.as_slice()) {
             Ok(output) => {
                 taken = true;
                 assert_eq!(rt; output.notices.len(), 3);
@@ -144,10 +140,10 @@ fn a_reader_without_memory_is_spent(rt: HostRuntime) -> Result<(), Fail> {
             }
             Err(error) => {
                 refused = true;
-                assert_eq!(rt; error, ReaderError::NoMemory);
-                match told(&heap, rt.alloc(), &mut reader, octets.as_slice()) {
+                assert_eq!(rt; error, AllocError);
+                match given(&heap, rt.alloc(), &mut reader, octets.as_slice()) {
                     Ok(_) => assert!(rt; false, "at {step}"),
-                    Err(error) => assert_eq!(rt; error, ReaderError::NoMemory),
+                    Err(error) => assert_eq!(rt; error, AllocError),
                 }
             }
         }

@@ -1,7 +1,7 @@
-//! What a best-effort reader tells of events that were written down by hand.
+//! What a best-effort reader reports of events that were written down by hand.
 
 use crate::*;
-use dds_topic::{ColorKeys, Shape, Shapes};
+use dds_topic::{Decoder, Shape, Shapes};
 use rtps_receiver::{Body as Brought, Event, Whole};
 use rtps_types::{EntityId, Guid, GuidPrefix, Locators, Number, Place, WriterFacts};
 use rtps_wire::{ChangeInfo, Form};
@@ -18,8 +18,6 @@ const THEIRS: GuidPrefix = GuidPrefix([10; 12]);
 const WRITER: EntityId = EntityId([0, 0, 1, 2]);
 
 const READER: EntityId = EntityId([0, 0, 1, 7]);
-
-const EVERY_READER: EntityId = EntityId([0; 4]);
 
 /// A reader that is matched with one writer from the start.
 fn reader(alloc: Global) -> Result<ReaderState, Fail> {
@@ -41,70 +39,61 @@ fn reader(alloc: Global) -> Result<ReaderState, Fail> {
     )?)
 }
 
-/// The step of a change of this number that came in this datagram.
-fn step(
-    datagram: u64,
-    source: GuidPrefix,
-    reader: EntityId,
-    number: u64,
-) -> Result<Step<'static>, Fail> {
+/// A change of this number that came in this datagram.
+fn event(datagram: u64, source: GuidPrefix, number: u64) -> Result<Event<'static>, Fail> {
     let Some(number) = Number::new(number) else {
         return Err(Fail::new("no number"));
     };
-    let place = Place {
-        datagram,
-        submessage: 1,
-    };
-    Ok(Step {
-        place,
-        what: Asked::Event(Event {
-            place,
-            source,
-            time: None,
-            writer: WRITER,
-            reader,
-            body: Brought::Whole(Whole {
-                number,
-                info: ChangeInfo {
-                    form: Form::Value,
-                    status: 0,
-                    hash: None,
-                },
-                payload: &RED,
-            }),
+    Ok(Event {
+        place: Place {
+            datagram,
+            submessage: 1,
+        },
+        source,
+        time: None,
+        writer: WRITER,
+        reader: READER,
+        body: Brought::Whole(Whole {
+            number,
+            info: ChangeInfo {
+                form: Form::Value,
+                status: 0,
+                hash: None,
+            },
+            payload: &RED,
         }),
     })
 }
 
-/// What a reader tells of five changes, of which three are not for it: an old one, one for another
-/// reader, and one from a writer that isn't matched.
-fn told(alloc: Global, reader: &mut ReaderState) -> Result<Output<Shape>, Fail> {
+/// What a reader gives of four changes, of which it takes two: the others are an old one, and one
+/// from a writer that isn't matched.
+fn given(alloc: Global, reader: &mut ReaderState) -> Result<Output<Shape>, Fail> {
     let mut output = Output {
         notices: Vec::new(alloc),
         answers: Vec::new(alloc),
     };
-    let mut memo = ColorKeys::default();
-    for (datagram, source, to, number) in [
-        (0, THEIRS, READER, 5),
-        (1, THEIRS, EVERY_READER, 8),
-        (2, THEIRS, READER, 7),
-        (3, THEIRS, EntityId([0, 0, 1, 4]), 9),
-        (4, GuidPrefix([12; 12]), READER, 9),
+    let mut decoder = Decoder::new(alloc, Shapes);
+    let other = GuidPrefix([12; 12]);
+    for (datagram, source, number) in [
+        (0, THEIRS, 5),
+        (1, THEIRS, 8),
+        (2, THEIRS, 7),
+        (3, other, 9),
     ] {
-        let step = step(datagram, source, to, number)?;
-        reader.step(alloc, alloc, &Shapes, &mut memo, &step, &mut output)?;
+        let event = event(datagram, source, number)?;
+        reader.step(alloc, &mut decoder, &Step::of_event(&event), &mut output)?;
     }
     Ok(output)
 }
 
 #[test]
-fn rising_numbers_are_told_once(rt: HostRuntime) -> Result<(), Fail> {
+fn rising_numbers_are_presented_once(rt: HostRuntime) -> Result<(), Fail> {
     let mut reader = reader(rt.alloc())?;
-    let output = told(rt.alloc(), &mut reader)?;
+    let output = given(rt.alloc(), &mut reader)?;
     assert_eq!(rt; output.notices.len(), 3);
     assert_eq!(rt; output.answers.len(), 0);
     match &output.notices[0].what {
-        Told::Sample {
+        NoticeKind::Sample {
             number,
             body: Body::Value(_, shape),
             ..
@@ -116,11 +105,11 @@ fn rising_numbers_are_told_once(rt: HostRuntime) -> Result<(), Fail> {
         _ => assert!(rt; false, "no value"),
     }
     match &output.notices[1].what {
-        Told::Lost { count } => assert_eq!(rt; *count, 2),
+        NoticeKind::Lost { count } => assert_eq!(rt; *count, 2),
         _ => assert!(rt; false, "no loss"),
     }
     match &output.notices[2].what {
-        Told::Sample { number, .. } => assert_eq!(rt; number.get(), 8),
+        NoticeKind::Sample { number, .. } => assert_eq!(rt; number.get(), 8),
         _ => assert!(rt; false, "no sample"),
     }
     assert_eq!(rt; output.notices[2].place.datagram, 1);
@@ -129,9 +118,9 @@ fn rising_numbers_are_told_once(rt: HostRuntime) -> Result<(), Fail> {
 }
 
 #[test]
-fn the_status_counts_what_was_told(rt: HostRuntime) -> Result<(), Fail> {
+fn the_status_counts_the_notices(rt: HostRuntime) -> Result<(), Fail> {
     let mut reader = reader(rt.alloc())?;
-    let output = told(rt.alloc(), &mut reader)?;
+    let output = given(rt.alloc(), &mut reader)?;
     assert_eq!(rt; output.notices.len(), 3);
     let status = Status {
         matched_total: 1,

@@ -2,7 +2,7 @@
 
 ghost use Rattle.std.specs.Prelude.{◌≤◌, IfOk, length};
 
-use super::{HEADER, WRITER, config_of, told};
+use super::{HEADER, WRITER, config_of, seen};
 use crate::*;
 use dds_qos::Reliability;
 use dds_topic::Shapes;
@@ -20,7 +20,7 @@ const ONE_TO_THREE: &str = "07011c0000000000000001020000000001000000000000000300
 /// A heartbeat of the number 3 alone with count 2, for every reader.
 const THREE: &str = "07011c0000000000000001020000000003000000000000000300000002000000";
 
-/// What stands before each answer: our header, and the writer's participant as its destination.
+/// What comes before each answer: our header, and the writer's participant as its destination.
 const TO_WRITER: &str = "52545053020500000b0b0b0b0b0b0b0b0b0b0b0b0e010c000a0a0a0a0a0a0a0a0a0a0a0a";
 
 fn datagram(alloc: Global, parts: &[&str]) -> Result<Vec<u8>, Fail>
@@ -74,10 +74,10 @@ fn each_reader_asks_for_what_it_misses(rt: HostRuntime) -> Result<(), Fail> {
     Ok(())
 }
 
-/// What is put out, in order: whose it is, and what a notice tells; an answer has no number.
+/// What is put out, in order: whose it is, and what a notice says; an answer has no number.
 fn order(reports: &[Report<dds_topic::Shape>], at: usize) -> (u32, (u64, u32, u64, u64)) {
     match reports.get(at) {
-        Some(Report::Notice { rank, notice }) => (*rank, told(notice)),
+        Some(Report::Notice { rank, notice }) => (*rank, seen(notice)),
         Some(Report::Answer(answer)) => {
             let place = answer.place;
             (
@@ -95,7 +95,7 @@ fn a_readers_notices_come_before_its_answer(rt: HostRuntime) -> Result<(), Fail>
     let mut engine = engine(alloc)?;
     let octets = datagram(alloc, &[CHANGE, ONE_TO_THREE, THREE])?;
     let mut reports = Vec::new(alloc);
-    engine.take_in_order(alloc, alloc, octets.as_slice(), &mut reports)?;
+    engine.take_in_order(alloc, octets.as_slice(), &mut reports)?;
     let expected: [(u32, (u64, u32, u64, u64)); 8] = [
         (0, (0, 1, 1, 0)),
         (1, (0, 1, 1, 0)),
@@ -122,10 +122,10 @@ fn a_reader_without_memory_for_an_answer_fails(rt: HostRuntime) -> Result<(), Fa
         let heap = LocalHeap::new(rt.alloc(), 400 + step * 128)?;
         let fixed = [(0, WRITER), (1, WRITER)];
         let config = config_of(rt.alloc(), Reliability::Reliable, 2, &fixed)?;
-        let Ok(mut engine) = SerialEngine::new_in(&heap, config, Shapes) else {
+        let Ok(mut engine) = SerialEngine::new_in(&heap, rt.alloc(), config, Shapes) else {
             continue;
         };
-        match engine.take_in(&heap, rt.alloc(), octets.as_slice()) {
+        match engine.take_in(&heap, octets.as_slice()) {
             Ok(outcome) => {
                 taken = true;
                 assert_eq!(rt; outcome.answers.len(), 2);
@@ -133,7 +133,7 @@ fn a_reader_without_memory_for_an_answer_fails(rt: HostRuntime) -> Result<(), Fa
             Err(error) => {
                 refused = true;
                 assert_eq!(rt; error, EngineError::NoMemory);
-                match engine.take_in(&heap, rt.alloc(), octets.as_slice()) {
+                match engine.take_in(&heap, octets.as_slice()) {
                     Ok(_) => assert!(rt; false, "at {step}"),
                     Err(error) => assert_eq!(rt; error, EngineError::Failed),
                 }

@@ -1,11 +1,11 @@
 use Rattle.std.proofs.Common.{◌≡◌, ℕ, ◌<◌, List, length, map, slice_index_or}
 use Rattle.rtps_serial.specs.Run.{Facts, reader_first}
-use Rattle.rtps_serial.specs.Standing.{AllStand, facts_in}
+use Rattle.rtps_serial.specs.Standing.{AllStart, facts_in}
 use Rattle.rtps_serial.proofs.start.first_readers.Given as goal
 
 abbrev pub invariant-loop-rank : goal.invariant-loop-rank
 invariant-loop-rank g l = record {
   count : length l.states.items ≡ l.rank;
-  stand : (matched : ℕ → List Facts) → ((rank : ℕ) (other : _) → rank < length l.readers → map facts_in (slice_index_or l.fixed rank other).items ≡ matched rank)
-      → AllStand (λ rank. reader_first l.own l.readers rank (matched rank)) l.states.items;
+  start : (matched : ℕ → List Facts) → ((rank : ℕ) (other : _) → rank < length l.readers → map facts_in (slice_index_or l.fixed rank other).items ≡ matched rank)
+      → AllStart (λ rank. reader_first l.own l.readers rank (matched rank)) l.states.items;
 }

@@ -1,11 +1,12 @@
-use Rattle.std.proofs.Common.{length, refl, zero-add}
-use Rattle.rtps_reader.proofs.Seats.{fresh_all, length-fresh, length-whoms}
+use Rattle.std.proofs.Common.{length, refl}
+use Rattle.rtps_reader.proofs.Matches.{fresh_all, length-whoms}
+use Rattle.rtps_reader.proofs.Counting.{first_status}
 use Rattle.rtps_reader.proofs.state.ReaderState.new.Goals as goal
 
-pub returns-clause-stands : goal.returns-clause-stands
-returns-clause-stands g c = record {
+pub returns-clause-starts : goal.returns-clause-starts
+returns-clause-starts g c = record {
   sound = refl;
   entity = refl;
-  matches = rw (fresh_all c.args.own c.args.entity c.args.reliable c.args.fixed.now) c.in_ok-seats.ensures;
-  status = rw (length-fresh c.args.own c.args.entity c.args.reliable c.args.fixed.now, length-whoms c.args.own c.args.entity c.args.reliable c.args.fixed.now, c.counted.ensures, zero-add (length c.args.fixed.now)) refl;
+  matches = rw (fresh_all c.args.own c.args.entity c.args.reliable c.args.fixed.now) c.in_ok-matches.ensures;
+  status = first_status (length c.args.fixed.now) _ c.counted.result c.counted.ensures (length-whoms c.args.own c.args.entity c.args.reliable c.args.fixed.now);
 }

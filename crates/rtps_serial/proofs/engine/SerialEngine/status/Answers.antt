@@ -1,12 +1,13 @@
-use Rattle.std.proofs.Common.{◌∙◌, None, Some, ap, if◌then◌else◌, nat_lt, sym}
-use Rattle.rtps_reader.specs.Body.{body_by}
-use Rattle.rtps_reader.specs.Reader.{status_of}
+use Rattle.std.proofs.Common.{◌∙◌, sym}
 use Rattle.rtps_serial.specs.Run.{run}
+use Rattle.rtps_serial.specs.Seen.{status_at}
 use Rattle.rtps_serial.proofs.Running.{run_count}
+use Rattle.rtps_serial.proofs.Taking.{copied}
 use Rattle.rtps_serial.proofs.engine.SerialEngine.status.Goals as goal
 
 pub returns : goal.returns
 returns g c = rw (sym c.self.view_is) (λ datagrams kept.
-    let answers = body_by (g.C.Catalog.meaning c.self.inside.catalog) (g.C.Catalog.hash c.self.inside.catalog) (g.C.Catalog.hash_of_key c.self.inside.catalog) in
-    let world = run answers c.self.inside.config datagrams in
-    (rw c.deref.ensures.value at c.status_of.ensures) world.readers kept.readers ∙ ap (λ n. if nat_lt c.args.rank n then Some (status_of (world.readers c.args.rank)) else None) (kept.count ∙ sym (run_count answers c.self.inside.config datagrams)))
+    let d = g.C.Catalog.decoding c.self.inside.decoder in
+    let world = run d c.self.inside.config datagrams in
+    let lookup = rw c.deref.ensures.value at c.get.ensures.lookup in
+    c.copied.ensures ∙ copied c.get.result c.self.inside.statuses.items c.args.rank world.count (status_at world c.args.rank) lookup.0 lookup.1 (kept.count ∙ sym (run_count d c.self.inside.config datagrams)) (λ other below. kept.statuses c.args.rank other below))

@@ -2,8 +2,8 @@ use Rattle.std.proofs.Common.{◌≡◌, ◌+◌, List, [], ◌∷◌, ◌++◌,
 use Rattle.std.proofs.lemmas.List.{take_more}
 use Rattle.rtps_types.specs.declared.locator.Locator.{Locator}
 use Rattle.rtps_reader.specs.Standing.{whom_for}
-use Rattle.rtps_reader.proofs.Seats.{all_stand_more}
-use Rattle.rtps_reader.proofs.state.seats_for.Goals as goal
+use Rattle.rtps_reader.proofs.Matches.{all_stand_more}
+use Rattle.rtps_reader.proofs.state.fresh_matches.Goals as goal
 
 pub loop-facts-preserved : goal.loop-facts-preserved
 loop-facts-preserved g c =

@@ -1,0 +1,119 @@
+//! A catalog at work.
+
+ghost use Rattle.std.specs.Prelude.{◌≡◌, IfOk};
+ghost use Rattle.dds_topic.specs.Answer.{Gives};
+
+use crate::{Catalog, CatalogError};
+use rtps_types::KeyHash;
+use std::alloc::{AllocError, Global};
+use std::marker::Model;
+
+/// A catalog with what it keeps from one value to the next.
+///
+/// Who steps readers owns one and lends it to each of them. Readers on several threads need one
+/// for each thread, over a catalog that all of them borrow: a `&C` is a catalog too.
+#[derive(Drop)]
+pub struct Decoder<C: Catalog> {
+    catalog: C,
+    memo: C::Memo,
+    /// Where values are decoded.
+    alloc: Global,
+}
+
+impl<C: Catalog> Model for Decoder<C> {
+    ghost Value = { C };
+
+    ghost view = { λ d. d.catalog };
+}
+
+impl<C: Catalog> Decoder<C> {
+    /// A decoder that has decoded nothing. Its values come from `alloc`.
+    pub fn new(alloc: Global, catalog: C) -> Decoder<C>
+        ensures { result ≡ catalog }
+    {
+        Decoder {
+            catalog,
+            memo: C::Memo::default(),
+            alloc,
+        }
+    }
+
+    /// The catalog that it decodes by.
+    pub fn catalog(&self) -> &C
+        ensures { result.now ≡ self.now }
+    {
+        &self.catalog
+    }
+
+    /// The value of a body, by the kind of its encapsulation; the errors are those of
+    /// [`Catalog::decode`].
+    pub fn decode(&self, kind: u16, body: &[u8]) -> Result<C::Value, CatalogError>
+        ensures { Gives C.view result ((C.decoding self.now).meaning kind body.now) }
+    {
+        self.catalog.decode(self.alloc, kind, body)
+    }
+
+    /// The hash of a value's key.
+    pub fn key_of(&mut self, value: &C::Value) -> Result<KeyHash, AllocError>
+        ensures key { IfOk result (λ h. h ≡ (C.decoding self.old).hash (C.view value.now)) }
+        ensures same { self.new ≡ self.old }
+    {
+        self.catalog.key_by(&mut self.memo, self.alloc, value)
+    }
+
+    /// The hash of the key that the body of a key payload spells; the errors are those of
+    /// [`Catalog::key_of_payload`].
+    pub fn key_of_payload(&self, kind: u16, body: &[u8]) -> Result<KeyHash, CatalogError>
+        ensures { Gives (λ h. h) result ((C.decoding self.now).hash_of_key kind body.now) }
+    {
+        self.catalog.key_of_payload(self.alloc, kind, body)
+    }
+}
+
+impl<'c, C: Catalog> Catalog for &'c C {
+    type Value = C::Value;
+
+    type Memo = C::Memo;
+
+    ghost Meaning = { C.Meaning };
+
+    ghost view = { C.view };
+
+    ghost decoding = { λ c. C.decoding c.now };
+
+    ghost key = { λ c. C.key c.now };
+
+    ghost text_of = { λ c. C.text_of c.now };
+
+    fn decode(&self, alloc: Global, kind: u16, body: &[u8]) -> Result<C::Value, CatalogError> {
+        (**self).decode(alloc, kind, body)
+    }
+
+    fn key_of(&self, alloc: Global, value: &C::Value) -> Result<KeyHash, AllocError> {
+        (**self).key_of(alloc, value)
+    }
+
+    fn key_by(
+        &self,
+        memo: &mut C::Memo,
+        alloc: Global,
+        value: &C::Value,
+    ) -> Result<KeyHash, AllocError> {
+        (**self).key_by(memo, alloc, value)
+    }
+
+    fn key_payload(&self, alloc: Global, value: &C::Value) -> Result<Vec<u8>, AllocError> {
+        (**self).key_payload(alloc, value)
+    }
+
+    fn key_of_payload(
+        &self,
+        alloc: Global,
+        kind: u16,
+        body: &[u8],
+    ) -> Result<KeyHash, CatalogError> {
+        (**self).key_of_payload(alloc, kind, body)
+    }
+
+    ghost key_again = { λ c v. C.key_again c.now v };
+}

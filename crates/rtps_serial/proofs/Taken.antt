@@ -1,0 +1,95 @@
+-- The numbers of the changes that the events of a run bring.
+use Rattle.std.proofs.Common.{◌≡◌, ℕ, ◌+◌, ◌^◌, ◌&&◌, Bool, true, false, List, [], ◌∷◌, map, Option, Some, None, if◌then◌else◌, nat_le, refl, subst, arith, inl, inr}
+use Rattle.std.specs.Prelude.{drop, option_to_list}
+use Rattle.std.specs.List.{AllByRecursion, list_all}
+use Rattle.std.specs.Str.{bytes_eq}
+use Rattle.std.proofs.lemmas.Bool.Decides.{nat_tests}
+use Rattle.rtps_types.specs.SequenceNumber.{IsNumber}
+use Rattle.rtps_types.specs.declared.identity.GuidPrefix.{GuidPrefix}
+use Rattle.rtps_types.specs.declared.place.Place.{Place}
+use Rattle.rtps_types.specs.declared.time.Timestamp.{Timestamp}
+use Rattle.rtps_wire.specs.declared.message.Header.{Header}
+use Rattle.rtps_wire.specs.declared.message.HeaderFault.{HeaderFault}
+use Rattle.std.specs.Prelude.{Result, Ok, Err}
+use Rattle.rtps_wire.specs.Header.{header_of}
+use Rattle.rtps_wire.specs.Reading.{reading}
+use Rattle.rtps_wire.specs.Submessage.{Content, Item}
+use Rattle.rtps_receiver.specs.Addressed.{Addressed, addressed, first_of, numbers_of, taken, taken_of}
+use Rattle.rtps_receiver.specs.Brought.{Brought, Whole, Fragment, Heartbeat, Gap, HeartbeatFrag, is_taken}
+use Rattle.rtps_receiver.specs.Context.{destination_of, source_of, time_of}
+use Rattle.rtps_receiver.specs.Events.{Happening, event_behind, events_behind, events_of, events_under, happening}
+use Rattle.rtps_proxy.specs.History.{Sample}
+use Rattle.rtps_proxy.specs.Presentation.{Brings, IsSample}
+use Rattle.rtps_serial.specs.Presentation.{came_of}
+use Rattle.rtps_serial.specs.Run.{events_from}
+use Rattle.rtps_serial.proofs.Places.{all_append}
+
+-- a change in one piece has a number that a change may have
+abbrev pub HasNumber : Brought → Type 0
+HasNumber (Whole c) = IsNumber c.number
+HasNumber (Fragment f) = Unit {0}
+HasNumber (Heartbeat h) = Unit {0}
+HasNumber (Gap g) = Unit {0}
+HasNumber (HeartbeatFrag h) = Unit {0}
+
+and_first : (a b : Bool) → (a && b) ≡ true → a ≡ true
+and_first true b h = refl
+and_first false b h = absurd cc
+
+and_second : (a b : Bool) → (a && b) ≡ true → b ≡ true
+and_second true b h = h
+and_second false b h = absurd cc
+
+within : (n : ℕ) → nat_le 1 n ≡ true → nat_le n (2 ^ 62) ≡ true → IsNumber n
+within n low high = (grind (arith, nat_tests), grind (arith, nat_tests))
+
+by_body : (b : Brought) → (nat_le 1 (first_of b) && list_all is_taken (numbers_of b)) ≡ true → HasNumber b
+by_body (Whole c) h = within c.number (and_first _ _ h) (and_first _ true (and_second (nat_le 1 c.number) _ h))
+by_body (Fragment f) h = tt
+by_body (Heartbeat h) k = tt
+by_body (Gap g) h = tt
+by_body (HeartbeatFrag h) k = tt
+
+of_taken : (place : Place) (source : GuidPrefix) (time : Option Timestamp) (a : Addressed) → AllByRecursion (λ (e : Happening). HasNumber e.body) (option_to_list (happening place source time (taken a)))
+of_taken place source time a = by_test (nat_le 1 (first_of a.body) && list_all is_taken (numbers_of a.body)) refl
+  where
+    by_test : (t : Bool) → (nat_le 1 (first_of a.body) && list_all is_taken (numbers_of a.body)) ≡ t → AllByRecursion (λ (e : Happening). HasNumber e.body) (option_to_list (happening place source time (if t then Some a else None)))
+    by_test true is = (by_body a.body is, tt)
+    by_test false is = tt
+
+of_some : (place : Place) (source : GuidPrefix) (time : Option Timestamp) (b : Bool) (o : Option Addressed) → AllByRecursion (λ (e : Happening). HasNumber e.body) (option_to_list (if b then happening place source time (taken_of o) else None))
+of_some place source time true None = tt
+of_some place source time true (Some a) = of_taken place source time a
+of_some place source time false o = tt
+
+of_items : (own header : GuidPrefix) (index count : ℕ) (before : List Content) (items : List Item) → AllByRecursion (λ (e : Happening). HasNumber e.body) (events_behind own header index count before items)
+of_items own header index count before [] = tt
+of_items own header index count before (i ∷ left) =
+    all_append (λ (e : Happening). HasNumber e.body) (option_to_list (event_behind own header (record { datagram = index; submessage = count + 1 }) before i.content)) (events_behind own header index (count + 1) (i.content ∷ before) left)
+    (of_some (record { datagram = index; submessage = count + 1 }) (source_of header before) (time_of before) (bytes_eq (destination_of own before).0 own.0) (addressed i.content))
+    (of_items own header index (count + 1) (i.content ∷ before) left)
+
+of_datagram : (own : GuidPrefix) (index : ℕ) (octets : List ℕ) → AllByRecursion (λ (e : Happening). HasNumber e.body) (events_of own index octets)
+of_datagram own index octets = by_header (header_of octets)
+  where
+    by_header : (r : Result Header HeaderFault) → AllByRecursion (λ (e : Happening). HasNumber e.body) (events_under own index octets r)
+    by_header (Err f) = tt
+    by_header (Ok h) = of_items own h.prefix index 0 [] (reading (drop 20 octets)).items
+
+pub all_have_numbers : (own : GuidPrefix) (index : ℕ) (datagrams : List (List ℕ)) → AllByRecursion (λ (e : Happening). HasNumber e.body) (events_from own index datagrams)
+all_have_numbers own index [] = tt
+all_have_numbers own index (octets ∷ datagrams) =
+    all_append (λ (e : Happening). HasNumber e.body) (events_of own index octets) (events_from own (index + 1) datagrams) (of_datagram own index octets) (all_have_numbers own (index + 1) datagrams)
+
+-- a sample that such events brought has such a number
+is_sample_of : (time : Option Timestamp) (b : Brought) (s : Sample) → HasNumber b → IsSample time b s → IsNumber s.number
+is_sample_of time (Whole c) s has is = subst (λ (t : Sample). IsNumber t.number) is has
+is_sample_of time (Fragment f) s has is = absurd is
+is_sample_of time (Heartbeat h) s has is = absurd is
+is_sample_of time (Gap g) s has is = absurd is
+is_sample_of time (HeartbeatFrag h) s has is = absurd is
+
+pub brought_number : (es : List Happening) (s : Sample) → AllByRecursion (λ (e : Happening). HasNumber e.body) es → Brings (map came_of es) s → IsNumber s.number
+brought_number [] s all b = absurd b
+brought_number (e ∷ es) s all (inl is) = is_sample_of e.time e.body s all.0 is
+brought_number (e ∷ es) s all (inr rest) = brought_number es s all.1 rest

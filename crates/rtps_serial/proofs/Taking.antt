@@ -1,0 +1,99 @@
+-- One datagram more is taken.
+use Rattle.std.proofs.Common.{Bor, IfSome, None, Option, Some, if◌then◌else◌, is_some, nat_lt, ◌≡◌, ◌++◌, ◌∷◌, ◌+◌, ◌<◌, ℕ, [], List, true, false, ap, arith, get_or, length, length-append, map, refl, subst, sym, ◌∙◌}
+use Rattle.std.specs.Option.{option_copied}
+use Rattle.std.proofs.lemmas.Bool.Decides.{nat_tests}
+use Rattle.std.proofs.lemmas.List.{get_or-map, length-map}
+use Rattle.rtps_receiver.specs.Events.{events_of}
+use Rattle.rtps_discovery.specs.declared.config.Config.{Config}
+use Rattle.dds_topic.specs.Decoding.{Decoding}
+use Rattle.rtps_reader.specs.declared.status.Status.{Status}
+use Rattle.rtps_reader.specs.Standing.{ReaderKept}
+use Rattle.rtps_reader.proofs.Counting.{starts}
+use Rattle.rtps_serial.specs.Run.{fixed_of, reader_first, run, world_run}
+use Rattle.rtps_serial.specs.Seen.{status_at}
+use Rattle.rtps_serial.specs.Standing.{AllStand, AllStart, EngineKept, IsFinishedFrom, IsSteppedFrom, ShowsAt, StandsAt, run_by}
+use Rattle.rtps_serial.specs.World.{Put, World}
+use Rattle.rtps_serial.proofs.Running.{run_count, run_more}
+
+-- readers that gave out nothing are those of the first world
+pub starts_here : {M : Type 0} (d : Decoding M) (config : Config) (states : List ReaderKept) → AllStart (λ rank. reader_first config.own config.readers.items rank (fixed_of config.fixed.items rank)) states → AllStand (run d config []) states
+starts_here d config states all rank other below =
+    let one = all rank other below in
+    record { stands = starts _ _ one.stands; ranked = one.ranked }
+
+-- some state, where there is one at a rank
+some_of : (states : List ReaderKept) (rank : ℕ) → rank < length states → ReaderKept
+some_of [] rank below = absurd (omega arith)
+some_of (s ∷ states) rank below = s
+
+-- a reader's own status is the one that is to be shown
+shows : {M : Type 0} (w : World M) (states : List ReaderKept) (statuses : List Status) → AllStand w states
+    → ((rank : ℕ) (s : Status) (r : ReaderKept) → rank < length states → get_or statuses rank s ≡ (get_or states rank r).status)
+    → (rank : ℕ) (other : Status) → rank < length states → get_or statuses rank other ≡ status_at w rank
+shows w states statuses all same rank other below =
+    let default = some_of states rank below in
+    same rank other default below ∙ (all rank default below).stands.status
+
+pub shows_first : {C M : Type 0} (decoding : C → Decoding M) (engine : EngineKept C) → length engine.readers ≡ length engine.config.readers.items
+    → engine.statuses ≡ map (λ (r : ReaderKept). r.status) engine.readers → AllStand (run_by decoding engine []) engine.readers → ShowsAt decoding [] engine
+shows_first decoding engine count shown all =
+    let whole : length engine.statuses ≡ length engine.readers = ap length shown ∙ length-map engine.readers (λ (r : ReaderKept). r.status) in
+    record {
+      count = whole ∙ count;
+      statuses = λ rank other below. shows (run_by decoding engine []) engine.readers engine.statuses all
+          (λ k s r less. ap (λ l. get_or l k s) shown ∙ get_or-map (λ (r : ReaderKept). r.status) engine.readers k r s less) rank other (omega (arith, below, whole));
+    }
+
+pub taken : {C M : Type 0} (decoding : C → Decoding M) (datagrams : List (List ℕ)) (octets : List ℕ) (old admitted stepped new : EngineKept C) → StandsAt decoding datagrams old
+    → admitted ≡ record old { failed = true } → IsSteppedFrom admitted stepped
+    → ((w : World M) → w.count ≡ length admitted.readers → AllStand w admitted.readers → AllStand (world_run (decoding admitted.catalog) w (events_of admitted.config.own admitted.index octets)) stepped.readers)
+    → IsFinishedFrom stepped new → StandsAt decoding (datagrams ++ octets ∷ []) new
+taken {C} {M} decoding datagrams octets old admitted stepped new kept is step stands finish =
+    let all = datagrams ++ octets ∷ [] in
+    let catalog : new.catalog ≡ old.catalog = finish.catalog ∙ step.catalog ∙ ap (λ (e : EngineKept C). e.catalog) is in
+    let config : new.config ≡ old.config = finish.config ∙ step.config ∙ ap (λ (e : EngineKept C). e.config) is in
+    let index : new.index ≡ old.index + 1 = finish.index ∙ ap (λ n. n + 1) (step.index ∙ ap (λ (e : EngineKept C). e.index) is) in
+    let readers : length stepped.readers ≡ length old.readers = step.count ∙ ap (λ (e : EngineKept C). length e.readers) is in
+    let statuses : length new.statuses ≡ length old.statuses = finish.count ∙ ap length step.statuses ∙ ap (λ (e : EngineKept C). length e.statuses) is in
+    let before = run_by decoding old datagrams in
+    let counted : before.count ≡ length old.readers = run_count (decoding old.catalog) old.config datagrams ∙ sym kept.count in
+    let same : run_by decoding new all ≡ run_by decoding old all = ap (λ k. run (decoding k) new.config all) catalog ∙ ap (λ k. run (decoding old.catalog) k all) config in
+    let next : run_by decoding old all ≡ world_run (decoding old.catalog) before (events_of old.config.own old.index octets) = run_more (decoding old.catalog) old.config datagrams octets old.index kept.index in
+    let here : AllStand (world_run (decoding old.catalog) before (events_of old.config.own old.index octets)) stepped.readers
+    = subst (λ (e : EngineKept C). AllStand (world_run (decoding e.catalog) before (events_of e.config.own e.index octets)) stepped.readers) is
+    (stands before (counted ∙ sym (ap (λ (e : EngineKept C). length e.readers) is)) (subst (λ (e : EngineKept C). AllStand before e.readers) (sym is) kept.readers)) in
+    let there : AllStand (run_by decoding new all) stepped.readers = subst (λ (w : World M). AllStand w stepped.readers) (sym (same ∙ next)) here in
+    let fixed : length old.config.readers.items ≡ length new.config.readers.items = ap (λ (k : Config). length k.readers.items) (sym config) in
+    record {
+      sound = finish.sound;
+      index = omega (arith, index, kept.index, length-append datagrams (octets ∷ []));
+      count = ap length finish.readers ∙ readers ∙ kept.count ∙ fixed;
+      readers = subst (AllStand (run_by decoding new all)) (sym finish.readers) there;
+      shows = record {
+        count = statuses ∙ kept.shows.count ∙ fixed;
+        statuses = λ rank other below. shows (run_by decoding new all) stepped.readers new.statuses there finish.statuses rank other (omega (arith, below, statuses, kept.shows.count, kept.count, readers));
+      };
+    }
+
+-- a run that is put out, once a datagram more is taken
+pub put_taken : {C M : Type 0} (decoding : C → Decoding M) (datagrams : List (List ℕ)) (octets : List ℕ) (old admitted : EngineKept C) (reports : List (Put M)) → StandsAt decoding datagrams old
+    → admitted ≡ record old { failed = true }
+    → ((w : World M) → w.count ≡ length admitted.readers → AllStand w admitted.readers → (world_run (decoding admitted.catalog) w (events_of admitted.config.own admitted.index octets)).put ≡ w.put ++ reports)
+    → (run_by decoding old (datagrams ++ octets ∷ [])).put ≡ (run_by decoding old datagrams).put ++ reports
+put_taken {C} {M} decoding datagrams octets old admitted reports kept is put =
+    let before = run_by decoding old datagrams in
+    let counted : before.count ≡ length old.readers = run_count (decoding old.catalog) old.config datagrams ∙ sym kept.count in
+    ap (λ (w : World M). w.put) (run_more (decoding old.catalog) old.config datagrams octets old.index kept.index)
+    ∙ subst (λ (e : EngineKept C). (world_run (decoding e.catalog) before (events_of e.config.own e.index octets)).put ≡ before.put ++ reports) is
+    (put before (counted ∙ sym (ap (λ (e : EngineKept C). length e.readers) is)) (subst (λ (e : EngineKept C). AllStand before e.readers) (sym is) kept.readers))
+
+-- what is read of the statuses at a rank
+pub copied : (o : Option (Bor Status)) (statuses : List Status) (rank n : ℕ) (at : Status) → is_some o ≡ nat_lt rank (length statuses) → IfSome o (λ x. x.now ≡ get_or statuses rank x.now)
+    → length statuses ≡ n → ((other : Status) → rank < length statuses → get_or statuses rank other ≡ at) → option_copied o ≡ (if nat_lt rank n then Some at else None)
+copied None statuses rank n at some is count shown =
+    let past : nat_lt rank n ≡ false = ap (nat_lt rank) (sym count) ∙ sym some in
+    rw past refl
+copied (Some x) statuses rank n at some is count shown =
+    let within : nat_lt rank n ≡ true = ap (nat_lt rank) (sym count) ∙ sym some in
+    let below : rank < length statuses = grind (arith, nat_tests) in
+    rw within (ap (λ (s : Status). Some s) (is ∙ shown x.now below))

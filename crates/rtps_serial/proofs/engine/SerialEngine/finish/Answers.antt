@@ -1,0 +1,17 @@
+use Rattle.std.proofs.Common.{◌≡◌, ◌∙◌, ap, arith, get_or, length, refl, sym, drop}
+use Rattle.rtps_serial.proofs.Running.{front_back}
+use Rattle.rtps_serial.proofs.engine.SerialEngine.finish.Goals as goal
+
+pub returns : goal.returns
+returns g c = rw (sym c.self.view_is) (
+    let whole : length c.show_all.new.statuses ≡ c.self.inside.statuses.len = omega (arith, c.show_all.auto.statuses, c.deref_mut.ensures.len) in
+    let front = front_back c.self.inside.statuses.len c.show_all.new.statuses (drop (length c.show_all.new.statuses) c.self.inside.statuses.items) whole in
+    record {
+      catalog = refl;
+      config = refl;
+      index = refl;
+      sound = refl;
+      readers = refl;
+      count = ap length front ∙ omega (arith, c.show_all.auto.statuses, ap length c.deref_mut.ensures.value);
+      statuses = λ rank s r below. ap (λ l. get_or l rank s) front ∙ (rw c.deref.ensures.value at c.show_all.ensures) rank s r below;
+    })
