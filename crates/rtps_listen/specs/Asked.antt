@@ -37,7 +37,7 @@ IsDumpCause own (Run fault) = Unit {0}
 IsDumpCause own _ = ⊥
 
 -- what is refused before a file is opened, and for no other cause
-unfoldable pub RefusesFirst : Asked → Result (Unit {0}) ListenFault → Type 0
+unfoldable pub RefusesFirst : {T : Type 0} → Asked → Result T ListenFault → Type 0
 RefusesFirst (Dump file own) result = (¬ IsPrefixText own.now → result ≡ Err BadPrefix) × IfErr result (IsDumpCause own.now)
 RefusesFirst (Replay options) result = Refuses options result × IfErr result (IsReplayCause options)
 RefusesFirst Other result = result ≡ Err NotBuilt

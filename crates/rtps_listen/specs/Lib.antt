@@ -3,4 +3,5 @@ pub mod Configs
 pub mod Identities
 pub mod Line
 pub mod Options
+pub mod Printed
 pub mod Status

@@ -1,18 +1,18 @@
--- The exit statuses of the program.
-use Rattle.std.specs.Prelude.{ℕ}
+-- The exit statuses of the program, and the lines that it ends with.
+use Rattle.std.specs.Prelude.{ℕ, List, ◌++◌, codes}
+use Rattle.rtps_records.specs.Faults as records
 use Rattle.rtps_records.specs.declared.fault.RunFault.TheVariants.{CannotRead, NotRecordFile, CutRecord, RecordTooLong, TooManyRecords, CannotWrite, NoMemory}
 use Rattle.rtps_listen.specs.declared.Failure.{Failure}
 use Rattle.rtps_listen.specs.declared.Failure.TheVariants.{Line, Fault}
 use Rattle.rtps_listen.specs.declared.fault.ListenFault.{ListenFault}
-use Rattle.rtps_listen.specs.declared.fault.ListenFault.TheVariants.{NoText, NotBuilt, BadPrefix, BadWriter, SocketFault, Run}
+use Rattle.rtps_listen.specs.declared.fault.ListenFault.TheVariants.{NoText, NotBuilt, BadPrefix, BadWriter, Run}
 
--- 2 for the line, 3 for a file and its text, 4 for a socket, 5 for memory
+-- 2 for the line, 3 for a file and its text, 5 for memory
 abbrev pub status_of : ListenFault → ℕ
 status_of NoText = 2
 status_of NotBuilt = 2
 status_of BadPrefix = 2
 status_of BadWriter = 2
-status_of SocketFault = 4
 status_of (Run CannotRead) = 3
 status_of (Run NotRecordFile) = 3
 status_of (Run (CutRecord n)) = 3
@@ -25,3 +25,14 @@ status_of (Run NoMemory) = 5
 abbrev pub status_after : Failure → ℕ
 status_after (Line error) = 2
 status_after (Fault fault) = status_of fault
+
+abbrev pub fault_text : ListenFault → List ℕ
+fault_text NoText = codes "a word is not text"
+fault_text NotBuilt = codes "not built"
+fault_text BadPrefix = codes "bad prefix"
+fault_text BadWriter = codes "bad writer"
+fault_text (Run fault) = records.fault_text fault
+
+-- the line on standard error
+abbrev pub fault_line : ListenFault → List ℕ
+fault_line fault = codes "rtps_listen: " ++ (fault_text fault ++ codes "\n")

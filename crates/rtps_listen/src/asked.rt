@@ -17,15 +17,30 @@ pub const TOPIC: &str = "Square";
 /// What the words ask for.
 #[derive(Clone, Copy, Debug, PartialEq, Eq)]
 pub enum Asked<'a> {
-    /// The events in a file, as a participant sees them whose prefix stands here in hex.
+    /// The events in a file, as a participant sees them whose prefix this is, in hex.
     Dump { file: &'a str, own: &'a str },
     /// What readers answer to a file.
     Replay(Options<'a>),
-    /// What isn't there yet.
+    /// What is not there yet.
     Other,
 }
 
-/// The first value behind this name, or else `other`.
+impl Asked<'_> {
+    ghost use Rattle.rtps_listen.specs.Printed.{file_of};
+
+    /// The name of the file that is asked for; empty where none is.
+    pub fn file(&self) -> &str
+        ensures { result.now ≡ file_of self.now }
+    {
+        match self {
+            Asked::Dump { file, .. } => file,
+            Asked::Replay(options) => options.file,
+            Asked::Other => "",
+        }
+    }
+}
+
+/// The first value after this name, or else `other`.
 #[tactic(auto, using(crate::proofs::Found::first_text))]
 fn text_in<'a>(matches: &ArgMatches<'a>, name: &str, other: &'a str) -> &'a str
     ensures { result.now ≡ text_or name.now other.entry.now (rows_of (found_of matches.now)) }
@@ -43,7 +58,7 @@ fn flag_in(matches: &ArgMatches<'_>, name: &str) -> bool
     matches.get_one::<bool>(name).unwrap_or(false)
 }
 
-/// The number behind this name, or 0.
+/// The number after this name, or 0.
 fn number_in(matches: &ArgMatches<'_>, name: &str) -> u8
     ensures { result ≡ number_in name.now (rows_of (found_of matches.now)) }
 {
@@ -62,7 +77,7 @@ fn one_to_eight(number: u8) -> u8
     }
 }
 
-/// The options behind `replay`. `--workers` and `--batch` change nothing, so they aren't among them.
+/// The options after `replay`. `--workers` and `--batch` change nothing, so they aren't among them.
 fn options_in<'a>(matches: &ArgMatches<'a>) -> Options<'a>
     ensures { AreOptions result (rows_of (found_of matches.now)) }
 {

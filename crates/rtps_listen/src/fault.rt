@@ -1,28 +1,24 @@
 //! Why the program ends with another status than 0.
 
+ghost use Rattle.std.specs.Prelude.{Some};
+ghost use Rattle.rtps_listen.specs.Status.{fault_text};
+
 use rtps_records::RunFault;
+use std::fmt;
 use thiserror::Error;
 
 /// A fault that has a line of its own on standard error.
 #[derive(Clone, Copy, Debug, PartialEq, Eq, Error)]
 pub enum ListenFault {
     /// A word of the command line is not text.
-    #[error("a word is not text")]
     NoText,
-    /// The line is a good one, but asks for what isn't there yet.
-    #[error("not built")]
+    /// The line is a good one, but asks for what is not there yet.
     NotBuilt,
     /// The value of `--own` isn't 24 hex digits.
-    #[error("bad prefix")]
     BadPrefix,
     /// The value of `--fixed` isn't 32 hex digits, or names no writer that can be matched.
-    #[error("bad writer")]
     BadWriter,
-    /// A socket can't be opened, read or written.
-    #[error("socket fault")]
-    SocketFault,
     /// The run over the records ended early.
-    #[error("{0}")]
     Run(RunFault),
 }
 
@@ -39,9 +35,22 @@ impl ListenFault {
             | ListenFault::NotBuilt
             | ListenFault::BadPrefix
             | ListenFault::BadWriter => 2,
-            ListenFault::SocketFault => 4,
             ListenFault::Run(RunFault::NoMemory) => 5,
             ListenFault::Run(_) => 3,
+        }
+    }
+}
+
+impl fmt::Display for ListenFault {
+    ghost output = { λ fault. Some (fault_text fault) };
+
+    fn fmt<W: fmt::Write>(&self, f: &mut fmt::Formatter<W>) -> fmt::Result {
+        match self {
+            ListenFault::NoText => write!(f, "a word is not text"),
+            ListenFault::NotBuilt => write!(f, "not built"),
+            ListenFault::BadPrefix => write!(f, "bad prefix"),
+            ListenFault::BadWriter => write!(f, "bad writer"),
+            ListenFault::Run(fault) => write!(f, "{fault}"),
         }
     }
 }

@@ -1,42 +1,29 @@
 //! Prints what record files hold, and what readers make of it.
 #![tactic(auto)]
 
-ghost use Rattle.std.specs.Prelude.{◌≡◌, IfErr, Ok};
-ghost use Rattle.rtps_discovery.specs.Config.{check_of};
+ghost use Rattle.std.specs.Prelude.{◌≡◌, None, OnOk};
+ghost use Rattle.std.specs.Io.KnownBytes.{Appends};
 ghost use Rattle.std.specs.Process.{exit_status};
-ghost use Rattle.rtps_listen.specs.Asked.{IsDumpCause, RefusesFirst};
-ghost use Rattle.rtps_listen.specs.Configs.{IsReplayCause, Refuses};
-ghost use Rattle.rtps_listen.specs.Identities.{IsPrefixText};
-ghost use Rattle.rtps_listen.specs.Status.{status_after};
+ghost use Rattle.rtps_listen.specs.Status.{fault_line, status_after};
 
+mod answering;
 mod asked;
 mod config;
 mod fault;
 mod options;
 mod prefix;
+mod task;
 mod words;
 
-use asked::Asked;
+use answering::{RecordFiles, answer};
 use clap::Error;
 use clap::error::ErrorKind;
-use config::config_of;
-use dds_topic::{Raw, Shapes};
 use fault::ListenFault;
-use options::Options;
-use prefix::prefix_of;
-use rtps_discovery::Config;
 use rtps_records::RunFault;
-use rtps_text::{Setup, dump, replay};
-use rtps_types::GuidPrefix;
-use std::alloc::Global;
 use std::fs::File;
-use std::io;
-use std::io::{BufReader, Lock, Read};
+use std::io::{self, Read, Stdin, Write};
 use std::process::ExitCode;
 use words::read_words;
-
-/// The reader is asked for this many octets at a time.
-const READ_AHEAD: usize = 65_536;
 
 fn main(rt: HostRuntime) -> ExitCode {
     match run(&rt) {
@@ -66,7 +53,7 @@ fn run(rt: &HostRuntime) -> Result<(), Failure> {
         }
         Err(error) => return Err(Failure::Line(error)),
     };
-    match answer(rt, asked) {
+    match answer(alloc, &HostFiles { rt }, &asked, &mut rt.stdout()) {
         Ok(()) => Ok(()),
         Err(fault) => Err(Failure::Fault(fault)),
     }
@@ -87,107 +74,39 @@ fn words_given(rt: &HostRuntime) -> Result<Vec<String>, ListenFault> {
     }
 }
 
-/// Does what is asked for.
-#[tactic(auto, unfolding(crate::specs::Asked::RefusesFirst))]
-fn answer(rt: &HostRuntime, asked: Asked<'_>) -> Result<(), ListenFault>
-    ensures { RefusesFirst asked.entry result }
-{
-    match asked {
-        Asked::Dump { file, own } => answer_dump(rt, file, own),
-        Asked::Replay(options) => answer_replay(rt, &options),
-        Asked::Other => Err(ListenFault::NotBuilt),
-    }
+/// The files of this machine.
+#[derive(Drop)]
+struct HostFiles<'a> {
+    rt: &'a HostRuntime,
 }
 
-fn answer_dump(rt: &HostRuntime, file: &str, own: &str) -> Result<(), ListenFault>
-    ensures refused { ¬ IsPrefixText own.now → result ≡ Err ListenFault.BadPrefix }
-    ensures cause { IfErr result (IsDumpCause own.now) }
-{
-    let Some(own) = prefix_of(own) else {
-        return Err(ListenFault::BadPrefix);
-    };
-    match dump_file(rt, own, file) {
-        Ok(()) => Ok(()),
-        Err(run_fault) => Err(ListenFault::Run(run_fault)),
-    }
+/// A file of this machine, or its standard input.
+#[derive(Drop)]
+enum HostFile {
+    Stdin(Stdin),
+    File(File),
 }
 
-fn answer_replay(rt: &HostRuntime, options: &Options<'_>) -> Result<(), ListenFault>
-    ensures refused { Refuses options.now result }
-    ensures cause { IfErr result (IsReplayCause options.now) }
-{
-    match config_of(rt.alloc(), options) {
-        Ok(config) => replay_file(rt, config, options),
-        Err(fault) => Err(fault),
-    }
-}
+impl RecordFiles for HostFiles<'_> {
+    type File = HostFile;
 
-/// The run over standard input where the name is `-`, else over the file of that name.
-fn replay_file(rt: &HostRuntime, config: Config, options: &Options<'_>) -> Result<(), ListenFault>
-    requires checked { check_of config ≡ Ok tt }
-    ensures cause { IfErr result (IsReplayCause options.now) }
-{
-    let outcome = if options.file == "-" {
-        replay_from(rt, config, options, rt.stdin())
-    } else {
-        match File::open(rt, options.file) {
-            Ok(opened) => replay_from(rt, config, options, opened),
-            Err(_) => Err(RunFault::CannotRead),
+    ghost holds = { λ _ _. None };
+
+    fn open(&self, name: &str) -> io::Result<HostFile> {
+        if name == "-" {
+            return Ok(HostFile::Stdin(self.rt.stdin()));
         }
-    };
-    match outcome {
-        Ok(()) => Ok(()),
-        Err(fault) => Err(ListenFault::Run(fault)),
+        Ok(HostFile::File(File::open(self.rt, name)?))
     }
 }
 
-fn replay_from<R: Read + Drop>(
-    rt: &HostRuntime,
-    config: Config,
-    options: &Options<'_>,
-    reader: R,
-) -> Result<(), RunFault>
-    requires checked { check_of config ≡ Ok tt }
-{
-    let alloc: Global = rt.alloc();
-    let Ok(mut reader) = BufReader::with_capacity(alloc, READ_AHEAD, reader) else {
-        return Err(RunFault::NoMemory);
-    };
-    let mut writer = rt.stdout();
-    let summary = options.summary;
-    if options.raw {
-        let setup = Setup {
-            config,
-            catalog: Raw,
-            summary,
-        };
-        return replay(alloc, setup, &mut reader, &mut writer);
+impl Read for HostFile {
+    fn read(&mut self, buf: &mut [u8]) -> io::Result<usize> {
+        match self {
+            HostFile::Stdin(stdin) => stdin.read(buf),
+            HostFile::File(file) => file.read(buf),
+        }
     }
-    let setup = Setup {
-        config,
-        catalog: Shapes,
-        summary,
-    };
-    replay(alloc, setup, &mut reader, &mut writer)
-}
-
-/// Standard input where the name is `-`, else the file of that name.
-fn dump_file(rt: &HostRuntime, own: GuidPrefix, file: &str) -> Result<(), RunFault> {
-    if file == "-" {
-        return dump_from(rt, own, rt.stdin());
-    }
-    match File::open(rt, file) {
-        Ok(opened) => dump_from(rt, own, opened),
-        Err(_) => Err(RunFault::CannotRead),
-    }
-}
-
-fn dump_from<R: Read + Drop>(rt: &HostRuntime, own: GuidPrefix, reader: R) -> Result<(), RunFault> {
-    let alloc: Global = rt.alloc();
-    let Ok(mut reader) = BufReader::with_capacity(alloc, READ_AHEAD, reader) else {
-        return Err(RunFault::NoMemory);
-    };
-    dump(alloc, own, &mut reader, &mut rt.stdout())
 }
 
 /// Writes the line of a failure to standard error, and gives the program's status.
@@ -200,10 +119,18 @@ fn report(rt: &HostRuntime, failure: Failure) -> ExitCode
             ExitCode::from(2)
         }
         Failure::Fault(fault) => {
-            let _ = eprintln!(rt; "rtps_listen: {fault}");
+            let _ = write_line(&mut rt.stderr(), fault);
             ExitCode::from(fault.status())
         }
     }
+}
+
+/// Writes the line of a fault.
+fn write_line<W: Write>(writer: &mut W, fault: ListenFault) -> io::Result<()>
+    ensures { OnOk result (Appends (W.contents writer.old) (W.contents writer.new)
+        (fault_line fault)) }
+{
+    writeln!(writer, "rtps_listen: {fault}")
 }
 
 #[cfg(test)]

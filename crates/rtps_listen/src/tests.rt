@@ -165,7 +165,6 @@ fn lines_of_faults(rt: HostRuntime) -> Result<(), Fail> {
             3,
         ),
         (ListenFault::Run(RunFault::CannotWrite), "cannot write", 3),
-        (ListenFault::SocketFault, "socket fault", 4),
         (ListenFault::Run(RunFault::NoMemory), "out of memory", 5),
     ] {
         let text = format!(in rt.alloc(); "{fault}")?;

@@ -1,7 +1,9 @@
 //! Lines of `replay`, and the configurations that their options ask for.
 
+ghost use Rattle.std.specs.Prelude.{None};
+
 use super::words;
-use crate::answer;
+use crate::answering::{RecordFiles, answer};
 use crate::asked::Asked;
 use crate::config::config_of;
 use crate::fault::ListenFault;
@@ -12,6 +14,7 @@ use dds_qos::{Durability, Ownership, Reliability};
 use rtps_discovery::check;
 use rtps_types::{EntityId, Guid, GuidPrefix};
 use std::alloc::Global;
+use std::io::{self, Error, ErrorKind};
 use std::test::Fail;
 
 const OURS: &str = "0b0b0b0b0b0b0b0b0b0b0b0b";
@@ -157,13 +160,28 @@ const REFUSED: [(bool, &str, Option<&str>, ListenFault); 6] = [
     ),
 ];
 
+/// No file is there.
+struct NoFiles;
+
+impl RecordFiles for NoFiles {
+    type File = &'static [u8];
+
+    ghost holds = { λ _ _. None };
+
+    fn open(&self, _name: &str) -> io::Result<&'static [u8]> {
+        Err(Error::from(ErrorKind::NotFound))
+    }
+}
+
 #[test]
 fn options_that_are_refused(rt: HostRuntime) {
     for (best_effort, own, fixed, fault) in REFUSED {
         let mut options = texts(own, fixed);
         options.best_effort = best_effort;
-        assert_eq!(rt; config_of(rt.alloc(), &options).err(), Some(fault));
-        assert_eq!(rt; answer(&rt, Asked::Replay(options)), Err(fault));
+        let mut out = Vec::new(rt.alloc());
+        let asked = Asked::Replay(options);
+        assert_eq!(rt; answer(rt.alloc(), &NoFiles, &asked, &mut out), Err(fault));
+        assert_eq!(rt; out.len(), 0);
     }
 }
 
