@@ -8,8 +8,8 @@ use Rattle.rtps_types.specs.SequenceNumber.{IsNumber}
 use Rattle.rtps_types.specs.declared.identity.GuidPrefix.{GuidPrefix}
 use Rattle.rtps_types.specs.declared.place.Place.{Place}
 use Rattle.rtps_types.specs.declared.time.Timestamp.{Timestamp}
-use Rattle.rtps_wire.specs.declared.message.Header.{Header}
-use Rattle.rtps_wire.specs.declared.message.HeaderFault.{HeaderFault}
+use Rattle.rtps_wire.specs.declared.message_header.Header.{Header}
+use Rattle.rtps_wire.specs.declared.message_header.HeaderFault.{HeaderFault}
 use Rattle.std.specs.Prelude.{Result, Ok, Err}
 use Rattle.rtps_wire.specs.Header.{header_of}
 use Rattle.rtps_wire.specs.Reading.{reading}

@@ -3,75 +3,84 @@ use Rattle.std.proofs.Common.{◌≡◌, ℕ, suc, ◌+◌, ◌<◌, nat_lt, ari
 use Rattle.std.proofs.lemmas.Grind.{flat_map-append}
 use Rattle.std.proofs.lemmas.List.{append_cancel_left}
 use Rattle.rtps_discovery.specs.declared.config.Config.{Config}
-use Rattle.rtps_reader.specs.Reader.{Answers, status_of}
+use Rattle.dds_topic.specs.Decoding.{Decoding}
 use Rattle.rtps_records.specs.Runs.{Stops}
 use Rattle.rtps_records.specs.Text.{Ends, IsFront, Says}
 use Rattle.rtps_records.specs.declared.fault.RunFault.{RunFault}
 use Rattle.std.proofs.lemmas.Bool.Decides.{nat_tests}
 use Rattle.rtps_reader.specs.declared.status.Status.{Status}
-use Rattle.rtps_serial.specs.Seen.{status_seen}
+use Rattle.rtps_serial.specs.Seen.{status_at, status_seen}
 use Rattle.rtps_serial.specs.World.{Put, World}
 use Rattle.rtps_serial.specs.Run.{run}
-use Rattle.rtps_serial.specs.Standing.{EngineKept, StandsAt}
-use Rattle.rtps_text.specs.Replayed.{HasSaid, put_line, put_lines, replay_text, status_lines, status_text, summary_text}
+use Rattle.rtps_serial.specs.Standing.{EngineKept, StandsAt, run_by}
+use Rattle.rtps_text.specs.Replayed.{HasSaid, put_line, put_lines, replay_text, status_lines, status_text, summary_text, text_by}
 
 -- a text that grows begins as before
 pub front_more : (a b c x : List ℕ) → IsFront a b → c ≡ b ++ x → IsFront a c
 front_more a b c x f e = (f.0 ++ x, e ∙ ap (λ l. l ++ x) f.1 ∙ append_assoc a f.0 x)
 
--- what a datagram gives is said behind what was said before
-pub says_reports : {C M : Type 0} (text : M → List ℕ) (answers : Answers M) (before after : EngineKept C) (number : ℕ) (octets old new : List ℕ) (put : List (Put M))
-    → after.config ≡ before.config
-    → ((records : List (List ℕ)) → StandsAt answers records before → StandsAt answers (records ++ octets ∷ []) after)
-    → ((records : List (List ℕ)) → StandsAt answers records before → (run answers before.config (records ++ octets ∷ [])).put ≡ (run answers before.config records).put ++ put)
-    → new ≡ old ++ put_lines text put
-    → Says (λ records said. HasSaid text answers records said before) (λ records said. HasSaid text answers records said after) number octets old new
+-- what a datagram gives is said after what was said before
+pub says_reports : {C M : Type 0} (text : C → M → List ℕ) (decoding : C → Decoding M) (before after : EngineKept C) (number : ℕ) (octets old new : List ℕ) (put : List (Put M))
+    → (after.catalog ≡ before.catalog) × (after.config ≡ before.config)
+    → ((records : List (List ℕ)) → StandsAt decoding records before → StandsAt decoding (records ++ octets ∷ []) after)
+    → ((records : List (List ℕ)) → StandsAt decoding records before → (run_by decoding before (records ++ octets ∷ [])).put ≡ (run_by decoding before records).put ++ put)
+    → new ≡ old ++ put_lines (text before.catalog) put
+    → Says (λ records said. HasSaid text decoding records said before) (λ records said. HasSaid text decoding records said after) number octets old new
 unfolding Says
-says_reports text answers before after number octets old new put same stands puts e = (
-  put_lines text put,
+says_reports text decoding before after number octets old new put same stands puts e = (
+  put_lines (text before.catalog) put,
   e,
   λ records said h count. record {
     stands = stands records h.stands;
-    lines = ap (λ l. l ++ put_lines text put) h.lines ∙ sym (flat_map-append (put_line text) (run answers before.config records).put put) ∙ ap (put_lines text) (sym (puts records h.stands))
-        ∙ ap (λ (config : Config). put_lines text (run answers config (records ++ octets ∷ [])).put) (sym same);
+    lines = ap (λ l. l ++ put_lines (text before.catalog) put) h.lines
+        ∙ sym (flat_map-append (put_line (text before.catalog)) (run_by decoding before records).put put)
+        ∙ ap (put_lines (text before.catalog)) (sym (puts records h.stands))
+        ∙ ap (λ (config : Config). put_lines (text before.catalog) (run (decoding before.catalog) config (records ++ octets ∷ [])).put) (sym same.1)
+        ∙ ap (λ catalog. put_lines (text catalog) (run (decoding catalog) after.config (records ++ octets ∷ [])).put) (sym same.0);
   },
 )
 
 -- without a summary nothing is left to say
-pub ends_plain : {C M : Type 0} (text : M → List ℕ) (answers : Answers M) (engine : EngineKept C) (summary : Bool) (old : List ℕ) → summary ≡ false
-    → Ends (λ records said. HasSaid text answers records said engine) (replay_text text answers engine.config summary) old old
+pub ends_plain : {C M : Type 0} (text : C → M → List ℕ) (decoding : C → Decoding M) (engine : EngineKept C) (summary : Bool) (old : List ℕ) → summary ≡ false
+    → Ends (λ records said. HasSaid text decoding records said engine) (text_by text decoding engine summary) old old
 unfolding Ends
-ends_plain text answers engine true old e = absurd (let bad : true ≡ false = e in cc)
-ends_plain text answers engine false old e = ([], sym (append-nil old), λ records said h. ap (λ l. l ++ []) (sym h.lines))
+ends_plain text decoding engine true old e = absurd (let bad : true ≡ false = e in cc)
+ends_plain text decoding engine false old e = ([], sym (append-nil old), λ records said h. ap (λ l. l ++ []) (sym h.lines))
 
 -- the summary is all that is left to say
-pub ends_summed : {C M : Type 0} (text : M → List ℕ) (answers : Answers M) (engine : EngineKept C) (summary : Bool) (old new : List ℕ) → summary ≡ true
-    → IsFront old new → ((records : List (List ℕ)) → StandsAt answers records engine → new ≡ old ++ summary_text (run answers engine.config records))
-    → Ends (λ records said. HasSaid text answers records said engine) (replay_text text answers engine.config summary) old new
+pub ends_summed : {C M : Type 0} (text : C → M → List ℕ) (decoding : C → Decoding M) (engine : EngineKept C) (summary : Bool) (old new : List ℕ) → summary ≡ true
+    → IsFront old new → ((records : List (List ℕ)) → StandsAt decoding records engine → new ≡ old ++ summary_text (run_by decoding engine records))
+    → Ends (λ records said. HasSaid text decoding records said engine) (text_by text decoding engine summary) old new
 unfolding Ends
-ends_summed text answers engine false old new e front sums = absurd (let bad : false ≡ true = e in cc)
-ends_summed text answers engine true old new e front sums = (
+ends_summed text decoding engine false old new e front sums = absurd (let bad : false ≡ true = e in cc)
+ends_summed text decoding engine true old new e front sums = (
   front.0,
   front.1,
-  λ records said h. ap (λ l. l ++ summary_text (run answers engine.config records)) (sym h.lines)
-      ∙ ap (λ l. said ++ l) (append_cancel_left old (summary_text (run answers engine.config records)) front.0 (sym (sums records h.stands) ∙ front.1)),
+  λ records said h. ap (λ l. l ++ summary_text (run_by decoding engine records)) (sym h.lines)
+      ∙ ap (λ l. said ++ l) (append_cancel_left old (summary_text (run_by decoding engine records)) front.0 (sym (sums records h.stands) ∙ front.1)),
 )
 
 -- what was said begins the whole text
-pub fronts : {C M : Type 0} (text : M → List ℕ) (answers : Answers M) (summary : Bool) (engine : EngineKept C) (records : List (List ℕ)) (said : List ℕ) → HasSaid text answers records said engine → IsFront said (replay_text text answers engine.config summary records)
-fronts text answers summary engine records said h =
-    let rest = if summary then summary_text (run answers engine.config records) else [] in (rest, ap (λ l. l ++ rest) (sym h.lines))
+pub fronts : {C M : Type 0} (text : C → M → List ℕ) (decoding : C → Decoding M) (summary : Bool) (engine : EngineKept C) (records : List (List ℕ)) (said : List ℕ)
+    → HasSaid text decoding records said engine → IsFront said (text_by text decoding engine summary records)
+fronts text decoding summary engine records said h =
+    let rest = if summary then summary_text (run_by decoding engine records) else [] in (rest, ap (λ l. l ++ rest) (sym h.lines))
 
-pub same_text : {M : Type 0} (text : M → List ℕ) (answers : Answers M) (a b : Config) (s t : Bool) → a ≡ b → s ≡ t → (records : List (List ℕ)) → replay_text text answers a s records ≡ replay_text text answers b t records
-same_text text answers a b s t e f records = ap (λ (c : Config). replay_text text answers c s records) e ∙ ap (λ u. replay_text text answers b u records) f
+-- engines of one catalog and one configuration have one text
+pub same_text : {C M : Type 0} (text : C → M → List ℕ) (decoding : C → Decoding M) (a b : EngineKept C) (s t : Bool) → a.catalog ≡ b.catalog → a.config ≡ b.config → s ≡ t
+    → (records : List (List ℕ)) → text_by text decoding a s records ≡ text_by text decoding b t records
+same_text text decoding a b s t same e f records =
+    ap (λ catalog. replay_text (text catalog) (decoding catalog) a.config s records) same
+    ∙ ap (λ (config : Config). replay_text (text b.catalog) (decoding b.catalog) config s records) e
+    ∙ ap (λ u. replay_text (text b.catalog) (decoding b.catalog) b.config u records) f
 
 -- what a run leaves that stops, by what its readers and its catalog were at first
-pub same_stop : {C M U : Type 0} (text : C → M → List ℕ) (answers : C → Answers M) (a b : C) (k l : Config) (s t : Bool) (r : Result U RunFault) (before after old new : Option (List ℕ)) → a ≡ b → k ≡ l → s ≡ t
-    → IfErr r (λ fault. Stops (replay_text (text a) (answers a) k s) fault before after old new) → IfErr r (λ fault. Stops (replay_text (text b) (answers b) l t) fault before after old new)
-same_stop text answers a b k l s t r before after old new e f g h =
-    subst (λ u. IfErr r (λ fault. Stops (replay_text (text b) (answers b) l u) fault before after old new)) g
-    (subst (λ (c : Config). IfErr r (λ fault. Stops (replay_text (text b) (answers b) c s) fault before after old new)) f
-    (subst (λ c. IfErr r (λ fault. Stops (replay_text (text c) (answers c) k s) fault before after old new)) e h))
+pub same_stop : {C M U : Type 0} (text : C → M → List ℕ) (decoding : C → Decoding M) (a b : C) (k l : Config) (s t : Bool) (r : Result U RunFault) (before after old new : Option (List ℕ)) → a ≡ b → k ≡ l → s ≡ t
+    → IfErr r (λ fault. Stops (replay_text (text a) (decoding a) k s) fault before after old new) → IfErr r (λ fault. Stops (replay_text (text b) (decoding b) l t) fault before after old new)
+same_stop text decoding a b k l s t r before after old new e f g h =
+    subst (λ u. IfErr r (λ fault. Stops (replay_text (text b) (decoding b) l u) fault before after old new)) g
+    (subst (λ (c : Config). IfErr r (λ fault. Stops (replay_text (text b) (decoding b) c s) fault before after old new)) f
+    (subst (λ c. IfErr r (λ fault. Stops (replay_text (text c) (decoding c) k s) fault before after old new)) e h))
 
 -- two facts of a result that is Ok, one of them for every list of datagrams, and what follows from both
 pub on_ok_both : {X E : Type 0} {P Q : Type 0} {S F : List (List ℕ) → Type 0} (r : Result X E) → OnOk r P → ((records : List (List ℕ)) → S records → OnOk r (F records)) → (P → ((records : List (List ℕ)) → S records → F records) → Q) → OnOk r Q
@@ -79,9 +88,9 @@ on_ok_both (Ok x) p f h = h p f
 on_ok_both (Err e) p f h = tt
 
 -- the status of one rank more
-pub statuses_more : {M : Type 0} (w : World M) (n : ℕ) (status : Option Status) → n < w.count → status ≡ status_seen w n → status_lines w.readers n ++ status_text n status ≡ status_lines w.readers (n + 1)
+pub statuses_more : {M : Type 0} (w : World M) (n : ℕ) (status : Option Status) → n < w.count → status ≡ status_seen w n → status_lines w n ++ status_text n status ≡ status_lines w (n + 1)
 statuses_more w n status below e =
     let next : n + 1 ≡ suc n = omega arith in
     let here : nat_lt n w.count ≡ true = grind (arith, nat_tests) in
-    let seen : status ≡ Some (status_of (w.readers n)) = e ∙ ap (λ b. if b then Some (status_of (w.readers n)) else None) here in
-    ap (λ s. status_lines w.readers n ++ status_text n s) seen ∙ sym (ap (status_lines w.readers) next)
+    let seen : status ≡ Some (status_at w n) = e ∙ ap (λ b. if b then Some (status_at w n) else None) here in
+    ap (λ s. status_lines w n ++ status_text n s) seen ∙ sym (ap (status_lines w) next)

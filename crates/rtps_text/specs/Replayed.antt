@@ -2,13 +2,13 @@
 use Rattle.std.specs.Prelude.{◌≡◌, ℕ, zero, suc, List, [], ◌++◌, Bool, Option, None, Some, if◌then◌else◌}
 use Rattle.std.specs.List.{flat_map}
 use Rattle.rtps_types.specs.declared.identity.Guid.{Guid}
+use Rattle.dds_topic.specs.Decoding.{Decoding}
 use Rattle.rtps_discovery.specs.declared.config.Config.{Config}
 use Rattle.rtps_reader.specs.declared.status.Status.{Status}
-use Rattle.rtps_reader.specs.Reader.{Answers, Reader, status_of}
 use Rattle.rtps_serial.specs.World.{Put, Hears, Sends, World}
 use Rattle.rtps_serial.specs.Run.{run}
-use Rattle.rtps_serial.specs.Seen.{matches_seen}
-use Rattle.rtps_serial.specs.Standing.{EngineKept, StandsAt}
+use Rattle.rtps_serial.specs.Seen.{matches_seen, status_at}
+use Rattle.rtps_serial.specs.Standing.{EngineKept, StandsAt, run_by}
 use Rattle.rtps_text.specs.Told.{answer_line, heard_line, match_line, status_line}
 
 -- the line of what is put out
@@ -27,21 +27,25 @@ abbrev pub status_text : ℕ → Option Status → List ℕ
 status_text rank None = []
 status_text rank (Some status) = status_line rank status
 
--- how the readers of the ranks below a count stand
-abbrev pub status_lines : (ℕ → Reader) → ℕ → List ℕ
-status_lines readers zero = []
-status_lines readers (suc rank) = status_lines readers rank ++ status_line rank (status_of (readers rank))
+-- the statuses of the readers of the ranks below a count
+abbrev pub status_lines : {M : Type 0} → World M → ℕ → List ℕ
+status_lines w zero = []
+status_lines w (suc rank) = status_lines w rank ++ status_line rank (status_at w rank)
 
--- the matches and how each reader stands
+-- the matches and the status of each reader
 abbrev pub summary_text : {M : Type 0} → World M → List ℕ
-summary_text w = match_lines (matches_seen w) ++ status_lines w.readers w.count
+summary_text w = match_lines (matches_seen w) ++ status_lines w w.count
 
--- the text of these records: what the run of one thread puts out, and behind it the summary where it is asked for
-abbrev pub replay_text : {M : Type 0} → (M → List ℕ) → Answers M → Config → Bool → List (List ℕ) → List ℕ
-replay_text text answers config summary records =
-    put_lines text (run answers config records).put ++ (if summary then summary_text (run answers config records) else [])
+-- the text of these records: what the run of one thread puts out, and after it the summary where it is asked for
+abbrev pub replay_text : {M : Type 0} → (M → List ℕ) → Decoding M → Config → Bool → List (List ℕ) → List ℕ
+replay_text text decoding config summary records =
+    put_lines text (run decoding config records).put ++ (if summary then summary_text (run decoding config records) else [])
+
+-- the same, by an engine's catalog and configuration
+abbrev pub text_by : {C M : Type 0} → (C → M → List ℕ) → (C → Decoding M) → EngineKept C → Bool → List (List ℕ) → List ℕ
+text_by text decoding engine summary records = replay_text (text engine.catalog) (decoding engine.catalog) engine.config summary records
 
 -- an engine stands at these records, and their lines were said
-pub record HasSaid {C M : Type 0} (text : M → List ℕ) (answers : Answers M) (records : List (List ℕ)) (said : List ℕ) (engine : EngineKept C) : Type 0 where
-  pub stands : StandsAt answers records engine
-  pub lines : said ≡ put_lines text (run answers engine.config records).put
+pub record HasSaid {C M : Type 0} (text : C → M → List ℕ) (decoding : C → Decoding M) (records : List (List ℕ)) (said : List ℕ) (engine : EngineKept C) : Type 0 where
+  pub stands : StandsAt decoding records engine
+  pub lines : said ≡ put_lines (text engine.catalog) (run_by decoding engine records).put

@@ -8,7 +8,10 @@ use Rattle.dds_topic.specs.Answer.{code_of}
 use Rattle.rtps_reader.specs.declared.body.Body.{Body}
 use Rattle.rtps_reader.specs.declared.body.Body.TheVariants as body
 use Rattle.rtps_reader.specs.declared.status.Status.{Status}
-use Rattle.rtps_reader.specs.Reader.{Notice, Told, Presents, Begins, Ends, Refuses, Loses}
+use Rattle.rtps_types.specs.Number.{value_of}
+use Rattle.rtps_reader.specs.declared.notice.Notice.{Notice}
+use Rattle.rtps_reader.specs.declared.notice.NoticeKind.{NoticeKind}
+use Rattle.rtps_reader.specs.declared.notice.NoticeKind.TheVariants.{Sample, Matched, Unmatched, Incompatible, Lost}
 use Rattle.rtps_ascii.specs.Hex.{hex_text}
 use Rattle.rtps_text.specs.Line.{◌then◌, place_text, time_text}
 
@@ -23,17 +26,17 @@ sample_text text (body.Disposed h) = codes "disposed" then hex_text h.0
 sample_text text (body.Unregistered h) = codes "unregistered" then hex_text h.0
 sample_text text (body.Unread u) = codes "unread" then decimal (code_of u)
 
--- what is told of the match with a writer (DDS 1.4, 2.2.4.1)
-abbrev pub told_text : {M : Type 0} → (M → List ℕ) → Guid → Told M → List ℕ
-told_text text w (Presents n time b) = codes "sample" then guid_text w then decimal n then time_text time then sample_text text b
-told_text text w Begins = codes "matched" then guid_text w
-told_text text w Ends = codes "unmatched" then guid_text w
-told_text text w (Refuses policy) = codes "incompatible" then guid_text w then decimal policy
-told_text text w (Loses count) = codes "lost" then guid_text w then decimal count
+-- what a notice reports of a writer (DDS 1.4, 2.2.4.1)
+abbrev pub notice_text : {M : Type 0} → (M → List ℕ) → Guid → NoticeKind M → List ℕ
+notice_text text w (Sample n time b) = codes "sample" then guid_text w then decimal (value_of n) then time_text time then sample_text text b
+notice_text text w Matched = codes "matched" then guid_text w
+notice_text text w Unmatched = codes "unmatched" then guid_text w
+notice_text text w (Incompatible policy) = codes "incompatible" then guid_text w then decimal policy
+notice_text text w (Lost count) = codes "lost" then guid_text w then decimal count
 
--- what the reader of a rank tells, its values by their texts
+-- a notice of the reader of a rank, its values by their texts
 abbrev pub heard_line : {M : Type 0} → (M → List ℕ) → ℕ → Notice M → List ℕ
-heard_line text rank n = place_text n.place then codes "reader" then decimal rank then (told_text text n.writer n.what ++ codes "\n")
+heard_line text rank n = place_text n.place then codes "reader" then decimal rank then (notice_text text n.writer n.what ++ codes "\n")
 
 -- the four octets of an address with dots between
 abbrev pub address_text : List ℕ → List ℕ

@@ -1,10 +1,8 @@
 //! What stands behind the last line of a run: its matches, and how its readers stand.
 
 ghost use Rattle.std.specs.Prelude.{◌≡◌, ◌++◌, List, OnOk, ℕ};
-ghost use Rattle.rtps_reader.specs.Body.{body_by};
 ghost use Rattle.rtps_records.specs.Text.{IsFront};
-ghost use Rattle.rtps_serial.specs.Run.{run};
-ghost use Rattle.rtps_serial.specs.Standing.{StandsAt};
+ghost use Rattle.rtps_serial.specs.Standing.{StandsAt, run_by};
 ghost use Rattle.rtps_text.specs.Replayed.{match_lines, status_lines, status_text, summary_text};
 
 use crate::summary::{push_match, push_status};
@@ -22,8 +20,8 @@ pub(crate) fn push_summary<C: Catalog, A: Allocator, B: Allocator + Copy>(
     engine: &SerialEngine<C, B>,
 ) -> Result<(), AllocError>
     ensures grows { OnOk result (IsFront out.old.items out.new.items) }
-    ensures sums { (datagrams : List (List ℕ)) → StandsAt (body_by (C.meaning engine.now.catalog) (C.hash engine.now.catalog) (C.hash_of_key engine.now.catalog)) datagrams engine.now
-        → OnOk result (out.new.items ≡ out.old.items ++ summary_text (run (body_by (C.meaning engine.now.catalog) (C.hash engine.now.catalog) (C.hash_of_key engine.now.catalog)) engine.now.config datagrams)) }
+    ensures sums { (datagrams : List (List ℕ)) → StandsAt C.decoding datagrams engine.now
+        → OnOk result (out.new.items ≡ out.old.items ++ summary_text (run_by C.decoding engine.now datagrams)) }
 {
     let Ok(matches) = engine.matches(alloc) else {
         return Err(AllocError);
@@ -51,8 +49,9 @@ fn push_statuses<C: Catalog, A: Allocator, B: Allocator + Copy>(
     engine: &SerialEngine<C, B>,
 ) -> Result<(), AllocError>
     ensures grows { OnOk result (IsFront out.old.items out.new.items) }
-    ensures tells { (datagrams : List (List ℕ)) → StandsAt (body_by (C.meaning engine.now.catalog) (C.hash engine.now.catalog) (C.hash_of_key engine.now.catalog)) datagrams engine.now
-        → OnOk result (out.new.items ≡ out.old.items ++ status_lines (run (body_by (C.meaning engine.now.catalog) (C.hash engine.now.catalog) (C.hash_of_key engine.now.catalog)) engine.now.config datagrams).readers (run (body_by (C.meaning engine.now.catalog) (C.hash engine.now.catalog) (C.hash_of_key engine.now.catalog)) engine.now.config datagrams).count) }
+    ensures tells { (datagrams : List (List ℕ)) → StandsAt C.decoding datagrams engine.now
+        → OnOk result (out.new.items ≡ out.old.items ++ status_lines (run_by C.decoding engine.now datagrams)
+        (run_by C.decoding engine.now datagrams).count) }
 {
     for rank in 0..engine.readers() {
         push_status_of(out, rank, engine.status(rank))?;

@@ -2,19 +2,19 @@
 
 ghost use Rattle.std.specs.Prelude.{◌≡◌, ◌++◌, OnOk};
 ghost use Rattle.std.specs.Fmt.{decimal};
-ghost use Rattle.rtps_reader.specs.Notices.{notice_view, told_view};
+ghost use Rattle.rtps_reader.specs.Notices.{kind_view, notice_view};
 ghost use Rattle.rtps_text.specs.Line.{◌then◌};
-ghost use Rattle.rtps_text.specs.Told.{guid_text, heard_line, told_text};
+ghost use Rattle.rtps_text.specs.Told.{guid_text, heard_line, notice_text};
 
 use crate::last_line::LastLine;
 use crate::sample::push_presented;
 use dds_topic::TextCatalog;
 use rtps_ascii::{push_number, push_octet, push_word};
-use rtps_reader::{Notice, Told};
+use rtps_reader::{Notice, NoticeKind};
 use rtps_types::Guid;
 use std::alloc::{AllocError, Allocator};
 
-/// Adds the line of what the reader of this rank tells, with its end. `last` keeps what the line
+/// Adds the line of a notice of the reader of this rank, with its end. `last` keeps what the line
 /// before it began with.
 pub fn push_notice<C: TextCatalog, A: Allocator, B: Allocator + Copy>(
     out: &mut Vec<u8, A>,
@@ -29,34 +29,34 @@ pub fn push_notice<C: TextCatalog, A: Allocator, B: Allocator + Copy>(
     push_word(out, " reader ")?;
     push_number(out, u64::from(rank))?;
     push_octet(out, b' ')?;
-    push_told(out, last, catalog, notice.writer, &notice.what)?;
+    push_kind(out, last, catalog, notice.writer, &notice.what)?;
     push_octet(out, b'\n')
 }
 
-/// Adds what is told of the match with a writer.
-fn push_told<C: TextCatalog, A: Allocator, B: Allocator + Copy>(
+/// Adds what is reported of a writer.
+fn push_kind<C: TextCatalog, A: Allocator, B: Allocator + Copy>(
     out: &mut Vec<u8, A>,
     last: &mut LastLine<B>,
     catalog: &C,
     writer: Guid,
-    what: &Told<C::Value>,
+    what: &NoticeKind<C::Value>,
 ) -> Result<(), AllocError>
-    ensures { OnOk result (out.new.items ≡ out.old.items ++ told_text (C.text_of catalog.now) writer (told_view C.view what.now)) }
+    ensures { OnOk result (out.new.items ≡ out.old.items ++ notice_text (C.text_of catalog.now) writer (kind_view C.view what.now)) }
 {
     match what {
-        Told::Sample { number, time, body } => {
+        NoticeKind::Sample { number, time, body } => {
             push_about(out, last, "sample", writer)?;
             push_octet(out, b' ')?;
             last.push_change(out, *number, *time)?;
             push_octet(out, b' ')?;
             push_presented(out, catalog, body)
         }
-        Told::Matched => push_about(out, last, "matched", writer),
-        Told::Unmatched => push_about(out, last, "unmatched", writer),
-        Told::Incompatible { policy } => {
+        NoticeKind::Matched => push_about(out, last, "matched", writer),
+        NoticeKind::Unmatched => push_about(out, last, "unmatched", writer),
+        NoticeKind::Incompatible { policy } => {
             push_counted(out, last, "incompatible", writer, u64::from(*policy))
         }
-        Told::Lost { count } => push_counted(out, last, "lost", writer, *count),
+        NoticeKind::Lost { count } => push_counted(out, last, "lost", writer, *count),
     }
 }
 

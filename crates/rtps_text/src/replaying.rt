@@ -3,10 +3,9 @@
 
 ghost use Rattle.std.specs.Prelude.{◌≡◌, ◌≤◌, ℕ, IfErr, IfOk, None, Ok, OnOk, [], length};
 ghost use Rattle.rtps_discovery.specs.Config.{check_of};
-ghost use Rattle.rtps_reader.specs.Body.{body_by};
 ghost use Rattle.rtps_records.specs.Runs.{Closes, ClosesNot, Stops, WroteAll};
 ghost use Rattle.rtps_records.specs.Text.{Ends, Says};
-ghost use Rattle.rtps_text.specs.Replayed.{HasSaid, replay_text};
+ghost use Rattle.rtps_text.specs.Replayed.{HasSaid, replay_text, text_by};
 
 use crate::closing::push_summary;
 use crate::last_line::LastLine;
@@ -38,8 +37,6 @@ struct RunLines<C: TextCatalog, B: Allocator> {
     last: LastLine<B>,
     /// Where what one datagram gives is kept while it is printed.
     alloc: B,
-    /// Where values are decoded.
-    values: Global,
     /// Whether matches and statuses are printed after the last record.
     summary: bool,
 }
@@ -48,14 +45,14 @@ impl<C: TextCatalog, B: Allocator + Copy> RunLines<C, B> {
     /// No datagram was taken, and nothing was printed.
     fn new(alloc: B, values: Global, setup: Setup<C>) -> Result<RunLines<C, B>, AllocError>
         ensures same { IfOk result (λ run. (run.engine.catalog ≡ setup.catalog) × (run.engine.config ≡ setup.config) × (run.summary ≡ setup.summary)) }
-        ensures fresh { IfOk result (λ run. HasSaid (C.text_of setup.catalog) (body_by (C.meaning setup.catalog) (C.hash setup.catalog) (C.hash_of_key setup.catalog)) [] [] run.engine) }
+        ensures fresh { IfOk result (λ run. HasSaid C.text_of C.decoding [] [] run.engine) }
     {
         let Setup {
             config,
             catalog,
             summary,
         } = setup;
-        let Ok(engine) = SerialEngine::new_in(alloc, config, catalog) else {
+        let Ok(engine) = SerialEngine::new_in(alloc, values, config, catalog) else {
             return Err(AllocError);
         };
         Ok(RunLines {
@@ -63,7 +60,6 @@ impl<C: TextCatalog, B: Allocator + Copy> RunLines<C, B> {
             reports: Vec::new(alloc),
             last: LastLine::none(alloc),
             alloc,
-            values,
             summary,
         })
     }
@@ -72,14 +68,14 @@ impl<C: TextCatalog, B: Allocator + Copy> RunLines<C, B> {
     fn print<A: Allocator>(&mut self, octets: &[u8], out: &mut Vec<u8, A>) -> Result<(), AllocError>
         requires { length octets.now ≤ 65507 }
         ensures same { (self.new.engine.catalog ≡ self.old.engine.catalog) × (self.new.engine.config ≡ self.old.engine.config) × (self.new.summary ≡ self.old.summary) }
-        ensures says { (catalog : C) (number : ℕ) → self.old.engine.catalog ≡ catalog → OnOk result (Says
-            (λ records said. HasSaid (C.text_of catalog) (body_by (C.meaning catalog) (C.hash catalog) (C.hash_of_key catalog)) records said self.old.engine)
-            (λ records said. HasSaid (C.text_of catalog) (body_by (C.meaning catalog) (C.hash catalog) (C.hash_of_key catalog)) records said self.new.engine)
+        ensures says { (number : ℕ) → OnOk result (Says
+            (λ records said. HasSaid C.text_of C.decoding records said self.old.engine)
+            (λ records said. HasSaid C.text_of C.decoding records said self.new.engine)
             number octets.now out.old.items out.new.items) }
     {
         match self
             .engine
-            .take_in_order(self.alloc, self.values, octets, &mut self.reports)
+            .take_in_order(self.alloc, octets, &mut self.reports)
         {
             Ok(()) => push_reports(out, &mut self.last, self.engine.catalog(), &self.reports),
             Err(_) => Err(AllocError),
@@ -88,9 +84,9 @@ impl<C: TextCatalog, B: Allocator + Copy> RunLines<C, B> {
 
     /// Adds the summary where it is asked for.
     fn finish<A: Allocator>(&self, out: &mut Vec<u8, A>) -> Result<(), AllocError>
-        ensures { (catalog : C) → self.now.engine.catalog ≡ catalog → OnOk result (Ends
-            (λ records said. HasSaid (C.text_of catalog) (body_by (C.meaning catalog) (C.hash catalog) (C.hash_of_key catalog)) records said self.now.engine)
-            (replay_text (C.text_of catalog) (body_by (C.meaning catalog) (C.hash catalog) (C.hash_of_key catalog)) self.now.engine.config self.now.summary)
+        ensures { OnOk result (Ends
+            (λ records said. HasSaid C.text_of C.decoding records said self.now.engine)
+            (text_by C.text_of C.decoding self.now.engine self.now.summary)
             out.old.items out.new.items) }
     {
         if !self.summary {
@@ -105,10 +101,10 @@ impl<C: TextCatalog, B: Allocator + Copy> RunLines<C, B> {
         reader: &mut R,
         writer: &mut W,
     ) -> Result<(), RunFault>
-        requires fresh { HasSaid (C.text_of self.old.engine.catalog) (body_by (C.meaning self.old.engine.catalog) (C.hash self.old.engine.catalog) (C.hash_of_key self.old.engine.catalog)) [] [] self.old.engine }
-        ensures ok { OnOk result (WroteAll (replay_text (C.text_of self.old.engine.catalog) (body_by (C.meaning self.old.engine.catalog) (C.hash self.old.engine.catalog) (C.hash_of_key self.old.engine.catalog)) self.old.engine.config self.old.summary)
+        requires fresh { HasSaid C.text_of C.decoding [] [] self.old.engine }
+        ensures ok { OnOk result (WroteAll (text_by C.text_of C.decoding self.old.engine self.old.summary)
             (R.remaining reader.old) (W.contents writer.old) (W.contents writer.new) None) }
-        ensures fault { IfErr result (λ fault. Stops (replay_text (C.text_of self.old.engine.catalog) (body_by (C.meaning self.old.engine.catalog) (C.hash self.old.engine.catalog) (C.hash_of_key self.old.engine.catalog)) self.old.engine.config self.old.summary)
+        ensures fault { IfErr result (λ fault. Stops (text_by C.text_of C.decoding self.old.engine self.old.summary)
             fault (R.remaining reader.old) (R.remaining reader.new) (W.contents writer.old) (W.contents writer.new)) }
     {
         let mut records = Records::new(self.alloc, reader)?;
@@ -121,13 +117,13 @@ impl<C: TextCatalog, B: Allocator + Copy> RunLines<C, B> {
         lines: &mut Lines<'_, W, Vec<u8, A>>,
     ) -> Result<(), RunFault>
         ensures same_writer { lines.new.writer.ghost_name ≡ lines.old.writer.ghost_name }
-        ensures ok { (catalog : C) → self.now.engine.catalog ≡ catalog → OnOk result (Closes
-            (λ records said. HasSaid (C.text_of catalog) (body_by (C.meaning catalog) (C.hash catalog) (C.hash_of_key catalog)) records said self.now.engine)
-            (replay_text (C.text_of catalog) (body_by (C.meaning catalog) (C.hash catalog) (C.hash_of_key catalog)) self.now.engine.config self.now.summary)
+        ensures ok { OnOk result (Closes
+            (λ records said. HasSaid C.text_of C.decoding records said self.now.engine)
+            (text_by C.text_of C.decoding self.now.engine self.now.summary)
             (W.contents lines.old.writer.now) (W.contents lines.new.writer.now) lines.old.text.items) }
-        ensures fault { (catalog : C) → self.now.engine.catalog ≡ catalog → IfErr result (λ fault. ClosesNot fault
-            (λ records said. HasSaid (C.text_of catalog) (body_by (C.meaning catalog) (C.hash catalog) (C.hash_of_key catalog)) records said self.now.engine)
-            (replay_text (C.text_of catalog) (body_by (C.meaning catalog) (C.hash catalog) (C.hash_of_key catalog)) self.now.engine.config self.now.summary)
+        ensures fault { IfErr result (λ fault. ClosesNot fault
+            (λ records said. HasSaid C.text_of C.decoding records said self.now.engine)
+            (text_by C.text_of C.decoding self.now.engine self.now.summary)
             (W.contents lines.old.writer.now) (W.contents lines.new.writer.now) lines.old.text.items) }
     {
         self.finish(&mut lines.text)?;
@@ -147,9 +143,9 @@ pub fn replay<C: TextCatalog, R: Read, W: Write>(
     reader: &mut R,
     writer: &mut W,
 ) -> Result<(), RunFault>
-    ensures ok { OnOk result (WroteAll (replay_text (C.text_of setup.catalog) (body_by (C.meaning setup.catalog) (C.hash setup.catalog) (C.hash_of_key setup.catalog)) setup.config setup.summary)
+    ensures ok { OnOk result (WroteAll (replay_text (C.text_of setup.catalog) (C.decoding setup.catalog) setup.config setup.summary)
         (R.remaining reader.old) (W.contents writer.old) (W.contents writer.new) None) }
-    ensures fault { IfErr result (λ fault. Stops (replay_text (C.text_of setup.catalog) (body_by (C.meaning setup.catalog) (C.hash setup.catalog) (C.hash_of_key setup.catalog)) setup.config setup.summary)
+    ensures fault { IfErr result (λ fault. Stops (replay_text (C.text_of setup.catalog) (C.decoding setup.catalog) setup.config setup.summary)
         fault (R.remaining reader.old) (R.remaining reader.new) (W.contents writer.old) (W.contents writer.new)) }
 {
     replay_in(alloc, alloc, setup, reader, writer)
@@ -163,9 +159,9 @@ pub fn replay_in<C: TextCatalog, B: Allocator + Copy, R: Read, W: Write>(
     reader: &mut R,
     writer: &mut W,
 ) -> Result<(), RunFault>
-    ensures ok { OnOk result (WroteAll (replay_text (C.text_of setup.catalog) (body_by (C.meaning setup.catalog) (C.hash setup.catalog) (C.hash_of_key setup.catalog)) setup.config setup.summary)
+    ensures ok { OnOk result (WroteAll (replay_text (C.text_of setup.catalog) (C.decoding setup.catalog) setup.config setup.summary)
         (R.remaining reader.old) (W.contents writer.old) (W.contents writer.new) None) }
-    ensures fault { IfErr result (λ fault. Stops (replay_text (C.text_of setup.catalog) (body_by (C.meaning setup.catalog) (C.hash setup.catalog) (C.hash_of_key setup.catalog)) setup.config setup.summary)
+    ensures fault { IfErr result (λ fault. Stops (replay_text (C.text_of setup.catalog) (C.decoding setup.catalog) setup.config setup.summary)
         fault (R.remaining reader.old) (R.remaining reader.new) (W.contents writer.old) (W.contents writer.new)) }
 {
     RunLines::new(alloc, values, setup)?.print_file(reader, writer)
@@ -179,12 +175,12 @@ fn print_run<C: TextCatalog, A: Allocator, B: Allocator + Copy, R: Read, W: Writ
 ) -> Result<(), RunFault>
     requires unread { records.old.count ≡ 0 }
     requires empty { lines.old.text.items ≡ [] }
-    requires fresh { HasSaid (C.text_of run.old.engine.catalog) (body_by (C.meaning run.old.engine.catalog) (C.hash run.old.engine.catalog) (C.hash_of_key run.old.engine.catalog)) [] [] run.old.engine }
+    requires fresh { HasSaid C.text_of C.decoding [] [] run.old.engine }
     ensures same_reader { records.new.reader.ghost_name ≡ records.old.reader.ghost_name }
     ensures same_writer { lines.new.writer.ghost_name ≡ lines.old.writer.ghost_name }
-    ensures ok { OnOk result (WroteAll (replay_text (C.text_of run.old.engine.catalog) (body_by (C.meaning run.old.engine.catalog) (C.hash run.old.engine.catalog) (C.hash_of_key run.old.engine.catalog)) run.old.engine.config run.old.summary)
+    ensures ok { OnOk result (WroteAll (text_by C.text_of C.decoding run.old.engine run.old.summary)
         (R.remaining records.old.reader.now) (W.contents lines.old.writer.now) (W.contents lines.new.writer.now) None) }
-    ensures fault { IfErr result (λ fault. Stops (replay_text (C.text_of run.old.engine.catalog) (body_by (C.meaning run.old.engine.catalog) (C.hash run.old.engine.catalog) (C.hash_of_key run.old.engine.catalog)) run.old.engine.config run.old.summary)
+    ensures fault { IfErr result (λ fault. Stops (text_by C.text_of C.decoding run.old.engine run.old.summary)
         fault (R.remaining records.old.reader.now) (R.remaining records.new.reader.now) (W.contents lines.old.writer.now) (W.contents lines.new.writer.now)) }
 {
     records.open()?;

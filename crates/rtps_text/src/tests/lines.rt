@@ -3,7 +3,7 @@
 use super::text;
 use crate::{LastLine, push_answer, push_match, push_notice, push_status};
 use dds_topic::{Catalog, Raw, RawValue, Shapes, TextCatalog, Unread};
-use rtps_reader::{Body, Notice, Status, Told};
+use rtps_reader::{Body, Notice, NoticeKind, Status};
 use rtps_types::{EntityId, Guid, GuidPrefix, KeyHash, Locator, Number, Place, Timestamp};
 use std::alloc::Global;
 use std::test::Fail;
@@ -45,7 +45,7 @@ const THERE: Locator = Locator {
 fn heard<C: TextCatalog>(
     alloc: Global,
     catalog: &C,
-    what: Told<C::Value>,
+    what: NoticeKind<C::Value>,
 ) -> Result<Vec<u8>, Fail> {
     let notice = Notice {
         place: PLACE,
@@ -58,30 +58,30 @@ fn heard<C: TextCatalog>(
 }
 
 /// A change of this number and time.
-fn sample<V: Drop>(number: u64, time: Option<Timestamp>, body: Body<V>) -> Result<Told<V>, Fail> {
+fn sample<V: Drop>(number: u64, time: Option<Timestamp>, body: Body<V>) -> Result<NoticeKind<V>, Fail> {
     match Number::new(number) {
-        Some(number) => Ok(Told::Sample { number, time, body }),
+        Some(number) => Ok(NoticeKind::Sample { number, time, body }),
         None => Err(Fail::new("no number")),
     }
 }
 
 #[test]
 fn prints_what_is_told_of_matches(rt: HostRuntime) -> Result<(), Fail> {
-    let lines: [(Told<RawValue>, &str); 4] = [
+    let lines: [(NoticeKind<RawValue>, &str); 4] = [
         (
-            Told::Matched,
+            NoticeKind::Matched,
             "4294967296:2 reader 3 matched 0102030405060708090a0b0c000001c2\n",
         ),
         (
-            Told::Unmatched,
+            NoticeKind::Unmatched,
             "4294967296:2 reader 3 unmatched 0102030405060708090a0b0c000001c2\n",
         ),
         (
-            Told::Incompatible { policy: 11 },
+            NoticeKind::Incompatible { policy: 11 },
             "4294967296:2 reader 3 incompatible 0102030405060708090a0b0c000001c2 11\n",
         ),
         (
-            Told::Lost {
+            NoticeKind::Lost {
                 count: 4_611_686_018_427_387_904,
             },
             "4294967296:2 reader 3 lost 0102030405060708090a0b0c000001c2 4611686018427387904\n",
@@ -111,7 +111,7 @@ fn prints_lines_one_after_the_other(rt: HostRuntime) -> Result<(), Fail> {
         let notice = Notice {
             place,
             writer,
-            what: Told::Matched,
+            what: NoticeKind::Matched,
         };
         push_notice(&mut out, &mut last, &Raw, 0, &notice)?;
     }

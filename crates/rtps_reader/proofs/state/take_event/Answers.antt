@@ -10,7 +10,7 @@ use Rattle.rtps_reader.proofs.state.take_event.Goals as goal
 
 pub index_mut-requires : goal.index_mut-requires
 index_mut-requires g c =
-    let at = within (λ (seat : Seat _). same_guid seat.writer c.args.writer) c.deref.result.now c.in-Some.at (sym c.seat_of.ensures ∙ c.in-Some.is) in
+    let at = within (λ (m : code.Match _). same_guid m.writer c.args.writer) c.deref.result.now c.in-Some.at (sym c.match_at.ensures ∙ c.in-Some.is) in
     omega (arith, c.deref.ensures.len, at)
 
 pub returns-in_default-clause-stands : goal.returns-in_default-clause-stands

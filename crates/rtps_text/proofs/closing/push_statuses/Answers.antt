@@ -1,7 +1,6 @@
 use Rattle.std.proofs.Common.{◌≡◌, ◌++◌, ◌<◌, ◌∙◌, append_assoc, ap, arith, length, rules, sym}
-use Rattle.rtps_reader.specs.Body.{body_by}
 use Rattle.rtps_serial.proofs.Running.{run_count}
-use Rattle.rtps_serial.specs.Run.{run}
+use Rattle.rtps_serial.specs.Standing.{run_by}
 use Rattle.rtps_text.specs.Replayed.{status_lines, status_text}
 use Rattle.rtps_text.proofs.Run.{front_more, statuses_more}
 use Rattle.rtps_text.proofs.closing.push_statuses.Goals as goal
@@ -10,22 +9,20 @@ pub loop-rank-preserved : goal.loop-rank-preserved
 loop-rank-preserved g c = record {
   grows = front_more _ c.loop-rank.out.items _ _ c.loop-rank.invariant.grows c.in_ok-push_status_of.ensures;
   tells = λ datagrams stands.
-      let catalog = c.args.engine.now.catalog in
-      let answers = body_by (g.C.Catalog.meaning catalog) (g.C.Catalog.hash catalog) (g.C.Catalog.hash_of_key catalog) in
-      let world = run answers c.args.engine.now.config datagrams in
+      let engine = c.args.engine.now in
+      let world = run_by g.C.Catalog.decoding engine datagrams in
       let rank = c.loop-rank.rank in
       let less : rank < length c.args.engine.now.readers = search rules in
-      let below : rank < world.count = omega (arith, less, stands.count, run_count answers c.args.engine.now.config datagrams) in
+      let below : rank < world.count = omega (arith, less, stands.count, run_count (g.C.Catalog.decoding engine.catalog) engine.config datagrams) in
       c.in_ok-push_status_of.ensures ∙ ap (λ l. l ++ status_text rank c.status.result) (c.loop-rank.invariant.tells datagrams stands)
-      ∙ append_assoc c.args.out.now.items (status_lines world.readers rank) (status_text rank c.status.result)
-      ∙ ap (λ l. c.args.out.now.items ++ l) (statuses_more world rank c.status.result below (c.status.ensures datagrams stands));
+      ∙ append_assoc c.args.out.now.items (status_lines world rank) (status_text rank c.status.result)
+      ∙ ap (λ l. c.args.out.now.items ++ l) (statuses_more world rank c.status.result below (c.status.ensures datagrams stands.shows));
 }
 
 pub returns-clause-tells : goal.returns-clause-tells
 returns-clause-tells g c datagrams stands =
-    let catalog = c.args.engine.now.catalog in
-    let answers = body_by (g.C.Catalog.meaning catalog) (g.C.Catalog.hash catalog) (g.C.Catalog.hash_of_key catalog) in
-    let world = run answers c.args.engine.now.config datagrams in
+    let engine = c.args.engine.now in
+    let world = run_by g.C.Catalog.decoding engine datagrams in
     let ended : c.loop-rank.rank ≡ length c.args.engine.now.readers = search rules in
-    let whole : c.loop-rank.rank ≡ world.count = ended ∙ stands.count ∙ sym (run_count answers c.args.engine.now.config datagrams) in
-    c.loop-rank.invariant.tells datagrams stands ∙ ap (λ n. c.args.out.now.items ++ status_lines world.readers n) whole
+    let whole : c.loop-rank.rank ≡ world.count = ended ∙ stands.count ∙ sym (run_count (g.C.Catalog.decoding engine.catalog) engine.config datagrams) in
+    c.loop-rank.invariant.tells datagrams stands ∙ ap (λ n. c.args.out.now.items ++ status_lines world n) whole

@@ -1,5 +1,4 @@
 use Rattle.std.proofs.Common.{◌∙◌, arith, refl, rules}
-use Rattle.rtps_reader.specs.Body.{body_by}
 use Rattle.rtps_records.proofs.NextRead.{at_fault, is_end, is_fault, is_record}
 use Rattle.rtps_records.proofs.Progress.{closed, ended, fails_closing, one_more, spilled, started, stops_closing, stops_first, stops_here, stops_without, stops_writing}
 use Rattle.rtps_serial.proofs.Answered.{on_ok_then}
@@ -28,53 +27,53 @@ pub returns-in_err-print-in-Ok-Some-clause-fault : goal.returns-in_err-print-in-
 returns-in_err-print-in-Ok-Some-clause-fault g c =
     let run = c.args.run.now in
     let now = c.loop-octets.run in
-    let text = g.C.Catalog.text_of run.engine.catalog in
-    let answers = body_by (g.C.Catalog.meaning run.engine.catalog) (g.C.Catalog.hash run.engine.catalog) (g.C.Catalog.hash_of_key run.engine.catalog) in
-    let same = same_text text answers now.engine.config run.engine.config now.summary run.summary c.loop-octets.invariant.config c.loop-octets.invariant.summary in
+    let text = g.C.Catalog.text_of in
+    let decoding = g.C.Catalog.decoding in
+    let same = same_text text decoding now.engine run.engine now.summary run.summary c.loop-octets.invariant.catalog c.loop-octets.invariant.config c.loop-octets.invariant.summary in
     at_fault _ _ _ c.from_residual-in_err-print-in-Ok-Some.ensures.1
-    (stops_without _ _ _ _ _ _ _ _ _ _ c.loop-octets.invariant.so_far (fronts text answers now.summary now.engine) same)
+    (stops_without _ _ _ _ _ _ _ _ _ _ c.loop-octets.invariant.so_far (fronts text decoding now.summary now.engine) same)
 
 pub returns-in-Ok-None-clause-ok : goal.returns-in-Ok-None-clause-ok
 returns-in-Ok-None-clause-ok g c =
     let run = c.args.run.now in
     let now = c.loop-octets.run in
-    let text = g.C.Catalog.text_of run.engine.catalog in
-    let answers = body_by (g.C.Catalog.meaning run.engine.catalog) (g.C.Catalog.hash run.engine.catalog) (g.C.Catalog.hash_of_key run.engine.catalog) in
-    let same = same_text text answers now.engine.config run.engine.config now.summary run.summary c.loop-octets.invariant.config c.loop-octets.invariant.summary in
+    let text = g.C.Catalog.text_of in
+    let decoding = g.C.Catalog.decoding in
+    let same = same_text text decoding now.engine run.engine now.summary run.summary c.loop-octets.invariant.catalog c.loop-octets.invariant.config c.loop-octets.invariant.summary in
     on_ok_then c.close.result
     (λ put. ended _ _ _ _ _ _ c.loop-octets.invariant.few (closed _ _ _ _ _ _ _ _ _ _ c.loop-octets.invariant.so_far same put)
     (is_end _ _ _ _ _ _ c.next.follows.holds-at-none.1 c.in-Ok-None.is c.in-Ok-None.field-0-is))
-    (c.close.ensures.ok run.engine.catalog c.loop-octets.invariant.catalog)
+    (c.close.ensures.ok)
 
 pub returns-in-Ok-None-clause-fault : goal.returns-in-Ok-None-clause-fault
 returns-in-Ok-None-clause-fault g c =
     let run = c.args.run.now in
     let now = c.loop-octets.run in
-    let text = g.C.Catalog.text_of run.engine.catalog in
-    let answers = body_by (g.C.Catalog.meaning run.engine.catalog) (g.C.Catalog.hash run.engine.catalog) (g.C.Catalog.hash_of_key run.engine.catalog) in
-    let same = same_text text answers now.engine.config run.engine.config now.summary run.summary c.loop-octets.invariant.config c.loop-octets.invariant.summary in
-    fails_closing _ _ _ _ _ _ _ _ _ _ _ c.close.result c.loop-octets.invariant.so_far (fronts text answers now.summary now.engine) same
-    (c.close.ensures.fault run.engine.catalog c.loop-octets.invariant.catalog)
+    let text = g.C.Catalog.text_of in
+    let decoding = g.C.Catalog.decoding in
+    let same = same_text text decoding now.engine run.engine now.summary run.summary c.loop-octets.invariant.catalog c.loop-octets.invariant.config c.loop-octets.invariant.summary in
+    fails_closing _ _ _ _ _ _ _ _ _ _ _ c.close.result c.loop-octets.invariant.so_far (fronts text decoding now.summary now.engine) same
+    (c.close.ensures.fault)
 
 pub returns-in_err-close-in-Err-clause-fault : goal.returns-in_err-close-in-Err-clause-fault
 returns-in_err-close-in-Err-clause-fault g c =
     let run = c.args.run.now in
     let now = c.loop-octets.run in
-    let text = g.C.Catalog.text_of run.engine.catalog in
-    let answers = body_by (g.C.Catalog.meaning run.engine.catalog) (g.C.Catalog.hash run.engine.catalog) (g.C.Catalog.hash_of_key run.engine.catalog) in
-    let same = same_text text answers now.engine.config run.engine.config now.summary run.summary c.loop-octets.invariant.config c.loop-octets.invariant.summary in
+    let text = g.C.Catalog.text_of in
+    let decoding = g.C.Catalog.decoding in
+    let same = same_text text decoding now.engine run.engine now.summary run.summary c.loop-octets.invariant.catalog c.loop-octets.invariant.config c.loop-octets.invariant.summary in
     at_fault _ _ _ c.from_residual-in_err-close-in-Err.ensures.1
-    (stops_closing _ _ _ _ _ _ _ _ _ _ _ _ c.loop-octets.invariant.so_far (fronts text answers now.summary now.engine) same
-    (c.in_err-close-in-Err.ensures.fault run.engine.catalog c.loop-octets.invariant.catalog))
+    (stops_closing _ _ _ _ _ _ _ _ _ _ _ _ c.loop-octets.invariant.so_far (fronts text decoding now.summary now.engine) same
+    (c.in_err-close-in-Err.ensures.fault))
 
 pub returns-in-Err-clause-fault : goal.returns-in-Err-clause-fault
 returns-in-Err-clause-fault g c =
     let run = c.args.run.now in
     let now = c.loop-octets.run in
-    let text = g.C.Catalog.text_of run.engine.catalog in
-    let answers = body_by (g.C.Catalog.meaning run.engine.catalog) (g.C.Catalog.hash run.engine.catalog) (g.C.Catalog.hash_of_key run.engine.catalog) in
-    let same = same_text text answers now.engine.config run.engine.config now.summary run.summary c.loop-octets.invariant.config c.loop-octets.invariant.summary in
-    stops_here _ _ _ _ _ _ _ _ (closed _ _ _ _ _ _ _ _ _ _ c.loop-octets.invariant.so_far same (c.in_ok-close-in-Err.ensures.ok run.engine.catalog c.loop-octets.invariant.catalog))
+    let text = g.C.Catalog.text_of in
+    let decoding = g.C.Catalog.decoding in
+    let same = same_text text decoding now.engine run.engine now.summary run.summary c.loop-octets.invariant.catalog c.loop-octets.invariant.config c.loop-octets.invariant.summary in
+    stops_here _ _ _ _ _ _ _ _ (closed _ _ _ _ _ _ _ _ _ _ c.loop-octets.invariant.so_far same (c.in_ok-close-in-Err.ensures.ok))
     (is_fault _ _ _ _ _ _ c.next.follows.holds-at-none.1 c.in-Err.is)
 
 pub loop-octets-smaller : goal.loop-octets-smaller
@@ -93,7 +92,7 @@ loop-octets-preserved g c =
       catalog = c.in_ok-print-in-Ok-Some.ensures.same.0 ∙ c.loop-octets.invariant.catalog;
       config = c.in_ok-print-in-Ok-Some.ensures.same.1 ∙ c.loop-octets.invariant.config;
       summary = c.in_ok-print-in-Ok-Some.ensures.same.2 ∙ c.loop-octets.invariant.summary;
-      so_far = rw next.2 (spilled _ _ _ _ _ _ _ _ _ (one_more _ _ _ _ _ _ _ _ _ _ _ c.loop-octets.invariant.so_far next.3 next.0 (c.in_ok-print-in-Ok-Some.ensures.says c.args.run.now.engine.catalog count c.loop-octets.invariant.catalog)) c.in_ok-write_if_full.ensures.ok);
+      so_far = rw next.2 (spilled _ _ _ _ _ _ _ _ _ (one_more _ _ _ _ _ _ _ _ _ _ _ c.loop-octets.invariant.so_far next.3 next.0 (c.in_ok-print-in-Ok-Some.ensures.says count)) c.in_ok-write_if_full.ensures.ok);
     }
 
 pub returns-in_err-write_if_full-clause-fault : goal.returns-in_err-write_if_full-clause-fault
@@ -102,10 +101,10 @@ returns-in_err-write_if_full-clause-fault g c =
     let count = c.loop-octets.records.count in
     let run = c.args.run.now in
     let now = c.print.new.self in
-    let text = g.C.Catalog.text_of run.engine.catalog in
-    let answers = body_by (g.C.Catalog.meaning run.engine.catalog) (g.C.Catalog.hash run.engine.catalog) (g.C.Catalog.hash_of_key run.engine.catalog) in
-    let same = same_text text answers now.engine.config run.engine.config now.summary run.summary (c.in_ok-print-in-Ok-Some.ensures.same.1 ∙ c.loop-octets.invariant.config) (c.in_ok-print-in-Ok-Some.ensures.same.2 ∙ c.loop-octets.invariant.summary) in
+    let text = g.C.Catalog.text_of in
+    let decoding = g.C.Catalog.decoding in
+    let same = same_text text decoding now.engine run.engine now.summary run.summary (c.in_ok-print-in-Ok-Some.ensures.same.0 ∙ c.loop-octets.invariant.catalog) (c.in_ok-print-in-Ok-Some.ensures.same.1 ∙ c.loop-octets.invariant.config) (c.in_ok-print-in-Ok-Some.ensures.same.2 ∙ c.loop-octets.invariant.summary) in
     at_fault _ _ _ c.from_residual-in_err-write_if_full.ensures.1
     (stops_writing _ _ _ _ _ _ _ _ _ _ _ _ c.in_err-write_if_full.ensures.fault
-    (one_more _ _ _ _ _ _ _ _ _ _ _ c.loop-octets.invariant.so_far next.3 next.0 (c.in_ok-print-in-Ok-Some.ensures.says run.engine.catalog count c.loop-octets.invariant.catalog))
-    (fronts text answers now.summary now.engine) same c.in_err-write_if_full.ensures.front)
+    (one_more _ _ _ _ _ _ _ _ _ _ _ c.loop-octets.invariant.so_far next.3 next.0 (c.in_ok-print-in-Ok-Some.ensures.says count))
+    (fronts text decoding now.summary now.engine) same c.in_err-write_if_full.ensures.front)

@@ -1,5 +1,4 @@
 use Rattle.std.proofs.Common.{◌≡◌, ◌-◌, ◌≤◌}
-use Rattle.rtps_reader.specs.Body.{body_by}
 use Rattle.rtps_records.proofs.Progress.{Progress}
 use Rattle.rtps_text.specs.Replayed.{HasSaid}
 use Rattle.rtps_text.proofs.replaying.print_run.Given as goal
@@ -13,7 +12,7 @@ invariant-loop-octets g l = record {
   config : l.run.engine.config ≡ l.fn.run.engine.config;
   summary : l.run.summary ≡ l.fn.run.summary;
   so_far : Progress
-      (λ records said. HasSaid (g.C.Catalog.text_of l.fn.run.engine.catalog) (body_by (g.C.Catalog.meaning l.fn.run.engine.catalog) (g.C.Catalog.hash l.fn.run.engine.catalog) (g.C.Catalog.hash_of_key l.fn.run.engine.catalog)) records said l.run.engine)
+      (λ records said. HasSaid g.C.Catalog.text_of g.C.Catalog.decoding records said l.run.engine)
       (g.R.Read.remaining l.fn.records.reader.now) (g.R.Read.remaining l.records.reader.now)
       (g.W.Write.contents l.fn.lines.writer.now) (g.W.Write.contents l.lines.writer.now) l.records.count l.lines.text.items;
 }

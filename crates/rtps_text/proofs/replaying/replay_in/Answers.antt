@@ -1,4 +1,3 @@
-use Rattle.rtps_reader.specs.Body.{body_by}
 use Rattle.rtps_records.proofs.NextRead.{at_fault}
 use Rattle.rtps_records.proofs.Progress.{stops_at_once}
 use Rattle.rtps_text.proofs.Run.{same_stop}
@@ -9,5 +8,5 @@ returns-in_err-new-clause-fault g c = at_fault _ _ _ c.from_residual.ensures.1 (
 
 pub returns-clause-fault : goal.returns-clause-fault
 returns-clause-fault g c =
-    same_stop g.C.Catalog.text_of (λ catalog. body_by (g.C.Catalog.meaning catalog) (g.C.Catalog.hash catalog) (g.C.Catalog.hash_of_key catalog)) _ _ _ _ _ _ c.print_file.result _ _ _ _
+    same_stop g.C.Catalog.text_of g.C.Catalog.decoding _ _ _ _ _ _ c.print_file.result _ _ _ _
     c.in_ok-new.ensures.same.0 c.in_ok-new.ensures.same.1 c.in_ok-new.ensures.same.2 c.print_file.ensures.fault
