@@ -15,7 +15,7 @@ use Rattle.rtps_proxy.specs.History.{Sample}
 use Rattle.rtps_proxy.specs.Numbers.{lacks}
 use Rattle.rtps_proxy.specs.Runs.{marks}
 
--- whom a proxy stands for, and for whom
+-- the match that a proxy is made for
 pub record Whom : Type 0 where
   pub own : GuidPrefix
   pub writer : Guid

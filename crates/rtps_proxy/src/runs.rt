@@ -1,5 +1,5 @@
 //! Runs of settled numbers, in a slice with room on either side. The frontier gives up the first ones
-//! where they lie, and a run that comes or goes moves those on the side where there are fewer: most
+//! where they are, and a run that comes or goes moves those on the side where there are fewer: most
 //! numbers come at one end or the other.
 
 ghost use Rattle.std.specs.Prelude.{◌≡◌, ◌+◌, ◌-◌, ◌<◌, ◌≤◌, ◌∷◌, ◌++◌, [], if◌then◌else◌, is_ok, IfOk, OnErr, length, take, drop, vec_len};
@@ -12,7 +12,7 @@ use std::marker::Model;
 /// Runs in order, each by its first and its last number.
 #[derive(Drop)]
 pub(crate) struct Runs<A: Allocator> {
-    /// Room, and behind it the runs that stand.
+    /// Room, and after it the runs.
     list: Vec<(Number, Number), A>,
     room: usize,
     ghost within: { room ≤ vec_len list },
@@ -38,7 +38,7 @@ impl<A: Allocator> Runs<A> {
         }
     }
 
-    /// The runs that stand.
+    /// The runs, without the room before them.
     pub fn as_slice(&self) -> &[(Number, Number)]
         ensures { result.now ≡ self.now }
     {
@@ -125,7 +125,7 @@ fn place_before<A: Allocator>(
     Ok(count - 1)
 }
 
-/// Moves the runs behind a place down to it, so many as are asked for, and puts a run behind them.
+/// Moves `count` runs from after a place down to it, and puts a run after them.
 fn put_down<A: Allocator>(
     list: &mut Vec<(Number, Number), A>,
     place: usize,
@@ -140,7 +140,7 @@ fn put_down<A: Allocator>(
     list[place + count] = run;
 }
 
-/// Puts a run in the place of those from `first` to `last`, where the last of them stands, and moves the
+/// Puts a run in the place of those from `first` to `last`, where the last of them is, and moves the
 /// runs from `place` on and before `first` up to it.
 fn lift<A: Allocator>(
     list: &mut Vec<(Number, Number), A>,
