@@ -49,7 +49,8 @@ impl<A: Allocator> Runs<A> {
     /// Puts a run before the one at a place.
     pub fn insert(&mut self, at: usize, run: (Number, Number)) -> Result<(), ProxyError>
         requires { at ≤ length self.old }
-        ensures items { self.new ≡ (if is_ok result then take at self.old ++ run ∷ drop at self.old else self.old) }
+        ensures items { self.new
+            ≡ (if is_ok result then take at self.old ++ run ∷ drop at self.old else self.old) }
     {
         let count = self.list.len() - self.room;
         if count - at <= at {
@@ -114,7 +115,8 @@ fn place_before<A: Allocator>(
     requires { room < vec_len list.old }
     ensures len { vec_len list.old ≤ vec_len list.new }
     ensures within { IfOk result (λ place. place < vec_len list.new) }
-    ensures behind { IfOk result (λ place. drop (place + 1) list.new.items ≡ drop room list.old.items) }
+    ensures behind { IfOk result (λ place.
+        drop (place + 1) list.new.items ≡ drop room list.old.items) }
     ensures err { OnErr result (list.new.items ≡ list.old.items) }
 {
     if room > 0 {
@@ -133,7 +135,8 @@ fn put_down<A: Allocator>(
     run: (Number, Number),
 )
     requires { place + count < vec_len list.old }
-    ensures items { drop place list.new.items ≡ take count (drop (place + 1) list.old.items) ++ run ∷ drop (place + 1 + count) list.old.items }
+    ensures items { drop place list.new.items
+        ≡ take count (drop (place + 1) list.old.items) ++ run ∷ drop (place + 1 + count) list.old.items }
     ensures len { vec_len list.new ≡ vec_len list.old }
 {
     list.copy_within(place + 1..place + 1 + count, place);
@@ -152,7 +155,8 @@ fn lift<A: Allocator>(
     requires before { place ≤ first }
     requires order { first ≤ last }
     requires within { last < vec_len list.old }
-    ensures items { drop (place + (last - first)) list.new.items ≡ take (first - place) (drop place list.old.items) ++ run ∷ drop (last + 1) list.old.items }
+    ensures items { drop (place + (last - first)) list.new.items
+        ≡ take (first - place) (drop place list.old.items) ++ run ∷ drop (last + 1) list.old.items }
     ensures len { vec_len list.new ≡ vec_len list.old }
 {
     list[last] = run;
