@@ -39,7 +39,8 @@ impl<A: Allocator + Copy> Reliable<A> {
     /// Takes in a gap.
     pub fn on_gap<'a>(&mut self, alloc: A, gap: &Gap) -> Result<Effects<'a, A>, ProxyError>
         ensures { (whom : Whom) (time : Option Timestamp) →
-            ReliableTakes whom (awaited self.old) (awaited self.new) (came time (body.Gap gap.now)) result }
+            ReliableTakes whom (awaited self.old) (awaited self.new)
+            (came time (body.Gap gap.now)) result }
     {
         self.settled.add_named(gap)?;
         let mut ready = Vec::new(alloc);

@@ -27,7 +27,8 @@ pub(crate) fn hold<A: Allocator>(
 /// How many changes have a lesser number. Most numbers come after all that wait, or before them.
 fn place_of<A: Allocator>(held: &VecDeque<Change<'static, A>, A>, number: u64) -> usize
     ensures within { result ≤ length held.now.items }
-    ensures place { IsRising (change_views held.now.items) → IsPlace number result (change_views held.now.items) }
+    ensures place { IsRising (change_views held.now.items) →
+        IsPlace number result (change_views held.now.items) }
 {
     let count = held.len();
     if count == 0 {
@@ -50,7 +51,8 @@ pub(crate) fn release<'a, A: Allocator>(
 ) -> Result<(), ProxyError>
     ensures taken { OnOk result (change_views ready.new.items
         ≡ change_views ready.old.items ++ front_below frontier (change_views held.old.items)) }
-    ensures left { OnOk result (change_views held.new.items ≡ behind_front frontier (change_views held.old.items)) }
+    ensures left { OnOk result (change_views held.new.items
+        ≡ behind_front frontier (change_views held.old.items)) }
 {
     while is_front_below(held, frontier) {
         let Some(change) = held.pop_front() else {

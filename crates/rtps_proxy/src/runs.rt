@@ -136,7 +136,8 @@ fn put_down<A: Allocator>(
 )
     requires { place + count < vec_len list.old }
     ensures items { drop place list.new.items
-        ≡ take count (drop (place + 1) list.old.items) ++ run ∷ drop (place + 1 + count) list.old.items }
+        ≡ take count (drop (place + 1) list.old.items)
+        ++ run ∷ drop (place + 1 + count) list.old.items }
     ensures len { vec_len list.new ≡ vec_len list.old }
 {
     list.copy_within(place + 1..place + 1 + count, place);

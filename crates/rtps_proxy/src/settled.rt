@@ -112,7 +112,8 @@ fn joined_from(
     ensures first { (low : ℕ) → AreApart low runs.now →
         low < start_of run → low < start_of result.0 }
     ensures before { (low : ℕ) → AreApart low runs.now →
-        EndBelow (start_of run) (take at runs.now) → EndBelow (start_of result.0) (take at runs.now) }
+        EndBelow (start_of run) (take at runs.now) →
+        EndBelow (start_of result.0) (take at runs.now) }
 {
     let mut joined = run;
     let mut next = at;

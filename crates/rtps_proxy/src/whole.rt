@@ -28,7 +28,8 @@ impl BestEffort {
         time: Option<Timestamp>,
         whole: &Whole<'a>,
     ) -> Result<Effects<'a, A>, ProxyError>
-        ensures { BestEffortTakes self.old.top self.new.top (came time (body.Whole whole.now)) result }
+        ensures { BestEffortTakes self.old.top self.new.top
+            (came time (body.Whole whole.now)) result }
     {
         let number = whole.number.get();
         let mut ready = Vec::new(alloc);

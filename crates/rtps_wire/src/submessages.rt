@@ -81,7 +81,8 @@ impl<'a> Submessages<'a> {
     #[tactic(auto, using(crate::proofs::Steps::reading_item, crate::proofs::Steps::reading_end, crate::proofs::Steps::reading_fault))]
     pub fn fault(&self) -> Option<SubmessageFault>
         ensures ended { self.now.items ≡ [] → result ≡ self.now.fault }
-        ensures before { (next : Item) (others : List Item) → self.now.items ≡ next ∷ others → result ≡ None }
+        ensures before { (next : Item) (others : List Item) →
+            self.now.items ≡ next ∷ others → result ≡ None }
     {
         match read_front(self.rest) {
             Front::Fault(fault) => Some(fault),
