@@ -16,13 +16,13 @@ pub record HasHead (e : Endian) (id len : ℕ) (octets more : List ℕ) : Type 0
   pub spells_id : number e 2 (first ∷ second ∷ []) ≡ id
   pub spells_length : number e 2 (third ∷ fourth ∷ []) ≡ len
 
--- a parameter stands before a rest: its value is as long as its length says, a multiple of four
+-- a parameter comes before a rest: its value is as long as its length says, a multiple of four
 pub record IsParameter (e : Endian) (p : Parameter) (octets rest : List ℕ) : Type 0 where
   pub head : HasHead e p.id (length p.value) octets (p.value ++ rest)
   pub no_end : p.id ≢ 1
   pub whole_words : length p.value % 4 ≡ 0
 
--- the end of the list stands before a rest; its length says nothing
+-- the end of the list comes before a rest; its length says nothing
 pub record IsEnd (e : Endian) (octets rest : List ℕ) : Type 0 where
   pub len : ℕ
   pub head : HasHead e 1 len octets rest
@@ -46,7 +46,7 @@ pub record IsOdd (e : Endian) (octets : List ℕ) : Type 0 where
   pub no_end : id ≢ 1
   pub odd : len % 4 ≢ 0
 
--- neither a parameter nor an end stands there, for this reason
+-- neither a parameter nor an end is there, for this reason
 abbrev pub Fails : Endian → List ℕ → ParamFault → Type 0
 Fails e octets NoEnd = octets ≡ []
 Fails e octets Short = ((0 < length octets) × (length octets < 4)) ⊎ IsCut e octets

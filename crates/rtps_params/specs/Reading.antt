@@ -16,7 +16,7 @@ pub record Parameter : Type 0 where
 abbrev pub view : Param → Parameter
 view p = record { id = p.id; value = p.value.now }
 
--- what stands at the front of a list, a parameter or the end, and the octets behind it
+-- what a list begins with, a parameter or the end, and the octets after it
 abbrev pub Read : Type 0
 Read = Result (Option Parameter × List ℕ) ParamFault
 
@@ -29,7 +29,7 @@ parameter_of id len more =
 abbrev pub headed : Endian → ℕ → ℕ → List ℕ → Read
 headed e id len more = if id == 1 then Ok (None, more) else parameter_of id len more
 
--- what stands at the front, by its two octets of id and two of length
+-- what octets begin with, by its two octets of id and two of length
 unfoldable pub front_of : Endian → List ℕ → Read
 front_of e [] = Err NoEnd
 front_of e (a ∷ []) = Err Short
@@ -42,24 +42,24 @@ seen (code.Param p after) = Ok (Some (view p), after.now)
 seen (code.End after) = Ok (None, after.now)
 seen (code.Fault f) = Err f
 
--- what was read from the front leaves less behind it
+-- what was read from the front leaves less after it
 abbrev pub LeavesLess : List ℕ → Front → Type 0
 LeavesLess octets (code.Param p after) = length after.now < length octets
 LeavesLess octets (code.End after) = length after.now < length octets
 LeavesLess octets (code.Fault f) = Unit {0}
 
--- the parameters before the end or before the first fault, padding too; then what stands behind the end, or the fault
+-- the parameters before the end or before the first fault, padding too; then what comes after the end, or the fault
 pub record Reading : Type 0 where
   pub parameters : List Parameter
   pub outcome : Result (List ℕ) ParamFault
 
--- what was read at the front, and then the others behind it
+-- what was read at the front, and then the others after it
 abbrev pub go_on : Read → Reading → Reading
 go_on (Err f) others = record { parameters = []; outcome = Err f }
 go_on (Ok (None, rest)) others = record { parameters = []; outcome = Ok rest }
 go_on (Ok (Some p, rest)) others = record { parameters = p ∷ others.parameters; outcome = others.outcome }
 
--- the reading of what stands behind the first n octets
+-- the reading of what comes after the first n octets
 unfoldable pub reading_behind : Endian → ℕ → List ℕ → Reading
 reading_behind e (suc n) [] = record { parameters = []; outcome = Err NoEnd }
 reading_behind e (suc n) (a ∷ more) = reading_behind e n more

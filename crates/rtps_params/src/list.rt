@@ -32,7 +32,8 @@ impl<'a> ParamList<'a> {
         // The answer is what the grammar says of these octets, and the grammar says nothing else.
         ensures found { IsFound endian octets.now result }
         ensures only { (parameters : List Parameter) (outcome : Result (List ℕ) ParamFault) →
-            IsList endian octets.now parameters outcome → result ≡ answer octets.now parameters outcome }
+            IsList endian octets.now parameters outcome →
+            result ≡ answer octets.now parameters outcome }
         ensures value { result ≡ contents endian octets.now }
     {
         let mut rest = octets;

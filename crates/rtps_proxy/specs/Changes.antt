@@ -1,5 +1,5 @@
 -- A change, without where its payload lies in memory.
-use Rattle.std.specs.Prelude.{ℕ, List}
+use Rattle.std.specs.Prelude.{ℕ, List, map}
 use Rattle.rtps_types.specs.Number.{value_of}
 use Rattle.rtps_proxy.specs.declared.change.Change.{Change}
 use Rattle.rtps_proxy.specs.declared.change.Payload.{Payload}
@@ -12,3 +12,6 @@ octets_of (payload.Kept octets) = octets
 
 abbrev pub change_view : {A : Type 0} → Change A → Sample
 change_view c = record { number = value_of c.number; time = c.time; info = c.info; payload = octets_of c.payload }
+
+abbrev pub change_views : {A : Type 0} → List (Change A) → List Sample
+change_views = map change_view

@@ -1,4 +1,4 @@
--- Changes that wait behind a number that isn't settled, in order.
+-- Changes that wait after a number that isn't settled, in order.
 use Rattle.std.specs.Prelude.{ℕ, ◌<◌, ◌≤◌, nat_lt, Bool, false, not, List, [], ◌∷◌, take, drop, if◌then◌else◌}
 use Rattle.std.specs.List.{AllByRecursion}
 use Rattle.rtps_proxy.specs.History.{Sample}
@@ -23,7 +23,7 @@ abbrev pub front_below : ℕ → List Sample → List Sample
 front_below n [] = []
 front_below n (s ∷ ss) = if nat_lt s.number n then s ∷ front_below n ss else []
 
--- and those behind them
+-- and those after them
 abbrev pub behind_front : ℕ → List Sample → List Sample
 behind_front n [] = []
 behind_front n (s ∷ ss) = if nat_lt s.number n then behind_front n ss else s ∷ ss

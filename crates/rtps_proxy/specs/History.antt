@@ -44,7 +44,7 @@ is_heartbeat (HeartbeatFrag h) = false
 abbrev pub has_heartbeat : List Came → Bool
 has_heartbeat past = list_any (λ e. is_heartbeat e.body) past
 
--- what an event makes of the first number, behind those before it
+-- what an event makes of the first number, after those before it
 abbrev pub first_after : List Came → ℕ → Brought → ℕ
 first_after past first (Whole c) = first
 first_after past first (Fragment f) = first

@@ -5,6 +5,7 @@ use Rattle.rtps_types.specs.declared.identity.Guid.{Guid}
 use Rattle.rtps_types.specs.declared.identity.GuidPrefix.{GuidPrefix}
 use Rattle.rtps_types.specs.declared.locator.Locator.{Locator}
 use Rattle.rtps_types.specs.declared.number.Number.{Number}
+use Rattle.rtps_receiver.specs.declared.body.Heartbeat.{Heartbeat}
 use Rattle.rtps_proxy.specs.declared.config.ProxyConfig.{ProxyConfig}
 use Rattle.rtps_proxy.specs.declared.reliable.Reliable as kept
 use Rattle.rtps_proxy.specs.declared.state.State.{State}
@@ -15,7 +16,7 @@ use Rattle.rtps_proxy.specs.History.{Sample}
 use Rattle.rtps_proxy.specs.Numbers.{lacks}
 use Rattle.rtps_proxy.specs.Runs.{marks}
 
--- whom a proxy stands for, and for whom
+-- the match that a proxy is made for
 pub record Whom : Type 0 where
   pub own : GuidPrefix
   pub writer : Guid
@@ -47,9 +48,9 @@ marked r = marks r.frontier r.runs
 abbrev pub asked_by : Awaited → Acknack
 asked_by r = acknack_by (marked r) r.frontier r.announced r.answers
 
--- an accepted heartbeat with these flags is answered
-abbrev pub asks_by : Awaited → Bool → Bool → Bool
-asks_by r final_flag liveliness = not final_flag || (not liveliness && lacks (marked r) r.announced)
+-- an accepted heartbeat is answered
+abbrev pub asks_by : Awaited → Heartbeat → Bool
+asks_by r h = not h.final_flag || (not h.liveliness && lacks (marked r) r.announced)
 
 -- what is kept after a heartbeat was answered, or not
 abbrev pub counts_answer : Bool → Awaited → Awaited

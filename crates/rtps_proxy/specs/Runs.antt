@@ -13,7 +13,7 @@ Run = Number × Number
 abbrev pub start_of : Run → ℕ
 start_of r = value_of r.0
 
--- the number behind the last one
+-- the number after the last one
 abbrev pub end_of : Run → ℕ
 end_of r = value_of r.1 + 1
 
@@ -25,7 +25,7 @@ within n r = nat_le (value_of r.0) n && nat_le n (value_of r.1)
 abbrev pub marks : ℕ → List Run → ℕ → Bool
 marks frontier runs n = nat_lt n frontier || list_any (within n) runs
 
--- runs in order, the first of them behind a number, and each behind the one before it with a number between them
+-- runs in order, the first of them after a number, and each after the one before it with a number between them
 abbrev pub AreApart : ℕ → List Run → Type 0
 AreApart low [] = Unit {0}
 AreApart low (r ∷ rs) = (low < start_of r) × ((start_of r < end_of r) × AreApart (end_of r) rs)
@@ -45,7 +45,7 @@ pub record IsPlaceOf (n at : ℕ) (runs : List Run) : Type 0 where
   pub before : EndBelow n (take at runs)
   pub behind : AllByRecursion (λ r. n ≤ end_of r) (drop at runs)
 
--- how many of the numbers from low on and below high are in none of the runs behind low
+-- how many of the numbers from low on and below high are in none of the runs after low
 abbrev pub missing_from : ℕ → List Run → ℕ → ℕ
 missing_from low [] high = high - low
 missing_from low (r ∷ rs) high = (min (start_of r) high - low) + missing_from (end_of r) rs high

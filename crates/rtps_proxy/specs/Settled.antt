@@ -12,7 +12,7 @@ is_settled_by got past n = nat_lt n (first_of past) || is_irrelevant past n || l
 abbrev pub is_covered_by : List Sample → List Came → ℕ → Bool
 is_covered_by got past n = all_below (is_settled_by got past) (suc n)
 
--- a change is held where it was received behind a number that isn't settled
+-- a change is held where it was received after a number that isn't settled
 abbrev pub held_by : List Sample → List Came → List Sample
 held_by got past = filter (λ s. not (is_covered_by got past s.number)) got
 

@@ -1,5 +1,5 @@
 -- What one event makes of what is kept, and what it gives, by whether the reader is reliable.
-use Rattle.std.specs.Prelude.{◌≡◌, ℕ, List, ◌∷◌, map, None}
+use Rattle.std.specs.Prelude.{◌≡◌, ℕ, List, ◌∷◌, map, None, Result, IfOk}
 use Rattle.std.specs.Option.{option_map}
 use Rattle.rtps_proxy.specs.declared.effects.Effects.{Effects}
 use Rattle.rtps_proxy.specs.BestEffort as best
@@ -28,3 +28,13 @@ pub record ReliableStep {A : Type 0} (whom : Whom) (past : List Came) (event : C
 pub record StateStep {A : Type 0} (whom : Whom) (past : List Came) (event : Came) (state : Standing) (effects : Effects A) : Type 0 where
   pub stands : StateStandsAt (event ∷ past) whom.reliable state
   pub gives : AreEffects whom past event effects
+
+-- how an event is taken in, where what is kept follows from any events before it
+abbrev pub BestEffortTakes : {A E : Type 0} → ℕ → ℕ → Came → Result (Effects A) E → Type 0
+BestEffortTakes old new event result = (past : List Came) → old ≡ best.top_of past → IfOk result (BestEffortStep past event new)
+
+abbrev pub ReliableTakes : {A E : Type 0} → Whom → Awaited → Awaited → Came → Result (Effects A) E → Type 0
+ReliableTakes whom old new event result = (past : List Came) → ReliableStandsAt past old → IfOk result (ReliableStep whom past event new)
+
+abbrev pub StateTakes : {A E : Type 0} → Whom → Standing → Standing → Came → Result (Effects A) E → Type 0
+StateTakes whom old new event result = (past : List Came) → StateStandsAt past whom.reliable old → IfOk result (StateStep whom past event new)

@@ -1,10 +1,7 @@
 //! What a best-effort reader keeps of one writer (DDSI-RTPS 8.4.11).
 
-ghost use Rattle.std.specs.Prelude.{◌≡◌, List, IfOk};
-ghost use Rattle.rtps_proxy.specs.BestEffort.{top_of};
 ghost use Rattle.rtps_proxy.specs.Effects.{came};
-ghost use Rattle.rtps_proxy.specs.History.{Came};
-ghost use Rattle.rtps_proxy.specs.Steps.{BestEffortStep};
+ghost use Rattle.rtps_proxy.specs.Steps.{BestEffortTakes};
 
 use crate::effects::{Effects, ProxyError};
 use rtps_receiver::Body;
@@ -26,8 +23,7 @@ impl BestEffort {
         time: Option<Timestamp>,
         brought: &Body<'a>,
     ) -> Result<Effects<'a, A>, ProxyError>
-        ensures { (past : List Came) → self.old.top ≡ top_of past
-            → IfOk result (BestEffortStep past (came time brought.now) self.new.top) }
+        ensures { BestEffortTakes self.old.top self.new.top (came time brought.now) result }
     {
         match brought {
             Body::Whole(whole) => self.on_whole(alloc, time, whole),

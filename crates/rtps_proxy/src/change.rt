@@ -62,7 +62,8 @@ impl<A: Allocator> Change<'static, A> {
         time: Option<Timestamp>,
         whole: &Whole<'_>,
     ) -> Result<Change<'static, A>, ProxyError>
-        ensures { IfOk result (λ change. change_view change ≡ sample_of time (whole_view whole.now)) }
+        ensures { IfOk result (λ change.
+            change_view change ≡ sample_of time (whole_view whole.now)) }
     {
         let octets = Vec::from_slice(alloc, whole.payload)?;
         Ok(Change {

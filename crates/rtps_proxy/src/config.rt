@@ -1,9 +1,9 @@
-//! Whom a proxy stands for.
+//! What a proxy is made for.
 
 use rtps_types::{EntityId, Guid, GuidPrefix, Locators};
 use std::alloc::{Allocator, Global};
 
-/// Whom a proxy stands for, and for whom.
+/// The match that a proxy is made for, and where answers go.
 #[derive(Debug, Drop)]
 pub struct ProxyConfig<A: Allocator = Global> {
     /// Our participant.

@@ -7,11 +7,11 @@ ghost use Rattle.rtps_types.specs.Number.{value_of};
 ghost use Rattle.rtps_types.specs.NumberSet.{members};
 ghost use Rattle.rtps_types.specs.Sets.{sn_view};
 ghost use Rattle.rtps_receiver.specs.declared.body.Body.TheVariants as body;
-ghost use Rattle.rtps_proxy.specs.Effects.{ReliableStandsAt, came};
-ghost use Rattle.rtps_proxy.specs.History.{Came, names};
+ghost use Rattle.rtps_proxy.specs.Effects.{came};
+ghost use Rattle.rtps_proxy.specs.History.{names};
 ghost use Rattle.rtps_proxy.specs.Kept.{Whom, awaited};
 ghost use Rattle.rtps_proxy.specs.Runs.{marks};
-ghost use Rattle.rtps_proxy.specs.Steps.{ReliableStep};
+ghost use Rattle.rtps_proxy.specs.Steps.{ReliableTakes};
 ghost use Rattle.rtps_receiver.specs.Views.{body_view};
 
 use crate::effects::{Effects, ProxyError};
@@ -38,8 +38,9 @@ impl<A: Allocator> Settled<A> {
 impl<A: Allocator + Copy> Reliable<A> {
     /// Takes in a gap.
     pub fn on_gap<'a>(&mut self, alloc: A, gap: &Gap) -> Result<Effects<'a, A>, ProxyError>
-        ensures { (whom : Whom) (past : List Came) (time : Option Timestamp) → ReliableStandsAt past (awaited self.old)
-            → IfOk result (ReliableStep whom past (came time (body.Gap gap.now)) (awaited self.new)) }
+        ensures { (whom : Whom) (time : Option Timestamp) →
+            ReliableTakes whom (awaited self.old) (awaited self.new)
+            (came time (body.Gap gap.now)) result }
     {
         self.settled.add_named(gap)?;
         let mut ready = Vec::new(alloc);

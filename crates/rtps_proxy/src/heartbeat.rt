@@ -4,12 +4,11 @@ ghost use Rattle.std.specs.Prelude.{◌≡◌, ◌≤◌, ◌^◌, ◌+◌, List
 ghost use Rattle.std.specs.Option.{option_map};
 ghost use Rattle.rtps_types.specs.declared.time.Timestamp.{Timestamp};
 ghost use Rattle.rtps_receiver.specs.declared.body.Body.TheVariants as body;
-ghost use Rattle.rtps_proxy.specs.Effects.{ReliableStandsAt, came, exceeds};
-ghost use Rattle.rtps_proxy.specs.History.{Came};
+ghost use Rattle.rtps_proxy.specs.Effects.{came, exceeds};
 ghost use Rattle.rtps_proxy.specs.Kept.{asks_by, asked_by, awaited, counts_answer, marked, whom};
 ghost use Rattle.rtps_proxy.specs.Numbers.{count_failing};
 ghost use Rattle.rtps_proxy.specs.Replies.{reply_of, reply_view};
-ghost use Rattle.rtps_proxy.specs.Steps.{ReliableStep};
+ghost use Rattle.rtps_proxy.specs.Steps.{ReliableTakes};
 
 use crate::config::ProxyConfig;
 use crate::effects::{Effects, ProxyError};
@@ -34,7 +33,8 @@ impl<A: Allocator + Copy> Reliable<A> {
     /// How many numbers an accepted heartbeat gives up: none where it is the first of its match.
     fn lost_below(&self, first: u64) -> u64
         requires { first ≤ 2 ^ 62 + 1 }
-        ensures { result ≡ (if is_some self.now.accepted then count_failing (marked (awaited self.now)) first else 0) }
+        ensures { result ≡ (if is_some self.now.accepted
+            then count_failing (marked (awaited self.now)) first else 0) }
     {
         if self.accepted.is_none() {
             return 0;
@@ -44,14 +44,15 @@ impl<A: Allocator + Copy> Reliable<A> {
 
     /// Whether an accepted heartbeat is answered.
     fn is_answer_due(&self, heartbeat: &Heartbeat) -> bool
-        ensures { result ≡ asks_by (awaited self.now) heartbeat.now.final_flag heartbeat.now.liveliness }
+        ensures { result ≡ asks_by (awaited self.now) heartbeat.now }
     {
         !heartbeat.final_flag || (!heartbeat.liveliness && self.settled.lacks(self.announced))
     }
 
     /// The answer to an accepted heartbeat: what is missing, to the writer's locators.
     fn reply_to(&self, alloc: A, config: &ProxyConfig<A>) -> Result<Reply<A>, ProxyError>
-        ensures { IfOk result (λ reply. reply_view reply ≡ reply_of (whom config.now) (asked_by (awaited self.now))) }
+        ensures { IfOk result (λ reply.
+            reply_view reply ≡ reply_of (whom config.now) (asked_by (awaited self.now))) }
     {
         let octets = write_acknack(
             alloc,
@@ -80,10 +81,10 @@ impl<A: Allocator + Copy> Reliable<A> {
         heartbeat: &Heartbeat,
     ) -> Result<Option<Reply<A>>, ProxyError>
         ensures answer { IfOk result (λ answer. option_map reply_view answer
-            ≡ (if asks_by (awaited self.old) heartbeat.now.final_flag heartbeat.now.liveliness
+            ≡ (if asks_by (awaited self.old) heartbeat.now
             then Some (reply_of (whom config.now) (asked_by (awaited self.old))) else None)) }
         ensures kept { OnOk result (awaited self.new
-            ≡ counts_answer (asks_by (awaited self.old) heartbeat.now.final_flag heartbeat.now.liveliness) (awaited self.old)) }
+            ≡ counts_answer (asks_by (awaited self.old) heartbeat.now) (awaited self.old)) }
     {
         if !self.is_answer_due(heartbeat) {
             return Ok(None);
@@ -100,8 +101,8 @@ impl<A: Allocator + Copy> Reliable<A> {
         config: &ProxyConfig<A>,
         heartbeat: &Heartbeat,
     ) -> Result<Effects<'a, A>, ProxyError>
-        ensures { (past : List Came) (time : Option Timestamp) → ReliableStandsAt past (awaited self.old)
-            → IfOk result (ReliableStep (whom config.now) past (came time (body.Heartbeat heartbeat.now)) (awaited self.new)) }
+        ensures { (time : Option Timestamp) → ReliableTakes (whom config.now) (awaited self.old)
+            (awaited self.new) (came time (body.Heartbeat heartbeat.now)) result }
     {
         let heartbeat = *heartbeat;
         if !self.is_accepted(heartbeat.count) {

@@ -1,7 +1,7 @@
 //! Changes that wait for earlier ones (DDSI-RTPS 8.4.12.3), in order of their numbers.
 
 ghost use Rattle.std.specs.Prelude.{◌≡◌, ◌≤◌, ◌++◌, length, map, IfOk, OnOk};
-ghost use Rattle.rtps_proxy.specs.Changes.{change_view};
+ghost use Rattle.rtps_proxy.specs.Changes.{change_view, change_views};
 ghost use Rattle.rtps_proxy.specs.Held.{IsPlace, IsRising, behind_front, front_below, starts_below};
 ghost use Rattle.rtps_proxy.specs.Received.{put};
 
@@ -15,7 +15,8 @@ pub(crate) fn hold<A: Allocator>(
     held: &mut VecDeque<Change<'static, A>, A>,
     change: Change<'static, A>,
 ) -> Result<(), ProxyError>
-    ensures { IsRising (map change_view held.old.items) → OnOk result (map change_view held.new.items ≡ put (change_view change.entry) (map change_view held.old.items)) }
+    ensures { IsRising (change_views held.old.items) → OnOk result (change_views held.new.items
+        ≡ put (change_view change.entry) (change_views held.old.items)) }
 {
     let number = change.number.get();
     let at = place_of(held, number);
@@ -26,7 +27,8 @@ pub(crate) fn hold<A: Allocator>(
 /// How many changes have a lesser number. Most numbers come after all that wait, or before them.
 fn place_of<A: Allocator>(held: &VecDeque<Change<'static, A>, A>, number: u64) -> usize
     ensures within { result ≤ length held.now.items }
-    ensures place { IsRising (map change_view held.now.items) → IsPlace number result (map change_view held.now.items) }
+    ensures place { IsRising (change_views held.now.items) →
+        IsPlace number result (change_views held.now.items) }
 {
     let count = held.len();
     if count == 0 {
@@ -47,8 +49,10 @@ pub(crate) fn release<'a, A: Allocator>(
     frontier: u64,
     ready: &mut Vec<Change<'a, A>, A>,
 ) -> Result<(), ProxyError>
-    ensures taken { OnOk result (map change_view ready.new.items ≡ map change_view ready.old.items ++ front_below frontier (map change_view held.old.items)) }
-    ensures left { OnOk result (map change_view held.new.items ≡ behind_front frontier (map change_view held.old.items)) }
+    ensures taken { OnOk result (change_views ready.new.items
+        ≡ change_views ready.old.items ++ front_below frontier (change_views held.old.items)) }
+    ensures left { OnOk result (change_views held.new.items
+        ≡ behind_front frontier (change_views held.old.items)) }
 {
     while is_front_below(held, frontier) {
         let Some(change) = held.pop_front() else {
@@ -61,7 +65,7 @@ pub(crate) fn release<'a, A: Allocator>(
 
 /// Whether a change waits, and the first has a number below the frontier.
 fn is_front_below<A: Allocator>(held: &VecDeque<Change<'static, A>, A>, frontier: u64) -> bool
-    ensures { result ≡ starts_below frontier (map change_view held.now.items) }
+    ensures { result ≡ starts_below frontier (change_views held.now.items) }
 {
     match held.front() {
         None => false,

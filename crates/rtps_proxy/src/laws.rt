@@ -19,7 +19,8 @@ pub fn frontier_is_least()
 /// announced one, among the 256 from its base on.
 pub fn an_answer_names_its_members()
     ensures missing { NamesWhatIsMissing }
-    ensures members { (settled : ℕ → Bool) (base announced earlier : ℕ) → members (set_of (acknack_by settled base announced earlier))
+    ensures members { (settled : ℕ → Bool) (base announced earlier : ℕ) →
+        members (set_of (acknack_by settled base announced earlier))
         ≡ (acknack_by settled base announced earlier).members }
 {}
 
@@ -28,6 +29,8 @@ pub fn an_answer_names_its_members()
 /// by a GAP or an accepted HEARTBEAT of the match.
 pub fn presents_in_order()
     ensures rising { (past : List Came) → RisesStrictly (map (λ s. s.number) (presented past)) }
-    ensures received { (past : List Came) (e : Came) → AllByRecursion (Brings (e ∷ past)) (ready past e) }
-    ensures passed_over { (past : List Came) (e : Came) → AllByRecursion (PassesOverOnly (e ∷ past)) (ready past e) }
+    ensures received { (past : List Came) (e : Came) →
+        AllByRecursion (Brings (e ∷ past)) (ready past e) }
+    ensures passed_over { (past : List Came) (e : Came) →
+        AllByRecursion (PassesOverOnly (e ∷ past)) (ready past e) }
 {}

@@ -130,8 +130,10 @@ impl<A: Allocator + Copy> WriterProxy<A> {
     /// The first and the last number of each run of settled numbers above the frontier, which is the
     /// least number that isn't settled; none for a best-effort reader.
     pub fn runs(&self) -> &[(Number, Number)]
-        ensures reliable { (past : List Came) → StandsAt past self.now → self.now.whom.reliable ≡ true → AreRuns past result.now }
-        ensures best_effort { (past : List Came) → StandsAt past self.now → self.now.whom.reliable ≡ false → result.now ≡ [] }
+        ensures reliable { (past : List Came) → StandsAt past self.now →
+            self.now.whom.reliable ≡ true → AreRuns past result.now }
+        ensures best_effort { (past : List Came) → StandsAt past self.now →
+            self.now.whom.reliable ≡ false → result.now ≡ [] }
     {
         match &self.state {
             State::BestEffort(_) => &[],

@@ -27,11 +27,10 @@ pub(crate) struct Reliable<A: Allocator> {
 }
 
 impl<A: Allocator + Copy> Reliable<A> {
-    ghost use Rattle.std.specs.Prelude.{[], List, IfOk};
+    ghost use Rattle.std.specs.Prelude.{[]};
     ghost use Rattle.rtps_proxy.specs.Effects.{ReliableStandsAt, came};
-    ghost use Rattle.rtps_proxy.specs.History.{Came};
     ghost use Rattle.rtps_proxy.specs.Kept.{awaited, whom};
-    ghost use Rattle.rtps_proxy.specs.Steps.{ReliableStep};
+    ghost use Rattle.rtps_proxy.specs.Steps.{ReliableTakes};
 
     /// Nothing has come yet.
     pub fn new(alloc: A) -> Reliable<A>
@@ -54,8 +53,8 @@ impl<A: Allocator + Copy> Reliable<A> {
         time: Option<Timestamp>,
         brought: &Body<'a>,
     ) -> Result<Effects<'a, A>, ProxyError>
-        ensures { (past : List Came) → ReliableStandsAt past (awaited self.old)
-            → IfOk result (ReliableStep (whom config.now) past (came time brought.now) (awaited self.new)) }
+        ensures { ReliableTakes (whom config.now) (awaited self.old) (awaited self.new)
+            (came time brought.now) result }
     {
         match brought {
             Body::Whole(whole) => self.on_whole(alloc, time, whole),

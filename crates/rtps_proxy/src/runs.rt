@@ -1,5 +1,5 @@
 //! Runs of settled numbers, in a slice with room on either side. The frontier gives up the first ones
-//! where they lie, and a run that comes or goes moves those on the side where there are fewer: most
+//! where they are, and a run that comes or goes moves those on the side where there are fewer: most
 //! numbers come at one end or the other.
 
 ghost use Rattle.std.specs.Prelude.{◌≡◌, ◌+◌, ◌-◌, ◌<◌, ◌≤◌, ◌∷◌, ◌++◌, [], if◌then◌else◌, is_ok, IfOk, OnErr, length, take, drop, vec_len};
@@ -12,7 +12,7 @@ use std::marker::Model;
 /// Runs in order, each by its first and its last number.
 #[derive(Drop)]
 pub(crate) struct Runs<A: Allocator> {
-    /// Room, and behind it the runs that stand.
+    /// Room, and after it the runs.
     list: Vec<(Number, Number), A>,
     room: usize,
     ghost within: { room ≤ vec_len list },
@@ -38,7 +38,7 @@ impl<A: Allocator> Runs<A> {
         }
     }
 
-    /// The runs that stand.
+    /// The runs, without the room before them.
     pub fn as_slice(&self) -> &[(Number, Number)]
         ensures { result.now ≡ self.now }
     {
@@ -49,7 +49,8 @@ impl<A: Allocator> Runs<A> {
     /// Puts a run before the one at a place.
     pub fn insert(&mut self, at: usize, run: (Number, Number)) -> Result<(), ProxyError>
         requires { at ≤ length self.old }
-        ensures items { self.new ≡ (if is_ok result then take at self.old ++ run ∷ drop at self.old else self.old) }
+        ensures items { self.new
+            ≡ (if is_ok result then take at self.old ++ run ∷ drop at self.old else self.old) }
     {
         let count = self.list.len() - self.room;
         if count - at <= at {
@@ -114,7 +115,8 @@ fn place_before<A: Allocator>(
     requires { room < vec_len list.old }
     ensures len { vec_len list.old ≤ vec_len list.new }
     ensures within { IfOk result (λ place. place < vec_len list.new) }
-    ensures behind { IfOk result (λ place. drop (place + 1) list.new.items ≡ drop room list.old.items) }
+    ensures behind { IfOk result (λ place.
+        drop (place + 1) list.new.items ≡ drop room list.old.items) }
     ensures err { OnErr result (list.new.items ≡ list.old.items) }
 {
     if room > 0 {
@@ -125,7 +127,7 @@ fn place_before<A: Allocator>(
     Ok(count - 1)
 }
 
-/// Moves the runs behind a place down to it, so many as are asked for, and puts a run behind them.
+/// Moves `count` runs from after a place down to it, and puts a run after them.
 fn put_down<A: Allocator>(
     list: &mut Vec<(Number, Number), A>,
     place: usize,
@@ -133,14 +135,16 @@ fn put_down<A: Allocator>(
     run: (Number, Number),
 )
     requires { place + count < vec_len list.old }
-    ensures items { drop place list.new.items ≡ take count (drop (place + 1) list.old.items) ++ run ∷ drop (place + 1 + count) list.old.items }
+    ensures items { drop place list.new.items
+        ≡ take count (drop (place + 1) list.old.items)
+        ++ run ∷ drop (place + 1 + count) list.old.items }
     ensures len { vec_len list.new ≡ vec_len list.old }
 {
     list.copy_within(place + 1..place + 1 + count, place);
     list[place + count] = run;
 }
 
-/// Puts a run in the place of those from `first` to `last`, where the last of them stands, and moves the
+/// Puts a run in the place of those from `first` to `last`, where the last of them is, and moves the
 /// runs from `place` on and before `first` up to it.
 fn lift<A: Allocator>(
     list: &mut Vec<(Number, Number), A>,
@@ -152,7 +156,8 @@ fn lift<A: Allocator>(
     requires before { place ≤ first }
     requires order { first ≤ last }
     requires within { last < vec_len list.old }
-    ensures items { drop (place + (last - first)) list.new.items ≡ take (first - place) (drop place list.old.items) ++ run ∷ drop (last + 1) list.old.items }
+    ensures items { drop (place + (last - first)) list.new.items
+        ≡ take (first - place) (drop place list.old.items) ++ run ∷ drop (last + 1) list.old.items }
     ensures len { vec_len list.new ≡ vec_len list.old }
 {
     list[last] = run;

@@ -105,10 +105,15 @@ fn joined_from(
     ensures starts { start_of result.0 ≤ start_of run }
     ensures ends { end_of run ≤ end_of result.0 }
     ensures some { start_of result.0 < end_of result.0 }
-    ensures joins { (n : ℕ) → (within n result.0 || list_any (within n) (drop result.1 runs.now)) ≡ (within n run || list_any (within n) (drop at runs.now)) }
-    ensures rest { (low : ℕ) → AreApart low runs.now → AreApart (end_of result.0) (drop result.1 runs.now) }
-    ensures first { (low : ℕ) → AreApart low runs.now → low < start_of run → low < start_of result.0 }
-    ensures before { (low : ℕ) → AreApart low runs.now → EndBelow (start_of run) (take at runs.now) → EndBelow (start_of result.0) (take at runs.now) }
+    ensures joins { (n : ℕ) → (within n result.0 || list_any (within n) (drop result.1 runs.now))
+        ≡ (within n run || list_any (within n) (drop at runs.now)) }
+    ensures rest { (low : ℕ) → AreApart low runs.now →
+        AreApart (end_of result.0) (drop result.1 runs.now) }
+    ensures first { (low : ℕ) → AreApart low runs.now →
+        low < start_of run → low < start_of result.0 }
+    ensures before { (low : ℕ) → AreApart low runs.now →
+        EndBelow (start_of run) (take at runs.now) →
+        EndBelow (start_of result.0) (take at runs.now) }
 {
     let mut joined = run;
     let mut next = at;

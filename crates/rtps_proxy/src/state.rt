@@ -1,10 +1,9 @@
 //! What a proxy keeps, by whether its reader is reliable.
 
-ghost use Rattle.std.specs.Prelude.{[], List, IfOk};
+ghost use Rattle.std.specs.Prelude.{[]};
 ghost use Rattle.rtps_proxy.specs.Effects.{StateStandsAt, came};
-ghost use Rattle.rtps_proxy.specs.History.{Came};
 ghost use Rattle.rtps_proxy.specs.Kept.{standing, whom};
-ghost use Rattle.rtps_proxy.specs.Steps.{StateStep};
+ghost use Rattle.rtps_proxy.specs.Steps.{StateTakes};
 
 use crate::best_effort::BestEffort;
 use crate::config::ProxyConfig;
@@ -41,8 +40,8 @@ impl<A: Allocator + Copy> State<A> {
         time: Option<Timestamp>,
         brought: &Body<'a>,
     ) -> Result<Effects<'a, A>, ProxyError>
-        ensures { (past : List Came) → StateStandsAt past config.now.reliable (standing self.old)
-            → IfOk result (StateStep (whom config.now) past (came time brought.now) (standing self.new)) }
+        ensures { StateTakes (whom config.now) (standing self.old) (standing self.new)
+            (came time brought.now) result }
     {
         match self {
             State::BestEffort(best_effort) => best_effort.on_event(alloc, time, brought),

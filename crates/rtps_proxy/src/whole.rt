@@ -1,13 +1,11 @@
 //! A change in one piece (DDSI-RTPS 8.3.7.2).
 
-ghost use Rattle.std.specs.Prelude.{◌≡◌, ◌≤◌, ◌^◌, List, IfOk, IfSome, is_some, length, not, ◌&&◌, ◌||◌, nat_le, nat_lt};
+ghost use Rattle.std.specs.Prelude.{◌≡◌, ◌≤◌, ◌^◌, IfSome, is_some, length, not, ◌&&◌, ◌||◌, nat_le, nat_lt};
 ghost use Rattle.rtps_receiver.specs.declared.body.Body.TheVariants as body;
-ghost use Rattle.rtps_proxy.specs.BestEffort.{top_of};
-ghost use Rattle.rtps_proxy.specs.Effects.{ReliableStandsAt, came};
-ghost use Rattle.rtps_proxy.specs.History.{Came};
+ghost use Rattle.rtps_proxy.specs.Effects.{came};
 ghost use Rattle.rtps_proxy.specs.Kept.{Whom, awaited, marked};
 ghost use Rattle.rtps_proxy.specs.Runs.{IsPlaceOf};
-ghost use Rattle.rtps_proxy.specs.Steps.{BestEffortStep, ReliableStep};
+ghost use Rattle.rtps_proxy.specs.Steps.{BestEffortTakes, ReliableTakes};
 
 use crate::best_effort::BestEffort;
 use crate::change::Change;
@@ -30,8 +28,8 @@ impl BestEffort {
         time: Option<Timestamp>,
         whole: &Whole<'a>,
     ) -> Result<Effects<'a, A>, ProxyError>
-        ensures { (past : List Came) → self.old.top ≡ top_of past
-            → IfOk result (BestEffortStep past (came time (body.Whole whole.now)) self.new.top) }
+        ensures { BestEffortTakes self.old.top self.new.top
+            (came time (body.Whole whole.now)) result }
     {
         let number = whole.number.get();
         let mut ready = Vec::new(alloc);
@@ -59,7 +57,8 @@ impl<A: Allocator + Copy> Reliable<A> {
     fn place_for(&self, number: u64) -> Option<usize>
         requires { number ≤ 2 ^ 62 }
         ensures taken { is_some result ≡ (not (marked (awaited self.now) number)
-            && (nat_le number self.now.settled.frontier || nat_lt (length self.now.held.items) 65536)) }
+            && (nat_le number self.now.settled.frontier
+            || nat_lt (length self.now.held.items) 65536)) }
         ensures place { IfSome result (λ at. IsPlaceOf number at self.now.settled.runs) }
     {
         if number > self.settled.frontier && self.held.len() >= ROOM {
@@ -75,8 +74,8 @@ impl<A: Allocator + Copy> Reliable<A> {
         time: Option<Timestamp>,
         whole: &Whole<'a>,
     ) -> Result<Effects<'a, A>, ProxyError>
-        ensures { (whom : Whom) (past : List Came) → ReliableStandsAt past (awaited self.old)
-            → IfOk result (ReliableStep whom past (came time (body.Whole whole.now)) (awaited self.new)) }
+        ensures { (whom : Whom) → ReliableTakes whom (awaited self.old) (awaited self.new)
+            (came time (body.Whole whole.now)) result }
     {
         let number = whole.number.get();
         let Some(at) = self.place_for(number) else {

@@ -22,7 +22,8 @@ impl<A: Allocator> Settled<A> {
     /// Those of the 256 numbers from the frontier on that are missing, up to the announced one.
     pub fn missing_up_to(&self, announced: u64) -> SnSet
         requires { announced ≤ 2 ^ 62 }
-        ensures { sn_view result ≡ set_of (acknack_by (marks self.now.frontier self.now.runs) self.now.frontier announced 0) }
+        ensures { sn_view result ≡ set_of
+            (acknack_by (marks self.now.frontier self.now.runs) self.now.frontier announced 0) }
     {
         let base = self.frontier;
         let count = (announced + 1).saturating_sub(base).min(256) as u32;

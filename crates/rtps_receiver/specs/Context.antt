@@ -1,4 +1,4 @@
--- What the submessages before a submessage of the same datagram say of it (DDSI-RTPS 8.3.4). They stand nearest first.
+-- What the submessages before a submessage of the same datagram say of it (DDSI-RTPS 8.3.4). The nearest comes first.
 use Rattle.std.specs.Prelude.{List, [], ◌∷◌, Option, None, replicate, if◌then◌else◌}
 use Rattle.std.specs.Str.{bytes_eq}
 use Rattle.rtps_types.specs.declared.identity.GuidPrefix.{GuidPrefix}
@@ -11,7 +11,7 @@ source_of header [] = header
 source_of header (Source s ∷ before) = s.prefix
 source_of header (c ∷ before) = source_of header before
 
--- a destination of all zeros stands for whoever reads: ours
+-- a destination of all zeros means whoever reads: ours
 abbrev pub resolved : GuidPrefix → GuidPrefix → GuidPrefix
 resolved own p = if bytes_eq p.0 (replicate 12 0) then own else p
 
@@ -21,7 +21,7 @@ destination_of own [] = own
 destination_of own (Destination p ∷ before) = resolved own p
 destination_of own (c ∷ before) = destination_of own before
 
--- the time of the last INFO_TS before it and after the last INFO_SRC, where there is one and it tells a time
+-- the time of the last INFO_TS before it and after the last INFO_SRC, where there is one and it has a time
 abbrev pub time_of : List Content → Option Timestamp
 time_of [] = None
 time_of (Time t ∷ before) = t

@@ -33,12 +33,12 @@ view e = record { place = e.place; source = e.source; time = e.time; writer = e.
 abbrev pub happening : Place → GuidPrefix → Option Timestamp → Option Addressed → Option Happening
 happening place source time addressed = option_map (λ a. record { place = place; source = source; time = time; writer = a.writer; reader = a.reader; body = a.body }) addressed
 
--- the event of a submessage, behind those before it, nearest first, where its destination is ours
+-- the event of a submessage, after those before it, nearest first, where its destination is ours
 abbrev pub event_behind : GuidPrefix → GuidPrefix → Place → List Content → Content → Option Happening
 event_behind own header place before c =
     if bytes_eq (destination_of own before).0 own.0 then happening place (source_of header before) (time_of before) (taken_of (addressed c)) else None
 
--- the events of the submessages that are left, behind count others; every submessage counts
+-- the events of the submessages that are left, after count others; every submessage counts
 abbrev pub events_behind : GuidPrefix → GuidPrefix → ℕ → ℕ → List Content → List Item → List Happening
 events_behind own header index count before [] = []
 events_behind own header index count before (i ∷ left) =

@@ -21,7 +21,7 @@ const DATA: [u8; 28] = [
     0xde, 0xad, 0xbe, 0xef,
 ];
 
-/// A message with these parts behind its header.
+/// A message with these parts after its header.
 fn message(alloc: std::alloc::Global, parts: &[&[u8]]) -> Result<Vec<u8>, Fail> {
     let mut octets = HEADER.to_vec(alloc)?;
     for part in parts {

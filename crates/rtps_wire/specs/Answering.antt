@@ -73,7 +73,7 @@ read_words s = sent_words s ++ replicate (8 - word_count s) 0
 abbrev pub read_set : NumberSet → NumberSet
 read_set s = record { base = s.base; bits = s.bits; words = read_words s }
 
--- the fields of an ACKNACK behind the header and the destination, as a writer reads them
+-- the fields of an ACKNACK after the header and the destination, as a writer reads them
 pub record TellsAckNack (a : AckNack) (octets : List ℕ) : Type 0 where
   pub body : List ℕ
   pub framed : IsFramed 0x06 (acknack_flags (sn_view a.missing)) (drop 36 octets) body []
@@ -83,7 +83,7 @@ pub record TellsAckNack (a : AckNack) (octets : List ℕ) : Type 0 where
   pub members : members (read_set (sn_view a.missing)) ≡ members (sn_view a.missing)
   pub count : number_at Little 4 body (20 + 4 * word_count (sn_view a.missing)) ≡ Some a.count
 
--- the fields of a NACK_FRAG behind the header and the destination, as a writer reads them
+-- the fields of a NACK_FRAG after the header and the destination, as a writer reads them
 pub record TellsNackFrag (a : NackFrag) (octets : List ℕ) : Type 0 where
   pub body : List ℕ
   pub framed : IsFramed 0x12 1 (drop 36 octets) body []

@@ -21,7 +21,7 @@ abbrev pub KeepsWhatEnds : List ℕ → ℕ → List Item → Type 0
 KeepsWhatEnds octets n cut =
     (first : List Item) (rest : List ℕ) → BeginWith octets first rest → length octets ≤ n + length rest → (others : List Item) × (cut ≡ first ++ others)
 
--- a submessage is the last one in octets, and its stated length is a 0 that stands for all that follows
+-- a submessage is the last one in octets, and its stated length is a 0 that means all that follows
 pub record RunsToEnd (i : Item) (octets : List ℕ) : Type 0 where
   pub before : List ℕ
   pub third : ℕ

@@ -14,10 +14,10 @@ pub record IsFramed (id flags : ℕ) (octets body rest : List ℕ) : Type 0 wher
   pub third : ℕ
   pub fourth : ℕ
   pub text : octets ≡ id ∷ flags ∷ third ∷ fourth ∷ (body ++ rest)
-  -- a length of 0 stands for all that follows, but in PAD and INFO_TS
+  -- a length of 0 means all that follows, but in PAD and INFO_TS
   pub size : MatchBool (runs_to_end id (number (endian_of flags) 2 (third ∷ fourth ∷ []))) (rest ≡ []) (length body ≡ number (endian_of flags) 2 (third ∷ fourth ∷ []))
 
--- a submessage stands before a rest: it is framed, and its body has the form of its kind
+-- a submessage comes before a rest: it is framed, and its body has the form of its kind
 pub record IsBefore (i : Item) (octets rest : List ℕ) : Type 0 where
   pub body : List ℕ
   pub framed : IsFramed i.id i.flags octets body rest
@@ -54,7 +54,7 @@ abbrev pub IsReading : List ℕ → List Item → Option SubmessageFault → Typ
 IsReading octets [] fault = EndsWith octets fault
 IsReading octets (i ∷ is) fault = (rest : List ℕ) × IsBefore i octets rest × IsReading rest is fault
 
--- a message: a good header, and behind its 20 octets the submessages
+-- a message: a good header, and after its 20 octets the submessages
 pub record IsMessage (octets : List ℕ) (header : Header) (items : List Item) (fault : Option SubmessageFault) : Type 0 where
   pub opening : header_of octets ≡ Ok header
   pub behind : IsReading (drop 20 octets) items fault

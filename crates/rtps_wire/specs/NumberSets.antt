@@ -1,4 +1,4 @@
--- Sets of numbers as they stand in a body: base, count of bits, words (DDSI-RTPS 9.4.2.6).
+-- Sets of numbers as they are in a body: base, count of bits, words (DDSI-RTPS 9.4.2.6).
 use Rattle.std.specs.Prelude.{ℕ, zero, suc, ◌+◌, ◌-◌, ◌*◌, ◌/◌, List, [], ◌∷◌, ◌++◌, length, drop, replicate, Option, Some, None, nat_le, if◌then◌else◌}
 use Rattle.rtps_types.specs.declared.field.Endian.{Endian}
 use Rattle.rtps_types.specs.Field.{number, number_at}

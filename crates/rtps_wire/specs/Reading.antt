@@ -1,4 +1,4 @@
--- How the octets behind a message's header are read, one submessage after the other (DDSI-RTPS 8.3.4.1, 9.4.5.1).
+-- How the octets after a message's header are read, one submessage after the other (DDSI-RTPS 8.3.4.1, 9.4.5.1).
 use Rattle.std.specs.Prelude.{◌≡◌, ℕ, zero, suc, List, [], ◌∷◌, length, take, drop, Option, Some, None, Result, Ok, Err, Bool, not, ◌&&◌, ◌||◌, nat_lt, ◌==◌, if◌then◌else◌}
 use Rattle.std.specs.Iterator.{YieldsFirstBy}
 use Rattle.rtps_types.specs.Field.{number}
@@ -10,7 +10,7 @@ use Rattle.rtps_wire.specs.declared.submessages.Front.TheVariants as code
 use Rattle.rtps_wire.specs.Fields.{endian_of}
 use Rattle.rtps_wire.specs.Submessage.{Content, Item, parts_of, view}
 
--- a length of 0 stands for all that follows, but in PAD and INFO_TS, where it is empty
+-- a length of 0 means all that follows, but in PAD and INFO_TS, where it is empty
 abbrev pub runs_to_end : ℕ → ℕ → Bool
 runs_to_end id stated = stated == 0 && not (id == 0x01 || id == 0x09)
 
@@ -18,7 +18,7 @@ runs_to_end id stated = stated == 0 && not (id == 0x01 || id == 0x09)
 abbrev pub body_length : ℕ → ℕ → ℕ → ℕ
 body_length id stated left = if runs_to_end id stated then left else stated
 
--- what stands at the front, with the octets behind it, or that nothing is left
+-- what octets begin with, and the octets after it, or that nothing is left
 abbrev pub Read : Type 0
 Read = Result (Option (Item × List ℕ)) SubmessageFault
 
@@ -31,7 +31,7 @@ item_of id flags (Some c) after = Ok (Some (record { id = id; flags = flags; con
 abbrev pub body_of : ℕ → ℕ → ℕ → List ℕ → Read
 body_of id flags len rest = if nat_lt (length rest) len then Err Length else item_of id flags (parts_of id flags (take len rest)) (drop len rest)
 
--- what stands at the front, by its four octets of header and its body
+-- what octets begin with, by its four octets of header and its body
 unfoldable pub front_of : List ℕ → Read
 front_of [] = Ok None
 front_of (id ∷ []) = Err Rest
@@ -49,13 +49,13 @@ pub record Reading : Type 0 where
   pub items : List Item
   pub fault : Option SubmessageFault
 
--- what was read at the front, and then the others behind it
+-- what was read at the front, and then the others after it
 abbrev pub go_on : Read → Reading → Reading
 go_on (Err f) others = record { items = []; fault = Some f }
 go_on (Ok None) others = record { items = []; fault = None }
 go_on (Ok (Some x)) others = record { items = x.0 ∷ others.items; fault = others.fault }
 
--- the reading of what stands behind the first n octets
+-- the reading of what comes after the first n octets
 unfoldable pub reading_behind : ℕ → List ℕ → Reading
 reading_behind (suc n) [] = record { items = []; fault = None }
 reading_behind (suc n) (a ∷ more) = reading_behind n more

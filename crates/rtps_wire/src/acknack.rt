@@ -10,7 +10,7 @@ use crate::kinds::{ACKNACK, ACKNACK_FINAL, LITTLE};
 use rtps_types::{Guid, Octets, SnSet};
 use std::alloc::{AllocError, Allocator};
 
-/// What an ACKNACK tells a writer.
+/// What an ACKNACK says to a writer.
 #[derive(Clone, Copy, Debug)]
 pub struct AckNack {
     /// The reader that answers.

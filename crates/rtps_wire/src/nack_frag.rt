@@ -9,7 +9,7 @@ use crate::kinds::{LITTLE, NACK_FRAG};
 use rtps_types::{FragSet, Guid, Number, Octets};
 use std::alloc::{AllocError, Allocator};
 
-/// What a NACK_FRAG tells a writer.
+/// What a NACK_FRAG says to a writer.
 #[derive(Clone, Copy, Debug)]
 pub struct NackFrag {
     /// The reader that answers.

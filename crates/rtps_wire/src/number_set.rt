@@ -1,4 +1,4 @@
-//! Sets of sequence numbers as they stand in a body (DDSI-RTPS 9.4.2.6).
+//! Sets of sequence numbers as they are in a body (DDSI-RTPS 9.4.2.6).
 
 ghost use Rattle.std.specs.Prelude.{◌≡◌, ◌≤◌, length};
 ghost use Rattle.std.specs.Option.{option_map};
@@ -25,7 +25,7 @@ pub(crate) fn get_sn_set(octets: &[u8], at: usize, endian: Endian) -> Option<SnS
     Some(SnSet { base, bits, words })
 }
 
-/// The `count` words at `at`, if they are there, and zeros behind them.
+/// The `count` words at `at`, if they are there, and zeros after them.
 fn get_words(octets: &[u8], at: usize, count: usize, endian: Endian) -> Option<[u32; 8]>
     requires few { count ≤ 8 }
     requires there { at ≤ length octets.now }

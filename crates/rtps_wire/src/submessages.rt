@@ -13,7 +13,7 @@ use crate::submessage::{Submessage, SubmessageFault, read_parts};
 use rtps_types::get_u16;
 use std::marker::Model;
 
-/// What stands at the front of the submessages, with the octets behind it.
+/// What the octets of submessages begin with, and the octets after it.
 #[derive(Clone, Copy)]
 enum Front<'a> {
     Submessage(Submessage<'a>, &'a [u8]),
@@ -50,7 +50,7 @@ fn read_front(octets: &[u8]) -> Front<'_>
     }
 }
 
-/// The valid submessages behind a message's header, in order, up to the first that is invalid.
+/// The valid submessages after a message's header, in order, up to the first that is invalid.
 #[derive(Drop)]
 pub struct Submessages<'a> {
     rest: &'a [u8],
@@ -63,7 +63,7 @@ impl<'a> Model for Submessages<'a> {
 }
 
 impl<'a> Submessages<'a> {
-    /// Begins with the first submessage; the octets are those behind the 20 of the header.
+    /// Begins with the first submessage; the octets are those after the 20 of the header.
     #[tactic(auto, using(crate::proofs::Steps::few_items, crate::proofs::Grammar::reading_is))]
     pub fn new(octets: &'a [u8]) -> Submessages<'a>
         // Any octets have a reading by the grammar, this one, and no other.
@@ -81,7 +81,8 @@ impl<'a> Submessages<'a> {
     #[tactic(auto, using(crate::proofs::Steps::reading_item, crate::proofs::Steps::reading_end, crate::proofs::Steps::reading_fault))]
     pub fn fault(&self) -> Option<SubmessageFault>
         ensures ended { self.now.items ≡ [] → result ≡ self.now.fault }
-        ensures before { (next : Item) (others : List Item) → self.now.items ≡ next ∷ others → result ≡ None }
+        ensures before { (next : Item) (others : List Item) →
+            self.now.items ≡ next ∷ others → result ≡ None }
     {
         match read_front(self.rest) {
             Front::Fault(fault) => Some(fault),

@@ -5,7 +5,7 @@ use crate::*;
 use rtps_types::KeyHash;
 use std::test::Fail;
 
-/// A count of bits, how many words of ones stand behind it, and where that is a set from the base 5
+/// A count of bits, how many words of ones follow it, and where that is a set from the base 5
 /// on, its last member, if it has one.
 const SETS: [(u32, u8, Option<Option<u64>>); 12] = [
     (0, 0, Some(None)),
@@ -43,7 +43,7 @@ fn sets_have_their_words_and_at_most_256_bits(rt: HostRuntime) -> Result<(), Fai
     Ok(())
 }
 
-/// Flags, octetsToInlineQos, what stands behind the fields, and what a change then carries, if it
+/// Flags, octetsToInlineQos, what follows the fields, and what a change then carries, if it
 /// is valid.
 type Carries<'a> = (u8, u8, &'a [u8], Option<(Form, &'a [u8])>);
 
@@ -170,7 +170,7 @@ const LISTS: [Qos<'static>; 14] = [
             \x01\x00\x00\x00",
         says: Some((1, None)),
     },
-    // octets behind the known ones, padding, and parameters of other ids say nothing
+    // octets after the known ones, padding, and parameters of other ids say nothing
     Qos {
         octets: b"\x71\x00\x08\x00\x00\x00\x00\x02\xff\xff\xff\xff\
             \x00\x00\x04\x00\xee\xee\xee\xee\

@@ -15,7 +15,7 @@ fn reads(octets: &[u8], ids: &[u8], fault: Option<SubmessageFault>) -> bool {
     submessages.next().is_none() && submessages.fault() == fault
 }
 
-/// Submessages behind a header, the ids of those that are read, and the fault that is met.
+/// Submessages after a header, the ids of those that are read, and the fault that is met.
 #[derive(Clone, Copy)]
 struct Behind<'a> {
     octets: &'a [u8],
@@ -129,7 +129,7 @@ const LENGTHS: [Behind<'static>; 24] = [
         ids: &[0x0e],
         fault: None,
     },
-    // octets behind the known fields say nothing
+    // octets after the known fields say nothing
     Behind {
         octets: b"\x0e\x01\x10\x00\
             \x01\x02\x03\x04\x05\x06\x07\x08\x09\x0a\x0b\x0c\
@@ -138,7 +138,7 @@ const LENGTHS: [Behind<'static>; 24] = [
         ids: &[0x0e, 0x01],
         fault: None,
     },
-    // a length is taken as it stands, in its byte order
+    // a length is taken as it is, in its byte order
     Behind {
         octets: b"\x06\x01\x03\x00\
             \xee\xee\xee\
@@ -173,7 +173,7 @@ const LENGTHS: [Behind<'static>; 24] = [
         ids: &[0x06],
         fault: Some(SubmessageFault::Length),
     },
-    // behind an invalid submessage nothing is read
+    // after an invalid submessage nothing is read
     Behind {
         octets: b"\x01\x01\x00\x00\
             \x0e\x01\x0b\x00\

@@ -71,7 +71,7 @@ const MISSING: [(SnSet, u32, &[u8]); 5] = [
             \x00\x00\x00\x00\
             \x01\x00\x00\x00",
     ),
-    // nothing, behind the greatest number of a change
+    // nothing, after the greatest number of a change
     (
         SnSet {
             base: 4_611_686_018_427_387_905,

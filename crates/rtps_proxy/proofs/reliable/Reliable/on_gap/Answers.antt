@@ -9,7 +9,7 @@ use Rattle.rtps_proxy.proofs.Standing.{Shows, lost_nothing, names_shows, split_h
 use Rattle.rtps_proxy.proofs.reliable.Reliable.on_gap.Goals as goal
 
 pub returns : goal.returns
-returns g c = λ whom past time at.
+returns g c = λ whom time past at.
     let event : Came = came time (body.Gap c.args.gap.now) in
     let old = c.args.self.now.settled in
     let new = c.add_named.new.self in

@@ -20,7 +20,7 @@ use Rattle.rtps_proxy.proofs.Beats.{announced_is, answered_is, beat_at, beat_los
 use Rattle.rtps_proxy.proofs.reliable.Reliable.on_heartbeat.Goals as goal
 
 pub returns-then-not-is_accepted : goal.returns-then-not-is_accepted
-returns-then-not-is_accepted g c = λ past time at.
+returns-then-not-is_accepted g c = λ time past at.
     let b = c.args.heartbeat.now in
     let h : Announced = record { first = value_of b.first; last = b.last; count = b.count; final_flag = b.final_flag; liveliness = b.liveliness } in
     let event : Came = beat_at time h in
@@ -43,7 +43,7 @@ returns-then-not-is_accepted g c = λ past time at.
     }
 
 pub returns : goal.returns
-returns g c = λ past time at.
+returns g c = λ time past at.
     let b = c.args.heartbeat.now in
     let h : Announced = record { first = value_of b.first; last = b.last; count = b.count; final_flag = b.final_flag; liveliness = b.liveliness } in
     let event : Came = beat_at time h in
