@@ -10,3 +10,4 @@ pub mod Matched
 pub mod Presenting
 pub mod Stepped
 pub mod Taking
+pub mod Unmatched

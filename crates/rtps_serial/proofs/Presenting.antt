@@ -174,3 +174,10 @@ run_presents {M} decoding config datagrams rank g asks = by_match (first_match g
     by_match (inr none) =
         let strange = strange_run decoding (first_world config) rank g (events_from config.own 0 datagrams) (record { below = below; none = none; untold = refl }) in
         subst (ArePresented decoding (events_in config datagrams rank g)) (sym strange.untold) (record { rising = tt; received = tt; passed_over = tt })
+
+-- where there is no match at the start, no sample is presented
+pub none_presented : {M : Type 0} (decoding : Decoding M) (config : Config) (datagrams : List (List ℕ)) (rank : ℕ) (g : Guid) → rank < length config.readers.items
+    → match_with g (map fresh (map (whom_of config.own (entity_of config.readers.items rank) (is_reliable_at config.readers.items rank)) (fixed_of config.fixed.items rank))) ≡ None
+    → samples_in decoding config datagrams rank g ≡ []
+none_presented decoding config datagrams rank g below none =
+    (strange_run decoding (first_world config) rank g (events_from config.own 0 datagrams) (record { below = below; none = none; untold = refl })).untold

@@ -1,7 +1,7 @@
 -- Presentation in a run (DDSI-RTPS 8.4.12.3, 8.3.7): the samples of a writer that a reliable reader presents, against
 -- the submessages alone that came for their match.
 use Rattle.std.specs.Prelude.{◌≡◌, ℕ, ◌<◌, ◌==◌, ◌&&◌, ◌||◌, nat_lt, nat_le, Bool, List, [], ◌∷◌, ◌++◌, map, filter, reverse, Option, if◌then◌else◌}
-use Rattle.std.specs.List.{AllByRecursion}
+use Rattle.std.specs.List.{AllByRecursion, list_any}
 use Rattle.rtps_types.specs.declared.identity.EntityId.{EntityId}
 use Rattle.rtps_types.specs.declared.identity.Guid.{Guid}
 use Rattle.rtps_types.specs.declared.place.Place.{Place}
@@ -79,6 +79,10 @@ pub record ArePresented {M : Type 0} (decoding : Decoding M) (events : List Happ
 -- the samples of a writer that the reader of a rank presented in a run
 abbrev pub samples_in : {M : Type 0} → Decoding M → Config → List (List ℕ) → ℕ → Guid → List (Shown M)
 samples_in decoding config datagrams rank writer = samples_of writer (notices_by rank (run decoding config datagrams).put)
+
+-- the reader of a rank is matched with a writer from the start
+abbrev pub is_fixed : Config → ℕ → Guid → Bool
+is_fixed config rank writer = list_any (λ m. m.rank == rank && same_guid m.writer writer) config.fixed.items
 
 -- the submessages of a run for the match of a writer and the reader of a rank, the newest first
 abbrev pub events_in : Config → List (List ℕ) → ℕ → Guid → List Happening

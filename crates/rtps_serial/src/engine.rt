@@ -140,7 +140,7 @@ impl<C: Catalog, A: Allocator + Copy> SerialEngine<C, A> {
             → OnErr result (ShowsAt C.decoding datagrams self.new) }
         ensures leaves { Leaves result reports.old.items reports.new.items }
     {
-        self.admit()?;
+        self.admit()?; // `reports` stays as it is.
         if self.report(alloc, octets, reports).is_err() {
             reports.clear();
             return Err(EngineError::NoMemory);
@@ -257,9 +257,10 @@ impl<C: Catalog, A: Allocator + Copy> SerialEngine<C, A> {
             → IfOk result (λ matches. matches.keys ≡ matches_seen (run_by C.decoding self.now datagrams)) }
     {
         if self.failed {
-            return Err(EngineError::Failed);
+            Err(EngineError::Failed)
+        } else {
+            Ok(all_matches::<C, A>(alloc, &self.readers)?)
         }
-        Ok(all_matches::<C, A>(alloc, &self.readers)?)
     }
 
     /// The catalog that values are decoded by.

@@ -1,4 +1,5 @@
-//! Laws of the values: what their derived orders are.
+//! Laws of the values: what their derived orders are. Each says what `Ord` itself answers, so it holds
+//! of every sort, map and set.
 
 ghost use Rattle.std.specs.Prelude.{◌≡◌};
 ghost use Rattle.rtps_types.specs.Duration.{duration_order};
@@ -10,21 +11,24 @@ use std::cmp::Ordering;
 
 /// Participants are ordered as their octets, the first one first.
 pub fn order_of_prefixes(left: &GuidPrefix, right: &GuidPrefix) -> Ordering
-    ensures { result ≡ octet_order left.now.0 right.now.0 }
+    ensures derived { ⟦<GuidPrefix as Ord>⟧.cmp left.now right.now ≡ octet_order left.now.0 right.now.0 }
+    ensures value { result ≡ octet_order left.now.0 right.now.0 }
 {
     left.cmp(right)
 }
 
 /// Entities are ordered as their octets, the first one first.
 pub fn order_of_entities(left: &EntityId, right: &EntityId) -> Ordering
-    ensures { result ≡ octet_order left.now.0 right.now.0 }
+    ensures derived { ⟦<EntityId as Ord>⟧.cmp left.now right.now ≡ octet_order left.now.0 right.now.0 }
+    ensures value { result ≡ octet_order left.now.0 right.now.0 }
 {
     left.cmp(right)
 }
 
 /// Key hashes are ordered as their octets, the first one first.
 pub fn order_of_hashes(left: &KeyHash, right: &KeyHash) -> Ordering
-    ensures { result ≡ octet_order left.now.0 right.now.0 }
+    ensures derived { ⟦<KeyHash as Ord>⟧.cmp left.now right.now ≡ octet_order left.now.0 right.now.0 }
+    ensures value { result ≡ octet_order left.now.0 right.now.0 }
 {
     left.cmp(right)
 }
@@ -32,21 +36,24 @@ pub fn order_of_hashes(left: &KeyHash, right: &KeyHash) -> Ordering
 /// Endpoints are ordered as their sixteen octets: those of the participant, then their own.
 #[tactic(auto, using(crate::proofs::Orders::octet_order_append))]
 pub fn order_of_guids(left: &Guid, right: &Guid) -> Ordering
-    ensures { result ≡ octet_order (guid_octets left.now) (guid_octets right.now) }
+    ensures derived { ⟦<Guid as Ord>⟧.cmp left.now right.now ≡ octet_order (guid_octets left.now) (guid_octets right.now) }
+    ensures value { result ≡ octet_order (guid_octets left.now) (guid_octets right.now) }
 {
     left.cmp(right)
 }
 
 /// Places are ordered by datagram, and in one datagram by submessage.
 pub fn order_of_places(left: &Place, right: &Place) -> Ordering
-    ensures { result ≡ place_order left.now right.now }
+    ensures derived { ⟦<Place as Ord>⟧.cmp left.now right.now ≡ place_order left.now right.now }
+    ensures value { result ≡ place_order left.now right.now }
 {
     left.cmp(right)
 }
 
 /// Lengths of time are ordered by seconds, and then by fraction.
 pub fn order_of_durations(left: &Duration, right: &Duration) -> Ordering
-    ensures { result ≡ duration_order left.now right.now }
+    ensures derived { ⟦<Duration as Ord>⟧.cmp left.now right.now ≡ duration_order left.now right.now }
+    ensures value { result ≡ duration_order left.now right.now }
 {
     left.cmp(right)
 }

@@ -1,5 +1,9 @@
 use Rattle.rtps_serial.proofs.Presenting.{run_presents}
+use Rattle.rtps_serial.proofs.Unmatched.{run_presents_none}
 use Rattle.rtps_serial.proofs.laws.presented.Goals as goal
 
-pub returns : goal.returns
-returns g c = λ decoding config datagrams rank writer asks. run_presents decoding config datagrams rank writer asks
+pub returns-clause-matched : goal.returns-clause-matched
+returns-clause-matched g c = λ decoding config datagrams rank writer asks. run_presents decoding config datagrams rank writer asks
+
+pub returns-clause-unmatched : goal.returns-clause-unmatched
+returns-clause-unmatched g c = λ decoding config datagrams rank writer none. run_presents_none decoding config datagrams rank writer none
