@@ -1,11 +1,9 @@
 -- What is printed of a record file, by what the words ask for.
 use Rattle.std.specs.Prelude.{◌≡◌, ℕ, List, [], true, false, Option, None, ◌⊎◌, Result, Ok, Err, IfErr, IsErr}
 use Rattle.std.specs.Io.KnownBytes.{Keeps}
-use Rattle.dds_topic.specs.RawMeaning.{RawMeaning, no_key}
-use Rattle.dds_topic.specs.ShapeMeaning.{ShapeMeaning, color_hash, shape_hash_of_key, shape_meaning, shape_text}
+use Rattle.dds_topic.specs.RawMeaning.{raw_decoding}
+use Rattle.dds_topic.specs.ShapeMeaning.{shape_decoding, shape_text}
 use Rattle.rtps_ascii.specs.Hex.{hex_text}
-use Rattle.rtps_reader.specs.Body.{body_by}
-use Rattle.rtps_reader.specs.Reader.{Answers}
 use Rattle.rtps_records.specs.Runs.{Stops, WroteAll}
 use Rattle.rtps_records.specs.Text.{text_of}
 use Rattle.rtps_records.specs.declared.fault.RunFault.TheVariants.{CannotRead, NoMemory}
@@ -20,18 +18,12 @@ use Rattle.rtps_listen.specs.declared.fault.ListenFault.TheVariants.{Run}
 use Rattle.rtps_listen.specs.declared.task.Task.{Task}
 use Rattle.rtps_listen.specs.declared.task.Task.TheVariants as task
 
--- what is presented of a change: a shape of the Shapes demo, or with `--raw` its octets
-abbrev pub shapes : Answers ShapeMeaning
-shapes = body_by shape_meaning (λ s. color_hash s.color) shape_hash_of_key
-
-abbrev pub octets : Answers RawMeaning
-octets = body_by (λ kind body. Ok (record { kind = kind; body = body })) (λ v. no_key) (λ kind body. Ok no_key)
-
--- the text of these records: the lines of their events, or those of a run over them
+-- the text of these records: the lines of their events, or those of a run over them, whose samples are shapes of the Shapes demo,
+-- or with `--raw` octets
 unfoldable pub task_text : Task → List (List ℕ) → List ℕ
 task_text (task.Dump own) records = text_of (lines_of own) records
-task_text (task.Replay setup) records = replay_text shape_text shapes setup.config setup.summary records
-task_text (task.ReplayRaw setup) records = replay_text (λ v. hex_text v.body) octets setup.config setup.summary records
+task_text (task.Replay setup) records = replay_text shape_text shape_decoding setup.config setup.summary records
+task_text (task.ReplayRaw setup) records = replay_text (λ v. hex_text v.body) raw_decoding setup.config setup.summary records
 
 -- the task is what is asked for: by `--own` whose events they are; by the options the readers, `--raw` and `--summary`
 unfoldable pub IsTaskOf : Asked → Task → Type 0
