@@ -32,10 +32,10 @@ impl BestEffort {
             (came time (body.Whole whole.now)) result }
     {
         let number = whole.number.get();
-        let mut ready = Vec::new(alloc);
         if number <= self.top {
-            return Ok(Effects::only_ready(ready));
+            return Ok(Effects::none(alloc));
         }
+        let mut ready = Vec::new(alloc);
         ready.push(Change::lent(time, whole))?;
         let lost = if self.top == 0 {
             0
