@@ -3,17 +3,21 @@
 
     run.py PROGRAM [GROUP..]
 
-A row is a folder GROUP/NAME: `args` has the words, one a line; `input.hex` what stands on standard input, in hex, where
-`#` begins a comment; `stdout`, `stderr` and `status` what the run has to give. Where the status is 2 and the row has no
-`stderr`, the text of standard error is the command line's own and free. A row of `replay` or `samples` is run with every
-batch size and worker count below, which change nothing. A row that fails names itself and shows the first difference.
-The last line is 'N passed, M failed', counted by runs.
+A row is a folder GROUP/NAME: `args` has the words, one a line, as octets; `input.hex` what is on standard input, in hex,
+where `#` begins a comment; `stdout`, `stderr` and `status` what the run has to give. The word `{file}` is the name of a
+file that holds what is in `file.hex`. A row with too much for that has `long.py` in place of `input.hex` and `stdout`: its
+`records` and `lines` give the datagrams and the lines one by one. Where the status is 2 and the row has no `stderr`, the
+text of standard error is the command line's own and free. A row of `replay` or `samples` is run with every batch size and
+worker count below, which change nothing. A row that fails names itself and shows the first difference. The last line is
+'N passed, M failed', counted by runs.
 """
 
 import itertools
 import os
+import runpy
 import subprocess
 import sys
+import tempfile
 from concurrent.futures import ThreadPoolExecutor
 from pathlib import Path
 
@@ -30,6 +34,15 @@ def octets(path):
 
 def content(path):
     return path.read_bytes() if path.exists() else b""
+
+
+def given(row):
+    """What is on standard input, and what has to be on standard output."""
+    if not (row / "long.py").exists():
+        return octets(row / "input.hex"), content(row / "stdout")
+    long = runpy.run_path(str(row / "long.py"))
+    framed = (len(datagram).to_bytes(4, "big") + datagram for datagram in long["records"]())
+    return b"RDG1" + b"".join(framed), "".join(line + "\n" for line in long["lines"]()).encode()
 
 
 def runs_of(words):
@@ -55,12 +68,18 @@ def difference(name, got, wanted):
 
 def fault_of(program, words, row):
     """What a run gives otherwise than its row, if anything."""
-    try:
-        done = subprocess.run([program, *words], input=octets(row / "input.hex"), capture_output=True, timeout=SECONDS, check=False)
-    except subprocess.TimeoutExpired:
-        return f"no end in {SECONDS} seconds"
+    data, out = given(row)
+    with tempfile.NamedTemporaryFile() as file:
+        if (row / "file.hex").exists():
+            file.write(octets(row / "file.hex"))
+            file.flush()
+        words = [file.name if word == "{file}" else word for word in words]
+        try:
+            done = subprocess.run([program, *words], input=data, capture_output=True, timeout=SECONDS, check=False)
+        except subprocess.TimeoutExpired:
+            return f"no end in {SECONDS} seconds"
     status = int(content(row / "status") or b"0")
-    out, err = content(row / "stdout"), content(row / "stderr")
+    err = content(row / "stderr")
     if done.returncode != status:
         return f"status {done.returncode}, wanted {status}; standard error: {done.stderr[-300:]!r}"
     if done.stdout != out:
@@ -75,8 +94,8 @@ def main():
         print(__doc__, file=sys.stderr)
         return 2
     program, groups = os.path.abspath(sys.argv[1]), sys.argv[2:]
-    rows = sorted(path.parent for path in HERE.glob("*/*/input.hex") if not groups or path.parent.parent.name in groups)
-    runs = [(row, words) for row in rows for words in runs_of((row / "args").read_text().splitlines())]
+    rows = sorted(path.parent for path in HERE.glob("*/*/args") if not groups or path.parent.parent.name in groups)
+    runs = [(row, words) for row in rows for words in runs_of(os.fsdecode((row / "args").read_bytes()).splitlines())]
     with ThreadPoolExecutor(os.cpu_count()) as pool:
         faults = list(pool.map(lambda run: fault_of(program, run[1], run[0]), runs))
     for (row, words), fault in zip(runs, faults):

@@ -1,6 +1,5 @@
 //! Lines that were written down by hand, and what they ask for.
 
-mod long_runs;
 mod replay;
 
 use crate::asked::{Asked, OWN};

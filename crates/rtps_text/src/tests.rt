@@ -66,16 +66,6 @@ fn text(alloc: Global, lines: &[&str]) -> Result<String, Fail> {
 }
 
 #[test]
-fn prints_each_kind_of_event(rt: HostRuntime) -> Result<(), Fail> {
-    let file = file(rt.alloc())?;
-    let mut out = Vec::new(rt.alloc());
-    let outcome = dump(rt.alloc(), OURS, &mut file.as_slice(), &mut out);
-    assert_eq!(rt; outcome, Ok(()));
-    assert_eq!(rt; out.as_slice(), text(rt.alloc(), &LINES)?.as_bytes());
-    Ok(())
-}
-
-#[test]
 fn prints_a_front_where_a_growth_is_refused(rt: HostRuntime) -> Result<(), Fail> {
     let file = file(rt.alloc())?;
     let text = text(rt.alloc(), &LINES)?;
@@ -119,7 +109,7 @@ fn prints_the_records_before_a_read_that_fails(rt: HostRuntime) -> Result<(), Fa
     for read in [FIRST, FIRST + 2, FIRST + 50] {
         let front = file.as_slice().get(..read).unwrap_or(&[]);
         let mut out = Vec::new(rt.alloc());
-        let outcome = dump_in(rt.alloc(), OURS, &mut Failing(front), &mut out);
+        let outcome = dump(rt.alloc(), OURS, &mut Failing(front), &mut out);
         assert_eq!(rt; outcome, Err(RunFault::CannotRead), "at {read}");
         assert_eq!(rt; out.as_slice(), first.as_bytes(), "at {read}");
     }

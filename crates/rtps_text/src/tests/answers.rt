@@ -2,7 +2,7 @@
 
 use super::runs::{config_of, setup};
 use super::text;
-use crate::{replay, replay_in};
+use crate::replay_in;
 use dds_qos::Reliability;
 use dds_topic::Shapes;
 use linked_list_allocator::LocalHeap;
@@ -34,23 +34,6 @@ fn file(alloc: Global) -> Result<Vec<u8>, Fail> {
         file.extend_from_slice(hex::decode(alloc, part)?.as_slice())?;
     }
     Ok(file)
-}
-
-#[test]
-fn prints_what_readers_answer(rt: HostRuntime) -> Result<(), Fail> {
-    let alloc = rt.alloc();
-    let file = file(alloc)?;
-    let config = config_of(alloc, Reliability::Reliable)?;
-    let mut out = Vec::new(alloc);
-    let outcome = replay(
-        alloc,
-        setup(config, Shapes, false),
-        &mut file.as_slice(),
-        &mut out,
-    );
-    assert_eq!(rt; outcome, Ok(()));
-    assert_eq!(rt; out.as_slice(), text(alloc, &LINES)?.as_bytes());
-    Ok(())
 }
 
 #[test]

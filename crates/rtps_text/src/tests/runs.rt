@@ -6,7 +6,7 @@ ghost use Rattle.rtps_discovery.specs.Config.{check_of};
 use super::{Failing, text};
 use crate::{Setup, replay, replay_in};
 use dds_qos::{Reliability, Requested};
-use dds_topic::{Raw, Shapes, TextCatalog};
+use dds_topic::{Shapes, TextCatalog};
 use linked_list_allocator::LocalHeap;
 use rtps_discovery::{Config, FixedMatch, ReaderConfig, check};
 use rtps_records::RunFault;
@@ -45,13 +45,6 @@ const LINES: [&str; 7] = [
     "0:2 reader 1 lost 0a0a0a0a0a0a0a0a0a0a0a0a00000102 1",
     "0:2 reader 1 sample 0a0a0a0a0a0a0a0a0a0a0a0a00000102 3 - value 424c5545 10 20 30",
     "1:1 reader 1 sample 0a0a0a0a0a0a0a0a0a0a0a0a00000102 4 - value 424c5545 10 20 30",
-];
-
-const SUMMARY: [&str; 4] = [
-    "match 0 0a0a0a0a0a0a0a0a0a0a0a0a00000102",
-    "match 1 0a0a0a0a0a0a0a0a0a0a0a0a00000102",
-    "status 0 1 1 0 - 1 2",
-    "status 1 1 1 0 - 1 3",
 ];
 
 fn file(alloc: Global) -> Result<Vec<u8>, Fail> {
@@ -108,58 +101,6 @@ pub(super) fn setup<C: TextCatalog>(config: Config, catalog: C, summary: bool) -
         catalog,
         summary,
     }
-}
-
-#[test]
-fn prints_what_readers_are_told(rt: HostRuntime) -> Result<(), Fail> {
-    let alloc = rt.alloc();
-    let file = file(alloc)?;
-    let mut out = Vec::new(alloc);
-    let outcome = replay(
-        alloc,
-        setup(config(alloc)?, Shapes, false),
-        &mut file.as_slice(),
-        &mut out,
-    );
-    assert_eq!(rt; outcome, Ok(()));
-    assert_eq!(rt; out.as_slice(), text(alloc, &LINES)?.as_bytes());
-    Ok(())
-}
-
-#[test]
-fn prints_a_summary_behind_the_lines(rt: HostRuntime) -> Result<(), Fail> {
-    let alloc = rt.alloc();
-    let file = file(alloc)?;
-    let mut expected = text(alloc, &LINES)?;
-    expected.push_str(text(alloc, &SUMMARY)?.as_str())?;
-    let mut out = Vec::new(alloc);
-    let outcome = replay(
-        alloc,
-        setup(config(alloc)?, Shapes, true),
-        &mut file.as_slice(),
-        &mut out,
-    );
-    assert_eq!(rt; outcome, Ok(()));
-    assert_eq!(rt; out.as_slice(), expected.as_bytes());
-    Ok(())
-}
-
-#[test]
-fn prints_values_as_they_stand(rt: HostRuntime) -> Result<(), Fail> {
-    let alloc = rt.alloc();
-    let file = file(alloc)?;
-    let mut out = Vec::new(alloc);
-    let outcome = replay(
-        alloc,
-        setup(config(alloc)?, Raw, false),
-        &mut file.as_slice(),
-        &mut out,
-    );
-    assert_eq!(rt; outcome, Ok(()));
-    let first =
-        "0:1 reader 0 sample 0a0a0a0a0a0a0a0a0a0a0a0a00000102 1 - value 05000000424c5545000000000a000000140000001e000000\n";
-    assert!(rt; out.as_slice().starts_with(first.as_bytes()));
-    Ok(())
 }
 
 #[test]
