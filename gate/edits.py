@@ -21,6 +21,8 @@ class Function:
     """A function of a crate's source."""
 
     file: str
+    home: str
+    """The file by whose module the checker calls it: of a type's own methods the one that declares the type."""
     owner: str
     """The type of the impl block that it is in, if it is in one."""
     of_trait: bool
@@ -32,8 +34,8 @@ class Function:
     """The line of the brace that closes it."""
 
     def modules(self):
-        """The modules that it is in, from the crate on."""
-        inside = self.file.removeprefix("src/").removesuffix(".rt").split("/")
+        """The modules that it is called by, from the crate on."""
+        inside = self.home.removeprefix("src/").removesuffix(".rt").split("/")
         return [] if inside in (["lib"], ["main"]) else inside
 
     def asked(self, crate):
@@ -98,7 +100,16 @@ def apply(edit, texts, folder):
         texts[file] = texts[file].replace(old, new)
 
 
-def functions_of(file, text):
+def homes_in(folder):
+    """By name of a type that a crate declares, the file that declares it."""
+    found = {}
+    for path in sorted((folder / "src").rglob("*.rt")):
+        names = re.findall(r"^(?:pub(?:\([a-z]+\))? )?(?:struct|enum|union) (\w+)", path.read_text(encoding="utf-8"), re.M)
+        found.update(dict.fromkeys(names, path.relative_to(folder).as_posix()))
+    return found
+
+
+def functions_of(file, text, homes):
     """The functions of a source file that have a body of their own lines, as its layout shows them."""
     lines, found, owner, of_trait = text.split("\n"), [], "", False
     for at, line in enumerate(lines):
@@ -117,19 +128,20 @@ def functions_of(file, text):
                 break
         if opens:
             last = next((end for end in range(first, len(lines)) if lines[end] == f"{indent}}}"), first)
-            found.append(Function(file, owner if indent else "", bool(indent) and of_trait, head[2], first + 1, last))
+            home = homes.get(owner, file) if indent and not of_trait else file
+            found.append(Function(file, home, owner if indent else "", bool(indent) and of_trait, head[2], first + 1, last))
     return found
 
 
 def function_of(edit, folder):
     """The function whose body holds all of an edit's changes, if there is one."""
-    found = set()
+    found, homes = set(), homes_in(folder)
     for file, old, _ in edit.pairs:
         if not file.startswith("src/"):
             return None
         text = (folder / file).read_text(encoding="utf-8")
         line = text[: text.find(old)].count("\n")
-        holds = [each for each in functions_of(file, text) if each.first <= line < each.last]
+        holds = [each for each in functions_of(file, text, homes) if each.first <= line < each.last]
         found.add(holds[-1] if holds else None)
     return found.pop() if len(found) == 1 else None
 
@@ -145,11 +157,11 @@ def is_named_elsewhere(function, folder):
 def reach_of(folder):
     """By function of a crate, the functions that its body reaches, as far as the text of its calls tells: a name before
     a parenthesis is a free function, a name after a dot or a type's name is a method of that name."""
-    bodies = {}
+    bodies, homes = {}, homes_in(folder)
     for path in sorted((folder / "src").rglob("*.rt")):
         text = path.read_text(encoding="utf-8")
         lines = text.split("\n")
-        for function in functions_of(path.relative_to(folder).as_posix(), text):
+        for function in functions_of(path.relative_to(folder).as_posix(), text, homes):
             bodies[function] = "\n".join(lines[function.first : function.last])
     free = {function.name for function in bodies if not function.owner}
     methods = {function.name for function in bodies if function.owner}

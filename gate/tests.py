@@ -199,6 +199,14 @@ class Edits(Repository):
         found = self.function("file: src/lib.rt\nold: octet + STEP\nnew: octet\n")
         self.assertEqual(("", "one"), (found.owner, found.name))
 
+    def test_a_method_is_called_by_the_module_of_its_type(self):
+        self.write("crates/low/src/more.rt", "impl Header {\n    fn second(&self) -> u8 {\n        2\n    }\n}\n")
+        self.write("crates/low/src/named.rt", "pub struct Named(u8);\n\nimpl Named {\n    fn third() -> u8 {\n        3\n    }\n}\n")
+        found = self.function("file: src/more.rt\nold:         2\nnew:         3\n")
+        self.assertEqual(("low::Header::second", "src/more.rt"), (found.asked("low"), found.file))
+        found = self.function("file: src/named.rt\nold:         3\nnew:         4\n")
+        self.assertEqual("low::named::Named::third", found.asked("low"))
+
     def test_an_edit_outside_bodies_has_none(self):
         self.assertIsNone(self.function("file: src/lib.rt\nold: const STEP: u8 = 1;\nnew: const STEP: u8 = 2;\n"))
         self.assertIsNone(self.function("file: src/lib.rt\nold: result ≡ self.now.0\nnew: result ≡ 1\n"))
