@@ -41,7 +41,8 @@ pub fn body_of<C: Catalog>(
     decoder: &mut Decoder<C>,
     content: &Content<'_>,
 ) -> Result<Body<C::Value>, AllocError>
-    ensures body { IfOk result (λ b. body_map C.view b ≡ body_by (C.decoding decoder.old) (carried content.now)) }
+    ensures body { IfOk result (λ b. body_map C.view b
+        ≡ body_by (C.decoding decoder.old) (carried content.now)) }
     ensures same { decoder.new ≡ decoder.old }
 {
     if content.status & (DISPOSED | UNREGISTERED) == 0 {
@@ -82,7 +83,8 @@ fn value_of<C: Catalog>(
     decoder: &Decoder<C>,
     content: &Content<'_>,
 ) -> Result<C::Value, CatalogError>
-    ensures { Gives C.view result (value_for (C.decoding decoder.now) (carried content.now) content.now.form) }
+    ensures { Gives C.view result (value_for (C.decoding decoder.now)
+        (carried content.now) content.now.form) }
 {
     match content.form {
         Form::Value => {
@@ -98,7 +100,8 @@ fn key_of<C: Catalog>(
     decoder: &mut Decoder<C>,
     content: &Content<'_>,
 ) -> Result<KeyHash, CatalogError>
-    ensures key { Gives (λ h. h) result (key_for (C.decoding decoder.old) (carried content.now) content.now.form) }
+    ensures key { Gives (λ h. h) result (key_for (C.decoding decoder.old)
+        (carried content.now) content.now.form) }
     ensures same { decoder.new ≡ decoder.old }
 {
     match content.form {
