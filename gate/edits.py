@@ -1,6 +1,6 @@
 """Must-fail edits: wrong bodies that the checker has to refuse.
 
-Edits of different functions are tried in one check of a copy of the crate, which looks at the modules of these
+Edits of functions that do not reach each other are tried in one check of a copy of the crate, which looks at these
 functions and at what they call. There an edit counts as refused only where the checker says of the very function that
 holds it that a goal of its own is not proved. Edits whose functions wait for others that were edited are tried again,
 without those that were refused. What leaves a doubt is tried alone, by a check of the whole crate: an edit outside a

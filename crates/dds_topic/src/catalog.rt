@@ -67,7 +67,8 @@ pub trait Catalog: Send + Sync + Drop {
         ensures { Gives (λ h. h) result ((decoding self.now).hash_of_key kind body.now) };
 
     // The key of a value is read again.
-    ghost key_again: { (c : Self) (v : Self.Value) → (decoding c).hash_of_key 1 (key c (view v)) ≡ Ok ((decoding c).hash (view v)) };
+    ghost key_again: { (c : Self) (v : Self.Value) → (decoding c).hash_of_key 1 (key c (view v))
+        ≡ Ok ((decoding c).hash (view v)) };
 }
 
 /// A catalog whose values can be printed.
@@ -78,7 +79,8 @@ pub trait TextCatalog: Catalog {
         out: &mut Vec<u8, A>,
         value: &Self::Value,
     ) -> Result<(), AllocError>
-        ensures { OnOk result (out.new.items ≡ out.old.items ++ Self.text_of self.now (Self.view value.now)) };
+        ensures { OnOk result (out.new.items ≡ out.old.items
+            ++ Self.text_of self.now (Self.view value.now)) };
 
     /// The same in memory of its own.
     fn text(&self, alloc: Global, value: &Self::Value) -> Result<Vec<u8>, AllocError>

@@ -65,7 +65,7 @@ impl ColorKeys {
     }
 }
 
-/// The hash of a color's key, where the color stands in this place.
+/// The hash of a color's key, where the color is at this place.
 #[inline(always)]
 fn known_hash(place: &Option<ColorKey>, color: &str) -> Option<KeyHash>
     ensures { IfSome result (λ h. h ≡ color_hash color.now) }

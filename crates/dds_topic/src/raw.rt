@@ -1,4 +1,4 @@
-//! Payloads as they stand.
+//! Payloads as they are.
 
 ghost use Rattle.std.specs.Prelude.{◌≡◌, Ok, IfOk, IsOkAnd, [], refl};
 ghost use Rattle.rtps_ascii.specs.Hex.{hex_text};
@@ -19,7 +19,7 @@ pub struct RawValue<A: Allocator = Global> {
 /// The hash of every value.
 const NO_KEY: KeyHash = KeyHash([0; 16]);
 
-/// The catalog that decodes every payload as it stands. All its values are one instance, whose key
+/// The catalog that takes every payload as it is. All its values are one instance, whose key
 /// has no octets and whose hash is zero.
 #[derive(Clone, Copy, Debug)]
 pub struct Raw;

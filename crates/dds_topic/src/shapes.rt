@@ -20,7 +20,7 @@ use std::alloc::{AllocError, Allocator, Global};
 /// The catalog of the Shapes demo: `string<128> color` (the key), `long x`, `long y`,
 /// `long shapesize`, in plain CDR of either byte order.
 ///
-/// Octets behind a value are ignored. A color above 128 octets is malformed. The key's greatest size
+/// Octets after a value are ignored. A color above 128 octets is malformed. The key's greatest size
 /// passes 16 octets, so its hash is the MD5 of its big-endian CDR, for short colors too
 /// (DDSI-RTPS 9.6.4.8).
 #[derive(Clone, Copy, Debug)]

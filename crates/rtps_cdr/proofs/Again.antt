@@ -4,11 +4,11 @@ use Rattle.std.proofs.lemmas.List.{length-replicate, length-append, drop_at}
 use Rattle.rtps_types.specs.declared.field.Endian.{Endian}
 use Rattle.rtps_cdr.specs.declared.fault.CdrFault.{CdrFault}
 use Rattle.rtps_cdr.specs.Cdr.{CdrType, Unsigned, Signed, Boolean, Text, Octets, Both, Sequence, ValueOf, Free, Zeros, IsNumber, AreAll, IsCdr, padding}
-use Rattle.rtps_cdr.specs.Reading.{Cursor, placed, Read, Reads, Takes, value_of, moved, number_in, signed_in, bool_in, text_in, octets_in}
+use Rattle.rtps_cdr.specs.Reading.{Cursor, placed, Read, Reads, Takes, value_of, moved, number_in, signed_in, bool_in, text_in, texts_in, octets_in}
 use Rattle.rtps_cdr.specs.Statements.{before, behind, EachIsReadAgain}
 use Rattle.rtps_cdr.specs.Writing.{written, Fits}
 use Rattle.rtps_cdr.proofs.Related.{unsigned_law, signed_law, bool_law, octets_law}
-use Rattle.rtps_cdr.proofs.Counted.{text_law}
+use Rattle.rtps_cdr.proofs.Counted.{text_law, texts_reads}
 use Rattle.rtps_cdr.proofs.Structs.{members_parted}
 use Rattle.rtps_cdr.proofs.Written.{written_is}
 
@@ -68,6 +68,7 @@ each_again front rest e = record {
   signed = λ w z some fits. let c : Cursor = before front e (Signed w) z rest in function_again (Signed w) front rest e z (signed_in w c) fits (signed_law w c some);
   truth = λ b. let c : Cursor = before front e Boolean b rest in function_again Boolean front rest e b (bool_in c) tt (bool_law c);
   text = λ text fits. let c : Cursor = before front e Text text rest in function_again Text front rest e text (text_in c) fits (text_law c (within front (written Text (length front) e text ++ rest)));
+  texts = λ texts fits. let c : Cursor = before front e (Sequence Text) texts rest in function_again (Sequence Text) front rest e texts (texts_in c) fits (texts_reads c (moved c (texts_in c)) (value_of (texts_in c)) (within front (written (Sequence Text) (length front) e texts ++ rest)) refl refl);
   octets = λ body. let c : Cursor = before front e (Octets (length body)) body rest in function_again (Octets (length body)) front rest e body (octets_in (length body) c) refl (octets_law (length body) c (within front (body ++ rest)));
 } where
   within : (front others : List ℕ) → length front ≤ length (front ++ others)

@@ -5,3 +5,4 @@ pub mod Structs
 pub mod Texts
 pub mod Written
 pub mod Again
+pub mod Sequences

@@ -29,7 +29,11 @@ pub struct CdrReader<'a> {
 impl<'a> Model for CdrReader<'a> {
     ghost Value = { Cursor };
 
-    ghost view = { λ r. record { octets = r.octets.now; endian = r.endian; position = r.position } };
+    ghost view = { λ r. record {
+      octets = r.octets.now;
+      endian = r.endian;
+      position = r.position;
+    } };
 
     ghost invariant = { λ r. r.position ≤ length r.octets.now };
 }

@@ -28,7 +28,9 @@ impl<'a> Model for Strings<'a> {
 
     ghost view = { λ s. texts_left s.left (placed (start s.endian s.octets.now) s.position) };
 
-    ghost invariant = { λ s. (s.position ≤ length s.octets.now) × (is_ok (items_in text_in s.left (placed (start s.endian s.octets.now) s.position)) ≡ true) };
+    ghost invariant = { λ s. (s.position ≤ length s.octets.now)
+        × (is_ok (items_in text_in s.left (placed (start s.endian s.octets.now) s.position))
+        ≡ true) };
 }
 
 impl<'a> Iterator for Strings<'a> {
@@ -63,7 +65,8 @@ fn behind_strings(
     count: u32,
 ) -> Result<usize, CdrFault>
     requires { position ≤ length octets.now }
-    ensures value { result ≡ place_of (items_in text_in count (placed (start endian octets.now) position)) }
+    ensures value { result
+        ≡ place_of (items_in text_in count (placed (start endian octets.now) position)) }
     ensures within { IfOk result (λ after. after ≤ length octets.now) }
 {
     let mut at = position;

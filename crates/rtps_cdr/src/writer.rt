@@ -52,7 +52,8 @@ impl<A: Allocator> CdrWriter<A> {
     fn append(&mut self, size: usize, field: &[u8]) -> Result<(), AllocError>
         requires some { 0 < size }
         requires small { size ≤ 8 }
-        ensures { self.new ≡ (if is_ok result then field_appended size field.now self.old else self.old) }
+        ensures { self.new
+            ≡ (if is_ok result then field_appended size field.now self.old else self.old) }
     {
         let start = self.octets.len();
         let (gap, _) = ZEROS.split_at(gap_before(start, size));
@@ -66,7 +67,8 @@ impl<A: Allocator> CdrWriter<A> {
 
     /// Writes a number of 8 bits.
     pub fn write_u8(&mut self, value: u8) -> Result<(), AllocError>
-        ensures value { self.new ≡ (if is_ok result then appended (Unsigned 1) value self.old else self.old) }
+        ensures value { self.new
+            ≡ (if is_ok result then appended (Unsigned 1) value self.old else self.old) }
         ensures writes { OnOk result (Writes (Unsigned 1) self.old self.new value) }
     {
         match self.endian {
@@ -77,7 +79,8 @@ impl<A: Allocator> CdrWriter<A> {
 
     /// Writes a number of 16 bits, aligned to 2 octets.
     pub fn write_u16(&mut self, value: u16) -> Result<(), AllocError>
-        ensures value { self.new ≡ (if is_ok result then appended (Unsigned 2) value self.old else self.old) }
+        ensures value { self.new
+            ≡ (if is_ok result then appended (Unsigned 2) value self.old else self.old) }
         ensures writes { OnOk result (Writes (Unsigned 2) self.old self.new value) }
     {
         match self.endian {
@@ -88,7 +91,8 @@ impl<A: Allocator> CdrWriter<A> {
 
     /// Writes a number of 32 bits, aligned to 4 octets.
     pub fn write_u32(&mut self, value: u32) -> Result<(), AllocError>
-        ensures value { self.new ≡ (if is_ok result then appended (Unsigned 4) value self.old else self.old) }
+        ensures value { self.new
+            ≡ (if is_ok result then appended (Unsigned 4) value self.old else self.old) }
         ensures writes { OnOk result (Writes (Unsigned 4) self.old self.new value) }
     {
         match self.endian {
@@ -99,7 +103,8 @@ impl<A: Allocator> CdrWriter<A> {
 
     /// Writes a number of 64 bits, aligned to 8 octets.
     pub fn write_u64(&mut self, value: u64) -> Result<(), AllocError>
-        ensures value { self.new ≡ (if is_ok result then appended (Unsigned 8) value self.old else self.old) }
+        ensures value { self.new
+            ≡ (if is_ok result then appended (Unsigned 8) value self.old else self.old) }
         ensures writes { OnOk result (Writes (Unsigned 8) self.old self.new value) }
     {
         match self.endian {
@@ -110,7 +115,8 @@ impl<A: Allocator> CdrWriter<A> {
 
     /// Writes a number of 8 bits with a sign.
     pub fn write_i8(&mut self, value: i8) -> Result<(), AllocError>
-        ensures value { self.new ≡ (if is_ok result then appended (Signed w8) value self.old else self.old) }
+        ensures value { self.new
+            ≡ (if is_ok result then appended (Signed w8) value self.old else self.old) }
         ensures writes { OnOk result (Writes (Signed w8) self.old self.new value) }
     {
         self.write_u8(value.cast_unsigned())
@@ -118,7 +124,8 @@ impl<A: Allocator> CdrWriter<A> {
 
     /// Writes a number of 16 bits with a sign, aligned to 2 octets.
     pub fn write_i16(&mut self, value: i16) -> Result<(), AllocError>
-        ensures value { self.new ≡ (if is_ok result then appended (Signed w16) value self.old else self.old) }
+        ensures value { self.new
+            ≡ (if is_ok result then appended (Signed w16) value self.old else self.old) }
         ensures writes { OnOk result (Writes (Signed w16) self.old self.new value) }
     {
         self.write_u16(value.cast_unsigned())
@@ -126,7 +133,8 @@ impl<A: Allocator> CdrWriter<A> {
 
     /// Writes a number of 32 bits with a sign, aligned to 4 octets.
     pub fn write_i32(&mut self, value: i32) -> Result<(), AllocError>
-        ensures value { self.new ≡ (if is_ok result then appended (Signed w32) value self.old else self.old) }
+        ensures value { self.new
+            ≡ (if is_ok result then appended (Signed w32) value self.old else self.old) }
         ensures writes { OnOk result (Writes (Signed w32) self.old self.new value) }
     {
         self.write_u32(value.cast_unsigned())
@@ -134,7 +142,8 @@ impl<A: Allocator> CdrWriter<A> {
 
     /// Writes a number of 64 bits with a sign, aligned to 8 octets.
     pub fn write_i64(&mut self, value: i64) -> Result<(), AllocError>
-        ensures value { self.new ≡ (if is_ok result then appended (Signed w64) value self.old else self.old) }
+        ensures value { self.new
+            ≡ (if is_ok result then appended (Signed w64) value self.old else self.old) }
         ensures writes { OnOk result (Writes (Signed w64) self.old self.new value) }
     {
         self.write_u64(value.cast_unsigned())
@@ -142,7 +151,8 @@ impl<A: Allocator> CdrWriter<A> {
 
     /// Writes a truth value, as an octet that is 0 or 1.
     pub fn write_bool(&mut self, value: bool) -> Result<(), AllocError>
-        ensures value { self.new ≡ (if is_ok result then appended Boolean value self.old else self.old) }
+        ensures value { self.new
+            ≡ (if is_ok result then appended Boolean value self.old else self.old) }
         ensures writes { OnOk result (Writes Boolean self.old self.new value) }
     {
         self.append(1, &[u8::from(value)])
@@ -150,7 +160,8 @@ impl<A: Allocator> CdrWriter<A> {
 
     /// Writes how many items a sequence has, of which each is then to be written.
     pub fn write_len(&mut self, count: u32) -> Result<(), AllocError>
-        ensures value { self.new ≡ (if is_ok result then appended (Unsigned 4) count self.old else self.old) }
+        ensures value { self.new
+            ≡ (if is_ok result then appended (Unsigned 4) count self.old else self.old) }
         ensures writes { OnOk result (Writes (Unsigned 4) self.old self.new count) }
     {
         self.write_u32(count)
@@ -160,7 +171,8 @@ impl<A: Allocator> CdrWriter<A> {
     #[tactic(auto, using(crate::proofs::Written::text_writes))]
     pub fn write_string(&mut self, text: &str) -> Result<(), AllocError>
         requires { length text.now + 1 < 2 ^ 32 }
-        ensures value { self.new ≡ (if is_ok result then appended Text text.now self.old else self.old) }
+        ensures value { self.new
+            ≡ (if is_ok result then appended Text text.now self.old else self.old) }
         ensures writes { OnOk result (Writes Text self.old self.new text.now) }
     {
         let start = self.octets.len();
@@ -176,7 +188,8 @@ impl<A: Allocator> CdrWriter<A> {
         requires { length text.now + 1 < 2 ^ 32 }
         ensures text { IsUtf8 text.now }
         ensures ok { OnOk result (self.new ≡ appended Text text.now self.old) }
-        ensures err { OnErr result ((take (length self.old.octets) self.new.octets ≡ self.old.octets) × (self.new.endian ≡ self.old.endian)) }
+        ensures err { OnErr result ((take (length self.old.octets) self.new.octets
+            ≡ self.old.octets) × (self.new.endian ≡ self.old.endian)) }
     {
         self.write_u32(text.len() as u32 + 1)?;
         self.octets.extend_from_slice(text.as_bytes())?;
@@ -185,8 +198,11 @@ impl<A: Allocator> CdrWriter<A> {
 
     /// Writes octets as they are, with no gap and no length.
     pub fn write_octets(&mut self, octets: &[u8]) -> Result<(), AllocError>
-        ensures value { self.new ≡ (if is_ok result then appended (Octets (length octets.now)) octets.now self.old else self.old) }
-        ensures writes { OnOk result (Writes (Octets (length octets.now)) self.old self.new octets.now) }
+        ensures value { self.new
+            ≡ (if is_ok result then appended (Octets
+            (length octets.now)) octets.now self.old else self.old) }
+        ensures writes { OnOk result (Writes (Octets
+            (length octets.now)) self.old self.new octets.now) }
     {
         self.append(1, octets)
     }

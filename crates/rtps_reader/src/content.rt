@@ -30,7 +30,8 @@ pub fn body_of<C: Catalog>(
     info: ChangeInfo,
     payload: &[u8],
 ) -> Result<Body<C::Value>, AllocError>
-    ensures body { IfOk result (λ b. body_map C.view b ≡ body_by (C.decoding decoder.old) info payload.now) }
+    ensures body { IfOk result (λ b. body_map C.view b
+        ≡ body_by (C.decoding decoder.old) info payload.now) }
     ensures same { decoder.new ≡ decoder.old }
 {
     if info.status & (DISPOSED | UNREGISTERED) == 0 {
@@ -89,7 +90,8 @@ fn key_of<C: Catalog>(
     info: ChangeInfo,
     payload: &[u8],
 ) -> Result<KeyHash, CatalogError>
-    ensures key { Gives (λ h. h) result (key_for (C.decoding decoder.old) info.hash info.form payload.now) }
+    ensures key { Gives (λ h. h) result (key_for (C.decoding decoder.old)
+        info.hash info.form payload.now) }
     ensures same { decoder.new ≡ decoder.old }
 {
     match info.form {

@@ -28,7 +28,8 @@ pub(crate) fn present<C: Catalog, A: Allocator>(
     ensures notices { OnOk result (map (notice_view C.view) output.new.notices.items
         ≡ map (notice_view C.view) output.old.notices.items
         ++ (loses place writer effects.entry.lost
-        ++ map (presented (C.decoding decoder.old) place writer) (map change_view effects.entry.ready.items))) }
+        ++ map (presented (C.decoding decoder.old) place writer)
+        (map change_view effects.entry.ready.items))) }
     ensures answers { OnOk result (map answer_view output.new.answers.items
         ≡ map answer_view output.old.answers.items
         ++ placed place (option_map reply_view effects.entry.answer)) }

@@ -50,7 +50,14 @@ impl<A: Allocator> Model for ReaderState<A> {
 
     ghost Value = { ReaderKept };
 
-    ghost view = { λ r. record { rank = r.rank; own = r.own; spent = r.spent; entity = r.entity; matches = map match_view r.matches.items; status = r.status } };
+    ghost view = { λ r. record {
+      rank = r.rank;
+      own = r.own;
+      spent = r.spent;
+      entity = r.entity;
+      matches = map match_view r.matches.items;
+      status = r.status;
+    } };
 }
 
 impl<A: Allocator + Copy> ReaderState<A> {
@@ -63,7 +70,8 @@ impl<A: Allocator + Copy> ReaderState<A> {
         reliable: bool,
         fixed: &[WriterFacts<A>],
     ) -> Result<ReaderState<A>, ReaderError>
-        ensures starts { IfOk result (StartsAt (first_reader entity (map (whom_for own entity reliable) fixed.now))) }
+        ensures starts { IfOk result (StartsAt (first_reader entity (map
+            (whom_for own entity reliable) fixed.now))) }
         ensures place { IfOk result (λ r. (r.rank ≡ rank) × (r.own ≡ own)) }
     {
         let matches = fresh_matches(alloc, own, entity, reliable, fixed)?;
@@ -101,7 +109,8 @@ impl<A: Allocator + Copy> ReaderState<A> {
     ) -> Result<(), ReaderError>
         ensures stands { (r : Reader) (given : List (Notice C.Meaning)) → StandsAt r given self.old
             → OnOk result (StandsAt (reader_after r (asked step.now.what))
-            (given ++ tells (C.decoding decoder.old) r step.now.place (asked step.now.what)) self.new) }
+            (given ++ tells (C.decoding decoder.old) r step.now.place
+            (asked step.now.what)) self.new) }
         ensures notices { (r : Reader) (given : List (Notice C.Meaning)) → StandsAt r given self.old
             → OnOk result (map (notice_view C.view) output.new.notices.items
             ≡ map (notice_view C.view) output.old.notices.items
@@ -110,7 +119,8 @@ impl<A: Allocator + Copy> ReaderState<A> {
             → OnOk result (map answer_view output.new.answers.items
             ≡ map answer_view output.old.answers.items
             ++ sends r step.now.place (asked step.now.what)) }
-        ensures place { (self.new.rank ≡ self.old.rank) × (self.new.own ≡ self.old.own) × (self.new.entity ≡ self.old.entity) }
+        ensures place { (self.new.rank ≡ self.old.rank) × (self.new.own ≡ self.old.own)
+            × (self.new.entity ≡ self.old.entity) }
         ensures same { decoder.new ≡ decoder.old }
         ensures kept { KeepsFront output.old output.new }
         ensures err { OnErr result (self.new.spent ≡ true) }
@@ -147,7 +157,8 @@ impl<A: Allocator + Copy> ReaderState<A> {
 
     /// Adds its matches to a set, each as its rank and the writer.
     pub fn add_matches(&self, matches: &mut BTreeSet<(u32, Guid), A>) -> Result<(), ReaderError>
-        ensures { OnOk result (matches.new.keys ≡ with_writers matches.old.keys self.now.rank (map (λ m. m.writer) self.now.matches)) }
+        ensures { OnOk result (matches.new.keys
+            ≡ with_writers matches.old.keys self.now.rank (map (λ m. m.writer) self.now.matches)) }
     {
         add_each(&self.matches, self.rank, matches)
     }
@@ -177,7 +188,8 @@ fn fresh_matches<A: Allocator + Copy>(
     reliable: bool,
     fixed: &[WriterFacts<A>],
 ) -> Result<Vec<Match<A>, A>, AllocError>
-    ensures { IfOk result (λ matches. AllStand (map (fresh_for own entity reliable) fixed.now) (map match_view matches.items)) }
+    ensures { IfOk result (λ matches. AllStand (map (fresh_for own entity reliable) fixed.now)
+        (map match_view matches.items)) }
 {
     let mut matches = Vec::new(alloc);
     for facts in fixed {
@@ -207,7 +219,8 @@ fn take_event<'a, A: Allocator + Copy>(
     body: &Body<'a>,
 ) -> Result<Option<Effects<'a, A>>, AllocError>
     ensures stands { (ms : List reader.Match) → AllStand ms (map match_view matches.old.items)
-        → OnOk result (AllStand (extended writer (came time body.now) ms) (map match_view matches.new.items)) }
+        → OnOk result (AllStand (extended writer (came time body.now) ms)
+        (map match_view matches.new.items)) }
     ensures effects { (ms : List reader.Match) → AllStand ms (map match_view matches.old.items)
         → IfOk result (AreTaken (match_with writer ms) (came time body.now)) }
 {
@@ -226,7 +239,8 @@ fn add_each<A: Allocator + Copy>(
     rank: u32,
     listed: &mut BTreeSet<(u32, Guid), A>,
 ) -> Result<(), AllocError>
-    ensures { OnOk result (listed.new.keys ≡ with_writers listed.old.keys rank (map (λ m. m.writer) (map match_view matches.now))) }
+    ensures { OnOk result (listed.new.keys
+        ≡ with_writers listed.old.keys rank (map (λ m. m.writer) (map match_view matches.now))) }
 {
     for one in matches {
         add_match(listed, rank, one.writer)?;
@@ -240,7 +254,8 @@ fn add_match<A: Allocator + Copy>(
     rank: u32,
     writer: Guid,
 ) -> Result<(), AllocError>
-    ensures { OnOk result (listed.new.keys ≡ insert_key match_order listed.old.keys (rank, writer)) }
+    ensures { OnOk result (listed.new.keys
+        ≡ insert_key match_order listed.old.keys (rank, writer)) }
 {
     listed.insert((rank, writer))?;
     Ok(())

@@ -14,7 +14,8 @@ pub(crate) fn empty_lists<T: Drop, A: Allocator + Copy>(
     count: usize,
 ) -> Result<Vec<Vec<T, A>, A>, AllocError>
     ensures count { IfOk result (λ lists. length lists.items ≡ count) }
-    ensures empty { IfOk result (λ lists. (rank : ℕ) (other : _) → rank < count → (slice_index_or lists.items rank other).items ≡ []) }
+    ensures empty { IfOk result (λ lists. (rank : ℕ) (other : _) → rank < count
+        → (slice_index_or lists.items rank other).items ≡ []) }
 {
     let mut lists = Vec::new(alloc);
     for _at in 0..count {
@@ -30,8 +31,10 @@ pub(crate) fn push_by<T: Drop, A: Allocator>(
     item: T,
 ) -> Result<(), AllocError>
     ensures count { length lists.new.items ≡ length lists.old.items }
-    ensures pushed { OnOk result ((at : ℕ) (other : _) → at < length lists.old.items → (slice_index_or lists.new.items at other).items
-        ≡ (if rank == at then (slice_index_or lists.old.items at other).items ++ item ∷ [] else (slice_index_or lists.old.items at other).items)) }
+    ensures pushed { OnOk result ((at : ℕ) (other : _) → at < length lists.old.items
+        → (slice_index_or lists.new.items at other).items
+        ≡ (if rank == at then (slice_index_or lists.old.items at other).items
+        ++ item ∷ [] else (slice_index_or lists.old.items at other).items)) }
 {
     let at = rank as usize;
     if at >= lists.len() {

@@ -47,9 +47,17 @@ impl<C: Catalog, A: Allocator> Model for SerialEngine<C, A> {
 
     ghost Value = { EngineKept C };
 
-    ghost view = { λ e. record { catalog = e.decoder; config = e.config; index = e.index; failed = e.failed; readers = e.readers.items; statuses = e.statuses.items } };
+    ghost view = { λ e. record {
+      catalog = e.decoder;
+      config = e.config;
+      index = e.index;
+      failed = e.failed;
+      readers = e.readers.items;
+      statuses = e.statuses.items;
+    } };
 
-    ghost invariant = { λ e. (length e.readers.items ≤ 256) × (length e.statuses.items ≡ length e.readers.items) };
+    ghost invariant = { λ e. (length e.readers.items ≤ 256) × (length e.statuses.items
+        ≡ length e.readers.items) };
 }
 
 impl<C: Catalog> SerialEngine<C> {
@@ -135,7 +143,8 @@ impl<C: Catalog, A: Allocator + Copy> SerialEngine<C, A> {
             → OnOk result (StandsAt C.decoding (datagrams ++ octets.now ∷ []) self.new) }
         ensures put { (datagrams : List (List ℕ)) → StandsAt C.decoding datagrams self.old
             → OnOk result ((run_by C.decoding self.old (datagrams ++ octets.now ∷ [])).put
-            ≡ (run_by C.decoding self.old datagrams).put ++ map (report_view C.view) reports.new.items) }
+            ≡ (run_by C.decoding self.old datagrams).put
+            ++ map (report_view C.view) reports.new.items) }
         ensures shows { (datagrams : List (List ℕ)) → ShowsAt C.decoding datagrams self.old
             → OnErr result (ShowsAt C.decoding datagrams self.new) }
         ensures leaves { Leaves result reports.old.items reports.new.items }
@@ -178,7 +187,8 @@ impl<C: Catalog, A: Allocator + Copy> SerialEngine<C, A> {
     /// Refuses a datagram before it is looked at, or has the engine failed until it is taken.
     #[tactic(auto, unfolding(crate::specs::Standing::Refuses))]
     fn admit(&mut self) -> Result<(), EngineError>
-        ensures ok { OnOk result ((self.old.failed ≡ false) × (self.old.index < datagram_limit) × (self.new ≡ record self.old { failed = true })) }
+        ensures ok { OnOk result ((self.old.failed ≡ false) × (self.old.index < datagram_limit)
+            × (self.new ≡ record self.old { failed = true })) }
         ensures err { IfErr result (λ e. Refuses e self.old) }
         ensures still { OnErr result (self.new ≡ self.old) }
     {
@@ -202,10 +212,12 @@ impl<C: Catalog, A: Allocator + Copy> SerialEngine<C, A> {
     ) -> Result<(), AllocError>
         requires { length octets.now ≤ 65507 }
         ensures same { IsSteppedFrom self.old self.new }
-        ensures stands { (w : World C.Meaning) → w.count ≡ length self.old.readers → AllStand w self.old.readers
+        ensures stands { (w : World C.Meaning) → w.count ≡ length self.old.readers
+            → AllStand w self.old.readers
             → OnOk result (AllStand (world_run (C.decoding self.old.catalog) w
             (events_of self.old.config.own self.old.index octets.now)) self.new.readers) }
-        ensures put { (w : World C.Meaning) → w.count ≡ length self.old.readers → AllStand w self.old.readers
+        ensures put { (w : World C.Meaning) → w.count ≡ length self.old.readers
+            → AllStand w self.old.readers
             → OnOk result ((world_run (C.decoding self.old.catalog) w
             (events_of self.old.config.own self.old.index octets.now)).put
             ≡ w.put ++ map (report_view C.view) reports.new.items) }
@@ -254,7 +266,8 @@ impl<C: Catalog, A: Allocator + Copy> SerialEngine<C, A> {
     pub fn matches(&self, alloc: A) -> Result<BTreeSet<(u32, Guid), A>, EngineError>
         ensures answers { Answers result self.now }
         ensures matches { (datagrams : List (List ℕ)) → StandsAt C.decoding datagrams self.now
-            → IfOk result (λ matches. matches.keys ≡ matches_seen (run_by C.decoding self.now datagrams)) }
+            → IfOk result (λ matches. matches.keys
+            ≡ matches_seen (run_by C.decoding self.now datagrams)) }
     {
         if self.failed {
             Err(EngineError::Failed)

@@ -13,9 +13,13 @@ ghost use Rattle.rtps_types.specs.declared.identity.Guid.{Guid};
 /// an accepted HEARTBEAT of the match. Of a writer that the reader isn't matched with, no sample is
 /// presented.
 pub fn presented<M>()
-    ensures matched { (decoding : Decoding M) (config : Config) (datagrams : List (List ℕ)) (rank : ℕ) (writer : Guid)
+    ensures matched { (decoding : Decoding M) (config : Config) (datagrams : List (List ℕ))
+        (rank : ℕ) (writer : Guid)
         → is_reliable_at config.readers.items rank ≡ true
-        → ArePresented decoding (events_in config datagrams rank writer) (samples_in decoding config datagrams rank writer) }
-    ensures unmatched { (decoding : Decoding M) (config : Config) (datagrams : List (List ℕ)) (rank : ℕ) (writer : Guid)
-        → is_fixed config rank writer ≡ false → samples_in decoding config datagrams rank writer ≡ [] }
+        → ArePresented decoding (events_in config datagrams rank writer)
+        (samples_in decoding config datagrams rank writer) }
+    ensures unmatched { (decoding : Decoding M) (config : Config) (datagrams : List (List ℕ))
+        (rank : ℕ) (writer : Guid)
+        → is_fixed config rank writer ≡ false → samples_in decoding config datagrams rank writer
+        ≡ [] }
 {}

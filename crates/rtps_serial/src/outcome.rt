@@ -20,7 +20,7 @@ pub struct Answer<A: Allocator = Global> {
 /// What a datagram gives.
 #[derive(Debug, Drop)]
 pub struct Outcome<V, A: Allocator = Global> {
-    /// What each reader is told, by its rank, each in the order in which it came.
+    /// The notices of each reader, by its rank, in the order of their causes.
     pub notices: Vec<Vec<Notice<V>, A>, A>,
     /// The answers, by place, discovery's before those of readers, and these by rank.
     pub answers: Vec<Answer<A>, A>,
@@ -30,7 +30,7 @@ pub struct Outcome<V, A: Allocator = Global> {
 /// then by rank, and of one reader its notices before its answer.
 #[derive(Debug, Drop)]
 pub enum Report<V, A: Allocator = Global> {
-    /// The reader of this rank is told something.
+    /// The reader of this rank reports something.
     Notice { rank: u32, notice: Notice<V> },
     /// A datagram is to be sent.
     Answer(Answer<A>),

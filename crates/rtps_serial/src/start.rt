@@ -52,7 +52,8 @@ pub(crate) fn first_readers<A: Allocator + Copy>(
     ensures count { IfOk result (λ states. length states.items ≡ length readers.now) }
     ensures start { (matched : ℕ → List Facts) → ((rank : ℕ) (other : _) → rank < length readers.now
         → map facts_in (slice_index_or fixed.now rank other).items ≡ matched rank)
-        → IfOk result (λ states. AllStart (λ rank. reader_first own readers.now rank (matched rank)) states.items) }
+        → IfOk result (λ states. AllStart (λ rank. reader_first own readers.now rank
+        (matched rank)) states.items) }
 {
     let mut states = Vec::new(alloc);
     for (rank, reader) in readers.iter().enumerate() {

@@ -26,7 +26,8 @@ fn report_all<C: Catalog, A: Allocator>(
     output: &mut Output<C::Value, A>,
     reports: &mut Vec<Report<C::Value, A>, A>,
 ) -> Result<(), AllocError>
-    ensures empty { OnOk result ((output.new.notices.items ≡ []) × (output.new.answers.items ≡ [])) }
+    ensures empty { OnOk result ((output.new.notices.items ≡ []) × (output.new.answers.items
+        ≡ [])) }
     ensures moved { OnOk result (map (report_view C.view) reports.new.items
         ≡ map (report_view C.view) reports.old.items
         ++ (map (Hears rank) (map (notice_view C.view) output.old.notices.items)
@@ -58,7 +59,8 @@ fn step_all<C: Catalog, A: Allocator + Copy>(
 ) -> Result<(), AllocError>
     ensures same { decoder.new ≡ decoder.old }
     ensures stands { (w : World C.Meaning) → w.count ≡ length readers.old → AllStand w readers.old
-        → OnOk result (AllStand (world_after (C.decoding decoder.old) w (view event.now)) readers.new) }
+        → OnOk result (AllStand (world_after (C.decoding decoder.old) w
+        (view event.now)) readers.new) }
     ensures put { (w : World C.Meaning) → w.count ≡ length readers.old → AllStand w readers.old
         → OnOk result (map (report_view C.view) reports.new.items
         ≡ map (report_view C.view) reports.old.items
@@ -92,7 +94,8 @@ pub(crate) fn take_events<C: Catalog, A: Allocator + Copy>(
 ) -> Result<(), AllocError>
     ensures same { decoder.new ≡ decoder.old }
     ensures stands { (w : World C.Meaning) → w.count ≡ length readers.old → AllStand w readers.old
-        → OnOk result (AllStand (world_run (C.decoding decoder.old) w (map view events.now)) readers.new) }
+        → OnOk result (AllStand (world_run (C.decoding decoder.old) w
+        (map view events.now)) readers.new) }
     ensures put { (w : World C.Meaning) → w.count ≡ length readers.old → AllStand w readers.old
         → OnOk result ((world_run (C.decoding decoder.old) w (map view events.now)).put
         ≡ w.put ++ map (report_view C.view) reports.new.items) }

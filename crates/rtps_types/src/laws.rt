@@ -11,7 +11,8 @@ use std::cmp::Ordering;
 
 /// Participants are ordered as their octets, the first one first.
 pub fn order_of_prefixes(left: &GuidPrefix, right: &GuidPrefix) -> Ordering
-    ensures derived { ⟦<GuidPrefix as Ord>⟧.cmp left.now right.now ≡ octet_order left.now.0 right.now.0 }
+    ensures derived { ⟦<GuidPrefix as Ord>⟧.cmp left.now right.now
+        ≡ octet_order left.now.0 right.now.0 }
     ensures value { result ≡ octet_order left.now.0 right.now.0 }
 {
     left.cmp(right)
@@ -19,7 +20,8 @@ pub fn order_of_prefixes(left: &GuidPrefix, right: &GuidPrefix) -> Ordering
 
 /// Entities are ordered as their octets, the first one first.
 pub fn order_of_entities(left: &EntityId, right: &EntityId) -> Ordering
-    ensures derived { ⟦<EntityId as Ord>⟧.cmp left.now right.now ≡ octet_order left.now.0 right.now.0 }
+    ensures derived { ⟦<EntityId as Ord>⟧.cmp left.now right.now
+        ≡ octet_order left.now.0 right.now.0 }
     ensures value { result ≡ octet_order left.now.0 right.now.0 }
 {
     left.cmp(right)
@@ -27,7 +29,8 @@ pub fn order_of_entities(left: &EntityId, right: &EntityId) -> Ordering
 
 /// Key hashes are ordered as their octets, the first one first.
 pub fn order_of_hashes(left: &KeyHash, right: &KeyHash) -> Ordering
-    ensures derived { ⟦<KeyHash as Ord>⟧.cmp left.now right.now ≡ octet_order left.now.0 right.now.0 }
+    ensures derived { ⟦<KeyHash as Ord>⟧.cmp left.now right.now
+        ≡ octet_order left.now.0 right.now.0 }
     ensures value { result ≡ octet_order left.now.0 right.now.0 }
 {
     left.cmp(right)
@@ -36,7 +39,8 @@ pub fn order_of_hashes(left: &KeyHash, right: &KeyHash) -> Ordering
 /// Endpoints are ordered as their sixteen octets: those of the participant, then their own.
 #[tactic(auto, using(crate::proofs::Orders::octet_order_append))]
 pub fn order_of_guids(left: &Guid, right: &Guid) -> Ordering
-    ensures derived { ⟦<Guid as Ord>⟧.cmp left.now right.now ≡ octet_order (guid_octets left.now) (guid_octets right.now) }
+    ensures derived { ⟦<Guid as Ord>⟧.cmp left.now right.now
+        ≡ octet_order (guid_octets left.now) (guid_octets right.now) }
     ensures value { result ≡ octet_order (guid_octets left.now) (guid_octets right.now) }
 {
     left.cmp(right)
@@ -52,7 +56,8 @@ pub fn order_of_places(left: &Place, right: &Place) -> Ordering
 
 /// Lengths of time are ordered by seconds, and then by fraction.
 pub fn order_of_durations(left: &Duration, right: &Duration) -> Ordering
-    ensures derived { ⟦<Duration as Ord>⟧.cmp left.now right.now ≡ duration_order left.now right.now }
+    ensures derived { ⟦<Duration as Ord>⟧.cmp left.now right.now
+        ≡ duration_order left.now right.now }
     ensures value { result ≡ duration_order left.now right.now }
 {
     left.cmp(right)
