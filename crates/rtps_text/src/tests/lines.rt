@@ -58,7 +58,11 @@ fn heard<C: TextCatalog>(
 }
 
 /// A change of this number and time.
-fn sample<V: Drop>(number: u64, time: Option<Timestamp>, body: Body<V>) -> Result<NoticeKind<V>, Fail> {
+fn sample<V: Drop>(
+    number: u64,
+    time: Option<Timestamp>,
+    body: Body<V>,
+) -> Result<NoticeKind<V>, Fail> {
     match Number::new(number) {
         Some(number) => Ok(NoticeKind::Sample { number, time, body }),
         None => Err(Fail::new("no number")),
