@@ -1,16 +1,6 @@
 """One change more than there is room for, and a heartbeat, which asks for it again."""
 
-HEADER = bytes.fromhex("52545053020500000a0a0a0a0a0a0a0a0a0a0a0a")
-
-
-def change(number):
-    """The shape BLUE at 10, 20 of size 30 as the change of this number."""
-    front = bytes.fromhex("1505300000001000000001070000010200000000")
-    return HEADER + front + number.to_bytes(4, "little") + bytes.fromhex("0001000005000000424c5545000000000a000000140000001e000000")
-
-
-def sample(datagram, number):
-    return f"{datagram}:1 reader 0 sample 0a0a0a0a0a0a0a0a0a0a0a0a00000102 {number} - value 424c5545 10 20 30"
+from parts import HEADER, change, sample
 
 
 def records():
