@@ -25,8 +25,8 @@ class Function:
     """The file by whose module the checker calls it: of a type's own methods the one that declares the type."""
     owner: str
     """The type of the impl block that it is in, if it is in one."""
-    of_trait: bool
-    """Whether that block is a trait's."""
+    by_module: bool
+    """Whether its path has more than the type's name: that of a trait, or of the arguments that the block is for."""
     name: str
     first: int
     """The first line after the brace that opens its body, from 0."""
@@ -39,18 +39,18 @@ class Function:
         return [] if inside in (["lib"], ["main"]) else inside
 
     def asked(self, crate):
-        """What a check is asked to look at: itself, or its module where it is a trait's, whose name the path would need."""
-        own = [] if self.of_trait else [*filter(None, [self.owner]), self.name]
+        """What a check is asked to look at: itself, or its module where its path has more than names."""
+        own = [] if self.by_module else [*filter(None, [self.owner]), self.name]
         return "::".join([crate, *self.modules(), *own])
 
     def path(self, crate):
-        """What the checker calls it, as a pattern: after the type comes the trait's name, where there is one."""
-        owner = [rf"{self.owner}\w*"] if self.owner else []
+        """What the checker calls it, as a pattern: after the type may come the name of a trait, or arguments."""
+        owner = [rf"{self.owner}[\w+]*"] if self.owner else []
         return "::".join([crate, *self.modules(), *owner, self.name])
 
     def folder(self):
         """Where the proof of it is, as a pattern."""
-        owner = [rf"{self.owner}\w*"] if self.owner else []
+        owner = [rf"{self.owner}[\w+]*"] if self.owner else []
         return "/".join(["proofs", *self.modules(), *owner, self.name])
 
 
@@ -111,11 +111,12 @@ def homes_in(folder):
 
 def functions_of(file, text, homes):
     """The functions of a source file that have a body of their own lines, as its layout shows them."""
-    lines, found, owner, of_trait = text.split("\n"), [], "", False
+    lines, found, owner, of_trait, by_module = text.split("\n"), [], "", False, False
     for at, line in enumerate(lines):
-        block = re.match(r"impl\b(?:<.*?>+)? *(.* for )?(?:\w+::)*(\w+)", line)
+        block = re.match(r"impl\b(?:<.*?>+)? *(.* for )?(?:\w+::)*(\w+)(.*)", line)
         owner = block[2] if block else "" if line == "}" else owner
         of_trait = bool(block[1]) if block else of_trait
+        by_module = bool(of_trait or "<" in block[3][1:]) if block else by_module
         head = FUNCTION.match(line)
         if not head:
             continue
@@ -129,7 +130,8 @@ def functions_of(file, text, homes):
         if opens:
             last = next((end for end in range(first, len(lines)) if lines[end] == f"{indent}}}"), first)
             home = homes.get(owner, file) if indent and not of_trait else file
-            found.append(Function(file, home, owner if indent else "", bool(indent) and of_trait, head[2], first + 1, last))
+            own = (owner, by_module) if indent else ("", False)
+            found.append(Function(file, home, *own, head[2], first + 1, last))
     return found
 
 

@@ -9,6 +9,7 @@ import fcntl
 import json
 import os
 import shutil
+import tempfile
 from concurrent.futures import ThreadPoolExecutor
 from contextlib import contextmanager
 from pathlib import Path
@@ -20,8 +21,15 @@ EDITS = "edits.json"
 
 
 def default_folder():
+    """Where work is kept; where nothing can be written there, a folder that no later run knows."""
     cache = os.environ.get("XDG_CACHE_HOME") or os.path.join(os.path.expanduser("~"), ".cache")
-    return Path(os.environ.get("CHECK_KEPT") or os.path.join(cache, "thrushpodium"))
+    folder = Path(os.environ.get("CHECK_KEPT") or os.path.join(cache, "thrushpodium"))
+    try:
+        folder.mkdir(parents=True, exist_ok=True)
+        with tempfile.TemporaryFile(dir=folder):
+            return folder
+    except OSError:
+        return Path(tempfile.mkdtemp())
 
 
 def link_tree(source, target):

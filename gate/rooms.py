@@ -6,11 +6,9 @@ only their built library there.
 
 import fcntl
 import shutil
-import subprocess
 import threading
 from collections import defaultdict
 from contextlib import contextmanager
-from pathlib import Path
 
 from gate.crates import PARTS, Crate
 from gate.kept import link_tree
@@ -22,9 +20,7 @@ BESIDE = ("data", "stdin", "stdout", "args", "status")
 def only_run(top):
     """Waits until no other run works in a repository, and gives the folder for its rooms: in the folder of git, which
     no other command reads for sources."""
-    words = ["git", "rev-parse", "--absolute-git-dir"]
-    found = subprocess.run(words, cwd=top, stdout=subprocess.PIPE, stderr=subprocess.DEVNULL, text=True, check=False)
-    folder = Path(found.stdout.strip()) if found.returncode == 0 else top / "target"
+    folder = top / ".git" if (top / ".git").is_dir() else top / "target"
     folder.mkdir(exist_ok=True)
     with open(folder / "check.lock", "w", encoding="utf-8") as lock:
         fcntl.flock(lock, fcntl.LOCK_EX)

@@ -4,10 +4,11 @@ import shutil
 import tempfile
 import unittest
 from pathlib import Path
+from unittest import mock
 
 from gate import edits, tasks
 from gate.crates import crates_in, proof_sum
-from gate.kept import Kept
+from gate.kept import Kept, default_folder
 from gate.rooms import Rooms
 from gate.steps import beyond, edits_sum
 from gate.tasks import Done, Task
@@ -110,6 +111,13 @@ class KeptWork(Repository):
     def test_nothing_is_taken_where_nothing_is_kept(self):
         self.assertEqual([], self.kept.take_all([self.crate("high")]))
 
+    def test_where_nothing_can_be_written_nothing_is_kept_there(self):
+        self.write("file", "no folder")
+        with mock.patch.dict("os.environ", {"CHECK_KEPT": str(self.top / "file" / "kept")}):
+            folder = default_folder()
+        self.addCleanup(folder.rmdir)
+        self.assertEqual([], list(folder.iterdir()))
+
     def test_work_that_is_there_stays(self):
         self.kept.keep(self.crate("low"))
         self.assertEqual([], self.kept.take_all([self.crate("low")]))
@@ -206,6 +214,13 @@ class Edits(Repository):
         self.assertEqual(("low::Header::second", "src/more.rt"), (found.asked("low"), found.file))
         found = self.function("file: src/named.rt\nold:         3\nnew:         4\n")
         self.assertEqual("low::named::Named::third", found.asked("low"))
+
+    def test_a_method_for_some_arguments_is_looked_for_in_its_module(self):
+        text = "pub struct Named<A>(A);\n\nimpl<A: Copy> Named<Vec<A>> {\n    fn third() -> u8 {\n        3\n    }\n}\n"
+        self.write("crates/low/src/named.rt", text)
+        found = self.function("file: src/named.rt\nold:         3\nnew:         4\n")
+        self.assertEqual("low::named", found.asked("low"))
+        self.assertRegex("low::named::Named+Vec+A::third", f"^{found.path('low')}$")
 
     def test_an_edit_outside_bodies_has_none(self):
         self.assertIsNone(self.function("file: src/lib.rt\nold: const STEP: u8 = 1;\nnew: const STEP: u8 = 2;\n"))
