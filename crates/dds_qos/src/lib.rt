@@ -1,16 +1,27 @@
-//! Quality of service: the policies of readers and writers, and what holds where a policy is not
-//! given (DDS 1.4, section 2.2.3).
+//! Quality of service: the policies of readers and writers, what holds where a policy is not given,
+//! what a discovery record says of them, and whether they fit (DDS 1.4, section 2.2.3).
 #![tactic(auto)]
 
+mod compatible;
+mod fault;
+mod kinds;
+mod listed_locators;
 mod partitions;
 mod policies;
 mod records;
+mod setting;
+mod settings;
 #[cfg(test)]
 mod tests;
+mod values;
 
+pub use compatible::{first_fault, share_partition};
+pub use fault::{Malformed, QosFault};
+pub use listed_locators::ListedLocators;
 pub use partitions::Partitions;
 pub use policies::{
     AccessScope, DestinationOrder, Durability, INFINITE, Liveliness, LivelinessKind, Ownership,
     Policies, Presentation, Reliability,
 };
-pub use records::{Offered, Requested};
+pub use records::{Offered, Requested, offered_from};
+pub use settings::Settings;

@@ -10,7 +10,7 @@ pub const INFINITE: Duration = Duration {
 };
 
 /// Whether data outlives its writing (DDS 1.4, 2.2.3.4).
-#[derive(Clone, Copy, Debug, PartialEq)]
+#[derive(Clone, Copy, Debug, PartialEq, Eq, PartialOrd, Ord)]
 pub enum Durability {
     Volatile = 0,
     TransientLocal = 1,
@@ -19,7 +19,7 @@ pub enum Durability {
 }
 
 /// The largest scope in which changes are presented as a whole (DDS 1.4, 2.2.3.6).
-#[derive(Clone, Copy, Debug, PartialEq)]
+#[derive(Clone, Copy, Debug, PartialEq, Eq, PartialOrd, Ord)]
 pub enum AccessScope {
     Instance = 0,
     Topic = 1,
@@ -44,7 +44,7 @@ pub enum Ownership {
 }
 
 /// Who says that a writer is alive (DDS 1.4, 2.2.3.11).
-#[derive(Clone, Copy, Debug, PartialEq)]
+#[derive(Clone, Copy, Debug, PartialEq, Eq, PartialOrd, Ord)]
 pub enum LivelinessKind {
     Automatic = 0,
     ManualByParticipant = 1,
@@ -60,14 +60,14 @@ pub struct Liveliness {
 }
 
 /// Whether what was lost is sent again (DDS 1.4, 2.2.3.14).
-#[derive(Clone, Copy, Debug, PartialEq)]
+#[derive(Clone, Copy, Debug, PartialEq, Eq, PartialOrd, Ord)]
 pub enum Reliability {
     BestEffort = 1,
     Reliable = 2,
 }
 
 /// Which of two changes is the later one (DDS 1.4, 2.2.3.17).
-#[derive(Clone, Copy, Debug, PartialEq)]
+#[derive(Clone, Copy, Debug, PartialEq, Eq, PartialOrd, Ord)]
 pub enum DestinationOrder {
     ByReceptionTimestamp = 0,
     BySourceTimestamp = 1,

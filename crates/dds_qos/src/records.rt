@@ -1,15 +1,20 @@
 //! What a reader asks for, and what a writer offers.
 
-ghost use Rattle.std.specs.Prelude.{◌≡◌, []};
+ghost use Rattle.std.specs.Prelude.{◌≡◌, [], IfOk};
 ghost use Rattle.dds_qos.specs.Defaults.{default_policies};
+ghost use Rattle.dds_qos.specs.Offering.{Offers};
+ghost use Rattle.dds_qos.specs.Seen.{names_seen};
+ghost use Rattle.dds_qos.specs.Settings.{settings_of};
 ghost use Rattle.dds_qos.specs.declared.policies.Reliability.TheVariants.{BestEffort, Reliable};
 
 use crate::{
     AccessScope, DestinationOrder, Durability, INFINITE, Liveliness, LivelinessKind, Ownership,
-    Partitions, Policies, Presentation, Reliability,
+    Partitions, Policies, Presentation, QosFault, Reliability, Settings,
 };
+use rtps_cdr::Strings;
+use rtps_params::ParamList;
 use rtps_types::Duration;
-use std::alloc::{Allocator, Global};
+use std::alloc::{AllocError, Allocator, Global};
 
 /// What a reader asks for.
 #[derive(Debug, Drop)]
@@ -26,7 +31,7 @@ pub struct Offered<A: Allocator = Global> {
 }
 
 /// The policies where none is given, but for the reliability, whose default differs.
-fn defaults(reliability: Reliability) -> Policies
+pub(crate) fn defaults(reliability: Reliability) -> Policies
     ensures { result ≡ default_policies reliability }
 {
     Policies {
@@ -75,4 +80,48 @@ impl<A: Allocator> Offered<A> {
             partitions: Partitions::new(Vec::new(alloc)),
         }
     }
+}
+
+/// What the record of a writer offers, a copy of its own (DDSI-RTPS 9.6.3). `Malformed` where a parameter
+/// of the record is, whether an offer uses it or not.
+pub fn offered_from<A: Allocator + Copy>(
+    alloc: A,
+    list: &ParamList<'_>,
+) -> Result<Offered<A>, QosFault>
+    ensures { Offers (settings_of list.now) result }
+{
+    let settings = Settings::read(list)?;
+    let policies = settings.policies;
+    let partitions = partitions_in(alloc, settings.partitions)?;
+    Ok(Offered {
+        policies,
+        partitions,
+    })
+}
+
+/// The partitions that a record names, as a copy; none where it names none.
+fn partitions_in<A: Allocator + Copy>(
+    alloc: A,
+    names: Option<Strings<'_>>,
+) -> Result<Partitions<A>, AllocError>
+    ensures { IfOk result (λ partitions. partitions ≡ names_seen names.entry) }
+{
+    match names {
+        Some(names) => copied(alloc, names),
+        None => Ok(Partitions::new(Vec::new(alloc))),
+    }
+}
+
+/// A copy of the names of partitions.
+fn copied<A: Allocator + Copy>(
+    alloc: A,
+    names: Strings<'_>,
+) -> Result<Partitions<A>, AllocError>
+    ensures { IfOk result (λ partitions. partitions ≡ names.entry) }
+{
+    let mut copies = Vec::new(alloc);
+    for name in names {
+        copies.push(String::from_str(alloc, name)?)?;
+    }
+    Ok(Partitions::new(copies))
 }

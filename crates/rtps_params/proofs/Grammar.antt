@@ -70,7 +70,7 @@ one_reading [] e octets (Err fault) h = reading_fault e octets fault (fails_fron
 one_reading (p ∷ ps) e octets outcome h =
     reading_step e octets h.0 p (parameter_front e p octets h.0 h.1) ∙ rw (one_reading ps e h.0 outcome h.2) refl
 
-one_answer : (ps : List Parameter) (e : Endian) (octets : List ℕ) (outcome : Result (List ℕ) ParamFault) → IsList e octets ps outcome → contents e octets ≡ answer octets ps outcome
+one_answer : (ps : List Parameter) (e : Endian) (octets : List ℕ) (outcome : Result (List ℕ) ParamFault) → IsList e octets ps outcome → contents e octets ≡ answer e octets ps outcome
 one_answer ps e octets outcome h = rw (one_reading ps e octets outcome h) refl
 
 -- ---- from the code's reading to the grammar
@@ -153,5 +153,5 @@ reading_is e octets = reading_is_within (suc (length octets)) e octets (omega ar
 pub answer_found : (e : Endian) (octets : List ℕ) (answered : Result Contents ParamFault) → answered ≡ contents e octets → IsFound e octets answered
 answer_found e octets answered h = record { parameters = (reading e octets).parameters; outcome = (reading e octets).outcome; list = reading_is e octets; answers = h }
 
-pub answer_only : (e : Endian) (octets : List ℕ) (answered : Result Contents ParamFault) → answered ≡ contents e octets → (ps : List Parameter) (outcome : Result (List ℕ) ParamFault) → IsList e octets ps outcome → answered ≡ answer octets ps outcome
+pub answer_only : (e : Endian) (octets : List ℕ) (answered : Result Contents ParamFault) → answered ≡ contents e octets → (ps : List Parameter) (outcome : Result (List ℕ) ParamFault) → IsList e octets ps outcome → answered ≡ answer e octets ps outcome
 answer_only e octets answered h ps outcome list = h ∙ one_answer ps e octets outcome list

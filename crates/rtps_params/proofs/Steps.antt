@@ -79,7 +79,7 @@ leads_on e octets rest after p lead h =
     let one : (reading e rest).outcome ≡ (reading e after).outcome = rw (reading_step e rest after p h) refl in
     record { outcome = sym one ∙ lead.outcome; shorter = let s = lead.shorter in omega arith }
 
-pub leads_end : (e : Endian) (octets rest after : List ℕ) → Leads e octets rest → front_of e rest ≡ Ok (None, after) → contents e octets ≡ Ok (record { parameters = shown e octets; used = length octets - length after })
+pub leads_end : (e : Endian) (octets rest after : List ℕ) → Leads e octets rest → front_of e rest ≡ Ok (None, after) → contents e octets ≡ Ok (record { endian = e; parameters = shown e octets; used = length octets - length after })
 leads_end e octets rest after lead h =
     let out : (reading e octets).outcome ≡ Ok after = sym lead.outcome ∙ rw (reading_end e rest after h) refl in
     rw out refl

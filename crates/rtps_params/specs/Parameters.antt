@@ -63,4 +63,4 @@ pub record IsFound (e : Endian) (octets : List ℕ) (answered : Result Contents 
   pub parameters : List Parameter
   pub outcome : Result (List ℕ) ParamFault
   pub list : IsList e octets parameters outcome
-  pub answers : answered ≡ answer octets parameters outcome
+  pub answers : answered ≡ answer e octets parameters outcome

@@ -81,15 +81,18 @@ is_shown p = not (p.id == 0)
 abbrev pub shown : Endian → List ℕ → List Parameter
 shown e octets = filter is_shown (reading e octets).parameters
 
--- a list that was read without a fault: its parameters, and how many octets it takes, its end included
+-- a list that was read without a fault: the byte order of its numbers, its parameters, and how many octets it takes,
+-- its end included
 pub record Contents : Type 0 where
+  pub endian : Endian
   pub parameters : List Parameter
   pub used : ℕ
 
 -- what is answered of octets that have these parameters and this end
-abbrev pub answer : List ℕ → List Parameter → Result (List ℕ) ParamFault → Result Contents ParamFault
-answer octets ps (Err fault) = Err fault
-answer octets ps (Ok rest) = Ok (record { parameters = filter is_shown ps; used = length octets - length rest })
+abbrev pub answer : Endian → List ℕ → List Parameter → Result (List ℕ) ParamFault → Result Contents ParamFault
+answer e octets ps (Err fault) = Err fault
+answer e octets ps (Ok rest) =
+    Ok (record { endian = e; parameters = filter is_shown ps; used = length octets - length rest })
 
 abbrev pub contents : Endian → List ℕ → Result Contents ParamFault
-contents e octets = answer octets (reading e octets).parameters (reading e octets).outcome
+contents e octets = answer e octets (reading e octets).parameters (reading e octets).outcome

@@ -21,7 +21,11 @@ pub struct ParamList<'a> {
 impl<'a> Model for ParamList<'a> {
     ghost Value = { Contents };
 
-    ghost view = { λ l. record { parameters = shown l.endian l.octets.now; used = l.used } };
+    ghost view = { λ l. record {
+      endian = l.endian;
+      parameters = shown l.endian l.octets.now;
+      used = l.used;
+    } };
 }
 
 impl<'a> ParamList<'a> {
@@ -33,7 +37,7 @@ impl<'a> ParamList<'a> {
         ensures found { IsFound endian octets.now result }
         ensures only { (parameters : List Parameter) (outcome : Result (List ℕ) ParamFault) →
             IsList endian octets.now parameters outcome →
-            result ≡ answer octets.now parameters outcome }
+            result ≡ answer endian octets.now parameters outcome }
         ensures value { result ≡ contents endian octets.now }
     {
         let mut rest = octets;
@@ -51,6 +55,13 @@ impl<'a> ParamList<'a> {
                 Front::Fault(fault) => return Err(fault),
             }
         }
+    }
+
+    /// The byte order of the list's numbers, and of the numbers in its values.
+    pub fn endian(&self) -> Endian
+        ensures { result ≡ self.now.endian }
+    {
+        self.endian
     }
 
     /// How many octets the list takes, its end included.

@@ -17,6 +17,7 @@ const LITTLE: [u8; 44] = [
 fn a_list_and_what_stands_behind_it(rt: HostRuntime) -> Result<(), Fail> {
     let list = ParamList::new(&LITTLE, Endian::Little)?;
     assert_eq!(rt; list.used(), 40);
+    assert_eq!(rt; list.endian(), Endian::Little);
     let mut params = list.iter();
     let hash = params.next().ok_or("no key hash")?;
     assert_eq!(rt; hash.id, 0x70);
@@ -36,6 +37,7 @@ fn the_end_in_the_last_octets(rt: HostRuntime) -> Result<(), Fail> {
     // Big-endian; the length of the end says nothing.
     let list = ParamList::new(&[0x00, 0x01, 0xff, 0xff], Endian::Big)?;
     assert_eq!(rt; list.used(), 4);
+    assert_eq!(rt; list.endian(), Endian::Big);
     assert!(rt; list.iter().next().is_none());
     // The same octets in little-endian are the id 0100 with a length of 65,535.
     assert_eq!(rt;

@@ -110,13 +110,13 @@ chosen : (b : Bool) (s : Seen) (n : ℕ) → option_map (λ (x : Seen). let q : 
 chosen true s n = refl
 chosen false s n = refl
 
-ends_is : (octets : List ℕ) (ps : List Parameter) (o : Result (List ℕ) ParamFault) → ends (length octets) (gathered nothing_seen ps) o ≡ inline_from (answer octets ps o)
-ends_is octets ps (Err f) = refl
-ends_is octets ps (Ok rest) =
+ends_is : (e : Endian) (octets : List ℕ) (ps : List Parameter) (o : Result (List ℕ) ParamFault) → ends (length octets) (gathered nothing_seen ps) o ≡ inline_from (answer e octets ps o)
+ends_is e octets ps (Err f) = refl
+ends_is e octets ps (Ok rest) =
     let shown = filter is_shown ps in
     rw (← gathered_shown ps nothing_seen, gathered_all shown) (chosen (list_all is_sound shown) (record { hash = option_map key_hash (last_value 112 shown); status = option_map_or (λ v. slice_index v 3) (last_value 113 shown) 0 }) (length octets - length rest))
 
 -- the inline QoS is what is answered once all parameters were seen
 pub whole_is : (e : Endian) (octets : List ℕ) → whole (length octets) e nothing_seen octets ≡ inline_of e octets
 unfolding whole inline_of
-whole_is e octets = ends_is octets (reading e octets).parameters (reading e octets).outcome
+whole_is e octets = ends_is e octets (reading e octets).parameters (reading e octets).outcome
