@@ -17,13 +17,17 @@ BESIDE = ("data", "stdin", "stdout", "args", "status")
 
 
 @contextmanager
-def only_run(top):
-    """Waits until no other run works in a repository, and gives the folder for its rooms: in the folder of git, which
-    no other command reads for sources."""
+def only_run(top, say):
+    """Waits until no other run works in a repository, which it says, and gives the folder for its rooms: in the folder
+    of git, which no other command reads for sources."""
     folder = top / ".git" if (top / ".git").is_dir() else top / "target"
     folder.mkdir(exist_ok=True)
     with open(folder / "check.lock", "w", encoding="utf-8") as lock:
-        fcntl.flock(lock, fcntl.LOCK_EX)
+        try:
+            fcntl.flock(lock, fcntl.LOCK_EX | fcntl.LOCK_NB)
+        except OSError:
+            say("waiting until another run in this repository has ended")
+            fcntl.flock(lock, fcntl.LOCK_EX)
         try:
             yield folder / "check-rooms"
         finally:

@@ -51,6 +51,16 @@ def beyond(text, handles):
     return None if last else "the check ended without a verdict"
 
 
+def unmet(text):
+    """What a check that looked for them says of contracts that no call can meet, where there are any."""
+    found = re.search(r"^empty contracts: (\d+) found; tried (\d+) of (\d+) functions$", text, re.MULTILINE)
+    if not found:
+        return "the check didn't say whether each contract can be met"
+    if found[1] != "0":
+        return f"{found[1]} contracts that no call can meet"
+    return None if found[2] == found[3] else f"only {found[2]} of {found[3]} contracts were tried"
+
+
 def layout_fault(inside):
     """The first file that isn't in the layout of rt fmt, in a copy of a crate, which is laid out by this."""
     before = {path: path.read_bytes() for path in inside.files()}
@@ -71,12 +81,12 @@ def prove(gate, crate, jobs):
         fault = layout_fault(inside)
         if fault:
             return failure(crate.name, f"{crate.name}: {fault}")
-        words = [["rt", "check"]] + [["rt", "lib"]] * (not crate.is_program)
+        words = [["rt", "check", "--empty-contracts"]] + [["rt", "lib"]] * (not crate.is_program)
         seconds = 0.0
         for each in words:
             ran = run([*each, "--jobs", str(jobs)], inside.folder)
             seconds += ran.seconds
-            why = beyond(ran.text, gate.handles) if each[1] == "check" else None
+            why = (beyond(ran.text, gate.handles) or unmet(ran.text)) if each[1] == "check" else None
             if ran.status or why:
                 return failure(crate.name, f"{ran.text}{crate.name}: {why or 'not proved'}", seconds)
         gate.rooms.adopt(crate, inside)

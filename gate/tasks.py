@@ -81,6 +81,12 @@ def stop_all(*_):
     os._exit(130)
 
 
+def stop_on_signals():
+    """Lets the signals that end a process end what it started too."""
+    for each in (signal.SIGTERM, signal.SIGINT, signal.SIGHUP):
+        signal.signal(each, stop_all)
+
+
 def processors():
     """How many processors there are to use, by affinity and by the quota of the control group."""
     found = len(os.sched_getaffinity(0))
@@ -119,6 +125,8 @@ def run_all(tasks, say, count=None):
     count = count or lanes()
     left, running, ended, failed_tasks = list(tasks), {}, set(), set()
     behind, passed, failed, number = chains(left), 0, [], 0
+    for unknown in {name for task in tasks for name in task.waits} - {task.name for task in tasks}:
+        failed_tasks.add(unknown)
     with ThreadPoolExecutor(count) as pool:
         while left or running:
             for task in [task for task in left if failed_tasks & set(task.waits)]:

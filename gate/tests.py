@@ -2,6 +2,7 @@
 
 import shutil
 import tempfile
+import threading
 import unittest
 from pathlib import Path
 from unittest import mock
@@ -9,8 +10,8 @@ from unittest import mock
 from gate import edits, tasks
 from gate.crates import crates_in, proof_sum
 from gate.kept import Kept, default_folder
-from gate.rooms import Rooms
-from gate.steps import beyond, edits_sum
+from gate.rooms import Rooms, only_run
+from gate.steps import beyond, edits_sum, unmet
 from gate.tasks import Done, Task
 
 SOURCE = """\
@@ -305,6 +306,25 @@ def edits_in(case):
     return found
 
 
+class Alone(unittest.TestCase):
+    def test_a_run_says_that_it_waits_for_another(self):
+        with tempfile.TemporaryDirectory() as folder:
+            said, order = [], []
+
+            def other():
+                with only_run(Path(folder), said.append):
+                    order.append("other")
+
+            with only_run(Path(folder), said.append):
+                waiting = threading.Thread(target=other)
+                waiting.start()
+                waiting.join(0.2)
+                order.append("first")
+            waiting.join()
+            self.assertEqual(["waiting until another run in this repository has ended"], said)
+            self.assertEqual(["first", "other"], order)
+
+
 class Tasks(unittest.TestCase):
     def run_all(self, *given):
         said = []
@@ -322,6 +342,10 @@ class Tasks(unittest.TestCase):
         then = Task("then", lambda jobs: Done(1), ("first",))
         self.assertEqual((0, ["first", "then"]), self.run_all(first, then)[0])
 
+    def test_what_waits_for_no_task_fails(self):
+        then = Task("then", lambda jobs: Done(1), ("nobody",))
+        self.assertEqual((0, ["then"]), self.run_all(then)[0])
+
     def test_tasks_that_come_out_of_a_task_are_run(self):
         late = Task("late", lambda jobs: Done(1))
         self.assertEqual((2, []), self.run_all(Task("first", lambda jobs: Done(1, more=[late])))[0])
@@ -333,6 +357,12 @@ class Tasks(unittest.TestCase):
         self.assertIsNotNone(beyond("rt: warning: a tactic in a clause\nlogic=proved functions=3", set()))
         self.assertIsNotNone(beyond("logic=proved functions=3 main=Threads", set()))
         self.assertIsNone(beyond("logic=proved functions=3 may-wait=1 main=Threads", {"Threads", "Wait"}))
+
+    def test_every_contract_can_be_met(self):
+        self.assertIsNone(unmet("empty contracts: 0 found; tried 69 of 69 functions\nlogic=proved functions=69"))
+        self.assertIsNotNone(unmet("empty contracts: 1 found; tried 70 of 70 functions\nlogic=proved functions=70"))
+        self.assertIsNotNone(unmet("empty contracts: 0 found; tried 68 of 69 functions"))
+        self.assertIsNotNone(unmet("logic=proved functions=69"))
 
 
 if __name__ == "__main__":
