@@ -3,28 +3,8 @@ use Rattle.std.specs.Prelude.{ℕ, List, [], Option, Some, None, Result, Ok, Err
 use Rattle.std.specs.Option.{option_map}
 use Rattle.std.specs.Borrow.{Bor}
 use Rattle.dds_qos.specs.declared.fault.Malformed.{Malformed}
-use Rattle.dds_qos.specs.declared.setting.Setting.{Setting}
-use Rattle.dds_qos.specs.declared.setting.Setting.TheVariants as code
 use Rattle.dds_qos.specs.declared.settings.Settings.{Settings}
 use Rattle.dds_qos.specs.Settings as settings
-
-abbrev pub setting_seen : Setting → settings.Setting
-setting_seen (code.Lease d) = settings.OfLease d
-setting_seen (code.Topic t) = settings.OfTopic t.now
-setting_seen (code.Type t) = settings.OfType t.now
-setting_seen (code.Reliability r) = settings.OfReliability r
-setting_seen (code.Liveliness l) = settings.OfLiveliness l
-setting_seen (code.Durability d) = settings.OfDurability d
-setting_seen (code.Ownership o) = settings.OfOwnership o
-setting_seen (code.Presentation p) = settings.OfPresentation p
-setting_seen (code.Deadline d) = settings.OfDeadline d
-setting_seen (code.DestinationOrder o) = settings.OfDestinationOrder o
-setting_seen (code.LatencyBudget d) = settings.OfLatencyBudget d
-setting_seen (code.Partitions names) = settings.OfPartitions names
-setting_seen (code.Participant g) = settings.OfParticipant g
-setting_seen (code.Endpoint g) = settings.OfEndpoint g
-setting_seen (code.BuiltinEndpoints n) = settings.OfBuiltinEndpoints n
-setting_seen code.Other = settings.Otherwise
 
 abbrev pub text_seen : Option (Bor (List ℕ)) → Option (List ℕ)
 text_seen t = option_map (λ (text : Bor (List ℕ)). text.now) t

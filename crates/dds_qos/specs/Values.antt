@@ -1,13 +1,12 @@
 -- How the value of a parameter is read: as CDR, aligned from its first octet; octets after it are ignored (DDSI-RTPS 9.4.2.11).
-use Rattle.std.specs.Prelude.{ℕ, ◌==◌, nat_le, ◌&&◌, List, [], ◌∷◌, Option, Some, None, option_and_then, if◌then◌else◌, Ok, Err}
+use Rattle.std.specs.Prelude.{ℕ, ◌==◌, nat_le, ◌&&◌, List, Option, Some, None, option_and_then, if◌then◌else◌, Ok, Err}
 use Rattle.std.specs.Option.{option_map}
 use Rattle.std.specs.Int.{w32}
 use Rattle.rtps_types.specs.Field.{octets_at}
 use Rattle.rtps_types.specs.declared.identity.Guid.{Guid}
-use Rattle.rtps_types.specs.declared.identity.KeyHash.{KeyHash}
 use Rattle.rtps_types.specs.declared.locator.Locator.{Locator}
 use Rattle.rtps_types.specs.declared.time.Duration.{Duration}
-use Rattle.rtps_cdr.specs.Reading.{Cursor, Read, placed, number_in, signed_in, bool_in, octets_in}
+use Rattle.rtps_cdr.specs.Reading.{Cursor, Read, placed, number_in, signed_in, bool_in, octets_in, text_in, texts_in}
 use Rattle.dds_qos.specs.declared.policies.Presentation.{Presentation}
 use Rattle.dds_qos.specs.declared.policies.Liveliness.{Liveliness}
 use Rattle.dds_qos.specs.declared.policies.Durability.{Durability}
@@ -82,6 +81,35 @@ order_of n =
     if n == 1 then Some order.BySourceTimestamp else
     None
 
+abbrev pub durability_in : Cursor → Option Durability
+durability_in c = kind_in c durability_of
+
+abbrev pub ownership_in : Cursor → Option Ownership
+ownership_in c = kind_in c ownership_of
+
+abbrev pub order_in : Cursor → Option DestinationOrder
+order_in c = kind_in c order_of
+
+-- ---- texts, numbers and octets
+
+-- a topic, or a type
+abbrev pub topic_in : Cursor → Option (List ℕ)
+topic_in c = only (text_in c)
+
+-- the names of partitions
+abbrev pub names_in : Cursor → Option (List (List ℕ))
+names_in c = only (texts_in c)
+
+abbrev pub number_of : Cursor → Option ℕ
+number_of c = only (number_in 4 c)
+
+-- a key hash, and a status info
+abbrev pub hash_in : Cursor → Option (List ℕ)
+hash_in c = only (octets_in 16 c)
+
+abbrev pub status_in : Cursor → Option (List ℕ)
+status_in c = only (octets_in 4 c)
+
 -- ---- values of several parts
 
 -- seconds, with a sign, and a fraction (DDSI-RTPS 9.3.2.3)
@@ -102,8 +130,8 @@ liveliness_in c =
 unfoldable pub presentation_in : Cursor → Option Presentation
 presentation_in c =
     kind_then c scope_of (λ s after_scope. then_read after_scope (bool_in after_scope) (λ coherent after.
-        option_map (λ ordered. record { access_scope = s; coherent_access = coherent; ordered_access = ordered })
-            (only (bool_in after))))
+    option_map (λ ordered. record { access_scope = s; coherent_access = coherent; ordered_access = ordered })
+    (only (bool_in after))))
 
 -- a UDP address over IPv4, kind 1, with a port of 16 bits that isn't 0: its address is the last four of sixteen
 -- octets; any other locator is dropped (DDSI-RTPS 9.3.2.4)
@@ -116,16 +144,16 @@ kept_locator kind port octets =
 unfoldable pub locator_in : Cursor → Option (Option Locator)
 locator_in c =
     then_read c (number_in 4 c) (λ kind after_kind. then_read after_kind (number_in 4 after_kind) (λ port after.
-        option_map (λ octets. kept_locator kind port octets) (only (octets_in 16 after))))
+    option_map (λ octets. kept_locator kind port octets) (only (octets_in 16 after))))
 
 -- twelve octets of the participant, and four of its endpoint (DDSI-RTPS 9.3.1)
 abbrev pub guid_of : List ℕ → Option Guid
 guid_of octets =
     option_and_then
-        (λ (prefix : List ℕ). option_map
-            (λ (entity : List ℕ). record { prefix = record { 0 = prefix }; entity = record { 0 = entity } })
-            (octets_at 4 octets 12))
-        (octets_at 12 octets 0)
+    (λ (prefix : List ℕ). option_map
+    (λ (entity : List ℕ). record { prefix = record { 0 = prefix }; entity = record { 0 = entity } })
+    (octets_at 4 octets 12))
+    (octets_at 12 octets 0)
 
 unfoldable pub guid_in : Cursor → Option Guid
 guid_in c = option_and_then guid_of (only (octets_in 16 c))

@@ -71,13 +71,22 @@ fn policies_met(offered: &Policies, requested: &Policies) -> [(u32, bool); 8]
 {
     [
         (2, durability_met(offered.durability, requested.durability)),
-        (3, presentation_met(offered.presentation, requested.presentation)),
+        (
+            3,
+            presentation_met(offered.presentation, requested.presentation),
+        ),
         (4, at_most(offered.deadline, requested.deadline)),
         (5, at_most(offered.latency_budget, requested.latency_budget)),
         (6, ownership_met(offered.ownership, requested.ownership)),
         (8, liveliness_met(offered.liveliness, requested.liveliness)),
-        (11, reliability_met(offered.reliability, requested.reliability)),
-        (12, order_met(offered.destination_order, requested.destination_order)),
+        (
+            11,
+            reliability_met(offered.reliability, requested.reliability),
+        ),
+        (
+            12,
+            order_met(offered.destination_order, requested.destination_order),
+        ),
     ]
 }
 

@@ -3,9 +3,7 @@
 ghost use Rattle.std.specs.Prelude.{◌≡◌};
 ghost use Rattle.dds_qos.specs.Values as values;
 
-use crate::{
-    AccessScope, DestinationOrder, Durability, LivelinessKind, Ownership, Reliability,
-};
+use crate::{AccessScope, DestinationOrder, Durability, LivelinessKind, Ownership, Reliability};
 
 /// `DurabilityQosPolicyKind`.
 pub(crate) fn durability_of(kind: u32) -> Option<Durability>

@@ -9,7 +9,6 @@ mod listed_locators;
 mod partitions;
 mod policies;
 mod records;
-mod setting;
 mod settings;
 #[cfg(test)]
 mod tests;

@@ -113,10 +113,7 @@ fn partitions_in<A: Allocator + Copy>(
 }
 
 /// A copy of the names of partitions.
-fn copied<A: Allocator + Copy>(
-    alloc: A,
-    names: Strings<'_>,
-) -> Result<Partitions<A>, AllocError>
+fn copied<A: Allocator + Copy>(alloc: A, names: Strings<'_>) -> Result<Partitions<A>, AllocError>
     ensures { IfOk result (λ partitions. partitions ≡ names.entry) }
 {
     let mut copies = Vec::new(alloc);

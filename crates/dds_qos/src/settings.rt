@@ -1,17 +1,25 @@
 //! What the parameters of a discovery record say together.
 
-ghost use Rattle.std.specs.Prelude.{◌≡◌, true};
-ghost use Rattle.dds_qos.specs.Seen.{setting_seen, settings_seen, said};
-ghost use Rattle.dds_qos.specs.Settings.{settings_of, unsaid, with_setting};
-ghost use Rattle.dds_qos.specs.declared.policies.Reliability.TheVariants.{Reliable};
+ghost use Rattle.std.specs.Prelude.{◌≡◌, [], ◌∷◌, is_some, IfSome};
+ghost use Rattle.rtps_params.specs.Reading.{view};
+ghost use Rattle.dds_qos.specs.Seen.{settings_seen, said};
+ghost use Rattle.dds_qos.specs.Settings.{is_sound, settings_after, settings_of, unsaid};
 
+use crate::kinds::{durability_of, order_of, ownership_of};
 use crate::records::defaults;
-use crate::setting::{Setting, setting_of};
+use crate::values::{
+    duration_in, guid_in, liveliness_in, locator_in, presentation_in, reliability_in,
+};
 use crate::{ListedLocators, Malformed, Policies, Reliability};
-use rtps_cdr::Strings;
-use rtps_params::ParamList;
-use rtps_params::ids::{DEFAULT_UNICAST_LOCATOR, METATRAFFIC_UNICAST_LOCATOR, UNICAST_LOCATOR};
-use rtps_types::{Duration, Guid};
+use rtps_cdr::{CdrReader, Strings};
+use rtps_params::ids::{
+    BUILTIN_ENDPOINT_SET, DEADLINE, DEFAULT_UNICAST_LOCATOR, DESTINATION_ORDER, DURABILITY,
+    ENDPOINT_GUID, KEY_HASH, LATENCY_BUDGET, LIVELINESS, METATRAFFIC_UNICAST_LOCATOR, OWNERSHIP,
+    PARTICIPANT_GUID, PARTICIPANT_LEASE_DURATION, PARTITION, PRESENTATION, RELIABILITY,
+    STATUS_INFO, TOPIC_NAME, TYPE_NAME, UNICAST_LOCATOR,
+};
+use rtps_params::{Param, ParamList};
+use rtps_types::{Duration, Endian, Guid};
 
 /// What a discovery record says (DDSI-RTPS 8.5.3, 8.5.4, 9.6.3): of a parameter that comes again the
 /// last, of locators all. Texts and locators stay where the record's octets lie, so that only what is
@@ -41,16 +49,14 @@ pub struct Settings<'a> {
 impl<'a> Settings<'a> {
     /// What a record says. Every parameter that is known is judged, whether it is used or not, and
     /// whether or not it comes again; parameters of other ids say nothing.
+    #[tactic(auto, unfolding(crate::specs::Settings::settings_of))]
     pub fn read(list: &ParamList<'a>) -> Result<Settings<'a>, Malformed>
         ensures { said result ≡ settings_of list.now }
     {
         let endian = list.endian();
         let mut settings = Settings::unsaid(list);
         for param in list.iter() {
-            match setting_of(param, endian) {
-                Some(setting) => settings.set(setting),
-                None => return Err(Malformed),
-            }
+            settings.take(param, endian).ok_or(Malformed)?;
         }
         Ok(settings)
     }
@@ -74,28 +80,44 @@ impl<'a> Settings<'a> {
         }
     }
 
-    /// Takes in one more parameter.
-    fn set(&mut self, setting: Setting<'a>)
-        ensures { settings_seen self.new
-            ≡ with_setting (settings_seen self.old) (setting_seen setting.entry) }
+    /// Takes in what one more parameter says; `None` where it is malformed.
+    #[tactic(auto, unfolding(crate::specs::Settings::is_sound_by))]
+    fn take(&mut self, param: Param<'a>, endian: Endian) -> Option<()>
+        ensures sound { is_some result ≡ is_sound endian (view param.entry) }
+        ensures said { IfSome result (λ unit. settings_seen self.new
+            ≡ settings_after endian (view param.entry ∷ []) (settings_seen self.old)) }
     {
-        match setting {
-            Setting::Lease(lease) => self.lease = Some(lease),
-            Setting::Topic(name) => self.topic = Some(name),
-            Setting::Type(name) => self.type_name = Some(name),
-            Setting::Reliability(reliability) => self.policies.reliability = reliability,
-            Setting::Liveliness(liveliness) => self.policies.liveliness = liveliness,
-            Setting::Durability(durability) => self.policies.durability = durability,
-            Setting::Ownership(ownership) => self.policies.ownership = ownership,
-            Setting::Presentation(presentation) => self.policies.presentation = presentation,
-            Setting::Deadline(deadline) => self.policies.deadline = deadline,
-            Setting::DestinationOrder(order) => self.policies.destination_order = order,
-            Setting::LatencyBudget(budget) => self.policies.latency_budget = budget,
-            Setting::Partitions(names) => self.partitions = Some(names),
-            Setting::Participant(guid) => self.participant = Some(guid),
-            Setting::Endpoint(guid) => self.endpoint = Some(guid),
-            Setting::BuiltinEndpoints(set) => self.builtin_endpoints = Some(set),
-            Setting::Other => {}
+        let mut value = CdrReader::new(param.value, endian);
+        match param.id {
+            PARTICIPANT_LEASE_DURATION => self.lease = Some(duration_in(value)?),
+            TOPIC_NAME => self.topic = Some(value.read_string().ok()?),
+            TYPE_NAME => self.type_name = Some(value.read_string().ok()?),
+            RELIABILITY => self.policies.reliability = reliability_in(value)?,
+            LIVELINESS => self.policies.liveliness = liveliness_in(value)?,
+            DURABILITY => self.policies.durability = durability_of(value.read_u32().ok()?)?,
+            OWNERSHIP => self.policies.ownership = ownership_of(value.read_u32().ok()?)?,
+            PRESENTATION => self.policies.presentation = presentation_in(value)?,
+            DEADLINE => self.policies.deadline = duration_in(value)?,
+            DESTINATION_ORDER => self.policies.destination_order = order_of(
+                value.read_u32().ok()?,
+            )?,
+            LATENCY_BUDGET => self.policies.latency_budget = duration_in(value)?,
+            PARTITION => self.partitions = Some(value.read_strings().ok()?),
+            PARTICIPANT_GUID => self.participant = Some(guid_in(value)?),
+            BUILTIN_ENDPOINT_SET => self.builtin_endpoints = Some(value.read_u32().ok()?),
+            ENDPOINT_GUID => self.endpoint = Some(guid_in(value)?),
+            // What is collected apart, and what a record has no use for, is judged all the same.
+            UNICAST_LOCATOR | DEFAULT_UNICAST_LOCATOR | METATRAFFIC_UNICAST_LOCATOR => {
+                let _locator = locator_in(value)?;
+            }
+            KEY_HASH => {
+                let _hash = value.read_octets(16).ok()?;
+            }
+            STATUS_INFO => {
+                let _status = value.read_octets(4).ok()?;
+            }
+            _ => {}
         }
+        Some(())
     }
 }

@@ -1,8 +1,21 @@
 //! The defaults of DDS 1.4, section 2.2.3, names that stay, and numbers of variants.
 
+mod compatible;
+mod settings;
+
 use crate::*;
 use rtps_types::Duration;
+use std::alloc::Allocator;
 use std::test::Fail;
+
+/// The octets that hex digits spell; blanks are for the eye.
+fn octets_of<A: Allocator + Copy>(alloc: A, text: &str) -> Result<Vec<u8, A>, Fail> {
+    let mut octets = Vec::new(alloc);
+    for part in text.split_ascii_whitespace() {
+        octets.extend_from_slice(hex::decode(alloc, part)?.as_slice())?;
+    }
+    Ok(octets)
+}
 
 #[test]
 fn policies_that_are_not_given(rt: HostRuntime) {

@@ -1,0 +1,243 @@
+//! Offers against what is asked for (DDS 1.4, 2.2.3).
+
+use crate::*;
+use rtps_types::Duration;
+use std::alloc::Allocator;
+use std::test::Fail;
+
+const SECOND: Duration = Duration {
+    seconds: 1,
+    fraction: 0,
+};
+
+/// A second and the least fraction more.
+const MORE: Duration = Duration {
+    seconds: 1,
+    fraction: 1,
+};
+
+/// A presentation in the middle of its range.
+const PRESENTATION: Presentation = Presentation {
+    access_scope: AccessScope::Topic,
+    coherent_access: true,
+    ordered_access: true,
+};
+
+/// A liveliness in the middle of its range.
+const LIVELINESS: Liveliness = Liveliness {
+    kind: LivelinessKind::ManualByParticipant,
+    lease_duration: SECOND,
+};
+
+/// Policies that are in the middle of their ranges.
+const MIDDLE: Policies = Policies {
+    durability: Durability::Transient,
+    presentation: PRESENTATION,
+    deadline: SECOND,
+    latency_budget: SECOND,
+    ownership: Ownership::Shared,
+    liveliness: LIVELINESS,
+    reliability: Reliability::Reliable,
+    destination_order: DestinationOrder::BySourceTimestamp,
+};
+
+/// One offer less than what is asked for, and the id that is told of it.
+const LESS: [(Policies, u32); 12] = [
+    (
+        Policies {
+            durability: Durability::TransientLocal,
+            ..MIDDLE
+        },
+        2,
+    ),
+    (
+        Policies {
+            presentation: Presentation {
+                access_scope: AccessScope::Instance,
+                ..PRESENTATION
+            },
+            ..MIDDLE
+        },
+        3,
+    ),
+    (
+        Policies {
+            presentation: Presentation {
+                coherent_access: false,
+                ..PRESENTATION
+            },
+            ..MIDDLE
+        },
+        3,
+    ),
+    (
+        Policies {
+            presentation: Presentation {
+                ordered_access: false,
+                ..PRESENTATION
+            },
+            ..MIDDLE
+        },
+        3,
+    ),
+    (
+        Policies {
+            deadline: MORE,
+            ..MIDDLE
+        },
+        4,
+    ),
+    (
+        Policies {
+            latency_budget: INFINITE,
+            ..MIDDLE
+        },
+        5,
+    ),
+    (
+        Policies {
+            ownership: Ownership::Exclusive,
+            ..MIDDLE
+        },
+        6,
+    ),
+    (
+        Policies {
+            liveliness: Liveliness {
+                kind: LivelinessKind::Automatic,
+                ..LIVELINESS
+            },
+            ..MIDDLE
+        },
+        8,
+    ),
+    (
+        Policies {
+            liveliness: Liveliness {
+                lease_duration: MORE,
+                ..LIVELINESS
+            },
+            ..MIDDLE
+        },
+        8,
+    ),
+    (
+        Policies {
+            reliability: Reliability::BestEffort,
+            ..MIDDLE
+        },
+        11,
+    ),
+    (
+        Policies {
+            destination_order: DestinationOrder::ByReceptionTimestamp,
+            ..MIDDLE
+        },
+        12,
+    ),
+    // Two at once: the lesser id.
+    (
+        Policies {
+            reliability: Reliability::BestEffort,
+            deadline: MORE,
+            ..MIDDLE
+        },
+        4,
+    ),
+];
+
+/// The fault of an offer of these policies where those in the middle are asked for.
+fn fault_of<A: Allocator + Copy>(alloc: A, policies: Policies) -> Option<u32> {
+    let offered = Offered {
+        policies,
+        partitions: Partitions::new(Vec::<String<A>, A>::new(alloc)),
+    };
+    let requested = Requested {
+        policies: MIDDLE,
+        partitions: Partitions::new(Vec::<String<A>, A>::new(alloc)),
+    };
+    first_fault(&offered, &requested)
+}
+
+#[test]
+fn each_policy_that_is_not_met(rt: HostRuntime) {
+    for &(policies, id) in &LESS {
+        assert_eq!(rt; fault_of(rt.alloc(), policies), Some(id));
+    }
+}
+
+#[test]
+fn as_much_and_more_is_met(rt: HostRuntime) {
+    assert_eq!(rt; fault_of(rt.alloc(), MIDDLE), None);
+    let more = Policies {
+        durability: Durability::Persistent,
+        presentation: Presentation {
+            access_scope: AccessScope::Group,
+            ..PRESENTATION
+        },
+        deadline: Duration {
+            seconds: 0,
+            fraction: 0xffff_ffff,
+        },
+        latency_budget: Duration {
+            seconds: -1,
+            fraction: 0,
+        },
+        liveliness: Liveliness {
+            kind: LivelinessKind::ManualByTopic,
+            lease_duration: Duration {
+                seconds: 0,
+                fraction: 0,
+            },
+        },
+        ..MIDDLE
+    };
+    assert_eq!(rt; fault_of(rt.alloc(), more), None);
+}
+
+/// Partitions of one name, or of none.
+fn partitions<A: Allocator + Copy>(alloc: A, name: Option<&str>) -> Result<Partitions<A>, Fail> {
+    let mut names = Vec::new(alloc);
+    if let Some(name) = name {
+        names.push(String::from_str(alloc, name)?)?;
+    }
+    Ok(Partitions::new(names))
+}
+
+/// Whether partitions of these names have one in common.
+fn are_shared<A: Allocator + Copy>(
+    alloc: A,
+    offered: Option<&str>,
+    requested: Option<&str>,
+) -> Result<bool, Fail> {
+    let offered = Offered {
+        policies: MIDDLE,
+        partitions: partitions(alloc, offered)?,
+    };
+    let requested = Requested {
+        policies: MIDDLE,
+        partitions: partitions(alloc, requested)?,
+    };
+    Ok(share_partition(&offered, &requested))
+}
+
+/// What is offered, what is asked for, and whether they share it.
+const PARTITIONS: [(Option<&str>, Option<&str>, bool); 8] = [
+    (None, None, true),
+    (None, Some(""), true),
+    (Some(""), None, true),
+    (None, Some("a"), false),
+    (Some("a"), None, false),
+    (Some("a"), Some("a"), true),
+    // No wildcard, and no letter for another.
+    (Some("*"), Some("a"), false),
+    (Some("A"), Some("a"), false),
+];
+
+#[test]
+fn partitions_in_common(rt: HostRuntime) -> Result<(), Fail> {
+    for &(offered, requested, expected) in &PARTITIONS {
+        assert_eq!(rt; are_shared(rt.alloc(), offered, requested)?, expected);
+    }
+    Ok(())
+}
