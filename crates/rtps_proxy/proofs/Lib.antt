@@ -10,3 +10,4 @@ pub mod Naming
 pub mod ByKind
 pub mod Members
 pub mod Presenting
+pub mod Matching

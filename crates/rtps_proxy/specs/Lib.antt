@@ -12,3 +12,4 @@ pub mod Replies
 pub mod Effects
 pub mod Steps
 pub mod Presentation
+pub mod Matches

@@ -10,6 +10,7 @@ use std::test::Fail;
 mod answers;
 mod best_effort;
 mod held;
+mod matches;
 mod memory;
 mod runs;
 

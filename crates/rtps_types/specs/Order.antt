@@ -1,7 +1,7 @@
 -- Identities are ordered as their octets, the first of them first (DDSI-RTPS 9.3.1 maps them to octets).
 use Rattle.std.specs.Prelude.{ℕ, List, ◌++◌}
 use Rattle.std.specs.declared.cmp.Ordering.{Ordering}
-use Rattle.std.specs.Ordering.{nat_cmp}
+use Rattle.std.specs.Ordering.{nat_cmp, ordering_then}
 use Rattle.std.specs.Cmp.Lexicographic.{slice_cmp}
 use Rattle.rtps_types.specs.declared.identity.Guid.{Guid}
 
@@ -12,3 +12,7 @@ octet_order = slice_cmp nat_cmp
 -- the sixteen octets of an endpoint
 abbrev pub guid_octets : Guid → List ℕ
 guid_octets g = g.prefix.0 ++ g.entity.0
+
+-- the same of two endpoints: by their participants, and in one participant by their own
+abbrev pub guid_order : Guid → Guid → Ordering
+guid_order a b = ordering_then (octet_order a.prefix.0 b.prefix.0) (octet_order a.entity.0 b.entity.0)

@@ -1,0 +1,12 @@
+use Rattle.std.proofs.Common.{[], sym, subst, refl}
+use Rattle.rtps_proxy.specs.Kept.{whom}
+use Rattle.rtps_proxy.specs.Matches.{AllStand, Match, begun}
+use Rattle.rtps_proxy.proofs.Matching.{begun_stands}
+use Rattle.rtps_proxy.proofs.matches.Matches.begin.Goals as goal
+
+pub returns-in-Ok-clause-stands : goal.returns-in-Ok-clause-stands
+returns-in-Ok-clause-stands g c ms all =
+    let kept : AllStand ms c.self.inside.proxies.entries = subst (AllStand ms) (sym c.self.view_is) all in
+    let m : Match = record { whom = whom c.args.config; past = [] } in
+    subst (AllStand (begun m ms)) (sym c.in-Ok.ensures.entries)
+    (begun_stands m c.args.config.writer c.new-proxy.result ms c.self.inside.proxies.entries (record { writer = refl; whom = sym c.new-proxy.ensures.whom; stands = c.new-proxy.ensures.stands }) kept)

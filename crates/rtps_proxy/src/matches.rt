@@ -1,0 +1,101 @@
+//! The matches of a reader.
+
+ghost use Rattle.std.specs.Prelude.{◌≡◌, [], List, IfOk, OnErr, OnOk, length};
+ghost use Rattle.std.specs.Map.{keys_of};
+ghost use Rattle.rtps_proxy.specs.Effects.{came};
+ghost use Rattle.rtps_proxy.specs.Kept.{whom};
+ghost use Rattle.rtps_proxy.specs.Matches.{AllStand, AreTaken, IsSpentAt, Match, begun, ended, extended, fresh, match_with};
+
+use crate::{Effects, ProxyConfig, ProxyError, WriterProxy};
+use rtps_receiver::Body;
+use rtps_types::{Guid, Timestamp};
+use std::alloc::{AllocError, Allocator, Global};
+use std::collections::BTreeMap;
+use std::collections::btree_map::Keys;
+use std::marker::Model;
+
+/// The matches of a reader, each with the proxy of its writer (DDSI-RTPS 8.4.10, `matched_writers`).
+/// They are found by their writers: beginning and ending one, and giving one an event, takes one search.
+#[derive(Drop)]
+pub struct Matches<A: Allocator = Global> {
+    proxies: BTreeMap<Guid, WriterProxy<A>, A>,
+}
+
+impl<A: Allocator> Model for Matches<A> {
+    ghost use Rattle.std.specs.Prelude.{List};
+    ghost use Rattle.rtps_types.specs.declared.identity.Guid.{Guid};
+    ghost use Rattle.rtps_proxy.specs.Kept.{Kept};
+
+    ghost Value = { List (Guid × Kept) };
+
+    ghost view = { λ m. m.proxies.entries };
+}
+
+impl<A: Allocator + Copy> Matches<A> {
+    /// No match. No memory is taken.
+    pub fn new(alloc: A) -> Matches<A>
+        ensures { result ≡ [] }
+    {
+        Matches {
+            proxies: BTreeMap::new(alloc),
+        }
+    }
+
+    /// How many matches there are.
+    pub fn len(&self) -> usize
+        ensures { result ≡ length self.now }
+    {
+        self.proxies.len()
+    }
+
+    /// The writers of the matches, in the order of their octets.
+    pub fn writers(&self) -> Keys<'_, Guid, WriterProxy<A>>
+        ensures { result ≡ keys_of self.now }
+    {
+        self.proxies.keys()
+    }
+
+    /// Begins a match with the writer of `config`, to which nothing came yet. It takes the place of the
+    /// match that there was with that writer. A refused growth leaves the matches as they were.
+    pub fn begin(&mut self, alloc: A, config: ProxyConfig<A>) -> Result<(), ProxyError>
+        ensures stands { (ms : List Match) → AllStand ms self.old
+            → OnOk result (AllStand (begun (fresh (whom config)) ms) self.new) }
+        ensures err { OnErr result (self.new ≡ self.old) }
+    {
+        let writer = config.writer;
+        let proxy = WriterProxy::new(alloc, config);
+        match self.proxies.insert(writer, proxy) {
+            Ok(_) => Ok(()),
+            Err(_) => Err(AllocError),
+        }
+    }
+
+    /// Ends the match with a writer, if there is one: what came for it is forgotten. No memory is taken.
+    pub fn end(&mut self, writer: Guid)
+        ensures { (ms : List Match) → AllStand ms self.old → AllStand (ended writer ms) self.new }
+    {
+        self.proxies.remove(&writer);
+    }
+
+    /// Gives an event to the match with its writer, and what the event gives back; `None` where there is
+    /// no such match. A refused growth leaves the proxy of that writer spent, and the others as they were.
+    pub fn on_event<'a>(
+        &mut self,
+        alloc: A,
+        writer: Guid,
+        time: Option<Timestamp>,
+        brought: &Body<'a>,
+    ) -> Result<Option<Effects<'a, A>>, ProxyError>
+        ensures stands { (ms : List Match) → AllStand ms self.old
+            → OnOk result (AllStand (extended writer (came time brought.now) ms) self.new) }
+        ensures effects { (ms : List Match) → AllStand ms self.old
+            → IfOk result (AreTaken (match_with writer ms) (came time brought.now)) }
+        ensures err { OnErr result (IsSpentAt writer self.old self.new) }
+    {
+        let Some(proxy) = self.proxies.get_mut(&writer) else {
+            return Ok(None);
+        };
+        let effects = proxy.on_event(alloc, time, brought)?;
+        Ok(Some(effects))
+    }
+}
