@@ -1,2 +1,5 @@
 pub mod Config
 pub mod Addressed
+pub mod Said
+pub mod Seen
+pub mod Announcement
