@@ -8,6 +8,6 @@ use Rattle.dds_qos.proofs.settings.guid_named.Given as goal
 abbrev pub invariant-loop-param : goal.invariant-loop-param
 invariant-loop-param l =
     (list_all (λ p. not (p.id == l.id) || is_some (guid_in (start l.endian p.value))) l.param-iterator
-        ≡ list_all (λ p. not (p.id == l.id) || is_some (guid_in (start l.endian p.value))) l.list.parameters)
+    ≡ list_all (λ p. not (p.id == l.id) || is_some (guid_in (start l.endian p.value))) l.list.parameters)
     × (last l.id (as_some guid_in) l.endian l.param-iterator l.named
-        ≡ last l.id (as_some guid_in) l.endian l.list.parameters None)
+    ≡ last l.id (as_some guid_in) l.endian l.list.parameters None)
