@@ -2,6 +2,7 @@
 use Rattle.std.specs.Prelude.{ℕ, List, [], Option, Some, None, Result, Ok, Err}
 use Rattle.std.specs.Option.{option_map}
 use Rattle.std.specs.Borrow.{Bor}
+use Rattle.rtps_types.specs.declared.identity.Guid.{Guid}
 use Rattle.dds_qos.specs.declared.fault.Malformed.{Malformed}
 use Rattle.dds_qos.specs.declared.settings.Settings.{Settings}
 use Rattle.dds_qos.specs.Settings as settings
@@ -33,3 +34,8 @@ settings_seen s = record {
 abbrev pub said : Result Settings Malformed → Option settings.Settings
 said (Ok s) = Some (settings_seen s)
 said (Err fault) = None
+
+-- what is named, or None where it is malformed
+abbrev pub named : Result (Option Guid) Malformed → Option (Option Guid)
+named (Ok guid) = Some guid
+named (Err fault) = None

@@ -1,5 +1,5 @@
 -- What the parameters of a discovery record say (DDSI-RTPS 8.5.3, 8.5.4, 9.6.3; DDS 1.4, 2.2.3).
-use Rattle.std.specs.Prelude.{ℕ, ◌==◌, List, [], ◌∷◌, Option, Some, None, option_and_then, is_some, Bool, true, if◌then◌else◌}
+use Rattle.std.specs.Prelude.{ℕ, ◌==◌, List, [], ◌∷◌, Option, Some, None, option_and_then, is_some, Bool, true, not, ◌||◌, if◌then◌else◌}
 use Rattle.std.specs.List.{flat_map, list_all}
 use Rattle.std.specs.Option.{option_map, option_to_list, unwrap_or}
 use Rattle.rtps_types.specs.declared.field.Endian.{Endian}
@@ -49,6 +49,14 @@ last id read e (p ∷ ps) x = last id read e ps (if p.id == id then unwrap_or (r
 -- the same, where nothing holds without one
 abbrev pub as_some : {X : Type 0} → (Cursor → Option X) → Cursor → Option (Option X)
 as_some read c = option_map (λ x. Some x) (read c)
+
+-- the guid that the last parameter of an id names, if there is one; None where a parameter of that id, be it the last or
+-- not, names none. Nothing else of the list is judged.
+abbrev pub guid_named : ℕ → Contents → Option (Option Guid)
+guid_named id list =
+    if list_all (λ p. not (p.id == id) || is_some (guid_in (start list.endian p.value))) list.parameters
+    then Some (last id (as_some guid_in) list.endian list.parameters None)
+    else None
 
 -- the locator of a parameter, if it has that id and its locator is one that is kept
 abbrev pub locator_at : ℕ → Endian → Parameter → Option Locator

@@ -23,4 +23,4 @@ pub use policies::{
     Policies, Presentation, Reliability,
 };
 pub use records::{Offered, Requested, offered_from};
-pub use settings::Settings;
+pub use settings::{Settings, guid_named};

@@ -2,7 +2,8 @@
 
 ghost use Rattle.std.specs.Prelude.{◌≡◌, [], ◌∷◌, is_some, IfSome};
 ghost use Rattle.rtps_params.specs.Reading.{view};
-ghost use Rattle.dds_qos.specs.Seen.{settings_seen, said};
+ghost use Rattle.dds_qos.specs.Seen.{settings_seen, named, said};
+ghost use Rattle.dds_qos.specs.Settings as settings;
 ghost use Rattle.dds_qos.specs.Settings.{is_sound, settings_after, settings_of, unsaid};
 
 use crate::kinds::{durability_of, order_of, ownership_of};
@@ -44,6 +45,26 @@ pub struct Settings<'a> {
     pub endpoint: Option<Guid>,
     /// A bit for each builtin endpoint that the participant has.
     pub builtin_endpoints: Option<u32>,
+}
+
+/// The guid that the last parameter of an id names, which is `PID_PARTICIPANT_GUID` or
+/// `PID_ENDPOINT_GUID`; `None` where there is no such parameter. It is `Malformed` where one of them has fewer
+/// than sixteen octets; nothing else of the list is judged, since what ends is named by its guid alone
+/// (DDSI-RTPS 8.5.3.3, 8.5.4.4).
+pub fn guid_named(list: &ParamList<'_>, id: u16) -> Result<Option<Guid>, Malformed>
+    ensures { named result ≡ settings.guid_named id list.now }
+{
+    let endian = list.endian();
+    let mut named = None;
+    for param in list.iter() {
+        if param.id == id {
+            match guid_in(CdrReader::new(param.value, endian)) {
+                Some(guid) => named = Some(guid),
+                None => return Err(Malformed),
+            }
+        }
+    }
+    Ok(named)
 }
 
 impl<'a> Settings<'a> {

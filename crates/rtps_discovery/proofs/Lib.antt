@@ -1,2 +1,3 @@
 pub mod Faultless
 pub mod Tested
+pub mod Rows

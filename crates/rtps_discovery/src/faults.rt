@@ -28,13 +28,13 @@ pub enum ConfigFault {
 /// The most readers of a configuration.
 const READER_LIMIT: usize = 256;
 
-fn is_reader(entity: EntityId) -> bool
+pub(crate) fn is_reader(entity: EntityId) -> bool
     ensures { result ≡ is_reader entity }
 {
     entity.0[3] == 0x04 || entity.0[3] == 0x07
 }
 
-fn is_writer(entity: EntityId) -> bool
+pub(crate) fn is_writer(entity: EntityId) -> bool
     ensures { result ≡ is_writer entity }
 {
     entity.0[3] == 0x02 || entity.0[3] == 0x03

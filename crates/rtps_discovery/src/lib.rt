@@ -2,9 +2,11 @@
 #![tactic(auto)]
 
 mod addressed;
+mod announcement;
 mod config;
 mod faults;
 pub mod laws;
+mod said;
 #[cfg(test)]
 mod tests;
 

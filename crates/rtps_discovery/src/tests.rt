@@ -1,5 +1,7 @@
 //! Configurations with one fault or two, and whom events are for.
 
+mod announcements;
+
 use crate::*;
 use dds_qos::{Ownership, Reliability, Requested};
 use rtps_types::{EntityId, Guid, GuidPrefix, Locators};

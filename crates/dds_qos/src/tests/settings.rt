@@ -298,3 +298,23 @@ fn refused_growths(rt: HostRuntime) -> Result<(), Fail> {
     assert!(rt; refused && taken);
     Ok(())
 }
+
+/// A participant's guid of twelve octets before a good one, with a policy that there isn't.
+const NAMES: &str = "50000c00 0a0a0a0a0a0a0a0a0a0a0a0a 1d000400 04000000\
+    50001000 0a0a0a0a0a0a0a0a0a0a0a0a000001c1\
+    5a001000 090909090909090909090909000001c1\
+    5a001000 0a0a0a0a0a0a0a0a0a0a0a0a00000102 01000000";
+
+#[test]
+fn guids_that_are_named(rt: HostRuntime) -> Result<(), Fail> {
+    let octets = octets_of(rt.alloc(), NAMES)?;
+    let list = ParamList::new(octets.as_slice(), Endian::Little)?;
+    let writer = Guid {
+        prefix: GuidPrefix([10; 12]),
+        entity: EntityId([0, 0, 1, 2]),
+    };
+    assert_eq!(rt; guid_named(&list, 0x5a), Ok(Some(writer)));
+    assert_eq!(rt; guid_named(&list, 0x50), Err(Malformed));
+    assert_eq!(rt; guid_named(&list, 0x70), Ok(None));
+    Ok(())
+}

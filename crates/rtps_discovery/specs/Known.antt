@@ -1,0 +1,173 @@
+-- What a participant knows of the others (DDSI-RTPS 8.5): participants, writers and readers, and how its own readers are with
+-- the writers.
+use Rattle.std.specs.Prelude.{ℕ, zero, suc, ◌==◌, List, [], ◌∷◌, filter, Option, Some, None, Bool, true, false, not, ◌&&◌, ◌||◌, if◌then◌else◌, is_some}
+use Rattle.std.specs.List.{list_any}
+use Rattle.std.specs.Map.{lookup, remove_entry}
+use Rattle.std.specs.Str.{bytes_eq}
+use Rattle.std.specs.BTreeMap.{insert_entry}
+use Rattle.std.specs.BTreeSet.{insert_key}
+use Rattle.std.specs.Set.{remove_key}
+use Rattle.std.specs.Ordering.{is_eq}
+use Rattle.std.specs.declared.cmp.Ordering.{Ordering}
+use Rattle.rtps_types.specs.declared.identity.EntityId.{EntityId}
+use Rattle.rtps_types.specs.declared.identity.Guid.{Guid}
+use Rattle.rtps_types.specs.declared.identity.GuidPrefix.{GuidPrefix}
+use Rattle.rtps_types.specs.declared.locator.Locator.{Locator}
+use Rattle.rtps_types.specs.declared.time.Duration.{Duration}
+use Rattle.rtps_types.specs.Order.{guid_order, octet_order}
+use Rattle.dds_qos.specs.declared.policies.Policies.{Policies}
+use Rattle.dds_qos.specs.Compatible.{first_fault, share_partition}
+use Rattle.rtps_proxy.specs.Matches.{Match, begun, is_at, same_guid}
+use Rattle.rtps_discovery.specs.Announcement.{Announcement, Comes, Leave, Offers, Withdraws, Asks, AsksNoMore, Facts, Offer}
+
+-- a reader of ours, and what it asks for
+pub record Wish : Type 0 where
+  pub entity : EntityId
+  pub topic : List ℕ
+  pub type_name : List ℕ
+  pub policies : Policies
+  pub partitions : List (List ℕ)
+
+-- a participant: where its endpoints are reached by default, and how long it may keep silent
+pub record Participant : Type 0 where
+  pub locators : List Locator
+  pub lease : Duration
+
+pub record Known : Type 0 where
+  pub own : GuidPrefix
+  -- by rank; none where a reader went
+  pub readers : List (Option Wish)
+  -- the matches from the start, which no announcement makes or ends
+  pub fixed : List (ℕ × Guid)
+  -- each of these in the order of its keys
+  pub participants : List (GuidPrefix × Participant)
+  -- the matches of our builtin readers with the announcers of participants
+  pub announcers : List Match
+  pub writers : List (Guid × Offer)
+  pub remote_readers : List Guid
+
+abbrev pub prefix_order : GuidPrefix → GuidPrefix → Ordering
+prefix_order a b = octet_order a.0 b.0
+
+abbrev pub writer_at : Known → Guid → Option Offer
+writer_at k g = lookup (is_at g) k.writers
+
+abbrev pub participant_at : Known → GuidPrefix → Option Participant
+participant_at k p = lookup (λ q. is_eq (prefix_order p q)) k.participants
+
+abbrev pub reader_at : List (Option Wish) → ℕ → Option Wish
+reader_at [] rank = None
+reader_at (r ∷ rs) zero = r
+reader_at (r ∷ rs) (suc rank) = reader_at rs rank
+
+-- ---- how a reader is with a writer
+
+-- they have nothing to do with each other, they are joined, or a policy refuses it, by its id
+pub data Standing : Type 0 where
+  Apart : Standing
+  Joined : Standing
+  Refused : ℕ → Standing
+
+abbrev pub by_fault : Option ℕ → Standing
+by_fault None = Joined
+by_fault (Some policy) = Refused policy
+
+-- the same topic, the same type, and a partition in common
+abbrev pub is_near : Wish → Offer → Bool
+is_near r w = bytes_eq r.topic w.topic && (bytes_eq r.type_name w.type_name && share_partition w.partitions r.partitions)
+
+abbrev pub standing_of : Wish → Offer → Standing
+standing_of r w = if is_near r w then by_fault (first_fault w.policies r.policies) else Apart
+
+abbrev pub standing : Option Wish → Option Offer → Standing
+standing (Some r) (Some w) = standing_of r w
+standing (Some r) None = Apart
+standing None w = Apart
+
+abbrev pub is_joined : Standing → Bool
+is_joined Apart = false
+is_joined Joined = true
+is_joined (Refused policy) = false
+
+abbrev pub is_fixed : List (ℕ × Guid) → ℕ → Guid → Bool
+is_fixed fixed rank g = list_any (λ p. p.0 == rank && same_guid p.1 g) fixed
+
+-- the pairs that are matched: the fixed ones, and those that are joined
+abbrev pub is_matched : Known → ℕ → Guid → Bool
+is_matched k rank g = is_fixed k.fixed rank g || is_joined (standing (reader_at k.readers rank) (writer_at k g))
+
+-- where answers to a writer go: to its own locators, else to the default ones of its participant
+abbrev pub own_or : List Locator → Option Participant → List Locator
+own_or [] None = []
+own_or [] (Some p) = p.locators
+own_or (l ∷ ls) p = l ∷ ls
+
+abbrev pub locators_for : Known → GuidPrefix → Option Offer → List Locator
+locators_for k prefix None = []
+locators_for k prefix (Some w) = own_or w.locators (participant_at k prefix)
+
+abbrev pub locators_at : Known → Guid → List Locator
+locators_at k g = locators_for k g.prefix (writer_at k g)
+
+-- ---- what is known after an announcement
+
+-- our builtin readers, and the writers of a participant that announce to them (DDSI-RTPS 9.3.1.3)
+abbrev pub spdp_writer : EntityId
+spdp_writer = record { 0 = 0x00 ∷ 0x01 ∷ 0x00 ∷ 0xc2 ∷ [] }
+
+abbrev pub spdp_reader : EntityId
+spdp_reader = record { 0 = 0x00 ∷ 0x01 ∷ 0x00 ∷ 0xc7 ∷ [] }
+
+abbrev pub publications_writer : EntityId
+publications_writer = record { 0 = 0x00 ∷ 0x00 ∷ 0x03 ∷ 0xc2 ∷ [] }
+
+abbrev pub publications_reader : EntityId
+publications_reader = record { 0 = 0x00 ∷ 0x00 ∷ 0x03 ∷ 0xc7 ∷ [] }
+
+abbrev pub subscriptions_writer : EntityId
+subscriptions_writer = record { 0 = 0x00 ∷ 0x00 ∷ 0x04 ∷ 0xc2 ∷ [] }
+
+abbrev pub subscriptions_reader : EntityId
+subscriptions_reader = record { 0 = 0x00 ∷ 0x00 ∷ 0x04 ∷ 0xc7 ∷ [] }
+
+-- a builtin reader of ours is matched with the writer of a participant that announces to it, and it is reliable
+abbrev pub announcer : GuidPrefix → GuidPrefix → EntityId → EntityId → List Locator → Match
+announcer own p writer reader locators = record {
+  whom = record {
+    own = own;
+    writer = record { prefix = p; entity = writer };
+    reader = reader;
+    reliable = true;
+    locators = locators;
+  };
+  past = [];
+}
+
+abbrev pub where_announced : Bool → Match → List Match → List Match
+where_announced announces m ms = if announces then begun m ms else ms
+
+abbrev pub with_announcers : GuidPrefix → GuidPrefix → Facts → List Match → List Match
+with_announcers own p f ms =
+    where_announced f.announces_readers (announcer own p subscriptions_writer subscriptions_reader f.metatraffic)
+    (where_announced f.announces_writers (announcer own p publications_writer publications_reader f.metatraffic) ms)
+
+abbrev pub is_of : List GuidPrefix → GuidPrefix → Bool
+is_of gone p = list_any (λ q. bytes_eq q.0 p.0) gone
+
+-- The first record of a participant makes it known, with its announcers; a later one changes its default locators and its
+-- lease alone. With a participant go its announcers, its writers and its readers.
+abbrev pub known_after : Known → Announcement → Known
+known_after k (Comes p f) = record k {
+  participants = insert_entry prefix_order k.participants p (record { locators = f.locators; lease = f.lease });
+  announcers = if is_some (participant_at k p) then k.announcers else with_announcers k.own p f k.announcers;
+}
+known_after k (Leave gone) = record k {
+  participants = filter (λ e. not (is_of gone e.0)) k.participants;
+  announcers = filter (λ m. not (is_of gone m.whom.writer.prefix)) k.announcers;
+  writers = filter (λ e. not (is_of gone e.0.prefix)) k.writers;
+  remote_readers = filter (λ g. not (is_of gone g.prefix)) k.remote_readers;
+}
+known_after k (Offers g w) = record k { writers = insert_entry guid_order k.writers g w }
+known_after k (Withdraws g) = record k { writers = remove_entry (is_at g) k.writers }
+known_after k (Asks g) = record k { remote_readers = insert_key guid_order k.remote_readers g }
+known_after k (AsksNoMore g) = record k { remote_readers = remove_key (is_at g) k.remote_readers }

@@ -1,0 +1,396 @@
+//! What changes of announcers announce, by octets that were written down by hand.
+
+use crate::announcement::{Announcement, participant_said, reader_said, writer_said};
+use crate::said::said_in;
+use rtps_params::ids::{ENDPOINT_GUID, PARTICIPANT_GUID};
+use rtps_types::{Duration, EntityId, Guid, GuidPrefix, KeyHash, Locator};
+use rtps_wire::{ChangeInfo, Form};
+use std::alloc::Allocator;
+use std::test::Fail;
+
+const OURS: GuidPrefix = GuidPrefix([11; 12]);
+
+const THEIRS: GuidPrefix = GuidPrefix([10; 12]);
+
+/// A record of participant 0a0a..0a: its guid, ports 7412 and 7413, a lease of 100 s, both announcers.
+const PARTICIPANT: &str = "00030000 50001000 0a0a0a0a0a0a0a0a0a0a0a0a 000001c1 \
+    32001800 01000000 f41c0000 00000000 00000000 00000000 7f000001 \
+    31001800 01000000 f51c0000 00000000 00000000 00000000 7f000001 \
+    02000800 64000000 00000000 58000400 14000000 01000000";
+
+/// A record of its writer 00000102: topic Square, type ShapeType, reliable.
+const WRITER: &str = "00030000 5a001000 0a0a0a0a0a0a0a0a0a0a0a0a 00000102 \
+    05000c00 07000000 53717561 72650000 07001000 0a000000 53686170 65547970 65000000 \
+    1a000c00 02000000 00000000 00000000 01000000";
+
+/// The same of a vendor, in big-endian order, of a reader 00000107 that gives locators and no key hash.
+const READER: &str = "0002ffff 80010004 aaaaaaaa 005a0010 0a0a0a0a0a0a0a0a0a0a0a0a 00000107 \
+    0005000c 00000007 53717561 72650000 00070010 0000000a 53686170 65547970 65000000 00010000";
+
+/// The octets that hex digits spell; blanks are for the eye.
+fn octets_of<A: Allocator + Copy>(alloc: A, text: &str) -> Result<Vec<u8, A>, Fail> {
+    let mut octets = Vec::new(alloc);
+    for part in text.split_ascii_whitespace() {
+        octets.extend_from_slice(hex::decode(alloc, part)?.as_slice())?;
+    }
+    Ok(octets)
+}
+
+/// Whose change it is.
+#[derive(Clone, Copy)]
+enum By {
+    Participants,
+    Writers,
+    Readers,
+}
+
+/// What is announced, by its name alone.
+#[derive(Clone, Copy, Debug, PartialEq)]
+enum Told {
+    Nothing,
+    Comes,
+    Leaves,
+    Offers(u8),
+    Withdraws(u8),
+    Asks(u8),
+    AsksNoMore(u8),
+}
+
+/// What a change announces, where it comes from 0a0a..0a; of endpoints the last octet of theirs is told.
+fn announced(by: By, info: ChangeInfo, payload: &[u8]) -> Told {
+    let said = match by {
+        By::Participants => said_in(PARTICIPANT_GUID, info, payload),
+        By::Writers | By::Readers => said_in(ENDPOINT_GUID, info, payload),
+    };
+    let Some(said) = said else {
+        return Told::Nothing;
+    };
+    let announcement = match by {
+        By::Participants => participant_said(OURS, THEIRS, info.hash, said),
+        By::Writers => writer_said(THEIRS, info.hash, said),
+        By::Readers => reader_said(THEIRS, info.hash, said),
+    };
+    match announcement {
+        None => Told::Nothing,
+        Some(Announcement::Comes(_, _)) => Told::Comes,
+        Some(Announcement::Leaves(_)) => Told::Leaves,
+        Some(Announcement::Offers(writer, _)) => Told::Offers(writer.entity.0[3]),
+        Some(Announcement::Withdraws(writer)) => Told::Withdraws(writer.entity.0[3]),
+        Some(Announcement::Asks(reader)) => Told::Asks(reader.entity.0[3]),
+        Some(Announcement::AsksNoMore(reader)) => Told::AsksNoMore(reader.entity.0[3]),
+    }
+}
+
+/// The hash of an entity of another participant.
+const ANOTHER: Option<KeyHash> = Some(KeyHash([9; 16]));
+
+/// A change: whose it is, its form, its status, its key hash and its payload; and what it announces.
+type Row = (By, Form, u8, Option<KeyHash>, &'static str, Told);
+
+/// Records.
+const RECORDS: [Row; 16] = [
+    (
+        By::Participants,
+        Form::Value,
+        0,
+        None,
+        PARTICIPANT,
+        Told::Comes,
+    ),
+    // Named by nothing but its source; other bits of the status make no end.
+    (
+        By::Participants,
+        Form::Value,
+        0xfc,
+        ANOTHER,
+        "00030000 01000000",
+        Told::Comes,
+    ),
+    (
+        By::Writers,
+        Form::Value,
+        0,
+        ANOTHER,
+        WRITER,
+        Told::Offers(2),
+    ),
+    (By::Readers, Form::Value, 0, None, READER, Told::Asks(7)),
+    // A record of another kind of endpoint.
+    (By::Readers, Form::Value, 0, None, WRITER, Told::Nothing),
+    (By::Writers, Form::Value, 0, None, READER, Told::Nothing),
+    // A participant that speaks of another one.
+    (
+        By::Participants,
+        Form::Value,
+        0,
+        None,
+        "00030000 50001000 09090909 09090909 09090909 000001c1 01000000",
+        Told::Nothing,
+    ),
+    // No topic; no type; no name at all, nor a hash; a name of another participant, with a good hash.
+    (
+        By::Writers,
+        Form::Value,
+        0,
+        HASH,
+        "00030000 07000800 02000000 61000000 01000000",
+        Told::Nothing,
+    ),
+    (
+        By::Writers,
+        Form::Value,
+        0,
+        HASH,
+        "00030000 05000800 02000000 61000000 01000000",
+        Told::Nothing,
+    ),
+    (By::Writers, Form::Value, 0, None, BOTH, Told::Nothing),
+    (By::Writers, Form::Value, 0, HASH, BOTH, Told::Offers(2)),
+    (By::Writers, Form::Value, 0, ANOTHER, BOTH, Told::Nothing),
+    // Another encapsulation; three octets; a list without an end; a bad parameter that no writer has.
+    (
+        By::Participants,
+        Form::Value,
+        0,
+        None,
+        "00010000 01000000",
+        Told::Nothing,
+    ),
+    (
+        By::Participants,
+        Form::Value,
+        0,
+        None,
+        "000300",
+        Told::Nothing,
+    ),
+    (
+        By::Participants,
+        Form::Value,
+        0,
+        None,
+        "00030000",
+        Told::Nothing,
+    ),
+    (
+        By::Participants,
+        Form::Value,
+        0,
+        None,
+        "00030000 1d000400 04000000 01000000",
+        Told::Nothing,
+    ),
+];
+
+/// A hash of their writer 00000102.
+const HASH: Option<KeyHash> = Some(KeyHash([
+    10, 10, 10, 10, 10, 10, 10, 10, 10, 10, 10, 10, 0, 0, 1, 2,
+]));
+
+/// The same of their participant.
+const WHOLE: Option<KeyHash> = Some(KeyHash([
+    10, 10, 10, 10, 10, 10, 10, 10, 10, 10, 10, 10, 0, 0, 1, 0xc1,
+]));
+
+/// A topic and a type, and no name of the endpoint.
+const BOTH: &str = "00030000 05000800 02000000 61000000 07000800 02000000 61000000 01000000";
+
+/// Their writer 00000102 by its guid alone, and with a policy that there isn't.
+const NAMED: &str =
+    "00030000 1d000400 04000000 5a001000 0a0a0a0a0a0a0a0a0a0a0a0a 00000102 01000000";
+
+/// A guid of twelve octets, before a good one.
+const SHORT: &str = "00030000 5a000c00 0a0a0a0a0a0a0a0a0a0a0a0a \
+    5a001000 0a0a0a0a0a0a0a0a0a0a0a0a 00000102 01000000";
+
+/// Ends, and what is none.
+const ENDS: [Row; 17] = [
+    // Without a payload, by the hash; by nothing, which for a participant is its source.
+    (By::Writers, Form::Nothing, 1, HASH, "", Told::Withdraws(2)),
+    (By::Readers, Form::Nothing, 2, HASH, "", Told::Nothing),
+    (By::Writers, Form::Nothing, 3, None, "", Told::Nothing),
+    (By::Writers, Form::Nothing, 1, ANOTHER, "", Told::Nothing),
+    (By::Participants, Form::Nothing, 1, None, "", Told::Leaves),
+    (By::Participants, Form::Nothing, 1, WHOLE, "", Told::Leaves),
+    (
+        By::Participants,
+        Form::Nothing,
+        1,
+        ANOTHER,
+        "",
+        Told::Nothing,
+    ),
+    // By a payload, of which the guid alone is judged, and which wins over the hash.
+    (
+        By::Writers,
+        Form::Key,
+        3,
+        ANOTHER,
+        NAMED,
+        Told::Withdraws(2),
+    ),
+    (By::Writers, Form::Value, 2, None, NAMED, Told::Withdraws(2)),
+    (
+        By::Readers,
+        Form::Value,
+        1,
+        None,
+        READER,
+        Told::AsksNoMore(7),
+    ),
+    (
+        By::Writers,
+        Form::Key,
+        1,
+        HASH,
+        "00030000 01000000",
+        Told::Withdraws(2),
+    ),
+    // A payload that can't be read is no end, whatever the hash.
+    (By::Writers, Form::Key, 1, HASH, SHORT, Told::Nothing),
+    (By::Writers, Form::Key, 1, HASH, "", Told::Nothing),
+    (
+        By::Writers,
+        Form::Key,
+        1,
+        HASH,
+        "00010000 01000000",
+        Told::Nothing,
+    ),
+    // No end: other bits of the status, and a form that the standard leaves open.
+    (By::Writers, Form::Key, 0xfc, HASH, NAMED, Told::Nothing),
+    (By::Writers, Form::Nothing, 0, HASH, "", Told::Nothing),
+    (By::Writers, Form::Other, 1, HASH, NAMED, Told::Nothing),
+];
+
+/// Whether each row is met.
+fn are_met<A: Allocator + Copy>(alloc: A, rows: &[Row]) -> Result<bool, Fail> {
+    for &(by, form, status, hash, payload, expected) in rows {
+        let octets = octets_of(alloc, payload)?;
+        if announced(by, ChangeInfo { form, status, hash }, octets.as_slice()) != expected {
+            return Ok(false);
+        }
+    }
+    Ok(true)
+}
+
+#[test]
+fn what_records_announce(rt: HostRuntime) -> Result<(), Fail> {
+    assert!(rt; are_met(rt.alloc(), &RECORDS)?);
+    Ok(())
+}
+
+#[test]
+fn what_ends_announce(rt: HostRuntime) -> Result<(), Fail> {
+    assert!(rt; are_met(rt.alloc(), &ENDS)?);
+    Ok(())
+}
+
+const VALUE: ChangeInfo = ChangeInfo {
+    form: Form::Value,
+    status: 0,
+    hash: None,
+};
+
+#[test]
+fn what_a_participant_says_of_itself(rt: HostRuntime) -> Result<(), Fail> {
+    let octets = octets_of(rt.alloc(), PARTICIPANT)?;
+    let said = said_in(PARTICIPANT_GUID, VALUE, octets.as_slice()).ok_or("nothing said")?;
+    let Some(Announcement::Comes(prefix, mut facts)) = participant_said(OURS, THEIRS, None, said)
+    else {
+        return Err(Fail::new("no participant"));
+    };
+    assert_eq!(rt; prefix, THEIRS);
+    assert_eq!(rt;
+        facts.lease,
+        Duration {
+            seconds: 100,
+            fraction: 0
+        }
+    );
+    assert!(rt; facts.announces_writers && facts.announces_readers);
+    let address = [127, 0, 0, 1];
+    assert_eq!(rt;
+        facts.metatraffic.next(),
+        Some(Locator {
+            port: 7412,
+            address
+        })
+    );
+    assert_eq!(rt;
+        facts.locators.next(),
+        Some(Locator {
+            port: 7413,
+            address
+        })
+    );
+    assert_eq!(rt; facts.locators.next(), None);
+    // Nobody speaks for us.
+    let said = said_in(PARTICIPANT_GUID, VALUE, octets.as_slice()).ok_or("nothing said")?;
+    assert!(rt; participant_said(THEIRS, THEIRS, None, said).is_none());
+    Ok(())
+}
+
+/// A set of builtin endpoints with the bit of one announcer, and a lease of zero.
+const ONE_ANNOUNCER: [(&str, bool, bool); 3] = [
+    (
+        "00030000 58000400 04000000 02000800 00000000 00000000 01000000",
+        true,
+        false,
+    ),
+    (
+        "00030000 58000400 10000000 02000800 00000000 00000000 01000000",
+        false,
+        true,
+    ),
+    (
+        "00030000 58000400 ebffffff 02000800 00000000 00000000 01000000",
+        false,
+        false,
+    ),
+];
+
+#[test]
+fn announcers_that_a_set_names(rt: HostRuntime) -> Result<(), Fail> {
+    for &(payload, writers, readers) in &ONE_ANNOUNCER {
+        let octets = octets_of(rt.alloc(), payload)?;
+        let said = said_in(PARTICIPANT_GUID, VALUE, octets.as_slice()).ok_or("nothing said")?;
+        let Some(Announcement::Comes(_, facts)) = participant_said(OURS, THEIRS, None, said) else {
+            return Err(Fail::new("no participant"));
+        };
+        assert_eq!(rt;
+            (facts.announces_writers, facts.announces_readers),
+            (writers, readers)
+        );
+        assert_eq!(rt;
+            facts.lease,
+            Duration {
+                seconds: 0,
+                fraction: 0
+            }
+        );
+    }
+    Ok(())
+}
+
+#[test]
+fn what_a_writer_offers(rt: HostRuntime) -> Result<(), Fail> {
+    let octets = octets_of(rt.alloc(), WRITER)?;
+    let said = said_in(ENDPOINT_GUID, VALUE, octets.as_slice()).ok_or("nothing said")?;
+    let Some(Announcement::Offers(writer, mut offer)) = writer_said(THEIRS, None, said) else {
+        return Err(Fail::new("no writer"));
+    };
+    assert_eq!(rt;
+        writer,
+        Guid {
+            prefix: THEIRS,
+            entity: EntityId([0, 0, 1, 2])
+        }
+    );
+    assert_eq!(rt; offer.topic, "Square");
+    assert_eq!(rt; offer.type_name, "ShapeType");
+    assert_eq!(rt; offer.policies.reliability, dds_qos::Reliability::Reliable);
+    assert!(rt; offer.partitions.is_none());
+    assert_eq!(rt; offer.locators.next(), None);
+    Ok(())
+}
