@@ -12,6 +12,11 @@ fn what_is_pushed_stands_behind(rt: HostRuntime) -> Result<(), Fail> {
     push_octet(&mut out, b' ')?;
     push_hex(&mut out, b"")?;
     push_octet(&mut out, b' ')?;
+    push_hex(
+        &mut out,
+        b"\x01\x23\x45\x67\x89\xab\xcd\xef\x90\xa9\xff\x0a\xf0\x00\x7f\x80\x5d",
+    )?;
+    push_octet(&mut out, b' ')?;
     for number in [18_446_744_073_709_551_615, 0, 9, 10] {
         push_number(&mut out, number)?;
         push_octet(&mut out, b' ')?;
@@ -19,7 +24,7 @@ fn what_is_pushed_stands_behind(rt: HostRuntime) -> Result<(), Fail> {
     push_signed(&mut out, -2_147_483_648)?;
     assert_eq!(rt;
         out.as_slice(),
-        b"> sample 009fab - 18446744073709551615 0 9 10 -2147483648".as_slice()
+        b"> sample 009fab - 0123456789abcdef90a9ff0af0007f805d 18446744073709551615 0 9 10 -2147483648".as_slice()
     );
     Ok(())
 }
