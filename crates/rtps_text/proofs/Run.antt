@@ -95,8 +95,8 @@ fronts text decoding summary engine records more said h =
     let rest = if summary then summary_text (run_by decoding engine (records ++ more)) else [] in (
       flat_map line on.0 ++ rest,
       ap (λ l. flat_map line l ++ rest) on.1
-      ∙ ap (λ l. l ++ rest) (flat_map-append line (run_by decoding engine records).put on.0 ∙ ap (λ l. l ++ flat_map line on.0) (sym h.lines))
-      ∙ append_assoc said (flat_map line on.0) rest,
+          ∙ ap (λ l. l ++ rest) (flat_map-append line (run_by decoding engine records).put on.0 ∙ ap (λ l. l ++ flat_map line on.0) (sym h.lines))
+          ∙ append_assoc said (flat_map line on.0) rest,
     )
 
 -- engines of one catalog and one configuration have one text
