@@ -1,11 +1,10 @@
 //! The lines of a run against lines that were written down by hand.
 
-use super::text;
 use crate::{LastLine, push_answer, push_match, push_notice, push_status};
 use dds_topic::{Raw, RawValue};
 use rtps_reader::{Notice, NoticeKind, Status};
 use rtps_types::{EntityId, Guid, GuidPrefix, Locator, Place};
-use std::alloc::Global;
+use std::alloc::{AllocError, Global};
 use std::test::Fail;
 
 const PLACE: Place = Place {
@@ -69,7 +68,22 @@ fn prints_what_is_reported_of_matches(rt: HostRuntime) -> Result<(), Fail> {
     Ok(())
 }
 
-/// Three lines, of two places and two writers, with what each keeps of the one before.
+/// The lines of matches at these places, each with what is kept of the one before.
+fn matched(alloc: Global, matches: [(Place, Guid); 3]) -> Result<Vec<u8>, AllocError> {
+    let mut last = LastLine::none(alloc);
+    let mut out = Vec::new(alloc);
+    for (place, writer) in matches {
+        let notice = Notice {
+            place,
+            writer,
+            what: NoticeKind::Matched,
+        };
+        push_notice(&mut out, &mut last, &Raw, 0, &notice)?;
+    }
+    Ok(out)
+}
+
+/// Three lines, of two places and two writers.
 #[test]
 fn prints_lines_one_after_the_other(rt: HostRuntime) -> Result<(), Fail> {
     let other = Guid {
@@ -80,22 +94,15 @@ fn prints_lines_one_after_the_other(rt: HostRuntime) -> Result<(), Fail> {
         submessage: 3,
         ..PLACE
     };
-    let mut last = LastLine::none(rt.alloc());
-    let mut out = Vec::new(rt.alloc());
-    for (place, writer) in [(PLACE, WRITER), (PLACE, other), (next, other)] {
-        let notice = Notice {
-            place,
-            writer,
-            what: NoticeKind::Matched,
-        };
-        push_notice(&mut out, &mut last, &Raw, 0, &notice)?;
-    }
-    let lines = [
-        "4294967296:2 reader 0 matched 0102030405060708090a0b0c000001c2",
-        "4294967296:2 reader 0 matched 0102030405060708090a0b0c000002c2",
-        "4294967296:3 reader 0 matched 0102030405060708090a0b0c000002c2",
-    ];
-    assert_eq!(rt; out.as_slice(), text(rt.alloc(), &lines)?.as_bytes());
+    let out = matched(rt.alloc(), [(PLACE, WRITER), (PLACE, other), (next, other)])?;
+    assert_eq!(rt;
+        out.as_slice(),
+        b"4294967296:2 reader 0 matched 0102030405060708090a0b0c000001c2
+4294967296:2 reader 0 matched 0102030405060708090a0b0c000002c2
+4294967296:3 reader 0 matched 0102030405060708090a0b0c000002c2
+"
+            .as_slice()
+    );
     Ok(())
 }
 
