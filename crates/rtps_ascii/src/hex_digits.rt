@@ -12,8 +12,8 @@ const SHORT: usize = 16;
 
 /// Adds octets in hex, in lower case; a dash where there are none.
 ///
-/// Where the number of octets is known at the call, as for identities, the digits are made of it all
-/// at once: so this much is put into the caller.
+/// Where the number of octets is known at the call, as for identities, all digits are made at once:
+/// so this much is put into the caller.
 #[inline(always)]
 pub fn push_hex<A: Allocator>(out: &mut Vec<u8, A>, octets: &[u8]) -> Result<(), AllocError>
     ensures { OnOk result (out.new.items ≡ out.old.items ++ hex_text octets.now) }
@@ -56,8 +56,8 @@ fn push_long<A: Allocator>(out: &mut Vec<u8, A>, octets: &[u8]) -> Result<(), Al
     Ok(())
 }
 
-/// Spells octets out, two digits each. No digit is looked up in a table, so that a compiler can make
-/// many of them at once.
+/// Spells octets out, two digits each. No digit is looked up in a table, so a compiler can make many
+/// of them at once.
 #[inline(always)]
 fn spell(octets: &[u8], digits: &mut [u8])
     requires { length digits.old ≡ 2 * length octets.now }

@@ -1,4 +1,4 @@
-//! Octets and numbers as ASCII text, pushed behind what stands.
+//! Octets and numbers as ASCII text, added at the end of a text.
 #![tactic(auto)]
 
 mod hex_digits;

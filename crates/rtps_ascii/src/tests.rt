@@ -1,4 +1,4 @@
-//! Each push, behind what stands.
+//! Each push, after a text that is there.
 
 use crate::*;
 use linked_list_allocator::LocalHeap;

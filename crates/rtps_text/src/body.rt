@@ -96,7 +96,8 @@ fn push_pieces<A: Allocator>(
     out: &mut Vec<u8, A>,
     fragment: &Fragment<'_>,
 ) -> Result<(), AllocError>
-    ensures { OnOk result (out.new.items ≡ out.old.items ++ pieces_text (fragment_view fragment.now)) }
+    ensures { OnOk result (out.new.items ≡ out.old.items ++
+        pieces_text (fragment_view fragment.now)) }
 {
     push_number(out, u64::from(fragment.start))?;
     push_octet(out, b' ')?;
@@ -115,7 +116,8 @@ fn push_fragment<A: Allocator>(
     out: &mut Vec<u8, A>,
     fragment: &Fragment<'_>,
 ) -> Result<(), AllocError>
-    ensures { OnOk result (out.new.items ≡ out.old.items ++ fragment_text (fragment_view fragment.now)) }
+    ensures { OnOk result (out.new.items ≡ out.old.items ++
+        fragment_text (fragment_view fragment.now)) }
 {
     push_word(out, "frag ")?;
     push_number(out, fragment.number.get())?;
@@ -131,7 +133,8 @@ fn push_heartbeat<A: Allocator>(
     out: &mut Vec<u8, A>,
     heartbeat: &Heartbeat,
 ) -> Result<(), AllocError>
-    ensures { OnOk result (out.new.items ≡ out.old.items ++ heartbeat_text (heartbeat_view heartbeat.now)) }
+    ensures { OnOk result (out.new.items ≡ out.old.items ++
+        heartbeat_text (heartbeat_view heartbeat.now)) }
 {
     push_word(out, "heartbeat ")?;
     push_number(out, heartbeat.first.get())?;
@@ -158,7 +161,8 @@ fn push_heartbeat_frag<A: Allocator>(
     out: &mut Vec<u8, A>,
     heartbeat: &HeartbeatFrag,
 ) -> Result<(), AllocError>
-    ensures { OnOk result (out.new.items ≡ out.old.items ++ heartbeat_frag_text (heartbeat_frag_view heartbeat.now)) }
+    ensures { OnOk result (out.new.items ≡ out.old.items ++
+        heartbeat_frag_text (heartbeat_frag_view heartbeat.now)) }
 {
     push_word(out, "heartbeat-frag ")?;
     push_number(out, heartbeat.number.get())?;

@@ -1,4 +1,4 @@
-//! What stands before an event's body: its place and its context.
+//! What comes before an event's body: its place and its context.
 
 ghost use Rattle.std.specs.Prelude.{◌≡◌, ◌++◌, OnOk, length};
 ghost use Rattle.std.specs.Int.{w32, to_be_bytes};

@@ -8,7 +8,7 @@ use rtps_receiver::Events;
 use rtps_types::GuidPrefix;
 use std::alloc::{AllocError, Allocator};
 
-/// Adds a line for each event of the datagram with this index, as the participant of the prefix `own`
+/// Adds a line for each event of the datagram with this index, as the participant of this prefix
 /// sees it.
 pub(crate) fn push_events<A: Allocator>(
     out: &mut Vec<u8, A>,

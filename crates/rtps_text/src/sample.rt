@@ -20,7 +20,8 @@ pub(crate) fn push_presented<C: TextCatalog, A: Allocator>(
     catalog: &C,
     body: &Body<C::Value>,
 ) -> Result<(), AllocError>
-    ensures { OnOk result (out.new.items ≡ out.old.items ++ sample_text (C.text_of catalog.now) (body_map C.view body.now)) }
+    ensures { OnOk result (out.new.items ≡ out.old.items ++
+        sample_text (C.text_of catalog.now) (body_map C.view body.now)) }
 {
     match body {
         Body::Value(_, value) => push_value(out, catalog, value),
@@ -35,7 +36,8 @@ fn push_value<C: TextCatalog, A: Allocator>(
     catalog: &C,
     value: &C::Value,
 ) -> Result<(), AllocError>
-    ensures { OnOk result (out.new.items ≡ out.old.items ++ (codes "value" then C.text_of catalog.now (C.view value.now))) }
+    ensures { OnOk result (out.new.items ≡ out.old.items ++
+        (codes "value" then C.text_of catalog.now (C.view value.now))) }
 {
     push_word(out, "value ")?;
     catalog.push_text(out, value)
@@ -55,7 +57,8 @@ fn push_ended<A: Allocator>(
 }
 
 fn push_unread<A: Allocator>(out: &mut Vec<u8, A>, unread: Unread) -> Result<(), AllocError>
-    ensures { OnOk result (out.new.items ≡ out.old.items ++ (codes "unread" then decimal (code_of unread))) }
+    ensures { OnOk result (out.new.items ≡ out.old.items ++
+        (codes "unread" then decimal (code_of unread))) }
 {
     push_word(out, "unread ")?;
     push_number(out, u64::from(unread.code()))
