@@ -11,10 +11,6 @@ use std::alloc::{AllocError, Allocator};
 const SHORT: usize = 16;
 
 /// Adds octets in hex, in lower case; a dash where there are none.
-///
-/// Where the number of octets is known at the call, as for identities, all digits are made at once:
-/// so this much is put into the caller.
-#[inline(always)]
 pub fn push_hex<A: Allocator>(out: &mut Vec<u8, A>, octets: &[u8]) -> Result<(), AllocError>
     ensures { OnOk result (out.new.items ≡ out.old.items ++ hex_text octets.now) }
 {
@@ -27,16 +23,34 @@ pub fn push_hex<A: Allocator>(out: &mut Vec<u8, A>, octets: &[u8]) -> Result<(),
     push_long(out, octets)
 }
 
-/// Adds the digits of identities and times.
+/// Adds a number of octets that is known beforehand, as those of identities, as [`push_hex`] does. All
+/// digits are made at once, so this is put into the caller.
 #[inline(always)]
+pub fn push_hex_array<const N: usize, A: Allocator>(
+    out: &mut Vec<u8, A>,
+    octets: &[u8; N],
+) -> Result<(), AllocError>
+    ensures { OnOk result (out.new.items ≡ out.old.items ++ hex_text octets.now) }
+{
+    if N == 0 || N > SHORT {
+        return push_hex(out, octets);
+    }
+    let mut digits = [0u8; 2 * SHORT];
+    spell(octets, &mut digits[..2 * N]);
+    out.extend_from_slice(&digits[..2 * N])
+}
+
+/// Adds the digits of names and the like, each looked up: they are too few for more to be made at once.
 fn push_short<A: Allocator>(out: &mut Vec<u8, A>, octets: &[u8]) -> Result<(), AllocError>
     requires { length octets.now ≤ 16 }
     ensures { OnOk result (out.new.items ≡ out.old.items ++ encode_lower octets.now) }
 {
     let mut digits = [0u8; 2 * SHORT];
     let end = 2 * octets.len();
-    spell(octets, &mut digits[..end]);
-    out.extend_from_slice(&digits[..end])
+    match hex::encode_to_slice(octets, &mut digits[..end]) {
+        Ok(()) => out.extend_from_slice(&digits[..end]),
+        Err(_) => Err(AllocError),
+    }
 }
 
 /// Adds the digits of payloads, in their place at once.

@@ -6,7 +6,7 @@ ghost use Rattle.rtps_text.specs.Line.{body_text, flags_text, form_word, fragmen
 ghost use Rattle.rtps_receiver.specs.Views.{fragment_view, gap_view, heartbeat_frag_view, heartbeat_view, whole_view};
 
 use crate::numbers::push_members;
-use rtps_ascii::{push_hex, push_number, push_octet, push_signed, push_word};
+use rtps_ascii::{push_hex, push_hex_array, push_number, push_octet, push_signed, push_word};
 use rtps_receiver::{Body, Fragment, Gap, Heartbeat, HeartbeatFrag, Whole};
 use rtps_types::KeyHash;
 use rtps_wire::Form;
@@ -73,7 +73,7 @@ fn push_hash<A: Allocator>(out: &mut Vec<u8, A>, hash: Option<KeyHash>) -> Resul
     let Some(hash) = hash else {
         return push_octet(out, b'-');
     };
-    push_hex(out, &hash.0)
+    push_hex_array(out, &hash.0)
 }
 
 fn push_whole<A: Allocator>(out: &mut Vec<u8, A>, whole: &Whole<'_>) -> Result<(), AllocError>
@@ -82,7 +82,7 @@ fn push_whole<A: Allocator>(out: &mut Vec<u8, A>, whole: &Whole<'_>) -> Result<(
     push_word(out, "data ")?;
     push_number(out, whole.number.get())?;
     push_octet(out, b' ')?;
-    push_hex(out, &[whole.info.status])?;
+    push_hex_array(out, &[whole.info.status])?;
     push_octet(out, b' ')?;
     push_form(out, whole.info.form)?;
     push_octet(out, b' ')?;
@@ -122,7 +122,7 @@ fn push_fragment<A: Allocator>(
     push_word(out, "frag ")?;
     push_number(out, fragment.number.get())?;
     push_octet(out, b' ')?;
-    push_hex(out, &[fragment.info.status])?;
+    push_hex_array(out, &[fragment.info.status])?;
     push_octet(out, b' ')?;
     push_form(out, fragment.info.form)?;
     push_octet(out, b' ')?;

@@ -9,7 +9,7 @@ ghost use Rattle.rtps_text.specs.Line.{◌then◌};
 ghost use Rattle.rtps_text.specs.Told.{sample_text};
 
 use dds_topic::{TextCatalog, Unread};
-use rtps_ascii::{push_hex, push_number, push_octet, push_word};
+use rtps_ascii::{push_hex_array, push_number, push_octet, push_word};
 use rtps_reader::Body;
 use rtps_types::KeyHash;
 use std::alloc::{AllocError, Allocator};
@@ -53,7 +53,7 @@ fn push_ended<A: Allocator>(
 {
     push_word(out, word)?;
     push_octet(out, b' ')?;
-    push_hex(out, &hash.0)
+    push_hex_array(out, &hash.0)
 }
 
 fn push_unread<A: Allocator>(out: &mut Vec<u8, A>, unread: Unread) -> Result<(), AllocError>
