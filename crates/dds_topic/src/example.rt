@@ -69,7 +69,8 @@ impl Catalog for Sensors {
         Ok(padded(reader.read_u32()?, reader.read_u32()?))
     }
 
-    ghost key_again = { λ _ v. sensor_key_again v.station v.channel v.value v.station_fits v.channel_fits };
+    ghost key_again = { λ _ v.
+        sensor_key_again v.station v.channel v.value v.station_fits v.channel_fits };
 }
 
 /// The hash of a key: its eight octets, high octet first, and zeros.

@@ -1,7 +1,7 @@
 //! Octets in hex.
 
-ghost use Rattle.std.specs.Prelude.{◌≡◌, ◌≤◌, ◌++◌, OnOk, length};
-ghost use Rattle.hex.specs.Hex.{encode_lower};
+ghost use Rattle.std.specs.Prelude.{◌≡◌, ◌*◌, ◌<◌, ◌≤◌, ◌++◌, OnOk, length, slice_index};
+ghost use Rattle.hex.specs.Hex.{encode_lower, lower_digits};
 ghost use Rattle.rtps_ascii.specs.Hex.{hex_text};
 
 use crate::word::push_octet;
@@ -23,7 +23,24 @@ pub fn push_hex<A: Allocator>(out: &mut Vec<u8, A>, octets: &[u8]) -> Result<(),
     push_long(out, octets)
 }
 
-/// Adds the digits of identities and times.
+/// Adds a number of octets that is known beforehand, as those of identities, as [`push_hex`] does. All
+/// digits are made at once, so this is put into the caller.
+#[inline(always)]
+pub fn push_hex_array<const N: usize, A: Allocator>(
+    out: &mut Vec<u8, A>,
+    octets: &[u8; N],
+) -> Result<(), AllocError>
+    ensures { OnOk result (out.new.items ≡ out.old.items ++ hex_text octets.now) }
+{
+    if N == 0 || N > SHORT {
+        return push_hex(out, octets);
+    }
+    let mut digits = [0u8; 2 * SHORT];
+    spell(octets, &mut digits[..2 * N]);
+    out.extend_from_slice(&digits[..2 * N])
+}
+
+/// Adds the digits of names and the like, each looked up: they are too few for more to be made at once.
 fn push_short<A: Allocator>(out: &mut Vec<u8, A>, octets: &[u8]) -> Result<(), AllocError>
     requires { length octets.now ≤ 16 }
     ensures { OnOk result (out.new.items ≡ out.old.items ++ encode_lower octets.now) }
@@ -37,6 +54,7 @@ fn push_short<A: Allocator>(out: &mut Vec<u8, A>, octets: &[u8]) -> Result<(), A
 }
 
 /// Adds the digits of payloads, in their place at once.
+#[inline(never)]
 fn push_long<A: Allocator>(out: &mut Vec<u8, A>, octets: &[u8]) -> Result<(), AllocError>
     ensures { OnOk result (out.new.items ≡ out.old.items ++ encode_lower octets.now) }
 {
@@ -48,8 +66,33 @@ fn push_long<A: Allocator>(out: &mut Vec<u8, A>, octets: &[u8]) -> Result<(), Al
         return Err(AllocError);
     };
     out.resize(end, 0)?;
-    match hex::encode_to_slice(octets, &mut out[start..]) {
-        Ok(()) => Ok(()),
-        Err(_) => Err(AllocError),
+    spell(octets, &mut out[start..]);
+    Ok(())
+}
+
+/// Spells octets out, two digits each. No digit is looked up in a table, so a compiler can make many
+/// of them at once.
+#[inline(always)]
+fn spell(octets: &[u8], digits: &mut [u8])
+    requires { length digits.old ≡ 2 * length octets.now }
+    ensures { digits.new ≡ encode_lower octets.now }
+{
+    for i in 0..octets.len() {
+        let octet = octets[i];
+        digits[2 * i] = digit(octet >> 4);
+        digits[2 * i + 1] = digit(octet & 0x0f);
+    }
+}
+
+/// The digit of a number below 16.
+#[inline(always)]
+fn digit(number: u8) -> u8
+    requires { number < 16 }
+    ensures { result ≡ slice_index lower_digits number }
+{
+    if number < 10 {
+        b'0' + number
+    } else {
+        b'a' + (number - 10)
     }
 }

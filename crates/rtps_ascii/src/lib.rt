@@ -1,11 +1,11 @@
-//! Octets and numbers as ASCII text, pushed behind what stands.
+//! Octets and numbers as ASCII text, added at the end of a text.
 #![tactic(auto)]
 
 mod hex_digits;
 mod numbers;
 mod word;
 
-pub use hex_digits::push_hex;
+pub use hex_digits::{push_hex, push_hex_array};
 pub use numbers::{push_number, push_signed};
 pub use word::{push_octet, push_word};
 

@@ -19,7 +19,7 @@ all_free : {A : Type 0} (is is_free : ℕ → List ℕ → A → Type 0) → ((a
 all_free is is_free each at os [] h = h
 all_free is is_free each at os (x ∷ xs) h = (h.0, h.1, h.2, each at (h.0) x (h.3), all_free is is_free each (at + length (h.0)) (h.1) xs (h.4))
 
--- zeros may stand where anything may
+-- zeros may be where anything may
 pub zeros_free : (t : CdrType) (at : ℕ) (e : Endian) (octets : List ℕ) (v : ValueOf t) → IsCdr Zeros t at e octets v → IsCdr Free t at e octets v
 zeros_free (Unsigned size) at e octets v h = number_free size at e octets v h
 zeros_free (Signed w) at e octets v h = (h.0, number_free _ at e octets (h.0) (h.1), h.2)
@@ -35,7 +35,7 @@ zeros_free (Sequence t) at e octets v h = (
   all_free (λ p os x. IsCdr Zeros t p e os x) (λ p os x. IsCdr Free t p e os x) (λ p os x k. zeros_free t p e os x k) (at + length (h.0)) (h.1) v (h.4),
 )
 
--- what was written stands where it was written
+-- what was written is where it was written
 written_taken : (t : CdrType) (front rest : List ℕ) (e : Endian) (v : ValueOf t) → Fits t v → Takes t (before front e t v rest) (placed (before front e t v rest) (behind front e t v)) v
 written_taken t front rest e v fits = record {
   front = written t (length front) e v;
@@ -45,7 +45,7 @@ written_taken t front rest e v fits = record {
   behind = refl;
 }
 
--- whatever reads the type, reads what was written, whatever stands around it
+-- whatever reads the type, reads what was written, whatever is around it
 pub reads_again : (t : CdrType) (front rest : List ℕ) (e : Endian) (v : ValueOf t) (after : Cursor) (answer : Result (ValueOf t) CdrFault) → Fits t v →
     Reads t (before front e t v rest) after answer → (answer ≡ Ok v) × (after ≡ placed (before front e t v rest) (behind front e t v))
 reads_again t front rest e v after answer fits law = law.only v (placed (before front e t v rest) (behind front e t v)) (written_taken t front rest e v fits)

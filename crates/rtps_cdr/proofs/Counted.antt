@@ -1,4 +1,4 @@
--- What stands behind a count: the body of a text, and the items of a sequence.
+-- What comes after a count: the body of a text, and the items of a sequence.
 use Rattle.std.proofs.Common.{append_assoc, ◌≡◌, ℕ, zero, suc, ◌+◌, ◌-◌, ◌≤◌, true, false, Bool, List, [], ◌∷◌, ◌++◌, length, take, drop, nat_le, if◌then◌else◌, Result, Ok, Err, refl, sym, ◌∙◌, ap, subst, arith, ◌==◌, slice_index}
 use Rattle.std.proofs.lemmas.List.{length-drop, length-take-le, take-append-drop, drop-drop, take_at, drop_at, length-append, take_all, take_more, get_or-append_right}
 use Rattle.std.proofs.lemmas.Grind.{common_steps}

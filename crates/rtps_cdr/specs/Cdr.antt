@@ -1,11 +1,11 @@
 -- The common data representation: which octets stand for which value, at a place and in a byte order
--- (CORBA CDR 9.3, DDSI-RTPS 10). Places are counted from the first octet behind the encapsulation.
+-- (CORBA CDR 9.3, DDSI-RTPS 10). Places are counted from the first octet after the encapsulation.
 use Rattle.std.specs.Prelude.{◌≡◌, ◌≤◌, ℕ, zero, suc, ℤ, ◌+◌, ◌-◌, ◌%◌, List, [], ◌∷◌, ◌++◌, length, replicate, Bool, if◌then◌else◌, IsUtf8}
 use Rattle.std.specs.Int.{Width, byte_len, cast_signed}
 use Rattle.rtps_types.specs.declared.field.Endian.{Endian}
 use Rattle.rtps_types.specs.Field.{number}
 
--- the types: primitives by their size in octets, texts, octets as they stand, structs member by member, and sequences
+-- the types: primitives by their size in octets, texts, octets as they are, structs member by member, and sequences
 pub data CdrType : Type 0 where
   Unsigned : (size : ℕ) → CdrType
   Signed : (width : Width) → CdrType
@@ -53,7 +53,7 @@ pub record IsNumber (g : Gaps) (size at : ℕ) (e : Endian) (octets : List ℕ) 
   pub full : length field ≡ size
   pub spells : number e size field ≡ n
 
--- behind a length of 0 stands nothing; else a UTF-8 text, and its NUL, which the length counts (CORBA CDR 9.3.2.7)
+-- after a length of 0 comes nothing; else a UTF-8 text, and its NUL, which the length counts (CORBA CDR 9.3.2.7)
 abbrev pub IsTextBody : ℕ → List ℕ → List ℕ → Type 0
 IsTextBody zero octets text = (octets ≡ []) × (text ≡ [])
 IsTextBody (suc n) octets text = (octets ≡ text ++ 0 ∷ []) × (length text ≡ n) × IsUtf8 text

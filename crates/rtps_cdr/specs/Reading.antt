@@ -9,7 +9,7 @@ use Rattle.rtps_cdr.specs.declared.fault.CdrFault.{CdrFault}
 use Rattle.rtps_cdr.specs.declared.fault.CdrFault.TheVariants.{Short, BadBool, BadString, NotUtf8}
 use Rattle.rtps_cdr.specs.Cdr.{CdrType, ValueOf, Free, IsCdr, padding}
 
--- a reader: the octets, and how many of them are behind it
+-- a reader: the octets, and how many of them it has passed
 pub record Cursor : Type 0 where
   pub octets : List ℕ
   pub endian : Endian
@@ -25,7 +25,7 @@ placed c position = record { octets = c.octets; endian = c.endian; position = po
 
 -- ---- by functions
 
--- a value and the place behind it, or a fault
+-- a value and the place after it, or a fault
 abbrev pub Read : Type 0 → Type 0
 Read A = Result (A × ℕ) CdrFault
 
@@ -38,7 +38,7 @@ abbrev pub place_of : {A : Type 0} → Read A → Result ℕ CdrFault
 place_of (Ok x) = Ok x.1
 place_of (Err f) = Err f
 
--- the reader behind what was read; after a fault it stands where it stood
+-- the reader at the end of what was read; after a fault it is where it was
 abbrev pub moved : {A : Type 0} → Cursor → Read A → Cursor
 moved c (Ok x) = placed c x.1
 moved c (Err f) = c
@@ -48,7 +48,7 @@ abbrev pub mapped : {A B : Type 0} → (A → B) → Read A → Read B
 mapped f (Ok x) = Ok (f x.0, x.1)
 mapped f (Err e) = Err e
 
--- what is read behind a value, which may depend on it
+-- what is read after a value, which may depend on it
 abbrev pub followed_by : {A B : Type 0} → Read A → (A → ℕ → Read B) → Read B
 followed_by (Ok x) f = f x.0 x.1
 followed_by (Err e) f = Err e
@@ -62,7 +62,7 @@ abbrev pub number_from : ℕ → Endian → List ℕ → ℕ → Read ℕ
 number_from size e octets at =
     if nat_le (aligned size at + size) (length octets) then Ok (number e size (drop (aligned size at) octets), aligned size at + size) else Err Short
 
--- that many octets as they stand
+-- that many octets as they are
 abbrev pub octets_from : ℕ → List ℕ → ℕ → Read (List ℕ)
 octets_from n octets at = if nat_le (at + n) (length octets) then Ok (take n (drop at octets), at + n) else Err Short
 
@@ -78,7 +78,7 @@ abbrev pub text_of : List ℕ → ℕ → Read (List ℕ)
 text_of body after =
     if slice_index body (length body - 1) == 0 then (if is_utf8 (take (length body - 1) body) then Ok (take (length body - 1) body, after) else Err NotUtf8) else Err BadString
 
--- what stands behind the length of a text
+-- what comes after the length of a text
 abbrev pub text_body : ℕ → List ℕ → ℕ → Read (List ℕ)
 text_body count octets at = if count == 0 then Ok ([], at) else followed_by (octets_from count octets at) text_of
 
@@ -86,7 +86,7 @@ text_body count octets at = if count == 0 then Ok ([], at) else followed_by (oct
 unfoldable pub text_from : Endian → List ℕ → ℕ → Read (List ℕ)
 text_from e octets at = followed_by (number_from 4 e octets at) (λ count behind. text_body count octets behind)
 
--- the same where a reader stands
+-- the same where a reader is
 abbrev pub number_in : ℕ → Cursor → Read ℕ
 number_in size c = number_from size c.endian c.octets c.position
 
@@ -102,7 +102,7 @@ text_in c = text_from c.endian c.octets c.position
 abbrev pub octets_in : ℕ → Cursor → Read (List ℕ)
 octets_in n c = octets_from n c.octets c.position
 
--- as many items as wanted, one behind the other
+-- as many items as wanted, one after the other
 unfoldable pub items_in : {A : Type 0} → (Cursor → Read A) → ℕ → Cursor → Read (List A)
 items_in read zero c = Ok ([], c.position)
 items_in read (suc n) c =
@@ -134,7 +134,7 @@ place_seen (Err f) = Err f
 
 -- ---- by the relation
 
--- a front of what is left stands for the value, and after is behind it
+-- a front of what is left stands for the value, and `after` is at its end
 pub record Takes (t : CdrType) (c after : Cursor) (v : ValueOf t) : Type 0 where
   pub front : List ℕ
   pub rest : List ℕ
@@ -146,7 +146,7 @@ abbrev pub IsFound : (t : CdrType) → Cursor → Cursor → Result (ValueOf t) 
 IsFound t c after (Ok v) = Takes t c after v
 IsFound t c after (Err f) = after ≡ c
 
--- what is read is related, and the reader moves behind it or stays at a fault; what is related is read, so a fault
+-- what is read is related, and the reader moves to its end or stays at a fault; what is related is read, so a fault
 -- comes only where nothing is
 pub record Reads (t : CdrType) (c after : Cursor) (answer : Result (ValueOf t) CdrFault) : Type 0 where
   pub found : IsFound t c after answer

@@ -1,4 +1,4 @@
--- What each write of a writer puts behind the rest.
+-- What each write of a writer adds at the end.
 use Rattle.std.specs.Prelude.{◌≡◌, ℕ, ◌+◌, ◌^◌, ◌<◌, List, [], ◌∷◌, ◌++◌, length, replicate, if◌then◌else◌, IsUtf8}
 use Rattle.std.specs.List.{AllByRecursion}
 use Rattle.std.specs.Int.{byte_len, cast_unsigned}
@@ -22,7 +22,7 @@ number_written size at e n = replicate (padding size at) 0 ++ spelled e size n
 abbrev pub text_written : ℕ → Endian → List ℕ → List ℕ
 text_written at e text = number_written 4 at e (length text + 1) ++ (text ++ 0 ∷ [])
 
--- items one behind the other
+-- items one after the other
 abbrev pub all_written : {A : Type 0} → (ℕ → A → List ℕ) → ℕ → List A → List ℕ
 all_written f at [] = []
 all_written f at (x ∷ xs) = f at x ++ all_written f (at + length (f at x)) xs
@@ -37,7 +37,7 @@ written (Octets count) at e body = body
 written (Both s t) at e v = written s at e v.0 ++ written t (at + length (written s at e v.0)) e v.1
 written (Sequence t) at e vs = number_written 4 at e (length vs) ++ all_written (λ p v. written t p e v) (at + length (number_written 4 at e (length vs))) vs
 
--- the writer behind a value, and behind a field that is aligned to a size
+-- the writer after a value, and after a field that is aligned to a size
 abbrev pub appended : (t : CdrType) → ValueOf t → Output → Output
 appended t v o = record { octets = o.octets ++ written t (length o.octets) o.endian v; endian = o.endian }
 

@@ -1,4 +1,4 @@
-//! Places of values: a primitive stands at a multiple of its size (CORBA CDR 9.3.1.1).
+//! Places of values: a primitive is at a multiple of its size (CORBA CDR 9.3.1.1).
 
 ghost use Rattle.std.specs.Prelude.{◌≡◌, ◌+◌, ◌^◌, ◌≤◌, ◌<◌};
 ghost use Rattle.rtps_cdr.specs.Cdr.{padding};

@@ -14,11 +14,11 @@ use std::marker::Model;
 /// Reads values from octets that are lent to it.
 ///
 /// Alignment is counted from the first octet, and the octets of a gap are free. Each read moves
-/// behind its value; after a fault the reader stands where it stood. Nothing is copied, and no
+/// after its value; after a fault the reader is where it was. Nothing is copied, and no
 /// memory is taken.
 ///
 /// A read is `Short` where the octets end before the value does, the gap before it included; other
-/// faults are told at the read that has them.
+/// faults are reported at the read that has them.
 #[derive(Drop)]
 pub struct CdrReader<'a> {
     octets: &'a [u8],
@@ -39,7 +39,7 @@ impl<'a> Model for CdrReader<'a> {
 }
 
 impl<'a> CdrReader<'a> {
-    /// A reader that stands at the first octet. Every number that it reads has its octets in that order.
+    /// A reader at the first octet. Every number that it reads has its octets in that order.
     pub fn new(octets: &'a [u8], endian: Endian) -> CdrReader<'a>
         ensures { result ≡ start endian octets.entry.now }
     {
@@ -57,7 +57,7 @@ impl<'a> CdrReader<'a> {
         self.position
     }
 
-    /// Moves behind what was read; at a fault the reader stays.
+    /// Moves to the end of what was read; at a fault the reader stays.
     fn settle<T>(&mut self, read: Result<(T, usize), CdrFault>) -> Result<T, CdrFault>
         requires { IfOk read (λ r. r.1 ≤ length self.old.octets) }
         ensures value { result ≡ value_of read }
@@ -205,7 +205,7 @@ impl<'a> CdrReader<'a> {
         self.settle(read)
     }
 
-    /// Reads that many octets as they stand, with no gap before them.
+    /// Reads that many octets as they are, with no gap before them.
     #[tactic(auto, using(crate::proofs::Related::seen_value, crate::proofs::Related::seen_moved))]
     pub fn read_octets(&mut self, count: usize) -> Result<&'a [u8], CdrFault>
         ensures value { seen result ≡ value_of (octets_in count self.old) }

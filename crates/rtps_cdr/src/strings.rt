@@ -56,7 +56,7 @@ impl<'a> Iterator for Strings<'a> {
     }
 }
 
-/// The place behind as many texts.
+/// The place after as many texts.
 #[tactic(auto, using(crate::proofs::Texts::places_end))]
 fn behind_strings(
     octets: &[u8],
@@ -78,7 +78,7 @@ fn behind_strings(
     Ok(at)
 }
 
-/// The sequence of texts whose count stands at the next multiple of four, and the place behind it.
+/// The sequence of texts whose count is at the next multiple of four, and the place after it.
 pub(crate) fn strings_at(
     octets: &[u8],
     position: usize,

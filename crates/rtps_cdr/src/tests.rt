@@ -6,17 +6,17 @@ use rtps_types::Endian;
 use std::alloc::{AllocError, Allocator};
 use std::test::Fail;
 
-/// Octets that each tell their place.
+/// Octets that each are their place.
 const PLACES: [u8; 16] = [0, 1, 2, 3, 4, 5, 6, 7, 8, 9, 10, 11, 12, 13, 14, 15];
 
-/// A reader that stands behind so many octets.
+/// A reader that has passed so many octets.
 fn behind(octets: &[u8], count: usize, endian: Endian) -> Result<CdrReader<'_>, CdrFault> {
     let mut reader = CdrReader::new(octets, endian);
     reader.read_octets(count)?;
     Ok(reader)
 }
 
-/// Where a reader of [`PLACES`] stands, and the numbers of 16, 32 and 64 bits that it finds, high
+/// Where a reader of [`PLACES`] is, and the numbers of 16, 32 and 64 bits that it finds, high
 /// octet first.
 const ALIGNED: [(usize, u16, u32, u64); 9] = [
     (0, 0x0001, 0x0001_0203, 0x0001_0203_0405_0607),
@@ -30,7 +30,7 @@ const ALIGNED: [(usize, u16, u32, u64); 9] = [
     (8, 0x0809, 0x0809_0a0b, 0x0809_0a0b_0c0d_0e0f),
 ];
 
-/// The numbers of 16, 32 and 64 bits that a reader finds behind so many of [`PLACES`].
+/// The numbers of 16, 32 and 64 bits that a reader finds after so many of [`PLACES`].
 fn found(start: usize, endian: Endian) -> Result<(u16, u32, u64), CdrFault> {
     Ok((
         behind(&PLACES, start, endian)?.read_u16()?,
@@ -102,7 +102,7 @@ fn fault(reader: &mut CdrReader<'_>, kind: Kind) -> Option<CdrFault> {
     }
 }
 
-/// Octets, high octet first, how many are passed, what is read behind them, and its fault.
+/// Octets, high octet first, how many are passed, what is read after them, and its fault.
 type Row = (&'static [u8], usize, Kind, Option<CdrFault>);
 
 const SHORT: Option<CdrFault> = Some(CdrFault::Short);

@@ -19,7 +19,7 @@ is_set name rows = option_map_or (λ text. bytes_eq text (codes "true")) (one_of
 abbrev pub number_in : Text → List Row → ℕ
 number_in name rows = option_map_or byte_or_zero (one_of name rows) 0
 
--- clap lets no other number of readers through
+-- how many readers there are; clap lets no other number than 1 to 8 through, which its definition of what was found doesn't repeat
 abbrev pub one_to_eight : ℕ → ℕ
 one_to_eight n = if nat_le 1 n && nat_le n 8 then n else 1
 

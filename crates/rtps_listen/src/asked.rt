@@ -65,7 +65,9 @@ fn number_in(matches: &ArgMatches<'_>, name: &str) -> u8
     matches.get_one::<u8>(name).unwrap_or(0)
 }
 
-/// A number from 1 to 8, and 1 in the place of any other one.
+/// How many readers there are, from the number after `--readers`. clap refuses a line with another
+/// number than 1 to 8, but what its contract says of a value that was found doesn't repeat that. So it
+/// is tested here, for all that is built on it; the arm of other numbers is never taken.
 fn one_to_eight(number: u8) -> u8
     ensures value { result ≡ one_to_eight number }
     ensures some { 1 ≤ result }

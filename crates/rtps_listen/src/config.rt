@@ -56,7 +56,8 @@ fn readers_for(
     count: u8,
 ) -> Result<Vec<ReaderConfig>, AllocError>
     requires { count ≤ 8 }
-    ensures { IfOk result (λ readers. map reader_in readers.items ≡ readers_of topic.now reliability count) }
+    ensures { IfOk result (λ readers. map reader_in readers.items ≡
+        readers_of topic.now reliability count) }
 {
     let mut readers = Vec::new(alloc);
     for rank in 0..count {

@@ -266,7 +266,8 @@ pub fn found<'a, S: AsStr>(alloc: Global, words: &'a [S]) -> Result<ArgMatches<'
 
 /// Reads the words, the program's name first.
 pub fn read_words<'a, S: AsStr>(alloc: Global, words: &'a [S]) -> Result<Asked<'a>, Error>
-    ensures asks { IfOk result (λ asked. Asks asked (subcommand_of line.listen_app (map S.text words.entry.now))) }
+    ensures asks { IfOk result (λ asked. Asks asked
+        (subcommand_of line.listen_app (map S.text words.entry.now))) }
     ensures fails { FailsBy (fault_of line.listen_app (map S.text words.entry.now)) result }
 {
     match found(alloc, words) {

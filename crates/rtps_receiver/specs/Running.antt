@@ -1,9 +1,9 @@
 -- The context as it is kept from one submessage to the next.
-use Rattle.std.specs.Prelude.{List, [], Option, None, if◌then◌else◌}
+use Rattle.std.specs.Prelude.{◌+◌, List, [], ◌∷◌, ◌++◌, Option, None, if◌then◌else◌, option_to_list}
 use Rattle.std.specs.Str.{bytes_eq}
 use Rattle.rtps_types.specs.declared.place.Place.{Place}
 use Rattle.rtps_types.specs.declared.identity.GuidPrefix.{GuidPrefix}
-use Rattle.rtps_wire.specs.Submessage.{Content, Pad, HeartbeatOf, GapOf, Time, Source, Destination, HeartbeatFragOf, Whole, Frag, Skipped}
+use Rattle.rtps_wire.specs.Submessage.{Content, Item, Pad, HeartbeatOf, GapOf, Time, Source, Destination, HeartbeatFragOf, Whole, Frag, Skipped}
 use Rattle.rtps_receiver.specs.declared.context.Context.{Context}
 use Rattle.rtps_receiver.specs.Addressed.{addressed, taken_of}
 use Rattle.rtps_receiver.specs.Events.{Happening, happening}
@@ -33,3 +33,11 @@ after c Skipped = c
 abbrev pub event_in : Context → Place → Content → Option Happening
 event_in c place content =
     if bytes_eq c.destination.0 c.own.0 then happening place c.source c.time (taken_of (addressed content)) else None
+
+abbrev pub next_place : Place → Place
+next_place p = record p { submessage = p.submessage + 1 }
+
+-- the events of the submessages that are left, in a context, the first of them after a place
+abbrev pub events_left : Context → Place → List Item → List Happening
+events_left c before [] = []
+events_left c before (i ∷ left) = option_to_list (event_in c (next_place before) i.content) ++ events_left (after c i.content) (next_place before) left

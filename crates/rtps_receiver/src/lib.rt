@@ -4,11 +4,13 @@
 mod body;
 mod brought;
 mod context;
+mod datagram;
 mod event;
 mod receive;
 #[cfg(test)]
 mod tests;
 
 pub use body::{Body, Fragment, Gap, Heartbeat, HeartbeatFrag, Whole};
+pub use datagram::Events;
 pub use event::Event;
 pub use receive::{ReceiverError, events};

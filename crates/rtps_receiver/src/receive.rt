@@ -3,17 +3,13 @@
 ghost use Rattle.std.specs.Prelude.{◌≡◌, ◌≤◌, length, map, IfOk};
 ghost use Rattle.rtps_receiver.specs.Events.{events_of, view};
 
-use crate::context::Context;
+use crate::datagram::Events;
 use crate::event::Event;
-use rtps_types::{GuidPrefix, Place};
-use rtps_wire::{Submessages, header};
+use rtps_types::GuidPrefix;
 use std::alloc::{AllocError, Allocator};
 
 /// Why the events of a datagram could not be found: the allocator refused a growth.
 pub type ReceiverError = AllocError;
-
-/// How many octets the header of a message takes.
-const HEADER: usize = 20;
 
 /// The events of one datagram, in order (DDSI-RTPS 8.3.4): its valid submessages of the five kinds
 /// that bring something to readers, where their destination is the participant `own` and they name
@@ -31,20 +27,8 @@ pub fn events<A: Allocator>(
     ensures { IfOk result (λ events. map view events.items ≡ events_of own index octets.now) }
 {
     let mut events = Vec::new(alloc);
-    let Ok(header) = header(octets) else {
-        return Ok(events);
-    };
-    let mut context = Context::new(own, header.prefix);
-    let mut place = Place {
-        datagram: index,
-        submessage: 0,
-    };
-    for submessage in Submessages::new(&octets[HEADER..]) {
-        place.submessage += 1;
-        if let Some(event) = context.event(place, &submessage.parts) {
-            events.push(event)?;
-        }
-        context.see(&submessage.parts);
+    for event in Events::new(own, index, octets) {
+        events.push(event)?;
     }
     Ok(events)
 }

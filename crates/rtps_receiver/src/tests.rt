@@ -189,3 +189,62 @@ fn refused_growths(rt: HostRuntime) -> Result<(), Fail> {
     assert!(rt; refused && succeeded);
     Ok(())
 }
+
+#[test]
+fn one_after_the_other(rt: HostRuntime) -> Result<(), Fail> {
+    let others = [0x0e, 1, 12, 0, 9, 9, 9, 9, 9, 9, 9, 9, 9, 9, 9, 9];
+    let pad = [0x01, 1, 0, 0];
+    let octets = message(rt.alloc(), &[&pad, &DATA, &pad, &DATA, &others, &DATA])?;
+    assert!(rt; octets.len() < 200);
+    let mut left = Events::new(OURS, u64::MAX, &octets);
+    let places = [
+        submessage_of(left.next()),
+        submessage_of(left.next()),
+        submessage_of(left.next()),
+        submessage_of(left.next()),
+    ];
+    assert_eq!(rt; places, [Some(2), Some(4), None, None]);
+    Ok(())
+}
+
+/// Where an event is in the last datagram that a run can have.
+fn submessage_of(event: Option<Event<'_>>) -> Option<u32> {
+    let place = event?.place;
+    (place.datagram == u64::MAX).then_some(place.submessage)
+}
+
+/// 65,507 octets: the header, 16,364 PADs of four octets, a DATA, and three octets that are no
+/// submessage.
+#[test]
+fn the_longest_datagram(rt: HostRuntime) -> Result<(), Fail> {
+    let mut octets = HEADER.to_vec(rt.alloc())?;
+    for _ in 0..16_364 {
+        octets.extend_from_slice(&[1, 1, 0, 0])?;
+    }
+    octets.extend_from_slice(&DATA)?;
+    octets.extend_from_slice(&[0x15, 5, 0])?;
+    assert_eq!(rt; octets.len(), 65_507);
+    let found = events(rt.alloc(), OURS, 0, &octets)?;
+    assert_eq!(rt; found.len(), 1);
+    assert_eq!(rt; found[0].place.submessage, 16_365);
+    Ok(())
+}
+
+/// 65,507 octets, of which a DATA of 65,483 takes all after the header and the four of its own.
+#[test]
+fn the_longest_payload(rt: HostRuntime) -> Result<(), Fail> {
+    let mut octets = HEADER.to_vec(rt.alloc())?;
+    octets.extend_from_slice(&[0x15, 5, 0xcb, 0xff])?;
+    octets.extend_from_slice(&DATA[4..24])?;
+    for _ in 0..65_463 {
+        octets.push(7)?;
+    }
+    assert_eq!(rt; octets.len(), 65_507);
+    let found = events(rt.alloc(), OURS, 0, &octets)?;
+    assert_eq!(rt; found.len(), 1);
+    match found[0].body {
+        Body::Whole(whole) => assert_eq!(rt; whole.payload.len(), 65_463),
+        _ => assert!(rt; false, "no change in one piece"),
+    }
+    Ok(())
+}

@@ -60,6 +60,17 @@ records_same (r ∷ rs) (s ∷ ss) n x y f g p q e h k =
     let rest = records_same rs ss (n + 1) x y f g p.1 q.1 both.1 (subst (λ i. EndsBy f i x) (up (length rs)) h) (subst (λ i. EndsBy g i y) (up (length ss)) k) in
     ap (λ t. t ∷ rs) both.0 ∙ ap (λ l. s ∷ l) rest
 
+-- whole records that come first are the first ones of any reading
+pub records_first : (rs ss : List (List ℕ)) (n : ℕ) (x y : List ℕ) (g : Option RunFault) → AllByRecursion IsRecord rs → AllByRecursion IsRecord ss
+    → flat_map frame rs ++ x ≡ flat_map frame ss ++ y → n + length rs ≤ 4294967295 → EndsBy g (n + length ss) y → (more : List (List ℕ)) × (ss ≡ rs ++ more)
+records_first [] ss n x y g p q e few k = (ss, refl)
+records_first (r ∷ rs) [] n x y g p q e few k = absurd (no_end g _ y r (flat_map frame rs ++ x) (sym e ∙ append_assoc (frame r) (flat_map frame rs) x) p.0 (omega arith) k)
+records_first (r ∷ rs) (s ∷ ss) n x y g p q e few k =
+    let both = frame_same r s (flat_map frame rs ++ x) (flat_map frame ss ++ y) p.0 q.0 (sym (append_assoc (frame r) (flat_map frame rs) x) ∙ e ∙ append_assoc (frame s) (flat_map frame ss) y) in
+    let up : n + suc (length ss) ≡ (n + 1) + length ss = omega arith in
+    let rest = records_first rs ss (n + 1) x y g p.1 q.1 both.1 (omega arith) (subst (λ i. EndsBy g i y) up k) in
+    (rest.0, ap (λ t. t ∷ ss) (sym both.0) ∙ ap (λ l. r ∷ l) rest.1)
+
 -- one end stands at one place
 ends_same : (n : ℕ) (x : List ℕ) (f g : Option RunFault) → EndsBy f n x → EndsBy g n x → f ≡ g
 ends_same n x None None h k = refl

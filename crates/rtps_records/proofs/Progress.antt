@@ -1,15 +1,16 @@
 -- A run so far: the records that were read, and what was said and written of them.
-use Rattle.std.proofs.Common.{◌≡◌, ℕ, ◌+◌, ◌<◌, ◌≤◌, inl, inr, List, [], ◌∷◌, ◌++◌, Option, None, Some, IfSome, Result, Ok, Err, IfErr, OnErr, arith, refl, length, take, drop, sym, ap, subst, ◌∙◌, length-append, length-take, append-nil, append_assoc, take-append-drop}
+use Rattle.std.proofs.Common.{◌≡◌, ℕ, ◌+◌, ◌<◌, ◌≤◌, ◌⊎◌, zero-add, inl, inr, List, [], ◌∷◌, ◌++◌, Option, None, Some, IfSome, Result, Ok, Err, IfErr, OnErr, arith, refl, length, take, drop, sym, ap, subst, ◌∙◌, length-append, append-nil, append_assoc, take-append-drop}
 use Rattle.std.specs.List.{flat_map, AllByRecursion}
 use Rattle.std.proofs.lemmas.Grind.{flat_map-append}
 use Rattle.std.specs.Io.KnownBytes.{Appends, Consumes, IsAtEnd}
 use Rattle.std.proofs.KnownBytes.{Consumes-trans, Appends-trans, Appends-nil, Appends-kept, Keeps-refl}
 use Rattle.rtps_records.specs.declared.fault.RunFault.{RunFault}
 use Rattle.rtps_records.specs.declared.fault.RunFault.TheVariants.{CannotRead, NotRecordFile, CutRecord, RecordTooLong, TooManyRecords, CannotWrite, NoMemory}
-use Rattle.rtps_records.specs.RecordFile.{magic, frame, Holds, EndsBy, IsRecord, IsPartial, FaultHere, FaultFirst}
+use Rattle.rtps_records.specs.RecordFile.{magic, frame, Holds, EndsBy, IsRecord, IsPartial, FaultHere, FaultFirst, Reads}
 use Rattle.rtps_records.specs.Text.{IsFront, Says, Ends, text_of}
 use Rattle.rtps_records.proofs.Printed.{ends_here}
-use Rattle.rtps_records.specs.Runs.{WroteAll, WroteRead, WroteFront, PutsFront, Spills, Stops, Closes, ClosesNot}
+use Rattle.rtps_records.proofs.OneReading.{one_reading, records_first}
+use Rattle.rtps_records.specs.Runs.{WroteAll, WroteRead, WroteFront, WroteReadFront, PutsFront, Spills, Stops, Closes, ClosesNot}
 
 -- n records were read; what is said of them was written or is kept back
 pub record Progress (said : List (List ℕ) → List ℕ → Type 0) (before now old new : Option (List ℕ)) (n : ℕ) (kept : List ℕ) : Type 0 where
@@ -163,11 +164,12 @@ stops_first text NoMemory before after old h = absurd h
 -- nothing was read or written
 pub stops_at_once : (text : List (List ℕ) → List ℕ) (before after old : Option (List ℕ)) → Stops text NoMemory before after old old
 unfolding Stops WroteFront
-stops_at_once text before after old = inl (Keeps-refl old)
+stops_at_once text None after old = ([], Appends-nil old, tt)
+stops_at_once text (Some input) after old = ([], Appends-nil old, λ records fault r. (text records, refl))
 
--- what was said begins the whole text
+-- what was said begins the text of all records, of which those come first that it was said of
 abbrev pub SaidIsFront : (List (List ℕ) → List ℕ → Type 0) → (List (List ℕ) → List ℕ) → Type 0
-SaidIsFront said text = (records : List (List ℕ)) (words : List ℕ) → said records words → IsFront words (text records)
+SaidIsFront said text = (records more : List (List ℕ)) (words : List ℕ) → said records words → IsFront words (text (records ++ more))
 
 -- a front of what was said is a front of the whole text
 front_on : (written put kept text : List ℕ) → IsFront put kept → IsFront (written ++ kept) text → IsFront (written ++ put) text
@@ -176,54 +178,106 @@ front_on written put kept text inner outer = (
   outer.1 ∙ ap (λ l. (written ++ l) ++ outer.0) inner.1 ∙ ap (λ l. l ++ outer.0) (sym (append_assoc written put inner.0)) ∙ append_assoc (written ++ put) inner.0 outer.0,
 )
 
--- a front of the text of the records that were read was written
-wrote_front : (text : List (List ℕ) → List ℕ) (before now old new : Option (List ℕ)) (records : List (List ℕ)) (put : List ℕ) → Consumes before now (magic ++ flat_map frame records)
-    → AllByRecursion IsRecord records → IsFront put (text records) → Appends old new put → WroteFront text before old new
-unfolding WroteFront
-wrote_front text None now old new records put read each front wrote = inr tt
-wrote_front text (Some input) None old new records put read each front wrote = absurd read
-wrote_front text (Some input) (Some rest) old new records put read each front wrote =
-    inr (records, rest, put, holds input (Some rest) records rest read each refl, front, wrote)
+-- the records that were read are the first ones of any reading of the input
+read_first : (input : List ℕ) (now : Option (List ℕ)) (records all : List (List ℕ)) (fault : Option RunFault) → Consumes (Some input) now (magic ++ flat_map frame records)
+    → AllByRecursion IsRecord records → length records ≤ 4294967295 → Reads input all fault → (more : List (List ℕ)) × (all ≡ records ++ more)
+read_first input None records all fault read each few r = absurd read
+read_first input (Some left) records all fault read each few r =
+    let here = holds input (Some left) records left read each refl in
+    let same : flat_map frame records ++ left ≡ flat_map frame all ++ r.0 = ap (drop 4) (sym here.whole ∙ r.1.whole) in
+    records_first records all 0 left r.0 fault each r.1.each same (omega (arith, few)) (subst (λ k. EndsBy fault k r.0) (sym (zero-add (length all))) r.2)
+
+-- what begins the text of all records that begin so is a front of the text of the whole input
+front_of_all : (whole : List (List ℕ) → List ℕ) (before now : Option (List ℕ)) (records : List (List ℕ)) (put : List ℕ) → Consumes before now (magic ++ flat_map frame records)
+    → AllByRecursion IsRecord records → length records ≤ 4294967295 → ((more : List (List ℕ)) → IsFront put (whole (records ++ more)))
+    → IfSome before (λ input. (all : List (List ℕ)) (fault : Option RunFault) → Reads input all fault → IsFront put (whole all))
+front_of_all whole None now records put read each few fronts = tt
+front_of_all whole (Some input) now records put read each few fronts = λ all fault r.
+    let first = read_first input now records all fault read each few r in
+    subst (λ l. IsFront put (whole l)) (sym first.1) (fronts first.0)
 
 put_front : (said : List (List ℕ) → List ℕ → Type 0) (text whole : List (List ℕ) → List ℕ) (before now old mid new : Option (List ℕ)) (n : ℕ) (kept : List ℕ)
-    → Progress said before now old mid n kept → SaidIsFront said text → ((records : List (List ℕ)) → text records ≡ whole records) → PutsFront mid new kept
+    → n ≤ 4294967295 → Progress said before now old mid n kept → SaidIsFront said text → ((records : List (List ℕ)) → text records ≡ whole records) → PutsFront mid new kept
     → WroteFront whole before old new
-put_front said text whole before now old mid new n kept p fronts same put =
-    let some : IsFront (p.written ++ kept) (whole p.records) = subst (IsFront (p.written ++ kept)) (same p.records) (fronts p.records (p.written ++ kept) p.says) in
-    wrote_front whole before now old new p.records (p.written ++ take put.0 kept) p.read p.each
-    (front_on p.written (take put.0 kept) kept (whole p.records) (drop put.0 kept, sym (take-append-drop put.0 kept)) some)
-    (Appends-trans _ _ _ _ _ p.wrote put.1)
-
--- nothing more was written
-put_none : (said : List (List ℕ) → List ℕ → Type 0) (text whole : List (List ℕ) → List ℕ) (before now old new : Option (List ℕ)) (n : ℕ) (kept : List ℕ)
-    → Progress said before now old new n kept → SaidIsFront said text → ((records : List (List ℕ)) → text records ≡ whole records) → WroteFront whole before old new
-put_none said text whole before now old new n kept p fronts same = put_front said text whole before now old new new n kept p fronts same (0, Appends-nil new)
+unfolding WroteFront
+put_front said text whole before now old mid new n kept few p fronts same put = (
+  p.written ++ take put.0 kept,
+  Appends-trans _ _ _ _ _ p.wrote put.1,
+  front_of_all whole before now p.records (p.written ++ take put.0 kept) p.read p.each (rw p.count few) (λ more.
+      front_on p.written (take put.0 kept) kept (whole (p.records ++ more)) (drop put.0 kept, sym (take-append-drop put.0 kept))
+      (subst (IsFront (p.written ++ kept)) (same (p.records ++ more)) (fronts p.records more (p.written ++ kept) p.says))),
+)
 
 -- the run stops at a write fault, and for want of memory
 pub stops_writing : (said : List (List ℕ) → List ℕ → Type 0) (text whole : List (List ℕ) → List ℕ) (before now after old mid new : Option (List ℕ)) (n : ℕ) (kept : List ℕ) (fault : RunFault)
-    → fault ≡ CannotWrite → Progress said before now old mid n kept → SaidIsFront said text → ((records : List (List ℕ)) → text records ≡ whole records) → PutsFront mid new kept
+    → n ≤ 4294967295 → fault ≡ CannotWrite → Progress said before now old mid n kept → SaidIsFront said text → ((records : List (List ℕ)) → text records ≡ whole records) → PutsFront mid new kept
     → Stops whole fault before after old new
 unfolding Stops
-stops_writing said text whole before now after old mid new n kept fault e p fronts same put = rw e (put_front said text whole before now old mid new n kept p fronts same put)
+stops_writing said text whole before now after old mid new n kept fault few e p fronts same put = rw e (inl (put_front said text whole before now old mid new n kept few p fronts same put))
 
 pub stops_without : (said : List (List ℕ) → List ℕ → Type 0) (text whole : List (List ℕ) → List ℕ) (before now after old new : Option (List ℕ)) (n : ℕ) (kept : List ℕ)
-    → Progress said before now old new n kept → SaidIsFront said text → ((records : List (List ℕ)) → text records ≡ whole records) → Stops whole NoMemory before after old new
+    → n ≤ 4294967295 → Progress said before now old new n kept → SaidIsFront said text → ((records : List (List ℕ)) → text records ≡ whole records) → Stops whole NoMemory before after old new
 unfolding Stops
-stops_without said text whole before now after old new n kept p fronts same = put_none said text whole before now old new n kept p fronts same
+stops_without said text whole before now after old new n kept few p fronts same = put_front said text whole before now old new new n kept few p fronts same (0, Appends-nil new)
+
+-- how the reading of an input ended, of which n records were read: at its end, or at a fault
+abbrev pub EndsHere : Option RunFault → ℕ → Option (List ℕ) → Option (List ℕ) → Type 0
+EndsHere None n now after = (n ≤ 4294967295) × IsAtEnd now
+EndsHere (Some fault) n now after = FaultHere fault n now after
+
+-- the records that were read are all
+reads_all : (before now : Option (List ℕ)) (records : List (List ℕ)) (end : Option RunFault) → Consumes before now (magic ++ flat_map frame records) → AllByRecursion IsRecord records
+    → IfSome now (EndsBy end (length records)) → IfSome before (λ input. Reads input records end)
+reads_all None now records end read each ends = tt
+reads_all (Some input) None records end read each ends = absurd read
+reads_all (Some input) (Some rest) records end read each ends = (rest, holds input (Some rest) records rest read each refl, ends)
+
+at_end : (now : Option (List ℕ)) (n : ℕ) → n ≤ 4294967295 → IsAtEnd now → IfSome now (EndsBy None n)
+at_end None n few end = tt
+at_end (Some rest) n few end = (few, end)
+
+-- where the records are all, a front of their text is a front of the text of the whole input
+front_of_these : (whole : List (List ℕ) → List ℕ) (before : Option (List ℕ)) (records : List (List ℕ)) (end : Option RunFault) (put : List ℕ) → IfSome before (λ input. Reads input records end)
+    → IsFront put (whole records) → IfSome before (λ input. (all : List (List ℕ)) (fault : Option RunFault) → Reads input all fault → IsFront put (whole all))
+front_of_these whole None records end put reads front = tt
+front_of_these whole (Some input) records end put reads front = λ all fault r.
+    subst (λ l. IsFront put (whole l)) (one_reading input records all end fault reads r).0 front
+
+-- a front of the text of the records that were read was written, and so is what is left of them
+wrote_at_end : (whole : List (List ℕ) → List ℕ) (before now after old new : Option (List ℕ)) (records : List (List ℕ)) (put : List ℕ) (end : Option RunFault)
+    → Consumes before now (magic ++ flat_map frame records) → AllByRecursion IsRecord records → EndsHere end (length records) now after → IsFront put (whole records) → Appends old new put
+    → WroteFront whole before old new ⊎ WroteReadFront whole before after old new
+unfolding WroteFront WroteReadFront
+wrote_at_end whole before now after old new records put None read each ends front wrote =
+    inl (put, wrote, front_of_these whole before records None put (reads_all before now records None read each (at_end now (length records) ends.0 ends.1)) front)
+wrote_at_end whole before now after old new records put (Some CannotRead) read each ends front wrote = inr (
+  (magic ++ flat_map frame records) ++ ends.0,
+  Consumes-trans _ _ _ _ _ read ends.1,
+  (records, ends.0, put, record { whole = append_assoc magic (flat_map frame records) ends.0; each = each }, ends.2, front, wrote),
+)
+wrote_at_end whole before now after old new records put (Some (CutRecord at)) read each ends front wrote =
+    inl (put, wrote, front_of_these whole before records (Some (CutRecord at)) put (reads_all before now records (Some (CutRecord at)) read each ends) front)
+wrote_at_end whole before now after old new records put (Some (RecordTooLong at)) read each ends front wrote =
+    inl (put, wrote, front_of_these whole before records (Some (RecordTooLong at)) put (reads_all before now records (Some (RecordTooLong at)) read each ends) front)
+wrote_at_end whole before now after old new records put (Some TooManyRecords) read each ends front wrote =
+    inl (put, wrote, front_of_these whole before records (Some TooManyRecords) put (reads_all before now records (Some TooManyRecords) read each ends) front)
+wrote_at_end whole before now after old new records put (Some NotRecordFile) read each ends front wrote = absurd ends
+wrote_at_end whole before now after old new records put (Some CannotWrite) read each ends front wrote = absurd ends
+wrote_at_end whole before now after old new records put (Some NoMemory) read each ends front wrote = absurd ends
 
 -- the run stops at its last text
-pub stops_closing : (said : List (List ℕ) → List ℕ → Type 0) (text whole : List (List ℕ) → List ℕ) (before now after old mid new : Option (List ℕ)) (n : ℕ) (kept : List ℕ) (fault : RunFault)
-    → Progress said before now old mid n kept → SaidIsFront said text → ((records : List (List ℕ)) → text records ≡ whole records) → ClosesNot fault said text mid new kept
+pub stops_closing : (said : List (List ℕ) → List ℕ → Type 0) (text whole : List (List ℕ) → List ℕ) (before now after old mid new : Option (List ℕ)) (n : ℕ) (kept : List ℕ) (end : Option RunFault) (fault : RunFault)
+    → n ≤ 4294967295 → EndsHere end n now after → Progress said before now old mid n kept → SaidIsFront said text → ((records : List (List ℕ)) → text records ≡ whole records) → ClosesNot fault said text mid new kept
     → Stops whole fault before after old new
 unfolding Stops ClosesNot
-stops_closing said text whole before now after old mid new n kept fault p fronts same c = elim c [
+stops_closing said text whole before now after old mid new n kept end fault few ends p fronts same c = elim c [
   | inl none ↦
-      rw none.0 (put_front said text whole before now old mid new n kept p fronts same (0, Appends-kept _ _ _ _ (Appends-nil mid) none.1))
+      rw none.0 (put_front said text whole before now old mid new n kept few p fronts same (0, Appends-kept _ _ _ _ (Appends-nil mid) none.1))
   | inr front ↦
       let all = front.1.2 p.records p.written p.says in
       let put = front.1.0 in
       rw front.0 (
-      wrote_front whole before now old new p.records (p.written ++ take front.1.1.0 put) p.read p.each
+      wrote_at_end whole before now after old new p.records (p.written ++ take front.1.1.0 put) end p.read p.each (subst (λ k. EndsHere end k now after) (sym p.count) ends)
       (drop front.1.1.0 put, sym (same p.records) ∙ all ∙ ap (λ l. p.written ++ l) (sym (take-append-drop front.1.1.0 put)) ∙ sym (append_assoc p.written (take front.1.1.0 put) (drop front.1.1.0 put)))
       (Appends-trans _ _ _ _ _ p.wrote front.1.1.1)
       )
@@ -259,10 +313,10 @@ printed line before now old mid new n kept p put =
 
 -- a write that fails, in the place of what was to be said
 pub fails_writing : {U : Type 0} (said : List (List ℕ) → List ℕ → Type 0) (text whole : List (List ℕ) → List ℕ) (before now after old mid new : Option (List ℕ)) (n : ℕ) (kept : List ℕ) (r : Result U RunFault)
-    → IfErr r (λ fault. fault ≡ CannotWrite) → OnErr r (PutsFront mid new kept) → Progress said before now old mid n kept → SaidIsFront said text → ((records : List (List ℕ)) → text records ≡ whole records)
-    → IfErr r (λ fault. Stops whole fault before after old new)
-fails_writing said text whole before now after old mid new n kept (Ok x) fault put p fronts same = tt
-fails_writing said text whole before now after old mid new n kept (Err e) fault put p fronts same = stops_writing said text whole before now after old mid new n kept e fault p fronts same put
+    → n ≤ 4294967295 → IfErr r (λ fault. fault ≡ CannotWrite) → OnErr r (PutsFront mid new kept) → Progress said before now old mid n kept → SaidIsFront said text
+    → ((records : List (List ℕ)) → text records ≡ whole records) → IfErr r (λ fault. Stops whole fault before after old new)
+fails_writing said text whole before now after old mid new n kept (Ok x) few fault put p fronts same = tt
+fails_writing said text whole before now after old mid new n kept (Err e) few fault put p fronts same = stops_writing said text whole before now after old mid new n kept e few fault p fronts same put
 
 -- the last text is written, or it isn't
 pub closes_if : {U : Type 0} (said : List (List ℕ) → List ℕ → Type 0) (text : List (List ℕ) → List ℕ) (old new : Option (List ℕ)) (kept out : List ℕ) (r : Result U RunFault) → Ends said text kept out
@@ -270,9 +324,9 @@ pub closes_if : {U : Type 0} (said : List (List ℕ) → List ℕ → Type 0) (t
 closes_if said text old new kept out (Ok x) e fault put = tt
 closes_if said text old new kept out (Err f) e fault put = closes_not said text f old new kept out fault e put
 
--- a run that doesn't come to its last text
-pub fails_closing : {U : Type 0} (said : List (List ℕ) → List ℕ → Type 0) (text whole : List (List ℕ) → List ℕ) (before now after old mid new : Option (List ℕ)) (n : ℕ) (kept : List ℕ) (r : Result U RunFault)
-    → Progress said before now old mid n kept → SaidIsFront said text → ((records : List (List ℕ)) → text records ≡ whole records) → IfErr r (λ fault. ClosesNot fault said text mid new kept)
+-- a run that doesn't come to the end of its last text
+pub fails_closing : {U : Type 0} (said : List (List ℕ) → List ℕ → Type 0) (text whole : List (List ℕ) → List ℕ) (before now after old mid new : Option (List ℕ)) (n : ℕ) (kept : List ℕ) (end : Option RunFault) (r : Result U RunFault)
+    → n ≤ 4294967295 → EndsHere end n now after → Progress said before now old mid n kept → SaidIsFront said text → ((records : List (List ℕ)) → text records ≡ whole records) → IfErr r (λ fault. ClosesNot fault said text mid new kept)
     → IfErr r (λ fault. Stops whole fault before after old new)
-fails_closing said text whole before now after old mid new n kept (Ok x) p fronts same c = tt
-fails_closing said text whole before now after old mid new n kept (Err e) p fronts same c = stops_closing said text whole before now after old mid new n kept e p fronts same c
+fails_closing said text whole before now after old mid new n kept end (Ok x) few ends p fronts same c = tt
+fails_closing said text whole before now after old mid new n kept end (Err e) few ends p fronts same c = stops_closing said text whole before now after old mid new n kept end e few ends p fronts same c

@@ -19,17 +19,23 @@ WroteRead text before after old new =
     × (((length taken < 4) × Keeps old new)
     ⊎ ((records : List (List ℕ)) × (rest : List ℕ) × Holds taken records rest × IsPartial (length records) rest × Appends old new (text records)))
 
--- nothing was written, or what was written is a front of the text of records that the input begins with
+-- what was written is a front of the text of the whole input, whatever its records and its end are; where nothing was written it is too
 unfoldable pub WroteFront : (List (List ℕ) → List ℕ) → Option (List ℕ) → Option (List ℕ) → Option (List ℕ) → Type 0
 WroteFront text before old new =
-    Keeps old new
-    ⊎ IfSome before (λ input. (records : List (List ℕ)) × (rest : List ℕ) × (put : List ℕ) × Holds input records rest × IsFront put (text records) × Appends old new put)
+    (put : List ℕ) × Appends old new put
+    × IfSome before (λ input. (records : List (List ℕ)) (fault : Option RunFault) → Reads input records fault → IsFront put (text records))
 
--- what a run leaves that stops at a fault
+-- A part of the input was read, as a read fault leaves it. What was written is a front of the text of the records in it.
+unfoldable pub WroteReadFront : (List (List ℕ) → List ℕ) → Option (List ℕ) → Option (List ℕ) → Option (List ℕ) → Option (List ℕ) → Type 0
+WroteReadFront text before after old new =
+    (taken : List ℕ) × Consumes before after taken
+    × ((records : List (List ℕ)) × (rest : List ℕ) × (put : List ℕ) × Holds taken records rest × IsPartial (length records) rest × IsFront put (text records) × Appends old new put)
+
+-- what a run leaves that stops at a fault; a write fault may come after a read fault, in whose place it is reported
 unfoldable pub Stops : (List (List ℕ) → List ℕ) → RunFault → Option (List ℕ) → Option (List ℕ) → Option (List ℕ) → Option (List ℕ) → Type 0
 Stops text NotRecordFile before after old new = IfSome before IsOther × Keeps old new
 Stops text CannotRead before after old new = WroteRead text before after old new
-Stops text CannotWrite before after old new = WroteFront text before old new
+Stops text CannotWrite before after old new = WroteFront text before old new ⊎ WroteReadFront text before after old new
 Stops text NoMemory before after old new = WroteFront text before old new
 Stops text (CutRecord n) before after old new = WroteAll text before old new (Some (CutRecord n))
 Stops text (RecordTooLong n) before after old new = WroteAll text before old new (Some (RecordTooLong n))

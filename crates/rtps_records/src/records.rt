@@ -41,7 +41,8 @@ impl<'a, R: Read, A: Allocator> Records<'a, R, Buffer<A>> {
 
     /// The records that are to be read from a reader; first [`Records::open`] them.
     pub fn new(alloc: A, reader: &'a mut R) -> Result<Records<'a, R, Buffer<A>>, AllocError>
-        ensures same_reader { IfOk result (λ records. records.reader.ghost_name ≡ reader.entry.ghost_name) }
+        ensures same_reader { IfOk result (λ records. records.reader.ghost_name ≡
+            reader.entry.ghost_name) }
         ensures unread { IfOk result (λ records. records.reader.now ≡ reader.old) }
         ensures count { IfOk result (λ records. records.count ≡ 0) }
     {

@@ -21,8 +21,10 @@ pub(crate) struct Filled {
 /// tried again.
 pub(crate) fn fill<R: Read>(reader: &mut R, buffer: &mut [u8]) -> Filled
     ensures within { result.count ≤ length buffer.old }
-    ensures taken { Consumes (R.remaining reader.old) (R.remaining reader.new) (take result.count buffer.new) }
-    ensures end { result.failed ≡ false → result.count < length buffer.old → IsAtEnd (R.remaining reader.new) }
+    ensures taken { Consumes (R.remaining reader.old) (R.remaining reader.new)
+        (take result.count buffer.new) }
+    ensures end { result.failed ≡ false → result.count < length buffer.old →
+        IsAtEnd (R.remaining reader.new) }
     ensures short { result.failed ≡ true → result.count < length buffer.old }
 {
     let mut count = 0;
@@ -58,7 +60,8 @@ pub(crate) fn fill<R: Read>(reader: &mut R, buffer: &mut [u8]) -> Filled
 pub(crate) fn put_all<W: Write>(writer: &mut W, octets: &[u8]) -> Result<(), RunFault>
     ensures ok { OnOk result (Appends (W.contents writer.old) (W.contents writer.new) octets.now) }
     ensures fault { IfErr result (λ fault. fault ≡ CannotWrite) }
-    ensures front { OnErr result (PutsFront (W.contents writer.old) (W.contents writer.new) octets.now) }
+    ensures front { OnErr result (PutsFront (W.contents writer.old) (W.contents writer.new)
+        octets.now) }
 {
     let mut count = 0;
     for _turn in 0..u64::MAX {

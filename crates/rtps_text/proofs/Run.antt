@@ -1,5 +1,6 @@
 -- A run and its text, one record more.
 use Rattle.std.proofs.Common.{◌≡◌, ℕ, suc, ◌+◌, ◌<◌, nat_lt, arith, Option, None, Some, Result, Ok, Err, OnOk, IfErr, subst, List, [], ◌∷◌, ◌++◌, Bool, true, false, if◌then◌else◌, sym, ap, ◌∙◌, append-nil, append_assoc}
+use Rattle.std.specs.List.{flat_map}
 use Rattle.std.proofs.lemmas.Grind.{flat_map-append}
 use Rattle.std.proofs.lemmas.List.{append_cancel_left}
 use Rattle.rtps_discovery.specs.declared.config.Config.{Config}
@@ -10,8 +11,10 @@ use Rattle.rtps_records.specs.declared.fault.RunFault.{RunFault}
 use Rattle.std.proofs.lemmas.Bool.Decides.{nat_tests}
 use Rattle.rtps_reader.specs.declared.status.Status.{Status}
 use Rattle.rtps_serial.specs.Seen.{status_at, status_seen}
-use Rattle.rtps_serial.specs.World.{Put, World}
-use Rattle.rtps_serial.specs.Run.{run}
+use Rattle.rtps_types.specs.declared.identity.GuidPrefix.{GuidPrefix}
+use Rattle.rtps_receiver.specs.Events.{Happening, events_of}
+use Rattle.rtps_serial.specs.World.{Put, World, puts_below, world_after}
+use Rattle.rtps_serial.specs.Run.{events_from, first_world, run, world_run}
 use Rattle.rtps_serial.specs.Standing.{EngineKept, StandsAt, run_by}
 use Rattle.rtps_text.specs.Replayed.{HasSaid, put_line, put_lines, replay_text, status_lines, status_text, summary_text, text_by}
 
@@ -60,11 +63,41 @@ ends_summed text decoding engine true old new e front sums = (
       ∙ ap (λ l. said ++ l) (append_cancel_left old (summary_text (run_by decoding engine records)) front.0 (sym (sums records h.stands) ∙ front.1)),
 )
 
--- what was said begins the whole text
-pub fronts : {C M : Type 0} (text : C → M → List ℕ) (decoding : C → Decoding M) (summary : Bool) (engine : EngineKept C) (records : List (List ℕ)) (said : List ℕ)
-    → HasSaid text decoding records said engine → IsFront said (text_by text decoding engine summary records)
-fronts text decoding summary engine records said h =
-    let rest = if summary then summary_text (run_by decoding engine records) else [] in (rest, ap (λ l. l ++ rest) (sym h.lines))
+-- the run over these events goes on where that over those ends
+abbrev GoesOn : {M : Type 0} → Decoding M → World M → List Happening → List Happening → Type 0
+GoesOn {M} decoding w those these = (extra : List (Put M)) × ((world_run decoding w these).put ≡ (world_run decoding w those).put ++ extra)
+
+-- what was put out stays in front
+put_stays : {M : Type 0} (decoding : Decoding M) (w : World M) (es : List Happening) → GoesOn decoding w [] es
+put_stays decoding w [] = ([], sym (append-nil w.put))
+put_stays decoding w (e ∷ es) =
+    let here = puts_below decoding e w.readers w.count in
+    let rest = put_stays decoding (world_after decoding w e) es in
+    (here ++ rest.0, rest.1 ∙ append_assoc w.put here rest.0)
+
+goes_on_behind : {M : Type 0} (decoding : Decoding M) (those these : List Happening) → ((w : World M) → GoesOn decoding w those these) → (w : World M) (es : List Happening)
+    → GoesOn decoding w (es ++ those) (es ++ these)
+goes_on_behind decoding those these on w [] = on w
+goes_on_behind decoding those these on w (e ∷ es) = goes_on_behind decoding those these on (world_after decoding w e) es
+
+goes_on : {M : Type 0} (decoding : Decoding M) (own : GuidPrefix) (index : ℕ) (records more : List (List ℕ)) (w : World M)
+    → GoesOn decoding w (events_from own index records) (events_from own index (records ++ more))
+goes_on decoding own index [] more w = put_stays decoding w (events_from own index more)
+goes_on decoding own index (octets ∷ records) more w =
+    goes_on_behind decoding (events_from own (index + 1) records) (events_from own (index + 1) (records ++ more)) (goes_on decoding own (index + 1) records more) w (events_of own index octets)
+
+-- what was said of the first records begins the whole text of all
+pub fronts : {C M : Type 0} (text : C → M → List ℕ) (decoding : C → Decoding M) (summary : Bool) (engine : EngineKept C) (records more : List (List ℕ)) (said : List ℕ)
+    → HasSaid text decoding records said engine → IsFront said (text_by text decoding engine summary (records ++ more))
+fronts text decoding summary engine records more said h =
+    let line = put_line (text engine.catalog) in
+    let on = goes_on (decoding engine.catalog) engine.config.own 0 records more (first_world engine.config) in
+    let rest = if summary then summary_text (run_by decoding engine (records ++ more)) else [] in (
+      flat_map line on.0 ++ rest,
+      ap (λ l. flat_map line l ++ rest) on.1
+          ∙ ap (λ l. l ++ rest) (flat_map-append line (run_by decoding engine records).put on.0 ∙ ap (λ l. l ++ flat_map line on.0) (sym h.lines))
+          ∙ append_assoc said (flat_map line on.0) rest,
+    )
 
 -- engines of one catalog and one configuration have one text
 pub same_text : {C M : Type 0} (text : C → M → List ℕ) (decoding : C → Decoding M) (a b : EngineKept C) (s t : Bool) → a.catalog ≡ b.catalog → a.config ≡ b.config → s ≡ t

@@ -6,7 +6,7 @@ ghost use Rattle.rtps_text.specs.Line.{body_text, flags_text, form_word, fragmen
 ghost use Rattle.rtps_receiver.specs.Views.{fragment_view, gap_view, heartbeat_frag_view, heartbeat_view, whole_view};
 
 use crate::numbers::push_members;
-use rtps_ascii::{push_hex, push_number, push_octet, push_signed, push_word};
+use rtps_ascii::{push_hex, push_hex_array, push_number, push_octet, push_signed, push_word};
 use rtps_receiver::{Body, Fragment, Gap, Heartbeat, HeartbeatFrag, Whole};
 use rtps_types::KeyHash;
 use rtps_wire::Form;
@@ -73,7 +73,7 @@ fn push_hash<A: Allocator>(out: &mut Vec<u8, A>, hash: Option<KeyHash>) -> Resul
     let Some(hash) = hash else {
         return push_octet(out, b'-');
     };
-    push_hex(out, &hash.0)
+    push_hex_array(out, &hash.0)
 }
 
 fn push_whole<A: Allocator>(out: &mut Vec<u8, A>, whole: &Whole<'_>) -> Result<(), AllocError>
@@ -82,7 +82,7 @@ fn push_whole<A: Allocator>(out: &mut Vec<u8, A>, whole: &Whole<'_>) -> Result<(
     push_word(out, "data ")?;
     push_number(out, whole.number.get())?;
     push_octet(out, b' ')?;
-    push_hex(out, &[whole.info.status])?;
+    push_hex_array(out, &[whole.info.status])?;
     push_octet(out, b' ')?;
     push_form(out, whole.info.form)?;
     push_octet(out, b' ')?;
@@ -96,7 +96,8 @@ fn push_pieces<A: Allocator>(
     out: &mut Vec<u8, A>,
     fragment: &Fragment<'_>,
 ) -> Result<(), AllocError>
-    ensures { OnOk result (out.new.items ≡ out.old.items ++ pieces_text (fragment_view fragment.now)) }
+    ensures { OnOk result (out.new.items ≡ out.old.items ++
+        pieces_text (fragment_view fragment.now)) }
 {
     push_number(out, u64::from(fragment.start))?;
     push_octet(out, b' ')?;
@@ -115,12 +116,13 @@ fn push_fragment<A: Allocator>(
     out: &mut Vec<u8, A>,
     fragment: &Fragment<'_>,
 ) -> Result<(), AllocError>
-    ensures { OnOk result (out.new.items ≡ out.old.items ++ fragment_text (fragment_view fragment.now)) }
+    ensures { OnOk result (out.new.items ≡ out.old.items ++
+        fragment_text (fragment_view fragment.now)) }
 {
     push_word(out, "frag ")?;
     push_number(out, fragment.number.get())?;
     push_octet(out, b' ')?;
-    push_hex(out, &[fragment.info.status])?;
+    push_hex_array(out, &[fragment.info.status])?;
     push_octet(out, b' ')?;
     push_form(out, fragment.info.form)?;
     push_octet(out, b' ')?;
@@ -131,7 +133,8 @@ fn push_heartbeat<A: Allocator>(
     out: &mut Vec<u8, A>,
     heartbeat: &Heartbeat,
 ) -> Result<(), AllocError>
-    ensures { OnOk result (out.new.items ≡ out.old.items ++ heartbeat_text (heartbeat_view heartbeat.now)) }
+    ensures { OnOk result (out.new.items ≡ out.old.items ++
+        heartbeat_text (heartbeat_view heartbeat.now)) }
 {
     push_word(out, "heartbeat ")?;
     push_number(out, heartbeat.first.get())?;
@@ -158,7 +161,8 @@ fn push_heartbeat_frag<A: Allocator>(
     out: &mut Vec<u8, A>,
     heartbeat: &HeartbeatFrag,
 ) -> Result<(), AllocError>
-    ensures { OnOk result (out.new.items ≡ out.old.items ++ heartbeat_frag_text (heartbeat_frag_view heartbeat.now)) }
+    ensures { OnOk result (out.new.items ≡ out.old.items ++
+        heartbeat_frag_text (heartbeat_frag_view heartbeat.now)) }
 {
     push_word(out, "heartbeat-frag ")?;
     push_number(out, heartbeat.number.get())?;

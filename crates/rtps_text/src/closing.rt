@@ -1,4 +1,4 @@
-//! What stands behind the last line of a run: its matches, and how its readers stand.
+//! What comes after the last line of a run: its matches, and the status of each reader.
 
 ghost use Rattle.std.specs.Prelude.{◌≡◌, ◌++◌, List, OnOk, ℕ};
 ghost use Rattle.rtps_records.specs.Text.{IsFront};
@@ -21,7 +21,8 @@ pub(crate) fn push_summary<C: Catalog, A: Allocator, B: Allocator + Copy>(
 ) -> Result<(), AllocError>
     ensures grows { OnOk result (IsFront out.old.items out.new.items) }
     ensures sums { (datagrams : List (List ℕ)) → StandsAt C.decoding datagrams engine.now
-        → OnOk result (out.new.items ≡ out.old.items ++ summary_text (run_by C.decoding engine.now datagrams)) }
+        → OnOk result (out.new.items ≡ out.old.items ++
+        summary_text (run_by C.decoding engine.now datagrams)) }
 {
     let Ok(matches) = engine.matches(alloc) else {
         return Err(AllocError);
@@ -43,14 +44,15 @@ fn push_all_matches<A: Allocator, B: Allocator>(
     Ok(())
 }
 
-/// Adds the line of how each reader stands.
+/// Adds the line of each reader's status.
 fn push_statuses<C: Catalog, A: Allocator, B: Allocator + Copy>(
     out: &mut Vec<u8, A>,
     engine: &SerialEngine<C, B>,
 ) -> Result<(), AllocError>
     ensures grows { OnOk result (IsFront out.old.items out.new.items) }
     ensures tells { (datagrams : List (List ℕ)) → StandsAt C.decoding datagrams engine.now
-        → OnOk result (out.new.items ≡ out.old.items ++ status_lines (run_by C.decoding engine.now datagrams)
+        → OnOk result (out.new.items ≡ out.old.items ++
+        status_lines (run_by C.decoding engine.now datagrams)
         (run_by C.decoding engine.now datagrams).count) }
 {
     for rank in 0..engine.readers() {

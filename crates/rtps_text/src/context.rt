@@ -1,4 +1,4 @@
-//! What stands before an event's body: its place and its context.
+//! What comes before an event's body: its place and its context.
 
 ghost use Rattle.std.specs.Prelude.{◌≡◌, ◌++◌, OnOk, length};
 ghost use Rattle.std.specs.Int.{w32, to_be_bytes};
@@ -6,7 +6,7 @@ ghost use Rattle.rtps_ascii.specs.Hex.{hex_text};
 ghost use Rattle.rtps_receiver.specs.Events.{view};
 ghost use Rattle.rtps_text.specs.Line.{context_text, place_text, time_text};
 
-use rtps_ascii::{push_hex, push_number, push_octet};
+use rtps_ascii::{push_hex_array, push_number, push_octet};
 use rtps_receiver::Event;
 use rtps_types::{Place, Timestamp};
 use std::alloc::{AllocError, Allocator};
@@ -58,11 +58,11 @@ pub(crate) fn push_context<A: Allocator>(
 {
     push_place(out, event.place)?;
     push_octet(out, b' ')?;
-    push_hex(out, &event.source.0)?;
+    push_hex_array(out, &event.source.0)?;
     push_octet(out, b' ')?;
     push_time(out, event.time)?;
     push_octet(out, b' ')?;
-    push_hex(out, &event.writer.0)?;
+    push_hex_array(out, &event.writer.0)?;
     push_octet(out, b' ')?;
-    push_hex(out, &event.reader.0)
+    push_hex_array(out, &event.reader.0)
 }

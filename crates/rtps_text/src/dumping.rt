@@ -45,12 +45,11 @@ pub fn dump_in<A: Allocator + Copy, R: Read, W: Write>(
         (W.contents writer.old) (W.contents writer.new)) }
 {
     let mut records = Records::new(alloc, reader)?;
-    print_events(alloc, own, &mut records, &mut Lines::new(alloc, writer))
+    print_events(own, &mut records, &mut Lines::new(alloc, writer))
 }
 
 /// Prints the events of all records.
-fn print_events<A: Allocator + Copy, R: Read, W: Write>(
-    alloc: A,
+fn print_events<A: Allocator, R: Read, W: Write>(
     own: GuidPrefix,
     records: &mut Records<'_, R, Buffer<A>>,
     lines: &mut Lines<'_, W, Vec<u8, A>>,
@@ -70,7 +69,7 @@ fn print_events<A: Allocator + Copy, R: Read, W: Write>(
     loop {
         let number = records.count();
         match records.next() {
-            Ok(Some(octets)) => push_events(&mut lines.text, alloc, own, number, octets)?,
+            Ok(Some(octets)) => push_events(&mut lines.text, own, number, octets)?,
             Ok(None) => return lines.close(),
             Err(fault) => {
                 lines.close()?;

@@ -4,15 +4,14 @@ ghost use Rattle.std.specs.Prelude.{◌≡◌, ◌≤◌, ◌++◌, OnOk, length
 ghost use Rattle.rtps_text.specs.EventLines.{lines_of};
 
 use crate::line::push_line;
-use rtps_receiver::events;
+use rtps_receiver::Events;
 use rtps_types::GuidPrefix;
 use std::alloc::{AllocError, Allocator};
 
-/// Adds a line for each event of the datagram with this index, as the participant of the prefix `own`
-/// sees it. `alloc` is where the events are kept while they are printed.
-pub(crate) fn push_events<A: Allocator, B: Allocator + Copy>(
+/// Adds a line for each event of the datagram with this index, as the participant of this prefix
+/// sees it.
+pub(crate) fn push_events<A: Allocator>(
     out: &mut Vec<u8, A>,
-    alloc: B,
     own: GuidPrefix,
     index: u32,
     datagram: &[u8],
@@ -20,9 +19,8 @@ pub(crate) fn push_events<A: Allocator, B: Allocator + Copy>(
     requires { length datagram.now ≤ 65507 }
     ensures { OnOk result (out.new.items ≡ out.old.items ++ lines_of own index datagram.now) }
 {
-    let found = events(alloc, own, u64::from(index), datagram)?;
-    for event in &found {
-        push_line(out, event)?;
+    for event in Events::new(own, u64::from(index), datagram) {
+        push_line(out, &event)?;
     }
     Ok(())
 }

@@ -3,7 +3,7 @@
 ghost use Rattle.std.specs.Prelude.{◌≡◌, ◌++◌, OnOk};
 ghost use Rattle.rtps_text.specs.Told.{guid_text};
 
-use rtps_ascii::push_hex;
+use rtps_ascii::push_hex_array;
 use rtps_types::Guid;
 use std::alloc::{AllocError, Allocator};
 
@@ -11,6 +11,6 @@ use std::alloc::{AllocError, Allocator};
 pub(crate) fn push_guid<A: Allocator>(out: &mut Vec<u8, A>, guid: Guid) -> Result<(), AllocError>
     ensures { OnOk result (out.new.items ≡ out.old.items ++ guid_text guid) }
 {
-    push_hex(out, &guid.prefix.0)?;
-    push_hex(out, &guid.entity.0)
+    push_hex_array(out, &guid.prefix.0)?;
+    push_hex_array(out, &guid.entity.0)
 }

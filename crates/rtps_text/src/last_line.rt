@@ -25,7 +25,8 @@ pub struct LastLine<A: Allocator = Global> {
     change_octets: Vec<u8, A>,
     ghost place_right: { ForSome place (λ p. place_octets.items ≡ place_text p) },
     ghost writer_right: { ForSome writer (λ w. writer_octets.items ≡ guid_text w) },
-    ghost change_right: { ForSome change (λ c. change_octets.items ≡ (decimal (value_of c.0) then time_text c.1)) },
+    ghost change_right: { ForSome change (λ c. change_octets.items ≡
+        (decimal (value_of c.0) then time_text c.1)) },
 }
 
 impl<A: Allocator + Copy> LastLine<A> {
@@ -82,7 +83,8 @@ impl<A: Allocator + Copy> LastLine<A> {
         number: Number,
         time: Option<Timestamp>,
     ) -> Result<(), AllocError>
-        ensures { OnOk result (out.new.items ≡ out.old.items ++ (decimal (value_of number) then time_text time)) }
+        ensures { OnOk result (out.new.items ≡ out.old.items ++
+            (decimal (value_of number) then time_text time)) }
     {
         if self.change != Some((number, time)) {
             self.change = None;
@@ -100,7 +102,8 @@ fn push_dated<A: Allocator>(
     number: Number,
     time: Option<Timestamp>,
 ) -> Result<(), AllocError>
-    ensures { OnOk result (out.new.items ≡ out.old.items ++ (decimal (value_of number) then time_text time)) }
+    ensures { OnOk result (out.new.items ≡ out.old.items ++
+        (decimal (value_of number) then time_text time)) }
 {
     push_number(out, number.get())?;
     push_octet(out, b' ')?;

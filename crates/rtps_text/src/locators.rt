@@ -21,7 +21,7 @@ pub(crate) fn push_locators<A: Allocator>(
     push_more(out, rest)
 }
 
-/// Adds locators behind others, each behind a comma.
+/// Adds locators after others, each after a comma.
 fn push_more<A: Allocator>(out: &mut Vec<u8, A>, locators: &[Locator]) -> Result<(), AllocError>
     ensures { OnOk result (out.new.items ≡ out.old.items ++ more_locators locators.now) }
 {

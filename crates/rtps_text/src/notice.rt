@@ -1,4 +1,4 @@
-//! The line of what a reader tells.
+//! The line of what a reader reports.
 
 ghost use Rattle.std.specs.Prelude.{◌≡◌, ◌++◌, OnOk};
 ghost use Rattle.std.specs.Fmt.{decimal};
@@ -23,7 +23,8 @@ pub fn push_notice<C: TextCatalog, A: Allocator, B: Allocator + Copy>(
     rank: u32,
     notice: &Notice<C::Value>,
 ) -> Result<(), AllocError>
-    ensures { OnOk result (out.new.items ≡ out.old.items ++ heard_line (C.text_of catalog.now) rank (notice_view C.view notice.now)) }
+    ensures { OnOk result (out.new.items ≡ out.old.items ++
+        heard_line (C.text_of catalog.now) rank (notice_view C.view notice.now)) }
 {
     last.push_place(out, notice.place)?;
     push_word(out, " reader ")?;
@@ -41,7 +42,8 @@ fn push_kind<C: TextCatalog, A: Allocator, B: Allocator + Copy>(
     writer: Guid,
     what: &NoticeKind<C::Value>,
 ) -> Result<(), AllocError>
-    ensures { OnOk result (out.new.items ≡ out.old.items ++ notice_text (C.text_of catalog.now) writer (kind_view C.view what.now)) }
+    ensures { OnOk result (out.new.items ≡ out.old.items ++
+        notice_text (C.text_of catalog.now) writer (kind_view C.view what.now)) }
 {
     match what {
         NoticeKind::Sample { number, time, body } => {
@@ -82,7 +84,8 @@ fn push_counted<A: Allocator, B: Allocator + Copy>(
     writer: Guid,
     number: u64,
 ) -> Result<(), AllocError>
-    ensures { OnOk result (out.new.items ≡ out.old.items ++ (word.now then guid_text writer then decimal number)) }
+    ensures { OnOk result (out.new.items ≡ out.old.items ++
+        (word.now then guid_text writer then decimal number)) }
 {
     push_about(out, last, word, writer)?;
     push_octet(out, b' ')?;

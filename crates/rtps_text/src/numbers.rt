@@ -14,7 +14,8 @@ pub(crate) fn push_members<A: Allocator>(
     out: &mut Vec<u8, A>,
     set: &SnSet,
 ) -> Result<(), AllocError>
-    ensures { OnOk result (out.new.items ≡ out.old.items ++ numbers_text (members (sn_view set.now))) }
+    ensures { OnOk result (out.new.items ≡ out.old.items ++
+        numbers_text (members (sn_view set.now))) }
 {
     let mut members = set.members();
     match members.next() {

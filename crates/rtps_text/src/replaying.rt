@@ -44,7 +44,8 @@ struct RunLines<C: TextCatalog, B: Allocator> {
 impl<C: TextCatalog, B: Allocator + Copy> RunLines<C, B> {
     /// No datagram was taken, and nothing was printed.
     fn new(alloc: B, values: Global, setup: Setup<C>) -> Result<RunLines<C, B>, AllocError>
-        ensures same { IfOk result (λ run. (run.engine.catalog ≡ setup.catalog) × (run.engine.config ≡ setup.config) × (run.summary ≡ setup.summary)) }
+        ensures same { IfOk result (λ run. (run.engine.catalog ≡ setup.catalog) ×
+            (run.engine.config ≡ setup.config) × (run.summary ≡ setup.summary)) }
         ensures fresh { IfOk result (λ run. HasSaid C.text_of C.decoding [] [] run.engine) }
     {
         let Setup {
@@ -67,7 +68,9 @@ impl<C: TextCatalog, B: Allocator + Copy> RunLines<C, B> {
     /// Gives the engine the datagram of a record, and adds the lines of what follows from it.
     fn print<A: Allocator>(&mut self, octets: &[u8], out: &mut Vec<u8, A>) -> Result<(), AllocError>
         requires { length octets.now ≤ 65507 }
-        ensures same { (self.new.engine.catalog ≡ self.old.engine.catalog) × (self.new.engine.config ≡ self.old.engine.config) × (self.new.summary ≡ self.old.summary) }
+        ensures same { (self.new.engine.catalog ≡ self.old.engine.catalog) ×
+            (self.new.engine.config ≡ self.old.engine.config) ×
+            (self.new.summary ≡ self.old.summary) }
         ensures says { (number : ℕ) → OnOk result (Says
             (λ records said. HasSaid C.text_of C.decoding records said self.old.engine)
             (λ records said. HasSaid C.text_of C.decoding records said self.new.engine)
@@ -102,10 +105,13 @@ impl<C: TextCatalog, B: Allocator + Copy> RunLines<C, B> {
         writer: &mut W,
     ) -> Result<(), RunFault>
         requires fresh { HasSaid C.text_of C.decoding [] [] self.old.engine }
-        ensures ok { OnOk result (WroteAll (text_by C.text_of C.decoding self.old.engine self.old.summary)
+        ensures ok { OnOk result (WroteAll
+            (text_by C.text_of C.decoding self.old.engine self.old.summary)
             (R.remaining reader.old) (W.contents writer.old) (W.contents writer.new) None) }
-        ensures fault { IfErr result (λ fault. Stops (text_by C.text_of C.decoding self.old.engine self.old.summary)
-            fault (R.remaining reader.old) (R.remaining reader.new) (W.contents writer.old) (W.contents writer.new)) }
+        ensures fault { IfErr result (λ fault. Stops
+            (text_by C.text_of C.decoding self.old.engine self.old.summary)
+            fault (R.remaining reader.old) (R.remaining reader.new)
+            (W.contents writer.old) (W.contents writer.new)) }
     {
         let mut records = Records::new(self.alloc, reader)?;
         print_run(self, &mut records, &mut Lines::new(self.alloc, writer))
@@ -120,11 +126,13 @@ impl<C: TextCatalog, B: Allocator + Copy> RunLines<C, B> {
         ensures ok { OnOk result (Closes
             (λ records said. HasSaid C.text_of C.decoding records said self.now.engine)
             (text_by C.text_of C.decoding self.now.engine self.now.summary)
-            (W.contents lines.old.writer.now) (W.contents lines.new.writer.now) lines.old.text.items) }
+            (W.contents lines.old.writer.now) (W.contents lines.new.writer.now)
+            lines.old.text.items) }
         ensures fault { IfErr result (λ fault. ClosesNot fault
             (λ records said. HasSaid C.text_of C.decoding records said self.now.engine)
             (text_by C.text_of C.decoding self.now.engine self.now.summary)
-            (W.contents lines.old.writer.now) (W.contents lines.new.writer.now) lines.old.text.items) }
+            (W.contents lines.old.writer.now) (W.contents lines.new.writer.now)
+            lines.old.text.items) }
     {
         self.finish(&mut lines.text)?;
         lines.close()
@@ -143,10 +151,15 @@ pub fn replay<C: TextCatalog, R: Read, W: Write>(
     reader: &mut R,
     writer: &mut W,
 ) -> Result<(), RunFault>
-    ensures ok { OnOk result (WroteAll (replay_text (C.text_of setup.catalog) (C.decoding setup.catalog) setup.config setup.summary)
+    ensures ok { OnOk result (WroteAll
+        (replay_text (C.text_of setup.catalog) (C.decoding setup.catalog)
+        setup.config setup.summary)
         (R.remaining reader.old) (W.contents writer.old) (W.contents writer.new) None) }
-    ensures fault { IfErr result (λ fault. Stops (replay_text (C.text_of setup.catalog) (C.decoding setup.catalog) setup.config setup.summary)
-        fault (R.remaining reader.old) (R.remaining reader.new) (W.contents writer.old) (W.contents writer.new)) }
+    ensures fault { IfErr result (λ fault. Stops
+        (replay_text (C.text_of setup.catalog) (C.decoding setup.catalog)
+        setup.config setup.summary)
+        fault (R.remaining reader.old) (R.remaining reader.new)
+        (W.contents writer.old) (W.contents writer.new)) }
 {
     replay_in(alloc, alloc, setup, reader, writer)
 }
@@ -159,10 +172,15 @@ pub fn replay_in<C: TextCatalog, B: Allocator + Copy, R: Read, W: Write>(
     reader: &mut R,
     writer: &mut W,
 ) -> Result<(), RunFault>
-    ensures ok { OnOk result (WroteAll (replay_text (C.text_of setup.catalog) (C.decoding setup.catalog) setup.config setup.summary)
+    ensures ok { OnOk result (WroteAll
+        (replay_text (C.text_of setup.catalog) (C.decoding setup.catalog)
+        setup.config setup.summary)
         (R.remaining reader.old) (W.contents writer.old) (W.contents writer.new) None) }
-    ensures fault { IfErr result (λ fault. Stops (replay_text (C.text_of setup.catalog) (C.decoding setup.catalog) setup.config setup.summary)
-        fault (R.remaining reader.old) (R.remaining reader.new) (W.contents writer.old) (W.contents writer.new)) }
+    ensures fault { IfErr result (λ fault. Stops
+        (replay_text (C.text_of setup.catalog) (C.decoding setup.catalog)
+        setup.config setup.summary)
+        fault (R.remaining reader.old) (R.remaining reader.new)
+        (W.contents writer.old) (W.contents writer.new)) }
 {
     RunLines::new(alloc, values, setup)?.print_file(reader, writer)
 }
@@ -179,9 +197,12 @@ fn print_run<C: TextCatalog, A: Allocator, B: Allocator + Copy, R: Read, W: Writ
     ensures same_reader { records.new.reader.ghost_name ≡ records.old.reader.ghost_name }
     ensures same_writer { lines.new.writer.ghost_name ≡ lines.old.writer.ghost_name }
     ensures ok { OnOk result (WroteAll (text_by C.text_of C.decoding run.old.engine run.old.summary)
-        (R.remaining records.old.reader.now) (W.contents lines.old.writer.now) (W.contents lines.new.writer.now) None) }
-    ensures fault { IfErr result (λ fault. Stops (text_by C.text_of C.decoding run.old.engine run.old.summary)
-        fault (R.remaining records.old.reader.now) (R.remaining records.new.reader.now) (W.contents lines.old.writer.now) (W.contents lines.new.writer.now)) }
+        (R.remaining records.old.reader.now)
+        (W.contents lines.old.writer.now) (W.contents lines.new.writer.now) None) }
+    ensures fault { IfErr result (λ fault. Stops
+        (text_by C.text_of C.decoding run.old.engine run.old.summary)
+        fault (R.remaining records.old.reader.now) (R.remaining records.new.reader.now)
+        (W.contents lines.old.writer.now) (W.contents lines.new.writer.now)) }
 {
     records.open()?;
     loop {

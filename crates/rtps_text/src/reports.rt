@@ -18,7 +18,8 @@ pub(crate) fn push_reports<C: TextCatalog, A: Allocator, B: Allocator + Copy>(
     catalog: &C,
     reports: &[Report<C::Value, B>],
 ) -> Result<(), AllocError>
-    ensures { OnOk result (out.new.items ≡ out.old.items ++ put_lines (C.text_of catalog.now) (map (report_view C.view) reports.now)) }
+    ensures { OnOk result (out.new.items ≡ out.old.items ++
+        put_lines (C.text_of catalog.now) (map (report_view C.view) reports.now)) }
 {
     for report in reports {
         push_report(out, last, catalog, report)?;
@@ -33,7 +34,8 @@ fn push_report<C: TextCatalog, A: Allocator, B: Allocator + Copy>(
     catalog: &C,
     report: &Report<C::Value, B>,
 ) -> Result<(), AllocError>
-    ensures { OnOk result (out.new.items ≡ out.old.items ++ put_line (C.text_of catalog.now) (report_view C.view report.now)) }
+    ensures { OnOk result (out.new.items ≡ out.old.items ++
+        put_line (C.text_of catalog.now) (report_view C.view report.now)) }
 {
     match report {
         Report::Notice { rank, notice } => push_notice(out, last, catalog, *rank, notice),

@@ -9,7 +9,7 @@ ghost use Rattle.rtps_text.specs.Line.{◌then◌};
 ghost use Rattle.rtps_text.specs.Told.{sample_text};
 
 use dds_topic::{TextCatalog, Unread};
-use rtps_ascii::{push_hex, push_number, push_octet, push_word};
+use rtps_ascii::{push_hex_array, push_number, push_octet, push_word};
 use rtps_reader::Body;
 use rtps_types::KeyHash;
 use std::alloc::{AllocError, Allocator};
@@ -20,7 +20,8 @@ pub(crate) fn push_presented<C: TextCatalog, A: Allocator>(
     catalog: &C,
     body: &Body<C::Value>,
 ) -> Result<(), AllocError>
-    ensures { OnOk result (out.new.items ≡ out.old.items ++ sample_text (C.text_of catalog.now) (body_map C.view body.now)) }
+    ensures { OnOk result (out.new.items ≡ out.old.items ++
+        sample_text (C.text_of catalog.now) (body_map C.view body.now)) }
 {
     match body {
         Body::Value(_, value) => push_value(out, catalog, value),
@@ -35,7 +36,8 @@ fn push_value<C: TextCatalog, A: Allocator>(
     catalog: &C,
     value: &C::Value,
 ) -> Result<(), AllocError>
-    ensures { OnOk result (out.new.items ≡ out.old.items ++ (codes "value" then C.text_of catalog.now (C.view value.now))) }
+    ensures { OnOk result (out.new.items ≡ out.old.items ++
+        (codes "value" then C.text_of catalog.now (C.view value.now))) }
 {
     push_word(out, "value ")?;
     catalog.push_text(out, value)
@@ -51,11 +53,12 @@ fn push_ended<A: Allocator>(
 {
     push_word(out, word)?;
     push_octet(out, b' ')?;
-    push_hex(out, &hash.0)
+    push_hex_array(out, &hash.0)
 }
 
 fn push_unread<A: Allocator>(out: &mut Vec<u8, A>, unread: Unread) -> Result<(), AllocError>
-    ensures { OnOk result (out.new.items ≡ out.old.items ++ (codes "unread" then decimal (code_of unread))) }
+    ensures { OnOk result (out.new.items ≡ out.old.items ++
+        (codes "unread" then decimal (code_of unread))) }
 {
     push_word(out, "unread ")?;
     push_number(out, u64::from(unread.code()))

@@ -1,4 +1,4 @@
-//! The lines of a reader's matches and of how it stands.
+//! The lines of a reader's matches and of its status.
 
 ghost use Rattle.std.specs.Prelude.{◌≡◌, ◌++◌, OnOk};
 ghost use Rattle.rtps_text.specs.Told.{match_line, matches_text, policy_text, status_line};
@@ -24,7 +24,7 @@ pub fn push_match<A: Allocator>(
     push_octet(out, b'\n')
 }
 
-/// Adds the line of how the reader of this rank stands, with its end.
+/// Adds the line of the status of the reader of this rank, with its end.
 pub fn push_status<A: Allocator>(
     out: &mut Vec<u8, A>,
     rank: u32,
@@ -43,7 +43,7 @@ pub fn push_status<A: Allocator>(
     push_octet(out, b'\n')
 }
 
-/// Adds the totals and the number of matches, and the policy that was told last.
+/// Adds the totals and the number of matches, and the policy that was reported last.
 fn push_matches<A: Allocator>(out: &mut Vec<u8, A>, status: &Status) -> Result<(), AllocError>
     ensures { OnOk result (out.new.items ≡ out.old.items ++ matches_text status.now) }
 {

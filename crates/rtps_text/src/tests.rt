@@ -47,12 +47,13 @@ const LINES: [&str; 8] = [
     "1:3 0102030405060708090a0b0c - 000001c2 000001c7 heartbeat 1 0 5 -",
 ];
 
-fn file(alloc: Global) -> Result<Vec<u8>, Fail> {
-    let mut file = Vec::new(alloc);
-    for part in FILE {
-        file.extend_from_slice(hex::decode(alloc, part)?.as_slice())?;
+/// The octets of these parts, which are in hex.
+fn octets(alloc: Global, parts: &[&str]) -> Result<Vec<u8>, Fail> {
+    let mut octets = Vec::new(alloc);
+    for part in parts {
+        octets.extend_from_slice(hex::decode(alloc, *part)?.as_slice())?;
     }
-    Ok(file)
+    Ok(octets)
 }
 
 /// These lines, each with its end.
@@ -67,7 +68,7 @@ fn text(alloc: Global, lines: &[&str]) -> Result<String, Fail> {
 
 #[test]
 fn prints_a_front_where_a_growth_is_refused(rt: HostRuntime) -> Result<(), Fail> {
-    let file = file(rt.alloc())?;
+    let file = octets(rt.alloc(), &FILE)?;
     let text = text(rt.alloc(), &LINES)?;
     let mut refused = 0;
     for step in 0..40 {
@@ -104,7 +105,7 @@ impl Read for Failing<'_> {
 
 #[test]
 fn prints_the_records_before_a_read_that_fails(rt: HostRuntime) -> Result<(), Fail> {
-    let file = file(rt.alloc())?;
+    let file = octets(rt.alloc(), &FILE)?;
     let first = text(rt.alloc(), &LINES[..5])?;
     for read in [FIRST, FIRST + 2, FIRST + 50] {
         let front = file.as_slice().get(..read).unwrap_or(&[]);

@@ -1,13 +1,7 @@
 //! Runs of reliable readers over a record file that was written down by hand.
 
-use super::runs::{config_of, setup};
-use super::text;
-use crate::replay_in;
+use super::runs::refuses_and_prints;
 use dds_qos::Reliability;
-use dds_topic::Shapes;
-use linked_list_allocator::LocalHeap;
-use rtps_records::RunFault;
-use std::alloc::Global;
 use std::test::Fail;
 
 /// `RDG1`, and a datagram with the changes 1 and 3 and a heartbeat of the numbers 1 to 3.
@@ -28,34 +22,8 @@ const LINES: [&str; 4] = [
     "0:3 answer - 52545053020500000b0b0b0b0b0b0b0b0b0b0b0b0e010c000a0a0a0a0a0a0a0a0a0a0a0a06011c0000000207000001020000000002000000010000000000008001000000",
 ];
 
-fn file(alloc: Global) -> Result<Vec<u8>, Fail> {
-    let mut file = Vec::new(alloc);
-    for part in FILE {
-        file.extend_from_slice(hex::decode(alloc, part)?.as_slice())?;
-    }
-    Ok(file)
-}
-
 #[test]
 fn prints_a_front_where_a_growth_for_an_answer_is_refused(rt: HostRuntime) -> Result<(), Fail> {
-    let alloc = rt.alloc();
-    let file = file(alloc)?;
-    let text = text(alloc, &LINES)?;
-    let mut refused = 0;
-    for step in 0..60 {
-        let heap = LocalHeap::new(alloc, 65_400 + step * 128)?;
-        let config = config_of(alloc, Reliability::Reliable)?;
-        let mut out = Vec::new(alloc);
-        let reader = &mut file.as_slice();
-        let outcome = replay_in(&heap, alloc, setup(config, Shapes, false), reader, &mut out);
-        if outcome.is_ok() {
-            assert_eq!(rt; out.as_slice(), text.as_bytes());
-        } else {
-            refused = step;
-            assert_eq!(rt; outcome, Err(RunFault::NoMemory), "at {step}");
-            assert!(rt; text.as_bytes().starts_with(out.as_slice()));
-        }
-    }
-    assert!(rt; 0 < refused && refused < 59);
+    assert!(rt; refuses_and_prints(rt.alloc(), Reliability::Reliable, &FILE, &LINES)?);
     Ok(())
 }

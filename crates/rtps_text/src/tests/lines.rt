@@ -1,11 +1,10 @@
 //! The lines of a run against lines that were written down by hand.
 
-use super::text;
 use crate::{LastLine, push_answer, push_match, push_notice, push_status};
-use dds_topic::{Catalog, Raw, RawValue, Shapes, TextCatalog, Unread};
-use rtps_reader::{Body, Notice, NoticeKind, Status};
-use rtps_types::{EntityId, Guid, GuidPrefix, KeyHash, Locator, Number, Place, Timestamp};
-use std::alloc::Global;
+use dds_topic::{Raw, RawValue};
+use rtps_reader::{Notice, NoticeKind, Status};
+use rtps_types::{EntityId, Guid, GuidPrefix, Locator, Place};
+use std::alloc::{AllocError, Global};
 use std::test::Fail;
 
 const PLACE: Place = Place {
@@ -18,19 +17,6 @@ const WRITER: Guid = Guid {
     entity: EntityId([0, 0, 1, 0xc2]),
 };
 
-const TIME: Timestamp = Timestamp {
-    seconds: 0x11223344,
-    fraction: 0x00667788,
-};
-
-const HASH: KeyHash = KeyHash([0, 1, 2, 3, 4, 5, 6, 7, 8, 9, 10, 11, 12, 13, 14, 0xff]);
-
-/// BLUE at 10, -20 of size 30, in little-endian CDR.
-const BLUE: [u8; 24] = [
-    5, 0, 0, 0, 0x42, 0x4c, 0x55, 0x45, 0, 0, 0, 0, 10, 0, 0, 0, 0xec, 0xff, 0xff, 0xff, 30, 0, 0,
-    0,
-];
-
 const HERE: Locator = Locator {
     port: 7410,
     address: [192, 0, 2, 17],
@@ -41,36 +27,20 @@ const THERE: Locator = Locator {
     address: [10, 20, 30, 255],
 };
 
-/// The line of what the reader of rank 3 tells.
-fn heard<C: TextCatalog>(
-    alloc: Global,
-    catalog: &C,
-    what: NoticeKind<C::Value>,
-) -> Result<Vec<u8>, Fail> {
+/// The line of what the reader of rank 3 reports.
+fn heard(alloc: Global, what: NoticeKind<RawValue>) -> Result<Vec<u8>, Fail> {
     let notice = Notice {
         place: PLACE,
         writer: WRITER,
         what,
     };
     let mut out = Vec::new(alloc);
-    push_notice(&mut out, &mut LastLine::none(alloc), catalog, 3, &notice)?;
+    push_notice(&mut out, &mut LastLine::none(alloc), &Raw, 3, &notice)?;
     Ok(out)
 }
 
-/// A change of this number and time.
-fn sample<V: Drop>(
-    number: u64,
-    time: Option<Timestamp>,
-    body: Body<V>,
-) -> Result<NoticeKind<V>, Fail> {
-    match Number::new(number) {
-        Some(number) => Ok(NoticeKind::Sample { number, time, body }),
-        None => Err(Fail::new("no number")),
-    }
-}
-
 #[test]
-fn prints_what_is_told_of_matches(rt: HostRuntime) -> Result<(), Fail> {
+fn prints_what_is_reported_of_matches(rt: HostRuntime) -> Result<(), Fail> {
     let lines: [(NoticeKind<RawValue>, &str); 4] = [
         (
             NoticeKind::Matched,
@@ -92,13 +62,28 @@ fn prints_what_is_told_of_matches(rt: HostRuntime) -> Result<(), Fail> {
         ),
     ];
     for (what, line) in lines {
-        let out = heard(rt.alloc(), &Raw, what)?;
+        let out = heard(rt.alloc(), what)?;
         assert_eq!(rt; out.as_slice(), line.as_bytes(), "for {line}");
     }
     Ok(())
 }
 
-/// Three lines, of two places and two writers, with what each keeps of the one before.
+/// The lines of matches at these places, each with what is kept of the one before.
+fn matched(alloc: Global, matches: [(Place, Guid); 3]) -> Result<Vec<u8>, AllocError> {
+    let mut last = LastLine::none(alloc);
+    let mut out = Vec::new(alloc);
+    for (place, writer) in matches {
+        let notice = Notice {
+            place,
+            writer,
+            what: NoticeKind::Matched,
+        };
+        push_notice(&mut out, &mut last, &Raw, 0, &notice)?;
+    }
+    Ok(out)
+}
+
+/// Three lines, of two places and two writers.
 #[test]
 fn prints_lines_one_after_the_other(rt: HostRuntime) -> Result<(), Fail> {
     let other = Guid {
@@ -109,78 +94,15 @@ fn prints_lines_one_after_the_other(rt: HostRuntime) -> Result<(), Fail> {
         submessage: 3,
         ..PLACE
     };
-    let mut last = LastLine::none(rt.alloc());
-    let mut out = Vec::new(rt.alloc());
-    for (place, writer) in [(PLACE, WRITER), (PLACE, other), (next, other)] {
-        let notice = Notice {
-            place,
-            writer,
-            what: NoticeKind::Matched,
-        };
-        push_notice(&mut out, &mut last, &Raw, 0, &notice)?;
-    }
-    let lines = [
-        "4294967296:2 reader 0 matched 0102030405060708090a0b0c000001c2",
-        "4294967296:2 reader 0 matched 0102030405060708090a0b0c000002c2",
-        "4294967296:3 reader 0 matched 0102030405060708090a0b0c000002c2",
-    ];
-    assert_eq!(rt; out.as_slice(), text(rt.alloc(), &lines)?.as_bytes());
-    Ok(())
-}
-
-#[test]
-fn prints_values(rt: HostRuntime) -> Result<(), Fail> {
-    let alloc = rt.alloc();
-    let shape = Body::Value(HASH, Shapes.decode(alloc, 1, &BLUE)?);
-    let out = heard(alloc, &Shapes, sample(7, Some(TIME), shape)?)?;
-    let line =
-        "4294967296:2 reader 3 sample 0102030405060708090a0b0c000001c2 7 11223344.00667788 value 424c5545 10 -20 30\n";
-    assert_eq!(rt; out.as_slice(), line.as_bytes());
-
-    let raw = Body::Value(HASH, Raw.decode(alloc, 1, &[0xde, 0xad])?);
-    let out = heard(alloc, &Raw, sample(8, None, raw)?)?;
-    let line = "4294967296:2 reader 3 sample 0102030405060708090a0b0c000001c2 8 - value dead\n";
-    assert_eq!(rt; out.as_slice(), line.as_bytes());
-
-    let raw = Body::Value(HASH, Raw.decode(alloc, 1, &[])?);
-    let out = heard(alloc, &Raw, sample(9, None, raw)?)?;
-    let line = "4294967296:2 reader 3 sample 0102030405060708090a0b0c000001c2 9 - value -\n";
-    assert_eq!(rt; out.as_slice(), line.as_bytes());
-    Ok(())
-}
-
-#[test]
-fn prints_ends_of_instances_and_what_is_unread(rt: HostRuntime) -> Result<(), Fail> {
-    let lines: [(Body<RawValue>, &str); 6] = [
-        (
-            Body::Disposed(HASH),
-            "4294967296:2 reader 3 sample 0102030405060708090a0b0c000001c2 1 - disposed 000102030405060708090a0b0c0d0eff\n",
-        ),
-        (
-            Body::Unregistered(HASH),
-            "4294967296:2 reader 3 sample 0102030405060708090a0b0c000001c2 1 - unregistered 000102030405060708090a0b0c0d0eff\n",
-        ),
-        (
-            Body::Unread(Unread::Encapsulation),
-            "4294967296:2 reader 3 sample 0102030405060708090a0b0c000001c2 1 - unread 1\n",
-        ),
-        (
-            Body::Unread(Unread::Malformed),
-            "4294967296:2 reader 3 sample 0102030405060708090a0b0c000001c2 1 - unread 2\n",
-        ),
-        (
-            Body::Unread(Unread::NonStandard),
-            "4294967296:2 reader 3 sample 0102030405060708090a0b0c000001c2 1 - unread 3\n",
-        ),
-        (
-            Body::Unread(Unread::NoKey),
-            "4294967296:2 reader 3 sample 0102030405060708090a0b0c000001c2 1 - unread 4\n",
-        ),
-    ];
-    for (body, line) in lines {
-        let out = heard(rt.alloc(), &Raw, sample(1, None, body)?)?;
-        assert_eq!(rt; out.as_slice(), line.as_bytes(), "for {line}");
-    }
+    let out = matched(rt.alloc(), [(PLACE, WRITER), (PLACE, other), (next, other)])?;
+    assert_eq!(rt;
+        out.as_slice(),
+        b"4294967296:2 reader 0 matched 0102030405060708090a0b0c000001c2
+4294967296:2 reader 0 matched 0102030405060708090a0b0c000002c2
+4294967296:3 reader 0 matched 0102030405060708090a0b0c000002c2
+"
+            .as_slice()
+    );
     Ok(())
 }
 

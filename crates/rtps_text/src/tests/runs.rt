@@ -3,10 +3,10 @@
 ghost use Rattle.std.specs.Prelude.{◌≡◌, IfOk, Ok};
 ghost use Rattle.rtps_discovery.specs.Config.{check_of};
 
-use super::{Failing, text};
+use super::{Failing, octets, text};
 use crate::{Setup, replay, replay_in};
 use dds_qos::{Reliability, Requested};
-use dds_topic::{Shapes, TextCatalog};
+use dds_topic::Shapes;
 use linked_list_allocator::LocalHeap;
 use rtps_discovery::{Config, FixedMatch, ReaderConfig, check};
 use rtps_records::RunFault;
@@ -47,16 +47,8 @@ const LINES: [&str; 7] = [
     "1:1 reader 1 sample 0a0a0a0a0a0a0a0a0a0a0a0a00000102 4 - value 424c5545 10 20 30",
 ];
 
-fn file(alloc: Global) -> Result<Vec<u8>, Fail> {
-    let mut file = Vec::new(alloc);
-    for part in FILE {
-        file.extend_from_slice(hex::decode(alloc, part)?.as_slice())?;
-    }
-    Ok(file)
-}
-
 /// Two readers that ask for this and are matched with the writer from the start.
-pub(super) fn config_of(alloc: Global, reliability: Reliability) -> Result<Config, Fail>
+fn config_of(alloc: Global, reliability: Reliability) -> Result<Config, Fail>
     ensures { IfOk result (λ config. check_of config ≡ Ok tt) }
 {
     let mut config = Config {
@@ -85,69 +77,91 @@ pub(super) fn config_of(alloc: Global, reliability: Reliability) -> Result<Confi
     }
 }
 
-/// Two best-effort readers.
-fn config(alloc: Global) -> Result<Config, Fail>
-    ensures { IfOk result (λ config. check_of config ≡ Ok tt) }
-{
-    config_of(alloc, Reliability::BestEffort)
-}
-
-/// These readers over values of this catalog.
-pub(super) fn setup<C: TextCatalog>(config: Config, catalog: C, summary: bool) -> Setup<C>
+/// These readers, with values of shapes and without a summary.
+fn setup(config: Config) -> Setup<Shapes>
     requires { check_of config ≡ Ok tt }
 {
     Setup {
         config,
-        catalog,
-        summary,
+        catalog: Shapes,
+        summary: false,
     }
+}
+
+/// Whether two readers of this reliability print this text of octets after which a read fails.
+fn prints_before(
+    alloc: Global,
+    reliability: Reliability,
+    octets: &[u8],
+    text: &str,
+) -> Result<bool, Fail> {
+    let mut out = Vec::new(alloc);
+    let setup = setup(config_of(alloc, reliability)?);
+    let outcome = replay(alloc, setup, &mut Failing(octets), &mut out);
+    Ok(outcome == Err(RunFault::CannotRead) && out.as_slice() == text.as_bytes())
 }
 
 #[test]
 fn prints_the_records_before_a_fault(rt: HostRuntime) -> Result<(), Fail> {
     let alloc = rt.alloc();
-    let file = file(alloc)?;
+    let file = octets(alloc, &FILE)?;
     let first = text(alloc, &LINES[..6])?;
     for read in [FIRST, FIRST + 2, FIRST + 50] {
         let front = file.as_slice().get(..read).unwrap_or(&[]);
-        let mut out = Vec::new(alloc);
-        let outcome = replay(
-            alloc,
-            setup(config(alloc)?, Shapes, false),
-            &mut Failing(front),
-            &mut out,
+        assert!(rt;
+            prints_before(alloc, Reliability::BestEffort, front, first.as_str())?,
+            "at {read}"
         );
-        assert_eq!(rt; outcome, Err(RunFault::CannotRead), "at {read}");
-        assert_eq!(rt; out.as_slice(), first.as_bytes(), "at {read}");
     }
     Ok(())
 }
 
+/// Runs two readers of this reliability over a file with this much memory, and gives whether all of
+/// the text was printed; else a growth was refused, and a front of it was printed.
+fn prints_all(
+    alloc: Global,
+    memory: usize,
+    reliability: Reliability,
+    file: &[u8],
+    text: &str,
+) -> Result<bool, Fail> {
+    let heap = LocalHeap::new(alloc, memory)?;
+    let mut out = Vec::new(alloc);
+    let setup = setup(config_of(alloc, reliability)?);
+    let mut reader = file;
+    match replay_in(&heap, alloc, setup, &mut reader, &mut out) {
+        Ok(()) if out.as_slice() == text.as_bytes() => Ok(true),
+        Err(RunFault::NoMemory) if text.as_bytes().starts_with(out.as_slice()) => Ok(false),
+        _ => Err(Fail::new("neither the text nor a front of it")),
+    }
+}
+
+/// Whether two readers of this reliability are refused a growth with the least memory, and print all
+/// with the most.
+pub(super) fn refuses_and_prints(
+    alloc: Global,
+    reliability: Reliability,
+    parts: &[&str],
+    lines: &[&str],
+) -> Result<bool, Fail> {
+    let file = octets(alloc, parts)?;
+    let text = text(alloc, lines)?;
+    let mut printed = [true, false];
+    for step in 0..80 {
+        let memory = 65_400 + step * 128;
+        printed[usize::from(step > 0)] = prints_all(
+            alloc,
+            memory,
+            reliability,
+            &file,
+            text.as_str(),
+        )?;
+    }
+    Ok(printed == [false, true])
+}
+
 #[test]
 fn prints_a_front_of_a_run_where_a_growth_is_refused(rt: HostRuntime) -> Result<(), Fail> {
-    let alloc = rt.alloc();
-    let file = file(alloc)?;
-    let text = text(alloc, &LINES)?;
-    let mut refused = 0;
-    for step in 0..40 {
-        let heap = LocalHeap::new(alloc, 65_400 + step * 256)?;
-        let mut out = Vec::new(alloc);
-        let config = config(alloc)?;
-        let outcome = replay_in(
-            &heap,
-            alloc,
-            setup(config, Shapes, false),
-            &mut file.as_slice(),
-            &mut out,
-        );
-        if outcome.is_ok() {
-            assert_eq!(rt; out.as_slice(), text.as_bytes());
-        } else {
-            refused = step;
-            assert_eq!(rt; outcome, Err(RunFault::NoMemory), "at {step}");
-            assert!(rt; text.as_bytes().starts_with(out.as_slice()));
-        }
-    }
-    assert!(rt; 0 < refused && refused < 39);
+    assert!(rt; refuses_and_prints(rt.alloc(), Reliability::BestEffort, &FILE, &LINES)?);
     Ok(())
 }

@@ -25,7 +25,7 @@ const FRONT: &[u8] = b"\x52\x54\x50\x53\x02\x05\x00\x00\
     \x0a\x0a\x0a\x0a\x0a\x0a\x0a\x0a\x0a\x0a\x0a\x0a";
 
 /// The set, the count, and the submessage that is written.
-const MISSING: [(SnSet, u32, &[u8]); 5] = [
+const MISSING: [(SnSet, u32, &[u8]); 6] = [
     // three from 1 on
     (
         SnSet {
@@ -85,6 +85,22 @@ const MISSING: [(SnSet, u32, &[u8]); 5] = [
             \x00\x00\x00\x00\
             \x01\x00\x00\x00",
     ),
+    // the 256 greatest numbers of changes, and the greatest count
+    (
+        SnSet {
+            base: 4_611_686_018_427_387_649,
+            bits: 256,
+            words: [0xffff_ffff; 8],
+        },
+        0xffff_ffff,
+        b"\x06\x01\x38\x00\
+            \x00\x00\x01\x07\x00\x00\x01\x02\
+            \xff\xff\xff\x3f\x01\xff\xff\xff\
+            \x00\x01\x00\x00\
+            \xff\xff\xff\xff\xff\xff\xff\xff\xff\xff\xff\xff\xff\xff\xff\xff\
+            \xff\xff\xff\xff\xff\xff\xff\xff\xff\xff\xff\xff\xff\xff\xff\xff\
+            \xff\xff\xff\xff",
+    ),
     // words after the last bit are not sent
     (
         SnSet {
@@ -118,7 +134,7 @@ fn an_acknack_names_what_is_missing(rt: HostRuntime) -> Result<(), Fail> {
 }
 
 /// The change, the set, the count, and the submessage that is written.
-const MISSING_FRAGMENTS: [(u64, FragSet, u32, &[u8]); 3] = [
+const MISSING_FRAGMENTS: [(u64, FragSet, u32, &[u8]); 4] = [
     // the first of its fragments
     (
         1,
@@ -152,6 +168,24 @@ const MISSING_FRAGMENTS: [(u64, FragSet, u32, &[u8]); 3] = [
             \x02\x00\x00\x00\
             \x00\x00\x00\xc0\
             \x01\x00\x00\x00",
+    ),
+    // the 256 greatest fragment numbers of the greatest change
+    (
+        1 << 62,
+        FragSet {
+            base: 0xffff_ff00,
+            bits: 256,
+            words: [0xffff_ffff; 8],
+        },
+        0xffff_ffff,
+        b"\x12\x01\x3c\x00\
+            \x00\x00\x01\x07\x00\x00\x01\x02\
+            \x00\x00\x00\x40\x00\x00\x00\x00\
+            \x00\xff\xff\xff\
+            \x00\x01\x00\x00\
+            \xff\xff\xff\xff\xff\xff\xff\xff\xff\xff\xff\xff\xff\xff\xff\xff\
+            \xff\xff\xff\xff\xff\xff\xff\xff\xff\xff\xff\xff\xff\xff\xff\xff\
+            \xff\xff\xff\xff",
     ),
     // words after the last bit are not sent
     (

@@ -7,7 +7,7 @@ use Rattle.rtps_ascii.proofs.Appended.{added_is_joined}
 use Rattle.rtps_text.proofs.body.push_whole.Goals as goal
 
 pub returns : goal.returns
-returns g c = on_ok_weaker c.push_hash.result (λ e. rw e (rw c.in_ok-push_octet-4.ensures (rw c.in_ok-push_hex-2.ensures (rw c.in_ok-push_octet-3.ensures (rw c.in_ok-push_form.ensures (rw c.in_ok-push_octet-2.ensures (rw c.in_ok-push_hex.ensures (rw c.in_ok-push_octet.ensures (rw c.in_ok-push_number.ensures (rw c.in_ok-push_word.ensures (rw c.get.ensures.value (added_is_joined _ (codes "data ") (
+returns g c = on_ok_weaker c.push_hash.result (λ e. rw e (rw c.in_ok-push_octet-4.ensures (rw c.in_ok-push_hex.ensures (rw c.in_ok-push_octet-3.ensures (rw c.in_ok-push_form.ensures (rw c.in_ok-push_octet-2.ensures (rw c.in_ok-push_hex_array.ensures (rw c.in_ok-push_octet.ensures (rw c.in_ok-push_number.ensures (rw c.in_ok-push_word.ensures (rw c.get.ensures.value (added_is_joined _ (codes "data ") (
     (decimal (value_of c.args.whole.now.number))
     ∷ (codes " ")
     ∷ (hex_text (c.args.whole.now.info.status ∷ []))

@@ -6,7 +6,7 @@ use Rattle.rtps_ascii.proofs.Appended.{added_is_joined}
 use Rattle.rtps_text.proofs.context.push_context.Goals as goal
 
 pub returns : goal.returns
-returns g c = on_ok_weaker c.push_hex-3.result (λ e. rw e (rw c.in_ok-push_octet-4.ensures (rw c.in_ok-push_hex-2.ensures (rw c.in_ok-push_octet-3.ensures (rw c.in_ok-push_time.ensures (rw c.in_ok-push_octet-2.ensures (rw c.in_ok-push_hex.ensures (rw c.in_ok-push_octet.ensures (rw c.in_ok-push_place.ensures (added_is_joined _ (place_text c.args.event.now.place) (
+returns g c = on_ok_weaker c.push_hex_array-3.result (λ e. rw e (rw c.in_ok-push_octet-4.ensures (rw c.in_ok-push_hex_array-2.ensures (rw c.in_ok-push_octet-3.ensures (rw c.in_ok-push_time.ensures (rw c.in_ok-push_octet-2.ensures (rw c.in_ok-push_hex_array.ensures (rw c.in_ok-push_octet.ensures (rw c.in_ok-push_place.ensures (added_is_joined _ (place_text c.args.event.now.place) (
     (codes " ")
     ∷ (hex_text c.args.event.now.source.0)
     ∷ (codes " ")
@@ -15,4 +15,4 @@ returns g c = on_ok_weaker c.push_hex-3.result (λ e. rw e (rw c.in_ok-push_octe
     ∷ (hex_text c.args.event.now.writer.0)
     ∷ (codes " ")
     ∷ (hex_text c.args.event.now.reader.0)
-    ∷ []))))))))))) c.push_hex-3.ensures
+    ∷ []))))))))))) c.push_hex_array-3.ensures

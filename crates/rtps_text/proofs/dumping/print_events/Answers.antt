@@ -1,6 +1,6 @@
 use Rattle.std.proofs.Common.{◌∙◌, arith, refl, rules}
 use Rattle.rtps_records.proofs.NextRead.{at_fault, is_end, is_fault, is_record}
-use Rattle.rtps_records.proofs.Printed.{says_one_more, whole_is_front}
+use Rattle.rtps_records.proofs.Printed.{says_one_more, texts_begin}
 use Rattle.rtps_records.proofs.Progress.{ended, fails_writing, one_more, printed, spilled, started, stops_first, stops_here, stops_without, stops_writing}
 use Rattle.rtps_serial.proofs.Answered.{on_ok_then}
 use Rattle.rtps_text.proofs.dumping.print_events.Goals as goal
@@ -23,7 +23,7 @@ push_events-requires g c =
 pub returns-in_err-push_events-in-Ok-Some-clause-fault : goal.returns-in_err-push_events-in-Ok-Some-clause-fault
 returns-in_err-push_events-in-Ok-Some-clause-fault g c =
     at_fault _ _ _ c.from_residual-in_err-push_events-in-Ok-Some.ensures.1
-    (stops_without _ _ _ _ _ _ _ _ _ _ c.loop-octets.invariant.so_far (λ records. whole_is_front _) (λ records. refl))
+    (stops_without _ _ _ _ _ _ _ _ _ _ c.loop-octets.invariant.few c.loop-octets.invariant.so_far (texts_begin _) (λ records. refl))
 
 pub returns-in-Ok-None-clause-ok : goal.returns-in-Ok-None-clause-ok
 returns-in-Ok-None-clause-ok g c =
@@ -34,13 +34,13 @@ returns-in-Ok-None-clause-ok g c =
 
 pub returns-in-Ok-None-clause-fault : goal.returns-in-Ok-None-clause-fault
 returns-in-Ok-None-clause-fault g c =
-    fails_writing _ _ _ _ _ _ _ _ _ _ _ c.close.result c.close.ensures.fault c.close.ensures.front c.loop-octets.invariant.so_far
-    (λ records. whole_is_front _) (λ records. refl)
+    fails_writing _ _ _ _ _ _ _ _ _ _ _ c.close.result c.loop-octets.invariant.few c.close.ensures.fault c.close.ensures.front c.loop-octets.invariant.so_far
+    (texts_begin _) (λ records. refl)
 
 pub returns-in_err-close-in-Err-clause-fault : goal.returns-in_err-close-in-Err-clause-fault
 returns-in_err-close-in-Err-clause-fault g c =
     at_fault _ _ _ c.from_residual-in_err-close-in-Err.ensures.1
-    (stops_writing _ _ _ _ _ _ _ _ _ _ _ _ c.in_err-close-in-Err.ensures.fault c.loop-octets.invariant.so_far (λ records. whole_is_front _) (λ records. refl)
+    (stops_writing _ _ _ _ _ _ _ _ _ _ _ _ c.loop-octets.invariant.few c.in_err-close-in-Err.ensures.fault c.loop-octets.invariant.so_far (texts_begin _) (λ records. refl)
     c.in_err-close-in-Err.ensures.front)
 
 pub returns-in-Err-clause-fault : goal.returns-in-Err-clause-fault
@@ -67,6 +67,6 @@ pub returns-in_err-write_if_full-clause-fault : goal.returns-in_err-write_if_ful
 returns-in_err-write_if_full-clause-fault g c =
     let next = is_record _ _ _ _ _ _ _ c.next.follows.holds-at-none.1 c.in-Ok-Some.is c.in-Ok-Some.field-0-is in
     at_fault _ _ _ c.from_residual-in_err-write_if_full.ensures.1
-    (stops_writing _ _ _ _ _ _ _ _ _ _ _ _ c.in_err-write_if_full.ensures.fault
+    (stops_writing _ _ _ _ _ _ _ _ _ _ _ _ (omega (arith, next.1)) c.in_err-write_if_full.ensures.fault
     (one_more _ _ _ _ _ _ _ _ _ _ _ c.loop-octets.invariant.so_far next.3 next.0 (says_one_more _ _ _ _ _ (rw c.count-number.ensures at c.in_ok-push_events-in-Ok-Some.ensures)))
-    (λ records. whole_is_front _) (λ records. refl) c.in_err-write_if_full.ensures.front)
+    (texts_begin _) (λ records. refl) c.in_err-write_if_full.ensures.front)

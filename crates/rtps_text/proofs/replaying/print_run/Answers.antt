@@ -1,4 +1,4 @@
-use Rattle.std.proofs.Common.{◌∙◌, arith, refl, rules}
+use Rattle.std.proofs.Common.{◌∙◌, arith, refl, rules, None, Some}
 use Rattle.rtps_records.proofs.NextRead.{at_fault, is_end, is_fault, is_record}
 use Rattle.rtps_records.proofs.Progress.{closed, ended, fails_closing, one_more, spilled, started, stops_closing, stops_first, stops_here, stops_without, stops_writing}
 use Rattle.rtps_serial.proofs.Answered.{on_ok_then}
@@ -31,7 +31,7 @@ returns-in_err-print-in-Ok-Some-clause-fault g c =
     let decoding = g.C.Catalog.decoding in
     let same = same_text text decoding now.engine run.engine now.summary run.summary c.loop-octets.invariant.catalog c.loop-octets.invariant.config c.loop-octets.invariant.summary in
     at_fault _ _ _ c.from_residual-in_err-print-in-Ok-Some.ensures.1
-    (stops_without _ _ _ _ _ _ _ _ _ _ c.loop-octets.invariant.so_far (fronts text decoding now.summary now.engine) same)
+    (stops_without _ _ _ _ _ _ _ _ _ _ c.loop-octets.invariant.few c.loop-octets.invariant.so_far (fronts text decoding now.summary now.engine) same)
 
 pub returns-in-Ok-None-clause-ok : goal.returns-in-Ok-None-clause-ok
 returns-in-Ok-None-clause-ok g c =
@@ -52,7 +52,8 @@ returns-in-Ok-None-clause-fault g c =
     let text = g.C.Catalog.text_of in
     let decoding = g.C.Catalog.decoding in
     let same = same_text text decoding now.engine run.engine now.summary run.summary c.loop-octets.invariant.catalog c.loop-octets.invariant.config c.loop-octets.invariant.summary in
-    fails_closing _ _ _ _ _ _ _ _ _ _ _ c.close.result c.loop-octets.invariant.so_far (fronts text decoding now.summary now.engine) same
+    let end = is_end _ _ _ _ _ _ c.next.follows.holds-at-none.1 c.in-Ok-None.is c.in-Ok-None.field-0-is in
+    fails_closing _ _ _ _ _ _ _ _ _ _ _ None c.close.result c.loop-octets.invariant.few (c.loop-octets.invariant.few, end) c.loop-octets.invariant.so_far (fronts text decoding now.summary now.engine) same
     (c.close.ensures.fault)
 
 pub returns-in_err-close-in-Err-clause-fault : goal.returns-in_err-close-in-Err-clause-fault
@@ -63,7 +64,7 @@ returns-in_err-close-in-Err-clause-fault g c =
     let decoding = g.C.Catalog.decoding in
     let same = same_text text decoding now.engine run.engine now.summary run.summary c.loop-octets.invariant.catalog c.loop-octets.invariant.config c.loop-octets.invariant.summary in
     at_fault _ _ _ c.from_residual-in_err-close-in-Err.ensures.1
-    (stops_closing _ _ _ _ _ _ _ _ _ _ _ _ c.loop-octets.invariant.so_far (fronts text decoding now.summary now.engine) same
+    (stops_closing _ _ _ _ _ _ _ _ _ _ _ (Some c.in-Err.fault) _ c.loop-octets.invariant.few (is_fault _ _ _ _ _ _ c.next.follows.holds-at-none.1 c.in-Err.is) c.loop-octets.invariant.so_far (fronts text decoding now.summary now.engine) same
     (c.in_err-close-in-Err.ensures.fault))
 
 pub returns-in-Err-clause-fault : goal.returns-in-Err-clause-fault
@@ -105,6 +106,6 @@ returns-in_err-write_if_full-clause-fault g c =
     let decoding = g.C.Catalog.decoding in
     let same = same_text text decoding now.engine run.engine now.summary run.summary (c.in_ok-print-in-Ok-Some.ensures.same.0 ∙ c.loop-octets.invariant.catalog) (c.in_ok-print-in-Ok-Some.ensures.same.1 ∙ c.loop-octets.invariant.config) (c.in_ok-print-in-Ok-Some.ensures.same.2 ∙ c.loop-octets.invariant.summary) in
     at_fault _ _ _ c.from_residual-in_err-write_if_full.ensures.1
-    (stops_writing _ _ _ _ _ _ _ _ _ _ _ _ c.in_err-write_if_full.ensures.fault
+    (stops_writing _ _ _ _ _ _ _ _ _ _ _ _ (omega (arith, next.1)) c.in_err-write_if_full.ensures.fault
     (one_more _ _ _ _ _ _ _ _ _ _ _ c.loop-octets.invariant.so_far next.3 next.0 (c.in_ok-print-in-Ok-Some.ensures.says count))
     (fronts text decoding now.summary now.engine) same c.in_err-write_if_full.ensures.front)

@@ -1,0 +1,34 @@
+-- The events that are left between two submessages of a datagram.
+use Rattle.std.proofs.Common.{◌≡◌, ℕ, ◌+◌, ◌-◌, List, [], ◌∷◌, length, take, drop, Ok, refl, ap, ◌∙◌}
+use Rattle.std.proofs.lemmas.List.{take_rest}
+use Rattle.rtps_types.specs.declared.identity.GuidPrefix.{GuidPrefix}
+use Rattle.rtps_wire.specs.Submessage.{Content, Item, Pad, HeartbeatOf, GapOf, Time, Source, Destination, HeartbeatFragOf, Whole, Frag, Skipped}
+use Rattle.rtps_wire.specs.Reading.{reading}
+use Rattle.rtps_wire.specs.declared.message_header.Header.{Header}
+use Rattle.rtps_wire.specs.Header.{header_of}
+use Rattle.rtps_receiver.specs.Events.{events_behind, events_of, events_under}
+use Rattle.rtps_receiver.specs.Running.{after, context_of, events_left, first_context}
+
+-- the context that is kept is the one that the submessages before give
+context_after : (own header : GuidPrefix) (before : List Content) (c : Content) → after (context_of own header before) c ≡ context_of own header (c ∷ before)
+context_after own header before Pad = refl
+context_after own header before (HeartbeatOf h) = refl
+context_after own header before (GapOf g) = refl
+context_after own header before (Time t) = refl
+context_after own header before (Source s) = refl
+context_after own header before (Destination p) = refl
+context_after own header before (HeartbeatFragOf h) = refl
+context_after own header before (Whole d) = refl
+context_after own header before (Frag d) = refl
+context_after own header before Skipped = refl
+
+-- so the events that are left are those that the submessages before and after them give
+left_is : (own header : GuidPrefix) (index count : ℕ) (before : List Content) (left : List Item) → events_left (context_of own header before) (record { datagram = index; submessage = count }) left ≡ events_behind own header index count before left
+left_is own header index count before [] = refl
+left_is own header index count before (i ∷ left) = rw (context_after own header before i.content, left_is own header index (count + 1) (i.content ∷ before) left) refl
+
+-- with a good header all events are left at first
+pub all_left : (own : GuidPrefix) (index : ℕ) (octets : List ℕ) (h : Header) → Ok h ≡ header_of octets → events_left (first_context own h.prefix) (record { datagram = index; submessage = 0 }) (reading (take (length octets - 20) (drop 20 octets))).items ≡ events_of own index octets
+all_left own index octets h good =
+    rw (take_rest octets 20)
+    (left_is own h.prefix index 0 [] (reading (drop 20 octets)).items ∙ ap (λ x. events_under own index octets x) good)
