@@ -1,4 +1,5 @@
--- What a change is presented as, by what it carries and what the catalog makes of it (DDSI-RTPS 8.7.3, 9.6.4.9; DDS 1.4, 2.2.2.5.1.3).
+-- What a change is presented as, by what it carries and what the catalog makes of it (DDSI-RTPS
+-- 8.7.3, 9.6.4.9; DDS 1.4, 2.2.2.5.1.3).
 use Rattle.std.specs.Prelude.{ℕ, ◌+◌, ◌*◌, ◌%◌, List, length, drop, slice_index, Option, Some, None, Result, Ok, Err, nat_lt, ◌==◌, if◌then◌else◌}
 use Rattle.rtps_types.specs.declared.identity.KeyHash.{KeyHash}
 use Rattle.rtps_wire.specs.declared.data.ChangeInfo.{ChangeInfo}
@@ -19,13 +20,18 @@ body_map f (body.Unread u) = body.Unread u
 
 -- the kind of a payload's encapsulation, its first two octets, and what follows the four of it
 abbrev pub encapsulated : List ℕ → Result (ℕ × List ℕ) UnreadCode
-encapsulated payload = if nat_lt (length payload) 4 then Err Encapsulation else Ok (slice_index payload 0 * 256 + slice_index payload 1, drop 4 payload)
+encapsulated payload =
+    if nat_lt (length payload) 4
+    then Err Encapsulation
+    else Ok (slice_index payload 0 * 256 + slice_index payload 1, drop 4 payload)
 
-abbrev pub unpacked : {B : Type 0} → Result (ℕ × List ℕ) UnreadCode → (ℕ → List ℕ → Result B UnreadCode) → Result B UnreadCode
+abbrev pub unpacked : {B : Type 0} → Result (ℕ × List ℕ) UnreadCode
+    → (ℕ → List ℕ → Result B UnreadCode) → Result B UnreadCode
 unpacked (Err u) f = Err u
 unpacked (Ok p) f = f p.0 p.1
 
-abbrev pub hashed_by : {M : Type 0} → (M → KeyHash) → Result M UnreadCode → Result KeyHash UnreadCode
+abbrev pub hashed_by : {M : Type 0} → (M → KeyHash) → Result M UnreadCode
+    → Result KeyHash UnreadCode
 hashed_by hash (Ok m) = Ok (hash m)
 hashed_by hash (Err u) = Err u
 
@@ -33,16 +39,20 @@ abbrev pub inline_key : Option KeyHash → Result KeyHash UnreadCode
 inline_key (Some h) = Ok h
 inline_key None = Err NoKey
 
--- the value of a change without status bits: a value payload is decoded; a key, no payload or one in no standard form is unread
+-- the value of a change without status bits: a value payload is decoded; a key, no payload or one in
+-- no standard form is unread
 abbrev pub value_for : {M : Type 0} → Decoding M → Form → List ℕ → Result M UnreadCode
 value_for decoding form.Value payload = unpacked (encapsulated payload) decoding.meaning
 value_for decoding form.Key payload = Err NonStandard
 value_for decoding form.Other payload = Err NonStandard
 value_for decoding form.Nothing payload = Err NonStandard
 
--- the key of a change with status bits: that of its value, else its key payload's, else, without payload, the hash that was sent with it
-abbrev pub key_for : {M : Type 0} → Decoding M → Option KeyHash → Form → List ℕ → Result KeyHash UnreadCode
-key_for decoding sent form.Value payload = unpacked (encapsulated payload) (λ kind b. hashed_by decoding.hash (decoding.meaning kind b))
+-- the key of a change with status bits: that of its value, else its key payload's, else, without
+-- payload, the hash that was sent with it
+abbrev pub key_for : {M : Type 0} → Decoding M → Option KeyHash → Form → List ℕ
+    → Result KeyHash UnreadCode
+key_for decoding sent form.Value payload =
+    unpacked (encapsulated payload) (λ kind b. hashed_by decoding.hash (decoding.meaning kind b))
 key_for decoding sent form.Key payload = unpacked (encapsulated payload) decoding.hash_of_key
 key_for decoding sent form.Other payload = Err NonStandard
 key_for decoding sent form.Nothing payload = inline_key sent

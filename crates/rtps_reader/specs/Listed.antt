@@ -8,7 +8,9 @@ use Rattle.rtps_types.specs.Order.{octet_order}
 
 -- by rank; of one rank by the octets of the writer's participant, and then by the writer's own
 abbrev pub match_order : ℕ × Guid → ℕ × Guid → Ordering
-match_order a b = ordering_then (nat_cmp a.0 b.0) (ordering_then (octet_order a.1.prefix.0 b.1.prefix.0) (octet_order a.1.entity.0 b.1.entity.0))
+match_order a b =
+    ordering_then (nat_cmp a.0 b.0)
+    (ordering_then (octet_order a.1.prefix.0 b.1.prefix.0) (octet_order a.1.entity.0 b.1.entity.0))
 
 -- the set with each of these writers, for one rank
 abbrev pub with_writers : List (ℕ × Guid) → ℕ → List Guid → List (ℕ × Guid)

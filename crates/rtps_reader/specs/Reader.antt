@@ -1,4 +1,5 @@
--- A reader, by all that came for it (DDSI-RTPS 8.4.10 to 8.4.12): its matches, each with its history.
+-- A reader, by all that came for it (DDSI-RTPS 8.4.10 to 8.4.12): its matches, each with its
+-- history.
 use Rattle.std.specs.Prelude.{ℕ, List, [], ◌∷◌, ◌++◌, length, map, Bool, ◌&&◌, ◌==◌, Option, Some, None, if◌then◌else◌}
 use Rattle.std.specs.Str.{bytes_eq}
 use Rattle.rtps_types.specs.Nearest.{nearest}
@@ -20,7 +21,8 @@ pub record Match : Type 0 where
   pub whom : Whom
   pub past : List Came
 
--- how many numbers are given up at an event, the changes that are ready then, and what is said to the writer
+-- how many numbers are given up at an event, the changes that are ready then, and what is said to
+-- the writer
 abbrev pub lost_at : Match → Came → ℕ
 lost_at m e = lost_of m.whom.reliable m.past e
 
@@ -47,19 +49,29 @@ match_with w (m ∷ ms) = if same_guid m.whom.writer w then Some m else match_wi
 -- the event comes for the match with its writer
 abbrev pub extended : Guid → Came → List Match → List Match
 extended w e [] = []
-extended w e (m ∷ ms) = if same_guid m.whom.writer w then record { whom = m.whom; past = e ∷ m.past } ∷ ms else m ∷ extended w e ms
+extended w e (m ∷ ms) =
+    if same_guid m.whom.writer w
+    then record { whom = m.whom; past = e ∷ m.past } ∷ ms
+    else m ∷ extended w e ms
 
 -- a sample is presented with what the catalog makes of what it carries
 abbrev pub presented : {M : Type 0} → Decoding M → Place → Guid → Sample → Notice M
-presented decoding place w s = record { place = place; writer = w; what = kind.Sample (nearest s.number) s.time (body_by decoding s.info s.payload) }
+presented decoding place w s = record {
+  place = place;
+  writer = w;
+  what = kind.Sample (nearest s.number) s.time (body_by decoding s.info s.payload);
+}
 
 -- numbers that are lost, where there are any, and then the samples that are ready
 abbrev pub loses : {M : Type 0} → Place → Guid → ℕ → List (Notice M)
-loses place w count = if count == 0 then [] else record { place = place; writer = w; what = kind.Lost count } ∷ []
+loses place w count =
+    if count == 0 then [] else record { place = place; writer = w; what = kind.Lost count } ∷ []
 
-abbrev pub told_of : {M : Type 0} → Decoding M → Place → Guid → Came → Option Match → List (Notice M)
+abbrev pub told_of : {M : Type 0} → Decoding M → Place → Guid → Came → Option Match
+    → List (Notice M)
 told_of decoding place w e None = []
-told_of decoding place w e (Some m) = loses place w (lost_at m e) ++ map (presented decoding place w) (ready_at m e)
+told_of decoding place w e (Some m) =
+    loses place w (lost_at m e) ++ map (presented decoding place w) (ready_at m e)
 
 -- the notices that a reader gives out at a step: of an event none, where its writer isn't matched
 abbrev pub tells : {M : Type 0} → Decoding M → Reader → Place → Asks → List (Notice M)
@@ -80,7 +92,8 @@ sends r place (Event w e) = sent_of place e (match_with w r.matches)
 
 -- the reader after a step
 abbrev pub reader_after : Reader → Asks → Reader
-reader_after r (Event w e) = record { entity = r.entity; fixed = r.fixed; matches = extended w e r.matches }
+reader_after r (Event w e) =
+    record { entity = r.entity; fixed = r.fixed; matches = extended w e r.matches }
 
 -- a match to which nothing came yet
 abbrev pub fresh : Whom → Match
@@ -88,4 +101,5 @@ fresh w = record { whom = w; past = [] }
 
 -- a reader at the start: it has its fixed matches, and nothing came yet
 abbrev pub first_reader : EntityId → List Whom → Reader
-first_reader entity whoms = record { entity = entity; fixed = length whoms; matches = map fresh whoms }
+first_reader entity whoms =
+    record { entity = entity; fixed = length whoms; matches = map fresh whoms }

@@ -42,8 +42,10 @@ AllStand [] (k ∷ ks) = ⊥
 AllStand (m ∷ ms) [] = ⊥
 AllStand (m ∷ ms) (k ∷ ks) = Stands m k × AllStand ms ks
 
--- the state keeps what follows from all that came for the reader, and counts the notices that it gave out
-pub record StandsAt {M : Type 0} (r : Reader) (given : List (Notice M)) (state : ReaderKept) : Type 0 where
+-- the state keeps what follows from all that came for the reader, and counts the notices that it
+-- gave out
+pub record StandsAt {M : Type 0} (r : Reader) (given : List (Notice M)) (state : ReaderKept)
+    : Type 0 where
   pub sound : state.spent ≡ false
   pub entity : state.entity ≡ r.entity
   pub matches : AllStand r.matches state.matches
@@ -59,7 +61,10 @@ match_view m = record { writer = m.writer; proxy = m.proxy }
 
 -- the status once an event lost some numbers and gave some samples
 abbrev pub status_after : Status → ℕ → ℕ → Status
-status_after s lost samples = record s { lost_total = capped (s.lost_total + lost); samples = capped (s.samples + samples) }
+status_after s lost samples = record s {
+  lost_total = capped (s.lost_total + lost);
+  samples = capped (s.samples + samples);
+}
 
 -- the status once an event came for the match with its writer, if there is one
 abbrev pub status_given : Status → Came → Option Match → Status
@@ -68,7 +73,13 @@ status_given s e (Some m) = status_after s (lost_at m e) (length (ready_at m e))
 
 -- between whom a fixed match of a reader is, and the match at the start
 abbrev pub whom_for : {A : Type 0} → GuidPrefix → EntityId → Bool → WriterFacts A → Whom
-whom_for own entity is_reliable facts = record { own = own; writer = facts.writer; reader = entity; reliable = is_reliable; locators = facts.locators }
+whom_for own entity is_reliable facts = record {
+  own = own;
+  writer = facts.writer;
+  reader = entity;
+  reliable = is_reliable;
+  locators = facts.locators;
+}
 
 abbrev pub fresh_for : {A : Type 0} → GuidPrefix → EntityId → Bool → WriterFacts A → Match
 fresh_for own entity is_reliable facts = fresh (whom_for own entity is_reliable facts)

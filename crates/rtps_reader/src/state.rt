@@ -93,10 +93,10 @@ impl<A: Allocator + Copy> ReaderState<A> {
         })
     }
 
-    /// Takes one step, and adds what it gives after what is in `output`. Of an event of a writer that
-    /// the reader is matched with it gives what was lost, then the samples that are ready, and what
-    /// is said to the writer; of any other event nothing. Whom an event is for is tested before: the
-    /// reader is given only what is for it.
+    /// Takes one step, and adds what it gives after what is in `output`. Of an event of a writer
+    /// that the reader is matched with it gives what was lost, then the samples that are ready, and
+    /// what is said to the writer; of any other event nothing. Whom an event is for is tested
+    /// before: the reader is given only what is for it.
     ///
     /// When a step is out of memory the reader is spent, and what the step gave before is left in
     /// `output`. Each later step of a spent reader answers so too, and changes nothing.

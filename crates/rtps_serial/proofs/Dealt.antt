@@ -19,7 +19,7 @@ notices_by-append rank [] ys = refl
 notices_by-append rank (Hears by n ∷ xs) ys = rw (notices_by-append rank xs ys) (one_more (by == rank) n (notices_by rank xs) (notices_by rank ys))
 notices_by-append rank (Sends a ∷ xs) ys = notices_by-append rank xs ys
 
-answers_in-append : {M : Type 0} (xs ys : List (Put M)) → answers_in (xs ++ ys) ≡ answers_in xs ++ answers_in ys
+pub answers_in-append : {M : Type 0} (xs ys : List (Put M)) → answers_in (xs ++ ys) ≡ answers_in xs ++ answers_in ys
 answers_in-append [] ys = refl
 answers_in-append (Hears by n ∷ xs) ys = answers_in-append xs ys
 answers_in-append (Sends a ∷ xs) ys = ap (λ l. a ∷ l) (answers_in-append xs ys)

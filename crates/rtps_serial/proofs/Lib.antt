@@ -11,3 +11,7 @@ pub mod Presenting
 pub mod Stepped
 pub mod Taking
 pub mod Unmatched
+pub mod OneOrder
+pub mod Turns
+pub mod InOrder
+pub mod Listing

@@ -128,7 +128,7 @@ all_from own index (octets ∷ datagrams) =
     (all_weaker (λ e. e.place.datagram ≡ index) (λ e. index ≤ e.place.datagram) (events_of own index octets) (λ e same. omega arith) (all_of own index octets))
     (all_weaker (λ e. index + 1 ≤ e.place.datagram) (λ e. index ≤ e.place.datagram) (events_from own (index + 1) datagrams) (λ e le. omega arith) (all_from own (index + 1) datagrams))
 
-rise_from : (own : GuidPrefix) (index : ℕ) (datagrams : List (List ℕ)) → PlacesRise (events_from own index datagrams)
+pub rise_from : (own : GuidPrefix) (index : ℕ) (datagrams : List (List ℕ)) → PlacesRise (events_from own index datagrams)
 rise_from own index [] = tt
 rise_from own index (octets ∷ datagrams) =
     rises_append (λ e. e.place.datagram ≡ index) (λ e. index + 1 ≤ e.place.datagram) (λ d e same le. later_datagram d.place e.place (omega arith)) (events_of own index octets) (events_from own (index + 1) datagrams)

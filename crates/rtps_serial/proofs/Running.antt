@@ -9,7 +9,7 @@ use Rattle.dds_topic.specs.Decoding.{Decoding}
 use Rattle.rtps_serial.specs.World.{World, world_after}
 use Rattle.rtps_serial.specs.Run.{events_from, first_world, run, world_run}
 
-world_run-append : {M : Type 0} (decoding : Decoding M) (w : World M) (xs ys : List Happening) → world_run decoding w (xs ++ ys) ≡ world_run decoding (world_run decoding w xs) ys
+pub world_run-append : {M : Type 0} (decoding : Decoding M) (w : World M) (xs ys : List Happening) → world_run decoding w (xs ++ ys) ≡ world_run decoding (world_run decoding w xs) ys
 world_run-append decoding w [] ys = refl
 world_run-append decoding w (x ∷ xs) ys = world_run-append decoding (world_after decoding w x) xs ys
 

@@ -3,4 +3,5 @@ pub mod Run
 pub mod Seen
 pub mod Standing
 pub mod Outcome
+pub mod Turn
 pub mod Presentation

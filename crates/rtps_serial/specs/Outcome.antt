@@ -22,13 +22,19 @@ abbrev pub notices_in : {V M A : Type 0} → (V → M) → Vec (Notice V) A → 
 notices_in f notices = map (notice_view f) notices.items
 
 -- an outcome has what was put out: a list of notices for each reader, and the answers
-pub record Deals {V M A : Type 0} (f : V → M) (count : ℕ) (put : List (Put M)) (outcome : Outcome V A) : Type 0 where
+pub record Deals {V M A : Type 0} (f : V → M) (count : ℕ) (put : List (Put M)) (outcome : Outcome V A)
+    : Type 0 where
   pub readers : length outcome.notices.items ≡ count
-  pub notices : (rank : ℕ) (other : Vec (Notice V) A) → rank < count → notices_in f (slice_index_or outcome.notices.items rank other) ≡ notices_by rank put
+  pub notices : (rank : ℕ) (other : Vec (Notice V) A) → rank < count
+      → notices_in f (slice_index_or outcome.notices.items rank other) ≡ notices_by rank put
   pub answers : map answer_view outcome.answers.items ≡ answers_in put
 
 -- an outcome has what is seen of one world more than of another
-pub record Adds {V M A : Type 0} (f : V → M) (before after : World M) (outcome : Outcome V A) : Type 0 where
+pub record Adds {V M A : Type 0} (f : V → M) (before after : World M) (outcome : Outcome V A)
+    : Type 0 where
   pub readers : length outcome.notices.items ≡ after.count
-  pub notices : (rank : ℕ) (other : Vec (Notice V) A) → rank < after.count → notices_by rank after.put ≡ notices_by rank before.put ++ notices_in f (slice_index_or outcome.notices.items rank other)
-  pub answers : answers_in after.put ≡ answers_in before.put ++ map answer_view outcome.answers.items
+  pub notices : (rank : ℕ) (other : Vec (Notice V) A) → rank < after.count
+      → notices_by rank after.put
+      ≡ notices_by rank before.put ++ notices_in f (slice_index_or outcome.notices.items rank other)
+  pub answers : answers_in after.put
+      ≡ answers_in before.put ++ map answer_view outcome.answers.items

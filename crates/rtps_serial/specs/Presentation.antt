@@ -1,5 +1,5 @@
--- Presentation in a run (DDSI-RTPS 8.4.12.3, 8.3.7): the samples of a writer that a reliable reader presents, against
--- the submessages alone that came for their match.
+-- Presentation in a run (DDSI-RTPS 8.4.12.3, 8.3.7): the samples of a writer that a reliable reader
+-- presents, against the submessages alone that came for their match.
 use Rattle.std.specs.Prelude.{◌≡◌, ℕ, ◌<◌, ◌==◌, ◌&&◌, ◌||◌, nat_lt, nat_le, Bool, List, [], ◌∷◌, ◌++◌, map, filter, reverse, Option, if◌then◌else◌}
 use Rattle.std.specs.List.{AllByRecursion, list_any}
 use Rattle.rtps_types.specs.declared.identity.EntityId.{EntityId}
@@ -31,17 +31,24 @@ pub record Shown (M : Type 0) : Type 0 where
 
 -- the sample that a notice presents, where it presents one
 abbrev pub shown_in : {M : Type 0} → Place → NoticeKind M → List (Shown M)
-shown_in place (ASample number time body) = record { place = place; number = value_of number; time = time; body = body } ∷ []
+shown_in place (ASample number time body) =
+    record { place = place; number = value_of number; time = time; body = body } ∷ []
 shown_in place kind = []
 
 -- the samples of a writer among these notices, in order
 abbrev pub samples_of : {M : Type 0} → Guid → List (Notice M) → List (Shown M)
 samples_of writer [] = []
-samples_of writer (n ∷ ns) = if same_guid n.writer writer then shown_in n.place n.what ++ samples_of writer ns else samples_of writer ns
+samples_of writer (n ∷ ns) =
+    if same_guid n.writer writer
+    then shown_in n.place n.what ++ samples_of writer ns
+    else samples_of writer ns
 
--- a place is not after another: it is in an earlier datagram, or in the same one at no later submessage
+-- a place is not after another: it is in an earlier datagram, or in the same one at no later
+-- submessage
 abbrev pub not_after : Place → Place → Bool
-not_after a b = nat_lt a.datagram b.datagram || (a.datagram == b.datagram && nat_le a.submessage b.submessage)
+not_after a b =
+    nat_lt a.datagram b.datagram
+    || (a.datagram == b.datagram && nat_le a.submessage b.submessage)
 
 -- the submessages for the match of a writer and a reader, the newest first
 abbrev pub events_for : Guid → EntityId → List Happening → List Happening
@@ -54,21 +61,27 @@ came_of e = record { time = e.time; body = e.body }
 abbrev pub came_by : Place → List Happening → List Came
 came_by place events = map came_of (filter (λ e. not_after e.place place) events)
 
--- a DATA brought the sample: its sequence number, its time, and the body that the catalog makes of what the DATA carries
-pub record IsBrought {M : Type 0} (decoding : Decoding M) (past : List Came) (s : Shown M) : Type 0 where
+-- a DATA brought the sample: its sequence number, its time, and the body that the catalog makes of
+-- what the DATA carries
+pub record IsBrought {M : Type 0} (decoding : Decoding M) (past : List Came) (s : Shown M)
+    : Type 0 where
   pub change : Sample
   pub came : Brings past change
   pub number : s.number ≡ change.number
   pub time : s.time ≡ change.time
   pub body : s.body ≡ body_by decoding change.info change.payload
 
--- each sequence number between that of a sample and that of the sample before it was given up by then
+-- each sequence number between that of a sample and that of the sample before it was given up by
+-- then
 abbrev pub PassesOverOnly : {M : Type 0} → List Happening → ℕ → List (Shown M) → Type 0
 PassesOverOnly events last [] = Unit {0}
-PassesOverOnly events last (s ∷ ss) = ((k : ℕ) → last < k → k < s.number → IsGivenUp (came_by s.place events) k) × PassesOverOnly events s.number ss
+PassesOverOnly events last (s ∷ ss) =
+    ((k : ℕ) → last < k → k < s.number → IsGivenUp (came_by s.place events) k)
+    × PassesOverOnly events s.number ss
 
 -- the samples of a match, against its submessages, the newest first
-pub record ArePresented {M : Type 0} (decoding : Decoding M) (events : List Happening) (samples : List (Shown M)) : Type 0 where
+pub record ArePresented {M : Type 0} (decoding : Decoding M) (events : List Happening)
+    (samples : List (Shown M)) : Type 0 where
   -- each sequence number is above all before it
   pub rising : RisesStrictly (map (λ s. s.number) samples)
   -- a DATA that isn't after the sample's place brought it
@@ -77,13 +90,17 @@ pub record ArePresented {M : Type 0} (decoding : Decoding M) (events : List Happ
   pub passed_over : PassesOverOnly events 0 samples
 
 -- the samples of a writer that the reader of a rank presented in a run
-abbrev pub samples_in : {M : Type 0} → Decoding M → Config → List (List ℕ) → ℕ → Guid → List (Shown M)
-samples_in decoding config datagrams rank writer = samples_of writer (notices_by rank (run decoding config datagrams).put)
+abbrev pub samples_in : {M : Type 0} → Decoding M → Config → List (List ℕ) → ℕ → Guid
+    → List (Shown M)
+samples_in decoding config datagrams rank writer =
+    samples_of writer (notices_by rank (run decoding config datagrams).put)
 
 -- the reader of a rank is matched with a writer from the start
 abbrev pub is_fixed : Config → ℕ → Guid → Bool
-is_fixed config rank writer = list_any (λ m. m.rank == rank && same_guid m.writer writer) config.fixed.items
+is_fixed config rank writer =
+    list_any (λ m. m.rank == rank && same_guid m.writer writer) config.fixed.items
 
 -- the submessages of a run for the match of a writer and the reader of a rank, the newest first
 abbrev pub events_in : Config → List (List ℕ) → ℕ → Guid → List Happening
-events_in config datagrams rank writer = events_for writer (entity_of config.readers.items rank) (events_from config.own 0 datagrams)
+events_in config datagrams rank writer =
+    events_for writer (entity_of config.readers.items rank) (events_from config.own 0 datagrams)

@@ -26,7 +26,8 @@ is_reliable Reliable = true
 
 -- whether the reader of a rank asks for what is missing
 abbrev pub is_reliable_at : List ReaderConfig → ℕ → Bool
-is_reliable_at readers rank = slice_index_or (map (λ r. is_reliable r.requested.policies.reliability) readers) rank false
+is_reliable_at readers rank =
+    slice_index_or (map (λ r. is_reliable r.requested.policies.reliability) readers) rank false
 
 -- a writer, and where answers to it go
 abbrev pub Facts : Type 0
@@ -38,24 +39,34 @@ fixed_of fixed rank = map (λ m. (m.writer, m.locators)) (filter (λ m. m.rank =
 
 -- between whom a match of a reader is
 abbrev pub whom_of : GuidPrefix → EntityId → Bool → Facts → Whom
-whom_of own entity is_asking facts = record { own = own; writer = facts.0; reader = entity; reliable = is_asking; locators = facts.1 }
+whom_of own entity is_asking facts = record {
+  own = own;
+  writer = facts.0;
+  reader = entity;
+  reliable = is_asking;
+  locators = facts.1;
+}
 
 -- the reader of a rank at the start, where these are its fixed matches
 abbrev pub reader_first : GuidPrefix → List ReaderConfig → ℕ → List Facts → Reader
-reader_first own readers rank fixed = first_reader (entity_of readers rank) (map (whom_of own (entity_of readers rank) (is_reliable_at readers rank)) fixed)
+reader_first own readers rank fixed =
+    first_reader (entity_of readers rank)
+    (map (whom_of own (entity_of readers rank) (is_reliable_at readers rank)) fixed)
 
 -- the world at the start: nothing came, and there are the fixed matches
 abbrev pub first_world : {M : Type 0} → Config → World M
 first_world config = record {
   count = length config.readers.items;
-  readers = λ rank. reader_first config.own config.readers.items rank (fixed_of config.fixed.items rank);
+  readers = λ rank.
+      reader_first config.own config.readers.items rank (fixed_of config.fixed.items rank);
   put = [];
 }
 
 -- the events of a list of datagrams, of which the first has this index in the run
 abbrev pub events_from : GuidPrefix → ℕ → List (List ℕ) → List Happening
 events_from own index [] = []
-events_from own index (datagram ∷ datagrams) = events_of own index datagram ++ events_from own (index + 1) datagrams
+events_from own index (datagram ∷ datagrams) =
+    events_of own index datagram ++ events_from own (index + 1) datagrams
 
 -- the events one by one
 abbrev pub world_run : {M : Type 0} → Decoding M → World M → List Happening → World M
@@ -64,4 +75,5 @@ world_run decoding w (e ∷ es) = world_run decoding (world_after decoding w e) 
 
 -- the world after a list of datagrams
 abbrev pub run : {M : Type 0} → Decoding M → Config → List (List ℕ) → World M
-run decoding config datagrams = world_run decoding (first_world config) (events_from config.own 0 datagrams)
+run decoding config datagrams =
+    world_run decoding (first_world config) (events_from config.own 0 datagrams)

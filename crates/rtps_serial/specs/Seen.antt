@@ -1,17 +1,19 @@
 -- What is seen of a run: each reader's notices, the answers, the statuses and the matches.
-use Rattle.std.specs.Prelude.{ℕ, zero, suc, List, [], ◌∷◌, map, Option, Some, None, nat_lt, ◌==◌, if◌then◌else◌}
+use Rattle.std.specs.Prelude.{ℕ, zero, suc, List, [], ◌∷◌, map, Bool, ◌&&◌, Option, Some, None, nat_lt, ◌==◌, if◌then◌else◌}
+use Rattle.std.specs.List.{list_any}
 use Rattle.rtps_types.specs.declared.identity.Guid.{Guid}
 use Rattle.rtps_reader.specs.declared.status.Status.{Status}
 use Rattle.rtps_reader.specs.Listed.{with_writers}
 use Rattle.rtps_reader.specs.declared.notice.Notice.{Notice}
-use Rattle.rtps_reader.specs.Reader.{Reader}
+use Rattle.rtps_reader.specs.Reader.{Reader, same_guid}
 use Rattle.rtps_reader.specs.Status.{status_of}
-use Rattle.rtps_serial.specs.World.{Put, Hears, Sends, Sending, World}
+use Rattle.rtps_serial.specs.World.{Put, Hears, Sends, Sending, World, is_matched}
 
 -- the notices of the reader of a rank, in order
 abbrev pub notices_by : {M : Type 0} → ℕ → List (Put M) → List (Notice M)
 notices_by rank [] = []
-notices_by rank (Hears by notice ∷ put) = if by == rank then notice ∷ notices_by rank put else notices_by rank put
+notices_by rank (Hears by notice ∷ put) =
+    if by == rank then notice ∷ notices_by rank put else notices_by rank put
 notices_by rank (Sends answer ∷ put) = notices_by rank put
 
 -- the answers, in order
@@ -31,7 +33,16 @@ status_seen w rank = if nat_lt rank w.count then Some (status_at w rank) else No
 -- the matches of the readers of the ranks below a count, ordered by rank and then by writer
 abbrev pub matches_below : (ℕ → Reader) → ℕ → List (ℕ × Guid)
 matches_below readers zero = []
-matches_below readers (suc rank) = with_writers (matches_below readers rank) rank (map (λ m. m.whom.writer) (readers rank).matches)
+matches_below readers (suc rank) =
+    with_writers (matches_below readers rank) rank (map (λ m. m.whom.writer) (readers rank).matches)
 
 abbrev pub matches_seen : {M : Type 0} → World M → List (ℕ × Guid)
 matches_seen w = matches_below w.readers w.count
+
+-- a list of matches has the one of a rank and a writer
+abbrev pub is_listed : List (ℕ × Guid) → ℕ → Guid → Bool
+is_listed listed rank writer = list_any (λ m. m.0 == rank && same_guid m.1 writer) listed
+
+-- there is a reader of the rank, and it is matched with the writer
+abbrev pub is_matched_at : {M : Type 0} → World M → ℕ → Guid → Bool
+is_matched_at w rank writer = nat_lt rank w.count && is_matched (w.readers rank).matches writer

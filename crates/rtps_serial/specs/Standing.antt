@@ -32,12 +32,16 @@ abbrev pub facts_in : {A : Type 0} → WriterFacts A → Facts
 facts_in facts = (facts.writer, facts.locators)
 
 -- the state of a rank keeps the reader of that rank, which gave out these notices
-pub record StandsFor {M : Type 0} (r : Reader) (given : List (Notice M)) (rank : ℕ) (state : ReaderKept) : Type 0 where
+pub record StandsFor {M : Type 0} (r : Reader) (given : List (Notice M)) (rank : ℕ)
+    (state : ReaderKept) : Type 0 where
   pub stands : reader.StandsAt r given state
   pub ranked : state.rank ≡ rank
 
-abbrev pub AllStandBy : {M : Type 0} → (ℕ → Reader) → (ℕ → List (Notice M)) → List ReaderKept → Type 0
-AllStandBy readers given states = (rank : ℕ) (other : ReaderKept) → rank < length states → StandsFor (readers rank) (given rank) rank (slice_index_or states rank other)
+abbrev pub AllStandBy : {M : Type 0} → (ℕ → Reader) → (ℕ → List (Notice M)) → List ReaderKept
+    → Type 0
+AllStandBy readers given states =
+    (rank : ℕ) (other : ReaderKept) → rank < length states
+    → StandsFor (readers rank) (given rank) rank (slice_index_or states rank other)
 
 -- each state keeps the reader of its rank in the world, with the notices that it put out
 abbrev pub AllStand : {M : Type 0} → World M → List ReaderKept → Type 0
@@ -52,12 +56,16 @@ abbrev pub run_by : {C M : Type 0} → (C → Decoding M) → EngineKept C → L
 run_by decoding engine datagrams = run (decoding engine.catalog) engine.config datagrams
 
 -- the statuses are those after these datagrams
-pub record ShowsAt {C M : Type 0} (decoding : C → Decoding M) (datagrams : List (List ℕ)) (engine : EngineKept C) : Type 0 where
+pub record ShowsAt {C M : Type 0} (decoding : C → Decoding M) (datagrams : List (List ℕ))
+    (engine : EngineKept C) : Type 0 where
   pub count : length engine.statuses ≡ length engine.config.readers.items
-  pub statuses : (rank : ℕ) (other : Status) → rank < length engine.statuses → slice_index_or engine.statuses rank other ≡ status_at (run_by decoding engine datagrams) rank
+  pub statuses : (rank : ℕ) (other : Status) → rank < length engine.statuses
+      → slice_index_or engine.statuses rank other
+      ≡ status_at (run_by decoding engine datagrams) rank
 
 -- the engine keeps what follows from these datagrams
-pub record StandsAt {C M : Type 0} (decoding : C → Decoding M) (datagrams : List (List ℕ)) (engine : EngineKept C) : Type 0 where
+pub record StandsAt {C M : Type 0} (decoding : C → Decoding M) (datagrams : List (List ℕ))
+    (engine : EngineKept C) : Type 0 where
   pub sound : engine.failed ≡ false
   pub index : engine.index ≡ length datagrams
   pub count : length engine.readers ≡ length engine.config.readers.items
@@ -68,13 +76,17 @@ pub record StandsAt {C M : Type 0} (decoding : C → Decoding M) (datagrams : Li
 abbrev pub datagram_limit : ℕ
 datagram_limit = 2 ^ 48
 
--- How a datagram is taken, and when each refusal comes: Failed exactly where an earlier datagram was out of memory, which leaves
--- the engine failed, Spent exactly where one datagram more would pass the limit. Either leaves the engine as it was.
+-- How a datagram is taken, and when each refusal comes: Failed exactly where an earlier datagram was
+-- out of memory, which leaves the engine failed, Spent exactly where one datagram more would pass the
+-- limit. Either leaves the engine as it was.
 unfoldable pub Takes : {C X : Type 0} → Result X EngineError → EngineKept C → EngineKept C → Type 0
-Takes (Ok x) old new = (old.failed ≡ false) × (old.index < datagram_limit) × (new.failed ≡ false) × (new.index ≡ old.index + 1)
+Takes (Ok x) old new =
+    (old.failed ≡ false) × (old.index < datagram_limit)
+    × (new.failed ≡ false) × (new.index ≡ old.index + 1)
 Takes (Err Failed) old new = (old.failed ≡ true) × (new ≡ old)
 Takes (Err Spent) old new = (old.failed ≡ false) × (datagram_limit ≤ old.index) × (new ≡ old)
-Takes (Err NoMemory) old new = (old.failed ≡ false) × (old.index < datagram_limit) × (new.failed ≡ true)
+Takes (Err NoMemory) old new =
+    (old.failed ≡ false) × (old.index < datagram_limit) × (new.failed ≡ true)
 
 -- why a datagram is refused before it is looked at
 unfoldable pub Refuses : {C : Type 0} → EngineError → EngineKept C → Type 0
@@ -99,9 +111,11 @@ pub record IsFinishedFrom {C : Type 0} (old new : EngineKept C) : Type 0 where
   pub sound : new.failed ≡ false
   pub readers : new.readers ≡ old.readers
   pub count : length new.statuses ≡ length old.statuses
-  pub statuses : (rank : ℕ) (s : Status) (r : ReaderKept) → rank < length old.readers → slice_index_or new.statuses rank s ≡ (slice_index_or old.readers rank r).status
+  pub statuses : (rank : ℕ) (s : Status) (r : ReaderKept) → rank < length old.readers
+      → slice_index_or new.statuses rank s ≡ (slice_index_or old.readers rank r).status
 
--- What a refused datagram leaves of what the caller lent: Failed and Spent leave it as it was, and NoMemory leaves nothing.
+-- What a refused datagram leaves of what the caller lent: Failed and Spent leave it as it was, and
+-- NoMemory leaves nothing.
 unfoldable pub Leaves : {X Y : Type 0} → Result X EngineError → List Y → List Y → Type 0
 Leaves (Ok x) old new = Unit {0}
 Leaves (Err Failed) old new = new ≡ old

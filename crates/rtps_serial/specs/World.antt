@@ -1,5 +1,5 @@
--- The world and its step (DDSI-RTPS 8.3.4, 8.4.10): every reader by its rank, and all that was put out, in the order in which it
--- came.
+-- The world and its step (DDSI-RTPS 8.3.4, 8.4.10): every reader by its rank, and all that was put
+-- out, in the order in which it came.
 use Rattle.std.specs.Prelude.{ℕ, zero, suc, List, [], ◌++◌, map, Bool, Option, Some, if◌then◌else◌}
 use Rattle.std.specs.List.{list_any}
 use Rattle.rtps_types.specs.declared.identity.Guid.{Guid}
@@ -13,8 +13,8 @@ use Rattle.rtps_reader.specs.declared.notice.Notice.{Notice}
 use Rattle.rtps_reader.specs.Reader.{Match, Reader, reader_after, same_guid, sends, tells}
 use Rattle.rtps_reader.specs.Steps.{asks_of}
 
--- an answering datagram: the place that it answers, the rank of the reader that sends it (none: discovery does), where it goes and
--- its octets
+-- an answering datagram: the place that it answers, the rank of the reader that sends it (none:
+-- discovery does), where it goes and its octets
 pub record Sending : Type 0 where
   pub place : Place
   pub rank : Option ℕ
@@ -47,17 +47,22 @@ reader_by e r = if reaches e r then reader_after r (asks_of e) else r
 abbrev pub sent_by : {M : Type 0} → ℕ → Place × Sent → Put M
 sent_by rank s = Sends (record { place = s.0; rank = Some rank; to = s.1.to; octets = s.1.octets })
 
--- what the reader of a rank puts out at an event: its notices, in order, and then its answer
+-- what the reader of a rank puts out at an event that reaches it: its notices, in order, and then its
+-- answer
+abbrev pub puts_reached : {M : Type 0} → Decoding M → Happening → ℕ → Reader → List (Put M)
+puts_reached decoding e rank r =
+    map (Hears rank) (tells decoding r e.place (asks_of e))
+    ++ map (sent_by rank) (sends r e.place (asks_of e))
+
+-- and no other reader puts out anything
 abbrev pub puts : {M : Type 0} → Decoding M → Happening → ℕ → Reader → List (Put M)
-puts decoding e rank r =
-    if reaches e r
-    then map (Hears rank) (tells decoding r e.place (asks_of e)) ++ map (sent_by rank) (sends r e.place (asks_of e))
-    else []
+puts decoding e rank r = if reaches e r then puts_reached decoding e rank r else []
 
 -- what the readers of the ranks below a count put out at an event, by rising rank
 abbrev pub puts_below : {M : Type 0} → Decoding M → Happening → (ℕ → Reader) → ℕ → List (Put M)
 puts_below decoding e readers zero = []
-puts_below decoding e readers (suc rank) = puts_below decoding e readers rank ++ puts decoding e rank (readers rank)
+puts_below decoding e readers (suc rank) =
+    puts_below decoding e readers rank ++ puts decoding e rank (readers rank)
 
 -- one event: it extends the history of each match that it is addressed to
 abbrev pub world_after : {M : Type 0} → Decoding M → World M → Happening → World M

@@ -1,6 +1,6 @@
 //! Dealing out by rank.
 
-ghost use Rattle.std.specs.Prelude.{◌≡◌, ℕ, ◌<◌, ◌==◌, ◌++◌, [], ◌∷◌, IfOk, OnOk, List, if◌then◌else◌, length, map, slice_index_or, vec_len};
+ghost use Rattle.std.specs.Prelude.{◌≡◌, ℕ, ◌^◌, ◌<◌, ◌≤◌, ◌==◌, ◌++◌, [], ◌∷◌, IfOk, OnOk, List, if◌then◌else◌, length, map, slice_index_or, vec_len};
 ghost use Rattle.rtps_serial.specs.Outcome.{Deals, report_view};
 ghost use Rattle.rtps_serial.specs.World.{Put};
 
@@ -50,6 +50,7 @@ pub(crate) fn dealt<C: Catalog, A: Allocator + Copy>(
     count: usize,
     reports: Vec<Report<C::Value, A>, A>,
 ) -> Result<Outcome<C::Value, A>, AllocError>
+    requires { count ≤ 2 ^ 32 }
     ensures { IfOk result (Deals C.view count (map (report_view C.view) reports.items)) }
 {
     let mut outcome = Outcome {

@@ -61,8 +61,8 @@ impl<C: Catalog, A: Allocator> Model for SerialEngine<C, A> {
 }
 
 impl<C: Catalog> SerialEngine<C> {
-    /// An engine for this configuration: its readers with their fixed matches, to which nothing came
-    /// yet. Values come from `alloc`.
+    /// An engine for this configuration: its readers with their fixed matches, to which nothing
+    /// came yet. Values come from `alloc`.
     pub fn new(alloc: Global, config: Config, catalog: C) -> Result<SerialEngine<C>, StartError>
         ensures starts { Starts (check_of config) result }
         ensures same { IfOk result (λ e. (e.catalog ≡ catalog) × (e.config ≡ config)) }
@@ -71,12 +71,12 @@ impl<C: Catalog> SerialEngine<C> {
         SerialEngine::new_in(alloc, alloc, config, catalog)
     }
 
-    /// Takes the next datagram, at most 65,507 octets, and gives the notices of each reader and what
-    /// is to be sent.
+    /// Takes the next datagram, at most 65,507 octets, and gives the notices of each reader and
+    /// what is to be sent.
     ///
     /// When a datagram is out of memory the engine has failed: from then on it answers
-    /// [`EngineError::Failed`], and its statuses are those before that datagram. A datagram that would
-    /// pass 2^48 of them is refused with [`EngineError::Spent`] and changes nothing.
+    /// [`EngineError::Failed`], and its statuses are those before that datagram. A datagram that
+    /// would pass 2^48 of them is refused with [`EngineError::Spent`] and changes nothing.
     pub fn take(&mut self, alloc: Global, octets: &[u8]) -> Result<Outcome<C::Value>, EngineError>
         requires { length octets.now ≤ 65507 }
         ensures takes { Takes result self.old self.new }
@@ -124,8 +124,8 @@ impl<C: Catalog, A: Allocator + Copy> SerialEngine<C, A> {
     }
 
     /// Takes the next datagram, at most 65,507 octets, and puts all that follows from it in
-    /// `reports`, in place of what is there, in the order in which it comes: by place, then by rank,
-    /// and of one reader its notices before its answer.
+    /// `reports`, in place of what is there, in the order in which it comes: by place, then by
+    /// rank, and of one reader its notices before its answer.
     ///
     /// [`EngineError::Failed`] and [`EngineError::Spent`] leave `reports` as it was,
     /// [`EngineError::NoMemory`] leaves it empty.
@@ -158,8 +158,8 @@ impl<C: Catalog, A: Allocator + Copy> SerialEngine<C, A> {
         Ok(())
     }
 
-    /// Takes the next datagram, at most 65,507 octets, and gives the notices of each reader and what
-    /// is to be sent.
+    /// Takes the next datagram, at most 65,507 octets, and gives the notices of each reader and
+    /// what is to be sent.
     ///
     /// When a datagram is out of memory the engine has failed: from then on it answers
     /// [`EngineError::Failed`], and its statuses are those before that datagram.
@@ -202,8 +202,8 @@ impl<C: Catalog, A: Allocator + Copy> SerialEngine<C, A> {
         Ok(())
     }
 
-    /// Gives the events of a datagram to the readers. What follows from it takes the place of what is
-    /// in `reports`.
+    /// Gives the events of a datagram to the readers. What follows from it takes the place of what
+    /// is in `reports`.
     fn report(
         &mut self,
         alloc: A,
@@ -251,8 +251,8 @@ impl<C: Catalog, A: Allocator + Copy> SerialEngine<C, A> {
         self.readers.len() as u32
     }
 
-    /// The status of the reader of a rank, after the last datagram that was taken, or `None` where no
-    /// reader has the rank. No memory is taken.
+    /// The status of the reader of a rank, after the last datagram that was taken, or `None` where
+    /// no reader has the rank. No memory is taken.
     pub fn status(&self, rank: u32) -> Option<Status>
         ensures { (datagrams : List (List ℕ)) → ShowsAt C.decoding datagrams self.now
             → result ≡ status_seen (run_by C.decoding self.now datagrams) rank }

@@ -1,17 +1,26 @@
 //! Laws of the definitions. Each is a function that does nothing, whose contract is the law.
 
-ghost use Rattle.std.specs.Prelude.{◌≡◌, ℕ, List, [], false, true};
+ghost use Rattle.std.specs.Prelude.{◌≡◌, ◌++◌, ℕ, List, [], false, map, true};
+ghost use Rattle.std.specs.List.Sorted.{IsStrictlySortedBy};
 ghost use Rattle.rtps_discovery.specs.declared.config.Config.{Config};
 ghost use Rattle.dds_topic.specs.Decoding.{Decoding};
+ghost use Rattle.rtps_reader.specs.Listed.{match_order};
+ghost use Rattle.rtps_serial.specs.declared.outcome.Outcome.{Outcome};
+ghost use Rattle.rtps_serial.specs.declared.outcome.Report.{Report};
+ghost use Rattle.rtps_serial.specs.Outcome.{Adds, report_view};
 ghost use Rattle.rtps_serial.specs.Presentation.{ArePresented, events_in, is_fixed, samples_in};
-ghost use Rattle.rtps_serial.specs.Run.{is_reliable_at};
+ghost use Rattle.rtps_serial.specs.Run.{is_reliable_at, run};
+ghost use Rattle.rtps_serial.specs.Seen.{is_listed, is_matched_at, matches_seen};
+ghost use Rattle.rtps_serial.specs.Turn.{AreInOrder};
 ghost use Rattle.rtps_types.specs.declared.identity.Guid.{Guid};
 
-/// Whatever datagrams come, and whatever the catalog makes of them: in the match of a reliable reader
-/// and a writer the sequence numbers of the samples rise strictly; a DATA of the match brought each
-/// sample, not after its place; and each number that is passed over was given up by then, by a GAP or
-/// an accepted HEARTBEAT of the match. Of a writer that the reader isn't matched with, no sample is
-/// presented.
+use std::alloc::Allocator;
+
+/// Whatever datagrams come, and whatever the catalog makes of them: in the match of a reliable
+/// reader and a writer the sequence numbers of the samples rise strictly; a DATA of the match
+/// brought each sample, not after its place; and each number that is passed over was given up by
+/// then, by a GAP or an accepted HEARTBEAT of the match. Of a writer that the reader isn't matched
+/// with, no sample is presented.
 pub fn presented<M>()
     ensures matched { (decoding : Decoding M) (config : Config) (datagrams : List (List ℕ))
         (rank : ℕ) (writer : Guid)
@@ -22,4 +31,27 @@ pub fn presented<M>()
         (rank : ℕ) (writer : Guid)
         → is_fixed config rank writer ≡ false → samples_in decoding config datagrams rank writer
         ≡ [] }
+{}
+
+/// Whatever datagrams come in a batch after others: an outcome that has what the run puts out more
+/// has it, in order, as the run does. So [`crate::Outcome::in_order`] gives of any engine's outcome
+/// what [`crate::SerialEngine::take_in_order`] reports.
+pub fn in_order<V, M, A: Allocator>()
+    ensures { (view : V → M) (decoding : Decoding M) (config : Config)
+        (datagrams batch : List (List ℕ)) (outcome : Outcome V A) (reports : List (Report V A))
+        → Adds view (run decoding config datagrams) (run decoding config (datagrams ++ batch))
+        outcome → AreInOrder outcome reports
+        → (run decoding config (datagrams ++ batch)).put
+        ≡ (run decoding config datagrams).put ++ map (report_view view) reports }
+{}
+
+/// Whatever datagrams come: the matches are listed by rank, those of one rank by the writer's
+/// octets, none twice; and just the pairs of a reader and a writer that are matched are listed.
+pub fn matches_listed<M>()
+    ensures ordered { (decoding : Decoding M) (config : Config) (datagrams : List (List ℕ))
+        → IsStrictlySortedBy match_order (matches_seen (run decoding config datagrams)) }
+    ensures matched { (decoding : Decoding M) (config : Config) (datagrams : List (List ℕ))
+        (rank : ℕ) (writer : Guid)
+        → is_listed (matches_seen (run decoding config datagrams)) rank writer
+        ≡ is_matched_at (run decoding config datagrams) rank writer }
 {}

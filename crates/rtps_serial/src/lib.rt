@@ -1,8 +1,8 @@
 //! The engine of one thread: from datagrams to notices, statuses, matches and answers
 //! (DDSI-RTPS 8.3.4, 8.4.10).
 //!
-//! Its definitions, the world and the run of one thread, are what every engine of more threads has to
-//! give too.
+//! Its definitions, the world and the run of one thread, are what every engine of more threads has
+//! to give too.
 #![tactic(auto)]
 
 mod deal;
@@ -14,7 +14,9 @@ mod start;
 mod steps;
 #[cfg(test)]
 mod tests;
+mod turn;
 
 pub use engine::SerialEngine;
 pub use errors::{EngineError, StartError};
 pub use outcome::{Answer, Outcome, Report};
+pub use turn::{ReportKind, Turn};

@@ -1,5 +1,7 @@
 //! What an engine gives.
 
+ghost use Rattle.std.specs.Prelude.{◌^◌, ◌≤◌, vec_len};
+
 use rtps_reader::Notice;
 use rtps_types::{Locators, Octets, Place};
 use std::alloc::{Allocator, Global};
@@ -24,6 +26,8 @@ pub struct Outcome<V, A: Allocator = Global> {
     pub notices: Vec<Vec<Notice<V>, A>, A>,
     /// The answers, by place, discovery's before those of readers, and these by rank.
     pub answers: Vec<Answer<A>, A>,
+    /// Ranks have 32 bits.
+    ghost ranked: { vec_len notices ≤ 2 ^ 32 },
 }
 
 /// One thing that a datagram gives, for those who want all in the order in which it came: by place,

@@ -2,19 +2,19 @@
 
 ghost use Rattle.std.specs.Prelude.{◌≤◌, IfOk, length};
 
-mod reliable;
+mod edges;
+mod memory;
+mod order;
+mod runs;
 
 use crate::*;
 use dds_qos::{Reliability, Requested};
 use dds_topic::{Shape, Shapes};
-use linked_list_allocator::LocalHeap;
-use rtps_discovery::{Config, ConfigFault, FixedMatch, ReaderConfig};
-use rtps_reader::{Body, Notice, NoticeKind, Status};
-use rtps_types::{EntityId, Guid, GuidPrefix, Locators, Place};
-use std::alloc::Global;
+use rtps_discovery::{Config, FixedMatch, ReaderConfig};
+use rtps_reader::{Body, NoticeKind};
+use rtps_types::{EntityId, Guid, GuidPrefix, Locators};
+use std::alloc::{AllocError, Allocator, Global};
 use std::test::Fail;
-
-const OURS: GuidPrefix = GuidPrefix([0x0b; 12]);
 
 const WRITER: Guid = Guid {
     prefix: GuidPrefix([0x0a; 12]),
@@ -26,27 +26,70 @@ const OTHER: Guid = Guid {
     entity: EntityId([0x00, 0x00, 0x01, 0x02]),
 };
 
-/// `RTPS` 2.5 and the prefix of the writer.
-const HEADER: &str = "52545053020500000a0a0a0a0a0a0a0a0a0a0a0a";
+/// `RTPS` 2.5, no vendor, and the prefix of the writer.
+const HEADER: &[u8] = b"RTPS\x02\x05\x00\x00\
+    \x0a\x0a\x0a\x0a\x0a\x0a\x0a\x0a\x0a\x0a\x0a\x0a";
 
-/// A DATA submessage of 48 octets for every reader, up to its number.
-const FOR_ALL: &str = "1505300000001000000000000000010200000000";
+/// The shape BLUE at 10, 20 of size 30, in little-endian CDR.
+const BLUE: &[u8] = b"\x00\x01\x00\x00\x05\x00\x00\x00BLUE\x00\x00\x00\x00\
+    \x0a\x00\x00\x00\x14\x00\x00\x00\x1e\x00\x00\x00";
 
-/// The same for the second reader alone.
-const FOR_SECOND: &str = "1505300000001000000002070000010200000000";
+/// What the writer sends.
+#[derive(Clone, Copy)]
+enum Sent {
+    /// DATA with this number and BLUE, for every reader.
+    ForAll(u8),
+    /// The same for the second reader alone.
+    ForSecond(u8),
+    /// HEARTBEAT of the numbers from the first to the last, with this count, for every reader.
+    Heartbeat(u8, u8, u8),
+}
 
-/// The shape BLUE at 10, 20 of size 30.
-const BLUE: &str = "0001000005000000424c5545000000000a000000140000001e000000";
+/// What a report says.
+#[derive(Clone, Copy, PartialEq, Eq)]
+enum Said {
+    /// A sample of this number, which is BLUE.
+    Blue(u64),
+    /// So many numbers are lost.
+    Lost(u64),
+    /// An answer is sent.
+    Answer,
+    Other,
+}
 
-/// A datagram of DATA submessages, each by what comes before its number, and by its number.
-fn datagram(alloc: Global, changes: &[(&str, u8)]) -> Result<Vec<u8>, Fail>
+/// The rank of a report, the datagram and the submessage that caused it, and what it says.
+type Line = (Option<u32>, u64, u32, Said);
+
+/// DATA of 48 octets up to its payload, for a reader by the last octets of its entity.
+fn push_data(octets: &mut Vec<u8>, reader: [u8; 2], number: u8) -> Result<(), AllocError> {
+    octets.extend_from_slice(b"\x15\x05\x30\x00\x00\x00\x10\x00\x00\x00")?;
+    octets.extend_from_slice(&reader)?;
+    octets.extend_from_slice(b"\x00\x00\x01\x02\x00\x00\x00\x00")?;
+    octets.extend_from_slice(&[number, 0, 0, 0])?;
+    octets.extend_from_slice(BLUE)
+}
+
+fn push_heartbeat(octets: &mut Vec<u8>, numbers: [u8; 3]) -> Result<(), AllocError> {
+    let [first, last, count] = numbers;
+    octets.extend_from_slice(b"\x07\x01\x1c\x00\x00\x00\x00\x00\x00\x00\x01\x02")?;
+    octets.extend_from_slice(&[0, 0, 0, 0, first, 0, 0, 0])?;
+    octets.extend_from_slice(&[0, 0, 0, 0, last, 0, 0, 0])?;
+    octets.extend_from_slice(&[count, 0, 0, 0])
+}
+
+/// A datagram of these submessages.
+fn datagram(alloc: Global, parts: &[Sent]) -> Result<Vec<u8>, Fail>
     ensures { IfOk result (λ octets. length octets.items ≤ 65507) }
 {
-    let mut octets = hex::decode(alloc, HEADER)?;
-    for (front, number) in changes {
-        octets.extend_from_slice(hex::decode(alloc, *front)?.as_slice())?;
-        octets.extend_from_slice(&[*number, 0, 0, 0])?;
-        octets.extend_from_slice(hex::decode(alloc, BLUE)?.as_slice())?;
+    let mut octets = Vec::from_slice(alloc, HEADER)?;
+    for part in parts {
+        match *part {
+            Sent::ForAll(number) => push_data(&mut octets, [0, 0], number)?,
+            Sent::ForSecond(number) => push_data(&mut octets, [2, 7], number)?,
+            Sent::Heartbeat(first, last, count) => {
+                push_heartbeat(&mut octets, [first, last, count])?
+            }
+        }
     }
     if octets.len() > 65_507 {
         return Err(Fail::new("the datagram is too long"));
@@ -54,27 +97,37 @@ fn datagram(alloc: Global, changes: &[(&str, u8)]) -> Result<Vec<u8>, Fail>
     Ok(octets)
 }
 
-/// Readers that ask for this, and fixed matches by rank.
-fn config_of(
+fn reader_config(
     alloc: Global,
     reliability: Reliability,
-    readers: u8,
+    rank: u8,
+) -> Result<ReaderConfig, AllocError> {
+    let mut requested = Requested::new(alloc);
+    requested.policies.reliability = reliability;
+    Ok(ReaderConfig {
+        entity: EntityId([0, 0, rank.wrapping_add(1), 7]),
+        topic: String::from_str(alloc, "Square")?,
+        type_name: String::from_str(alloc, "ShapeType")?,
+        requested,
+    })
+}
+
+/// Readers of the ranks up to the last one, and fixed matches by rank.
+fn config(
+    alloc: Global,
+    reliability: Reliability,
+    ranks: &[u8],
     fixed: &[(u32, Guid)],
-) -> Result<Config, Fail> {
+) -> Result<Config, AllocError> {
     let mut config = Config {
-        own: OURS,
+        own: GuidPrefix([0x0b; 12]),
         readers: Vec::new(alloc),
         fixed: Vec::new(alloc),
     };
-    for rank in 0..readers {
-        let mut requested = Requested::new(alloc);
-        requested.policies.reliability = reliability;
-        config.readers.push(ReaderConfig {
-            entity: EntityId([0, 0, rank + 1, 7]),
-            topic: String::from_str(alloc, "Square")?,
-            type_name: String::from_str(alloc, "ShapeType")?,
-            requested,
-        })?;
+    for rank in ranks {
+        config
+            .readers
+            .push(reader_config(alloc, reliability, *rank)?)?;
     }
     for (rank, writer) in fixed {
         config.fixed.push(FixedMatch {
@@ -86,200 +139,39 @@ fn config_of(
     Ok(config)
 }
 
-/// Best-effort readers, and fixed matches by rank.
-fn config(alloc: Global, readers: u8, fixed: &[(u32, Guid)]) -> Result<Config, Fail> {
-    config_of(alloc, Reliability::BestEffort, readers, fixed)
-}
-
 /// Two readers that are both matched with the writer.
-fn two_readers(alloc: Global) -> Result<SerialEngine<Shapes>, Fail> {
-    let config = config(alloc, 2, &[(0, WRITER), (1, WRITER)])?;
-    Ok(SerialEngine::new(alloc, config, Shapes)?)
+fn two(alloc: Global, reliability: Reliability) -> Result<Config, AllocError> {
+    config(alloc, reliability, &[0, 1], &[(0, WRITER), (1, WRITER)])
 }
 
-/// The place of a notice, the number of its sample, and how many numbers it says are lost.
-fn seen(notice: &Notice<Shape>) -> (u64, u32, u64, u64) {
-    let Place {
-        datagram,
-        submessage,
-    } = notice.place;
-    match &notice.what {
-        NoticeKind::Sample { number, .. } => (datagram, submessage, number.get(), 0),
-        NoticeKind::Lost { count } => (datagram, submessage, 0, *count),
-        _ => (datagram, submessage, 0, 0),
-    }
-}
-
-#[test]
-fn each_reader_presents_what_is_for_it(rt: HostRuntime) -> Result<(), Fail> {
-    let mut engine = two_readers(rt.alloc())?;
-    let changes = [(FOR_ALL, 1), (FOR_SECOND, 3), (FOR_ALL, 5)];
-    let octets = datagram(rt.alloc(), &changes)?;
-    let outcome = engine.take(rt.alloc(), octets.as_slice())?;
-    let first: [(u64, u32, u64, u64); 3] = [(0, 1, 1, 0), (0, 3, 0, 3), (0, 3, 5, 0)];
-    let second = [
-        (0, 1, 1, 0),
-        (0, 2, 0, 1),
-        (0, 2, 3, 0),
-        (0, 3, 0, 1),
-        (0, 3, 5, 0),
-    ];
-    assert_eq!(rt; outcome.notices.len(), 2);
-    for (notices, expected) in outcome
-        .notices
-        .iter()
-        .zip([first.as_slice(), second.as_slice()])
-    {
-        assert_eq!(rt; notices.len(), expected.len());
-        for (notice, expected) in notices.iter().zip(expected) {
-            assert_eq!(rt; seen(notice), *expected);
-            assert_eq!(rt; notice.writer, WRITER);
+fn said_by(kind: &NoticeKind<Shape>) -> Said {
+    match kind {
+        NoticeKind::Lost { count } => Said::Lost(*count),
+        NoticeKind::Sample {
+            number,
+            body: Body::Value(_, shape),
+            ..
+        } if shape.color.as_str() == "BLUE" && (shape.x, shape.y, shape.size) == (10, 20, 30) => {
+            Said::Blue(number.get())
         }
+        _ => Said::Other,
     }
-    assert!(rt; outcome.answers.is_empty());
-    Ok(())
 }
 
-#[test]
-fn all_comes_by_place_and_then_by_rank(rt: HostRuntime) -> Result<(), Fail> {
-    let mut engine = two_readers(rt.alloc())?;
-    let changes = [(FOR_ALL, 1), (FOR_SECOND, 2), (FOR_ALL, 3)];
-    let octets = datagram(rt.alloc(), &changes)?;
-    let mut reports = Vec::new(rt.alloc());
-    engine.take_in_order(rt.alloc(), octets.as_slice(), &mut reports)?;
-    let expected: [(u32, (u64, u32, u64, u64)); 6] = [
-        (0, (0, 1, 1, 0)),
-        (1, (0, 1, 1, 0)),
-        (1, (0, 2, 2, 0)),
-        (0, (0, 3, 0, 1)),
-        (0, (0, 3, 3, 0)),
-        (1, (0, 3, 3, 0)),
-    ];
-    assert_eq!(rt; reports.len(), expected.len());
-    for (report, expected) in reports.iter().zip(&expected) {
-        match report {
-            Report::Notice { rank, notice } => assert_eq!(rt; (*rank, seen(notice)), *expected),
-            Report::Answer(answer) => assert!(rt; false, "{answer:?}"),
-        }
-    }
-    Ok(())
-}
-
-#[test]
-fn a_value_is_decoded(rt: HostRuntime) -> Result<(), Fail> {
-    let mut engine = two_readers(rt.alloc())?;
-    let octets = datagram(rt.alloc(), &[(FOR_SECOND, 1)])?;
-    let outcome = engine.take(rt.alloc(), octets.as_slice())?;
-    let mut found = false;
-    for notice in outcome.notices.iter().flatten() {
-        assert!(rt; !found);
-        found = true;
-        match &notice.what {
-            NoticeKind::Sample {
-                body: Body::Value(_, shape),
-                ..
-            } => {
-                assert_eq!(rt; shape.color.as_str(), "BLUE");
-                assert_eq!(rt; (shape.x, shape.y, shape.size), (10, 20, 30));
-            }
-            other => assert!(rt; false, "{other:?}"),
-        }
-    }
-    assert!(rt; found);
-    laws::presented::<Shape>();
-    Ok(())
-}
-
-#[test]
-fn statuses_count_over_datagrams(rt: HostRuntime) -> Result<(), Fail> {
-    let mut engine = two_readers(rt.alloc())?;
-    for number in [2, 5, 5, 4, 7] {
-        let octets = datagram(rt.alloc(), &[(FOR_SECOND, number)])?;
-        let _outcome = engine.take(rt.alloc(), octets.as_slice())?;
-    }
-    let quiet = Status {
-        matched_total: 1,
-        matched_now: 1,
-        incompatible_total: 0,
-        last_policy: None,
-        lost_total: 0,
-        samples: 0,
+fn line<A: Allocator>(report: &Report<Shape, A>) -> Line {
+    let turn = report.turn();
+    let said = match report {
+        Report::Notice { notice, .. } => said_by(&notice.what),
+        Report::Answer(_) => Said::Answer,
     };
-    let busy = Status {
-        lost_total: 3,
-        samples: 3,
-        ..quiet
-    };
-    assert_eq!(rt; engine.status(0), Some(quiet));
-    assert_eq!(rt; engine.status(1), Some(busy));
-    assert_eq!(rt; engine.status(2), None);
-    Ok(())
+    (turn.rank, turn.place.datagram, turn.place.submessage, said)
 }
 
-#[test]
-fn matches_come_by_rank_and_writer(rt: HostRuntime) -> Result<(), Fail> {
-    let fixed = [(1, WRITER), (0, WRITER), (1, OTHER)];
-    let config = config(rt.alloc(), 3, &fixed)?;
-    let engine = SerialEngine::new(rt.alloc(), config, Shapes)?;
-    let expected: [(u32, Guid); 3] = [(0, WRITER), (1, OTHER), (1, WRITER)];
-    let matches = engine.matches(rt.alloc())?;
-    assert_eq!(rt; matches.len(), expected.len());
-    for (found, expected) in matches.iter().zip(&expected) {
-        assert_eq!(rt; *found, *expected);
-    }
-    Ok(())
-}
-
-#[test]
-fn a_faulty_configuration_is_refused(rt: HostRuntime) -> Result<(), Fail> {
-    let alloc = rt.alloc();
-    for (readers, fixed, fault) in [
-        (0, [].as_slice(), ConfigFault::Readers),
-        (1, [(1, WRITER)].as_slice(), ConfigFault::BadFixed),
-    ] {
-        let config = config(alloc, readers, fixed)?;
-        match SerialEngine::new(alloc, config, Shapes) {
-            Ok(_) => assert!(rt; false, "{fault}"),
-            Err(error) => assert_eq!(rt; error, StartError::Config(fault)),
-        }
-    }
-    Ok(())
-}
-
-#[test]
-fn an_engine_without_memory_has_failed(rt: HostRuntime) -> Result<(), Fail> {
-    let octets = datagram(rt.alloc(), &[(FOR_ALL, 1), (FOR_ALL, 3)])?;
-    let mut refused = false;
-    let mut taken = false;
-    for step in 0..60 {
-        let heap = LocalHeap::new(rt.alloc(), 400 + step * 256)?;
-        let config = config(rt.alloc(), 2, &[(0, WRITER), (1, WRITER)])?;
-        let Ok(mut engine) = SerialEngine::new_in(&heap, rt.alloc(), config, Shapes) else {
-            continue;
-        };
-        match engine.take_in(&heap, octets.as_slice()) {
-            Ok(outcome) => {
-                taken = true;
-                assert_eq!(rt; outcome.notices.len(), 2);
-                for notices in &outcome.notices {
-                    assert_eq!(rt; notices.len(), 3);
-                }
-            }
-            Err(error) => {
-                refused = true;
-                assert_eq!(rt; error, EngineError::NoMemory);
-                assert_eq!(rt; engine.status(1).map(|status| status.samples), Some(0));
-                match engine.matches(&heap) {
-                    Ok(_) => assert!(rt; false, "at {step}"),
-                    Err(error) => assert_eq!(rt; error, EngineError::Failed),
-                }
-                match engine.take_in(&heap, octets.as_slice()) {
-                    Ok(_) => assert!(rt; false, "at {step}"),
-                    Err(error) => assert_eq!(rt; error, EngineError::Failed),
-                }
-            }
-        }
-    }
-    assert!(rt; refused && taken);
-    Ok(())
+/// Whether these are the lines of the reports.
+fn are_lines<A: Allocator>(reports: &[Report<Shape, A>], lines: &[Line]) -> bool {
+    reports.len() == lines.len()
+        && reports
+            .iter()
+            .zip(lines.iter())
+            .all(|(report, expected)| line(report) == *expected)
 }

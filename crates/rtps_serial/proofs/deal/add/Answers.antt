@@ -5,8 +5,8 @@ use Rattle.rtps_serial.proofs.deal.add.Goals as goal
 
 pub returns-in-Notice : goal.returns-in-Notice
 returns-in-Notice g c count put dealt = rw c.in-Notice.is (on_ok_then c.push_by.result
-    (λ pushed. deal_notice g.C.Catalog.view count put c.args.outcome.now (record { notices = c.push_by.new.lists; answers = c.args.outcome.now.answers }) c.in-Notice.rank c.in-Notice.notice dealt c.push_by.ensures.count refl pushed) c.push_by.ensures.pushed)
+    (λ pushed. deal_notice g.C.Catalog.view count put c.args.outcome.now _ c.in-Notice.rank c.in-Notice.notice dealt c.push_by.ensures.count refl pushed) c.push_by.ensures.pushed)
 
 pub returns-in-Answer : goal.returns-in-Answer
 returns-in-Answer g c count put dealt = rw c.in-Answer.is (on_ok_then c.push_answer.result
-    (λ pushed. deal_answer g.C.Catalog.view count put c.args.outcome.now (record { notices = c.args.outcome.now.notices; answers = c.push_answer.new.answers }) c.in-Answer.answer dealt refl pushed) c.push_answer.ensures)
+    (λ pushed. deal_answer g.C.Catalog.view count put c.args.outcome.now _ c.in-Answer.answer dealt refl pushed) c.push_answer.ensures)
