@@ -7,7 +7,7 @@ use Rattle.std.specs.List.{list_any, AllByRecursion}
 use Rattle.std.specs.List.Sorted.{IsPartitionedBy}
 use Rattle.std.proofs.lemmas.Bool.Decides.{nat_tests, leb_tells}
 use Rattle.rtps_types.specs.Number.{value_of}
-use Rattle.rtps_proxy.specs.Numbers.{count_failing}
+use Rattle.rtps_types.specs.Numbers.{count_failing}
 use Rattle.rtps_proxy.specs.Runs.{AreApart, EndBelow, Run, are_apart, end_of, marks, missing_from, start_of, within}
 
 apart_end : (low : ℕ) (rs : List Run) → AreApart low rs → (j : ℕ) (d : Run) → j < length rs → low < end_of (get_or rs j d)

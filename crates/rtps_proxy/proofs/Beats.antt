@@ -9,7 +9,7 @@ use Rattle.std.proofs.Math.Nat.{add-mod, mod-mod}
 use mathlib.Core.Path.{fun_ext}
 use Rattle.rtps_types.specs.declared.time.Timestamp.{Timestamp}
 use Rattle.rtps_receiver.specs.Brought.{Announced, Heartbeat}
-use Rattle.rtps_proxy.specs.Numbers.{lacks, count_failing}
+use Rattle.rtps_types.specs.Numbers.{lacks, count_failing}
 use Rattle.rtps_proxy.specs.Runs.{AreApart, Run, marks}
 use Rattle.rtps_proxy.specs.Answer.{Acknack, acknack_by, answer, answers, is_answered, is_incomplete}
 use Rattle.rtps_proxy.specs.Effects.{exceeds}

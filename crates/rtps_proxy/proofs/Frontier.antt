@@ -6,7 +6,7 @@ use Rattle.std.proofs.lemmas.Bool.Decides.{eqb_tells, nat_tests, leb_tells}
 use Rattle.rtps_types.specs.NumberSet.{members}
 use Rattle.rtps_receiver.specs.Brought.{Brought, Change, Whole, Fragment, Heartbeat, Gap, HeartbeatFrag}
 use Rattle.rtps_proxy.specs.Runs.{Run}
-use Rattle.rtps_proxy.specs.Numbers.{first_failing}
+use Rattle.rtps_types.specs.Numbers.{first_failing}
 use Rattle.rtps_proxy.specs.History.{Came, first_after, first_of, is_irrelevant, is_new, names, sample_of}
 use Rattle.rtps_proxy.specs.Received.{frontier_of, greatest_in, greatest_named, is_settled, max_of, received, received_after}
 use Rattle.rtps_proxy.specs.Settled.{has_room_by, is_settled_by}

@@ -5,7 +5,7 @@ use Rattle.std.proofs.lemmas.Bool.Decides.{nat_tests, leb_tells, eqb_tells}
 use Rattle.std.proofs.lemmas.List.Folds.{list_any-append}
 use Rattle.std.proofs.lemmas.Map.Views.{any-filter_same}
 use Rattle.rtps_receiver.specs.Brought.{Brought, Change, Whole, Fragment, Heartbeat, Gap, HeartbeatFrag}
-use Rattle.rtps_proxy.specs.Numbers.{all_below}
+use Rattle.rtps_types.specs.Numbers.{all_below}
 use Rattle.rtps_proxy.specs.History.{Came, Sample, first_after, first_of, is_irrelevant, is_new, names, sample_of}
 use Rattle.rtps_proxy.specs.Received.{in_order, is_covered, is_settled, put, ready, received}
 use Rattle.rtps_proxy.specs.Settled.{has_room_by}

@@ -4,7 +4,7 @@ use Rattle.std.specs.List.{filter, list_any}
 use Rattle.std.proofs.lemmas.Bool.Decides.{nat_tests, leb_tells}
 use Rattle.std.proofs.lemmas.List.Elements.{filter_agree}
 use mathlib.Core.Path.{fun_ext}
-use Rattle.rtps_proxy.specs.Numbers.{lacks, all_below, count_failing}
+use Rattle.rtps_types.specs.Numbers.{lacks, all_below, count_failing}
 use Rattle.rtps_proxy.specs.Runs.{AreApart, Run, marks}
 use Rattle.rtps_proxy.specs.History.{Came, Sample, first_of, has_heartbeat, is_irrelevant, names}
 use Rattle.rtps_proxy.specs.Received.{held, in_order, is_covered, is_settled, lost, ready, received}

@@ -4,7 +4,7 @@ use Rattle.std.specs.List.{filter, list_any}
 use Rattle.std.proofs.lemmas.Bool.Decides.{nat_tests, leb_tells, eqb_tells}
 use Rattle.rtps_types.specs.declared.time.Timestamp.{Timestamp}
 use Rattle.rtps_receiver.specs.Brought.{Change, Whole}
-use Rattle.rtps_proxy.specs.Numbers.{all_below}
+use Rattle.rtps_types.specs.Numbers.{all_below}
 use Rattle.rtps_proxy.specs.Runs.{AreApart, Run, marks}
 use Rattle.rtps_proxy.specs.History.{Came, Sample, first_of, is_irrelevant, sample_of}
 use Rattle.rtps_proxy.specs.Settled.{has_room_by}

@@ -1,8 +1,9 @@
 -- What a reliable reader answers to a heartbeat (DDSI-RTPS 8.4.12.2, 8.3.7.1).
-use Rattle.std.specs.Prelude.{ℕ, ◌+◌, ◌-◌, ◌%◌, ◌^◌, max, min, Bool, false, not, ◌&&◌, ◌||◌, List, [], ◌∷◌, if◌then◌else◌, Option, Some, None}
+use Rattle.std.specs.Prelude.{ℕ, ◌+◌, ◌-◌, ◌%◌, ◌^◌, min, Bool, false, not, ◌&&◌, ◌||◌, List, [], ◌∷◌, if◌then◌else◌, Option, Some, None}
+use Rattle.rtps_types.specs.Named.{bits_of}
+use Rattle.rtps_types.specs.Numbers.{failing_from, lacks}
 use Rattle.rtps_receiver.specs.Brought.{Announced, Brought, Whole, Fragment, Heartbeat, Gap, HeartbeatFrag}
 use Rattle.rtps_proxy.specs.History.{Came, announced_of, is_new}
-use Rattle.rtps_proxy.specs.Numbers.{failing_from, lacks}
 use Rattle.rtps_proxy.specs.Received.{frontier_of, is_settled}
 
 -- a change of the match is missing
@@ -16,10 +17,6 @@ pub record Acknack : Type 0 where
   pub bits : ℕ
   pub final : Bool
   pub count : ℕ
-
-abbrev pub bits_of : ℕ → List ℕ → ℕ
-bits_of base [] = 0
-bits_of base (n ∷ ns) = max (n + 1 - base) (bits_of base ns)
 
 -- the answer, where these are the settled numbers, the least other number, the announced number and the number of earlier answers
 abbrev pub acknack_by : (ℕ → Bool) → ℕ → ℕ → ℕ → Acknack

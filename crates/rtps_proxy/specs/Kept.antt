@@ -13,7 +13,7 @@ use Rattle.rtps_proxy.specs.declared.state.State.TheVariants as code
 use Rattle.rtps_proxy.specs.Answer.{Acknack, acknack_by}
 use Rattle.rtps_proxy.specs.Changes.{change_view}
 use Rattle.rtps_proxy.specs.History.{Sample}
-use Rattle.rtps_proxy.specs.Numbers.{lacks}
+use Rattle.rtps_types.specs.Numbers.{lacks}
 use Rattle.rtps_proxy.specs.Runs.{marks}
 
 -- the match that a proxy is made for

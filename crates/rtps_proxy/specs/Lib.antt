@@ -1,4 +1,3 @@
-pub mod Numbers
 pub mod History
 pub mod Settled
 pub mod Received

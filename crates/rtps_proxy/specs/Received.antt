@@ -3,7 +3,7 @@ use Rattle.std.specs.Prelude.{ℕ, ◌+◌, max, Bool, not, ◌&&◌, nat_lt, Li
 use Rattle.rtps_types.specs.NumberSet.{members}
 use Rattle.rtps_receiver.specs.Brought.{Brought, Whole, Fragment, Heartbeat, Gap, HeartbeatFrag}
 use Rattle.rtps_proxy.specs.History.{Came, Sample, first_of, has_heartbeat, sample_of}
-use Rattle.rtps_proxy.specs.Numbers.{count_failing, first_failing}
+use Rattle.rtps_types.specs.Numbers.{count_failing, first_failing}
 use Rattle.rtps_proxy.specs.Settled.{has_room_by, held_by, is_covered_by, is_settled_by}
 
 -- a change is taken where its number isn't settled and there is room for it

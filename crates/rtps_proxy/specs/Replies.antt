@@ -1,11 +1,12 @@
 -- The datagram that carries an answer to a writer: ACKNACK (DDSI-RTPS 8.3.7.1, 9.4.5.2).
-use Rattle.std.specs.Prelude.{◌≡◌, ℕ, pos, ◌+◌, ◌-◌, ◌/◌, ◌%◌, ◌^◌, Bool, not, ◌&&◌, ◌==◌, nat_le, nat_lt, List, [], ◌∷◌, ◌++◌, replicate, if◌then◌else◌, bit_or, slice_index, slice_set, Option}
+use Rattle.std.specs.Prelude.{◌≡◌, ℕ, pos, ◌+◌, Bool, not, ◌&&◌, ◌==◌, nat_le, nat_lt, List, ◌++◌, replicate, if◌then◌else◌, Option}
 use Rattle.std.specs.List.{list_any}
 use Rattle.std.specs.Option.{option_map}
 use Rattle.rtps_types.specs.declared.field.Endian.TheVariants.{Little}
 use Rattle.rtps_types.specs.declared.locator.Locator.{Locator}
 use Rattle.rtps_types.specs.declared.traffic.Reply.{Reply}
 use Rattle.rtps_types.specs.Field.{spelled, spelled_sn}
+use Rattle.rtps_types.specs.Named.{with_bits}
 use Rattle.rtps_types.specs.NumberSet.{NumberSet, members}
 use Rattle.rtps_wire.specs.Answering.{answering, sent_words, spelled_words}
 use Rattle.rtps_proxy.specs.Answer.{Acknack, acknack_by, answer}
@@ -19,15 +20,6 @@ pub record Sent : Type 0 where
 
 abbrev pub reply_view : {A : Type 0} → Reply A → Sent
 reply_view r = record { to = r.to; octets = r.octets }
-
--- the bit of an offset: bit 31 - offset % 32 of word offset / 32 (9.4.2.6)
-abbrev pub with_bit : List ℕ → ℕ → List ℕ
-with_bit words offset = slice_set words (offset / 32) (bit_or (slice_index words (offset / 32)) (2 ^ (31 - offset % 32)))
-
--- the bits of these numbers too
-abbrev pub with_bits : ℕ → List ℕ → List ℕ → List ℕ
-with_bits base words [] = words
-with_bits base words (n ∷ ns) = with_bits base (with_bit words (n - base)) ns
 
 -- the set of the members, in eight words
 abbrev pub set_of : Acknack → NumberSet

@@ -2,7 +2,7 @@
 use Rattle.std.specs.Prelude.{ℕ, suc, Bool, not, ◌||◌, ◌==◌, nat_lt, List, length, filter}
 use Rattle.std.specs.List.{list_any}
 use Rattle.rtps_proxy.specs.History.{Came, Sample, first_of, is_irrelevant}
-use Rattle.rtps_proxy.specs.Numbers.{all_below}
+use Rattle.rtps_types.specs.Numbers.{all_below}
 
 -- a number is settled where it is below the first one, irrelevant, or received
 abbrev pub is_settled_by : List Sample → List Came → ℕ → Bool

@@ -6,7 +6,7 @@ ghost use Rattle.rtps_types.specs.declared.time.Timestamp.{Timestamp};
 ghost use Rattle.rtps_receiver.specs.declared.body.Body.TheVariants as body;
 ghost use Rattle.rtps_proxy.specs.Effects.{came, exceeds};
 ghost use Rattle.rtps_proxy.specs.Kept.{asks_by, asked_by, awaited, counts_answer, marked, whom};
-ghost use Rattle.rtps_proxy.specs.Numbers.{count_failing};
+ghost use Rattle.rtps_types.specs.Numbers.{count_failing};
 ghost use Rattle.rtps_proxy.specs.Replies.{reply_of, reply_view};
 ghost use Rattle.rtps_proxy.specs.Steps.{ReliableTakes};
 

@@ -6,7 +6,7 @@ ghost use Rattle.std.specs.Prelude.{min, max};
 ghost use Rattle.std.specs.List.{list_any, AllByRecursion};
 ghost use Rattle.rtps_types.specs.Number.{value_of};
 ghost use Rattle.rtps_types.specs.SequenceNumber.{IsNumber};
-ghost use Rattle.rtps_proxy.specs.Numbers.{count_failing, lacks};
+ghost use Rattle.rtps_types.specs.Numbers.{count_failing, lacks};
 ghost use Rattle.rtps_proxy.specs.Runs.{AreApart, EndBelow, IsPlaceOf, are_apart, end_of, marks, start_of, within};
 
 use crate::effects::ProxyError;

@@ -3,20 +3,12 @@
 ghost use Rattle.std.specs.Prelude.{◌≡◌, ◌+◌, ◌-◌, ◌*◌, ◌^◌, ◌<◌, ◌≤◌, ◌/◌, ◌%◌, min, length};
 ghost use Rattle.rtps_types.specs.Sets.{sn_view};
 ghost use Rattle.rtps_proxy.specs.Answer.{acknack_by};
-ghost use Rattle.rtps_proxy.specs.Replies.{set_of, with_bit};
+ghost use Rattle.rtps_proxy.specs.Replies.{set_of};
 ghost use Rattle.rtps_proxy.specs.Runs.{marks};
 
 use crate::settled::{Settled, is_begun, next_reaching};
-use rtps_types::SnSet;
+use rtps_types::{SnSet, set_bit};
 use std::alloc::Allocator;
-
-/// Sets the bit of an offset.
-fn set_bit(words: &mut [u32; 8], offset: u32)
-    requires { offset < 256 }
-    ensures { words.new ≡ with_bit words.old offset }
-{
-    words[(offset / 32) as usize] |= 1 << (31 - offset % 32);
-}
 
 impl<A: Allocator> Settled<A> {
     /// Those of the 256 numbers from the frontier on that are missing, up to the announced one.

@@ -2,3 +2,5 @@ pub mod Puts
 pub mod Sets
 pub mod Orders
 pub mod Nearest
+pub mod Naming
+pub mod Walks

@@ -7,3 +7,5 @@ pub mod Sets
 pub mod Place
 pub mod Duration
 pub mod Nearest
+pub mod Numbers
+pub mod Named

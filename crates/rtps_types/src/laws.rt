@@ -1,8 +1,9 @@
-//! Laws of the values: what their derived orders are. Each says what `Ord` itself answers, so it holds
-//! of every sort, map and set.
+//! Laws of the values. What is said of an order is what `Ord` itself answers, so it holds of every
+//! sort, map and set.
 
 ghost use Rattle.std.specs.Prelude.{◌≡◌};
 ghost use Rattle.rtps_types.specs.Duration.{duration_order};
+ghost use Rattle.rtps_types.specs.Named.{NamesItsMembers};
 ghost use Rattle.rtps_types.specs.Order.{octet_order, guid_octets};
 ghost use Rattle.rtps_types.specs.Place.{place_order};
 
@@ -62,3 +63,9 @@ pub fn order_of_durations(left: &Duration, right: &Duration) -> Ordering
 {
     left.cmp(right)
 }
+
+/// The set that is made of numbers names just these, where they are among the 256 from its base on.
+#[tactic(auto, using(crate::proofs::Naming::members_are))]
+pub fn a_set_names_its_members()
+    ensures { NamesItsMembers }
+{}

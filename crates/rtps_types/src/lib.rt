@@ -26,6 +26,6 @@ pub use locator::{Locator, Locators};
 pub use number::{MAX_NUMBER, Number};
 pub use octets::Octets;
 pub use place::Place;
-pub use set::{FragSet, Members, SnSet};
+pub use set::{FragSet, Members, SnSet, set_bit};
 pub use time::{Duration, Timestamp};
 pub use traffic::{Reply, WriterFacts};

@@ -2,6 +2,7 @@
 
 ghost use Rattle.std.specs.Prelude.{◌≡◌, ◌+◌, ◌-◌, ◌^◌, ◌<◌, ◌≤◌, ℕ, List};
 ghost use Rattle.std.specs.Iterator.{YieldsFirst, item_count};
+ghost use Rattle.rtps_types.specs.Named.{with_bit};
 ghost use Rattle.rtps_types.specs.NumberSet.{members, members_from, names};
 
 use std::marker::Model;
@@ -70,6 +71,14 @@ fn names_offset(words: &[u32; 8], offset: u32) -> bool
     ensures { result ≡ names words.now offset }
 {
     words[(offset / 32) as usize] & (1 << (31 - offset % 32)) != 0
+}
+
+/// Sets the bit of an offset in the words of a set.
+pub fn set_bit(words: &mut [u32; 8], offset: u32)
+    requires { offset < 256 }
+    ensures { words.new ≡ with_bit words.old offset }
+{
+    words[(offset / 32) as usize] |= 1 << (31 - offset % 32);
 }
 
 /// The numbers that a set names, from the least on.

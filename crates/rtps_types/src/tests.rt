@@ -197,6 +197,18 @@ fn sets_name_their_members_in_order(rt: HostRuntime) -> Result<(), Fail> {
     Ok(())
 }
 
+/// Offset k is bit 31 - k % 32 of word k / 32, and a bit that is set stays.
+#[test]
+fn bits_are_set_by_their_offsets(rt: HostRuntime) {
+    let mut words = [0; 8];
+    set_bit(&mut words, 0);
+    set_bit(&mut words, 31);
+    set_bit(&mut words, 33);
+    set_bit(&mut words, 255);
+    assert_eq!(rt; words, [0x8000_0001, 0x4000_0000, 0, 0, 0, 0, 0, 1]);
+    a_set_names_its_members();
+}
+
 #[test]
 fn lists_keep_their_items(rt: HostRuntime) -> Result<(), Fail> {
     let here = Locator {

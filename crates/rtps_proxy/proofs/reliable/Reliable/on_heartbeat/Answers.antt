@@ -11,7 +11,7 @@ use Rattle.rtps_proxy.specs.Effects.{ReliableStandsAt, exceeds}
 use Rattle.rtps_proxy.specs.Held.{front_below}
 use Rattle.rtps_proxy.specs.History.{Came, announced_of, has_heartbeat, is_new}
 use Rattle.rtps_proxy.specs.Kept.{Awaited, whom}
-use Rattle.rtps_proxy.specs.Numbers.{lacks}
+use Rattle.rtps_types.specs.Numbers.{lacks}
 use Rattle.rtps_proxy.specs.Received.{in_order, lost}
 use Rattle.rtps_proxy.specs.Runs.{marks}
 use Rattle.rtps_proxy.proofs.Apart.{apart_from}

@@ -2,7 +2,7 @@ use Rattle.std.proofs.Common.{◌≡◌, ◌+◌, ◌≤◌, true, false, arith,
 use Rattle.std.specs.List.{AllByRecursion, list_any}
 use Rattle.rtps_proxy.specs.Runs.{AreApart, EndBelow, end_of, marks, within}
 use Rattle.rtps_proxy.proofs.Apart.{apart_from, contains_is, end_more, reach_first}
-use Rattle.rtps_proxy.proofs.Naming.{walked_from, walked_on, walked_past}
+use Rattle.rtps_types.proofs.Walks.{walked_from, walked_on, walked_past}
 use Rattle.rtps_proxy.proofs.settled.Settled.missing_up_to.Goals as goal
 use Rattle.rtps_proxy.proofs.settled.Settled.missing_up_to.Goals.{then-not-is_begun, else-not-is_begun}
 

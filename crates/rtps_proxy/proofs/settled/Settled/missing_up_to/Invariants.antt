@@ -1,7 +1,7 @@
 use Rattle.std.proofs.Common.{◌≤◌, ◌+◌, replicate, take, drop, length}
 use Rattle.std.specs.List.{AllByRecursion}
 use Rattle.rtps_proxy.specs.Runs.{EndBelow, end_of, marks}
-use Rattle.rtps_proxy.proofs.Naming.{Walked}
+use Rattle.rtps_types.proofs.Walks.{Walked}
 use Rattle.rtps_proxy.proofs.settled.Settled.missing_up_to.Given as goal
 
 abbrev pub invariant-loop-offset : goal.invariant-loop-offset

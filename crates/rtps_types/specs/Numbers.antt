@@ -1,4 +1,4 @@
--- Sets of sequence numbers, as tests: a set may be as large as it likes, and is never listed.
+-- Sets of numbers, as tests: a set may be as large as it likes, and is never listed.
 use Rattle.std.specs.Prelude.{ℕ, zero, suc, ◌+◌, Bool, true, not, ◌&&◌, List, [], ◌∷◌, if◌then◌else◌}
 
 -- each number below n passes

@@ -1,0 +1,10 @@
+pub mod Cuts
+pub mod Runs
+pub mod Fronts
+pub mod Adding
+pub mod Listed
+pub mod Puts
+pub mod Whole
+pub mod Faultless
+pub mod AnyOrder
+pub mod Assembled

@@ -1,0 +1,18 @@
+use Rattle.std.proofs.Common.{◌≡◌, Bool, false, sym, ◌∙◌, ap, ltb}
+use Rattle.rtps_frags.specs.Fragments.{There, has_all, is_empty, last_of}
+use Rattle.rtps_frags.specs.Kept.{has_come}
+use Rattle.rtps_frags.specs.Parts.{there_in}
+use Rattle.rtps_frags.specs.declared.sizes.Sizes.{Sizes}
+use Rattle.rtps_frags.proofs.Assembled.{whole_is}
+use Rattle.rtps_frags.proofs.assembly.Assembly.is_whole.Goals as goal
+
+come_is : (z : Sizes) (there : There) (spent b : Bool) → spent ≡ false → is_empty z ≡ false → has_all there 1 (last_of z) ≡ b → b ≡ has_come (record { sizes = z; there = there; spent = spent })
+come_is z there spent b sound some all = sym (rw (sound, some) all)
+
+pub returns : goal.returns
+returns g c =
+    let a = c.self.inside in
+    let p = a.parts in
+    ap (λ n. ltb n p.next) c.last.ensures
+    ∙ come_is a.sizes (there_in a.sizes p) a.spent (ltb (last_of a.sizes) p.next) c.if-self.false (sym c.is_empty.ensures ∙ c.if-is_empty.false) (whole_is a.sizes p.next p.front.items p.early.entries c.self.invariant)
+    ∙ ap has_come c.self.view_is

@@ -1,0 +1,21 @@
+use Rattle.std.proofs.Common.{◌≡◌, ℕ, min, false, sym, ◌∙◌, ap, arith, refl}
+use Rattle.rtps_frags.specs.Fragments.{There, has, is_empty, last_of}
+use Rattle.rtps_frags.specs.Kept.{Kept}
+use Rattle.rtps_frags.specs.Missing.{missing, missing_by}
+use Rattle.rtps_frags.specs.Parts.{holds, there_in}
+use Rattle.rtps_frags.specs.declared.sizes.Sizes.{Sizes}
+use Rattle.rtps_frags.proofs.Assembled.{has_is, missing_same}
+use Rattle.rtps_frags.proofs.assembly.Assembly.missing_up_to.Goals as goal
+
+none_of : (z : Sizes) (there : There) (last : ℕ) → is_empty z ≡ false → missing_by (has there) (min last (last_of z)) ≡ missing z there last
+none_of z there last some = sym (rw some refl)
+
+pub returns : goal.returns
+returns g c =
+    let a = c.self.inside in
+    let p = a.parts in
+    let end : c.min.result ≡ min c.args.last (last_of a.sizes) = omega (arith, c.min.ensures, c.last.ensures) in
+    let same : missing_by (holds p) (min c.args.last (last_of a.sizes)) ≡ missing_by (has (there_in a.sizes p)) (min c.args.last (last_of a.sizes)) =
+    missing_same (holds p) (has (there_in a.sizes p)) (min c.args.last (last_of a.sizes)) (λ k one le. sym (has_is a.sizes p.next p.front.items p.early.entries c.self.invariant k one (omega (arith, le))))
+    in
+    c.missing_up_to.ensures ∙ ap (missing_by (holds p)) end ∙ same ∙ none_of a.sizes (there_in a.sizes p) c.args.last (sym c.is_empty.ensures ∙ c.if-is_empty.false) ∙ ap (λ (k : Kept). missing k.sizes k.there c.args.last) c.self.view_is

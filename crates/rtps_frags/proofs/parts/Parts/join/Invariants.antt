@@ -1,0 +1,12 @@
+use Rattle.std.proofs.Common.{◌≡◌, ℕ, length}
+use Rattle.rtps_frags.specs.Parts.{IsJoinable, part_at}
+use Rattle.rtps_frags.proofs.parts.Parts.join.Given as goal
+
+abbrev pub invariant-loop-self : goal.invariant-loop-self
+invariant-loop-self g l = record {
+  kept : IsJoinable l.fn.sizes l.self;
+  same : (k : ℕ) → part_at l.fn.sizes l.self k ≡ part_at l.fn.sizes l.fn.self k;
+}
+
+abbrev pub decreases-loop-self : goal.decreases-loop-self
+decreases-loop-self g l = length l.self.early.entries

@@ -1,0 +1,26 @@
+-- What an assembly keeps.
+use Rattle.std.specs.Prelude.{◌≡◌, ℕ, Bool, true, false, not, ◌&&◌, List, Option, Some}
+use Rattle.rtps_frags.specs.declared.sizes.Sizes.{Sizes}
+use Rattle.rtps_frags.specs.declared.fault.AddError.{AddError}
+use Rattle.rtps_frags.specs.declared.fault.AddError.TheVariants.{Fault, NoMemory}
+use Rattle.rtps_frags.specs.declared.fault.FragFault.{FragFault}
+use Rattle.rtps_frags.specs.Fragments.{There, is_whole, with_fragments}
+
+pub record Kept : Type 0 where
+  pub sizes : Sizes
+  pub there : There
+  -- the allocator refused a growth: what is there may not be what came
+  pub spent : Bool
+
+-- with `count` fragments from `start` on
+abbrev pub with_part : Kept → ℕ → ℕ → List ℕ → Kept
+with_part a start count octets = record { sizes = a.sizes; there = with_fragments a.sizes start octets a.there start count; spent = false }
+
+-- what a refusal leaves: a fault changes nothing, want of memory spends the assembly
+abbrev pub Leaves : Kept → Kept → Option FragFault → AddError → Type 0
+Leaves old new fault (Fault f) = (fault ≡ Some f) × (new ≡ old)
+Leaves old new fault NoMemory = new.spent ≡ true
+
+-- each fragment came, and each growth was granted
+abbrev pub has_come : Kept → Bool
+has_come a = not a.spent && is_whole a.sizes a.there

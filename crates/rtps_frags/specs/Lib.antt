@@ -1,0 +1,6 @@
+pub mod Fragments
+pub mod Missing
+pub mod Runs
+pub mod Kept
+pub mod Payload
+pub mod Parts

@@ -1,0 +1,281 @@
+//! The octets of a sample that came, each where it belongs.
+
+ghost use Rattle.std.specs.Prelude.{◌≡◌, ◌+◌, ◌-◌, ◌<◌, ◌≤◌, ◌^◌, ℕ, ◌&&◌, nat_le, nat_lt, if◌then◌else◌, length, IfNone, IfSome, OnOk, Option, List, Some, None, false, true};
+ghost use Rattle.std.specs.Option.{option_map, option_or};
+ghost use Rattle.rtps_types.specs.Named.{set_naming};
+ghost use Rattle.rtps_types.specs.Numbers.{failing_from};
+ghost use Rattle.rtps_types.specs.Sets.{frag_view};
+ghost use Rattle.rtps_frags.specs.declared.sizes.Sizes.{Sizes};
+ghost use Rattle.rtps_frags.specs.Fragments.{fragment_in, last_of, length_of};
+ghost use Rattle.rtps_frags.specs.Missing.{missing_by};
+ghost use Rattle.rtps_frags.specs.Parts.{IsJoinable, IsKept, holds, part_at};
+ghost use Rattle.rtps_frags.specs.Runs.{AreApart, begins_behind, begun_by, covers, starts_at};
+
+use crate::sizes::Sizes;
+use rtps_types::{FragSet, set_bit};
+use std::alloc::{AllocError, Allocator};
+use std::collections::BTreeMap;
+use std::marker::Model;
+use std::ops::Bound;
+
+/// Fragments that lie behind one another, behind one that is missing.
+#[derive(Drop)]
+pub(crate) struct Chunk<A: Allocator> {
+    count: u32,
+    octets: Vec<u8, A>,
+}
+
+impl<A: Allocator> Model for Chunk<A> {
+    ghost use Rattle.rtps_frags.specs.Runs.{Run};
+
+    ghost Value = { Run };
+
+    ghost view = { λ c. record { count = c.count; octets = c.octets.items } };
+}
+
+/// Fragments of a sample as they come: the first one, how many, and octets that begin with them.
+#[derive(Clone, Copy)]
+pub(crate) struct Piece<'a> {
+    pub start: u32,
+    pub count: u32,
+    pub octets: &'a [u8],
+}
+
+/// What came of a sample.
+#[derive(Drop)]
+pub(crate) struct Parts<A: Allocator> {
+    /// The octets of the fragments before the least one that is missing.
+    pub front: Vec<u8, A>,
+    /// The least fragment that is missing, or the one behind the last.
+    pub next: u32,
+    /// Those behind it, by the first of each chunk.
+    pub early: BTreeMap<u32, Chunk<A>, A>,
+}
+
+/// The end of the last chunk that begins up to a fragment, where it has the fragment.
+fn end_around<A: Allocator>(early: &BTreeMap<u32, Chunk<A>, A>, at: u32) -> Option<u64>
+    requires { (low : ℕ) × AreApart low early.now.entries }
+    ensures behind { IfSome result (λ end. at < end) }
+    ensures all { IfSome result (λ end. (k : ℕ) → at ≤ k → k < end →
+        covers early.now.entries k ≡ true) }
+    ensures none { IfNone result ((k : ℕ) → at ≤ k →
+        covers (begun_by at early.now.entries) k ≡ false) }
+{
+    let begun = (Bound::Unbounded, Bound::Included(at));
+    let (start, chunk) = early.range(begun).next_back()?;
+    let end = u64::from(*start) + u64::from(chunk.count);
+    if u64::from(at) < end { Some(end) } else { None }
+}
+
+/// The first chunk that begins behind a fragment, or the greatest number.
+fn start_behind<A: Allocator>(early: &BTreeMap<u32, Chunk<A>, A>, at: u32) -> u64
+    requires { (low : ℕ) × AreApart low early.now.entries }
+    ensures goes { at < result }
+    ensures none { (k : ℕ) → k < result → covers (begins_behind at early.now.entries) k ≡ false }
+{
+    match early.range((Bound::Excluded(at), Bound::Unbounded)).next() {
+        Some((start, _)) => u64::from(*start),
+        None => u64::MAX,
+    }
+}
+
+impl<A: Allocator + Copy> Parts<A> {
+    /// Nothing came yet.
+    pub fn new(alloc: A) -> Parts<A>
+        ensures kept { (z : Sizes) → IsKept z result }
+        ensures none { (z : Sizes) (k : ℕ) → part_at z result k ≡ None }
+    {
+        Parts {
+            front: Vec::new(alloc),
+            next: 1,
+            early: BTreeMap::new(alloc),
+        }
+    }
+}
+
+impl<A: Allocator> Parts<A> {
+    /// Whether a fragment is there, and a greater number below which that is so of each from it on.
+    fn stretch_from(&self, at: u32) -> (bool, u64)
+        requires first { 1 ≤ at }
+        requires apart { (low : ℕ) × AreApart low self.now.early.entries }
+        ensures goes { at < result.1 }
+        ensures same { (k : ℕ) → at ≤ k → k < result.1 → holds self.now k ≡ result.0 }
+    {
+        if at < self.next {
+            return (true, u64::from(self.next));
+        }
+        match end_around(&self.early, at) {
+            Some(end) => (true, end),
+            None => (false, start_behind(&self.early, at)),
+        }
+    }
+}
+
+impl<A: Allocator + Copy> Parts<A> {
+    /// Moves the chunks that begin where the front ends to its end.
+    fn join(&mut self, sizes: Sizes) -> Result<(), AllocError>
+        requires cut { 0 < sizes.fragment }
+        requires small { sizes.sample ≤ 67108864 }
+        requires kept { IsJoinable sizes self.old }
+        ensures kept { IsKept sizes self.new }
+        ensures same { OnOk result ((k : ℕ) →
+            part_at sizes self.new k ≡ part_at sizes self.old k) }
+    {
+        while self.touches() {
+            let Some((_, chunk)) = self.early.pop_first() else {
+                break;
+            };
+            self.front.extend_from_slice(chunk.octets.as_slice())?;
+            self.next += chunk.count;
+        }
+        Ok(())
+    }
+
+    /// Whether a chunk begins where the front ends.
+    fn touches(&self) -> bool
+        ensures { result ≡ starts_at self.now.next self.now.early.entries }
+    {
+        match self.early.first_key_value() {
+            None => false,
+            Some((start, _)) => *start == self.next,
+        }
+    }
+
+    /// Puts fragments of which none is there, in octets that are just theirs.
+    fn put(&mut self, alloc: A, sizes: Sizes, piece: Piece<'_>) -> Result<(), AllocError>
+        requires cut { 0 < sizes.fragment }
+        requires small { sizes.sample ≤ 67108864 }
+        requires kept { IsKept sizes self.old }
+        requires first { 1 ≤ piece.start }
+        requires some { 1 ≤ piece.count }
+        requires within { piece.start + piece.count ≤ last_of sizes + 1 }
+        requires fits { length piece.octets.now ≡ length_of sizes piece.start piece.count }
+        requires none { (k : ℕ) → piece.start ≤ k → k < piece.start + piece.count →
+            part_at sizes self.old k ≡ None }
+        ensures kept { IsKept sizes self.new }
+        ensures put { OnOk result ((k : ℕ) → part_at sizes self.new k
+            ≡ (if nat_le piece.entry.start k && nat_lt k (piece.entry.start + piece.entry.count)
+            then Some (fragment_in sizes piece.entry.start piece.entry.octets.now k)
+            else part_at sizes self.old k)) }
+    {
+        if piece.start == self.next {
+            self.front.extend_from_slice(piece.octets)?;
+            self.next += piece.count;
+            return self.join(sizes);
+        }
+        let chunk = Chunk {
+            count: piece.count,
+            octets: Vec::from_slice(alloc, piece.octets)?,
+        };
+        self.early.insert(piece.start, chunk)?;
+        Ok(())
+    }
+
+    /// Puts those of the fragments that aren't there.
+    pub fn add(&mut self, alloc: A, sizes: Sizes, piece: Piece<'_>) -> Result<(), AllocError>
+        requires cut { 0 < sizes.fragment }
+        requires small { sizes.sample ≤ 67108864 }
+        requires kept { IsKept sizes self.old }
+        requires first { 1 ≤ piece.start }
+        requires within { piece.start + piece.count ≤ last_of sizes + 1 }
+        requires enough { length_of sizes piece.start piece.count ≤ length piece.octets.now }
+        ensures kept { IsKept sizes self.new }
+        ensures added { OnOk result ((k : ℕ) → part_at sizes self.new k
+            ≡ option_or (part_at sizes self.old k)
+            (if nat_le piece.entry.start k && nat_lt k (piece.entry.start + piece.entry.count)
+            then Some (fragment_in sizes piece.entry.start piece.entry.octets.now k)
+            else None)) }
+    {
+        let end = piece.start + piece.count;
+        let mut at = piece.start;
+        while at < end {
+            let (is_there, until) = self.stretch_from(at);
+            let until = until.min(u64::from(end)) as u32;
+            if !is_there {
+                self.put(alloc, sizes, piece.part(sizes, at, until))?;
+            }
+            at = until;
+        }
+        Ok(())
+    }
+}
+
+impl<A: Allocator> Parts<A> {
+    /// What is missing up to a fragment: from the least missing one on, those of 256 that are.
+    pub fn missing_up_to(&self, end: u32) -> Option<FragSet>
+        requires begun { 1 ≤ self.now.next }
+        requires apart { AreApart (self.now.next + 1) self.now.early.entries }
+        ensures { option_map frag_view result ≡ missing_by (holds self.now) end }
+    {
+        if end < self.next {
+            return None;
+        }
+        let count = (end - self.next).min(255) + 1;
+        Some(self.missing_from_next(count))
+    }
+
+    /// Those of so many fragments from the least missing one on that are missing.
+    fn missing_from_next(&self, count: u32) -> FragSet
+        requires some { 0 < count }
+        requires few { count ≤ 256 }
+        requires small { self.now.next + count ≤ 2 ^ 32 }
+        requires begun { 1 ≤ self.now.next }
+        requires apart { AreApart (self.now.next + 1) self.now.early.entries }
+        ensures { frag_view result
+            ≡ set_naming self.now.next (failing_from (holds self.now) self.now.next count) }
+    {
+        let base = self.next;
+        let mut words = [0; 8];
+        let mut bits: u32 = 0;
+        let mut stretch = (false, u64::from(base));
+        for offset in 0..count {
+            stretch = self.stretch_with(stretch, base + offset);
+            if !stretch.0 {
+                set_bit(&mut words, offset);
+                bits = offset + 1;
+            }
+        }
+        FragSet { base, bits, words }
+    }
+
+    /// The stretch that a fragment is in, where the last one is known.
+    fn stretch_with(&self, last: (bool, u64), at: u32) -> (bool, u64)
+        requires first { 1 ≤ at }
+        requires apart { (low : ℕ) × AreApart low self.now.early.entries }
+        requires known { (k : ℕ) → at ≤ k → k < last.1 → holds self.now k ≡ last.0 }
+        ensures goes { at < result.1 }
+        ensures same { (k : ℕ) → at ≤ k → k < result.1 → holds self.now k ≡ result.0 }
+    {
+        if u64::from(at) < last.1 {
+            last
+        } else {
+            self.stretch_from(at)
+        }
+    }
+}
+
+impl<'a> Piece<'a> {
+    /// Those of its fragments from one on and below another.
+    fn part(self, sizes: Sizes, from: u32, to: u32) -> Piece<'a>
+        requires cut { 0 < sizes.fragment }
+        requires first { 1 ≤ self.start }
+        requires behind { self.start ≤ from }
+        requires some { from < to }
+        requires within { to ≤ self.start + self.count }
+        requires last { self.start + self.count ≤ last_of sizes + 1 }
+        requires enough { length_of sizes self.start self.count ≤ length self.octets.now }
+        ensures start { result.start ≡ from }
+        ensures count { result.count ≡ to - from }
+        ensures fits { length result.octets.now ≡ length_of sizes from (to - from) }
+        ensures same { (k : ℕ) → from ≤ k → k < to → fragment_in sizes from result.octets.now k
+            ≡ fragment_in sizes self.entry.start self.entry.octets.now k }
+    {
+        let skipped = sizes.before(from) - sizes.before(self.start);
+        let length = sizes.length_of(from, to - from);
+        Piece {
+            start: from,
+            count: to - from,
+            octets: &self.octets[skipped..skipped + length],
+        }
+    }
+}

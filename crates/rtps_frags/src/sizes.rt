@@ -1,0 +1,66 @@
+//! How a sample is cut.
+
+ghost use Rattle.std.specs.Prelude.{◌≡◌, ◌+◌, ◌-◌, ◌<◌, ◌≤◌};
+ghost use Rattle.rtps_frags.specs.Fragments.{before, is_empty, is_outside, last_of, length_of, upto};
+
+/// How many octets a sample has, and how many each of its fragments has but the last, which may have
+/// fewer.
+#[derive(Clone, Copy, Debug, PartialEq, Eq)]
+pub struct Sizes {
+    pub sample: u32,
+    pub fragment: u16,
+}
+
+impl Sizes {
+    /// Whether the sample or its fragments have no octets.
+    pub(crate) fn is_empty(self) -> bool
+        ensures { result ≡ is_empty self }
+    {
+        self.sample == 0 || self.fragment == 0
+    }
+
+    /// The last fragment.
+    pub(crate) fn last(self) -> u32
+        requires { 0 < self.fragment }
+        ensures { result ≡ last_of self }
+    {
+        self.sample.div_ceil(u32::from(self.fragment))
+    }
+
+    /// How many octets stand before a fragment.
+    #[tactic(auto, using(crate::proofs::Cuts::before_is))]
+    pub(crate) fn before(self, fragment: u32) -> usize
+        requires { 1 ≤ fragment }
+        ensures { result ≡ before self fragment }
+    {
+        (fragment as usize - 1) * usize::from(self.fragment)
+    }
+
+    /// How many octets stand before the end of a fragment.
+    pub(crate) fn upto(self, fragment: u32) -> usize
+        ensures { result ≡ upto self fragment }
+    {
+        (fragment as usize * usize::from(self.fragment)).min(self.sample as usize)
+    }
+
+    /// Whether there are no such fragments.
+    pub(crate) fn is_outside(self, start: u32, count: u16) -> bool
+        requires { 0 < self.fragment }
+        ensures { result ≡ is_outside self start count }
+    {
+        let last = u64::from(self.last());
+        start == 0 || count == 0 || last < u64::from(start) + u64::from(count) - 1
+    }
+
+    /// How many octets fragments have.
+    #[tactic(auto, using(crate::proofs::Cuts::last_within))]
+    pub(crate) fn length_of(self, start: u32, count: u32) -> usize
+        requires first { 1 ≤ start }
+        requires some { 1 ≤ count }
+        requires within { start + count ≤ last_of self + 1 }
+        requires cut { 0 < self.fragment }
+        ensures { result ≡ length_of self start count }
+    {
+        self.upto(start - 1 + count) - self.before(start)
+    }
+}

@@ -1,0 +1,73 @@
+//! What is missing, as the set that a NACK_FRAG carries.
+
+use crate::{AddError, Assembly, FragFault};
+use rtps_types::FragSet;
+use std::test::Fail;
+
+/// All bits of a word.
+const ALL: u32 = 0xffff_ffff;
+
+/// 67,108,864 octets in fragments of 65,535 are 1,024 of these and one of 1,024 octets.
+#[test]
+fn the_largest_sample(rt: HostRuntime) -> Result<(), Fail> {
+    let alloc = rt.alloc();
+    let octets = [0x55; 1024];
+    let mut sample = Assembly::new(alloc, 67_108_864, 65_535);
+    let behind = sample.add(alloc, 1026, 1, &octets);
+    assert_eq!(rt; behind, Err(AddError::Fault(FragFault::Number)));
+    let short = sample.add(alloc, 1025, 1, &octets[..1023]);
+    assert_eq!(rt; short, Err(AddError::Fault(FragFault::ShortPayload)));
+    sample.add(alloc, 1025, 1, &octets)?;
+    let all = FragSet {
+        base: 1,
+        bits: 256,
+        words: [ALL; 8],
+    };
+    assert_eq!(rt; sample.missing_up_to(1025), Some(all));
+    assert_eq!(rt; sample.missing_up_to(u32::MAX), Some(all));
+    let mut larger = Assembly::new(alloc, 67_108_865, 65_535);
+    let refused = larger.add(alloc, 1, 1, &octets);
+    assert_eq!(rt; refused, Err(AddError::Fault(FragFault::TooLarge)));
+    Ok(())
+}
+
+/// Of 300 fragments 1, 2 and 258 came: from 3 on all are missing but 258, which is the last of 256.
+#[test]
+fn a_window_of_256(rt: HostRuntime) -> Result<(), Fail> {
+    let alloc = rt.alloc();
+    let mut sample = Assembly::new(alloc, 300, 1);
+    sample.add(alloc, 258, 1, b"z")?;
+    sample.add(alloc, 1, 2, b"ab")?;
+    let missing = FragSet {
+        base: 3,
+        bits: 255,
+        words: [ALL, ALL, ALL, ALL, ALL, ALL, ALL, ALL - 1],
+    };
+    assert_eq!(rt; sample.missing_up_to(300), Some(missing));
+    assert!(rt; sample.missing_up_to(2).is_none());
+    let first = FragSet {
+        base: 3,
+        bits: 1,
+        words: [1 << 31, 0, 0, 0, 0, 0, 0, 0],
+    };
+    assert_eq!(rt; sample.missing_up_to(3), Some(first));
+    Ok(())
+}
+
+/// Up to the sample's last fragment, whatever is asked for; nothing once it is whole.
+#[test]
+fn not_past_the_last(rt: HostRuntime) -> Result<(), Fail> {
+    let alloc = rt.alloc();
+    let mut sample = Assembly::new(alloc, 9, 2);
+    sample.add(alloc, 2, 2, b"cdef")?;
+    let missing = FragSet {
+        base: 1,
+        bits: 5,
+        words: [0x9800_0000, 0, 0, 0, 0, 0, 0, 0],
+    };
+    assert_eq!(rt; sample.missing_up_to(9), Some(missing));
+    sample.add(alloc, 1, 5, b"ab----ghi")?;
+    assert!(rt; sample.missing_up_to(9).is_none());
+    assert!(rt; sample.is_whole());
+    Ok(())
+}

@@ -1,0 +1,79 @@
+//! Payloads, whatever the order of their fragments.
+
+use super::is_just;
+use crate::laws::any_order_gives_the_payload;
+use crate::{Assembly, Sizes};
+use std::test::Fail;
+
+/// The octets of a sample in fragments of two octets, the last of one.
+const OCTETS: &[u8] = b"abcdefghi";
+
+#[test]
+fn fragments_in_order(rt: HostRuntime) -> Result<(), Fail> {
+    let alloc = rt.alloc();
+    let mut sample = Assembly::new(alloc, 9, 2);
+    let sizes = Sizes {
+        sample: 9,
+        fragment: 2,
+    };
+    assert_eq!(rt; sample.sizes(), sizes);
+    sample.add(alloc, 1, 1, b"ab")?;
+    sample.add(alloc, 2, 3, b"cdefgh")?;
+    assert!(rt; !sample.is_whole());
+    sample.add(alloc, 5, 1, b"i")?;
+    assert!(rt; is_just(sample, OCTETS));
+    any_order_gives_the_payload();
+    Ok(())
+}
+
+#[test]
+fn fragments_in_reverse(rt: HostRuntime) -> Result<(), Fail> {
+    let alloc = rt.alloc();
+    let mut sample = Assembly::new(alloc, 9, 2);
+    sample.add(alloc, 5, 1, b"i")?;
+    sample.add(alloc, 4, 1, b"gh")?;
+    sample.add(alloc, 3, 1, b"ef")?;
+    sample.add(alloc, 2, 1, b"cd")?;
+    assert!(rt; !sample.is_whole());
+    sample.add(alloc, 1, 1, b"ab")?;
+    assert!(rt; is_just(sample, OCTETS));
+    Ok(())
+}
+
+/// Odd ones first; then one DATA_FRAG with all of them, of which only the even ones are taken, and
+/// whose last octets belong to no fragment.
+#[test]
+fn late_fragment_stays_out(rt: HostRuntime) -> Result<(), Fail> {
+    let alloc = rt.alloc();
+    let mut sample = Assembly::new(alloc, 9, 2);
+    sample.add(alloc, 3, 1, b"ef")?;
+    sample.add(alloc, 1, 1, b"ab")?;
+    sample.add(alloc, 5, 1, b"i")?;
+    sample.add(alloc, 1, 5, b"--cd--gh-and more")?;
+    assert!(rt; is_just(sample, OCTETS));
+    Ok(())
+}
+
+/// A run that overlaps one on either side.
+#[test]
+fn runs_that_overlap(rt: HostRuntime) -> Result<(), Fail> {
+    let alloc = rt.alloc();
+    let mut sample = Assembly::new(alloc, 9, 2);
+    sample.add(alloc, 2, 1, b"cd")?;
+    sample.add(alloc, 4, 2, b"ghi")?;
+    sample.add(alloc, 2, 3, b"--ef--")?;
+    assert!(rt; !sample.is_whole());
+    sample.add(alloc, 1, 2, b"ab--")?;
+    assert!(rt; is_just(sample, OCTETS));
+    Ok(())
+}
+
+/// A fragment size above the sample's is one fragment.
+#[test]
+fn one_fragment_is_all(rt: HostRuntime) -> Result<(), Fail> {
+    let alloc = rt.alloc();
+    let mut sample = Assembly::new(alloc, 9, 65_535);
+    sample.add(alloc, 1, 1, b"abcdefghi")?;
+    assert!(rt; is_just(sample, OCTETS));
+    Ok(())
+}
