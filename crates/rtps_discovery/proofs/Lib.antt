@@ -1,3 +1,4 @@
 pub mod Faultless
 pub mod Tested
 pub mod Rows
+pub mod Differences

@@ -6,3 +6,4 @@ pub mod Announcement
 pub mod Known
 pub mod Changes
 pub mod Records
+pub mod Differences
