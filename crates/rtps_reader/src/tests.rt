@@ -1,5 +1,6 @@
 //! Bodies of changes that were written down by hand.
 
+mod edges;
 mod reliable;
 mod state;
 

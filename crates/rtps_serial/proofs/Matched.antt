@@ -92,7 +92,7 @@ extended_match g w c ms = by_test (same_guid g w) refl
     by_test true e = subst (λ v. match_with g (extended v c ms) ≡ option_map (extend c) (match_with g ms)) (same_is g w e) (same ms)
     by_test false e = others e ms
 
--- a value that is told apart by the reader id and then by the writer, once discovery's events are left out
+-- a value that depends on the reader id and then on the writer, once discovery's events are left out
 chosen : {X : Type 0} (d s n : Bool) (x y z : X) → d ≡ false → (n ≡ true → z ≡ (if s then x else y)) → (n ≡ false → z ≡ y) → z ≡ (if not d && (s && n) then x else y)
 chosen true s n x y z h t f = absurd (true≢false h)
 chosen false true true x y z h t f = t refl
@@ -217,7 +217,7 @@ heard_of_none decoding e rank k r h = by_test (reaches e r)
         ∙ heard_none rank k h (tells decoding r e.place (asks_of e))
     by_test false = refl
 
--- the samples of a writer that a reader tells at an event: those of its match, where the event is addressed to it
+-- the samples of a writer that a reader reports at an event: those of its match, where the event is addressed to it
 told_step : {M : Type 0} (decoding : Decoding M) (g : Guid) (e : Happening) (rank : ℕ) (r : Reader)
     → samples_of g (notices_by rank (puts decoding e rank r)) ≡ (if is_addressed (same_guid g) r.entity e then samples_of g (told_of decoding e.place g (came_of e) (match_with g r.matches)) else [])
 told_step {M} decoding g e rank r = by_writer (is_discovery e.writer) refl
@@ -259,7 +259,7 @@ by_rank decoding e readers rank (suc n) l =
           )
     ]
 
--- the samples of a writer that are told at an event
+-- the samples of a writer that are reported at an event
 pub told_at : {M : Type 0} (decoding : Decoding M) (g : Guid) (e : Happening) (readers : ℕ → Reader) (rank n : ℕ) → rank < n
     → samples_of g (notices_by rank (puts_below decoding e readers n)) ≡ (if is_addressed (same_guid g) (readers rank).entity e then samples_of g (told_of decoding e.place g (came_of e) (match_with g (readers rank).matches)) else [])
 told_at decoding g e readers rank n l = ap (samples_of g) (by_rank decoding e readers rank n l) ∙ told_step decoding g e rank (readers rank)

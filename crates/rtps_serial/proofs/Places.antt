@@ -23,7 +23,7 @@ use Rattle.rtps_reader.specs.Reader.{same_guid}
 use Rattle.rtps_serial.specs.Presentation.{events_for, not_after}
 use Rattle.rtps_serial.specs.Run.{events_from}
 
--- each event stands behind those before it
+-- each event comes after those before it in the list
 abbrev pub PlacesRise : List Happening → Type 0
 PlacesRise [] = Unit {0}
 PlacesRise (e ∷ es) = AllByRecursion (λ d. not_after d.place e.place ≡ false) es × PlacesRise es
@@ -56,7 +56,7 @@ all_filter P p (x ∷ xs) h = by_test (p x) (all_filter P p xs h.1)
     by_test true rest = (h.0, rest)
     by_test false rest = rest
 
--- what stands behind, where each of one list is before each of another
+-- two lists in order, one after the other, where each event of the first is before each of the second
 rises_append : (P Q : Happening → Type 0) → ((d e : Happening) → P d → Q e → not_after e.place d.place ≡ false) → (ds es : List Happening) → AllByRecursion P ds → AllByRecursion Q es → PlacesRise ds → PlacesRise es → PlacesRise (ds ++ es)
 rises_append P Q apart [] es p q h k = k
 rises_append P Q apart (d ∷ ds) es p q h k = (
@@ -138,7 +138,7 @@ rise_from own index (octets ∷ datagrams) =
 pub places_rise : (own : GuidPrefix) (datagrams : List (List ℕ)) → PlacesRise (events_from own 0 datagrams)
 places_rise own datagrams = rise_from own 0 datagrams
 
--- of events, the newest first, each stands behind those that follow
+-- of events, the newest first, each comes after those that follow in the list
 abbrev pub PlacesFall : List Happening → Type 0
 PlacesFall [] = Unit {0}
 PlacesFall (e ∷ es) = AllByRecursion (λ d. not_after e.place d.place ≡ false) es × PlacesFall es

@@ -41,7 +41,7 @@ record Follows {M : Type 0} (decoding : Decoding M) (w : World M) (rank : ℕ) (
   numbers : AllByRecursion (λ (e : Happening). HasNumber e.body) before
   told : samples_of g (notices_by rank w.put) ≡ shown_after decoding before
 
--- what is told at an event, behind what was told before
+-- what is reported at an event, after what was reported before
 told_more : {M : Type 0} (decoding : Decoding M) (w : World M) (rank : ℕ) (g : Guid) (e : Happening) → rank < w.count
     → samples_of g (notices_by rank (world_after decoding w e).put) ≡ samples_of g (notices_by rank w.put)
     ++ (if is_addressed (same_guid g) (w.readers rank).entity e then samples_of g (told_of decoding e.place g (came_of e) (match_with g (w.readers rank).matches)) else [])

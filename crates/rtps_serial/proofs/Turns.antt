@@ -91,7 +91,7 @@ both_not true b h = absurd (true≢false (sym h))
 both_not false true h = absurd (true≢false (sym h))
 both_not false false h = (refl, refl)
 
--- what has one turn is told apart by no part of it
+-- two turns of which neither comes before the other are equal by the order
 pub equal_turns : (a b : Turn) → (not (is_lt (turn_order a b)) && not (is_lt (turn_order b a))) ≡ true → turn_order a b ≡ Equal
 equal_turns a b h =
     let two = both_not (is_lt (turn_order a b)) (is_lt (turn_order b a)) h in

@@ -125,7 +125,8 @@ impl<C: Catalog, A: Allocator + Copy> SerialEngine<C, A> {
 
     /// Takes the next datagram, at most 65,507 octets, and puts all that follows from it in
     /// `reports`, in place of what is there, in the order in which it comes: by place, then by
-    /// rank, and of one reader its notices before its answer.
+    /// rank, and of one reader its notices before its answer. [`Outcome::in_order`] of what
+    /// [`SerialEngine::take`] gives is the same.
     ///
     /// [`EngineError::Failed`] and [`EngineError::Spent`] leave `reports` as it was,
     /// [`EngineError::NoMemory`] leaves it empty.

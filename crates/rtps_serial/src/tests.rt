@@ -16,15 +16,8 @@ use rtps_types::{EntityId, Guid, GuidPrefix, Locators};
 use std::alloc::{AllocError, Allocator, Global};
 use std::test::Fail;
 
-const WRITER: Guid = Guid {
-    prefix: GuidPrefix([0x0a; 12]),
-    entity: EntityId([0x00, 0x00, 0x01, 0x02]),
-};
-
-const OTHER: Guid = Guid {
-    prefix: GuidPrefix([0x09; 12]),
-    entity: EntityId([0x00, 0x00, 0x01, 0x02]),
-};
+/// Each octet of the participant that sends the datagrams.
+const SENDER: u8 = 0x0a;
 
 /// `RTPS` 2.5, no vendor, and the prefix of the writer.
 const HEADER: &[u8] = b"RTPS\x02\x05\x00\x00\
@@ -112,12 +105,20 @@ fn reader_config(
     })
 }
 
-/// Readers of the ranks up to the last one, and fixed matches by rank.
+/// The writer of a participant, by each octet of the participant.
+fn writer(participant: u8) -> Guid {
+    Guid {
+        prefix: GuidPrefix([participant; 12]),
+        entity: EntityId([0, 0, 1, 2]),
+    }
+}
+
+/// Readers of these ranks, and fixed matches, each by the rank and by its writer's participant.
 fn config(
     alloc: Global,
     reliability: Reliability,
     ranks: &[u8],
-    fixed: &[(u32, Guid)],
+    fixed: &[(u32, u8)],
 ) -> Result<Config, AllocError> {
     let mut config = Config {
         own: GuidPrefix([0x0b; 12]),
@@ -129,10 +130,10 @@ fn config(
             .readers
             .push(reader_config(alloc, reliability, *rank)?)?;
     }
-    for (rank, writer) in fixed {
+    for (rank, participant) in fixed {
         config.fixed.push(FixedMatch {
             rank: *rank,
-            writer: *writer,
+            writer: writer(*participant),
             locators: Locators::new(Vec::new(alloc)),
         })?;
     }
@@ -141,7 +142,7 @@ fn config(
 
 /// Two readers that are both matched with the writer.
 fn two(alloc: Global, reliability: Reliability) -> Result<Config, AllocError> {
-    config(alloc, reliability, &[0, 1], &[(0, WRITER), (1, WRITER)])
+    config(alloc, reliability, &[0, 1], &[(0, SENDER), (1, SENDER)])
 }
 
 fn said_by(kind: &NoticeKind<Shape>) -> Said {

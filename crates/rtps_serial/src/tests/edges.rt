@@ -1,12 +1,13 @@
-//! The greatest and the least that an engine is given, with ample memory.
+//! The least and the most that an engine is given, with ample memory.
 
 ghost use Rattle.std.specs.Prelude.{◌≤◌, IfOk, length};
 
-use super::{BLUE, HEADER, Said, Sent, WRITER, are_lines, config, datagram, two};
+use super::{BLUE, HEADER, Line, SENDER, Said, Sent, are_lines, config, datagram, two};
 use crate::*;
 use dds_qos::Reliability;
-use dds_topic::{Raw, Shapes};
-use std::alloc::Global;
+use dds_topic::Shapes;
+use rtps_discovery::Config;
+use std::alloc::{AllocError, Global};
 use std::test::Fail;
 
 /// The longest datagram: a change with number 1 that runs to the end, of which all after BLUE is
@@ -21,57 +22,86 @@ fn longest(alloc: Global) -> Result<Vec<u8>, Fail>
     for _ in octets.len()..65_507 {
         octets.push(0)?;
     }
-    if octets.len() > 65_507 {
-        return Err(Fail::new("the datagram is too long"));
+    if octets.len() != 65_507 {
+        return Err(Fail::new("the datagram isn't the longest"));
     }
     Ok(octets)
 }
 
-#[test]
-fn datagrams_without_events_are_taken(rt: HostRuntime) -> Result<(), Fail> {
-    let alloc = rt.alloc();
-    let mut engine = SerialEngine::new(alloc, two(alloc, Reliability::Reliable)?, Shapes)?;
+/// Whether an engine reports this of a datagram.
+fn reports(
+    alloc: Global,
+    engine: &mut SerialEngine<Shapes>,
+    octets: &[u8],
+    lines: &[Line],
+) -> Result<bool, Fail>
+    requires { length octets.now ≤ 65507 }
+{
+    let reports = engine.take(alloc, octets)?.in_order(alloc)?;
+    Ok(are_lines(&reports, lines))
+}
+
+/// Whether datagrams without events are taken, and then the longest one.
+fn takes_all_lengths(alloc: Global, engine: &mut SerialEngine<Shapes>) -> Result<bool, Fail> {
     for octets in [&[], &HEADER[..19], HEADER] {
-        let outcome = engine.take(alloc, octets)?;
-        assert!(rt; outcome.notices.len() == 2 && outcome.answers.is_empty());
-        assert!(rt; outcome.in_order(alloc)?.is_empty());
+        if !reports(alloc, engine, octets, &[])? {
+            return Ok(false);
+        }
     }
-    Ok(())
-}
-
-#[test]
-fn the_longest_datagram_is_taken(rt: HostRuntime) -> Result<(), Fail> {
-    let alloc = rt.alloc();
     let octets = longest(alloc)?;
-    assert_eq!(rt; octets.len(), 65_507);
-    let mut engine = SerialEngine::new(alloc, two(alloc, Reliability::Reliable)?, Shapes)?;
-    let reports = engine.take(alloc, octets.as_slice())?.in_order(alloc)?;
     let lines = [
-        (Some(0), 0, 1, Said::Blue(1)),
-        (Some(1), 0, 1, Said::Blue(1)),
+        (Some(0), 3, 1, Said::Blue(1)),
+        (Some(1), 3, 1, Said::Blue(1)),
     ];
-    assert!(rt; are_lines(&reports, &lines));
-    Ok(())
+    reports(alloc, engine, octets.as_slice(), &lines)
 }
 
-#[test]
-fn as_many_readers_as_there_may_be(rt: HostRuntime) -> Result<(), Fail> {
-    let alloc = rt.alloc();
+/// 256 readers, of which the last is matched with the writer.
+fn most_readers(alloc: Global) -> Result<Config, AllocError> {
     let mut ranks = Vec::new(alloc);
     for rank in 0..=255 {
         ranks.push(rank)?;
     }
-    let fixed = [(255, WRITER)];
-    let config = config(alloc, Reliability::Reliable, ranks.as_slice(), &fixed)?;
-    let mut engine = SerialEngine::new(alloc, config, Raw)?;
+    let fixed = [(255, SENDER)];
+    config(alloc, Reliability::Reliable, ranks.as_slice(), &fixed)
+}
+
+/// How many samples the reader of a rank presented, if there is such a reader.
+fn samples(engine: &SerialEngine<Shapes>, rank: u32) -> Option<u32> {
+    match engine.status(rank) {
+        Some(status) => Some(status.samples),
+        None => None,
+    }
+}
+
+/// Whether the last of 256 readers presents a change.
+fn presents_to_the_last(alloc: Global, engine: &mut SerialEngine<Shapes>) -> Result<bool, Fail> {
     let octets = datagram(alloc, &[Sent::ForAll(1)])?;
-    let outcome = engine.take(alloc, octets.as_slice())?;
-    assert_eq!(rt; outcome.notices.len(), 256);
-    assert_eq!(rt; outcome.in_order(alloc)?.len(), 1);
-    assert_eq!(rt; engine.readers(), 256);
-    assert_eq!(rt; engine.status(254).map(|status| status.samples), Some(0));
-    assert_eq!(rt; engine.status(255).map(|status| status.samples), Some(1));
-    assert!(rt; engine.status(256).is_none());
-    assert_eq!(rt; engine.matches(alloc)?.len(), 1);
+    let lines = [(Some(255), 0, 1, Said::Blue(1))];
+    Ok(
+        reports(alloc, engine, octets.as_slice(), &lines)?
+            && engine.readers() == 256
+            && samples(engine, 254) == Some(0)
+            && samples(engine, 255) == Some(1)
+            && samples(engine, 256).is_none(),
+    )
+}
+
+/// Whether two readers take a datagram of each length.
+fn least(alloc: Global) -> Result<bool, Fail> {
+    let mut engine = SerialEngine::new(alloc, two(alloc, Reliability::Reliable)?, Shapes)?;
+    takes_all_lengths(alloc, &mut engine)
+}
+
+/// Whether as many readers as there may be take a change.
+fn most(alloc: Global) -> Result<bool, Fail> {
+    let mut engine = SerialEngine::new(alloc, most_readers(alloc)?, Shapes)?;
+    presents_to_the_last(alloc, &mut engine)
+}
+
+#[test]
+fn the_least_and_the_most_are_taken(rt: HostRuntime) -> Result<(), Fail> {
+    assert!(rt; least(rt.alloc())?);
+    assert!(rt; most(rt.alloc())?);
     Ok(())
 }

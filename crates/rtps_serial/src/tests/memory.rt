@@ -7,6 +7,7 @@ use crate::*;
 use dds_qos::Reliability;
 use dds_topic::Shapes;
 use linked_list_allocator::LocalHeap;
+use rtps_reader::Status;
 use std::alloc::Global;
 use std::test::Fail;
 
@@ -18,7 +19,7 @@ fn has_failed<'a>(
 ) -> bool
     requires { length octets.now ≤ 65507 }
 {
-    engine.status(1).is_some_and(|status| status.samples == 0)
+    matches!(engine.status(1), Some(Status { samples: 0, .. }))
         && engine.matches(heap).err() == Some(EngineError::Failed)
         && engine.take_in(heap, octets).err() == Some(EngineError::Failed)
 }
@@ -38,7 +39,10 @@ fn reported(
         return Ok(None);
     };
     match engine.take_in(&heap, octets) {
-        Ok(outcome) => Ok(outcome.in_order(&heap).ok().map(|reports| reports.len())),
+        Ok(outcome) => match outcome.in_order(&heap) {
+            Ok(reports) => Ok(Some(reports.len())),
+            Err(_) => Ok(None),
+        },
         Err(EngineError::NoMemory) if has_failed(&heap, &mut engine, octets) => Ok(None),
         Err(_) => Err(Fail::new("an engine out of memory has not failed")),
     }

@@ -1,6 +1,7 @@
 //! Outcomes that were written down by hand, put in order.
 
 use crate::*;
+use dds_topic::Shape;
 use rtps_reader::{Notice, NoticeKind};
 use rtps_types::{EntityId, Guid, GuidPrefix, Locators, Octets, Place};
 use std::alloc::{AllocError, Global};
@@ -17,8 +18,8 @@ fn place(submessage: u32) -> Place {
     }
 }
 
-/// Notices, each by its submessage and by a count, by which it is told from others.
-fn notices(alloc: Global, lines: &[(u32, u64)]) -> Result<Vec<Notice<()>>, AllocError> {
+/// Notices, each by its submessage and by a count, which no other has.
+fn notices(alloc: Global, lines: &[(u32, u64)]) -> Result<Vec<Notice<Shape>>, AllocError> {
     let mut notices = Vec::new(alloc);
     for (submessage, count) in lines {
         notices.push(Notice {
@@ -47,7 +48,7 @@ fn answers(alloc: Global, lines: &[(u32, Option<u32>)]) -> Result<Vec<Answer>, A
     Ok(answers)
 }
 
-fn line(report: &Report<()>) -> Line {
+fn line(report: &Report<Shape>) -> Line {
     let turn = report.turn();
     let count = match report {
         Report::Notice { notice, .. } => match notice.what {
@@ -59,18 +60,21 @@ fn line(report: &Report<()>) -> Line {
     (turn.place.submessage, turn.rank, count)
 }
 
-#[test]
-fn an_outcome_in_order(rt: HostRuntime) -> Result<(), Fail> {
-    let alloc = rt.alloc();
+/// An outcome of three readers. What comes late in a list may belong to an earlier place.
+fn outcome(alloc: Global) -> Result<Outcome<Shape>, AllocError> {
     let mut lists = Vec::new(alloc);
     lists.push(notices(alloc, &[(1, 10), (3, 11)])?)?;
-    lists.push(notices(alloc, &[])?)?;
-    // What comes at one place stays in order, whatever it says, and what comes late is put first.
+    lists.push(Vec::new(alloc))?;
     lists.push(notices(alloc, &[(2, 12), (3, 14), (3, 13), (1, 15)])?)?;
-    let outcome = Outcome {
+    Ok(Outcome {
         notices: lists,
         answers: answers(alloc, &[(3, None), (3, Some(0)), (3, Some(2)), (4, None)])?,
-    };
+    })
+}
+
+#[test]
+fn an_outcome_in_order(rt: HostRuntime) -> Result<(), Fail> {
+    let reports = outcome(rt.alloc())?.in_order(rt.alloc())?;
     let expected: [Line; 10] = [
         (1, Some(0), Some(10)),
         (1, Some(2), Some(15)),
@@ -78,12 +82,12 @@ fn an_outcome_in_order(rt: HostRuntime) -> Result<(), Fail> {
         (3, None, None),
         (3, Some(0), Some(11)),
         (3, Some(0), None),
+        // What comes at one place stays in order, whatever it says.
         (3, Some(2), Some(14)),
         (3, Some(2), Some(13)),
         (3, Some(2), None),
         (4, None, None),
     ];
-    let reports = outcome.in_order(alloc)?;
     assert_eq!(rt; reports.len(), expected.len());
     for (report, expected) in reports.iter().zip(&expected) {
         assert_eq!(rt; line(report), *expected);

@@ -2,13 +2,12 @@
 
 ghost use Rattle.std.specs.Prelude.{◌≤◌, length};
 
-use super::{Line, OTHER, Said, Sent, WRITER, are_lines, config, datagram, two};
+use super::{Line, SENDER, Said, Sent, are_lines, config, datagram, two, writer};
 use crate::*;
 use dds_qos::Reliability;
 use dds_topic::{Shape, Shapes};
 use rtps_discovery::ConfigFault;
 use rtps_reader::Status;
-use rtps_types::Guid;
 use std::alloc::Global;
 use std::test::Fail;
 
@@ -32,22 +31,25 @@ fn reported(
     Ok(reports)
 }
 
-/// The place of the first row that an engine doesn't meet.
-fn first_unmet(
+/// Whether an engine meets each row, one after another.
+fn meets_all(
     alloc: Global,
     engine: &mut SerialEngine<Shapes>,
     rows: &[Row],
     dealt: bool,
-) -> Result<Option<usize>, Fail> {
-    for (at, (parts, lines)) in rows.iter().enumerate() {
+) -> Result<bool, Fail> {
+    for (parts, lines) in rows {
         let octets = datagram(alloc, parts)?;
         let reports = reported(alloc, engine, octets.as_slice(), dealt)?;
         if !are_lines(&reports, lines) {
-            return Ok(Some(at));
+            return Ok(false);
         }
     }
-    Ok(None)
+    Ok(true)
 }
+
+/// Each octet of another participant, which sends nothing.
+const OTHER: u8 = 0x09;
 
 /// Three datagrams; the second reader hears more than the first one.
 const BEST_EFFORT: [Row; 3] = [
@@ -103,61 +105,66 @@ fn status(lost_total: u32, samples: u32) -> Option<Status> {
     })
 }
 
-#[test]
-fn all_comes_by_place_and_then_by_rank(rt: HostRuntime) -> Result<(), Fail> {
-    let alloc = rt.alloc();
+/// Whether a new engine meets these rows, with the statuses of its two readers after them.
+fn meets(
+    alloc: Global,
+    reliability: Reliability,
+    rows: &[Row],
+    statuses: [Option<Status>; 2],
+) -> Result<bool, Fail> {
     for dealt in [false, true] {
-        let mut engine = SerialEngine::new(alloc, two(alloc, Reliability::BestEffort)?, Shapes)?;
-        assert_eq!(rt; first_unmet(alloc, &mut engine, &BEST_EFFORT, dealt)?, None);
-        assert_eq!(rt; engine.status(0), status(3, 2));
-        assert_eq!(rt; engine.status(1), status(2, 4));
-        assert_eq!(rt; engine.status(2), None);
+        let mut engine = SerialEngine::new(alloc, two(alloc, reliability)?, Shapes)?;
+        if !meets_all(alloc, &mut engine, rows, dealt)?
+            || engine.status(0) != statuses[0]
+            || engine.status(1) != statuses[1]
+            || engine.status(2).is_some()
+        {
+            return Ok(false);
+        }
     }
-    Ok(())
+    Ok(true)
 }
 
 #[test]
-fn a_readers_notices_come_before_its_answer(rt: HostRuntime) -> Result<(), Fail> {
-    let alloc = rt.alloc();
-    for dealt in [false, true] {
-        let mut engine = SerialEngine::new(alloc, two(alloc, Reliability::Reliable)?, Shapes)?;
-        assert_eq!(rt; first_unmet(alloc, &mut engine, &RELIABLE, dealt)?, None);
-    }
+fn all_comes_by_place_and_rank_and_notices_before_an_answer(rt: HostRuntime) -> Result<(), Fail> {
+    let statuses = [status(3, 2), status(2, 4)];
+    assert!(rt; meets(rt.alloc(), Reliability::BestEffort, &BEST_EFFORT, statuses)?);
+    let statuses = [status(1, 1), status(1, 1)];
+    assert!(rt; meets(rt.alloc(), Reliability::Reliable, &RELIABLE, statuses)?);
     laws::presented::<Shape>();
     laws::in_order::<Shape, Shape, Global>();
     laws::matches_listed::<Shape>();
     Ok(())
 }
 
-#[test]
-fn matches_come_by_rank_and_writer(rt: HostRuntime) -> Result<(), Fail> {
-    let alloc = rt.alloc();
-    let fixed = [(1, WRITER), (0, WRITER), (1, OTHER)];
-    let config = config(alloc, Reliability::BestEffort, &[0, 1, 2], &fixed)?;
+/// Whether an engine of three readers with these fixed matches lists these matches.
+fn lists(alloc: Global, fixed: &[(u32, u8)], expected: &[(u32, u8)]) -> Result<bool, Fail> {
+    let config = config(alloc, Reliability::BestEffort, &[0, 1, 2], fixed)?;
     let engine = SerialEngine::new(alloc, config, Shapes)?;
-    assert_eq!(rt; engine.readers(), 3);
-    let expected: [(u32, Guid); 3] = [(0, WRITER), (1, OTHER), (1, WRITER)];
     let matches = engine.matches(alloc)?;
-    assert_eq!(rt; matches.len(), expected.len());
-    assert!(rt;
-        matches
-            .iter()
-            .zip(&expected)
-            .all(|(found, expected)| *found == *expected)
-    );
-    Ok(())
+    Ok(
+        engine.readers() == 3
+            && matches.len() == expected.len()
+            && matches.iter().zip(expected.iter()).all(|(found, expected)| *found
+                == (expected.0, writer(expected.1))),
+    )
+}
+
+/// The fault of best-effort readers of these ranks, with these fixed matches.
+fn fault(alloc: Global, ranks: &[u8], fixed: &[(u32, u8)]) -> Result<Option<StartError>, Fail> {
+    let config = config(alloc, Reliability::BestEffort, ranks, fixed)?;
+    Ok(SerialEngine::new(alloc, config, Shapes).err())
 }
 
 #[test]
-fn a_faulty_configuration_is_refused(rt: HostRuntime) -> Result<(), Fail> {
+fn matches_are_listed_and_faulty_configurations_refused(rt: HostRuntime) -> Result<(), Fail> {
     let alloc = rt.alloc();
-    for (ranks, fixed, fault) in [
-        ([].as_slice(), [].as_slice(), ConfigFault::Readers),
-        (&[0], &[(1, WRITER)], ConfigFault::BadFixed),
-    ] {
-        let config = config(alloc, Reliability::BestEffort, ranks, fixed)?;
-        let refused = SerialEngine::new(alloc, config, Shapes).err();
-        assert_eq!(rt; refused, Some(StartError::Config(fault)));
-    }
+    let fixed = [(1, SENDER), (0, SENDER), (1, OTHER)];
+    let listed = [(0, SENDER), (1, OTHER), (1, SENDER)];
+    assert!(rt; lists(alloc, &fixed, &listed)?);
+    let none = StartError::Config(ConfigFault::Readers);
+    assert_eq!(rt; fault(alloc, &[], &[])?, Some(none));
+    let wrong = StartError::Config(ConfigFault::BadFixed);
+    assert_eq!(rt; fault(alloc, &[0], &[(1, SENDER)])?, Some(wrong));
     Ok(())
 }
