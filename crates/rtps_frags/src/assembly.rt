@@ -55,13 +55,6 @@ impl<A: Allocator + Copy> Assembly<A> {
         }
     }
 
-    /// How the sample is cut.
-    pub fn sizes(&self) -> Sizes
-        ensures { result ≡ self.now.sizes }
-    {
-        self.sizes
-    }
-
     /// Takes in `count` fragments from `start` on, with which the octets begin; what follows them is
     /// ignored, and a fragment that is there stays as it is. Fragments with a fault are not taken, and
     /// nothing changes. After a refused growth the assembly is spent: each later call answers so, and
@@ -99,6 +92,13 @@ impl<A: Allocator + Copy> Assembly<A> {
 }
 
 impl<A: Allocator> Assembly<A> {
+    /// How the sample is cut.
+    pub fn sizes(&self) -> Sizes
+        ensures { result ≡ self.now.sizes }
+    {
+        self.sizes
+    }
+
     /// Whether each fragment of a sample with octets is there; never where a growth was refused.
     pub fn is_whole(&self) -> bool
         ensures { result ≡ has_come self.now }
@@ -117,7 +117,8 @@ impl<A: Allocator> Assembly<A> {
         if self.sizes.is_empty() {
             return None;
         }
-        self.parts.missing_up_to(last.min(self.sizes.last()))
+        let end = last.min(self.sizes.last());
+        self.parts.missing_up_to(end)
     }
 
     /// The sample's octets, which are handed over as they were put together.

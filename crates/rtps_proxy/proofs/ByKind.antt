@@ -13,6 +13,7 @@ use Rattle.rtps_proxy.specs.Received.{frontier_of, in_order}
 use Rattle.rtps_proxy.specs.Runs.{AreApart, AreRuns, marks, within}
 use Rattle.rtps_proxy.specs.Steps.{ReliableStep}
 use Rattle.rtps_proxy.proofs.Frontier.{frontier_is}
+use Rattle.rtps_proxy.proofs.Seats.{standing_same}
 use Rattle.rtps_proxy.proofs.Standing.{lost_nothing, none_ready, same_held}
 
 -- a reliable state stands for a reliable reader
@@ -20,10 +21,10 @@ pub reliable_only : (past : List Came) (b : Bool) (r : Awaited) → StateStandsA
 reliable_only past true r h = (refl, h)
 reliable_only past false r h = absurd h
 
--- fragments do nothing
+-- heartbeats of fragments do nothing
 abbrev pub IsQuiet : Brought → Type 0
 IsQuiet (Whole c) = ⊥
-IsQuiet (Fragment f) = Unit {0}
+IsQuiet (Fragment f) = ⊥
 IsQuiet (Heartbeat h) = ⊥
 IsQuiet (Gap g) = ⊥
 IsQuiet (HeartbeatFrag h) = Unit {0}
@@ -39,19 +40,7 @@ module _ {A : Type 0} where
   quiet_reliable w past time (Whole c) quiet r effects none at = absurd quiet
   quiet_reliable w past time (Heartbeat h) quiet r effects none at = absurd quiet
   quiet_reliable w past time (Gap g) quiet r effects none at = absurd quiet
-  quiet_reliable w past time (Fragment f) quiet r effects none at = record {
-    stands = record {
-      counts = at.counts;
-      begun = at.begun;
-      announced = at.announced;
-      settled = at.settled;
-      held = at.held ∙ ap in_order (sym (same_held past (record { time = time; body = Fragment f }) (λ n. refl) refl));
-      answers = at.answers;
-    };
-    lost = none.lost ∙ sym (lost_nothing past (record { time = time; body = Fragment f }) refl);
-    ready = ap (map change_view) none.ready ∙ sym (none_ready past (record { time = time; body = Fragment f }) (λ n. refl));
-    answer = rw none.answer refl;
-  }
+  quiet_reliable w past time (Fragment f) quiet r effects none at = absurd quiet
   quiet_reliable w past time (HeartbeatFrag h) quiet r effects none at = record {
     stands = record {
       counts = at.counts;
@@ -59,6 +48,8 @@ module _ {A : Type 0} where
       announced = at.announced;
       settled = at.settled;
       held = at.held ∙ ap in_order (sym (same_held past (record { time = time; body = HeartbeatFrag h }) (λ n. refl) refl));
+      pending = at.pending ∙ sym (standing_same past (record { time = time; body = HeartbeatFrag h }) refl (λ n. refl));
+      sound = at.sound;
       answers = at.answers;
     };
     lost = none.lost ∙ sym (lost_nothing past (record { time = time; body = HeartbeatFrag h }) refl);

@@ -4,12 +4,14 @@ use Rattle.std.proofs.Common.{add-zero, add-suc, ◌≡◌, ℕ, zero, suc, ◌+
 use Rattle.std.specs.List.{list_any}
 use Rattle.std.proofs.lemmas.Bool.Decides.{eqb_tells, nat_tests, leb_tells}
 use Rattle.rtps_types.specs.NumberSet.{members}
-use Rattle.rtps_receiver.specs.Brought.{Brought, Change, Whole, Fragment, Heartbeat, Gap, HeartbeatFrag}
+use Rattle.rtps_receiver.specs.Brought.{Brought, Change, Fragments, Whole, Fragment, Heartbeat, Gap, HeartbeatFrag}
 use Rattle.rtps_proxy.specs.Runs.{Run}
 use Rattle.rtps_types.specs.Numbers.{first_failing}
 use Rattle.rtps_proxy.specs.History.{Came, first_after, first_of, is_irrelevant, is_new, names, sample_of}
-use Rattle.rtps_proxy.specs.Received.{frontier_of, greatest_in, greatest_named, is_settled, max_of, received, received_after}
+use Rattle.rtps_proxy.specs.Received.{frontier_of, greatest_in, greatest_named, is_settled, max_of, received, taken, taken_after, takes_fragments, with_begun}
+use Rattle.rtps_proxy.specs.Fragments.{with_fragments_of}
 use Rattle.rtps_proxy.specs.Settled.{has_room_by, is_settled_by}
+use Rattle.rtps_proxy.proofs.Wholes.{any_whole}
 use Rattle.rtps_proxy.proofs.Standing.{Shows, marks_at, marks_below}
 
 or_cases : (a b : Bool) → (a || b) ≡ true → (a ≡ true) ⊎ (b ≡ true)
@@ -66,9 +68,16 @@ received_bound (e ∷ past) n h = by_body e.body (received_bound past n) h
     ]
     by_test c false rest h = let le : n ≤ greatest_named past = rest h in omega arith
 
-    by_body : (b : Brought) → (list_any (λ s. eqb s.number n) (received past) ≡ true → n ≤ greatest_named past) → list_any (λ s. eqb s.number n) (received_after (received past) past (record { time = e.time; body = b })) ≡ true → n ≤ max (greatest_in b) (greatest_named past)
+    by_fragments : (f : Fragments) (b : Bool) → (list_any (λ s. eqb s.number n) (received past) ≡ true → n ≤ greatest_named past) → list_any (λ s. eqb s.number n) (cond b (with_begun (taken past) (with_fragments_of e.time f (taken past).begun) f.number) (taken past)).changes ≡ true → n ≤ max f.number (greatest_named past)
+    by_fragments f true rest h = elim (any_whole f.number n (with_fragments_of e.time f (taken past).begun) (received past) h) [
+      | inl e ↦ omega (arith, e)
+      | inr e ↦ (let le : n ≤ greatest_named past = rest e in omega arith)
+    ]
+    by_fragments f false rest h = let le : n ≤ greatest_named past = rest h in omega arith
+
+    by_body : (b : Brought) → (list_any (λ s. eqb s.number n) (received past) ≡ true → n ≤ greatest_named past) → list_any (λ s. eqb s.number n) (taken_after (taken past) past (record { time = e.time; body = b })).changes ≡ true → n ≤ max (greatest_in b) (greatest_named past)
     by_body (Whole c) rest h = by_test c (not (is_settled_by (received past) past c.number) && has_room_by (received past) past c.number) rest h
-    by_body (Fragment f) rest h = let le : n ≤ greatest_named past = rest h in omega arith
+    by_body (Fragment f) rest h = by_fragments f (takes_fragments (taken past) past f) rest h
     by_body (Heartbeat b) rest h = let le : n ≤ greatest_named past = rest h in omega arith
     by_body (Gap g) rest h = let le : n ≤ greatest_named past = rest h in omega arith
     by_body (HeartbeatFrag b) rest h = let le : n ≤ greatest_named past = rest h in omega arith

@@ -4,10 +4,14 @@ pub mod Ordering
 pub mod Waiting
 pub mod Standing
 pub mod Taking
+pub mod Places
+pub mod Wholes
+pub mod Seats
 pub mod Frontier
 pub mod Beats
 pub mod Naming
 pub mod ByKind
 pub mod Members
+pub mod Brought
 pub mod Presenting
 pub mod Matching

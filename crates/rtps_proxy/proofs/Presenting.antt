@@ -1,15 +1,18 @@
--- In one match the samples rise, a DATA brought each, and what is passed over was given up.
+-- In one match the samples rise, a DATA or DATA_FRAGs brought each, and what is passed over was given up.
 use Rattle.std.proofs.Common.{◌≡◌, ℕ, zero, suc, ◌<◌, ◌≤◌, ◌⊎◌, Bool, true, false, not, ◌&&◌, ◌||◌, cond, List, [], ◌∷◌, ◌++◌, map, refl, sym, ◌∙◌, ap, arith, ltb, eqb, inl, inr, max}
 use Rattle.std.specs.List.{list_any, filter, AllByRecursion}
 use Rattle.std.proofs.lemmas.Bool.Decides.{nat_tests, leb_tells, eqb_tells}
 use Rattle.std.proofs.lemmas.List.Folds.{list_any-append}
 use Rattle.std.proofs.lemmas.Map.Views.{any-filter_same}
-use Rattle.rtps_receiver.specs.Brought.{Brought, Change, Whole, Fragment, Heartbeat, Gap, HeartbeatFrag}
+use Rattle.rtps_receiver.specs.Brought.{Brought, Change, Fragments, Whole, Fragment, Heartbeat, Gap, HeartbeatFrag}
 use Rattle.rtps_types.specs.Numbers.{all_below}
+use Rattle.rtps_proxy.specs.Fragments.{fits, whole_at, with_fragments_of}
+pub use Rattle.rtps_proxy.proofs.Brought.{ready_brought}
+use Rattle.rtps_proxy.proofs.Wholes.{frags_left, frags_received, never_two, whole_number}
 use Rattle.rtps_proxy.specs.History.{Came, Sample, first_after, first_of, is_irrelevant, is_new, names, sample_of}
-use Rattle.rtps_proxy.specs.Received.{in_order, is_covered, is_settled, put, ready, received}
+use Rattle.rtps_proxy.specs.Received.{Taken, in_order, is_covered, is_settled, put, ready, received, taken, takes_fragments}
 use Rattle.rtps_proxy.specs.Settled.{has_room_by}
-use Rattle.rtps_proxy.specs.Presentation.{Brings, GivesUp, IsGivenUp, IsPresented, IsSample, PassesOverOnly, RisesStrictly, presented}
+use Rattle.rtps_proxy.specs.Presentation.{GivesUp, IsGivenUp, IsPresented, PassesOverOnly, RisesStrictly, presented}
 
 or_cases : (a b : Bool) → (a || b) ≡ true → (a ≡ true) ⊎ (b ≡ true)
 or_cases true b h = inl refl
@@ -75,7 +78,6 @@ record Takes (past : List Came) (e : Came) : Type 0 where
   sample : Sample
   got : received (e ∷ past) ≡ sample ∷ received past
   unsettled : is_settled past sample.number ≡ false
-  is : IsSample e.time e.body sample
 
 abbrev Step : List Came → Came → Type 0
 Step past e = (received (e ∷ past) ≡ received past) ⊎ Takes past e
@@ -89,13 +91,25 @@ step past e = by_body e.body
       sample = sample_of e.time c;
       got = rw h refl;
       unsettled = not_true (is_settled past c.number) (and_first _ _ h);
-      is = refl;
     })
     by_test c false h = inl (rw h refl)
 
+    by_whole : (f : Fragments) → takes_fragments (taken past) past f ≡ true → (ss : List Sample) → whole_at f.number (with_fragments_of e.time f (taken past).begun) ≡ ss → Step past (record { time = e.time; body = Fragment f })
+    by_whole f h [] whole = inl (frags_received past e.time f h [] whole)
+    by_whole f h (s ∷ []) whole = inr (record {
+      sample = s;
+      got = frags_received past e.time f h (s ∷ []) whole;
+      unsettled = ap (is_settled past) (whole_number f.number (with_fragments_of e.time f (taken past).begun) s [] whole) ∙ not_true (is_settled past f.number) (and_first _ _ (and_second (fits (taken past).begun f) _ h));
+    })
+    by_whole f h (s ∷ t ∷ ss) whole = absurd (never_two f.number (with_fragments_of e.time f (taken past).begun) s t ss whole)
+
+    by_fragments : (f : Fragments) (b : Bool) → takes_fragments (taken past) past f ≡ b → Step past (record { time = e.time; body = Fragment f })
+    by_fragments f true h = by_whole f h (whole_at f.number (with_fragments_of e.time f (taken past).begun)) refl
+    by_fragments f false h = inl (ap (λ (t : Taken). t.changes) (frags_left past e.time f h))
+
     by_body : (b : Brought) → Step past (record { time = e.time; body = b })
     by_body (Whole c) = by_test c (not (is_settled past c.number) && has_room_by (received past) past c.number) refl
-    by_body (Fragment f) = inl refl
+    by_body (Fragment f) = by_fragments f (takes_fragments (taken past) past f) refl
     by_body (Heartbeat h) = inl refl
     by_body (Gap g) = inl refl
     by_body (HeartbeatFrag h) = inl refl
@@ -283,18 +297,6 @@ samples_rise (e ∷ past) =
 
 pub presented_rises : (past : List Came) → RisesStrictly (map (λ (s : Sample). s.number) (presented past))
 presented_rises past = numbers_rise (presented past) (samples_rise past)
-
-received_brought : (past : List Came) → AllByRecursion (Brings past) (received past)
-received_brought [] = tt
-received_brought (e ∷ past) = by_step (step past e) (all_weaker (Brings past) (Brings (e ∷ past)) (received past) (λ s h. inr h) (received_brought past))
-  where
-    by_step : Step past e → AllByRecursion (Brings (e ∷ past)) (received past) → AllByRecursion (Brings (e ∷ past)) (received (e ∷ past))
-    by_step (inl same) rest = rw same rest
-    by_step (inr t) rest = rw t.got (inl t.is, rest)
-
-pub ready_brought : (past : List Came) (e : Came) → AllByRecursion (Brings (e ∷ past)) (ready past e)
-ready_brought past e =
-    all_in_order (Brings (e ∷ past)) _ (all_filter (Brings (e ∷ past)) (gets_ready past e) (received (e ∷ past)) (received_brought (e ∷ past)))
 
 -- what is below the first number was given up
 given_up_first : (past : List Came) (k : ℕ) → 1 ≤ k → k < first_of past → IsGivenUp past k

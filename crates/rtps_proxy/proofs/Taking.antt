@@ -60,44 +60,47 @@ or_taken false true false got = refl
 or_taken false false here got = refl
 
 -- what a proxy keeps before and behind a change that is taken
-pub record Takes (past : List Came) (time : Option Timestamp) (c : Change) (f f' : ℕ) (rs rs' : List Run) (waiting : List Sample) : Type 0 where
+pub record Takes (past : List Came) (event : Came) (s : Sample) (f f' : ℕ) (rs rs' : List Run) (waiting : List Sample) : Type 0 where
   pub before : Shows past f rs
-  pub taken : takes past c.number ≡ true
-  pub adds : (m : ℕ) → marks f' rs' m ≡ ((leb c.number m && ltb m (c.number + 1)) || marks f rs m)
+  pub got : received (event ∷ past) ≡ s ∷ received past
+  pub first : first_of (event ∷ past) ≡ first_of past
+  pub named : (m : ℕ) → is_irrelevant (event ∷ past) m ≡ is_irrelevant past m
+  pub new : is_settled past s.number ≡ false
+  pub adds : (m : ℕ) → marks f' rs' m ≡ ((leb s.number m && ltb m (s.number + 1)) || marks f rs m)
   pub apart : AreApart f' rs'
   pub waits : waiting ≡ in_order (held past)
 
-not_and : (a b : Bool) → (not a && b) ≡ true → a ≡ false
+pub not_and : (a b : Bool) → (not a && b) ≡ true → a ≡ false
 not_and true b h = absurd cc
 not_and false b h = refl
 
-module _ (past : List Came) (time : Option Timestamp) (c : Change) (f f' : ℕ) (rs rs' : List Run) (waiting : List Sample) (t : Takes past time c f f' rs rs' waiting) where
-  pub taken_shows : Shows (change_at time c ∷ past) f' rs'
+module _ (past : List Came) (event : Came) (s : Sample) (f f' : ℕ) (rs rs' : List Run) (waiting : List Sample) (t : Takes past event s f f' rs rs' waiting) where
+  pub taken_shows : Shows (event ∷ past) f' rs'
   taken_shows = record {
     settled = λ m.
-        ap (λ (got : List Sample). (ltb m (first_of past) || is_irrelevant past m) || list_any (λ s. eqb s.number m) got) (taken_received past time c t.taken)
-        ∙ or_taken (ltb m (first_of past)) (is_irrelevant past m) (eqb c.number m) (list_any (λ s. eqb s.number m) (received past))
-        ∙ ap (λ b. eqb c.number m || b) (t.before.settled m)
-        ∙ sym (t.adds m ∙ ap (λ b. b || marks f rs m) (one_number c.number m));
+        rw (t.first, t.named m, t.got)
+        (or_taken (ltb m (first_of past)) (is_irrelevant past m) (eqb s.number m) (list_any (λ s. eqb s.number m) (received past))
+        ∙ ap (λ b. eqb s.number m || b) (t.before.settled m)
+        ∙ sym (t.adds m ∙ ap (λ b. b || marks f rs m) (one_number s.number m)));
     apart = t.apart;
   }
 
-  rises : f ≤ f'
-  rises = frontier_rises f rs f' rs' (λ m e. t.adds m ∙ ap (λ b. (leb c.number m && ltb m (c.number + 1)) || b) e ∙ or_true (leb c.number m && ltb m (c.number + 1))) t.apart
+  pub rises : f ≤ f'
+  rises = frontier_rises f rs f' rs' (λ m e. t.adds m ∙ ap (λ b. (leb s.number m && ltb m (s.number + 1)) || b) e ∙ or_true (leb s.number m && ltb m (s.number + 1))) t.apart
 
   -- its number wasn't settled
-  fresh : marks f rs c.number ≡ false
-  fresh = sym (t.before.settled c.number) ∙ not_and (is_settled past c.number) (has_room_by (received past) past c.number) t.taken
+  fresh : marks f rs s.number ≡ false
+  fresh = sym (t.before.settled s.number) ∙ t.new
 
-  above : f ≤ c.number
-  above = elim (leb_tells (suc c.number) f) [ inl w ↦ (let both : true ≡ false = sym (marks_below f rs c.number (omega arith)) ∙ fresh in absurd cc) | inr w ↦ omega arith ]
+  above : f ≤ s.number
+  above = elim (leb_tells (suc s.number) f) [ inl w ↦ (let both : true ≡ false = sym (marks_below f rs s.number (omega arith)) ∙ fresh in absurd cc) | inr w ↦ omega arith ]
 
   -- those that wait, with the change at its place
-  waiting_with : put (sample_of time c) waiting ≡ in_order (filter (λ s. not (is_covered past s.number)) (received (change_at time c ∷ past)))
+  pub waiting_with : put s waiting ≡ in_order (filter (λ s. not (is_covered past s.number)) (received (event ∷ past)))
   waiting_with =
-      let behind : ltb c.number f ≡ false = (let le : f ≤ c.number = above in grind (arith, nat_tests)) in
-      let waits : is_covered past c.number ≡ false = covered_is past f rs t.before c.number ∙ behind in
-      rw (taken_received past time c t.taken, waits) (ap (put (sample_of time c)) t.waits)
+      let behind : ltb s.number f ≡ false = (let le : f ≤ s.number = above in grind (arith, nat_tests)) in
+      let waits : is_covered past s.number ≡ false = covered_is past f rs t.before s.number ∙ behind in
+      rw (t.got, waits) (ap (put s) t.waits)
 
   behind_all : (ss : List Sample) → AtLeast f (filter (λ s. not (is_covered past s.number)) ss)
   behind_all [] = tt
@@ -118,61 +121,61 @@ module _ (past : List Came) (time : Option Timestamp) (c : Change) (f f' : ℕ) 
   waiting_behind = rw t.waits (in_order_behind (held past) (behind_all (received past)))
 
   -- a change that is below the frontier now was the next one
-  next_one : c.number < f' → c.number ≡ f
+  next_one : s.number < f' → s.number ≡ f
   next_one below =
-      elim (eqb_tells c.number f) [
+      elim (eqb_tells s.number f) [
         | inl w ↦ w.1
         | inr w ↦ (
-            let le : f ≤ c.number = above in
+            let le : f ≤ s.number = above in
             let was : marks f rs f ≡ false = marks_at f rs t.before.apart in
-            let far : (leb c.number f && ltb f (c.number + 1)) ≡ false = one_number c.number f ∙ w.0 in
+            let far : (leb s.number f && ltb f (s.number + 1)) ≡ false = one_number s.number f ∙ w.0 in
             let not_now : marks f' rs' f ≡ false = t.adds f ∙ rw (far, was) refl in
             let now : marks f' rs' f ≡ true = marks_below f' rs' f (omega arith) in
             absurd cc
             )
       ]
 
-  pub ready_at_once : c.number < f' → sample_of time c ∷ front_below f' waiting ≡ ready past (change_at time c)
+  pub ready_at_once : s.number < f' → s ∷ front_below f' waiting ≡ ready past (event)
   ready_at_once below =
-      let same : c.number ≡ f = next_one below in
-      let front : put (sample_of time c) waiting ≡ sample_of time c ∷ waiting = put_front (sample_of time c) waiting (rw same waiting_behind) in
-      let passes : ltb c.number f' ≡ true = grind (arith, nat_tests) in
+      let same : s.number ≡ f = next_one below in
+      let front : put s waiting ≡ s ∷ waiting = put_front (s) waiting (rw same waiting_behind) in
+      let passes : ltb s.number f' ≡ true = grind (arith, nat_tests) in
       let risen : front_below f' waiting ≡ filter (is_below f') waiting = rw t.waits (front_is f' (in_order (held past)) (in_order_rises (held past))) in
-      let all : filter (is_below f') (put (sample_of time c) waiting) ≡ ready past (change_at time c) = settle_ready past (change_at time c) f' rs' (put (sample_of time c) waiting) taken_shows waiting_with in
+      let all : filter (is_below f') (put s waiting) ≡ ready past (event) = settle_ready past (event) f' rs' (put s waiting) taken_shows waiting_with in
       rw risen (rw (front, passes) at all)
 
-  pub held_at_once : c.number < f' → behind_front f' waiting ≡ in_order (held (change_at time c ∷ past))
+  pub held_at_once : s.number < f' → behind_front f' waiting ≡ in_order (held (event ∷ past))
   held_at_once below =
-      let same : c.number ≡ f = next_one below in
-      let front : put (sample_of time c) waiting ≡ sample_of time c ∷ waiting = put_front (sample_of time c) waiting (rw same waiting_behind) in
-      let passes : ltb c.number f' ≡ true = grind (arith, nat_tests) in
+      let same : s.number ≡ f = next_one below in
+      let front : put s waiting ≡ s ∷ waiting = put_front (s) waiting (rw same waiting_behind) in
+      let passes : ltb s.number f' ≡ true = grind (arith, nat_tests) in
       let risen : behind_front f' waiting ≡ filter (not_below f') waiting = rw t.waits (behind_is f' (in_order (held past)) (in_order_rises (held past))) in
-      let all : filter (not_below f') (put (sample_of time c) waiting) ≡ in_order (held (change_at time c ∷ past)) = settle_held past (change_at time c) f f' rs rs' (put (sample_of time c) waiting) t.before taken_shows rises waiting_with in
+      let all : filter (not_below f') (put s waiting) ≡ in_order (held (event ∷ past)) = settle_held past (event) f f' rs rs' (put s waiting) t.before taken_shows rises waiting_with in
       rw risen (rw (front, passes) at all)
 
   -- where it isn't below the frontier now, this stays
-  stays : f' ≤ c.number → f' ≡ f
+  stays : f' ≤ s.number → f' ≡ f
   stays le =
       elim (leb_tells (suc f) f') [
         | inl w ↦ (
             let now : marks f' rs' f ≡ true = marks_below f' rs' f (omega arith) in
             let was : marks f rs f ≡ false = marks_at f rs t.before.apart in
-            let far : (leb c.number f && ltb f (c.number + 1)) ≡ false = grind (arith, nat_tests) in
+            let far : (leb s.number f && ltb f (s.number + 1)) ≡ false = grind (arith, nat_tests) in
             let not_now : marks f' rs' f ≡ false = t.adds f ∙ rw (far, was) refl in
             absurd cc
             )
         | inr w ↦ (let rise : f ≤ f' = rises in omega arith)
       ]
 
-  with_behind : f' ≤ c.number → AtLeast f' (put (sample_of time c) waiting)
-  with_behind le = put_at_least f' (sample_of time c) waiting le (rw (stays le) waiting_behind)
+  with_behind : f' ≤ s.number → AtLeast f' (put s waiting)
+  with_behind le = put_at_least f' (s) waiting le (rw (stays le) waiting_behind)
 
-  pub none_yet : f' ≤ c.number → ready past (change_at time c) ≡ []
+  pub none_yet : f' ≤ s.number → ready past (event) ≡ []
   none_yet le =
-      sym (settle_ready past (change_at time c) f' rs' (put (sample_of time c) waiting) taken_shows waiting_with)
-      ∙ none_below f' f' (put (sample_of time c) waiting) (omega arith) (with_behind le)
+      sym (settle_ready past (event) f' rs' (put s waiting) taken_shows waiting_with)
+      ∙ none_below f' f' (put s waiting) (omega arith) (with_behind le)
 
-  pub held_then : f' ≤ c.number → put (sample_of time c) waiting ≡ in_order (held (change_at time c ∷ past))
+  pub held_then : f' ≤ s.number → put s waiting ≡ in_order (held (event ∷ past))
   held_then le =
-      sym (all_behind f' f' (put (sample_of time c) waiting) (omega arith) (with_behind le))
-      ∙ settle_held past (change_at time c) f f' rs rs' (put (sample_of time c) waiting) t.before taken_shows rises waiting_with
+      sym (all_behind f' f' (put s waiting) (omega arith) (with_behind le))
+      ∙ settle_held past (event) f f' rs rs' (put s waiting) t.before taken_shows rises waiting_with

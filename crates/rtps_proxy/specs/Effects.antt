@@ -11,7 +11,7 @@ use Rattle.rtps_proxy.specs.Changes.{change_view}
 use Rattle.rtps_proxy.specs.History.{Came, Sample, announced_of, has_heartbeat, is_new}
 use Rattle.rtps_proxy.specs.Kept.{Awaited, BestEffort, Kept, Reliable, Standing, Whom}
 use Rattle.rtps_proxy.specs.Received as reliable
-use Rattle.rtps_proxy.specs.Received.{held, in_order, is_settled}
+use Rattle.rtps_proxy.specs.Received.{held, in_order, is_settled, standing}
 use Rattle.rtps_proxy.specs.Replies.{Sent, reply, reply_view}
 use Rattle.rtps_proxy.specs.Runs.{marks}
 
@@ -31,6 +31,8 @@ pub record ReliableStandsAt (past : List Came) (proxy : Awaited) : Type 0 where
   pub announced : proxy.announced ≡ announced_of past
   pub settled : (n : ℕ) → is_settled past n ≡ marks proxy.frontier proxy.runs n
   pub held : proxy.held ≡ in_order (held past)
+  pub pending : proxy.begun ≡ standing past
+  pub sound : proxy.sound ≡ true
   pub answers : proxy.answers ≡ answers past % 2 ^ 32
 
 -- and what is kept for a reader, by whether it is reliable

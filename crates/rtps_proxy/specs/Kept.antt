@@ -1,10 +1,11 @@
 -- What a proxy keeps (DDSI-RTPS 8.4.10.4).
-use Rattle.std.specs.Prelude.{ℕ, ℤ, ◌+◌, ◌%◌, ◌^◌, Bool, not, ◌&&◌, ◌||◌, if◌then◌else◌, List, Option, map}
+use Rattle.std.specs.Prelude.{ℕ, ℤ, ◌+◌, ◌%◌, ◌^◌, Bool, not, ◌&&◌, ◌||◌, if◌then◌else◌, List, length, nat_le, nat_lt, Option, is_some, map}
 use Rattle.rtps_types.specs.declared.identity.EntityId.{EntityId}
 use Rattle.rtps_types.specs.declared.identity.Guid.{Guid}
 use Rattle.rtps_types.specs.declared.identity.GuidPrefix.{GuidPrefix}
 use Rattle.rtps_types.specs.declared.locator.Locator.{Locator}
 use Rattle.rtps_types.specs.declared.number.Number.{Number}
+use Rattle.rtps_receiver.specs.Brought.{Fragments}
 use Rattle.rtps_receiver.specs.declared.body.Heartbeat.{Heartbeat}
 use Rattle.rtps_proxy.specs.declared.config.ProxyConfig.{ProxyConfig}
 use Rattle.rtps_proxy.specs.declared.reliable.Reliable as kept
@@ -12,7 +13,9 @@ use Rattle.rtps_proxy.specs.declared.state.State.{State}
 use Rattle.rtps_proxy.specs.declared.state.State.TheVariants as code
 use Rattle.rtps_proxy.specs.Answer.{Acknack, acknack_by}
 use Rattle.rtps_proxy.specs.Changes.{change_view}
+use Rattle.rtps_proxy.specs.Fragments.{Begun}
 use Rattle.rtps_proxy.specs.History.{Sample}
+use Rattle.rtps_proxy.specs.Pending.{are_sound, fits_found, found_at, pending_views}
 use Rattle.rtps_types.specs.Numbers.{lacks}
 use Rattle.rtps_proxy.specs.Runs.{marks}
 
@@ -28,21 +31,31 @@ abbrev pub whom : {A : Type 0} → ProxyConfig A → Whom
 whom c = record { own = c.own; writer = c.writer; reader = c.reader; reliable = c.reliable; locators = c.locators }
 
 -- what is kept for a reliable reader: the greatest count of a heartbeat that was accepted, the announced number, the settled
--- numbers as those below a frontier and runs, the held changes in order, and the number of answers
+-- numbers as those below a frontier and runs, the held changes in order, the samples whose fragments are awaited and whether
+-- each growth of them was granted, and the number of answers
 pub record Awaited : Type 0 where
   pub accepted : Option ℤ
   pub announced : ℕ
   pub frontier : ℕ
   pub runs : List (Number × Number)
   pub held : List Sample
+  pub begun : List Begun
+  pub sound : Bool
   pub answers : ℕ
 
 abbrev pub awaited : {A : Type 0} → kept.Reliable A → Awaited
-awaited r = record { accepted = r.accepted; announced = r.announced; frontier = r.settled.frontier; runs = r.settled.runs; held = map change_view r.held.items; answers = r.answers }
+awaited r = record { accepted = r.accepted; announced = r.announced; frontier = r.settled.frontier; runs = r.settled.runs; held = map change_view r.held.items; begun = pending_views r.pending.items; sound = are_sound r.pending.items; answers = r.answers }
 
 -- the settled numbers
 abbrev pub marked : Awaited → ℕ → Bool
 marked r = marks r.frontier r.runs
+
+-- a DATA_FRAG is taken
+abbrev pub takes_by : Awaited → Fragments → Bool
+takes_by r f =
+    fits_found r.begun f
+    && ((not (marked r f.number) && (nat_le f.number r.frontier || nat_lt (length r.held) 65536))
+    && (is_some (found_at f.number r.begun) || (nat_le f.number r.frontier || nat_lt (length r.begun) 64)))
 
 -- what the next answer asks for
 abbrev pub asked_by : Awaited → Acknack

@@ -1,4 +1,5 @@
 pub mod History
+pub mod Fragments
 pub mod Settled
 pub mod Received
 pub mod Answer
@@ -6,6 +7,7 @@ pub mod BestEffort
 pub mod Runs
 pub mod Changes
 pub mod Held
+pub mod Pending
 pub mod Kept
 pub mod Replies
 pub mod Effects

@@ -1,29 +1,59 @@
--- What a reliable reader receives and presents of a match (DDSI-RTPS 8.4.12.3), without fragments.
-use Rattle.std.specs.Prelude.{ℕ, ◌+◌, max, Bool, not, ◌&&◌, nat_lt, List, [], ◌∷◌, filter, if◌then◌else◌}
+-- What a reliable reader receives and presents of a match (DDSI-RTPS 8.4.12.3, 8.4.14.1).
+use Rattle.std.specs.Prelude.{ℕ, ◌+◌, max, Bool, not, ◌&&◌, ◌||◌, nat_lt, List, [], ◌∷◌, ◌++◌, length, filter, if◌then◌else◌}
 use Rattle.rtps_types.specs.NumberSet.{members}
-use Rattle.rtps_receiver.specs.Brought.{Brought, Whole, Fragment, Heartbeat, Gap, HeartbeatFrag}
+use Rattle.rtps_receiver.specs.Brought.{Brought, Fragments, Whole, Fragment, Heartbeat, Gap, HeartbeatFrag}
 use Rattle.rtps_proxy.specs.History.{Came, Sample, first_of, has_heartbeat, sample_of}
-use Rattle.rtps_types.specs.Numbers.{count_failing, first_failing}
+use Rattle.rtps_types.specs.Numbers.{all_below, count_failing, first_failing}
+use Rattle.rtps_proxy.specs.Fragments.{Begun, fits, is_begun, whole_at, with_fragments_of}
 use Rattle.rtps_proxy.specs.Settled.{has_room_by, held_by, is_covered_by, is_settled_by}
 
 -- a change is taken where its number isn't settled and there is room for it
 abbrev pub taken_by : List Sample → List Came → Sample → List Sample
 taken_by got past s = if not (is_settled_by got past s.number) && has_room_by got past s.number then s ∷ got else got
 
-abbrev pub received_after : List Sample → List Came → Came → List Sample
-received_after got past e = by_body e.body
+-- what was taken of a match: the changes that were received, the newest first, and by number the samples of which fragments
+-- were; none leaves
+pub record Taken : Type 0 where
+  pub changes : List Sample
+  pub begun : List Begun
+
+-- of those whose numbers aren't settled, fragments are awaited: they stand
+abbrev pub standing_by : Taken → List Came → List Begun
+standing_by t past = filter (λ b. not (is_settled_by t.changes past b.number)) t.begun
+
+-- there is a seat for the fragments of a number that stands, or is the least one not settled, or where fewer than 64 stand
+abbrev pub has_seat_by : Taken → List Came → ℕ → Bool
+has_seat_by t past n = is_begun t.begun n || (all_below (is_settled_by t.changes past) n || nat_lt (length (standing_by t past)) 64)
+
+-- a DATA_FRAG is taken where it fits, its number isn't settled, and there is room for the change and a seat for its fragments
+abbrev pub takes_fragments : Taken → List Came → Fragments → Bool
+takes_fragments t past f =
+    fits t.begun f && (not (is_settled_by t.changes past f.number) && (has_room_by t.changes past f.number && has_seat_by t past f.number))
+
+-- a sample that is whole then is received
+abbrev pub with_begun : Taken → List Begun → ℕ → Taken
+with_begun t bs n = record { changes = whole_at n bs ++ t.changes; begun = bs }
+
+abbrev pub taken_after : Taken → List Came → Came → Taken
+taken_after t past e = by_body e.body
   where
-    by_body : Brought → List Sample
-    by_body (Whole c) = taken_by got past (sample_of e.time c)
-    by_body (Fragment f) = got
-    by_body (Heartbeat h) = got
-    by_body (Gap g) = got
-    by_body (HeartbeatFrag h) = got
+    by_body : Brought → Taken
+    by_body (Whole c) = record { changes = taken_by t.changes past (sample_of e.time c); begun = t.begun }
+    by_body (Fragment f) = if takes_fragments t past f then with_begun t (with_fragments_of e.time f t.begun) f.number else t
+    by_body (Heartbeat h) = t
+    by_body (Gap g) = t
+    by_body (HeartbeatFrag h) = t
+
+abbrev pub taken : List Came → Taken
+taken [] = record { changes = []; begun = [] }
+taken (e ∷ past) = taken_after (taken past) past e
 
 -- the changes that were received, the newest first; none leaves
 abbrev pub received : List Came → List Sample
-received [] = []
-received (e ∷ past) = received_after (received past) past e
+received past = (taken past).changes
+
+abbrev pub standing : List Came → List Begun
+standing past = standing_by (taken past) past
 
 abbrev pub is_settled : List Came → ℕ → Bool
 is_settled past = is_settled_by (received past) past
@@ -57,7 +87,7 @@ max_of (n ∷ ns) = max n (max_of ns)
 
 abbrev pub greatest_in : Brought → ℕ
 greatest_in (Whole c) = c.number
-greatest_in (Fragment f) = 0
+greatest_in (Fragment f) = f.number
 greatest_in (Heartbeat h) = h.first
 greatest_in (Gap g) = max g.list.base (max_of (members g.list))
 greatest_in (HeartbeatFrag h) = 0

@@ -16,6 +16,7 @@ ghost use Rattle.rtps_receiver.specs.Views.{body_view};
 
 use crate::effects::{Effects, ProxyError};
 use crate::held::release;
+use crate::pending::give_up;
 use crate::reliable::Reliable;
 use crate::settled::Settled;
 use rtps_receiver::Gap;
@@ -43,6 +44,7 @@ impl<A: Allocator + Copy> Reliable<A> {
             (came time (body.Gap gap.now)) result }
     {
         self.settled.add_named(gap)?;
+        give_up(&mut self.pending, &self.settled);
         let mut ready = Vec::new(alloc);
         release(&mut self.held, self.settled.frontier, &mut ready)?;
         Ok(Effects::only_ready(ready))

@@ -13,6 +13,7 @@ ghost use Rattle.rtps_proxy.specs.Steps.{ReliableTakes};
 use crate::config::ProxyConfig;
 use crate::effects::{Effects, ProxyError};
 use crate::held::release;
+use crate::pending::give_up;
 use crate::reliable::Reliable;
 use rtps_receiver::Heartbeat;
 use rtps_types::{Guid, Locators, Reply};
@@ -113,6 +114,7 @@ impl<A: Allocator + Copy> Reliable<A> {
         self.accepted = Some(heartbeat.count);
         self.announced = self.announced.max(heartbeat.last);
         self.settled.add(0, first)?;
+        give_up(&mut self.pending, &self.settled);
         let mut ready = Vec::new(alloc);
         release(&mut self.held, self.settled.frontier, &mut ready)?;
         let answer = self.answer_to(alloc, config, &heartbeat)?;

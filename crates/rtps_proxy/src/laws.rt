@@ -25,8 +25,8 @@ pub fn an_answer_names_its_members()
 {}
 
 /// In the match of a reliable reader the sequence numbers of the samples rise strictly; a DATA of the
-/// match brought each sample by then; and each number that a sample passes over was given up by then,
-/// by a GAP or an accepted HEARTBEAT of the match.
+/// match, or DATA_FRAGs with all its fragments, brought each sample by then; and each number that a
+/// sample passes over was given up by then, by a GAP or an accepted HEARTBEAT of the match.
 pub fn presents_in_order()
     ensures rising { (past : List Came) → RisesStrictly (map (λ s. s.number) (presented past)) }
     ensures received { (past : List Came) (e : Came) →

@@ -103,7 +103,8 @@ impl<A: Allocator + Copy> WriterProxy<A> {
         self.on_event(alloc, time, &Body::Gap(*gap))
     }
 
-    /// Takes in fragments (DDSI-RTPS 8.3.7.3). They are not put together yet: nothing changes.
+    /// Takes in fragments of a change (DDSI-RTPS 8.3.7.3), for a reliable reader: 64 changes may be put
+    /// together at a time, and the next one that is awaited. A best-effort reader ignores them.
     pub fn on_fragment<'a>(
         &mut self,
         alloc: A,
@@ -115,7 +116,7 @@ impl<A: Allocator + Copy> WriterProxy<A> {
         self.on_event(alloc, time, &Body::Fragment(*fragment))
     }
 
-    /// Takes in a heartbeat of fragments (DDSI-RTPS 8.3.7.6). Nothing changes yet.
+    /// Takes in a heartbeat of fragments (DDSI-RTPS 8.3.7.6). It isn't answered yet.
     pub fn on_heartbeat_frag<'a>(
         &mut self,
         alloc: A,

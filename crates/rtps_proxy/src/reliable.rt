@@ -5,6 +5,7 @@ ghost use Rattle.std.specs.Prelude.{◌^◌, ◌≤◌};
 use crate::change::Change;
 use crate::config::ProxyConfig;
 use crate::effects::{Effects, ProxyError};
+use crate::pending::Pending;
 use crate::settled::Settled;
 use rtps_receiver::Body;
 use rtps_types::Timestamp;
@@ -21,6 +22,8 @@ pub(crate) struct Reliable<A: Allocator> {
     pub settled: Settled<A>,
     /// The changes that were received after a number that isn't settled.
     pub held: VecDeque<Change<'static, A>, A>,
+    /// The samples whose fragments are awaited, in order of their numbers.
+    pub pending: Vec<Pending<A>, A>,
     /// How many answers there were, modulo 2^32.
     pub answers: u32,
     ghost small: { announced ≤ 2 ^ 62 },
@@ -41,11 +44,12 @@ impl<A: Allocator + Copy> Reliable<A> {
             announced: 0,
             settled: Settled::new(alloc),
             held: VecDeque::new(alloc),
+            pending: Vec::new(alloc),
             answers: 0,
         }
     }
 
-    /// Takes in what an event brings, by its kind. Fragments are not put together yet.
+    /// Takes in what an event brings, by its kind. Heartbeats of fragments are not answered yet.
     pub fn on_event<'a>(
         &mut self,
         alloc: A,
@@ -60,7 +64,8 @@ impl<A: Allocator + Copy> Reliable<A> {
             Body::Whole(whole) => self.on_whole(alloc, time, whole),
             Body::Heartbeat(heartbeat) => self.on_heartbeat(alloc, config, heartbeat),
             Body::Gap(gap) => self.on_gap(alloc, gap),
-            Body::Fragment(_) | Body::HeartbeatFrag(_) => Ok(Effects::none(alloc)),
+            Body::Fragment(fragment) => self.on_fragment(alloc, time, fragment),
+            Body::HeartbeatFrag(_) => Ok(Effects::none(alloc)),
         }
     }
 }

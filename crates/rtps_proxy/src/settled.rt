@@ -167,6 +167,14 @@ impl<A: Allocator> Settled<A> {
         Some(at)
     }
 
+    /// Whether a number is in the set.
+    pub fn contains(&self, number: u64) -> bool
+        requires { number ≤ 2 ^ 62 + 1 }
+        ensures { result ≡ marks self.now.frontier self.now.runs number }
+    {
+        self.place_of(number).is_none()
+    }
+
     /// Whether a number up to this one isn't in the set.
     pub fn lacks(&self, number: u64) -> bool
         ensures { result ≡ lacks (marks self.now.frontier self.now.runs) number }

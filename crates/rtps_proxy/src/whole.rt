@@ -11,6 +11,7 @@ use crate::best_effort::BestEffort;
 use crate::change::Change;
 use crate::effects::{Effects, ProxyError};
 use crate::held::{hold, release};
+use crate::pending::give_up;
 use crate::reliable::Reliable;
 use rtps_receiver::Whole;
 use rtps_types::Timestamp;
@@ -54,7 +55,7 @@ impl BestEffort {
 impl<A: Allocator + Copy> Reliable<A> {
     /// The place of a number among the runs, if a change with it is taken: it isn't settled, and it is
     /// the least such number or there is room.
-    fn place_for(&self, number: u64) -> Option<usize>
+    pub(crate) fn place_for(&self, number: u64) -> Option<usize>
         requires { number ≤ 2 ^ 62 }
         ensures taken { is_some result ≡ (not (marked (awaited self.now) number)
             && (nat_le number self.now.settled.frontier
@@ -82,6 +83,7 @@ impl<A: Allocator + Copy> Reliable<A> {
             return Ok(Effects::none(alloc));
         };
         self.settled.add_at(at, number, number + 1)?;
+        give_up(&mut self.pending, &self.settled);
         if number >= self.settled.frontier {
             hold(&mut self.held, Change::kept(alloc, time, whole)?)?;
             return Ok(Effects::none(alloc));

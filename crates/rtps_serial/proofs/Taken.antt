@@ -19,7 +19,8 @@ use Rattle.rtps_receiver.specs.Brought.{Brought, Whole, Fragment, Heartbeat, Gap
 use Rattle.rtps_receiver.specs.Context.{destination_of, source_of, time_of}
 use Rattle.rtps_receiver.specs.Events.{Happening, event_behind, events_behind, events_of, events_under, happening}
 use Rattle.rtps_proxy.specs.History.{Sample}
-use Rattle.rtps_proxy.specs.Presentation.{Brings, IsSample}
+use Rattle.rtps_proxy.specs.Presentation.{Brings, CameWhole, IsSample, IsTold, IsToldBy}
+use Rattle.rtps_frags.specs.declared.sizes.Sizes.{Sizes}
 use Rattle.rtps_serial.specs.Presentation.{came_of}
 use Rattle.rtps_serial.specs.Run.{events_from}
 use Rattle.rtps_serial.proofs.Places.{all_append}
@@ -27,7 +28,7 @@ use Rattle.rtps_serial.proofs.Places.{all_append}
 -- a change in one piece has a number that a change may have
 abbrev pub HasNumber : Brought → Type 0
 HasNumber (Whole c) = IsNumber c.number
-HasNumber (Fragment f) = Unit {0}
+HasNumber (Fragment f) = IsNumber f.number
 HasNumber (Heartbeat h) = Unit {0}
 HasNumber (Gap g) = Unit {0}
 HasNumber (HeartbeatFrag h) = Unit {0}
@@ -45,7 +46,7 @@ within n low high = (grind (arith, nat_tests), grind (arith, nat_tests))
 
 by_body : (b : Brought) → (nat_le 1 (first_of b) && list_all is_taken (numbers_of b)) ≡ true → HasNumber b
 by_body (Whole c) h = within c.number (and_first _ _ h) (and_first _ true (and_second (nat_le 1 c.number) _ h))
-by_body (Fragment f) h = tt
+by_body (Fragment f) h = within f.number (and_first _ _ h) (and_first _ true (and_second (nat_le 1 f.number) _ h))
 by_body (Heartbeat h) k = tt
 by_body (Gap g) h = tt
 by_body (HeartbeatFrag h) k = tt
@@ -89,7 +90,24 @@ is_sample_of time (Heartbeat h) s has is = absurd is
 is_sample_of time (Gap g) s has is = absurd is
 is_sample_of time (HeartbeatFrag h) s has is = absurd is
 
+came_number : (es : List Happening) (s : Sample) → AllByRecursion (λ (e : Happening). HasNumber e.body) es → CameWhole (map came_of es) s → IsNumber s.number
+came_number [] s all b = absurd b
+came_number (e ∷ es) s all (inl is) = is_sample_of e.time e.body s all.0 is
+came_number (e ∷ es) s all (inr rest) = came_number es s all.1 rest
+
+-- and so has one that they were told of
+is_told_by : (z : Sizes) (time : Option Timestamp) (b : Brought) (s : Sample) → HasNumber b → IsToldBy z s time b → IsNumber s.number
+is_told_by z time (Whole c) s has is = absurd is
+is_told_by z time (Fragment f) s has is = subst IsNumber is.0 has
+is_told_by z time (Heartbeat h) s has is = absurd is
+is_told_by z time (Gap g) s has is = absurd is
+is_told_by z time (HeartbeatFrag h) s has is = absurd is
+
+told_number : (es : List Happening) (z : Sizes) (s : Sample) → AllByRecursion (λ (e : Happening). HasNumber e.body) es → IsTold (map came_of es) z s → IsNumber s.number
+told_number [] z s all b = absurd b
+told_number (e ∷ es) z s all (inl is) = is_told_by z e.time e.body s all.0 is
+told_number (e ∷ es) z s all (inr rest) = told_number es z s all.1 rest
+
 pub brought_number : (es : List Happening) (s : Sample) → AllByRecursion (λ (e : Happening). HasNumber e.body) es → Brings (map came_of es) s → IsNumber s.number
-brought_number [] s all b = absurd b
-brought_number (e ∷ es) s all (inl is) = is_sample_of e.time e.body s all.0 is
-brought_number (e ∷ es) s all (inr rest) = brought_number es s all.1 rest
+brought_number es s all (inl came) = came_number es s all came
+brought_number es s all (inr together) = told_number es together.sizes s all together.told

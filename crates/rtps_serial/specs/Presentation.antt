@@ -61,8 +61,8 @@ came_of e = record { time = e.time; body = e.body }
 abbrev pub came_by : Place → List Happening → List Came
 came_by place events = map came_of (filter (λ e. not_after e.place place) events)
 
--- a DATA brought the sample: its sequence number, its time, and the body that the catalog makes of
--- what the DATA carries
+-- a DATA or DATA_FRAGs brought the sample: its sequence number, its time, and the body that the catalog
+-- makes of what they carry
 pub record IsBrought {M : Type 0} (decoding : Decoding M) (past : List Came) (s : Shown M)
     : Type 0 where
   pub change : Sample
@@ -84,7 +84,7 @@ pub record ArePresented {M : Type 0} (decoding : Decoding M) (events : List Happ
     (samples : List (Shown M)) : Type 0 where
   -- each sequence number is above all before it
   pub rising : RisesStrictly (map (λ s. s.number) samples)
-  -- a DATA that isn't after the sample's place brought it
+  -- a DATA or DATA_FRAGs that aren't after the sample's place brought it
   pub received : AllByRecursion (λ s. IsBrought decoding (came_by s.place events) s) samples
   -- from 1 on, each sequence number that no sample has was given up by the place of the next sample
   pub passed_over : PassesOverOnly events 0 samples

@@ -16,11 +16,11 @@ ghost use Rattle.rtps_types.specs.declared.identity.Guid.{Guid};
 
 use std::alloc::Allocator;
 
-/// Whatever datagrams come, and whatever the catalog makes of them: in the match of a reliable
-/// reader and a writer the sequence numbers of the samples rise strictly; a DATA of the match
-/// brought each sample, not after its place; and each number that is passed over was given up by
-/// then, by a GAP or an accepted HEARTBEAT of the match. Of a writer that the reader isn't matched
-/// with, no sample is presented.
+/// Whatever datagrams come, and whatever the catalog makes of them: in the match of a reliable reader
+/// and a writer the sequence numbers of the samples rise strictly; a DATA of the match, or DATA_FRAGs
+/// with all its fragments, brought each sample, not after its place; and each number that is passed
+/// over was given up by then, by a GAP or an accepted HEARTBEAT of the match. Of a writer that the
+/// reader isn't matched with, no sample is presented.
 pub fn presented<M>()
     ensures matched { (decoding : Decoding M) (config : Config) (datagrams : List (List ℕ))
         (rank : ℕ) (writer : Guid)

@@ -14,7 +14,7 @@ pub returns : goal.returns
 returns g c =
     let a = c.self.inside in
     let p = a.parts in
-    let end : c.min.result ≡ min c.args.last (last_of a.sizes) = omega (arith, c.min.ensures, c.last.ensures) in
+    let end : c.min-end.result ≡ min c.args.last (last_of a.sizes) = omega (arith, c.min-end.ensures, c.last.ensures) in
     let same : missing_by (holds p) (min c.args.last (last_of a.sizes)) ≡ missing_by (has (there_in a.sizes p)) (min c.args.last (last_of a.sizes)) =
     missing_same (holds p) (has (there_in a.sizes p)) (min c.args.last (last_of a.sizes)) (λ k one le. sym (has_is a.sizes p.next p.front.items p.early.entries c.self.invariant k one (omega (arith, le))))
     in

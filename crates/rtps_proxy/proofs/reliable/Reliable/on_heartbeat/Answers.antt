@@ -1,5 +1,6 @@
-use Rattle.std.proofs.Common.{◌≡◌, ◌++◌, ◌&&◌, ◌||◌, not, Bool, subst, refl, sym, ap, ◌∙◌, ◌∷◌, true, false, max, map, is_some, rules}
+use Rattle.std.proofs.Common.{◌≡◌, ◌++◌, ◌&&◌, ◌||◌, not, Bool, ℕ, leb, ltb, subst, refl, sym, ap, ◌∙◌, ◌∷◌, true, false, max, map, is_some, rules}
 use Rattle.std.specs.Prelude.{int_lt}
+use Rattle.std.specs.List.{filter}
 use Rattle.std.proofs.lemmas.Int.{to_z-of_z}
 use mir.Syntax.{w32}
 use mir.Val.{to_z, of_z}
@@ -15,7 +16,8 @@ use Rattle.rtps_types.specs.Numbers.{lacks}
 use Rattle.rtps_proxy.specs.Received.{in_order, lost}
 use Rattle.rtps_proxy.specs.Runs.{marks}
 use Rattle.rtps_proxy.proofs.Apart.{apart_from}
-use Rattle.rtps_proxy.proofs.Standing.{Shows, lost_nothing, none_ready, same_held, split_held, split_ready}
+use Rattle.rtps_proxy.proofs.Seats.{standing_same, standing_then}
+use Rattle.rtps_proxy.proofs.Standing.{or_true, Shows, lost_nothing, none_ready, same_held, split_held, split_ready}
 use Rattle.rtps_proxy.proofs.Beats.{announced_is, answered_is, beat_at, beat_lost, beat_shows, count_is, newer, refused_announced, refused_answer, refused_answers, refused_counts, has_greatest, refused_first, refused_settled, reply_is}
 use Rattle.rtps_proxy.proofs.reliable.Reliable.on_heartbeat.Goals as goal
 
@@ -35,6 +37,8 @@ returns-then-not-is_accepted g c = λ time past at.
         announced = at.announced ∙ sym (refused_announced past time h refused);
         settled = λ n. same n ∙ at.settled n;
         held = at.held ∙ ap in_order (sym (same_held past event same refl));
+        pending = at.pending ∙ sym (standing_same past event refl same);
+        sound = at.sound;
         answers = rw (refused_answers past time h refused) at.answers;
       };
       lost = c.none.ensures.lost ∙ sym (lost_nothing past event (refused_first past time h refused));
@@ -56,6 +60,7 @@ returns g c = λ time past at.
     let before : Shows past old.frontier old.runs = record { settled = at.settled; apart = apart_from old.frontier old.runs old.apart } in
     let adds = rw c.get-first.ensures.value at c.in_ok-add.ensures.ok in
     let after = beat_shows past time h accepted old.frontier new.frontier old.runs new.runs before adds (apart_from new.frontier new.runs new.apart) in
+    let keeps : (n : ℕ) → marks old.frontier old.runs n ≡ true → marks new.frontier new.runs n ≡ true = (λ n m. adds n ∙ ap (λ d. (leb 0 n && ltb n (value_of b.first)) || d) m ∙ or_true (leb 0 n && ltb n (value_of b.first))) in
     let announced : c.max-self.result ≡ announced_of (event ∷ past) = c.max-self.ensures ∙ ap (λ n. max n b.last) at.announced ∙ sym (announced_is past time h accepted) in
     let asks : Bool = not b.final_flag || (not b.liveliness && lacks (marks new.frontier new.runs) c.max-self.result) in
     let due : is_answered past event ≡ asks = answered_is past time h accepted new.frontier c.max-self.result new.runs after.0 announced in
@@ -69,6 +74,8 @@ returns g c = λ time past at.
         announced = announced;
         settled = after.0.settled;
         held = c.in_ok-release.ensures.left ∙ split_held past event old.frontier new.frontier old.runs new.runs waiting before after.0 after.1 refl at.held;
+        pending = c.give_up.ensures.left ∙ ap (filter (λ b. not (marks new.frontier new.runs b.number))) at.pending ∙ standing_then past event old.frontier new.frontier old.runs new.runs before after.0 refl keeps;
+        sound = c.give_up.ensures.sound at.sound;
         answers = count_is past event asks c.args.self.now.answers due at.answers;
       });
       lost = lost_is;

@@ -1,4 +1,5 @@
-use Rattle.std.proofs.Common.{◌≡◌, ◌++◌, ◌<◌, ◌≤◌, ap, map, refl, sym, ◌∙◌, [], ◌∷◌, false, length, rules, List}
+use Rattle.std.proofs.Common.{◌≡◌, ℕ, ◌+◌, ◌++◌, ◌&&◌, ◌||◌, ◌<◌, ◌≤◌, leb, ltb, not, ap, map, refl, sym, ◌∙◌, [], ◌∷◌, false, length, rules, List, true}
+use Rattle.std.specs.List.{filter}
 use Rattle.std.proofs.lemmas.List.{length-map}
 use Rattle.rtps_receiver.specs.Brought.{Change}
 use Rattle.rtps_receiver.specs.Views.{whole_view}
@@ -8,8 +9,10 @@ use Rattle.rtps_proxy.specs.History.{Came, Sample, sample_of}
 use Rattle.rtps_proxy.specs.Received.{held, in_order, put}
 use Rattle.rtps_proxy.proofs.Apart.{apart_from}
 use Rattle.rtps_proxy.proofs.Ordering.{in_order_rises}
-use Rattle.rtps_proxy.proofs.Standing.{Shows, lost_nothing, none_ready, same_held}
-use Rattle.rtps_proxy.proofs.Taking.{Takes, change_at, held_at_once, held_then, left_received, left_settled, none_yet, ready_at_once, taken_shows, takes, takes_is}
+use Rattle.rtps_proxy.proofs.Seats.{standing_same, standing_then}
+use Rattle.rtps_proxy.specs.Runs.{marks}
+use Rattle.rtps_proxy.proofs.Standing.{or_true, Shows, lost_nothing, none_ready, same_held}
+use Rattle.rtps_proxy.proofs.Taking.{Takes, change_at, held_at_once, held_then, left_received, left_settled, none_yet, not_and, ready_at_once, taken_received, taken_shows, takes, takes_is}
 use Rattle.rtps_proxy.proofs.reliable.Reliable.on_whole.Goals as goal
 
 pub returns-in_default : goal.returns-in_default
@@ -30,6 +33,8 @@ returns-in_default g c = λ whom past at.
         announced = at.announced;
         settled = λ m. same m ∙ at.settled m;
         held = at.held ∙ ap in_order (sym (same_held past event same (left_received past c.args.time change left)));
+        pending = at.pending ∙ sym (standing_same past event refl same);
+        sound = at.sound;
         answers = at.answers;
       };
       lost = c.none.ensures.lost ∙ sym (lost_nothing past event refl);
@@ -47,13 +52,18 @@ returns-then-number-self g c = λ whom past at.
     let waiting = map change_view c.args.self.now.held.items in
     let before : Shows past old.frontier old.runs = record { settled = at.settled; apart = apart_from old.frontier old.runs old.apart } in
     let counted : length c.args.self.now.held.items ≡ length waiting = rw (length-map c.args.self.now.held.items change_view) (search rules) in
-    let takes_it : Takes past c.args.time change old.frontier new.frontier old.runs new.runs waiting = record {
+    let taken : takes past change.number ≡ true = takes_is past change.number old.frontier old.runs (length c.args.self.now.held.items) waiting before at.held counted ∙ rw c.get-number.ensures.value at (sym c.in-Some.ensures.taken) in
+    let takes_it : Takes past event (sample_of c.args.time change) old.frontier new.frontier old.runs new.runs waiting = record {
       before = before;
-      taken = takes_is past change.number old.frontier old.runs (length c.args.self.now.held.items) waiting before at.held counted ∙ rw c.get-number.ensures.value at (sym c.in-Some.ensures.taken);
+      got = taken_received past c.args.time change taken;
+      first = refl;
+      named = λ m. refl;
+      new = not_and _ _ taken;
       adds = rw c.get-number.ensures.value at c.in_ok-add_at.ensures.ok;
       apart = apart_from new.frontier new.runs new.apart;
       waits = at.held;
     } in
+    let keeps : (n : ℕ) → marks old.frontier old.runs n ≡ true → marks new.frontier new.runs n ≡ true = (λ n m. takes_it.adds n ∙ ap (λ d. (leb change.number n && ltb n (change.number + 1)) || d) m ∙ or_true (leb change.number n && ltb n (change.number + 1))) in
     let behind : new.frontier ≤ change.number = rw c.get-number.ensures.value at c.if-number-self.true in
     let rising : IsRising waiting = rw at.held (in_order_rises (held past)) in
     let put_in : map change_view c.hold.new.held.items ≡ put (sample_of c.args.time change) waiting = c.in_ok-hold.ensures rising ∙ ap (λ (s : Sample). put s waiting) c.in_ok-kept.ensures in
@@ -62,12 +72,14 @@ returns-then-number-self g c = λ whom past at.
         counts = at.counts;
         begun = at.begun;
         announced = at.announced;
-        settled = (taken_shows past c.args.time change old.frontier new.frontier old.runs new.runs waiting takes_it).settled;
-        held = put_in ∙ held_then past c.args.time change old.frontier new.frontier old.runs new.runs waiting takes_it behind;
+        settled = (taken_shows past event (sample_of c.args.time change) old.frontier new.frontier old.runs new.runs waiting takes_it).settled;
+        held = put_in ∙ held_then past event (sample_of c.args.time change) old.frontier new.frontier old.runs new.runs waiting takes_it behind;
+        pending = c.give_up.ensures.left ∙ ap (filter (λ b. not (marks new.frontier new.runs b.number))) at.pending ∙ standing_then past event old.frontier new.frontier old.runs new.runs before (taken_shows past event (sample_of c.args.time change) old.frontier new.frontier old.runs new.runs waiting takes_it) refl keeps;
+        sound = c.give_up.ensures.sound at.sound;
         answers = at.answers;
       };
       lost = c.none-then-number-self.ensures.lost ∙ sym (lost_nothing past event refl);
-      ready = ap (map change_view) c.none-then-number-self.ensures.ready ∙ sym (none_yet past c.args.time change old.frontier new.frontier old.runs new.runs waiting takes_it behind);
+      ready = ap (map change_view) c.none-then-number-self.ensures.ready ∙ sym (none_yet past event (sample_of c.args.time change) old.frontier new.frontier old.runs new.runs waiting takes_it behind);
       answer = rw c.none-then-number-self.ensures.answer refl;
     }
 
@@ -81,13 +93,18 @@ returns g c = λ whom past at.
     let waiting = map change_view c.args.self.now.held.items in
     let before : Shows past old.frontier old.runs = record { settled = at.settled; apart = apart_from old.frontier old.runs old.apart } in
     let counted : length c.args.self.now.held.items ≡ length waiting = rw (length-map c.args.self.now.held.items change_view) (search rules) in
-    let takes_it : Takes past c.args.time change old.frontier new.frontier old.runs new.runs waiting = record {
+    let taken : takes past change.number ≡ true = takes_is past change.number old.frontier old.runs (length c.args.self.now.held.items) waiting before at.held counted ∙ rw c.get-number.ensures.value at (sym c.in-Some.ensures.taken) in
+    let takes_it : Takes past event (sample_of c.args.time change) old.frontier new.frontier old.runs new.runs waiting = record {
       before = before;
-      taken = takes_is past change.number old.frontier old.runs (length c.args.self.now.held.items) waiting before at.held counted ∙ rw c.get-number.ensures.value at (sym c.in-Some.ensures.taken);
+      got = taken_received past c.args.time change taken;
+      first = refl;
+      named = λ m. refl;
+      new = not_and _ _ taken;
       adds = rw c.get-number.ensures.value at c.in_ok-add_at.ensures.ok;
       apart = apart_from new.frontier new.runs new.apart;
       waits = at.held;
     } in
+    let keeps : (n : ℕ) → marks old.frontier old.runs n ≡ true → marks new.frontier new.runs n ≡ true = (λ n m. takes_it.adds n ∙ ap (λ d. (leb change.number n && ltb n (change.number + 1)) || d) m ∙ or_true (leb change.number n && ltb n (change.number + 1))) in
     let below : change.number < new.frontier = rw c.get-number.ensures.value at c.if-number-self.false in
     let first : map change_view c.push.new.self.items ≡ sample_of c.args.time change ∷ [] = rw (c.in_ok-push.ensures.items, c.new-ready.ensures.items, c.lent.ensures) refl in
     record {
@@ -95,11 +112,13 @@ returns g c = λ whom past at.
         counts = at.counts;
         begun = at.begun;
         announced = at.announced;
-        settled = (taken_shows past c.args.time change old.frontier new.frontier old.runs new.runs waiting takes_it).settled;
-        held = c.in_ok-release.ensures.left ∙ held_at_once past c.args.time change old.frontier new.frontier old.runs new.runs waiting takes_it below;
+        settled = (taken_shows past event (sample_of c.args.time change) old.frontier new.frontier old.runs new.runs waiting takes_it).settled;
+        held = c.in_ok-release.ensures.left ∙ held_at_once past event (sample_of c.args.time change) old.frontier new.frontier old.runs new.runs waiting takes_it below;
+        pending = c.give_up.ensures.left ∙ ap (filter (λ b. not (marks new.frontier new.runs b.number))) at.pending ∙ standing_then past event old.frontier new.frontier old.runs new.runs before (taken_shows past event (sample_of c.args.time change) old.frontier new.frontier old.runs new.runs waiting takes_it) refl keeps;
+        sound = c.give_up.ensures.sound at.sound;
         answers = at.answers;
       };
       lost = c.only_ready.ensures.lost ∙ sym (lost_nothing past event refl);
-      ready = ap (map change_view) c.only_ready.ensures.ready ∙ c.in_ok-release.ensures.taken ∙ ap (λ (ss : List Sample). ss ++ front_below new.frontier waiting) first ∙ ready_at_once past c.args.time change old.frontier new.frontier old.runs new.runs waiting takes_it below;
+      ready = ap (map change_view) c.only_ready.ensures.ready ∙ c.in_ok-release.ensures.taken ∙ ap (λ (ss : List Sample). ss ++ front_below new.frontier waiting) first ∙ ready_at_once past event (sample_of c.args.time change) old.frontier new.frontier old.runs new.runs waiting takes_it below;
       answer = rw c.only_ready.ensures.answer refl;
     }

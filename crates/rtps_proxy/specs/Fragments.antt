@@ -1,0 +1,70 @@
+-- Samples of a match that come in fragments (DDSI-RTPS 8.3.7.3, 8.4.14.1).
+use Rattle.std.specs.Prelude.{ℕ, Bool, true, not, ◌&&◌, ◌==◌, nat_lt, List, [], ◌∷◌, length, Option, Some, None, is_some, if◌then◌else◌}
+use Rattle.std.specs.List.{list_any}
+use Rattle.rtps_types.specs.declared.time.Timestamp.{Timestamp}
+use Rattle.rtps_wire.specs.declared.data.ChangeInfo.{ChangeInfo}
+use Rattle.rtps_receiver.specs.Brought.{Fragments}
+use Rattle.rtps_frags.specs.declared.sizes.Sizes.{Sizes}
+use Rattle.rtps_frags.specs.Fragments.{There, fault_of, is_whole, payload_of, with_fragments}
+use Rattle.rtps_proxy.specs.History.{Sample}
+
+-- a sample of which fragments were taken: what the first DATA_FRAG of it that was taken told, and the fragments that are there
+pub record Begun : Type 0 where
+  pub number : ℕ
+  pub time : Option Timestamp
+  pub info : ChangeInfo
+  pub sizes : Sizes
+  pub there : There
+
+abbrev pub sizes_of : Fragments → Sizes
+sizes_of f = record { sample = f.sample; fragment = f.size }
+
+abbrev pub is_faulty : Fragments → Bool
+is_faulty f = is_some (fault_of (sizes_of f) f.start f.count (length f.payload))
+
+-- with the fragments that a DATA_FRAG brings: those that are there stay
+abbrev pub grown : Begun → Fragments → Begun
+grown b f = record { number = b.number; time = b.time; info = b.info; sizes = b.sizes; there = with_fragments b.sizes f.start f.payload b.there f.start f.count }
+
+-- a sample of which nothing came yet, as a DATA_FRAG begins it
+abbrev pub opened : Option Timestamp → Fragments → Begun
+opened time f = record { number = f.number; time = time; info = f.info; sizes = sizes_of f; there = [] }
+
+-- the sample of a number
+abbrev pub begun_at : ℕ → List Begun → Option Begun
+begun_at n [] = None
+begun_at n (b ∷ bs) = if b.number == n then Some b else begun_at n bs
+
+abbrev pub is_begun : List Begun → ℕ → Bool
+is_begun bs n = list_any (λ b. b.number == n) bs
+
+-- by rising number, with what a DATA_FRAG brings
+abbrev pub with_fragments_of : Option Timestamp → Fragments → List Begun → List Begun
+with_fragments_of time f [] = grown (opened time f) f ∷ []
+with_fragments_of time f (b ∷ bs) =
+    if nat_lt b.number f.number then b ∷ with_fragments_of time f bs
+    else if b.number == f.number then grown b f ∷ bs
+    else grown (opened time f) f ∷ b ∷ bs
+
+-- the sizes are those that the first DATA_FRAG of the number told
+abbrev pub is_cut_so : Sizes → Sizes → Bool
+is_cut_so y z = y.sample == z.sample && y.fragment == z.fragment
+
+abbrev pub fits_in : Option Begun → Fragments → Bool
+fits_in None f = true
+fits_in (Some b) f = is_cut_so b.sizes (sizes_of f)
+
+-- a DATA_FRAG fits where it has no fault and the sizes that were told before
+abbrev pub fits : List Begun → Fragments → Bool
+fits bs f = not (is_faulty f) && fits_in (begun_at f.number bs) f
+
+abbrev pub sample_in : Begun → Sample
+sample_in b = record { number = b.number; time = b.time; info = b.info; payload = payload_of b.there }
+
+-- the sample of a number, where each of its fragments is there
+abbrev pub whole_of : Option Begun → List Sample
+whole_of None = []
+whole_of (Some b) = if is_whole b.sizes b.there then sample_in b ∷ [] else []
+
+abbrev pub whole_at : ℕ → List Begun → List Sample
+whole_at n bs = whole_of (begun_at n bs)

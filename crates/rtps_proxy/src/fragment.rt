@@ -1,0 +1,74 @@
+//! Fragments of a change, for a reliable reader (DDSI-RTPS 8.3.7.3, 8.4.14.1).
+
+ghost use Rattle.std.specs.Prelude.{◌≡◌, ◌≤◌, ◌^◌, IfSome, is_some};
+ghost use Rattle.rtps_types.specs.Number.{value_of};
+ghost use Rattle.rtps_receiver.specs.declared.body.Body.TheVariants as body;
+ghost use Rattle.rtps_receiver.specs.Views.{fragment_view};
+ghost use Rattle.rtps_proxy.specs.Effects.{came};
+ghost use Rattle.rtps_proxy.specs.Kept.{Whom, awaited, takes_by};
+ghost use Rattle.rtps_proxy.specs.Pending.{pending_views, place_in};
+ghost use Rattle.rtps_proxy.specs.Runs.{IsPlaceOf};
+ghost use Rattle.rtps_proxy.specs.Steps.{ReliableTakes};
+
+use crate::effects::{Effects, ProxyError};
+use crate::held::{hold, release};
+use crate::pending::{fits, give_up, is_there, place_of, put, take_whole};
+use crate::reliable::Reliable;
+use rtps_receiver::Fragment;
+use rtps_types::Timestamp;
+use std::alloc::Allocator;
+
+/// How many samples may be put together at a time, besides the one of the frontier.
+const SEATS: usize = 64;
+
+impl<A: Allocator + Copy> Reliable<A> {
+    /// The place among the runs of a DATA_FRAG's number, if it is taken: it fits, the change would be
+    /// taken, and its fragments are there, or it is the least number that isn't settled, or there is a
+    /// seat.
+    fn place_for_fragments(&self, at: usize, fragment: &Fragment<'_>) -> Option<usize>
+        requires { at ≡ place_in (value_of fragment.now.number)
+            (pending_views self.now.pending.items) }
+        ensures taken { is_some result
+            ≡ takes_by (awaited self.now) (fragment_view fragment.now) }
+        ensures place { IfSome result (λ place.
+            IsPlaceOf (value_of fragment.now.number) place self.now.settled.runs) }
+    {
+        let number = fragment.number.get();
+        let pending = self.pending.as_slice();
+        let is_next = number <= self.settled.frontier;
+        if !is_there(pending, at, number) && !is_next && pending.len() >= SEATS {
+            return None;
+        }
+        if !fits(pending, at, fragment) {
+            return None;
+        }
+        self.place_for(number)
+    }
+
+    /// Takes in fragments of a change. One that is whole then is received.
+    pub fn on_fragment<'a>(
+        &mut self,
+        alloc: A,
+        time: Option<Timestamp>,
+        fragment: &Fragment<'a>,
+    ) -> Result<Effects<'a, A>, ProxyError>
+        ensures { (whom : Whom) → ReliableTakes whom (awaited self.old) (awaited self.new)
+            (came time (body.Fragment fragment.now)) result }
+    {
+        let number = fragment.number.get();
+        let at = place_of(self.pending.as_slice(), number);
+        let Some(place) = self.place_for_fragments(at, fragment) else {
+            return Ok(Effects::none(alloc));
+        };
+        put(&mut self.pending, alloc, time, at, fragment)?;
+        let Some(change) = take_whole(&mut self.pending, at, number) else {
+            return Ok(Effects::none(alloc));
+        };
+        self.settled.add_at(place, number, number + 1)?;
+        give_up(&mut self.pending, &self.settled);
+        hold(&mut self.held, change)?;
+        let mut ready = Vec::new(alloc);
+        release(&mut self.held, self.settled.frontier, &mut ready)?;
+        Ok(Effects::only_ready(ready))
+    }
+}
