@@ -21,7 +21,8 @@ fn durability_met(offered: Durability, requested: Durability) -> bool
     offered >= requested
 }
 
-/// Whether the scope is as wide, and whether access is coherent and ordered where that is asked for.
+/// Whether the scope is as wide, and whether access is coherent and ordered where that is asked
+/// for.
 fn presentation_met(offered: Presentation, requested: Presentation) -> bool
     ensures { result ≡ compatible.presentation_met offered requested }
 {
@@ -115,8 +116,8 @@ pub fn first_fault<A: Allocator, B: Allocator>(
     first_unmet(&policies_met(&offered.policies, &requested.policies))
 }
 
-/// Whether a partition is in both, byte for byte; with no name at all, the partition of the empty name
-/// is meant (DDS 1.4, 2.2.3.13). No memory is taken.
+/// Whether a partition is in both, byte for byte; with no name at all, the partition of the empty
+/// name is meant (DDS 1.4, 2.2.3.13). No memory is taken.
 pub fn share_partition<A: Allocator, B: Allocator>(
     offered: &Offered<A>,
     requested: &Requested<B>,

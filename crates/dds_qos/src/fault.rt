@@ -6,8 +6,9 @@ ghost use Rattle.dds_qos.specs.declared.fault.QosFault.TheVariants as faults;
 use std::alloc::AllocError;
 use thiserror::Error;
 
-/// A parameter of a record has a value that is too short, a kind out of its range, a truth value that is
-/// neither 0 nor 1, or a text that can't be read; whether it is used, or comes again later, is no matter.
+/// A parameter of a record has a value that is too short, a kind out of its range, a truth value
+/// that is neither 0 nor 1, or a text that can't be read; whether it is used, or comes again later,
+/// is no matter.
 #[derive(Clone, Copy, Debug, PartialEq, Eq, Error)]
 #[error("a parameter of the record is malformed")]
 pub struct Malformed;

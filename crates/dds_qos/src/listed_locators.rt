@@ -13,8 +13,8 @@ use rtps_types::{Endian, Locator};
 use std::marker::Model;
 
 /// The locators of all parameters of one id, in the order in which they were given. Only those are
-/// listed that are of UDP over IPv4 and have a port (DDSI-RTPS 9.3.2.4). They lie where the octets lie,
-/// so no memory is taken.
+/// listed that are of UDP over IPv4 and have a port (DDSI-RTPS 9.3.2.4). They lie where the octets
+/// lie, so no memory is taken.
 #[derive(Drop)]
 pub struct ListedLocators<'a> {
     params: Params<'a>,

@@ -6,9 +6,9 @@ ghost use Rattle.std.specs.String.{string_bytes};
 use std::alloc::{Allocator, Global};
 use std::marker::Model;
 
-/// The names of partitions, in the order in which they were given; with no name at all, the partition
-/// of the empty name is meant. Contracts see the octets of each name alone, whatever room its memory
-/// has.
+/// The names of partitions, in the order in which they were given; with no name at all, the
+/// partition of the empty name is meant. Contracts see the octets of each name alone, whatever room
+/// its memory has.
 #[derive(Debug, Drop)]
 pub struct Partitions<A: Allocator = Global> {
     names: Vec<String<A>, A>,

@@ -1,5 +1,5 @@
-//! The policies that a match of a writer and a reader depends on (DDS 1.4, section 2.2.3). The number
-//! of a variant is the one that stands for it in discovery's messages (DDSI-RTPS 9.6.3).
+//! The policies that a match of a writer and a reader depends on (DDS 1.4, section 2.2.3). The
+//! number of a variant is the one that stands for it in discovery's messages (DDSI-RTPS 9.6.3).
 
 use rtps_types::Duration;
 

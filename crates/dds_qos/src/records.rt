@@ -82,8 +82,8 @@ impl<A: Allocator> Offered<A> {
     }
 }
 
-/// What the record of a writer offers, a copy of its own (DDSI-RTPS 9.6.3). `Malformed` where a parameter
-/// of the record is, whether an offer uses it or not.
+/// What the record of a writer offers, a copy of its own (DDSI-RTPS 9.6.3). `Malformed` where a
+/// parameter of the record is, whether an offer uses it or not.
 pub fn offered_from<A: Allocator + Copy>(
     alloc: A,
     list: &ParamList<'_>,

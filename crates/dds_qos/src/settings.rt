@@ -22,9 +22,9 @@ use rtps_params::ids::{
 use rtps_params::{Param, ParamList};
 use rtps_types::{Duration, Endian, Guid};
 
-/// What a discovery record says (DDSI-RTPS 8.5.3, 8.5.4, 9.6.3): of a parameter that comes again the
-/// last, of locators all. Texts and locators stay where the record's octets lie, so that only what is
-/// kept of a record is copied.
+/// What a discovery record says (DDSI-RTPS 8.5.3, 8.5.4, 9.6.3): of a parameter that comes again
+/// the last, of locators all. Texts and locators stay where the record's octets lie, so that only
+/// what is kept of a record is copied.
 #[derive(Drop)]
 pub struct Settings<'a> {
     /// How long the participant may keep silent.
@@ -48,9 +48,9 @@ pub struct Settings<'a> {
 }
 
 /// The guid that the last parameter of an id names, which is `PID_PARTICIPANT_GUID` or
-/// `PID_ENDPOINT_GUID`; `None` where there is no such parameter. It is `Malformed` where one of them has fewer
-/// than sixteen octets; nothing else of the list is judged, since what ends is named by its guid alone
-/// (DDSI-RTPS 8.5.3.3, 8.5.4.4).
+/// `PID_ENDPOINT_GUID`; `None` where there is no such parameter. It is `Malformed` where one of
+/// them has fewer than sixteen octets; nothing else of the list is judged, since what ends is named
+/// by its guid alone (DDSI-RTPS 8.5.3.3, 8.5.4.4).
 pub fn guid_named(list: &ParamList<'_>, id: u16) -> Result<Option<Guid>, Malformed>
     ensures { named result ≡ settings.guid_named id list.now }
 {

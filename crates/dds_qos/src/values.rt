@@ -1,5 +1,5 @@
-//! The values of parameters, each read from its first octet on (DDSI-RTPS 9.3, 9.6.3). `None` is a value
-//! that is too short or has a part that is out of its range; octets after it are ignored.
+//! The values of parameters, each read from its first octet on (DDSI-RTPS 9.3, 9.6.3). `None` is a
+//! value that is too short or has a part that is out of its range; octets after it are ignored.
 
 ghost use Rattle.std.specs.Prelude.{◌≡◌};
 ghost use Rattle.dds_qos.specs.Values as values;

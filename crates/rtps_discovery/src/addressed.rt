@@ -33,8 +33,8 @@ pub fn is_discovery(writer: EntityId) -> bool
 }
 
 /// Whether an event with this reader id is for our reader with this entity: the reader id is its
-/// entity, or it is [`ENTITYID_UNKNOWN`]. Whether the reader is matched with the event's writer is for
-/// the caller to look up.
+/// entity, or it is [`ENTITYID_UNKNOWN`]. Whether the reader is matched with the event's writer is
+/// for the caller to look up.
 pub fn is_for(reader: EntityId, entity: EntityId) -> bool
     ensures { result ≡ is_for reader entity }
 {

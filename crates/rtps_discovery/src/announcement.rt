@@ -37,7 +37,8 @@ pub(crate) struct Facts<'a> {
     pub(crate) announces_readers: bool,
 }
 
-/// What a writer offers, or a reader asks for. Texts and locators lie where the octets of its record lie.
+/// What a writer offers, or a reader asks for. Texts and locators lie where the octets of its
+/// record lie.
 #[derive(Drop)]
 pub(crate) struct Offer<'a> {
     pub(crate) topic: &'a str,
@@ -128,8 +129,8 @@ fn prefix_of(source: GuidPrefix, named: Option<Guid>) -> GuidPrefix
     }
 }
 
-/// What a change of the participants' announcer announces (DDSI-RTPS 8.5.3): a participant speaks of itself
-/// alone, and never for us, `own`.
+/// What a change of the participants' announcer announces (DDSI-RTPS 8.5.3): a participant speaks
+/// of itself alone, and never for us, `own`.
 pub(crate) fn participant_said<'a>(
     own: GuidPrefix,
     source: GuidPrefix,
@@ -155,7 +156,8 @@ pub(crate) fn participant_said<'a>(
     }
 }
 
-/// The endpoint that is named, if it is one of the participant that sends and of a kind that users have.
+/// The endpoint that is named, if it is one of the participant that sends and of a kind that users
+/// have.
 fn writer_of(source: GuidPrefix, named: Option<Guid>) -> Option<Guid>
     ensures { result ≡ announcement.endpoint_of source config.is_writer named }
 {
@@ -171,8 +173,9 @@ fn reader_of(source: GuidPrefix, named: Option<Guid>) -> Option<Guid>
     (guid.prefix == source && is_reader(guid.entity)).then_some(guid)
 }
 
-/// What a change of the writers' announcer announces (DDSI-RTPS 8.5.4): a writer of the participant that
-/// sends, named by its record, else by the key hash. A record without topic or type announces nothing.
+/// What a change of the writers' announcer announces (DDSI-RTPS 8.5.4): a writer of the participant
+/// that sends, named by its record, else by the key hash. A record without topic or type announces
+/// nothing.
 pub(crate) fn writer_said<'a>(
     source: GuidPrefix,
     hash: Option<KeyHash>,
@@ -194,7 +197,8 @@ pub(crate) fn writer_said<'a>(
     }
 }
 
-/// What a change of the readers' announcer announces (DDSI-RTPS 8.5.4), as [`writer_said`] of a writer.
+/// What a change of the readers' announcer announces (DDSI-RTPS 8.5.4), as [`writer_said`] of a
+/// writer.
 pub(crate) fn reader_said<'a>(
     source: GuidPrefix,
     hash: Option<KeyHash>,

@@ -15,8 +15,8 @@ pub enum ConfigFault {
     /// There is no reader, or there are more than 256.
     #[error("there is no reader, or there are more than 256")]
     Readers,
-    /// A reader whose kind, the last octet of its entity, is neither 04 nor 07 (DDSI-RTPS 9.3.1.2), an
-    /// entity that stands twice, or a reader that doesn't share ownership.
+    /// A reader whose kind, the last octet of its entity, is neither 04 nor 07 (DDSI-RTPS 9.3.1.2),
+    /// an entity that stands twice, or a reader that doesn't share ownership.
     #[error("a reader isn't taken")]
     BadReader,
     /// A fixed match with a rank that no reader has, with a writer whose kind is neither 02 nor 03

@@ -4,8 +4,8 @@ ghost use Rattle.rtps_discovery.specs.Addressed.{AddressedIsTested};
 ghost use Rattle.rtps_discovery.specs.Config.{TakenIsFaultless};
 ghost use Rattle.rtps_discovery.specs.Differences.{ChangesAreDifferences};
 
-/// An event goes to a reader exactly where the test says so, whichever writers the reader is matched
-/// with.
+/// An event goes to a reader exactly where the test says so, whichever writers the reader is
+/// matched with.
 pub fn addressed_is_tested()
     ensures { AddressedIsTested }
 {}
@@ -15,9 +15,9 @@ pub fn taken_is_faultless()
     ensures { TakenIsFaultless }
 {}
 
-/// Whatever is known before and after: a match begins at exactly the pairs of a reader and a writer that
-/// are matched after and weren't before, and ends at those that were matched before and aren't after; a
-/// refusal is told exactly where it is new or of another policy.
+/// Whatever is known before and after: a match begins at exactly the pairs of a reader and a writer
+/// that are matched after and weren't before, and ends at those that were matched before and aren't
+/// after; a refusal is told exactly where it is new or of another policy.
 pub fn changes_are_differences()
     ensures { ChangesAreDifferences }
 {}

@@ -1,4 +1,5 @@
-//! Discovery: what an application asks of it, and whom an event of a datagram is for (DDSI-RTPS 8.5).
+//! Discovery: what an application asks of it, and whom an event of a datagram is for (DDSI-RTPS
+//! 8.5).
 #![tactic(auto)]
 
 mod addressed;

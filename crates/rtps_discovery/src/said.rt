@@ -48,8 +48,8 @@ fn record_in(payload: &[u8]) -> Option<Said<'_>>
     }
 }
 
-/// A payload as what names an end, by the parameter of this id; `None` where it is no list, or the guid is
-/// too short.
+/// A payload as what names an end, by the parameter of this id; `None` where it is no list, or the
+/// guid is too short.
 fn end_in(id: u16, payload: &[u8]) -> Option<Said<'_>>
     ensures { option_map said_seen result ≡ said.end_in id payload.now }
 {
@@ -68,8 +68,8 @@ fn is_end(status: u8) -> bool
     status % 4 != 0
 }
 
-/// What a change of an announcer says; `None` where it says nothing. `id` is the parameter that names
-/// what an end is of.
+/// What a change of an announcer says; `None` where it says nothing. `id` is the parameter that
+/// names what an end is of.
 #[tactic(auto, unfolding(crate::specs::Said::said_in))]
 pub(crate) fn said_in(id: u16, info: ChangeInfo, payload: &[u8]) -> Option<Said<'_>>
     ensures { option_map said_seen result ≡ said.said_in id info payload.now }

@@ -14,8 +14,9 @@ use std::collections::BTreeMap;
 use std::collections::btree_map::Keys;
 use std::marker::Model;
 
-/// The matches of a reader, each with the proxy of its writer (DDSI-RTPS 8.4.10, `matched_writers`).
-/// They are found by their writers: beginning and ending one, and giving one an event, takes one search.
+/// The matches of a reader, each with the proxy of its writer (DDSI-RTPS 8.4.10,
+/// `matched_writers`). They are found by their writers: beginning and ending one, and giving one an
+/// event, takes one search.
 #[derive(Drop)]
 pub struct Matches<A: Allocator = Global> {
     proxies: BTreeMap<Guid, WriterProxy<A>, A>,
@@ -55,8 +56,8 @@ impl<A: Allocator + Copy> Matches<A> {
         self.proxies.keys()
     }
 
-    /// Begins a match with the writer of `config`, to which nothing came yet. It takes the place of the
-    /// match that there was with that writer. A refused growth leaves the matches as they were.
+    /// Begins a match with the writer of `config`, to which nothing came yet. It takes the place of
+    /// the match that there was with that writer. A refused growth leaves the matches as they were.
     pub fn begin(&mut self, alloc: A, config: ProxyConfig<A>) -> Result<(), ProxyError>
         ensures stands { (ms : List Match) → AllStand ms self.old
             → OnOk result (AllStand (begun (fresh (whom config)) ms) self.new) }
@@ -70,15 +71,17 @@ impl<A: Allocator + Copy> Matches<A> {
         }
     }
 
-    /// Ends the match with a writer, if there is one: what came for it is forgotten. No memory is taken.
+    /// Ends the match with a writer, if there is one: what came for it is forgotten. No memory is
+    /// taken.
     pub fn end(&mut self, writer: Guid)
         ensures { (ms : List Match) → AllStand ms self.old → AllStand (ended writer ms) self.new }
     {
         self.proxies.remove(&writer);
     }
 
-    /// Gives an event to the match with its writer, and what the event gives back; `None` where there is
-    /// no such match. A refused growth leaves the proxy of that writer spent, and the others as they were.
+    /// Gives an event to the match with its writer, and what the event gives back; `None` where
+    /// there is no such match. A refused growth leaves the proxy of that writer spent, and the
+    /// others as they were.
     pub fn on_event<'a>(
         &mut self,
         alloc: A,

@@ -70,7 +70,8 @@ fn each_parameter_at_its_least_length_and_a_word_less(rt: HostRuntime) -> Result
         assert!(rt; is_taken(rt.alloc(), id, value)?);
         assert!(rt; !is_taken(rt.alloc(), id, &value[..value.len() - 4])?);
     }
-    // Of a vendor's parameter, of one that must be understood, and of an unknown one nothing is read.
+    // Of a vendor's parameter, of one that must be understood, and of an unknown one nothing is
+    // read.
     for id in [0x8007, 0x4002, 0x0015] {
         assert!(rt; is_taken(rt.alloc(), id, &[])?);
     }
@@ -114,8 +115,8 @@ fn values_at_both_ends_of_their_range(rt: HostRuntime) -> Result<(), Fail> {
     Ok(())
 }
 
-/// The record of a writer of topic Square and type ShapeType, little-endian, as peers send it: with parameters
-/// of other ids, of vendors too, with padding, and with some that come twice.
+/// The record of a writer of topic Square and type ShapeType, little-endian, as peers send it: with
+/// parameters of other ids, of vendors too, with padding, and with some that come twice.
 const WRITER: &str = "0000040000000000\
     50001000 0a0a0a0a0a0a0a0a0a0a0a0a000001c1\
     5a001000 0a0a0a0a0a0a0a0a0a0a0a0a00000102\
@@ -198,8 +199,8 @@ fn a_record_as_peers_send_it(rt: HostRuntime) -> Result<(), Fail> {
     Ok(())
 }
 
-/// A record in big-endian order: a lease of -1 seconds and a half, 5 s of liveliness, both ends of the
-/// other policies, a set of builtin endpoints, and a locator of each kind.
+/// A record in big-endian order: a lease of -1 seconds and a half, 5 s of liveliness, both ends of
+/// the other policies, a set of builtin endpoints, and a locator of each kind.
 const BIG: &str = "00020008 ffffffff80000000 001b000c 000000020000000500000000\
     001f0004 00000001 00210008 0000000201000000 00250004 00000001 00270008 0000000000000001\
     00580004 00000014 0031001800000001 00001cf5 00000000 00000000 00000000 7f000001\

@@ -12,7 +12,8 @@ const OURS: GuidPrefix = GuidPrefix([11; 12]);
 
 const THEIRS: GuidPrefix = GuidPrefix([10; 12]);
 
-/// A record of participant 0a0a..0a: its guid, ports 7412 and 7413, a lease of 100 s, both announcers.
+/// A record of participant 0a0a..0a: its guid, ports 7412 and 7413, a lease of 100 s, both
+/// announcers.
 const PARTICIPANT: &str = "00030000 50001000 0a0a0a0a0a0a0a0a0a0a0a0a 000001c1 \
     32001800 01000000 f41c0000 00000000 00000000 00000000 7f000001 \
     31001800 01000000 f51c0000 00000000 00000000 00000000 7f000001 \
@@ -23,7 +24,8 @@ const WRITER: &str = "00030000 5a001000 0a0a0a0a0a0a0a0a0a0a0a0a 00000102 \
     05000c00 07000000 53717561 72650000 07001000 0a000000 53686170 65547970 65000000 \
     1a000c00 02000000 00000000 00000000 01000000";
 
-/// The same of a vendor, in big-endian order, of a reader 00000107 that gives locators and no key hash.
+/// The same of a vendor, in big-endian order, of a reader 00000107 that gives locators and no key
+/// hash.
 const READER: &str = "0002ffff 80010004 aaaaaaaa 005a0010 0a0a0a0a0a0a0a0a0a0a0a0a 00000107 \
     0005000c 00000007 53717561 72650000 00070010 0000000a 53686170 65547970 65000000 00010000";
 
@@ -56,7 +58,8 @@ enum Told {
     AsksNoMore(u8),
 }
 
-/// What a change announces, where it comes from 0a0a..0a; of endpoints the last octet of theirs is told.
+/// What a change announces, where it comes from 0a0a..0a; of endpoints the last octet of theirs is
+/// told.
 fn announced(by: By, info: ChangeInfo, payload: &[u8]) -> Told {
     let said = match by {
         By::Participants => said_in(PARTICIPANT_GUID, info, payload),
@@ -84,7 +87,8 @@ fn announced(by: By, info: ChangeInfo, payload: &[u8]) -> Told {
 /// The hash of an entity of another participant.
 const ANOTHER: Option<KeyHash> = Some(KeyHash([9; 16]));
 
-/// A change: whose it is, its form, its status, its key hash and its payload; and what it announces.
+/// A change: whose it is, its form, its status, its key hash and its payload; and what it
+/// announces.
 type Row = (By, Form, u8, Option<KeyHash>, &'static str, Told);
 
 /// Records.
@@ -127,7 +131,8 @@ const RECORDS: [Row; 16] = [
         "00030000 50001000 09090909 09090909 09090909 000001c1 01000000",
         Told::Nothing,
     ),
-    // No topic; no type; no name at all, nor a hash; a name of another participant, with a good hash.
+    // No topic; no type; no name at all, nor a hash; a name of another participant, with a good
+    // hash.
     (
         By::Writers,
         Form::Value,
@@ -147,7 +152,8 @@ const RECORDS: [Row; 16] = [
     (By::Writers, Form::Value, 0, None, BOTH, Told::Nothing),
     (By::Writers, Form::Value, 0, HASH, BOTH, Told::Offers(2)),
     (By::Writers, Form::Value, 0, ANOTHER, BOTH, Told::Nothing),
-    // Another encapsulation; three octets; a list without an end; a bad parameter that no writer has.
+    // Another encapsulation; three octets; a list without an end; a bad parameter that no writer
+    // has.
     (
         By::Participants,
         Form::Value,

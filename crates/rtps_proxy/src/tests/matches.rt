@@ -31,8 +31,8 @@ enum Happens {
     Asking(u8, u64, i32),
 }
 
-/// What comes of it: the change that is ready, and the count of the answer; none where the writer isn't
-/// matched.
+/// What comes of it: the change that is ready, and the count of the answer; none where the writer
+/// isn't matched.
 type Given = Option<(Option<u64>, Option<u8>)>;
 
 /// Gives what happens to the matches; what comes of it, or that memory was refused.
@@ -71,8 +71,8 @@ fn began<A: Allocator + Copy>(
     Ok(None)
 }
 
-/// What an event gives: the first change that is ready, and the count of the answer, which is the first of
-/// its last four octets.
+/// What an event gives: the first change that is ready, and the count of the answer, which is the
+/// first of its last four octets.
 fn given<A: Allocator + Copy>(
     alloc: A,
     matches: &mut Matches<A>,
