@@ -125,18 +125,6 @@ fn meets(
     Ok(true)
 }
 
-#[test]
-fn all_comes_by_place_and_rank_and_notices_before_an_answer(rt: HostRuntime) -> Result<(), Fail> {
-    let statuses = [status(3, 2), status(2, 4)];
-    assert!(rt; meets(rt.alloc(), Reliability::BestEffort, &BEST_EFFORT, statuses)?);
-    let statuses = [status(1, 1), status(1, 1)];
-    assert!(rt; meets(rt.alloc(), Reliability::Reliable, &RELIABLE, statuses)?);
-    laws::presented::<Shape>();
-    laws::in_order::<Shape, Shape, Global>();
-    laws::matches_listed::<Shape>();
-    Ok(())
-}
-
 /// Whether an engine of three readers with these fixed matches lists these matches.
 fn lists(alloc: Global, fixed: &[(u32, u8)], expected: &[(u32, u8)]) -> Result<bool, Fail> {
     let config = config(alloc, Reliability::BestEffort, &[0, 1, 2], fixed)?;
@@ -156,15 +144,28 @@ fn fault(alloc: Global, ranks: &[u8], fixed: &[(u32, u8)]) -> Result<Option<Star
     Ok(SerialEngine::new(alloc, config, Shapes).err())
 }
 
-#[test]
-fn matches_are_listed_and_faulty_configurations_refused(rt: HostRuntime) -> Result<(), Fail> {
-    let alloc = rt.alloc();
+/// Whether the matches that are listed and the faults that are found are those expected.
+fn answers(alloc: Global) -> Result<bool, Fail> {
     let fixed = [(1, SENDER), (0, SENDER), (1, OTHER)];
     let listed = [(0, SENDER), (1, OTHER), (1, SENDER)];
-    assert!(rt; lists(alloc, &fixed, &listed)?);
     let none = StartError::Config(ConfigFault::Readers);
-    assert_eq!(rt; fault(alloc, &[], &[])?, Some(none));
     let wrong = StartError::Config(ConfigFault::BadFixed);
-    assert_eq!(rt; fault(alloc, &[0], &[(1, SENDER)])?, Some(wrong));
+    Ok(
+        lists(alloc, &fixed, &listed)?
+            && fault(alloc, &[], &[])? == Some(none)
+            && fault(alloc, &[0], &[(1, SENDER)])? == Some(wrong),
+    )
+}
+
+#[test]
+fn what_engines_report_and_answer(rt: HostRuntime) -> Result<(), Fail> {
+    let statuses = [status(3, 2), status(2, 4)];
+    assert!(rt; meets(rt.alloc(), Reliability::BestEffort, &BEST_EFFORT, statuses)?);
+    let statuses = [status(1, 1), status(1, 1)];
+    assert!(rt; meets(rt.alloc(), Reliability::Reliable, &RELIABLE, statuses)?);
+    assert!(rt; answers(rt.alloc())?);
+    laws::presented::<Shape>();
+    laws::in_order::<Shape, Shape, Global>();
+    laws::matches_listed::<Shape>();
     Ok(())
 }
