@@ -7,7 +7,7 @@ ghost use Rattle.rtps_frags.specs.declared.fault.AddError.TheVariants as add;
 ghost use Rattle.rtps_frags.specs.declared.fault.FragFault.{FragFault};
 ghost use Rattle.rtps_frags.specs.Fragments.{fault_of, payload_of};
 ghost use Rattle.rtps_frags.specs.Kept.{Leaves, has_come, with_part};
-ghost use Rattle.rtps_frags.specs.Missing.{missing};
+ghost use Rattle.rtps_frags.specs.Missing.{missing, missing_by};
 
 use crate::fault::{AddError, fault_in};
 use crate::parts::{Parts, Piece};
@@ -129,4 +129,11 @@ impl<A: Allocator> Assembly<A> {
     {
         Octets::new(self.parts.front)
     }
+}
+
+/// What is missing up to a fragment of a sample of which nothing came.
+pub fn missing_of_none<A: Allocator + Copy>(alloc: A, last: u32) -> Option<FragSet>
+    ensures { option_map frag_view result ≡ missing_by (λ _. false) last }
+{
+    Parts::new(alloc).missing_up_to(last)
 }

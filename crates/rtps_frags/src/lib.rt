@@ -10,6 +10,6 @@ mod sizes;
 #[cfg(test)]
 mod tests;
 
-pub use assembly::Assembly;
+pub use assembly::{Assembly, missing_of_none};
 pub use fault::{AddError, FragFault, fault_in};
 pub use sizes::Sizes;

@@ -16,7 +16,7 @@ use Rattle.rtps_proxy.specs.Effects.{exceeds}
 use Rattle.rtps_proxy.specs.History.{Came, announced_of, first_of, is_irrelevant, is_new}
 use Rattle.rtps_proxy.specs.Kept.{Whom}
 use Rattle.rtps_proxy.specs.Received.{frontier_of, is_settled, received}
-use Rattle.rtps_proxy.specs.Replies.{reply, reply_of}
+use Rattle.rtps_proxy.specs.Replies.{reply_of}
 use Rattle.rtps_proxy.proofs.Frontier.{frontier_is}
 use Rattle.rtps_proxy.proofs.Standing.{Shows, count_none, covered_is, frontier_rises, lacks_is, or_true}
 
@@ -80,7 +80,7 @@ count_agree : (p q : ℕ → Bool) → ((n : ℕ) → p n ≡ q n) → (n : ℕ)
 count_agree p q h zero = refl
 count_agree p q h (suc n) = let rest : count_failing p n ≡ count_failing q n = count_agree p q h n in rw (h n, rest) refl
 
-one_more : (a m : ℕ) → (a % m + 1) % m ≡ (a + 1) % m
+pub one_more : (a m : ℕ) → (a % m + 1) % m ≡ (a + 1) % m
 one_more a m = add-mod (a % m) 1 m ∙ ap (λ x. (x + 1 % m) % m) (mod-mod a m) ∙ sym (add-mod a 1 m)
 
 module _ (past : List Came) (time : Option Timestamp) (h : Announced) (accepted : is_new past h.count ≡ true) where
@@ -141,6 +141,6 @@ map_due : (w : Whom) (due : Bool) (a : Acknack) → option_map (reply_of w) (con
 map_due w true a = refl
 map_due w false a = refl
 
-pub reply_is : (w : Whom) (past : List Came) (event : Came) (due : Bool) (f announced earlier : ℕ) (rs : List Run) → Shows (event ∷ past) f rs → is_answered past event ≡ due → announced ≡ announced_of (event ∷ past) → earlier ≡ answers past % 2 ^ 32 → cond due (Some (reply_of w (acknack_by (marks f rs) f announced earlier))) None ≡ reply w past event
+pub reply_is : (w : Whom) (past : List Came) (event : Came) (due : Bool) (f announced earlier : ℕ) (rs : List Run) → Shows (event ∷ past) f rs → is_answered past event ≡ due → announced ≡ announced_of (event ∷ past) → earlier ≡ answers past % 2 ^ 32 → cond due (Some (reply_of w (acknack_by (marks f rs) f announced earlier))) None ≡ option_map (reply_of w) (answer past event)
 reply_is w past event due f announced earlier rs shows is same counted =
     sym (map_due w due (acknack_by (marks f rs) f announced earlier)) ∙ ap (option_map (reply_of w)) (answer_is past event due f announced earlier rs shows is same counted)

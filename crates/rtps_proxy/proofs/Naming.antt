@@ -1,16 +1,20 @@
 -- The missing numbers that an answer names.
-use Rattle.std.proofs.Common.{◌≡◌, ℕ, suc, ◌+◌, ◌-◌, Bool, false, not, List, refl, sym, ◌∙◌, ap, arith, leb, ltb, eqb, inl, inr, max, min, replicate}
+use Rattle.std.proofs.Common.{◌≡◌, ℕ, suc, ◌+◌, ◌-◌, ◌%◌, ◌^◌, Bool, false, not, List, refl, sym, ◌∙◌, ap, arith, leb, ltb, eqb, inl, inr, max, min, replicate}
 use Rattle.std.proofs.lemmas.Bool.Decides.{nat_tests, leb_tells}
 use Rattle.rtps_types.specs.Named.{bits_of, with_bits}
 use Rattle.rtps_types.specs.NumberSet.{NumberSet}
 use Rattle.rtps_types.specs.Numbers.{lacks, failing_from}
-use Rattle.rtps_types.specs.Sets.{sn_view}
+use Rattle.rtps_types.specs.Sets.{frag_view, sn_view}
 use Rattle.rtps_types.specs.declared.locator.Locator.{Locator}
 use Rattle.rtps_types.specs.declared.set.SnSet.{SnSet}
-use Rattle.rtps_wire.specs.Answering.{acknack_octets}
+use Rattle.rtps_types.specs.declared.number.Number.{Number}
+use Rattle.rtps_types.specs.declared.set.FragSet.{FragSet}
+use Rattle.rtps_types.specs.Number.{value_of}
+use Rattle.rtps_wire.specs.Answering.{acknack_octets, nack_frag_octets}
 use Rattle.rtps_proxy.specs.Answer.{Acknack}
 use Rattle.rtps_proxy.specs.Kept.{Whom}
-use Rattle.rtps_proxy.specs.Replies.{reply_of, set_of}
+use Rattle.rtps_proxy.specs.NackFrag.{Nack, nack_by}
+use Rattle.rtps_proxy.specs.Replies.{nack_of, reply_of, set_of}
 use Rattle.rtps_proxy.specs.Runs.{AreApart, Run, marks}
 use Rattle.rtps_proxy.proofs.Standing.{lacks_is, marks_at}
 
@@ -49,3 +53,12 @@ octets_are w a missing is final =
 pub sent_is : (w : Whom) (a : Acknack) (to : List Locator) (octets : List ℕ) → to ≡ w.locators → octets ≡ (reply_of w a).octets → record { to = to; octets = octets } ≡ reply_of w a
 unfolding reply_of
 sent_is w a to octets where_to what = rw (where_to, what) refl
+
+pub nack_octets_are : (w : Whom) (number : Number) (earlier count : ℕ) (missing : FragSet) → count ≡ (earlier + 1) % 2 ^ 32
+    → nack_frag_octets (record { reader = record { prefix = w.own; entity = w.reader }; writer = w.writer; number = number; missing = missing; count = count }) ≡ (nack_of w (nack_by (value_of number) earlier (frag_view missing))).octets
+unfolding nack_frag_octets nack_of
+nack_octets_are w number earlier count missing is = rw is refl
+
+pub nack_is : (w : Whom) (a : Nack) (to : List Locator) (octets : List ℕ) → to ≡ w.locators → octets ≡ (nack_of w a).octets → record { to = to; octets = octets } ≡ nack_of w a
+unfolding nack_of
+nack_is w a to octets where_to what = rw (where_to, what) refl

@@ -8,7 +8,8 @@ use Rattle.rtps_proxy.specs.declared.effects.Effects.{Effects}
 use Rattle.rtps_proxy.specs.Answer.{answers}
 use Rattle.rtps_proxy.specs.BestEffort as best
 use Rattle.rtps_proxy.specs.Changes.{change_view}
-use Rattle.rtps_proxy.specs.History.{Came, Sample, announced_of, has_heartbeat, is_new}
+use Rattle.rtps_proxy.specs.History.{Came, Sample, announced_of, has_heartbeat, is_new, is_new_frag}
+use Rattle.rtps_proxy.specs.NackFrag.{nacks}
 use Rattle.rtps_proxy.specs.Kept.{Awaited, BestEffort, Kept, Reliable, Standing, Whom}
 use Rattle.rtps_proxy.specs.Received as reliable
 use Rattle.rtps_proxy.specs.Received.{held, in_order, is_settled, standing}
@@ -34,6 +35,8 @@ pub record ReliableStandsAt (past : List Came) (proxy : Awaited) : Type 0 where
   pub pending : proxy.begun ≡ standing past
   pub sound : proxy.sound ≡ true
   pub answers : proxy.answers ≡ answers past % 2 ^ 32
+  pub frag_counts : (count : ℤ) → is_new_frag past count ≡ exceeds proxy.frag_accepted count
+  pub nacks : proxy.nacks ≡ nacks past % 2 ^ 32
 
 -- and what is kept for a reader, by whether it is reliable
 abbrev pub StateStandsAt : List Came → Bool → Standing → Type 0

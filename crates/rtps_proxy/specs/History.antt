@@ -33,6 +33,18 @@ abbrev pub is_new : List Came → ℤ → Bool
 is_new [] count = true
 is_new (e ∷ past) count = is_new_in e.body count && is_new past count
 
+-- and the same of the heartbeats of fragments among themselves
+abbrev pub is_new_frag_in : Brought → ℤ → Bool
+is_new_frag_in (Whole c) count = true
+is_new_frag_in (Fragment f) count = true
+is_new_frag_in (Heartbeat h) count = true
+is_new_frag_in (Gap g) count = true
+is_new_frag_in (HeartbeatFrag h) count = int_lt h.count count
+
+abbrev pub is_new_frag : List Came → ℤ → Bool
+is_new_frag [] count = true
+is_new_frag (e ∷ past) count = is_new_frag_in e.body count && is_new_frag past count
+
 abbrev pub is_heartbeat : Brought → Bool
 is_heartbeat (Whole c) = false
 is_heartbeat (Fragment f) = false

@@ -1,11 +1,12 @@
 -- What a proxy keeps (DDSI-RTPS 8.4.10.4).
-use Rattle.std.specs.Prelude.{ℕ, ℤ, ◌+◌, ◌%◌, ◌^◌, Bool, not, ◌&&◌, ◌||◌, if◌then◌else◌, List, length, nat_le, nat_lt, Option, is_some, map}
+use Rattle.std.specs.Prelude.{ℕ, ℤ, ◌+◌, ◌%◌, ◌^◌, Bool, not, ◌&&◌, ◌||◌, if◌then◌else◌, List, length, nat_le, nat_lt, Option, None, is_some, map}
 use Rattle.rtps_types.specs.declared.identity.EntityId.{EntityId}
 use Rattle.rtps_types.specs.declared.identity.Guid.{Guid}
 use Rattle.rtps_types.specs.declared.identity.GuidPrefix.{GuidPrefix}
 use Rattle.rtps_types.specs.declared.locator.Locator.{Locator}
 use Rattle.rtps_types.specs.declared.number.Number.{Number}
-use Rattle.rtps_receiver.specs.Brought.{Fragments}
+use Rattle.rtps_types.specs.NumberSet.{NumberSet}
+use Rattle.rtps_receiver.specs.Brought.{AnnouncedFragments, Fragments}
 use Rattle.rtps_receiver.specs.declared.body.Heartbeat.{Heartbeat}
 use Rattle.rtps_proxy.specs.declared.config.ProxyConfig.{ProxyConfig}
 use Rattle.rtps_proxy.specs.declared.reliable.Reliable as kept
@@ -15,6 +16,7 @@ use Rattle.rtps_proxy.specs.Answer.{Acknack, acknack_by}
 use Rattle.rtps_proxy.specs.Changes.{change_view}
 use Rattle.rtps_proxy.specs.Fragments.{Begun}
 use Rattle.rtps_proxy.specs.History.{Sample}
+use Rattle.rtps_proxy.specs.NackFrag.{missing_at}
 use Rattle.rtps_proxy.specs.Pending.{are_sound, fits_found, found_at, pending_views}
 use Rattle.rtps_types.specs.Numbers.{lacks}
 use Rattle.rtps_proxy.specs.Runs.{marks}
@@ -32,7 +34,7 @@ whom c = record { own = c.own; writer = c.writer; reader = c.reader; reliable = 
 
 -- what is kept for a reliable reader: the greatest count of a heartbeat that was accepted, the announced number, the settled
 -- numbers as those below a frontier and runs, the held changes in order, the samples whose fragments are awaited and whether
--- each growth of them was granted, and the number of answers
+-- each growth of them was granted, the number of answers, and the same of heartbeats of fragments
 pub record Awaited : Type 0 where
   pub accepted : Option ℤ
   pub announced : ℕ
@@ -42,9 +44,11 @@ pub record Awaited : Type 0 where
   pub begun : List Begun
   pub sound : Bool
   pub answers : ℕ
+  pub frag_accepted : Option ℤ
+  pub nacks : ℕ
 
 abbrev pub awaited : {A : Type 0} → kept.Reliable A → Awaited
-awaited r = record { accepted = r.accepted; announced = r.announced; frontier = r.settled.frontier; runs = r.settled.runs; held = map change_view r.held.items; begun = pending_views r.pending.items; sound = are_sound r.pending.items; answers = r.answers }
+awaited r = record { accepted = r.accepted; announced = r.announced; frontier = r.settled.frontier; runs = r.settled.runs; held = map change_view r.held.items; begun = pending_views r.pending.items; sound = are_sound r.pending.items; answers = r.answers; frag_accepted = r.frag_accepted; nacks = r.nacks }
 
 -- the settled numbers
 abbrev pub marked : Awaited → ℕ → Bool
@@ -56,6 +60,10 @@ takes_by r f =
     fits_found r.begun f
     && ((not (marked r f.number) && (nat_le f.number r.frontier || nat_lt (length r.held) 65536))
     && (is_some (found_at f.number r.begun) || (nat_le f.number r.frontier || nat_lt (length r.begun) 64)))
+
+-- the missing fragments that an accepted heartbeat of fragments asks for
+abbrev pub lacks_frags : Awaited → AnnouncedFragments → Option NumberSet
+lacks_frags r h = if marked r h.number then None else missing_at (found_at h.number r.begun) h.last
 
 -- what the next answer asks for
 abbrev pub asked_by : Awaited → Acknack

@@ -3,6 +3,7 @@ pub mod Fragments
 pub mod Settled
 pub mod Received
 pub mod Answer
+pub mod NackFrag
 pub mod BestEffort
 pub mod Runs
 pub mod Changes

@@ -1,5 +1,5 @@
--- The datagram that carries an answer to a writer: ACKNACK (DDSI-RTPS 8.3.7.1, 9.4.5.2).
-use Rattle.std.specs.Prelude.{◌≡◌, ℕ, pos, ◌+◌, Bool, not, ◌&&◌, ◌==◌, nat_le, nat_lt, List, ◌++◌, replicate, if◌then◌else◌, Option}
+-- The datagram that carries an answer to a writer: ACKNACK or NACK_FRAG (DDSI-RTPS 8.3.7.1, 8.3.7.11, 9.4.5.2, 9.4.5.13).
+use Rattle.std.specs.Prelude.{◌≡◌, ℕ, pos, ◌+◌, Bool, not, ◌&&◌, ◌==◌, nat_le, nat_lt, List, ◌++◌, replicate, if◌then◌else◌, Option, None}
 use Rattle.std.specs.List.{list_any}
 use Rattle.std.specs.Option.{option_map}
 use Rattle.rtps_types.specs.declared.field.Endian.TheVariants.{Little}
@@ -8,9 +8,11 @@ use Rattle.rtps_types.specs.declared.traffic.Reply.{Reply}
 use Rattle.rtps_types.specs.Field.{spelled, spelled_sn}
 use Rattle.rtps_types.specs.Named.{with_bits}
 use Rattle.rtps_types.specs.NumberSet.{NumberSet, members}
+use Rattle.rtps_receiver.specs.Brought.{Brought, Whole, Fragment, Heartbeat, Gap, HeartbeatFrag}
 use Rattle.rtps_wire.specs.Answering.{answering, sent_words, spelled_words}
 use Rattle.rtps_proxy.specs.Answer.{Acknack, acknack_by, answer}
 use Rattle.rtps_proxy.specs.History.{Came}
+use Rattle.rtps_proxy.specs.NackFrag.{Nack, nack}
 use Rattle.rtps_proxy.specs.Kept.{Whom}
 
 -- a datagram, and where it goes
@@ -40,6 +42,22 @@ NamesWhatIsMissing =
     (settled : ℕ → Bool) (base announced earlier n : ℕ) → list_any (λ m. m == n) (members (set_of (acknack_by settled base announced earlier)))
     ≡ ((nat_le base n && (nat_lt n (base + 256) && nat_le n announced)) && not (settled n))
 
+-- readerId, writerId, writerSN, fragmentNumberState, count
+abbrev pub nack_body : Whom → Nack → List ℕ
+nack_body w a =
+    w.reader.0 ++ w.writer.entity.0 ++ spelled_sn Little (pos a.number) ++ spelled Little 4 a.missing.base ++ spelled Little 4 a.missing.bits ++ spelled_words (sent_words a.missing) ++ spelled Little 4 a.count
+
+-- a NACK_FRAG with flag E, to the writer's locators
+unfoldable pub nack_of : Whom → Nack → Sent
+nack_of w a = record { to = w.locators; octets = answering w.own w.writer.prefix 0x12 1 (nack_body w a) }
+
 -- what a reliable reader sends at an event
 abbrev pub reply : Whom → List Came → Came → Option Sent
-reply w past e = option_map (reply_of w) (answer past e)
+reply w past e = by_body e.body
+  where
+    by_body : Brought → Option Sent
+    by_body (Whole c) = None
+    by_body (Fragment f) = None
+    by_body (Heartbeat h) = option_map (reply_of w) (answer past e)
+    by_body (Gap g) = None
+    by_body (HeartbeatFrag h) = option_map (nack_of w) (nack past h)

@@ -8,6 +8,7 @@ mod effects;
 mod fragment;
 mod gap;
 mod heartbeat;
+mod heartbeat_frag;
 mod held;
 pub mod laws;
 mod matches;

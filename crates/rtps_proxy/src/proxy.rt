@@ -116,7 +116,7 @@ impl<A: Allocator + Copy> WriterProxy<A> {
         self.on_event(alloc, time, &Body::Fragment(*fragment))
     }
 
-    /// Takes in a heartbeat of fragments (DDSI-RTPS 8.3.7.6). It isn't answered yet.
+    /// Takes in a heartbeat of fragments (DDSI-RTPS 8.3.7.6), and answers it where some are missing.
     pub fn on_heartbeat_frag<'a>(
         &mut self,
         alloc: A,

@@ -26,6 +26,10 @@ pub(crate) struct Reliable<A: Allocator> {
     pub pending: Vec<Pending<A>, A>,
     /// How many answers there were, modulo 2^32.
     pub answers: u32,
+    /// The greatest count of a heartbeat of fragments that was accepted.
+    pub frag_accepted: Option<i32>,
+    /// How many of these were answered, modulo 2^32.
+    pub nacks: u32,
     ghost small: { announced ≤ 2 ^ 62 },
 }
 
@@ -46,10 +50,12 @@ impl<A: Allocator + Copy> Reliable<A> {
             held: VecDeque::new(alloc),
             pending: Vec::new(alloc),
             answers: 0,
+            frag_accepted: None,
+            nacks: 0,
         }
     }
 
-    /// Takes in what an event brings, by its kind. Heartbeats of fragments are not answered yet.
+    /// Takes in what an event brings, by its kind.
     pub fn on_event<'a>(
         &mut self,
         alloc: A,
@@ -65,7 +71,7 @@ impl<A: Allocator + Copy> Reliable<A> {
             Body::Heartbeat(heartbeat) => self.on_heartbeat(alloc, config, heartbeat),
             Body::Gap(gap) => self.on_gap(alloc, gap),
             Body::Fragment(fragment) => self.on_fragment(alloc, time, fragment),
-            Body::HeartbeatFrag(_) => Ok(Effects::none(alloc)),
+            Body::HeartbeatFrag(heartbeat) => self.on_heartbeat_frag(alloc, config, heartbeat),
         }
     }
 }

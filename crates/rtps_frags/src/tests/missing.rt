@@ -1,6 +1,6 @@
 //! What is missing, as the set that a NACK_FRAG carries.
 
-use crate::{AddError, Assembly, FragFault};
+use crate::{AddError, Assembly, FragFault, missing_of_none};
 use rtps_types::FragSet;
 use std::test::Fail;
 
@@ -70,4 +70,22 @@ fn not_past_the_last(rt: HostRuntime) -> Result<(), Fail> {
     assert!(rt; sample.missing_up_to(9).is_none());
     assert!(rt; sample.is_whole());
     Ok(())
+}
+
+/// Of nothing all is missing, up to 256 fragments; up to fragment 0 nothing is.
+#[test]
+fn of_none_all_are_missing(rt: HostRuntime) {
+    let three = FragSet {
+        base: 1,
+        bits: 3,
+        words: [0xE000_0000, 0, 0, 0, 0, 0, 0, 0],
+    };
+    let all = FragSet {
+        base: 1,
+        bits: 256,
+        words: [ALL; 8],
+    };
+    assert!(rt; missing_of_none(rt.alloc(), 0).is_none());
+    assert_eq!(rt; missing_of_none(rt.alloc(), 3), Some(three));
+    assert_eq!(rt; missing_of_none(rt.alloc(), u32::MAX), Some(all));
 }

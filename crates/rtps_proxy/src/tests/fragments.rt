@@ -1,9 +1,9 @@
 //! Changes that come in fragments, for a reliable reader.
 
-use super::{INFO, What, bring, new_proxy, number_of};
-use crate::{Effects, WriterProxy};
+use super::{FRONT, INFO, LOCATOR, Row, What, bring, meets, new_proxy, number_of};
+use crate::{Change, Effects, WriterProxy};
 use linked_list_allocator::LocalHeap;
-use rtps_receiver::Fragment;
+use rtps_receiver::{Fragment, HeartbeatFrag};
 use rtps_types::Timestamp;
 use rtps_wire::{ChangeInfo, Form};
 use std::alloc::{AllocError, Allocator, Global};
@@ -31,31 +31,67 @@ fn last_of<A: Allocator>(effects: Effects<'_, A>) -> (usize, u64) {
     }
 }
 
-/// What is ready where a fragment comes.
-fn half(
-    alloc: Global,
-    proxy: &mut WriterProxy,
-    value: u64,
-    start: u32,
-) -> Result<(usize, u64), Fail> {
-    let effects = proxy.on_fragment(alloc, None, &half_of(value, start)?)?;
+/// What comes.
+#[derive(Clone, Copy)]
+enum Step {
+    /// One of the two fragments of the change with this number.
+    Half(u64, u32),
+    /// The change with this number.
+    Whole(u64),
+    /// A gap from the first number up to below the second one.
+    Gap(u64, u64),
+}
+
+/// What is ready where this comes.
+fn ready_at(alloc: Global, proxy: &mut WriterProxy, step: Step) -> Result<(usize, u64), Fail> {
+    let effects = match step {
+        Step::Half(number, start) => proxy.on_fragment(alloc, None, &half_of(number, start)?)?,
+        Step::Whole(number) => bring(alloc, proxy, What::Whole(number))??,
+        Step::Gap(start, base) => bring(alloc, proxy, What::Gap(start, base))??,
+    };
     Ok(last_of(effects))
 }
 
-/// What is ready where a change or a gap comes.
-fn other(alloc: Global, proxy: &mut WriterProxy, what: What) -> Result<(usize, u64), Fail> {
-    let effects = bring(alloc, proxy, what)??;
-    Ok(last_of(effects))
+/// The first step at which another count of changes or another last one is ready.
+fn first_unlike(
+    alloc: Global,
+    proxy: &mut WriterProxy,
+    steps: &[(Step, (usize, u64))],
+) -> Result<Option<usize>, Fail> {
+    for (at, (step, ready)) in steps.iter().enumerate() {
+        if ready_at(alloc, proxy, *step)? != *ready {
+            return Ok(Some(at));
+        }
+    }
+    Ok(None)
 }
 
 /// Begins the changes from one on and below another. Whether none is ready.
 fn begin(alloc: Global, proxy: &mut WriterProxy, from: u64, to: u64) -> Result<bool, Fail> {
     for number in from..to {
-        if half(alloc, proxy, number, 1)? != (0, 0) {
+        if ready_at(alloc, proxy, Step::Half(number, 1))? != (0, 0) {
             return Ok(false);
         }
     }
     Ok(true)
+}
+
+/// Brings the changes from one on and below another. Whether none is ready.
+fn fill(alloc: Global, proxy: &mut WriterProxy, from: u64, to: u64) -> Result<bool, Fail> {
+    for number in from..to {
+        if ready_at(alloc, proxy, Step::Whole(number))? != (0, 0) {
+            return Ok(false);
+        }
+    }
+    Ok(true)
+}
+
+/// Whether a change is number 1, sent then, and carries `abcd` and what fragment 2 told.
+fn is_told<A: Allocator>(change: &Change<'_, A>, sent: Timestamp) -> bool {
+    change.number.get() == 1
+        && change.time == Some(sent)
+        && change.info == INFO
+        && change.payload.as_slice() == b"abcd".as_slice()
 }
 
 /// Fragment 2 comes first, and tells the time and what else is told; what fragment 1 tells is ignored.
@@ -79,97 +115,174 @@ fn the_first_one_tells_all(rt: HostRuntime) -> Result<(), Fail> {
         ..half_of(1, 1)?
     };
     let effects = proxy.on_fragment(alloc, None, &first)?;
-    assert_eq!(rt; effects.lost, 0);
-    assert!(rt; effects.answer.is_none());
     assert_eq!(rt; effects.ready.len(), 1);
-    let change = &effects.ready[0];
-    assert_eq!(rt; change.number.get(), 1);
-    assert_eq!(rt; change.time, Some(sent));
-    assert_eq!(rt; change.info, INFO);
-    assert_eq!(rt; change.payload.as_slice(), b"abcd".as_slice());
+    assert!(rt; is_told(&effects.ready[0], sent));
     Ok(())
 }
 
-/// A whole change waits for those before it, and is taken once.
+/// A whole change waits for those before it, and is taken once. A DATA of the number ends what was
+/// begun, and so does a GAP.
 #[test]
 fn whole_ones_wait_for_earlier_ones(rt: HostRuntime) -> Result<(), Fail> {
-    let alloc = rt.alloc();
-    let mut proxy = new_proxy(alloc, true)?;
-    assert_eq!(rt; half(alloc, &mut proxy, 2, 1)?, (0, 0));
-    assert_eq!(rt; half(alloc, &mut proxy, 2, 2)?, (0, 0));
-    assert_eq!(rt; half(alloc, &mut proxy, 2, 2)?, (0, 0));
-    assert_eq!(rt; half(alloc, &mut proxy, 1, 2)?, (0, 0));
-    assert_eq!(rt; half(alloc, &mut proxy, 1, 1)?, (2, 2));
-    assert_eq!(rt; half(alloc, &mut proxy, 1, 1)?, (0, 0));
-    Ok(())
-}
-
-/// A DATA of the number ends what was begun, and so does a GAP.
-#[test]
-fn a_data_in_the_middle(rt: HostRuntime) -> Result<(), Fail> {
-    let alloc = rt.alloc();
-    let mut proxy = new_proxy(alloc, true)?;
-    assert_eq!(rt; half(alloc, &mut proxy, 1, 1)?, (0, 0));
-    assert_eq!(rt; other(alloc, &mut proxy, What::Whole(1))?, (1, 1));
-    assert_eq!(rt; half(alloc, &mut proxy, 1, 2)?, (0, 0));
-    assert_eq!(rt; half(alloc, &mut proxy, 2, 1)?, (0, 0));
-    assert_eq!(rt; other(alloc, &mut proxy, What::Gap(2, 3))?, (0, 0));
-    assert_eq!(rt; half(alloc, &mut proxy, 2, 2)?, (0, 0));
-    assert_eq!(rt; other(alloc, &mut proxy, What::Whole(3))?, (1, 3));
+    let mut proxy = new_proxy(rt.alloc(), true)?;
+    let steps = [
+        (Step::Half(2, 1), (0, 0)),
+        (Step::Half(2, 2), (0, 0)),
+        (Step::Half(2, 2), (0, 0)),
+        (Step::Half(1, 2), (0, 0)),
+        (Step::Half(1, 1), (2, 2)),
+        (Step::Half(1, 1), (0, 0)),
+        (Step::Half(3, 1), (0, 0)),
+        (Step::Whole(3), (1, 3)),
+        (Step::Half(3, 2), (0, 0)),
+        (Step::Half(4, 1), (0, 0)),
+        (Step::Gap(4, 5), (0, 0)),
+        (Step::Half(4, 2), (0, 0)),
+        (Step::Whole(5), (1, 5)),
+    ];
+    assert_eq!(rt; first_unlike(rt.alloc(), &mut proxy, &steps)?, None);
     Ok(())
 }
 
 /// Sizes that weren't told at first, and fragments with a fault, count as not come.
 #[test]
 fn unlike_sizes_stay_out(rt: HostRuntime) -> Result<(), Fail> {
-    let alloc = rt.alloc();
-    let mut proxy = new_proxy(alloc, true)?;
-    assert_eq!(rt; half(alloc, &mut proxy, 1, 1)?, (0, 0));
+    let mut proxy = new_proxy(rt.alloc(), true)?;
+    let begun = [(Step::Half(1, 1), (0, 0))];
+    assert_eq!(rt; first_unlike(rt.alloc(), &mut proxy, &begun)?, None);
     let longer = Fragment {
         sample: 3,
         ..half_of(1, 2)?
     };
-    assert_eq!(rt; last_of(proxy.on_fragment(alloc, None, &longer)?), (0, 0));
     let behind = Fragment {
         start: 3,
         ..half_of(1, 2)?
     };
-    assert_eq!(rt; last_of(proxy.on_fragment(alloc, None, &behind)?), (0, 0));
-    assert_eq!(rt; half(alloc, &mut proxy, 1, 2)?, (1, 1));
+    let unlike = last_of(proxy.on_fragment(rt.alloc(), None, &longer)?);
+    let faulty = last_of(proxy.on_fragment(rt.alloc(), None, &behind)?);
+    assert_eq!(rt; (unlike, faulty), ((0, 0), (0, 0)));
+    let rest = [(Step::Half(1, 2), (1, 1))];
+    assert_eq!(rt; first_unlike(rt.alloc(), &mut proxy, &rest)?, None);
     Ok(())
 }
 
 /// 64 changes stand, and one more does where it is the next one.
 #[test]
 fn there_are_64_seats(rt: HostRuntime) -> Result<(), Fail> {
-    let alloc = rt.alloc();
-    let mut proxy = new_proxy(alloc, true)?;
-    assert!(rt; begin(alloc, &mut proxy, 2, 66)?);
-    // 66 finds no seat; 1 needs none, and takes none away.
-    assert_eq!(rt; half(alloc, &mut proxy, 66, 1)?, (0, 0));
-    assert_eq!(rt; half(alloc, &mut proxy, 1, 1)?, (0, 0));
-    assert_eq!(rt; half(alloc, &mut proxy, 65, 2)?, (0, 0));
-    assert_eq!(rt; half(alloc, &mut proxy, 1, 2)?, (1, 1));
-    // 65 left its seat to 66, of which nothing came before.
-    assert_eq!(rt; half(alloc, &mut proxy, 66, 2)?, (0, 0));
-    assert_eq!(rt; other(alloc, &mut proxy, What::Gap(2, 65))?, (1, 65));
-    assert_eq!(rt; half(alloc, &mut proxy, 66, 1)?, (1, 66));
+    let mut proxy = new_proxy(rt.alloc(), true)?;
+    assert!(rt; begin(rt.alloc(), &mut proxy, 2, 66)?);
+    let steps = [
+        // 66 finds no seat; 1 needs none, and takes none away.
+        (Step::Half(66, 1), (0, 0)),
+        (Step::Half(1, 1), (0, 0)),
+        (Step::Half(65, 2), (0, 0)),
+        (Step::Half(1, 2), (1, 1)),
+        // 65 left its seat to 66, of which nothing came before.
+        (Step::Half(66, 2), (0, 0)),
+        (Step::Gap(2, 65), (1, 65)),
+        (Step::Half(66, 1), (1, 66)),
+    ];
+    assert_eq!(rt; first_unlike(rt.alloc(), &mut proxy, &steps)?, None);
     Ok(())
 }
 
 /// 65,536 changes wait: a change that stands takes no more fragments then, but the next one does.
 #[test]
 fn room_is_for_each_fragment(rt: HostRuntime) -> Result<(), Fail> {
-    let alloc = rt.alloc();
-    let mut proxy = new_proxy(alloc, true)?;
-    assert_eq!(rt; half(alloc, &mut proxy, 65_538, 1)?, (0, 0));
-    for number in 2_u64..65_538 {
-        assert_eq!(rt; other(alloc, &mut proxy, What::Whole(number))?, (0, 0));
+    let mut proxy = new_proxy(rt.alloc(), true)?;
+    assert!(rt; begin(rt.alloc(), &mut proxy, 65_538, 65_539)?);
+    assert!(rt; fill(rt.alloc(), &mut proxy, 2, 65_538)?);
+    let steps = [
+        (Step::Half(65_538, 2), (0, 0)),
+        (Step::Half(1, 1), (0, 0)),
+        (Step::Half(1, 2), (65_537, 65_537)),
+        (Step::Half(65_538, 2), (1, 65_538)),
+    ];
+    assert_eq!(rt; first_unlike(rt.alloc(), &mut proxy, &steps)?, None);
+    Ok(())
+}
+
+/// A heartbeat of fragments: its number, its last fragment and its count; and the answer behind the
+/// writerSN, empty where there is none.
+type Asked = ((u64, u32, i32), &'static [u8]);
+
+/// What each answer to number 1 or 2 begins with: NACK_FRAG and the two entities.
+const NACK: &[u8] = b"\x12\x01\x20\x00\x00\x00\x01\x07\x00\x00\x01\x02\x00\x00\x00\x00";
+
+/// Whether the heartbeat is answered so.
+fn is_answered(alloc: Global, proxy: &mut WriterProxy, asked: &Asked) -> Result<bool, Fail> {
+    let (number, last, count) = asked.0;
+    let heartbeat = HeartbeatFrag {
+        number: number_of(number)?,
+        last,
+        count,
+    };
+    let Effects {
+        lost,
+        ready,
+        answer,
+    } = proxy.on_heartbeat_frag(alloc, None, &heartbeat)?;
+    if lost != 0 || !ready.is_empty() {
+        return Ok(false);
     }
-    assert_eq!(rt; half(alloc, &mut proxy, 65_538, 2)?, (0, 0));
-    assert_eq!(rt; half(alloc, &mut proxy, 1, 1)?, (0, 0));
-    assert_eq!(rt; half(alloc, &mut proxy, 1, 2)?, (65_537, 65_537));
-    assert_eq!(rt; half(alloc, &mut proxy, 65_538, 2)?, (1, 65_538));
+    let Some(answer) = answer else {
+        return Ok(asked.1.is_empty());
+    };
+    let Some(body) = answer.octets.as_slice().strip_prefix(FRONT) else {
+        return Ok(false);
+    };
+    Ok(body.strip_prefix(NACK) == Some(asked.1) && answer.to.as_slice() == [LOCATOR].as_slice())
+}
+
+/// Whether each heartbeat is answered so.
+fn are_answered(alloc: Global, proxy: &mut WriterProxy, all: &[Asked]) -> Result<bool, Fail> {
+    for asked in all {
+        if !is_answered(alloc, proxy, asked)? {
+            return Ok(false);
+        }
+    }
+    Ok(true)
+}
+
+/// Base 1, one bit, fragment 1, and then the count.
+const FIRST: [&[u8]; 2] = [
+    b"\x01\x00\x00\x00\x01\x00\x00\x00\x01\x00\x00\x00\x00\x00\x00\x80\x01\x00\x00\x00",
+    b"\x01\x00\x00\x00\x01\x00\x00\x00\x01\x00\x00\x00\x00\x00\x00\x80\x03\x00\x00\x00",
+];
+
+/// Number 2, base 1, three bits, fragments 1 to 3, count 2.
+const THREE: &[u8] =
+    b"\x02\x00\x00\x00\x01\x00\x00\x00\x03\x00\x00\x00\x00\x00\x00\xe0\x02\x00\x00\x00";
+
+/// ACKNACK for number 2, as the first one.
+const MISSING: &[u8] = b"\x06\x01\x1c\x00\
+    \x00\x00\x01\x07\x00\x00\x01\x02\
+    \x00\x00\x00\x00\x02\x00\x00\x00\
+    \x01\x00\x00\x00\
+    \x00\x00\x00\x80\
+    \x01\x00\x00\x00";
+
+/// Fragment 2 of number 1 came. What is missing is asked for up to the last fragment of the heartbeat
+/// and of the sample; a count that was seen does nothing, nor does a number that is settled.
+#[test]
+fn missing_fragments_are_asked_for(rt: HostRuntime) -> Result<(), Fail> {
+    let mut proxy = new_proxy(rt.alloc(), true)?;
+    let begun = [(Step::Half(1, 2), (0, 0))];
+    assert_eq!(rt; first_unlike(rt.alloc(), &mut proxy, &begun)?, None);
+    let asked: [Asked; 4] = [
+        ((1, 2, 1), FIRST[0]),
+        ((1, 2, 1), &[]),
+        ((2, 3, 2), THREE),
+        ((1, 9, 3), FIRST[1]),
+    ];
+    assert!(rt; are_answered(rt.alloc(), &mut proxy, &asked)?);
+    let rest = [(Step::Half(1, 1), (1, 1))];
+    assert_eq!(rt; first_unlike(rt.alloc(), &mut proxy, &rest)?, None);
+    let settled: [Asked; 2] = [((1, 2, 4), &[]), ((2, 3, 4), &[])];
+    assert!(rt; are_answered(rt.alloc(), &mut proxy, &settled)?);
+    // ACKNACKs are counted apart.
+    let rows: Row = (What::Asking(1, 2, 1), 0, &[], &[], MISSING);
+    assert!(rt; meets(rt.alloc(), &mut proxy, &rows)?);
     Ok(())
 }
 

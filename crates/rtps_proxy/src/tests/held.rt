@@ -123,8 +123,7 @@ fn there_is_room_for_so_many(rt: HostRuntime) -> Result<(), Fail> {
 
 #[test]
 fn one_fragment_is_a_change(rt: HostRuntime) -> Result<(), Fail> {
-    let rows: [Row; 4] = [
-        (What::HeartbeatFrag(1), 0, &[], &[], &[]),
+    let rows: [Row; 3] = [
         (What::Fragment(2), 0, &[], &[(2, 2)], &[]),
         (What::Fragment(1), 0, &[1, 2], &[], &[]),
         (What::Whole(1), 0, &[], &[], &[]),

@@ -16,4 +16,6 @@ returns g c = record {
   pending = ap pending_views c.new-3.ensures.items;
   sound = ap are_sound c.new-3.ensures.items;
   answers = search rules;
+  frag_counts = search rules;
+  nacks = search rules;
 }

@@ -55,6 +55,8 @@ returns-in_default g c = λ whom past at.
         pending = at.pending ∙ sym (standing_same past event (ap (λ t. t.begun) (frags_left past c.args.time f left)) same);
         sound = at.sound;
         answers = at.answers;
+        frag_counts = at.frag_counts;
+        nacks = at.nacks;
       };
       lost = c.none.ensures.lost ∙ sym (lost_nothing past event refl);
       ready = ap (map change_view) c.none.ensures.ready ∙ sym (none_ready past event same);
@@ -121,6 +123,8 @@ returns-in_default-take_whole g c = λ whom past at.
         pending = c.in_default-take_whole.ensures.none ∙ put_is ∙ standing_more past c.args.time f unsettled takes_it none;
         sound = c.take_whole.ensures.sound sound;
         answers = at.answers;
+        frag_counts = at.frag_counts;
+        nacks = at.nacks;
       };
       lost = c.none-in_default-take_whole.ensures.lost ∙ sym (lost_nothing past event refl);
       ready = ap (map change_view) c.none-in_default-take_whole.ensures.ready ∙ sym (none_ready past event same);
@@ -179,6 +183,8 @@ returns g c = λ whom past at.
             ∙ standing_from past event old.frontier new.frontier old.runs new.runs (with_fragments_of c.args.time f (taken past).begun) before after (begun_then past c.args.time f unsettled takes_it) keeps;
         sound = c.give_up.ensures.sound (c.take_whole.ensures.sound sound);
         answers = at.answers;
+        frag_counts = at.frag_counts;
+        nacks = at.nacks;
       };
       lost = c.only_ready.ensures.lost ∙ sym (lost_nothing past event refl);
       ready = ap (map change_view) c.only_ready.ensures.ready ∙ c.in_ok-release.ensures.taken

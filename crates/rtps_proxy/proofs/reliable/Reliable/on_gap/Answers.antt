@@ -31,6 +31,8 @@ returns g c = λ whom time past at.
         pending = c.give_up.ensures.left ∙ ap (filter (λ b. not (marks new.frontier new.runs b.number))) at.pending ∙ standing_then past event old.frontier new.frontier old.runs new.runs before after.0 refl keeps;
         sound = c.give_up.ensures.sound at.sound;
         answers = at.answers;
+        frag_counts = at.frag_counts;
+        nacks = at.nacks;
       };
       lost = c.only_ready.ensures.lost ∙ sym (lost_nothing past event refl);
       ready = ap (map change_view) c.only_ready.ensures.ready ∙ c.in_ok-release.ensures.taken ∙ none_first ∙ split_ready past event new.frontier new.runs (map change_view c.args.self.now.held.items) after.0 refl at.held;

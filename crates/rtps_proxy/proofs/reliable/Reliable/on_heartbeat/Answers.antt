@@ -40,6 +40,8 @@ returns-then-not-is_accepted g c = λ time past at.
         pending = at.pending ∙ sym (standing_same past event refl same);
         sound = at.sound;
         answers = rw (refused_answers past time h refused) at.answers;
+        frag_counts = at.frag_counts;
+        nacks = at.nacks;
       };
       lost = c.none.ensures.lost ∙ sym (lost_nothing past event (refused_first past time h refused));
       ready = ap (map change_view) c.none.ensures.ready ∙ sym (none_ready past event same);
@@ -77,6 +79,8 @@ returns g c = λ time past at.
         pending = c.give_up.ensures.left ∙ ap (filter (λ b. not (marks new.frontier new.runs b.number))) at.pending ∙ standing_then past event old.frontier new.frontier old.runs new.runs before after.0 refl keeps;
         sound = c.give_up.ensures.sound at.sound;
         answers = count_is past event asks c.args.self.now.answers due at.answers;
+        frag_counts = at.frag_counts;
+        nacks = at.nacks;
       });
       lost = lost_is;
       ready = c.in_ok-release.ensures.taken ∙ none_first ∙ split_ready past event new.frontier new.runs waiting after.0 refl at.held;

@@ -36,6 +36,8 @@ returns-in_default g c = λ whom past at.
         pending = at.pending ∙ sym (standing_same past event refl same);
         sound = at.sound;
         answers = at.answers;
+        frag_counts = at.frag_counts;
+        nacks = at.nacks;
       };
       lost = c.none.ensures.lost ∙ sym (lost_nothing past event refl);
       ready = ap (map change_view) c.none.ensures.ready ∙ sym (none_ready past event same);
@@ -77,6 +79,8 @@ returns-then-number-self g c = λ whom past at.
         pending = c.give_up.ensures.left ∙ ap (filter (λ b. not (marks new.frontier new.runs b.number))) at.pending ∙ standing_then past event old.frontier new.frontier old.runs new.runs before (taken_shows past event (sample_of c.args.time change) old.frontier new.frontier old.runs new.runs waiting takes_it) refl keeps;
         sound = c.give_up.ensures.sound at.sound;
         answers = at.answers;
+        frag_counts = at.frag_counts;
+        nacks = at.nacks;
       };
       lost = c.none-then-number-self.ensures.lost ∙ sym (lost_nothing past event refl);
       ready = ap (map change_view) c.none-then-number-self.ensures.ready ∙ sym (none_yet past event (sample_of c.args.time change) old.frontier new.frontier old.runs new.runs waiting takes_it behind);
@@ -117,6 +121,8 @@ returns g c = λ whom past at.
         pending = c.give_up.ensures.left ∙ ap (filter (λ b. not (marks new.frontier new.runs b.number))) at.pending ∙ standing_then past event old.frontier new.frontier old.runs new.runs before (taken_shows past event (sample_of c.args.time change) old.frontier new.frontier old.runs new.runs waiting takes_it) refl keeps;
         sound = c.give_up.ensures.sound at.sound;
         answers = at.answers;
+        frag_counts = at.frag_counts;
+        nacks = at.nacks;
       };
       lost = c.only_ready.ensures.lost ∙ sym (lost_nothing past event refl);
       ready = ap (map change_view) c.only_ready.ensures.ready ∙ c.in_ok-release.ensures.taken ∙ ap (λ (ss : List Sample). ss ++ front_below new.frontier waiting) first ∙ ready_at_once past event (sample_of c.args.time change) old.frontier new.frontier old.runs new.runs waiting takes_it below;

@@ -1,0 +1,112 @@
+//! A heartbeat of fragments, for a reliable reader, and its answer (DDSI-RTPS 8.3.7.6, 8.3.7.11).
+
+ghost use Rattle.std.specs.Prelude.{◌≡◌, ◌≤◌, ◌^◌, IfOk, Option};
+ghost use Rattle.std.specs.Option.{option_map};
+ghost use Rattle.rtps_types.specs.declared.time.Timestamp.{Timestamp};
+ghost use Rattle.rtps_types.specs.Number.{value_of};
+ghost use Rattle.rtps_types.specs.Sets.{frag_view};
+ghost use Rattle.rtps_receiver.specs.declared.body.Body.TheVariants as body;
+ghost use Rattle.rtps_receiver.specs.Views.{heartbeat_frag_view};
+ghost use Rattle.rtps_proxy.specs.Effects.{came, exceeds};
+ghost use Rattle.rtps_proxy.specs.Kept.{awaited, lacks_frags, whom};
+ghost use Rattle.rtps_proxy.specs.NackFrag.{nack_by};
+ghost use Rattle.rtps_proxy.specs.Replies.{nack_of, reply_view};
+ghost use Rattle.rtps_proxy.specs.Steps.{ReliableTakes};
+
+use crate::config::ProxyConfig;
+use crate::effects::{Effects, ProxyError};
+use crate::pending::{is_there, place_of};
+use crate::reliable::Reliable;
+use rtps_frags::missing_of_none;
+use rtps_receiver::HeartbeatFrag;
+use rtps_types::{FragSet, Guid, Locators, Number, Reply};
+use rtps_wire::{NackFrag, write_nack_frag};
+use std::alloc::Allocator;
+
+impl<A: Allocator + Copy> Reliable<A> {
+    /// Whether a heartbeat of fragments with this count is accepted.
+    fn is_frag_accepted(&self, count: i32) -> bool
+        ensures { result ≡ exceeds self.now.frag_accepted count }
+    {
+        match self.frag_accepted {
+            None => true,
+            Some(greatest) => greatest < count,
+        }
+    }
+
+    /// The fragments that an accepted one asks for: none where the number is settled.
+    fn missing_fragments(&self, alloc: A, heartbeat: &HeartbeatFrag) -> Option<FragSet>
+        ensures { option_map frag_view result
+            ≡ lacks_frags (awaited self.now) (heartbeat_frag_view heartbeat.now) }
+    {
+        let number = heartbeat.number.get();
+        if self.settled.contains(number) {
+            return None;
+        }
+        let pending = self.pending.as_slice();
+        let at = place_of(pending, number);
+        if !is_there(pending, at, number) {
+            return missing_of_none(alloc, heartbeat.last);
+        }
+        pending[at].sample.missing_up_to(heartbeat.last)
+    }
+
+    /// The answer with these missing fragments, to the writer's locators.
+    fn nack_to(
+        &self,
+        alloc: A,
+        config: &ProxyConfig<A>,
+        number: Number,
+        missing: FragSet,
+    ) -> Result<Reply<A>, ProxyError>
+        ensures { IfOk result (λ reply. reply_view reply ≡ nack_of (whom config.now)
+            (nack_by (value_of number) self.now.nacks (frag_view missing))) }
+    {
+        let octets = write_nack_frag(
+            alloc,
+            NackFrag {
+                reader: Guid {
+                    prefix: config.own,
+                    entity: config.reader,
+                },
+                writer: config.writer,
+                number,
+                missing,
+                count: self.nacks.wrapping_add(1),
+            },
+        )?;
+        let to = Vec::from_slice(alloc, config.locators.as_slice())?;
+        Ok(Reply {
+            to: Locators::new(to),
+            octets,
+        })
+    }
+
+    /// Takes in a heartbeat of fragments. One whose count isn't above those of all earlier ones does
+    /// nothing.
+    pub fn on_heartbeat_frag<'a>(
+        &mut self,
+        alloc: A,
+        config: &ProxyConfig<A>,
+        heartbeat: &HeartbeatFrag,
+    ) -> Result<Effects<'a, A>, ProxyError>
+        ensures { (time : Option Timestamp) → ReliableTakes (whom config.now) (awaited self.old)
+            (awaited self.new) (came time (body.HeartbeatFrag heartbeat.now)) result }
+    {
+        let heartbeat = *heartbeat;
+        if !self.is_frag_accepted(heartbeat.count) {
+            return Ok(Effects::none(alloc));
+        }
+        self.frag_accepted = Some(heartbeat.count);
+        let Some(missing) = self.missing_fragments(alloc, &heartbeat) else {
+            return Ok(Effects::none(alloc));
+        };
+        let reply = self.nack_to(alloc, config, heartbeat.number, missing)?;
+        self.nacks = self.nacks.wrapping_add(1);
+        Ok(Effects {
+            lost: 0,
+            ready: Vec::new(alloc),
+            answer: Some(reply),
+        })
+    }
+}
