@@ -39,8 +39,8 @@ abbrev pub inline_key : Option KeyHash → Result KeyHash UnreadCode
 inline_key (Some h) = Ok h
 inline_key None = Err NoKey
 
--- the value of a change without status bits: a value payload is decoded; a key, no payload or one in
--- no standard form is unread
+-- the value of a change without status bits: a value payload is decoded; a key, no payload or one
+-- in no standard form is unread
 abbrev pub value_for : {M : Type 0} → Decoding M → Form → List ℕ → Result M UnreadCode
 value_for decoding form.Value payload = unpacked (encapsulated payload) decoding.meaning
 value_for decoding form.Key payload = Err NonStandard

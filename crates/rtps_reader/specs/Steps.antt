@@ -16,4 +16,5 @@ asked (code.Event writer time body) = Event writer (came time body.now)
 -- what an event asks of each reader that it is for
 abbrev pub asks_of : Happening → Asks
 asks_of h =
-    Event (record { prefix = h.source; entity = h.writer }) (record { time = h.time; body = h.body })
+    Event (record { prefix = h.source; entity = h.writer })
+    (record { time = h.time; body = h.body })

@@ -22,8 +22,8 @@ abbrev pub notices_in : {V M A : Type 0} → (V → M) → Vec (Notice V) A → 
 notices_in f notices = map (notice_view f) notices.items
 
 -- an outcome has what was put out: a list of notices for each reader, and the answers
-pub record Deals {V M A : Type 0} (f : V → M) (count : ℕ) (put : List (Put M)) (outcome : Outcome V A)
-    : Type 0 where
+pub record Deals {V M A : Type 0} (f : V → M) (count : ℕ) (put : List (Put M))
+    (outcome : Outcome V A) : Type 0 where
   pub readers : length outcome.notices.items ≡ count
   pub notices : (rank : ℕ) (other : Vec (Notice V) A) → rank < count
       → notices_in f (slice_index_or outcome.notices.items rank other) ≡ notices_by rank put

@@ -76,9 +76,9 @@ pub record StandsAt {C M : Type 0} (decoding : C → Decoding M) (datagrams : Li
 abbrev pub datagram_limit : ℕ
 datagram_limit = 2 ^ 48
 
--- How a datagram is taken, and when each refusal comes: Failed exactly where an earlier datagram was
--- out of memory, which leaves the engine failed, Spent exactly where one datagram more would pass the
--- limit. Either leaves the engine as it was.
+-- How a datagram is taken, and when each refusal comes: Failed exactly where an earlier datagram
+-- was out of memory, which leaves the engine failed, Spent exactly where one datagram more would
+-- pass the limit. Either leaves the engine as it was.
 unfoldable pub Takes : {C X : Type 0} → Result X EngineError → EngineKept C → EngineKept C → Type 0
 Takes (Ok x) old new =
     (old.failed ≡ false) × (old.index < datagram_limit)

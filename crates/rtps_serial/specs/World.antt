@@ -47,8 +47,8 @@ reader_by e r = if reaches e r then reader_after r (asks_of e) else r
 abbrev pub sent_by : {M : Type 0} → ℕ → Place × Sent → Put M
 sent_by rank s = Sends (record { place = s.0; rank = Some rank; to = s.1.to; octets = s.1.octets })
 
--- what the reader of a rank puts out at an event that reaches it: its notices, in order, and then its
--- answer
+-- what the reader of a rank puts out at an event that reaches it: its notices, in order, and then
+-- its answer
 abbrev pub puts_reached : {M : Type 0} → Decoding M → Happening → ℕ → Reader → List (Put M)
 puts_reached decoding e rank r =
     map (Hears rank) (tells decoding r e.place (asks_of e))
