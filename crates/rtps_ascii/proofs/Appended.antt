@@ -1,4 +1,4 @@
--- Pieces of text one behind the other.
+-- Pieces of text one after the other.
 use Rattle.std.proofs.Common.{◌≡◌, ℕ, List, [], ◌∷◌, ◌++◌, refl, ◌∙◌, append_assoc}
 
 -- a text to which each piece is added in turn

@@ -24,7 +24,7 @@ record IsCounted {A : Type 0} (P : ℕ → ℕ → List ℕ → A → Type 0) (a
 abbrev Stands : {A : Type 0} → (ℕ → ℕ → List ℕ → A → Type 0) → ℕ → List ℕ → ℕ → A × ℕ → Type 0
 Stands P count octets at x = (back : List ℕ) × (rest : List ℕ) × (drop at octets ≡ back ++ rest) × P count at back x.0 × (x.1 ≡ at + length back)
 
--- what stands behind a count, by its function
+-- what stands after a count, by its function
 record BodyReads {A : Type 0} (P : ℕ → ℕ → List ℕ → A → Type 0) (count : ℕ) (octets : List ℕ) (at : ℕ) (r : Read A) : Type 0 where
   found : (x : A × ℕ) → r ≡ Ok x → Stands P count octets at x
   only : (v : A) (back rest : List ℕ) → drop at octets ≡ back ++ rest → P count at back v → r ≡ Ok (v, at + length back)
@@ -176,7 +176,7 @@ text_reads c after answer within e f = rw (e, f) (text_law c within)
 
 -- ---- sequences
 
--- as many items as the count says, one behind the other
+-- as many items as the count says, one after the other
 abbrev AreItems : (t : CdrType) → Endian → ℕ → ℕ → List ℕ → List (ValueOf t) → Type 0
 AreItems t e count at back vs = (length vs ≡ count) × AreAll (λ p os v. IsCdr Free t p e os v) at back vs
 
@@ -186,7 +186,7 @@ no_items : (t : CdrType) (c : Cursor) (v : List (ValueOf t)) (back : List ℕ) �
 no_items t c [] back is = rw (is.1) (ap (λ (p : ℕ). Ok ([], p)) (omega arith))
 no_items t c (v ∷ vs) back is = absurd (omega (arith, is.0))
 
--- an item, and those behind it
+-- an item, and those after it
 more_items : (t : CdrType) (c : Cursor) (n : ℕ) (x : ValueOf t) (at : ℕ) → Reads t c (placed c at) (Ok x) → (r : Read (List (ValueOf t))) → BodyReads (AreItems t c.endian) n c.octets at r →
     BodyReads (AreItems t c.endian) (suc n) c.octets c.position (followed_by r (λ xs after. Ok (x ∷ xs, after)))
 more_items t c n x at law r reads = record { found = λ y h. found t c n x at law.found r reads y h; only = λ v back rest whole is. only t c n x at law r reads v back rest whole is } where

@@ -1,4 +1,4 @@
--- Texts one behind the other: what is left when one of them is read.
+-- Texts one after the other: what is left when one of them is read.
 use Rattle.std.proofs.Common.{◌≡◌, ℕ, zero, suc, ◌+◌, ◌-◌, ◌<◌, ◌≤◌, true, is_ok, List, [], ◌∷◌, Ok, Err, refl, sym, ◌∙◌, ap, arith}
 use Rattle.std.specs.Borrow.{Bor}
 use Rattle.rtps_cdr.specs.declared.fault.CdrFault.{CdrFault}
@@ -8,7 +8,7 @@ pub texts_none : (n : ℕ) (c : Cursor) → n ≡ 0 → texts_left n c ≡ []
 unfolding items_in
 texts_none n c e = rw e refl
 
--- the items of one text and of those behind it
+-- the items of one text and of those after it
 texts_step : (n : ℕ) (c : Cursor) (t : List ℕ) (after : ℕ) → ¬ (n ≡ 0) → Ok (t, after) ≡ text_in c →
     items_in text_in n c ≡ followed_by (items_in text_in (n - 1) (placed c after)) (λ ts behind. Ok (t ∷ ts, behind))
 unfolding items_in
@@ -40,7 +40,7 @@ texts_fault (suc n) c f some e = rw (← e) refl
 pub texts_sound : (n : ℕ) (c : Cursor) (f : CdrFault) → ¬ (n ≡ 0) → is_ok (items_in text_in n c) ≡ true → Err f ≡ text_in c → ⊥
 texts_sound n c f some good e = cc (good, ap is_ok (texts_fault n c f some e))
 
--- ---- the places behind them
+-- ---- the places after them
 
 pub places_step : (n i : ℕ) (c : Cursor) (t : Bor (List ℕ)) (after : ℕ) → i < n → Ok (t.now, after) ≡ text_in c →
     place_of (items_in text_in (n - (i + 1)) (placed c after)) ≡ place_of (items_in text_in (n - i) c)

@@ -1,4 +1,4 @@
--- Fragments behind those at the front.
+-- Fragments after those at the front.
 use Rattle.std.proofs.Common.{◌≡◌, ℕ, suc, ◌+◌, ◌-◌, ◌<◌, ◌≤◌, Bool, true, false, ◌&&◌, cond, List, [], ◌∷◌, ◌++◌, length, take, drop, refl, sym, ◌∙◌, ap, subst, arith, ltb, leb, inl, inr, Option, Some, None}
 use Rattle.std.specs.Prelude.{is_some}
 use Rattle.std.specs.BTreeMap.{insert_entry}
@@ -12,7 +12,7 @@ use Rattle.rtps_frags.specs.Runs.{AreApart, AreKept, Fits, Run, Runs, covers, in
 use Rattle.rtps_frags.proofs.Cuts.{before_first, before_rises, goes_on, low_end, upto_rises}
 use Rattle.rtps_frags.proofs.Runs.{IsFree, insert_all, insert_apart, insert_finds, kept_is, or_none, weaken}
 
--- runs of which none begins with a fragment, or has one of some, are behind these
+-- runs of which none begins with a fragment, or has one of some, are after these
 pub behind_one : (rs : Runs) (low : ℕ) → AreApart low rs → starts_at low rs ≡ false → AreApart (suc low) rs
 behind_one [] low h none = tt
 behind_one (r ∷ rs) low h none =
@@ -141,7 +141,7 @@ join_kept z cut next front run rs kept =
 pub join_same : (z : Sizes) (cut : 0 < z.fragment) (next : ℕ) (front : List ℕ) (run : Run) (rs : Runs) → AreKept z next next front ((next, run) ∷ rs) → (k : ℕ) → kept_at z (next + run.count) (front ++ run.octets) rs k ≡ kept_at z next front ((next, run) ∷ rs) k
 join_same z cut next front run rs kept k = joined_finds z cut next run.count front run.octets kept.begun kept.apart.1 kept.fits.0.0 kept.full kept.fits.0.1 rs k
 
--- where it has to wait no more, the front is behind it
+-- where it has to wait no more, the front is after it
 pub join_left : (z : Sizes) (next : ℕ) (front : List ℕ) (run : Run) (rs : Runs) → AreKept z next next front ((next, run) ∷ rs) → AreKept z (suc next) next front rs
 join_left z next front run rs kept =
     let some : 0 < run.count = kept.apart.1 in

@@ -1,5 +1,6 @@
 pub mod Cuts
 pub mod Runs
+pub mod Ahead
 pub mod Fronts
 pub mod Adding
 pub mod Listed

@@ -180,7 +180,7 @@ piece_then z cut payload size k one le =
         subst_le : z.sample ≤ before z (suc (last_of z)) → k ≡ last_of z → z.sample ≤ before z (suc k)
         subst_le r e = rw e r
 
--- the fragments of a payload, one behind the other, from fragment k on
+-- the fragments of a payload, one after the other, from fragment k on
 pub payload_listed : (z : Sizes) (cut : 0 < z.fragment) (payload : List ℕ) (f : ℕ → Option (List ℕ)) → length payload ≡ z.sample → ((j : ℕ) → 1 ≤ j → j ≤ last_of z → f j ≡ Some (fragment_in z 1 payload j))
     → (k n : ℕ) → 1 ≤ k → k + n ≡ suc (last_of z) → payload_of (listed f k n) ≡ drop (before z k) payload
 payload_listed z cut payload f size found k zero one e =

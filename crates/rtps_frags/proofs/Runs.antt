@@ -86,7 +86,7 @@ apart_filter p (x ∷ rs) low h = by_test (p x) (apart_filter p rs (end_of x) h.
     by_test true rest = (h.0, h.1, rest)
     by_test false rest = let first : low ≤ x.0 = h.0 in weaken (filter p rs) (end_of x) low rest (omega arith)
 
--- none is behind the end of the last
+-- none is after the end of the last
 pub none_behind : (t : Runs) (r : ℕ × Run) (low k : ℕ) → AreApart low (t ++ r ∷ []) → end_of r ≤ k → (low ≤ r.0) × (covers (t ++ r ∷ []) k ≡ false)
 none_behind [] r low k h le =
     let out : within k r ≡ false = grind (arith, nat_tests) in
@@ -106,7 +106,7 @@ module _ (k : ℕ) (run : Run) (some : 0 < run.count) where
   free_behind : (x : ℕ × Run) (rs : Runs) → IsFree (x ∷ rs) → IsFree rs
   free_behind x rs h j le l = (or_none (within j x) (covers rs j) (h j le l)).1
 
-  -- it is before a run, or behind
+  -- it is before a run, or after
   clear : (x : ℕ × Run) (rs : Runs) → 0 < x.1.count → IsFree (x ∷ rs) → (k + run.count ≤ x.0) ⊎ (end_of x ≤ k)
   clear x rs more h =
       elim (leb_tells (k + run.count) x.0) [

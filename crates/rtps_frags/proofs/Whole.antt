@@ -77,7 +77,7 @@ module _ (z : Sizes) where
             )
       ]
 
-  -- where fragment k ends, the one behind it begins, up to the last
+  -- where fragment k ends, the one after it begins, up to the last
   ends : (k : ℕ) → upto z k ≡ min (before z (suc k)) z.sample
   ends k = refl
 

@@ -69,6 +69,6 @@ has_all there k (suc count) = has there k && has_all there (suc k) count
 abbrev pub is_whole : Sizes → There → Bool
 is_whole z there = not (is_empty z) && has_all there 1 (last_of z)
 
--- the fragments, one behind the other
+-- the fragments, one after the other
 abbrev pub payload_of : There → List ℕ
 payload_of there = flat_map (λ f. f.1) there

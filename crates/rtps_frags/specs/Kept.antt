@@ -16,7 +16,7 @@ pub record Kept : Type 0 where
 abbrev pub with_part : Kept → ℕ → ℕ → List ℕ → Kept
 with_part a start count octets = record { sizes = a.sizes; there = with_fragments a.sizes start octets a.there start count; spent = false }
 
--- what a refusal leaves: a fault changes nothing, want of memory spends the assembly
+-- what a refusal leaves: a fault changes nothing, being out of memory spends the assembly
 abbrev pub Leaves : Kept → Kept → Option FragFault → AddError → Type 0
 Leaves old new fault (Fault f) = (fault ≡ Some f) × (new ≡ old)
 Leaves old new fault NoMemory = new.spent ≡ true

@@ -4,3 +4,4 @@ pub mod Runs
 pub mod Kept
 pub mod Payload
 pub mod Parts
+pub mod Spans

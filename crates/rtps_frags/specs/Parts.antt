@@ -5,7 +5,7 @@ use Rattle.rtps_frags.specs.declared.sizes.Sizes.{Sizes}
 use Rattle.rtps_frags.specs.Fragments.{There}
 use Rattle.rtps_frags.specs.Runs.{AreKept, covers, kept_at, there_of}
 
--- the runs are behind the least fragment that is missing
+-- the runs are after the least fragment that is missing
 abbrev pub IsKept : {A : Type 0} → Sizes → Parts A → Type 0
 IsKept z p = AreKept z (suc p.next) p.next p.front.items p.early.entries
 

@@ -1,10 +1,10 @@
--- Fragments that are kept where they came: those before the least missing one in one piece, and runs behind it.
+-- Fragments that are kept where they came: those before the least missing one in one piece, and runs after it.
 use Rattle.std.specs.Prelude.{◌≡◌, ℕ, zero, suc, ◌+◌, ◌-◌, ◌<◌, ◌≤◌, Bool, false, ◌&&◌, ◌==◌, List, [], ◌∷◌, length, nat_lt, nat_le, Option, Some, None, filter, if◌then◌else◌}
 use Rattle.std.specs.List.{list_any, AllByRecursion}
 use Rattle.rtps_frags.specs.declared.sizes.Sizes.{Sizes}
 use Rattle.rtps_frags.specs.Fragments.{There, fragment_in, last_of, length_of, upto}
 
--- fragments that lie behind one another: how many, and their octets
+-- fragments that lie one after another: how many, and their octets
 pub record Run : Type 0 where
   pub count : ℕ
   pub octets : List ℕ
@@ -22,7 +22,7 @@ within k r = nat_le r.0 k && nat_lt k (end_of r)
 abbrev pub covers : Runs → ℕ → Bool
 covers runs k = list_any (within k) runs
 
--- those that begin up to fragment k, and those behind it
+-- those that begin up to fragment k, and those after it
 abbrev pub begun_by : ℕ → Runs → Runs
 begun_by k runs = filter (λ r. nat_le r.0 k) runs
 
@@ -48,7 +48,7 @@ AreApart low (r ∷ rs) = (low ≤ r.0) × (0 < r.1.count) × AreApart (end_of r
 abbrev pub Fits : Sizes → ℕ × Run → Type 0
 Fits z r = (end_of r ≤ suc (last_of z)) × (length r.1.octets ≡ length_of z r.0 r.1.count)
 
--- the front is fragments 1 up to below `next`, and the runs are behind it
+-- the front is fragments 1 up to below `next`, and the runs are after it
 pub record AreKept (z : Sizes) (low next : ℕ) (front : List ℕ) (runs : Runs) : Type 0 where
   pub begun : 1 ≤ next
   pub reached : next ≤ suc (last_of z)

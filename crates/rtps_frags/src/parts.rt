@@ -9,16 +9,18 @@ ghost use Rattle.rtps_frags.specs.declared.sizes.Sizes.{Sizes};
 ghost use Rattle.rtps_frags.specs.Fragments.{fragment_in, last_of, length_of};
 ghost use Rattle.rtps_frags.specs.Missing.{missing_by};
 ghost use Rattle.rtps_frags.specs.Parts.{IsJoinable, IsKept, holds, part_at};
-ghost use Rattle.rtps_frags.specs.Runs.{AreApart, begins_behind, begun_by, covers, starts_at};
+ghost use Rattle.rtps_frags.specs.Runs.{AreApart, Runs, begins_behind, begun_by, covers, starts_at};
+ghost use Rattle.rtps_frags.specs.Spans.{IsAhead};
 
 use crate::sizes::Sizes;
 use rtps_types::{FragSet, set_bit};
 use std::alloc::{AllocError, Allocator};
 use std::collections::BTreeMap;
+use std::collections::btree_map::Iter;
 use std::marker::Model;
 use std::ops::Bound;
 
-/// Fragments that lie behind one another, behind one that is missing.
+/// Fragments that lie one after another, after one that is missing.
 #[derive(Drop)]
 pub(crate) struct Chunk<A: Allocator> {
     count: u32,
@@ -41,14 +43,21 @@ pub(crate) struct Piece<'a> {
     pub octets: &'a [u8],
 }
 
+/// Fragments from one on and below another.
+#[derive(Clone, Copy)]
+struct Span {
+    start: u64,
+    end: u64,
+}
+
 /// What came of a sample.
 #[derive(Drop)]
 pub(crate) struct Parts<A: Allocator> {
     /// The octets of the fragments before the least one that is missing.
     pub front: Vec<u8, A>,
-    /// The least fragment that is missing, or the one behind the last.
+    /// The least fragment that is missing, or the one after the last.
     pub next: u32,
-    /// Those behind it, by the first of each chunk.
+    /// Those after it, by the first of each chunk.
     pub early: BTreeMap<u32, Chunk<A>, A>,
 }
 
@@ -67,7 +76,7 @@ fn end_around<A: Allocator>(early: &BTreeMap<u32, Chunk<A>, A>, at: u32) -> Opti
     if u64::from(at) < end { Some(end) } else { None }
 }
 
-/// The first chunk that begins behind a fragment, or the greatest number.
+/// The first chunk that begins after a fragment, or the greatest number.
 fn start_behind<A: Allocator>(early: &BTreeMap<u32, Chunk<A>, A>, at: u32) -> u64
     requires { (low : ℕ) × AreApart low early.now.entries }
     ensures goes { at < result }
@@ -76,6 +85,34 @@ fn start_behind<A: Allocator>(early: &BTreeMap<u32, Chunk<A>, A>, at: u32) -> u6
     match early.range((Bound::Excluded(at), Bound::Unbounded)).next() {
         Some((start, _)) => u64::from(*start),
         None => u64::MAX,
+    }
+}
+
+/// The next fragments that are there, where those of the last chunk lie before a fragment. After all
+/// chunks none is there up to a limit.
+fn next_span<A: Allocator>(
+    chunks: &mut Iter<'_, u32, Chunk<A>>,
+    last: Span,
+    at: u64,
+    limit: u64,
+) -> Span
+    requires { at < limit }
+    ensures goes { (runs : Runs) → IsAhead runs at last chunks.old → at < result.end }
+    ensures same { (runs : Runs) → IsAhead runs at last chunks.old
+        → IsAhead runs at result chunks.new }
+{
+    if at < last.end {
+        return last;
+    }
+    match chunks.next() {
+        Some((start, chunk)) => Span {
+            start: u64::from(*start),
+            end: u64::from(*start) + u64::from(chunk.count),
+        },
+        None => Span {
+            start: limit,
+            end: limit,
+        },
     }
 }
 
@@ -214,7 +251,8 @@ impl<A: Allocator> Parts<A> {
         Some(self.missing_from_next(count))
     }
 
-    /// Those of so many fragments from the least missing one on that are missing.
+    /// Those of so many fragments from the least missing one on that are missing. The chunks are
+    /// walked through beside the fragments.
     fn missing_from_next(&self, count: u32) -> FragSet
         requires some { 0 < count }
         requires few { count ≤ 256 }
@@ -225,32 +263,23 @@ impl<A: Allocator> Parts<A> {
             ≡ set_naming self.now.next (failing_from (holds self.now) self.now.next count) }
     {
         let base = self.next;
+        let end = u64::from(base) + u64::from(count);
         let mut words = [0; 8];
         let mut bits: u32 = 0;
-        let mut stretch = (false, u64::from(base));
+        let mut chunks = self.early.iter();
+        let mut span = Span {
+            start: u64::from(base),
+            end: u64::from(base),
+        };
         for offset in 0..count {
-            stretch = self.stretch_with(stretch, base + offset);
-            if !stretch.0 {
+            let at = u64::from(base + offset);
+            span = next_span(&mut chunks, span, at, end);
+            if at < span.start {
                 set_bit(&mut words, offset);
                 bits = offset + 1;
             }
         }
         FragSet { base, bits, words }
-    }
-
-    /// The stretch that a fragment is in, where the last one is known.
-    fn stretch_with(&self, last: (bool, u64), at: u32) -> (bool, u64)
-        requires first { 1 ≤ at }
-        requires apart { (low : ℕ) × AreApart low self.now.early.entries }
-        requires known { (k : ℕ) → at ≤ k → k < last.1 → holds self.now k ≡ last.0 }
-        ensures goes { at < result.1 }
-        ensures same { (k : ℕ) → at ≤ k → k < result.1 → holds self.now k ≡ result.0 }
-    {
-        if u64::from(at) < last.1 {
-            last
-        } else {
-            self.stretch_from(at)
-        }
     }
 }
 

@@ -1,4 +1,4 @@
--- What a line asks for, by the subcommand that clap finds in it and by what clap finds behind that.
+-- What a line asks for, by the subcommand that clap finds in it and by what clap finds after that.
 use Rattle.std.specs.Prelude.{◌≡◌, List, [], Option, Some, None, codes, Result, Err, IfErr}
 use Rattle.clap.specs.Words.{Row, Text}
 use Rattle.rtps_listen.specs.declared.asked.Asked.{Asked}
@@ -19,7 +19,7 @@ abbrev pub IsReplay : Option (Text × List Row) → Type 0
 IsReplay None = ⊥
 IsReplay (Some found) = found.0 ≡ codes "replay"
 
--- what was found behind the subcommand
+-- what was found after the subcommand
 abbrev pub rows_behind : Option (Text × List Row) → List Row
 rows_behind None = []
 rows_behind (Some found) = found.1

@@ -1,4 +1,4 @@
--- The options of `replay`, by what clap finds behind it.
+-- The options of `replay`, by what clap finds after it.
 use Rattle.std.specs.Prelude.{◌≡◌, ℕ, nat_le, List, Bool, false, ◌&&◌, if◌then◌else◌, codes, unwrap_or, option_map}
 use Rattle.std.specs.Option.{option_map_or}
 use Rattle.std.specs.Str.{bytes_eq}
@@ -7,7 +7,7 @@ use Rattle.clap.specs.Walk.{byte_or_zero}
 use Rattle.rtps_listen.specs.declared.options.Options.{Options}
 use Rattle.rtps_listen.specs.Line.{own_text, topic_text}
 
--- the text behind this name, or else this one
+-- the text after this name, or else this one
 abbrev pub text_or : Text → Text → List Row → Text
 text_or name other rows = unwrap_or (first_of name rows) other
 
@@ -15,7 +15,7 @@ text_or name other rows = unwrap_or (first_of name rows) other
 abbrev pub is_set : Text → List Row → Bool
 is_set name rows = option_map_or (λ text. bytes_eq text (codes "true")) (one_of name rows) false
 
--- the number behind this name, or 0
+-- the number after this name, or 0
 abbrev pub number_in : Text → List Row → ℕ
 number_in name rows = option_map_or byte_or_zero (one_of name rows) 0
 

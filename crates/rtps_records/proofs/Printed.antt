@@ -17,7 +17,7 @@ pub texts_begin : (line : ℕ → List ℕ → List ℕ) (records more : List (L
 texts_begin line records more said e =
     (text_from line (0 + length records) more, text_both line 0 records more ∙ ap (λ l. l ++ text_from line (0 + length records) more) (sym e))
 
--- the text of a record is said behind the texts of the records before it
+-- the text of a record is said after the texts of the records before it
 pub says_one_more : (line : ℕ → List ℕ → List ℕ) (n : ℕ) (octets old new : List ℕ) → new ≡ old ++ line n octets
     → Says (λ records said. said ≡ text_of line records) (λ records said. said ≡ text_of line records) n octets old new
 unfolding Says

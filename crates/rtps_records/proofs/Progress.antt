@@ -138,7 +138,7 @@ cut_first : (text : List (List ℕ) → List ℕ) (before after old : Option (Li
 unfolding WroteRead
 cut_first text before after old part = (part.0, part.1, inl (part.2, Keeps-refl old))
 
--- the run stops at a fault that stands behind the records
+-- the run stops at a fault that stands after the records
 pub stops_here : (text : List (List ℕ) → List ℕ) (fault : RunFault) (before now after old new : Option (List ℕ)) (n : ℕ) → Finished text before now old new n → FaultHere fault n now after
     → Stops text fault before after old new
 unfolding Stops
@@ -283,7 +283,7 @@ stops_closing said text whole before now after old mid new n kept end fault few 
       )
 ]
 
--- what is to be said behind the text that was kept back was written with it
+-- what is to be said after the text that was kept back was written with it
 pub closes : (said : List (List ℕ) → List ℕ → Type 0) (text : List (List ℕ) → List ℕ) (old new : Option (List ℕ)) (kept out : List ℕ) → Ends said text kept out → Appends old new out
     → Closes said text old new kept
 unfolding Ends Closes

@@ -51,7 +51,7 @@ Reads octets records fault = (rest : List ℕ) × Holds octets records rest × E
 abbrev pub IsOther : List ℕ → Type 0
 IsOther octets = (more : List ℕ) → ¬ (octets ≡ magic ++ more)
 
--- what was read behind n records holds no whole record; behind the greatest number of records it is nothing
+-- what was read after n records holds no whole record; after the greatest number of records it is nothing
 abbrev pub IsPartial : ℕ → List ℕ → Type 0
 IsPartial n octets = (octets ≡ []) ⊎ ((n < 4294967295) × IsCut octets)
 
@@ -65,7 +65,7 @@ FaultFirst TooManyRecords before after = ⊥
 FaultFirst CannotWrite before after = ⊥
 FaultFirst NoMemory before after = ⊥
 
--- the fault that stands behind n records
+-- the fault that stands after n records
 abbrev pub FaultHere : RunFault → ℕ → Option (List ℕ) → Option (List ℕ) → Type 0
 FaultHere CannotRead n before after = (taken : List ℕ) × Consumes before after taken × IsPartial n taken
 FaultHere NotRecordFile n before after = ⊥

@@ -10,7 +10,7 @@ abbrev pub text_from : (ℕ → List ℕ → List ℕ) → ℕ → List (List �
 text_from line n [] = []
 text_from line n (octets ∷ records) = line n octets ++ text_from line (n + 1) records
 
--- the texts of a file's records, one behind the other
+-- the texts of a file's records, one after the other
 abbrev pub text_of : (ℕ → List ℕ → List ℕ) → List (List ℕ) → List ℕ
 text_of line records = text_from line 0 records
 
@@ -21,7 +21,7 @@ Says before after number octets old new =
     (added : List ℕ) × (new ≡ old ++ added)
     × ((records : List (List ℕ)) (said : List ℕ) → before records said → length records ≡ number → after (records ++ octets ∷ []) (said ++ added))
 
--- what is added behind the last record: the text grows by the rest of the whole text
+-- what is added after the last record: the text grows by the rest of the whole text
 unfoldable pub Ends : (List (List ℕ) → List ℕ → Type 0) → (List (List ℕ) → List ℕ) → List ℕ → List ℕ → Type 0
 Ends before text old new =
     (added : List ℕ) × (new ≡ old ++ added) × ((records : List (List ℕ)) (said : List ℕ) → before records said → text records ≡ said ++ added)

@@ -42,7 +42,7 @@ flags_text true false = codes "F"
 flags_text false true = codes "L"
 flags_text false false = codes "-"
 
--- numbers behind others, each behind a comma
+-- numbers after others, each after a comma
 abbrev pub more_text : List ℕ → List ℕ
 more_text [] = []
 more_text (n ∷ ns) = codes "," ++ (decimal n ++ more_text ns)

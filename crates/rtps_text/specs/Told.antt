@@ -46,7 +46,7 @@ address_text a = decimal (slice_index a 0) ++ (codes "." ++ (decimal (slice_inde
 abbrev pub locator_text : Locator → List ℕ
 locator_text l = address_text l.address ++ (codes ":" ++ decimal l.port)
 
--- locators behind others, each behind a comma
+-- locators after others, each after a comma
 abbrev pub more_locators : List Locator → List ℕ
 more_locators [] = []
 more_locators (l ∷ ls) = codes "," ++ (locator_text l ++ more_locators ls)

@@ -124,7 +124,7 @@ module _ (p : ℕ → Bool) (base : ℕ) where
       by_test true rest = omega arith
       by_test false rest = omega arith
 
-  -- behind the last bit nothing fails
+  -- after the last bit nothing fails
   bits_reach : (c o : ℕ) → failing_from p (base + o) (bits_of base (failing_from p (base + o) c) - o) ≡ failing_from p (base + o) c
   bits_reach zero o = let none : 0 - o ≡ 0 = omega arith in rw none refl
   bits_reach (suc c) o =

@@ -50,7 +50,7 @@ put_number at n e x old small h =
     let len = length-spelled e n x in
     number_at-put_at at n e (spelled e n x) old x (omega arith) (number-spelled e n x (drop (at + length (spelled e n x)) old) small) (omega arith)
 
--- two fields one behind the other are one field
+-- two fields one after the other are one field
 pub put_at-append : (at n : ℕ) (first second old : List ℕ) → length first ≡ n → at + length first + length second ≤ length old → put_at (at + n) second (put_at at first old) ≡ put_at at (first ++ second) old
 put_at-append at n first second old len h =
     let is = put_at-mid at first old in

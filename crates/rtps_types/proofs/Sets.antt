@@ -13,6 +13,6 @@ members_named base k bits words h named = one_offset base k bits words h ∙ rw 
 pub members_unnamed : (base k bits : ℕ) (words : List ℕ) → k < bits → names words k ≡ false → members_from base words k (bits - k) ≡ members_from base words (k + 1) (bits - (k + 1))
 members_unnamed base k bits words h named = one_offset base k bits words h ∙ rw named refl
 
--- behind the last offset there is no member
+-- after the last offset there is no member
 pub members_end : (base k bits : ℕ) (words : List ℕ) → bits ≤ k → members_from base words k (bits - k) ≡ []
 members_end base k bits words h = let e : bits - k ≡ 0 = omega arith in rw e refl

@@ -3,7 +3,7 @@ use Rattle.std.proofs.Common.{◌≡◌, ℕ, suc, ◌+◌, ◌-◌, ◌<◌, �
 use Rattle.rtps_types.specs.Named.{bits_of, with_bit, with_bits}
 use Rattle.rtps_types.specs.Numbers.{failing_from}
 
--- what is left of a walk over the numbers from base on, behind what the walk has made so far
+-- what is left of a walk over the numbers from base on, after what the walk has made so far
 pub record Walked (p : ℕ → Bool) (base count offset : ℕ) (made zeros : List ℕ) (reach : ℕ) : Type 0 where
   pub words : with_bits base made (failing_from p (base + offset) (count - offset)) ≡ with_bits base zeros (failing_from p base count)
   pub bits : max reach (bits_of base (failing_from p (base + offset) (count - offset))) ≡ bits_of base (failing_from p base count)

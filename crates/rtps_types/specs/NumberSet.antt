@@ -16,6 +16,6 @@ names words k = not (bit_and (slice_index words (k / 32)) (2 ^ (31 - k % 32)) ==
 abbrev pub members_from : ℕ → List ℕ → ℕ → ℕ → List ℕ
 members_from base words k n = map (λ offset. base + offset) (filter (names words) (range_with_len k n))
 
--- the members of a set, in order; bits behind its count name nothing
+-- the members of a set, in order; bits after its count name nothing
 abbrev pub members : NumberSet → List ℕ
 members s = members_from s.base s.words 0 s.bits

@@ -177,7 +177,7 @@ fn sets_name_their_members_in_order(rt: HostRuntime) -> Result<(), Fail> {
     };
     let found: Vec<u64> = set.members().collect(rt.alloc())?;
     assert_eq!(rt; found.as_slice(), [10, 41, 43, 265].as_slice());
-    // Bits behind the count name nothing.
+    // Bits after the count name nothing.
     let cut: Vec<u64> = SnSet {
         base: 10,
         bits: 33,

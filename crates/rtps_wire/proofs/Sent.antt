@@ -85,7 +85,7 @@ words_there at n front words rest h len again =
     let test : leb (at + 4 * n) (length (front ++ (spelled_words words ++ rest))) ≡ true = le-leb _ _ (omega arith) in
     rw (test, drop_at front (spelled_words words ++ rest) at h, again) refl
 
--- ---- the members of a set whose words behind the last bit are zeros
+-- ---- the members of a set whose words after the last bit are zeros
 
 same_offsets : (p q : ℕ → Bool) (k n : ℕ) → ((j : ℕ) → j < k + n → p j ≡ q j) → filter p (range_with_len k n) ≡ filter q (range_with_len k n)
 same_offsets p q k zero h = refl
@@ -144,7 +144,7 @@ to_is to t =
     let test : leb 12 (length to.0) ≡ true = le-leb _ _ (omega arith) in
     rw (test, take_all 12 to.0 (omega arith)) refl
 
--- the octets behind the header are the two submessages
+-- the octets after the header are the two submessages
 two_items : (to : GuidPrefix) (id flags : ℕ) (body : List ℕ) → length to.0 ≡ 12 → endian_of flags ≡ Little → length body < 65536 → parts_of id flags body ≡ Some Skipped → IsReading (0x0e ∷ 1 ∷ 12 ∷ 0 ∷ (to.0 ++ submessage id flags body)) (answer_items to id flags) None
 two_items to id flags body t e small skipped = (
   submessage id flags body,

@@ -41,7 +41,7 @@ const MIDDLE: Policies = Policies {
     destination_order: DestinationOrder::BySourceTimestamp,
 };
 
-/// One offer less than what is asked for, and the id that is told of it.
+/// One offer less than what is asked for, and the id that is reported of it.
 const LESS: [(Policies, u32); 12] = [
     (
         Policies {

@@ -138,44 +138,60 @@ const WRITER: &str = "0000040000000000\
     23000800 0a00000000000080 01000000";
 
 #[test]
-fn a_record_as_peers_send_it(rt: HostRuntime) -> Result<(), Fail> {
+fn what_a_record_of_a_peer_names(rt: HostRuntime) -> Result<(), Fail> {
     let octets = octets_of(rt.alloc(), WRITER)?;
     let list = ParamList::new(octets.as_slice(), Endian::Little)?;
-    let mut settings = Settings::read(&list)?;
-    let prefix = GuidPrefix([10; 12]);
+    let settings = Settings::read(&list)?;
     // Of what comes again the last counts.
     assert_eq!(rt; settings.topic, Some("Square"));
     assert_eq!(rt; settings.type_name, Some("ShapeType"));
-    assert_eq!(rt;
-        settings.endpoint,
-        Some(Guid {
-            prefix,
-            entity: EntityId([0, 0, 1, 2])
-        })
-    );
-    assert_eq!(rt;
-        settings.participant,
-        Some(Guid {
-            prefix,
-            entity: EntityId([0, 0, 1, 0xc1])
-        })
-    );
+    let prefix = GuidPrefix([10; 12]);
+    let writer = Guid {
+        prefix,
+        entity: EntityId([0, 0, 1, 2]),
+    };
+    assert_eq!(rt; settings.endpoint, Some(writer));
+    let participant = Guid {
+        prefix,
+        entity: EntityId([0, 0, 1, 0xc1]),
+    };
+    assert_eq!(rt; settings.participant, Some(participant));
     assert_eq!(rt; settings.lease, None);
     assert_eq!(rt; settings.builtin_endpoints, None);
-    assert_eq!(rt; settings.policies.reliability, Reliability::Reliable);
-    assert_eq!(rt; settings.policies.durability, Durability::TransientLocal);
-    let half_past = Duration {
+    Ok(())
+}
+
+#[test]
+fn policies_of_a_record_of_a_peer(rt: HostRuntime) -> Result<(), Fail> {
+    let octets = octets_of(rt.alloc(), WRITER)?;
+    let list = ParamList::new(octets.as_slice(), Endian::Little)?;
+    let policies = Settings::read(&list)?.policies;
+    assert_eq!(rt; policies.reliability, Reliability::Reliable);
+    assert_eq!(rt; policies.durability, Durability::TransientLocal);
+    let deadline = Duration {
         seconds: 10,
         fraction: 0x8000_0000,
     };
-    assert_eq!(rt; settings.policies.deadline, half_past);
-    assert_eq!(rt;
-        settings.policies.latency_budget,
-        Duration {
-            seconds: 0,
-            fraction: 0
-        }
-    );
+    assert_eq!(rt; policies.deadline, deadline);
+    let no_time = Duration {
+        seconds: 0,
+        fraction: 0,
+    };
+    assert_eq!(rt; policies.latency_budget, no_time);
+    let offered = offered_from(rt.alloc(), &list)?;
+    assert_eq!(rt; offered.policies.durability, Durability::TransientLocal);
+    let names = offered.partitions.names();
+    assert_eq!(rt; names.len(), 2);
+    assert_eq!(rt; names[0].as_str(), "left2");
+    assert_eq!(rt; names[1].as_str(), "");
+    Ok(())
+}
+
+#[test]
+fn locators_of_a_record_of_a_peer(rt: HostRuntime) -> Result<(), Fail> {
+    let octets = octets_of(rt.alloc(), WRITER)?;
+    let list = ParamList::new(octets.as_slice(), Endian::Little)?;
+    let mut settings = Settings::read(&list)?;
     // Locators add up; another kind, and a port of 0 or of more than 16 bits, are left out.
     let first = Locator {
         port: 1,
@@ -190,12 +206,6 @@ fn a_record_as_peers_send_it(rt: HostRuntime) -> Result<(), Fail> {
     assert_eq!(rt; settings.unicast.next(), None);
     assert_eq!(rt; settings.default_unicast.next(), None);
     assert_eq!(rt; settings.metatraffic_unicast.next(), None);
-    let offered = offered_from(rt.alloc(), &list)?;
-    assert_eq!(rt; offered.policies.durability, Durability::TransientLocal);
-    let names = offered.partitions.names();
-    assert_eq!(rt; names.len(), 2);
-    assert_eq!(rt; names[0].as_str(), "left2");
-    assert_eq!(rt; names[1].as_str(), "");
     Ok(())
 }
 
@@ -207,17 +217,10 @@ const BIG: &str = "00020008 ffffffff80000000 001b000c 000000020000000500000000\
     0032001800000001 00001cf4 00000000 00000000 00000000 7f000001 00010000";
 
 #[test]
-fn a_record_in_big_endian_order(rt: HostRuntime) -> Result<(), Fail> {
+fn policies_in_big_endian_order(rt: HostRuntime) -> Result<(), Fail> {
     let octets = octets_of(rt.alloc(), BIG)?;
     let list = ParamList::new(octets.as_slice(), Endian::Big)?;
-    let mut settings = Settings::read(&list)?;
-    assert_eq!(rt;
-        settings.lease,
-        Some(Duration {
-            seconds: -1,
-            fraction: 0x8000_0000
-        })
-    );
+    let policies = Settings::read(&list)?.policies;
     let liveliness = Liveliness {
         kind: LivelinessKind::ManualByTopic,
         lease_duration: Duration {
@@ -225,25 +228,33 @@ fn a_record_in_big_endian_order(rt: HostRuntime) -> Result<(), Fail> {
             fraction: 0,
         },
     };
-    assert_eq!(rt; settings.policies.liveliness, liveliness);
-    assert_eq!(rt; settings.policies.ownership, Ownership::Exclusive);
+    assert_eq!(rt; policies.liveliness, liveliness);
+    assert_eq!(rt; policies.ownership, Ownership::Exclusive);
     let presentation = Presentation {
         access_scope: AccessScope::Group,
         coherent_access: true,
         ordered_access: false,
     };
-    assert_eq!(rt; settings.policies.presentation, presentation);
-    assert_eq!(rt;
-        settings.policies.destination_order,
-        DestinationOrder::BySourceTimestamp
-    );
-    assert_eq!(rt;
-        settings.policies.latency_budget,
-        Duration {
-            seconds: 0,
-            fraction: 1
-        }
-    );
+    assert_eq!(rt; policies.presentation, presentation);
+    assert_eq!(rt; policies.destination_order, DestinationOrder::BySourceTimestamp);
+    let least = Duration {
+        seconds: 0,
+        fraction: 1,
+    };
+    assert_eq!(rt; policies.latency_budget, least);
+    Ok(())
+}
+
+#[test]
+fn a_participant_in_big_endian_order(rt: HostRuntime) -> Result<(), Fail> {
+    let octets = octets_of(rt.alloc(), BIG)?;
+    let list = ParamList::new(octets.as_slice(), Endian::Big)?;
+    let mut settings = Settings::read(&list)?;
+    let lease = Duration {
+        seconds: -1,
+        fraction: 0x8000_0000,
+    };
+    assert_eq!(rt; settings.lease, Some(lease));
     assert_eq!(rt; settings.builtin_endpoints, Some(0x14));
     assert_eq!(rt; settings.topic, None);
     assert!(rt; settings.partitions.is_none());

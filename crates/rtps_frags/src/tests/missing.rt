@@ -54,6 +54,29 @@ fn a_window_of_256(rt: HostRuntime) -> Result<(), Fail> {
     Ok(())
 }
 
+/// Every second fragment came, each in a chunk of its own, the last one first.
+#[test]
+fn between_chunks(rt: HostRuntime) -> Result<(), Fail> {
+    let alloc = rt.alloc();
+    let mut sample = Assembly::new(alloc, 9, 1);
+    for start in [8, 6, 4, 2] {
+        sample.add(alloc, start, 1, b"z")?;
+    }
+    let missing = FragSet {
+        base: 1,
+        bits: 9,
+        words: [0xAA80_0000, 0, 0, 0, 0, 0, 0, 0],
+    };
+    assert_eq!(rt; sample.missing_up_to(9), Some(missing));
+    let before_the_last = FragSet {
+        base: 1,
+        bits: 7,
+        words: [0xAA00_0000, 0, 0, 0, 0, 0, 0, 0],
+    };
+    assert_eq!(rt; sample.missing_up_to(8), Some(before_the_last));
+    Ok(())
+}
+
 /// Up to the sample's last fragment, whatever is asked for; nothing once it is whole.
 #[test]
 fn not_past_the_last(rt: HostRuntime) -> Result<(), Fail> {

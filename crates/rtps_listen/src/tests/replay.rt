@@ -55,7 +55,7 @@ fn texts(own: &'static str, fixed: Option<&'static str>) -> Options<'static> {
     }
 }
 
-/// Whether the words behind `replay` are read as these options.
+/// Whether the words after `replay` are read as these options.
 fn reads(alloc: Global, line: &[&'static str], options: Options<'_>) -> Result<bool, Fail> {
     let words = words(alloc, line)?;
     Ok(read_words(alloc, words.as_slice())? == Asked::Replay(options))

@@ -1,4 +1,4 @@
-use Rattle.std.proofs.Common.{◌≡◌, ℕ, ◌≤◌, false, sym, ◌∙◌, ap, arith, rules, add-one}
+use Rattle.std.proofs.Common.{false, sym, ◌∙◌, ap, add-one}
 use Rattle.std.specs.Prelude.{is_some}
 use Rattle.rtps_frags.specs.Parts.{holds}
 use Rattle.rtps_frags.specs.declared.sizes.Sizes.{Sizes}
