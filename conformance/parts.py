@@ -16,6 +16,14 @@ def change(number):
     return HEADER + front + number.to_bytes(4, "little") + value
 
 
+def fragment(number, start, octets, size, whole):
+    """The fragment `start` of the change of this number, of which each has `size` octets, and all have `whole`."""
+    at = bytes(4) + number.to_bytes(4, "little") + start.to_bytes(4, "little")
+    cut = (1).to_bytes(2, "little") + size.to_bytes(2, "little") + whole.to_bytes(4, "little")
+    body = bytes.fromhex("00001c000000010700000102") + at + cut + octets
+    return HEADER + bytes.fromhex("1601") + len(body).to_bytes(2, "little") + body
+
+
 def sample(datagram, number):
     """The line of that change, presented at a datagram."""
     return f"{datagram}:1 reader 0 sample 0a0a0a0a0a0a0a0a0a0a0a0a00000102 {number} - value 424c5545 10 20 30"

@@ -6,10 +6,10 @@
 A row is a folder GROUP/NAME: `args` has the words, one a line, as octets; `input.hex` what is on standard input, in hex,
 where `#` begins a comment; `stdout`, `stderr` and `status` what the run has to give. The word `{file}` is the name of a
 file that holds what is in `file.hex`. A row with too much for that has `long.py` in place of `input.hex` and `stdout`: its
-`records` and `lines` give the datagrams and the lines one by one. Where the status is 2 and the row has no `stderr`, the
-text of standard error is the command line's own and free. A row of `replay` or `samples` is run with every batch size and
-worker count below, which change nothing. A row that fails names itself and shows the first difference. The last line is
-'N passed, M failed', counted by runs.
+`records` and `lines` give the datagrams and the lines one by one. Where a row has the file `memory`, a run may take so many
+MiB of address space. Where the status is 2 and the row has no `stderr`, the text of standard error is the command line's
+own and free. A row of `replay` or `samples` is run with every batch size and worker count below, which change nothing. A
+row that fails names itself and shows the first difference. The last line is 'N passed, M failed', counted by runs.
 """
 
 import itertools
@@ -45,6 +45,12 @@ def given(row):
     return b"RDG1" + b"".join(framed), "".join(line + "\n" for line in long["lines"]()).encode()
 
 
+def limited(command, row):
+    """A command, held to the memory that a row allows."""
+    mib = content(row / "memory").decode()
+    return ["sh", "-c", f'ulimit -v {int(mib) * 1024} && exec "$0" "$@"', *command] if mib else command
+
+
 def runs_of(words):
     """The words of each run of a row."""
     if not words or words[0] not in ("replay", "samples"):
@@ -75,7 +81,8 @@ def fault_of(program, words, row):
             file.flush()
         words = [file.name if word == "{file}" else word for word in words]
         try:
-            done = subprocess.run([program, *words], input=data, capture_output=True, timeout=SECONDS, check=False)
+            command = limited([program, *words], row)
+            done = subprocess.run(command, input=data, capture_output=True, timeout=SECONDS, check=False)
         except subprocess.TimeoutExpired:
             return f"no end in {SECONDS} seconds"
     status = int(content(row / "status") or b"0")

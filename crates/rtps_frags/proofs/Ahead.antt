@@ -18,9 +18,9 @@ pub ahead_of_none : (runs : Runs) (at limit : ℕ) (span : Span) → at < limit 
 ahead_of_none runs at limit span l passed h = record {
   reached = omega arith;
   same = λ k le.
-    let before : (leb span.start k && ltb k span.end) ≡ false = grind (arith, nat_tests) in
-    let none : (leb limit k && ltb k limit) ≡ false = grind (arith, nat_tests) in
-    rw none (rw before at (h.same k le));
+      let before : (leb span.start k && ltb k span.end) ≡ false = grind (arith, nat_tests) in
+      let none : (leb limit k && ltb k limit) ≡ false = grind (arith, nat_tests) in
+      rw none (rw before at (h.same k le));
   apart = tt;
 }
 
@@ -29,12 +29,14 @@ pub ahead_of_first : (runs : Runs) (at : ℕ) (span : Span) (r : ℕ × Run) (rs
 ahead_of_first runs at span r rs passed h =
     let reached = h.reached in
     let first : span.end ≤ r.0 = h.apart.0 in
-    let some : 0 < r.1.count = h.apart.1 in
-    (omega arith, record {
-      reached = omega arith;
-      same = λ k le. let before : (leb span.start k && ltb k span.end) ≡ false = grind (arith, nat_tests) in rw before at (h.same k le);
-      apart = h.apart.2;
-    })
+    let some : 0 < r.1.count = h.apart.1 in (
+      omega arith,
+      record {
+        reached = omega arith;
+        same = λ k le. let before : (leb span.start k && ltb k span.end) ≡ false = grind (arith, nat_tests) in rw before at (h.same k le);
+        apart = h.apart.2;
+      },
+    )
 
 -- a fragment before the end of the span is there where it isn't before the start
 pub here : (runs : Runs) (at : ℕ) (span : Span) (left : Runs) → at < span.end → IsAhead runs at span left → covers runs at ≡ leb span.start at

@@ -1,6 +1,6 @@
 //! The octets of a sample that came, each where it belongs.
 
-ghost use Rattle.std.specs.Prelude.{◌≡◌, ◌+◌, ◌-◌, ◌<◌, ◌≤◌, ◌^◌, ℕ, ◌&&◌, nat_le, nat_lt, if◌then◌else◌, length, IfNone, IfSome, OnOk, Option, List, Some, None, false, true};
+ghost use Rattle.std.specs.Prelude.{◌≡◌, ◌+◌, ◌++◌, ◌-◌, ◌<◌, ◌≤◌, ◌^◌, ℕ, ◌&&◌, nat_le, nat_lt, if◌then◌else◌, length, IfNone, IfSome, OnErr, OnOk, Option, List, Some, None, false, true};
 ghost use Rattle.std.specs.Option.{option_map, option_or};
 ghost use Rattle.rtps_types.specs.Named.{set_naming};
 ghost use Rattle.rtps_types.specs.Numbers.{failing_from};
@@ -116,6 +116,24 @@ fn next_span<A: Allocator>(
     }
 }
 
+/// Appends octets. Where there is no room for them, it is made for four times as many as there are
+/// then, or for the most that there will be.
+fn append<A: Allocator>(
+    front: &mut Vec<u8, A>,
+    most: usize,
+    octets: &[u8],
+) -> Result<(), AllocError>
+    ensures ok { OnOk result (front.new.items ≡ front.old.items ++ octets.now) }
+    ensures err { OnErr result (front.new.items ≡ front.old.items) }
+{
+    let length = front.len() + octets.len();
+    if front.capacity() < length {
+        let room = length.saturating_mul(4).min(most).max(length);
+        front.reserve_exact(room - front.len())?;
+    }
+    front.extend_from_slice(octets)
+}
+
 impl<A: Allocator + Copy> Parts<A> {
     /// Nothing came yet.
     pub fn new(alloc: A) -> Parts<A>
@@ -141,6 +159,9 @@ impl<A: Allocator> Parts<A> {
         if at < self.next {
             return (true, u64::from(self.next));
         }
+        if self.early.is_empty() {
+            return (false, u64::MAX);
+        }
         match end_around(&self.early, at) {
             Some(end) => (true, end),
             None => (false, start_behind(&self.early, at)),
@@ -162,7 +183,11 @@ impl<A: Allocator + Copy> Parts<A> {
             let Some((_, chunk)) = self.early.pop_first() else {
                 break;
             };
-            self.front.extend_from_slice(chunk.octets.as_slice())?;
+            append(
+                &mut self.front,
+                sizes.sample as usize,
+                chunk.octets.as_slice(),
+            )?;
             self.next += chunk.count;
         }
         Ok(())
@@ -196,7 +221,7 @@ impl<A: Allocator + Copy> Parts<A> {
             else part_at sizes self.old k)) }
     {
         if piece.start == self.next {
-            self.front.extend_from_slice(piece.octets)?;
+            append(&mut self.front, sizes.sample as usize, piece.octets)?;
             self.next += piece.count;
             return self.join(sizes);
         }

@@ -20,16 +20,28 @@ use clap::Error;
 use clap::error::ErrorKind;
 use fault::ListenFault;
 use rtps_records::RunFault;
+use std::alloc::Global;
 use std::fs::File;
 use std::io::{self, Read, Stdin, Write};
 use std::process::ExitCode;
 use words::read_words;
 
+/// As many octets as no sample is likely to have.
+const LARGE: usize = 16 << 20;
+
 fn main(rt: HostRuntime) -> ExitCode {
+    keep_freed_memory(rt.alloc());
     match run(&rt) {
         Ok(()) => ExitCode::SUCCESS,
         Err(failure) => report(&rt, failure),
     }
+}
+
+/// Takes a large block, and gives it back untouched. Once the allocator of the C library has seen
+/// such a block go, it keeps twice as much freed memory. Else what a sample in fragments held would
+/// be given back to the system, and taken anew, page by page, for the next one.
+fn keep_freed_memory(alloc: Global) {
+    let _ = Vec::<u8>::with_capacity(alloc, LARGE);
 }
 
 /// Why the program ends with another status than 0.

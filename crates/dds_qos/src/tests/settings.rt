@@ -236,7 +236,10 @@ fn policies_in_big_endian_order(rt: HostRuntime) -> Result<(), Fail> {
         ordered_access: false,
     };
     assert_eq!(rt; policies.presentation, presentation);
-    assert_eq!(rt; policies.destination_order, DestinationOrder::BySourceTimestamp);
+    assert_eq!(rt;
+        policies.destination_order,
+        DestinationOrder::BySourceTimestamp
+    );
     let least = Duration {
         seconds: 0,
         fraction: 1,

@@ -14,13 +14,13 @@ pub join-requires-clause-kept : goal.join-requires-clause-kept
 join-requires-clause-kept g c =
     let p = c.args.self.now in
     let piece = c.args.piece in
-    rw c.in_ok-extend_from_slice.ensures.items (first_put c.args.sizes c.requires.cut p.next p.front.items p.early.entries c.requires.kept piece.start piece.count piece.octets.now c.requires.first c.requires.some c.requires.within c.requires.fits c.requires.none c.if-piece-self.true)
+    rw c.in_ok-append.ensures.ok (first_put c.args.sizes c.requires.cut p.next p.front.items p.early.entries c.requires.kept piece.start piece.count piece.octets.now c.requires.first c.requires.some c.requires.within c.requires.fits c.requires.none c.if-piece-self.true)
 
 pub returns-then-piece-self-clause-put : goal.returns-then-piece-self-clause-put
 returns-then-piece-self-clause-put g c =
     let p = c.args.self.now in
     let piece = c.args.piece in
-    let items = c.in_ok-extend_from_slice.ensures.items in
+    let items = c.in_ok-append.ensures.ok in
     on_ok c.join.result (λ h. λ k. h k ∙ ap (λ (xs : List ℕ). kept_at c.args.sizes (p.next + piece.count) xs p.early.entries k) items ∙ first_finds c.args.sizes c.requires.cut p.next p.front.items p.early.entries c.requires.kept piece.start piece.count piece.octets.now c.requires.first c.requires.some c.requires.within c.requires.fits c.requires.none c.if-piece-self.true k) c.join.ensures.same
 
 pub returns-clause-kept : goal.returns-clause-kept
