@@ -7,6 +7,7 @@ pub mod Taking
 pub mod Places
 pub mod Wholes
 pub mod Seats
+pub mod Newest
 pub mod Frontier
 pub mod Beats
 pub mod Naming

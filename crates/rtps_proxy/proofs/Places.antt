@@ -164,3 +164,21 @@ sound_at (p ∷ ps) zero d h l = not_true p.sample.spent (and_both (not p.sample
     not_true true h = absurd cc
     not_true false h = refl
 sound_at (p ∷ ps) (suc at) d h l = sound_at ps at d (and_both (not p.sample.spent) (are_sound ps) h).1 (omega arith)
+
+-- those that pass a test of their numbers
+pub views_filtered : {A : Type 0} (p : ℕ → Bool) (ps : List (Pending A)) → pending_views (filter (λ s. p (value_of s.number)) ps) ≡ filter (λ b. p b.number) (pending_views ps)
+views_filtered p [] = refl
+views_filtered p (s ∷ ps) = by_test (p (value_of s.number)) (views_filtered p ps)
+  where
+    by_test : (b : Bool) → pending_views (filter (λ t. p (value_of t.number)) ps) ≡ filter (λ t. p t.number) (pending_views ps)
+        → pending_views (cond b (s ∷ filter (λ t. p (value_of t.number)) ps) (filter (λ t. p (value_of t.number)) ps)) ≡ cond b (pending_view s ∷ filter (λ t. p t.number) (pending_views ps)) (filter (λ t. p t.number) (pending_views ps))
+    by_test true rest = ap (λ (bs : List Begun). pending_view s ∷ bs) rest
+    by_test false rest = rest
+
+pub sound_filtered : {A : Type 0} (p : Pending A → Bool) (ps : List (Pending A)) → are_sound ps ≡ true → are_sound (filter p ps) ≡ true
+sound_filtered p [] h = refl
+sound_filtered p (s ∷ ps) h = by_test (p s) (and_both (not s.sample.spent) (are_sound ps) h) (λ rest. sound_filtered p ps rest)
+  where
+    by_test : (b : Bool) → (not s.sample.spent ≡ true) × (are_sound ps ≡ true) → (are_sound ps ≡ true → are_sound (filter p ps) ≡ true) → are_sound (cond b (s ∷ filter p ps) (filter p ps)) ≡ true
+    by_test true both rest = rw both.0 (rest both.1)
+    by_test false both rest = rest both.1

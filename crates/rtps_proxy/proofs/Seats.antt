@@ -169,7 +169,7 @@ begun_is n (b ∷ bs) = by_test (eqb b.number n) (begun_is n bs)
     by_test true rest = refl
     by_test false rest = rest
 
-filter_both : (p q : Begun → Bool) → ((b : Begun) → q b ≡ false → p b ≡ false) → (bs : List Begun) → filter p (filter q bs) ≡ filter p bs
+pub filter_both : (p q : Begun → Bool) → ((b : Begun) → q b ≡ false → p b ≡ false) → (bs : List Begun) → filter p (filter q bs) ≡ filter p bs
 filter_both p q less [] = refl
 filter_both p q less (b ∷ bs) = by_test (q b) refl (filter_both p q less bs)
   where
@@ -263,7 +263,7 @@ abbrev pub listed : Option Sample → List Sample
 listed None = []
 listed (Some s) = s ∷ []
 
-whole_listed : (o : Option Begun) → whole_of o ≡ listed (whole_found o)
+pub whole_listed : (o : Option Begun) → whole_of o ≡ listed (whole_found o)
 whole_listed None = refl
 whole_listed (Some b) = by_test (is_whole b.sizes b.there)
   where

@@ -1,39 +1,75 @@
--- What a best-effort reader presents of a match (DDSI-RTPS 8.4.11), without fragments.
-use Rattle.std.specs.Prelude.{ℕ, ◌-◌, max, ◌==◌, nat_lt, List, [], ◌∷◌, Option, if◌then◌else◌}
+-- What a best-effort reader takes and presents of a match (DDSI-RTPS 8.4.11, 8.4.14.1).
+use Rattle.std.specs.Prelude.{ℕ, ◌-◌, Bool, ◌&&◌, ◌==◌, nat_lt, List, [], ◌∷◌, length, filter, Option, if◌then◌else◌}
 use Rattle.rtps_types.specs.declared.time.Timestamp.{Timestamp}
-use Rattle.rtps_receiver.specs.Brought.{Brought, Whole, Fragment, Heartbeat, Gap, HeartbeatFrag}
+use Rattle.rtps_receiver.specs.Brought.{Brought, Fragments, Whole, Fragment, Heartbeat, Gap, HeartbeatFrag}
+use Rattle.rtps_proxy.specs.Fragments.{Begun, fits, whole_at, with_fragments_of}
 use Rattle.rtps_proxy.specs.History.{Came, Sample, sample_of}
 
-abbrev pub top_after : ℕ → Brought → ℕ
-top_after top (Whole c) = max top c.number
-top_after top (Fragment f) = top
-top_after top (Heartbeat h) = top
-top_after top (Gap g) = top
-top_after top (HeartbeatFrag h) = top
+-- what was taken of a match: the greatest number of a change that was received, 0 before the first,
+-- and by number the samples above it of which fragments were taken: these stand
+pub record Taken : Type 0 where
+  pub top : ℕ
+  pub begun : List Begun
 
--- the greatest number that was taken, 0 before the first
+-- fewer than 64 of these samples have a greater number
+abbrev pub is_among : List Begun → ℕ → Bool
+is_among bs n = nat_lt (length (filter (λ b. nat_lt n b.number) bs)) 64
+
+-- a sample with 64 greater ones loses its fragments
+abbrev pub greatest : List Begun → List Begun
+greatest bs = filter (λ b. is_among bs b.number) bs
+
+-- those above a number
+abbrev pub above : ℕ → List Begun → List Begun
+above n bs = filter (λ b. nat_lt n b.number) bs
+
+-- a DATA_FRAG is taken where it fits, its number is above the top, and fewer than 64 greater stand
+abbrev pub takes_fragments : Taken → Fragments → Bool
+takes_fragments t f = fits t.begun f && (nat_lt t.top f.number && is_among t.begun f.number)
+
+-- the samples of which fragments are there, once this was brought
+abbrev pub begun_by : Taken → Option Timestamp → Brought → List Begun
+begun_by t time (Whole c) = t.begun
+begun_by t time (Fragment f) = if takes_fragments t f then greatest (with_fragments_of time f t.begun) else t.begun
+begun_by t time (Heartbeat h) = t.begun
+begun_by t time (Gap g) = t.begun
+begun_by t time (HeartbeatFrag h) = t.begun
+
+-- what is received and ready then: a change above the top, or the sample that fragments make whole
+abbrev pub ready_by : Taken → Option Timestamp → Brought → List Sample
+ready_by t time (Whole c) = if nat_lt t.top c.number then sample_of time c ∷ [] else []
+ready_by t time (Fragment f) = if takes_fragments t f then whole_at f.number (with_fragments_of time f t.begun) else []
+ready_by t time (Heartbeat h) = []
+ready_by t time (Gap g) = []
+ready_by t time (HeartbeatFrag h) = []
+
+-- its number is the top then, and the fragments of all numbers up to it are given up
+abbrev pub with_ready : List Begun → ℕ → List Sample → Taken
+with_ready bs top [] = record { top = top; begun = bs }
+with_ready bs top (s ∷ ss) = record { top = s.number; begun = above s.number bs }
+
+abbrev pub taken_after : Taken → Came → Taken
+taken_after t e = with_ready (begun_by t e.time e.body) t.top (ready_by t e.time e.body)
+
+abbrev pub taken : List Came → Taken
+taken [] = record { top = 0; begun = [] }
+taken (e ∷ past) = taken_after (taken past) e
+
+-- the greatest number of a change that was received, 0 before the first
 abbrev pub top_of : List Came → ℕ
-top_of [] = 0
-top_of (e ∷ past) = top_after (top_of past) e.body
+top_of past = (taken past).top
 
--- a change is taken and ready where its number is above the greatest one taken
-abbrev pub ready_above : ℕ → Option Timestamp → Brought → List Sample
-ready_above top time (Whole c) = if nat_lt top c.number then sample_of time c ∷ [] else []
-ready_above top time (Fragment f) = []
-ready_above top time (Heartbeat h) = []
-ready_above top time (Gap g) = []
-ready_above top time (HeartbeatFrag h) = []
+-- the samples whose fragments are awaited
+abbrev pub standing : List Came → List Begun
+standing past = (taken past).begun
 
 abbrev pub ready : List Came → Came → List Sample
-ready past e = ready_above (top_of past) e.time e.body
+ready past e = ready_by (taken past) e.time e.body
 
--- the numbers that are skipped are lost, none before a match's first sample
-abbrev pub lost_above : ℕ → Brought → ℕ
-lost_above top (Whole c) = if top == 0 then 0 else c.number - top - 1
-lost_above top (Fragment f) = 0
-lost_above top (Heartbeat h) = 0
-lost_above top (Gap g) = 0
-lost_above top (HeartbeatFrag h) = 0
+-- the numbers that a change skips are lost, none before a match's first sample
+abbrev pub skipped : ℕ → List Sample → ℕ
+skipped top [] = 0
+skipped top (s ∷ ss) = if top == 0 then 0 else s.number - top - 1
 
 abbrev pub lost : List Came → Came → ℕ
-lost past e = lost_above (top_of past) e.body
+lost past e = skipped (top_of past) (ready past e)

@@ -10,7 +10,7 @@ use Rattle.rtps_proxy.specs.BestEffort as best
 use Rattle.rtps_proxy.specs.Changes.{change_view}
 use Rattle.rtps_proxy.specs.History.{Came, Sample, announced_of, has_heartbeat, is_new, is_new_frag}
 use Rattle.rtps_proxy.specs.NackFrag.{nacks}
-use Rattle.rtps_proxy.specs.Kept.{Awaited, BestEffort, Kept, Reliable, Standing, Whom}
+use Rattle.rtps_proxy.specs.Kept.{Awaited, BestEffort, Kept, Latest, Reliable, Standing, Whom}
 use Rattle.rtps_proxy.specs.Received as reliable
 use Rattle.rtps_proxy.specs.Received.{held, in_order, is_settled, standing}
 use Rattle.rtps_proxy.specs.Replies.{Sent, reply, reply_view}
@@ -38,12 +38,18 @@ pub record ReliableStandsAt (past : List Came) (proxy : Awaited) : Type 0 where
   pub frag_counts : (count : ℤ) → is_new_frag past count ≡ exceeds proxy.frag_accepted count
   pub nacks : proxy.nacks ≡ nacks past % 2 ^ 32
 
+-- what is kept for a best-effort reader
+pub record BestEffortStandsAt (past : List Came) (proxy : Latest) : Type 0 where
+  pub top : proxy.top ≡ best.top_of past
+  pub pending : proxy.begun ≡ best.standing past
+  pub sound : proxy.sound ≡ true
+
 -- and what is kept for a reader, by whether it is reliable
 abbrev pub StateStandsAt : List Came → Bool → Standing → Type 0
-StateStandsAt past false (BestEffort top) = top ≡ best.top_of past
+StateStandsAt past false (BestEffort r) = BestEffortStandsAt past r
 StateStandsAt past true (Reliable r) = ReliableStandsAt past r
 StateStandsAt past false (Reliable r) = ⊥
-StateStandsAt past true (BestEffort top) = ⊥
+StateStandsAt past true (BestEffort r) = ⊥
 
 -- a proxy keeps what follows from these events, the newest first
 pub record StandsAt (past : List Came) (proxy : Kept) : Type 0 where

@@ -8,6 +8,7 @@ use Rattle.rtps_types.specs.declared.number.Number.{Number}
 use Rattle.rtps_types.specs.NumberSet.{NumberSet}
 use Rattle.rtps_receiver.specs.Brought.{AnnouncedFragments, Fragments}
 use Rattle.rtps_receiver.specs.declared.body.Heartbeat.{Heartbeat}
+use Rattle.rtps_proxy.specs.declared.best_effort.BestEffort as newest
 use Rattle.rtps_proxy.specs.declared.config.ProxyConfig.{ProxyConfig}
 use Rattle.rtps_proxy.specs.declared.reliable.Reliable as kept
 use Rattle.rtps_proxy.specs.declared.state.State.{State}
@@ -17,7 +18,7 @@ use Rattle.rtps_proxy.specs.Changes.{change_view}
 use Rattle.rtps_proxy.specs.Fragments.{Begun}
 use Rattle.rtps_proxy.specs.History.{Sample}
 use Rattle.rtps_proxy.specs.NackFrag.{missing_at}
-use Rattle.rtps_proxy.specs.Pending.{are_sound, fits_found, found_at, pending_views}
+use Rattle.rtps_proxy.specs.Pending.{are_sound, fits_found, found_at, pending_views, place_in}
 use Rattle.rtps_types.specs.Numbers.{lacks}
 use Rattle.rtps_proxy.specs.Runs.{marks}
 
@@ -78,13 +79,29 @@ abbrev pub counts_answer : Bool → Awaited → Awaited
 counts_answer is_answered r =
     record r { answers = if is_answered then (r.answers + 1) % 2 ^ 32 else r.answers }
 
--- for a best-effort reader the greatest number that was taken is kept
+-- what is kept for a best-effort reader: the greatest number that was received, the samples above it
+-- whose fragments are awaited, and whether each growth of them was granted
+pub record Latest : Type 0 where
+  pub top : ℕ
+  pub begun : List Begun
+  pub sound : Bool
+
+abbrev pub latest : {A : Type 0} → newest.BestEffort A → Latest
+latest b = record { top = b.top; begun = pending_views b.pending.items; sound = are_sound b.pending.items }
+
+-- a DATA_FRAG is taken: it is above the top, it isn't the least of 65, and it fits
+abbrev pub takes_above : Latest → Fragments → Bool
+takes_above r f =
+    nat_lt r.top f.number
+    && ((nat_lt 0 (place_in f.number r.begun) || (nat_lt (length r.begun) 64 || is_some (found_at f.number r.begun)))
+    && fits_found r.begun f)
+
 pub data Standing : Type 0 where
-  BestEffort : (top : ℕ) → Standing
+  BestEffort : Latest → Standing
   Reliable : Awaited → Standing
 
 abbrev pub standing : {A : Type 0} → State A → Standing
-standing (code.BestEffort b) = BestEffort b.top
+standing (code.BestEffort b) = BestEffort (latest b)
 standing (code.Reliable r) = Reliable (awaited r)
 
 pub record Kept : Type 0 where

@@ -1,5 +1,5 @@
 -- The matches of a reader (DDSI-RTPS 8.4.10): between whom each is, and what came for it since it began.
-use Rattle.std.specs.Prelude.{◌≡◌, List, [], ◌∷◌, filter, map, Option, Some, None, Bool, true, not, ◌&&◌, if◌then◌else◌}
+use Rattle.std.specs.Prelude.{◌≡◌, List, [], ◌∷◌, filter, Option, Some, None, Bool, true, not, ◌&&◌, if◌then◌else◌}
 use Rattle.std.specs.Map.{lookup, set_value}
 use Rattle.std.specs.Str.{bytes_eq}
 use Rattle.std.specs.Ordering.{is_eq, match_ordering}

@@ -1,5 +1,5 @@
 -- Samples whose fragments are awaited, as they are kept: in order of their numbers.
-use Rattle.std.specs.Prelude.{ℕ, suc, Bool, not, ◌&&◌, ◌==◌, nat_lt, List, [], ◌∷◌, map, Option, Some, None, if◌then◌else◌}
+use Rattle.std.specs.Prelude.{ℕ, suc, Bool, not, ◌&&◌, ◌==◌, nat_lt, List, [], ◌∷◌, drop, length, map, Option, Some, None, if◌then◌else◌}
 use Rattle.std.specs.List.{list_all}
 use Rattle.rtps_types.specs.Number.{value_of}
 use Rattle.rtps_receiver.specs.Brought.{Fragments}
@@ -35,3 +35,7 @@ fits_found bs f = not (is_faulty f) && fits_in (found_at f.number bs) f
 abbrev pub whole_found : Option Begun → Option Sample
 whole_found None = None
 whole_found (Some b) = if is_whole b.sizes b.there then Some (sample_in b) else None
+
+-- those that stay where 64 may: all but the first one of more
+abbrev pub last_64 : List Begun → List Begun
+last_64 bs = if nat_lt 64 (length bs) then drop 1 bs else bs

@@ -1,18 +1,18 @@
 -- What one event makes of what is kept, and what it gives, by whether the reader is reliable.
-use Rattle.std.specs.Prelude.{◌≡◌, ℕ, List, ◌∷◌, map, None, Result, IfOk}
+use Rattle.std.specs.Prelude.{◌≡◌, List, ◌∷◌, map, None, Result, IfOk}
 use Rattle.std.specs.Option.{option_map}
 use Rattle.rtps_proxy.specs.declared.effects.Effects.{Effects}
 use Rattle.rtps_proxy.specs.BestEffort as best
 use Rattle.rtps_proxy.specs.Changes.{change_view}
-use Rattle.rtps_proxy.specs.Effects.{AreEffects, ReliableStandsAt, StateStandsAt}
+use Rattle.rtps_proxy.specs.Effects.{AreEffects, BestEffortStandsAt, ReliableStandsAt, StateStandsAt}
 use Rattle.rtps_proxy.specs.History.{Came}
-use Rattle.rtps_proxy.specs.Kept.{Awaited, Standing, Whom}
+use Rattle.rtps_proxy.specs.Kept.{Awaited, Latest, Standing, Whom}
 use Rattle.rtps_proxy.specs.Received as reliable
 use Rattle.rtps_proxy.specs.Replies.{reply, reply_view}
 
--- a best-effort reader's step (DDSI-RTPS 8.4.11): the greatest number taken then, and what the event gives
-pub record BestEffortStep {A : Type 0} (past : List Came) (event : Came) (top : ℕ) (effects : Effects A) : Type 0 where
-  pub taken : top ≡ best.top_of (event ∷ past)
+-- a best-effort reader's step (DDSI-RTPS 8.4.11): what is kept then, and what the event gives
+pub record BestEffortStep {A : Type 0} (past : List Came) (event : Came) (kept : Latest) (effects : Effects A) : Type 0 where
+  pub stands : BestEffortStandsAt (event ∷ past) kept
   pub lost : effects.lost ≡ best.lost past event
   pub ready : map change_view effects.ready.items ≡ best.ready past event
   pub answer : effects.answer ≡ None
@@ -30,8 +30,8 @@ pub record StateStep {A : Type 0} (whom : Whom) (past : List Came) (event : Came
   pub gives : AreEffects whom past event effects
 
 -- how an event is taken in, where what is kept follows from any events before it
-abbrev pub BestEffortTakes : {A E : Type 0} → ℕ → ℕ → Came → Result (Effects A) E → Type 0
-BestEffortTakes old new event result = (past : List Came) → old ≡ best.top_of past → IfOk result (BestEffortStep past event new)
+abbrev pub BestEffortTakes : {A E : Type 0} → Latest → Latest → Came → Result (Effects A) E → Type 0
+BestEffortTakes old new event result = (past : List Came) → BestEffortStandsAt past old → IfOk result (BestEffortStep past event new)
 
 abbrev pub ReliableTakes : {A E : Type 0} → Whom → Awaited → Awaited → Came → Result (Effects A) E → Type 0
 ReliableTakes whom old new event result = (past : List Came) → ReliableStandsAt past old → IfOk result (ReliableStep whom past event new)

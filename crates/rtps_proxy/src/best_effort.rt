@@ -1,33 +1,90 @@
 //! What a best-effort reader keeps of one writer (DDSI-RTPS 8.4.11).
 
-ghost use Rattle.rtps_proxy.specs.Effects.{came};
+ghost use Rattle.std.specs.Prelude.{◌≡◌, ◌<◌, [], ◌∷◌, None, map, true, IfOk, OnOk};
+ghost use Rattle.rtps_types.specs.Number.{value_of};
+ghost use Rattle.rtps_proxy.specs.BestEffort.{above, skipped};
+ghost use Rattle.rtps_proxy.specs.Changes.{change_view};
+ghost use Rattle.rtps_proxy.specs.Effects.{BestEffortStandsAt, came};
+ghost use Rattle.rtps_proxy.specs.Kept.{latest};
+ghost use Rattle.rtps_proxy.specs.Pending.{are_sound, pending_views};
 ghost use Rattle.rtps_proxy.specs.Steps.{BestEffortTakes};
 
+use crate::change::Change;
 use crate::effects::{Effects, ProxyError};
+use crate::pending::{Pending, give_up_to};
 use rtps_receiver::Body;
 use rtps_types::Timestamp;
 use std::alloc::Allocator;
 
-/// The greatest number that it took, 0 before the first.
+/// What was received of a writer, and what is awaited.
 #[derive(Drop)]
-pub(crate) struct BestEffort {
+pub(crate) struct BestEffort<A: Allocator> {
+    /// The greatest number of a change that was received, 0 before the first.
     pub top: u64,
+    /// The samples above it whose fragments are awaited, in order of their numbers.
+    pub pending: Vec<Pending<A>, A>,
 }
 
-impl BestEffort {
-    /// Takes in what an event brings. All but changes in one piece is ignored; fragments are not put
-    /// together yet.
-    pub fn on_event<'a, A: Allocator>(
+impl<A: Allocator + Copy> BestEffort<A> {
+    /// Nothing has come yet.
+    pub fn new(alloc: A) -> BestEffort<A>
+        ensures { BestEffortStandsAt [] (latest result) }
+    {
+        BestEffort {
+            top: 0,
+            pending: Vec::new(alloc),
+        }
+    }
+
+    /// Takes in what an event brings. All but changes, in one piece or in fragments, is ignored.
+    pub fn on_event<'a>(
         &mut self,
         alloc: A,
         time: Option<Timestamp>,
         brought: &Body<'a>,
     ) -> Result<Effects<'a, A>, ProxyError>
-        ensures { BestEffortTakes self.old.top self.new.top (came time brought.now) result }
+        ensures { BestEffortTakes (latest self.old) (latest self.new) (came time brought.now) result }
     {
         match brought {
             Body::Whole(whole) => self.on_whole(alloc, time, whole),
+            Body::Fragment(fragment) => self.on_fragment(alloc, time, fragment),
             _ => Ok(Effects::none(alloc)),
         }
+    }
+
+    /// Receives a change above all others: it is ready, and nothing up to it is awaited any more.
+    /// The numbers that it skips are lost, none before the first change.
+    pub fn receive<'a>(
+        &mut self,
+        alloc: A,
+        change: Change<'a, A>,
+    ) -> Result<Effects<'a, A>, ProxyError>
+        requires { self.old.top < value_of change.number }
+        ensures top { OnOk result (self.new.top ≡ value_of change.entry.number) }
+        ensures pending { OnOk result (pending_views self.new.pending.items
+            ≡ above (value_of change.entry.number) (pending_views self.old.pending.items)) }
+        ensures sound { are_sound self.old.pending.items ≡ true →
+            OnOk result (are_sound self.new.pending.items ≡ true) }
+        ensures lost { IfOk result (λ effects.
+            effects.lost ≡ skipped self.old.top (change_view change.entry ∷ [])) }
+        ensures ready { IfOk result (λ effects.
+            map change_view effects.ready.items ≡ change_view change.entry ∷ []) }
+        ensures answer { IfOk result (λ effects. effects.answer ≡ None) }
+    {
+        let number = change.number.get();
+        let lost = if self.top == 0 {
+            0
+        } else {
+            number - self.top - 1
+        };
+        self.top = number;
+        give_up_to(&mut self.pending, number);
+        let mut ready = Vec::new(alloc);
+        ready.push(change)?;
+        Ok(Effects {
+            lost,
+            ready,
+            answer: None,
+        })
     }
 }

@@ -1,25 +1,69 @@
-//! Fragments of a change, for a reliable reader (DDSI-RTPS 8.3.7.3, 8.4.14.1).
+//! Fragments of a change (DDSI-RTPS 8.3.7.3, 8.4.14.1).
 
 ghost use Rattle.std.specs.Prelude.{◌≡◌, ◌≤◌, ◌^◌, IfSome, is_some};
 ghost use Rattle.rtps_types.specs.Number.{value_of};
 ghost use Rattle.rtps_receiver.specs.declared.body.Body.TheVariants as body;
 ghost use Rattle.rtps_receiver.specs.Views.{fragment_view};
 ghost use Rattle.rtps_proxy.specs.Effects.{came};
-ghost use Rattle.rtps_proxy.specs.Kept.{Whom, awaited, takes_by};
+ghost use Rattle.rtps_proxy.specs.Kept.{Whom, awaited, latest, takes_above, takes_by};
 ghost use Rattle.rtps_proxy.specs.Pending.{pending_views, place_in};
 ghost use Rattle.rtps_proxy.specs.Runs.{IsPlaceOf};
-ghost use Rattle.rtps_proxy.specs.Steps.{ReliableTakes};
+ghost use Rattle.rtps_proxy.specs.Steps.{BestEffortTakes, ReliableTakes};
 
+use crate::best_effort::BestEffort;
 use crate::effects::{Effects, ProxyError};
 use crate::held::{hold, release};
-use crate::pending::{fits, give_up, is_there, place_of, put, take_whole};
+use crate::pending::{SEATS, displace, fits, give_up, is_there, place_of, put, take_whole};
 use crate::reliable::Reliable;
 use rtps_receiver::Fragment;
 use rtps_types::Timestamp;
 use std::alloc::Allocator;
 
-/// How many samples may be put together at a time, besides the one of the frontier.
-const SEATS: usize = 64;
+impl<A: Allocator + Copy> BestEffort<A> {
+    /// Whether a DATA_FRAG is taken: its number is above the greatest one received, fewer than 64
+    /// greater ones stand, and it fits.
+    fn takes(&self, at: usize, fragment: &Fragment<'_>) -> bool
+        requires { at ≡ place_in (value_of fragment.now.number)
+            (pending_views self.now.pending.items) }
+        ensures { result ≡ takes_above (latest self.now) (fragment_view fragment.now) }
+    {
+        let number = fragment.number.get();
+        let pending = self.pending.as_slice();
+        if number <= self.top {
+            return false;
+        }
+        if at == 0 && pending.len() >= SEATS && !is_there(pending, at, number) {
+            return false;
+        }
+        fits(pending, at, fragment)
+    }
+
+    /// Takes in fragments of a change. One that is whole then is received; else it stands, and the
+    /// least of 65 is given up.
+    pub fn on_fragment<'a>(
+        &mut self,
+        alloc: A,
+        time: Option<Timestamp>,
+        fragment: &Fragment<'a>,
+    ) -> Result<Effects<'a, A>, ProxyError>
+        ensures { BestEffortTakes (latest self.old) (latest self.new)
+            (came time (body.Fragment fragment.now)) result }
+    {
+        let number = fragment.number.get();
+        let at = place_of(self.pending.as_slice(), number);
+        if !self.takes(at, fragment) {
+            return Ok(Effects::none(alloc));
+        }
+        put(&mut self.pending, alloc, time, at, fragment)?;
+        match take_whole(&mut self.pending, at, number) {
+            Some(change) => self.receive(alloc, change),
+            None => {
+                displace(&mut self.pending);
+                Ok(Effects::none(alloc))
+            }
+        }
+    }
+}
 
 impl<A: Allocator + Copy> Reliable<A> {
     /// The place among the runs of a DATA_FRAG's number, if it is taken: it fits, the change would be

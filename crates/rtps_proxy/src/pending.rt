@@ -1,13 +1,14 @@
 //! Samples whose fragments are awaited (DDSI-RTPS 8.4.14.1), in order of their numbers.
 
-ghost use Rattle.std.specs.Prelude.{◌≡◌, ◌<◌, ◌≤◌, ℕ, ◌&&◌, ◌==◌, not, is_none, is_some, Bool, IfNone, OnOk, length, map, false, true, filter};
+ghost use Rattle.std.specs.Prelude.{◌≡◌, ◌<◌, ◌≤◌, ℕ, ◌&&◌, ◌==◌, not, is_none, is_some, Bool, IfNone, IfSome, OnOk, length, map, false, true, filter};
 ghost use Rattle.std.specs.Option.{option_map};
 ghost use Rattle.rtps_types.specs.Number.{value_of};
 ghost use Rattle.rtps_receiver.specs.Views.{fragment_view};
 ghost use Rattle.rtps_frags.specs.Kept.{has_come};
+ghost use Rattle.rtps_proxy.specs.BestEffort.{above};
 ghost use Rattle.rtps_proxy.specs.Changes.{change_view};
 ghost use Rattle.rtps_proxy.specs.Fragments.{fits_in, grown, is_faulty, opened, sample_in, with_fragments_of};
-ghost use Rattle.rtps_proxy.specs.Pending.{are_sound, fits_found, found_at, pending_view, pending_views, place_in, whole_found};
+ghost use Rattle.rtps_proxy.specs.Pending.{are_sound, fits_found, found_at, last_64, pending_view, pending_views, place_in, whole_found};
 ghost use Rattle.rtps_proxy.specs.Runs.{marks};
 
 use crate::change::{Change, Payload};
@@ -18,6 +19,10 @@ use rtps_receiver::Fragment;
 use rtps_types::{Number, Timestamp};
 use rtps_wire::ChangeInfo;
 use std::alloc::{AllocError, Allocator};
+
+/// How many samples may be put together at a time, besides the next one that a reliable reader
+/// awaits.
+pub(crate) const SEATS: usize = 64;
 
 /// A sample of which fragments came, and what the first DATA_FRAG of it told.
 #[derive(Drop)]
@@ -157,6 +162,7 @@ pub(crate) fn take_whole<A: Allocator>(
     requires there { is_some (found_at number (pending_views pending.old.items)) ≡ true }
     ensures whole { are_sound pending.old.items ≡ true → option_map change_view result
         ≡ whole_found (found_at number (pending_views pending.old.items)) }
+    ensures number { IfSome result (λ change. value_of change.number ≡ number) }
     ensures none { IfNone result (pending_views pending.new.items
         ≡ pending_views pending.old.items) }
     ensures left { (p : ℕ → Bool) → p number ≡ false →
@@ -181,4 +187,26 @@ pub(crate) fn give_up<A: Allocator>(pending: &mut Vec<Pending<A>, A>, settled: &
         return;
     }
     pending.retain(|sample| !settled.contains(sample.number.get()));
+}
+
+/// Gives up the samples up to a number.
+pub(crate) fn give_up_to<A: Allocator>(pending: &mut Vec<Pending<A>, A>, number: u64)
+    ensures left { pending_views pending.new.items ≡ above number (pending_views pending.old.items) }
+    ensures sound { are_sound pending.old.items ≡ true → are_sound pending.new.items ≡ true }
+{
+    if pending.is_empty() {
+        return;
+    }
+    pending.retain(|sample| number < sample.number.get());
+}
+
+/// Gives up the first sample where there are more than 64.
+pub(crate) fn displace<A: Allocator>(pending: &mut Vec<Pending<A>, A>)
+    ensures left { pending_views pending.new.items ≡ last_64 (pending_views pending.old.items) }
+    ensures sound { are_sound pending.old.items ≡ true → are_sound pending.new.items ≡ true }
+{
+    if pending.len() <= SEATS {
+        return;
+    }
+    pending.remove(0);
 }

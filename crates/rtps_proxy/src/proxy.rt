@@ -103,8 +103,9 @@ impl<A: Allocator + Copy> WriterProxy<A> {
         self.on_event(alloc, time, &Body::Gap(*gap))
     }
 
-    /// Takes in fragments of a change (DDSI-RTPS 8.3.7.3), for a reliable reader: 64 changes may be put
-    /// together at a time, and the next one that is awaited. A best-effort reader ignores them.
+    /// Takes in fragments of a change (DDSI-RTPS 8.3.7.3). 64 changes may be put together at a time:
+    /// for a reliable reader besides the next one that is awaited, for a best-effort reader those of
+    /// the greatest numbers.
     pub fn on_fragment<'a>(
         &mut self,
         alloc: A,
@@ -117,6 +118,7 @@ impl<A: Allocator + Copy> WriterProxy<A> {
     }
 
     /// Takes in a heartbeat of fragments (DDSI-RTPS 8.3.7.6), and answers it where some are missing.
+    /// A best-effort reader ignores it.
     pub fn on_heartbeat_frag<'a>(
         &mut self,
         alloc: A,

@@ -16,7 +16,7 @@ use std::alloc::Allocator;
 /// What is kept of a writer.
 #[derive(Drop)]
 pub(crate) enum State<A: Allocator> {
-    BestEffort(BestEffort),
+    BestEffort(BestEffort<A>),
     Reliable(Reliable<A>),
 }
 
@@ -28,7 +28,7 @@ impl<A: Allocator + Copy> State<A> {
         if reliable {
             State::Reliable(Reliable::new(alloc))
         } else {
-            State::BestEffort(BestEffort { top: 0 })
+            State::BestEffort(BestEffort::new(alloc))
         }
     }
 

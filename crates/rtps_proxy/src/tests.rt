@@ -9,6 +9,7 @@ use std::test::Fail;
 
 mod answers;
 mod best_effort;
+mod best_effort_fragments;
 mod fragments;
 mod held;
 mod matches;

@@ -3,7 +3,7 @@
 ghost use Rattle.std.specs.Prelude.{◌≡◌, ◌≤◌, ◌^◌, IfSome, is_some, length, not, ◌&&◌, ◌||◌, nat_le, nat_lt};
 ghost use Rattle.rtps_receiver.specs.declared.body.Body.TheVariants as body;
 ghost use Rattle.rtps_proxy.specs.Effects.{came};
-ghost use Rattle.rtps_proxy.specs.Kept.{Whom, awaited, marked};
+ghost use Rattle.rtps_proxy.specs.Kept.{Whom, awaited, latest, marked};
 ghost use Rattle.rtps_proxy.specs.Runs.{IsPlaceOf};
 ghost use Rattle.rtps_proxy.specs.Steps.{BestEffortTakes, ReliableTakes};
 
@@ -20,35 +20,21 @@ use std::alloc::Allocator;
 /// How many changes may wait.
 const ROOM: usize = 65_536;
 
-impl BestEffort {
-    /// Takes in a change. A number that isn't above the greatest one taken counts as not come; the
-    /// numbers that are skipped are lost, none before the first sample.
-    pub fn on_whole<'a, A: Allocator>(
+impl<A: Allocator + Copy> BestEffort<A> {
+    /// Takes in a change. A number that isn't above the greatest one received counts as not come.
+    pub fn on_whole<'a>(
         &mut self,
         alloc: A,
         time: Option<Timestamp>,
         whole: &Whole<'a>,
     ) -> Result<Effects<'a, A>, ProxyError>
-        ensures { BestEffortTakes self.old.top self.new.top
+        ensures { BestEffortTakes (latest self.old) (latest self.new)
             (came time (body.Whole whole.now)) result }
     {
-        let number = whole.number.get();
-        if number <= self.top {
+        if whole.number.get() <= self.top {
             return Ok(Effects::none(alloc));
         }
-        let mut ready = Vec::new(alloc);
-        ready.push(Change::lent(time, whole))?;
-        let lost = if self.top == 0 {
-            0
-        } else {
-            number - self.top - 1
-        };
-        self.top = number;
-        Ok(Effects {
-            lost,
-            ready,
-            answer: None,
-        })
+        self.receive(alloc, Change::lent(time, whole))
     }
 }
 

@@ -27,13 +27,14 @@ fn only_rising_numbers_are_taken(rt: HostRuntime) -> Result<(), Fail> {
 
 #[test]
 fn other_events_give_nothing(rt: HostRuntime) -> Result<(), Fail> {
-    let rows: [Row; 5] = [
+    let rows: [Row; 6] = [
         (What::Asking(1, 9, 1), 0, &[], &[], &[]),
         (What::Gap(1, 3), 0, &[], &[], &[]),
-        (What::Fragment(1), 0, &[], &[], &[]),
         (What::HeartbeatFrag(2), 0, &[], &[], &[]),
-        // The fragment counts as not come.
         (What::Whole(1), 0, &[1], &[], &[]),
+        // One fragment is all of the change.
+        (What::Fragment(1), 0, &[], &[], &[]),
+        (What::Fragment(3), 1, &[3], &[], &[]),
     ];
     assert_eq!(rt; first_unmet(rt.alloc(), false, &rows)?, None);
     Ok(())

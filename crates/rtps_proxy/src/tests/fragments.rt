@@ -2,15 +2,14 @@
 
 use super::{FRONT, INFO, LOCATOR, Row, What, bring, meets, new_proxy, number_of};
 use crate::{Change, Effects, WriterProxy};
-use linked_list_allocator::LocalHeap;
 use rtps_receiver::{Fragment, HeartbeatFrag};
 use rtps_types::Timestamp;
 use rtps_wire::{ChangeInfo, Form};
-use std::alloc::{AllocError, Allocator, Global};
+use std::alloc::{Allocator, Global};
 use std::test::Fail;
 
 /// One of the two fragments of a change of four octets, `abcd`.
-fn half_of(value: u64, start: u32) -> Result<Fragment<'static>, Fail> {
+pub(super) fn half_of(value: u64, start: u32) -> Result<Fragment<'static>, Fail> {
     let payload: &'static [u8] = if start == 1 { b"ab" } else { b"cd" };
     Ok(Fragment {
         number: number_of(value)?,
@@ -33,7 +32,7 @@ fn last_of<A: Allocator>(effects: Effects<'_, A>) -> (usize, u64) {
 
 /// What comes.
 #[derive(Clone, Copy)]
-enum Step {
+pub(super) enum Step {
     /// One of the two fragments of the change with this number.
     Half(u64, u32),
     /// The change with this number.
@@ -42,14 +41,22 @@ enum Step {
     Gap(u64, u64),
 }
 
-/// What is ready where this comes.
-fn ready_at(alloc: Global, proxy: &mut WriterProxy, step: Step) -> Result<(usize, u64), Fail> {
-    let effects = match step {
+/// What is given where this comes.
+pub(super) fn given_at(
+    alloc: Global,
+    proxy: &mut WriterProxy,
+    step: Step,
+) -> Result<Effects<'static>, Fail> {
+    Ok(match step {
         Step::Half(number, start) => proxy.on_fragment(alloc, None, &half_of(number, start)?)?,
         Step::Whole(number) => bring(alloc, proxy, What::Whole(number))??,
         Step::Gap(start, base) => bring(alloc, proxy, What::Gap(start, base))??,
-    };
-    Ok(last_of(effects))
+    })
+}
+
+/// What is ready where this comes.
+fn ready_at(alloc: Global, proxy: &mut WriterProxy, step: Step) -> Result<(usize, u64), Fail> {
+    Ok(last_of(given_at(alloc, proxy, step)?))
 }
 
 /// The first step at which another count of changes or another last one is ready.
@@ -67,7 +74,12 @@ fn first_unlike(
 }
 
 /// Begins the changes from one on and below another. Whether none is ready.
-fn begin(alloc: Global, proxy: &mut WriterProxy, from: u64, to: u64) -> Result<bool, Fail> {
+pub(super) fn begin(
+    alloc: Global,
+    proxy: &mut WriterProxy,
+    from: u64,
+    to: u64,
+) -> Result<bool, Fail> {
     for number in from..to {
         if ready_at(alloc, proxy, Step::Half(number, 1))? != (0, 0) {
             return Ok(false);
@@ -87,7 +99,7 @@ fn fill(alloc: Global, proxy: &mut WriterProxy, from: u64, to: u64) -> Result<bo
 }
 
 /// Whether a change is number 1, sent then, and carries `abcd` and what fragment 2 told.
-fn is_told<A: Allocator>(change: &Change<'_, A>, sent: Timestamp) -> bool {
+pub(super) fn is_told<A: Allocator>(change: &Change<'_, A>, sent: Timestamp) -> bool {
     change.number.get() == 1
         && change.time == Some(sent)
         && change.info == INFO
@@ -283,45 +295,5 @@ fn missing_fragments_are_asked_for(rt: HostRuntime) -> Result<(), Fail> {
     // ACKNACKs are counted apart.
     let rows: Row = (What::Asking(1, 2, 1), 0, &[], &[], MISSING);
     assert!(rt; meets(rt.alloc(), &mut proxy, &rows)?);
-    Ok(())
-}
-
-/// Fragments of two changes, the second one first. How many changes are ready, `None` where memory ran
-/// out.
-fn serves<A: Allocator + Copy>(
-    alloc: A,
-    proxy: &mut WriterProxy<A>,
-) -> Result<Option<usize>, Fail> {
-    let mut ready = 0;
-    for (number, start) in [(2, 2), (2, 1), (1, 2), (1, 1)] {
-        match proxy.on_fragment(alloc, None, &half_of(number, start)?) {
-            Ok(effects) => ready = effects.ready.len(),
-            Err(AllocError) => return Ok(None),
-        }
-    }
-    Ok(Some(ready))
-}
-
-#[test]
-fn a_refused_growth_spends_the_proxy(rt: HostRuntime) -> Result<(), Fail> {
-    let (mut refused, mut served) = (false, false);
-    for step in 1..192 {
-        let heap = LocalHeap::new(rt.alloc(), step * 16)?;
-        let Ok(mut proxy) = new_proxy(&heap, true) else {
-            continue;
-        };
-        match serves(&heap, &mut proxy)? {
-            Some(ready) => {
-                assert_eq!(rt; ready, 2);
-                served = true;
-            }
-            None => {
-                assert!(rt; proxy.on_fragment(&heap, None, &half_of(1, 1)?).is_err());
-                refused = true;
-            }
-        }
-    }
-    assert!(rt; refused);
-    assert!(rt; served);
     Ok(())
 }

@@ -1,9 +1,10 @@
 //! Refused growths.
 
+use super::fragments::half_of;
 use super::{Row, What, bring, gives, new_proxy};
 use crate::WriterProxy;
 use linked_list_allocator::LocalHeap;
-use std::alloc::Allocator;
+use std::alloc::{AllocError, Allocator, Global};
 use std::test::Fail;
 
 /// ACKNACK for 1 and 2 and for 4 to 9 but 5, as the first answer.
@@ -76,5 +77,57 @@ fn a_refused_growth_is_out_of_memory(rt: HostRuntime) -> Result<(), Fail> {
     }
     assert!(rt; refused);
     assert!(rt; served);
+    Ok(())
+}
+
+/// Fragments of two changes, the second one first, and a heartbeat of fragments of a third one. How
+/// many changes are ready at most, and whether there is an answer; `None` where memory ran out.
+fn puts_together<A: Allocator + Copy>(
+    alloc: A,
+    proxy: &mut WriterProxy<A>,
+) -> Result<Option<(usize, bool)>, Fail> {
+    let mut ready = 0;
+    for (number, start) in [(2, 2), (2, 1), (1, 2), (1, 1)] {
+        match proxy.on_fragment(alloc, None, &half_of(number, start)?) {
+            Ok(effects) => ready = effects.ready.len().max(ready),
+            Err(AllocError) => return Ok(None),
+        }
+    }
+    match bring(alloc, proxy, What::HeartbeatFrag(3))? {
+        Ok(effects) => Ok(Some((ready, effects.answer.is_some()))),
+        Err(AllocError) => Ok(None),
+    }
+}
+
+/// Whether fragments and their heartbeat give this, or are refused from the first refused growth on,
+/// for all sizes of memory; and whether each happens.
+fn gives_or_refuses(alloc: Global, reliable: bool, all: (usize, bool)) -> Result<bool, Fail> {
+    let (mut refused, mut served) = (false, false);
+    for step in 1..192 {
+        let heap = LocalHeap::new(alloc, step * 16)?;
+        let Ok(mut proxy) = new_proxy(&heap, reliable) else {
+            continue;
+        };
+        let right = match puts_together(&heap, &mut proxy)? {
+            Some(given) => {
+                served = true;
+                given == all
+            }
+            None => {
+                refused = true;
+                refuses(&heap, &mut proxy)?
+            }
+        };
+        if !right {
+            return Ok(false);
+        }
+    }
+    Ok(refused && served)
+}
+
+#[test]
+fn fragments_may_find_no_memory(rt: HostRuntime) -> Result<(), Fail> {
+    assert!(rt; gives_or_refuses(rt.alloc(), true, (2, true))?);
+    assert!(rt; gives_or_refuses(rt.alloc(), false, (1, false))?);
     Ok(())
 }

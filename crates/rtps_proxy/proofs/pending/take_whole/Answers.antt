@@ -72,3 +72,9 @@ returns-clause-left g c = λ p out.
 
 pub returns-clause-sound : goal.returns-clause-sound
 returns-clause-sound g c = λ sound. ap are_sound c.remove.ensures.items ∙ sound_removed c.args.pending.now.items c.args.at sound
+
+pub returns-clause-number : goal.returns-clause-number
+returns-clause-number g c =
+    let ps = c.args.pending.now.items in
+    let h = here c.args.number c.args.at ps c.remove.result c.requires.place c.requires.there in
+    ap (λ (s : Sample). s.number) c.into_change.ensures ∙ ap (λ (q : Pending g.row.A.Denot). value_of q.number) c.remove.ensures.value ∙ h.1
