@@ -1,5 +1,4 @@
-pub mod Matches
+pub mod Begun
 pub mod Telling
-pub mod Found
 pub mod Counting
 pub mod Stepping

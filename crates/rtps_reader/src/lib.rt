@@ -6,6 +6,7 @@ mod content;
 mod notice;
 mod present;
 mod state;
+mod stateful;
 mod status;
 mod step;
 #[cfg(test)]

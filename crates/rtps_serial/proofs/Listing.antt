@@ -14,7 +14,8 @@ use Rattle.std.proofs.lemmas.Slice.Eq.{bytes_eq-Decides}
 use Rattle.rtps_types.specs.declared.identity.Guid.{Guid}
 use Rattle.rtps_types.specs.Order.{octet_order}
 use Rattle.rtps_reader.specs.Listed.{match_order, with_writers}
-use Rattle.rtps_reader.specs.Reader.{Match, Reader, same_guid}
+use Rattle.rtps_proxy.specs.Matches.{Match, same_guid}
+use Rattle.rtps_reader.specs.Reader.{Reader}
 use Rattle.rtps_serial.specs.Seen.{is_listed, matches_below}
 use Rattle.rtps_serial.specs.World.{is_matched}
 use Rattle.rtps_serial.proofs.Turns.{numbers_same, then_first, then_second}

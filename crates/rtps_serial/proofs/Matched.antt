@@ -9,6 +9,7 @@ use Rattle.rtps_types.specs.declared.place.Place.{Place}
 use Rattle.rtps_receiver.specs.Events.{Happening}
 use Rattle.rtps_discovery.specs.Addressed.{is_addressed, is_discovery, is_for, writer_of}
 use Rattle.rtps_proxy.specs.History.{Came, Sample}
+use Rattle.rtps_proxy.specs.Matches.{Match, extended, match_with, same_guid}
 use Rattle.rtps_proxy.specs.Replies.{Sent}
 use Rattle.std.specs.List.{AllByRecursion}
 use Rattle.rtps_types.specs.SequenceNumber.{IsNumber}
@@ -17,7 +18,7 @@ use Rattle.dds_topic.specs.Decoding.{Decoding}
 use Rattle.rtps_reader.specs.declared.notice.Notice.{Notice}
 use Rattle.rtps_reader.specs.declared.notice.NoticeKind.TheVariants.{Lost}
 use Rattle.rtps_reader.specs.Body.{body_by}
-use Rattle.rtps_reader.specs.Reader.{Match, Reader, extended, loses, lost_at, match_with, presented, reader_after, ready_at, same_guid, sends, tells, told_of}
+use Rattle.rtps_reader.specs.Reader.{Reader, loses, lost_at, presented, reader_after, ready_at, sends, tells, told_of}
 use Rattle.rtps_reader.specs.Steps.{asks_of}
 use Rattle.rtps_serial.specs.Presentation.{Shown, came_of, samples_of, shown_in}
 use Rattle.rtps_serial.specs.Seen.{notices_by}
