@@ -44,14 +44,15 @@ begun_more own own1 entity entity1 b b1 facts taken one locators ss eo ee eb el 
     ∙ ap (λ l. first_matches own entity b (map facts_in l)) (sym is))
     all
 
-same_self : (w : Guid) → same_guid w w ≡ true
+pub same_self : (w : Guid) → same_guid w w ≡ true
 same_self w = both _ _ ((bytes_eq-Decides w.prefix.0 w.prefix.0).1 refl) ((bytes_eq-Decides w.entity.0 w.entity.0).1 refl)
   where
     both : (x y : Bool) → x ≡ true → y ≡ true → (x && y) ≡ true
     both true y h k = k
     both false y h k = absurd cc
 
-swapped : (a b : Bool) (x y z : Option Match) → (a ≡ true → b ≡ true → x ≡ y) → (if a then x else (if b then y else z)) ≡ (if b then y else (if a then x else z))
+-- two tests in either order
+pub swapped : (a b : Bool) (x y z : Option Match) → (a ≡ true → b ≡ true → x ≡ y) → (if a then x else (if b then y else z)) ≡ (if b then y else (if a then x else z))
 swapped true true x y z h = h refl refl
 swapped true false x y z h = refl
 swapped false b x y z h = refl

@@ -1,4 +1,5 @@
 pub mod Begun
+pub mod Following
 pub mod Telling
 pub mod Counting
 pub mod Stepping

@@ -1,8 +1,8 @@
 -- What is reported, one part after another.
-use Rattle.std.proofs.Common.{◌≡◌, List, [], ◌∷◌, ◌++◌, length, min, take, drop, arith, map, Option, Some, None, refl, subst, sym, ap, ◌∙◌, append_assoc}
+use Rattle.std.proofs.Common.{◌≡◌, List, [], ◌∷◌, ◌++◌, length, min, take, drop, arith, map, Option, Some, None, refl, sym, ap, ◌∙◌, append_assoc}
 use Rattle.std.specs.Prelude.{OnOk, Result, Ok, Err}
 use Rattle.std.specs.Option.{option_map}
-use Rattle.std.proofs.lemmas.List.{length-map, length-take, map_push, take-append-drop, take-append-le}
+use Rattle.std.proofs.lemmas.List.{length-take, map_push, take-append-drop, take-append-le}
 use Rattle.rtps_types.specs.declared.identity.Guid.{Guid}
 use Rattle.rtps_types.specs.declared.number.Number.{Number}
 use Rattle.rtps_types.specs.declared.place.Place.{Place}

@@ -105,6 +105,10 @@ sends r place (Begins w locators) = []
 sends r place (Ends w) = []
 sends r place (Refused w policy) = []
 
+-- a match once an event came for it
+abbrev pub extended_by : Came → Match → Match
+extended_by e m = record { whom = m.whom; past = e ∷ m.past }
+
 -- the reader after a step: an event extends the history of the match with its writer; a match
 -- begins with no history, also where there was one with that writer; at its end it is forgotten
 abbrev pub reader_after : Reader → Doing → Reader

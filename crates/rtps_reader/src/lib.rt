@@ -3,6 +3,7 @@
 
 mod body;
 mod content;
+pub mod laws;
 mod notice;
 mod present;
 mod state;

@@ -1,4 +1,4 @@
-use Rattle.std.proofs.Common.{false, sym, subst}
+use Rattle.std.proofs.Common.{sym, subst}
 use Rattle.rtps_reader.specs.Standing.{StandsAt, kept_by}
 use Rattle.rtps_reader.proofs.state.ReaderState.step.Goals as goal
 

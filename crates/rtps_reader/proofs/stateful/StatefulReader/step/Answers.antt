@@ -1,4 +1,4 @@
-use Rattle.std.proofs.Common.{◌≡◌, ◌+◌, ◌++◌, ◌∙◌, false, List, map, Some, refl, sym, ap, subst}
+use Rattle.std.proofs.Common.{◌≡◌, ◌+◌, ◌++◌, ◌∙◌, false, map, refl, sym, ap, subst}
 use Rattle.rtps_proxy.specs.Effects.{came}
 use Rattle.rtps_proxy.specs.Matches.{AreTaken, match_with}
 use Rattle.rtps_reader.specs.declared.status.Counts.{Counts}
