@@ -1,5 +1,5 @@
-pub mod Matches
+pub mod Begun
+pub mod Following
 pub mod Telling
-pub mod Found
 pub mod Counting
 pub mod Stepping

@@ -1,7 +1,8 @@
 -- What is reported, one part after another.
-use Rattle.std.proofs.Common.{◌≡◌, List, [], ◌∷◌, ◌++◌, length, min, take, drop, arith, map, Option, Some, None, refl, subst, sym, ap, ◌∙◌, append_assoc}
+use Rattle.std.proofs.Common.{◌≡◌, List, [], ◌∷◌, ◌++◌, length, min, take, drop, arith, map, Option, Some, None, refl, sym, ap, ◌∙◌, append_assoc}
+use Rattle.std.specs.Prelude.{OnOk, Result, Ok, Err}
 use Rattle.std.specs.Option.{option_map}
-use Rattle.std.proofs.lemmas.List.{length-map, length-take, map_push, take-append-drop, take-append-le}
+use Rattle.std.proofs.lemmas.List.{length-take, map_push, take-append-drop, take-append-le}
 use Rattle.rtps_types.specs.declared.identity.Guid.{Guid}
 use Rattle.rtps_types.specs.declared.number.Number.{Number}
 use Rattle.rtps_types.specs.declared.place.Place.{Place}
@@ -11,12 +12,11 @@ use Rattle.rtps_proxy.specs.Changes.{change_view}
 use Rattle.rtps_proxy.specs.History.{Came}
 use Rattle.rtps_proxy.specs.Replies.{reply_view}
 use Rattle.rtps_reader.specs.declared.body.Body.{Body}
-use Rattle.rtps_reader.specs.declared.status.Status.{Status}
 use Rattle.dds_topic.specs.Decoding.{Decoding}
 use Rattle.rtps_reader.specs.declared.notice.Notice.{Notice}
 use Rattle.rtps_reader.specs.declared.notice.NoticeKind.TheVariants as kind
-use Rattle.rtps_reader.specs.Reader.{Match, loses, lost_at, placed, presented, sent_of, told_of}
-use Rattle.rtps_reader.specs.Standing.{AreTaken, status_after, status_given}
+use Rattle.rtps_proxy.specs.Matches.{AreTaken, Match}
+use Rattle.rtps_reader.specs.Reader.{loses, lost_at, placed, presented, sent_of, told_of}
 
 pub told_then : {A : Type 0} (old middle new a b : List A) → middle ≡ old ++ a → new ≡ middle ++ b → new ≡ old ++ (a ++ b)
 told_then old middle new a b first second = second ∙ ap (λ l. l ++ b) first ∙ append_assoc old a b
@@ -32,12 +32,6 @@ told_taken decoding place w (Some m) e effects taken =
 pub said_taken : {A : Type 0} (place : Place) (found : Option Match) (e : Came) (effects : Effects A) → AreTaken found e (Some effects) → placed place (option_map reply_view effects.answer) ≡ sent_of place e found
 said_taken place None e effects taken = absurd taken
 said_taken place (Some m) e effects taken = ap (placed place) taken.answer
-
-pub status_taken : {A : Type 0} (status : Status) (found : Option Match) (e : Came) (effects : Effects A) → AreTaken found e (Some effects) → status_after status effects.lost (length effects.ready.items) ≡ status_given status e found
-status_taken status None e effects taken = absurd taken
-status_taken status (Some m) e effects taken =
-    ap (λ n. status_after status n (length effects.ready.items)) taken.lost
-    ∙ ap (status_after status (lost_at m e)) (sym (length-map effects.ready.items change_view) ∙ ap length taken.ready)
 
 abbrev pub sample_told : {M : Type 0} → Place → Guid → Number → Option Timestamp → Body M → Notice M
 sample_told place w number time b = record { place = place; writer = w; what = kind.Sample number time b }
@@ -64,20 +58,23 @@ kept_then old middle new first second =
     let whole : middle ++ drop (length middle) new ≡ new = ap (λ l. l ++ drop (length middle) new) (sym second) ∙ take-append-drop (length middle) new in
     ap (take (length old)) (sym whole) ∙ take-append-le (length old) middle (drop (length middle) new) (omega (arith, count)) ∙ first
 
-abbrev none_of : (A : Type 0) → Option (Effects A)
+abbrev pub none_of : (A : Type 0) → Option (Effects A)
 none_of A = None
 
--- a writer that isn't matched changes no status, and nothing is sent to it
-pub none_counted : {A : Type 0} (status : Status) (found : Option Match) (e : Came) (effects : Option (Effects A)) → effects ≡ None → AreTaken found e effects → status ≡ status_given status e found
-none_counted {A} status found e effects is taken = by_match found (subst (AreTaken found e) is taken)
-  where
-    by_match : (found : Option Match) → AreTaken found e (none_of A) → status ≡ status_given status e found
-    by_match None taken = refl
-    by_match (Some m) taken = absurd taken
+-- of a writer that isn't matched nothing is reported, and nothing is sent to it
+pub none_told : {M : Type 0} (A : Type 0) (decoding : Decoding M) (place : Place) (w : Guid) (found : Option Match) (e : Came) → AreTaken found e (none_of A) → told_of decoding place w e found ≡ []
+none_told A decoding place w None e taken = refl
+none_told A decoding place w (Some m) e taken = absurd taken
 
-pub none_said : {A : Type 0} (place : Place) (found : Option Match) (e : Came) (effects : Option (Effects A)) → effects ≡ None → AreTaken found e effects → sent_of place e found ≡ []
-none_said {A} place found e effects is taken = by_match found (subst (AreTaken found e) is taken)
-  where
-    by_match : (found : Option Match) → AreTaken found e (none_of A) → sent_of place e found ≡ []
-    by_match None taken = refl
-    by_match (Some m) taken = absurd taken
+pub none_said : (A : Type 0) (place : Place) (found : Option Match) (e : Came) → AreTaken found e (none_of A) → sent_of place e found ≡ []
+none_said A place None e taken = refl
+none_said A place (Some m) e taken = absurd taken
+
+-- a fact that holds in any case holds where there is an answer
+pub on_ok : {X E : Type 0} {P : Type 0} (r : Result X E) → P → OnOk r P
+on_ok (Ok x) p = p
+on_ok (Err e) p = tt
+
+pub on_ok_then : {X E : Type 0} {P Q : Type 0} (r : Result X E) → OnOk r P → (P → Q) → OnOk r Q
+on_ok_then (Ok x) p f = f p
+on_ok_then (Err e) p f = tt

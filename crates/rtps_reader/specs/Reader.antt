@@ -1,25 +1,23 @@
--- A reader, by all that came for it (DDSI-RTPS 8.4.10 to 8.4.12): its matches, each with its
+-- A reader, by all that it was asked to do (DDSI-RTPS 8.4.10 to 8.4.12): its matches, each with its
 -- history.
-use Rattle.std.specs.Prelude.{ℕ, List, [], ◌∷◌, ◌++◌, length, map, Bool, ◌&&◌, ◌==◌, Option, Some, None, if◌then◌else◌}
-use Rattle.std.specs.Str.{bytes_eq}
+use Rattle.std.specs.Prelude.{ℕ, List, [], ◌∷◌, ◌++◌, length, map, Bool, ◌==◌, Option, Some, None, if◌then◌else◌}
 use Rattle.rtps_types.specs.Nearest.{nearest}
 use Rattle.rtps_types.specs.declared.identity.EntityId.{EntityId}
 use Rattle.rtps_types.specs.declared.identity.Guid.{Guid}
+use Rattle.rtps_types.specs.declared.identity.GuidPrefix.{GuidPrefix}
+use Rattle.rtps_types.specs.declared.locator.Locator.{Locator}
 use Rattle.rtps_types.specs.declared.place.Place.{Place}
 use Rattle.rtps_proxy.specs.History.{Came, Sample}
 use Rattle.rtps_proxy.specs.Effects.{answer_of, lost_of, ready_of}
 use Rattle.rtps_proxy.specs.Kept.{Whom}
+use Rattle.rtps_proxy.specs.Matches.{Match, begun, ended, extended, fresh, match_with}
 use Rattle.rtps_proxy.specs.Replies.{Sent}
 use Rattle.dds_topic.specs.Decoding.{Decoding}
 use Rattle.rtps_reader.specs.declared.notice.Notice.{Notice}
+use Rattle.rtps_reader.specs.declared.notice.NoticeKind.{NoticeKind}
 use Rattle.rtps_reader.specs.declared.notice.NoticeKind.TheVariants as kind
 use Rattle.rtps_reader.specs.Body.{body_by}
-use Rattle.rtps_reader.specs.Steps.{Asks, Event}
-
--- a match: between whom it is, and what came for it since it began, the newest first
-pub record Match : Type 0 where
-  pub whom : Whom
-  pub past : List Came
+use Rattle.rtps_reader.specs.Steps.{Doing, Takes, Begins, Ends, Refused}
 
 -- how many numbers are given up at an event, the changes that are ready then, and what is said to
 -- the writer
@@ -33,26 +31,33 @@ abbrev pub answer_at : Match → Came → Option Sent
 answer_at m e = answer_of m.whom m.past e
 
 pub record Reader : Type 0 where
+  -- our participant, and the reader's own part of its guid
+  pub own : GuidPrefix
   pub entity : EntityId
+  -- whether it asks for what is missing
+  pub reliable : Bool
   -- how many matches there are from the start
   pub fixed : ℕ
+  -- in the order of their writers
   pub matches : List Match
 
-abbrev pub same_guid : Guid → Guid → Bool
-same_guid a b = bytes_eq a.prefix.0 b.prefix.0 && bytes_eq a.entity.0 b.entity.0
+-- a writer, and where answers to it go
+abbrev pub Facts : Type 0
+Facts = Guid × List Locator
 
--- the match with a writer
-abbrev pub match_with : Guid → List Match → Option Match
-match_with w [] = None
-match_with w (m ∷ ms) = if same_guid m.whom.writer w then Some m else match_with w ms
+-- between whom a match of a reader is
+abbrev pub whom_of : GuidPrefix → EntityId → Bool → Facts → Whom
+whom_of own entity is_reliable facts = record {
+  own = own;
+  writer = facts.0;
+  reader = entity;
+  reliable = is_reliable;
+  locators = facts.1;
+}
 
--- the event comes for the match with its writer
-abbrev pub extended : Guid → Came → List Match → List Match
-extended w e [] = []
-extended w e (m ∷ ms) =
-    if same_guid m.whom.writer w
-    then record { whom = m.whom; past = e ∷ m.past } ∷ ms
-    else m ∷ extended w e ms
+-- the reader's match with a writer as it begins: nothing came yet
+abbrev pub fresh_with : Reader → Facts → Match
+fresh_with r facts = fresh (whom_of r.own r.entity r.reliable facts)
 
 -- a sample is presented with what the catalog makes of what it carries
 abbrev pub presented : {M : Type 0} → Decoding M → Place → Guid → Sample → Notice M
@@ -73,9 +78,16 @@ told_of decoding place w e None = []
 told_of decoding place w e (Some m) =
     loses place w (lost_at m e) ++ map (presented decoding place w) (ready_at m e)
 
+-- one notice
+abbrev pub notice_of : {M : Type 0} → Place → Guid → NoticeKind M → List (Notice M)
+notice_of place w what = record { place = place; writer = w; what = what } ∷ []
+
 -- the notices that a reader gives out at a step: of an event none, where its writer isn't matched
-abbrev pub tells : {M : Type 0} → Decoding M → Reader → Place → Asks → List (Notice M)
-tells decoding r place (Event w e) = told_of decoding place w e (match_with w r.matches)
+abbrev pub tells : {M : Type 0} → Decoding M → Reader → Place → Doing → List (Notice M)
+tells decoding r place (Takes w e) = told_of decoding place w e (match_with w r.matches)
+tells decoding r place (Begins w locators) = notice_of place w kind.Matched
+tells decoding r place (Ends w) = notice_of place w kind.Unmatched
+tells decoding r place (Refused w policy) = notice_of place w (kind.Incompatible policy)
 
 -- what is said, with the place of the event that it answers
 abbrev pub placed : Place → Option Sent → List (Place × Sent)
@@ -87,19 +99,45 @@ sent_of place e None = []
 sent_of place e (Some m) = placed place (answer_at m e)
 
 -- what a reader sends at a step
-abbrev pub sends : Reader → Place → Asks → List (Place × Sent)
-sends r place (Event w e) = sent_of place e (match_with w r.matches)
+abbrev pub sends : Reader → Place → Doing → List (Place × Sent)
+sends r place (Takes w e) = sent_of place e (match_with w r.matches)
+sends r place (Begins w locators) = []
+sends r place (Ends w) = []
+sends r place (Refused w policy) = []
 
--- the reader after a step
-abbrev pub reader_after : Reader → Asks → Reader
-reader_after r (Event w e) =
-    record { entity = r.entity; fixed = r.fixed; matches = extended w e r.matches }
+-- a match once an event came for it
+abbrev pub extended_by : Came → Match → Match
+extended_by e m = record { whom = m.whom; past = e ∷ m.past }
 
--- a match to which nothing came yet
-abbrev pub fresh : Whom → Match
-fresh w = record { whom = w; past = [] }
+-- the reader after a step: an event extends the history of the match with its writer; a match
+-- begins with no history, also where there was one with that writer; at its end it is forgotten
+abbrev pub reader_after : Reader → Doing → Reader
+reader_after r (Takes w e) = record r { matches = extended w e r.matches }
+reader_after r (Begins w locators) =
+    record r { matches = begun (fresh_with r (w, locators)) r.matches }
+reader_after r (Ends w) = record r { matches = ended w r.matches }
+reader_after r (Refused w policy) = r
+
+-- one step after the other
+abbrev pub reader_run : Reader → List Doing → Reader
+reader_run r [] = r
+reader_run r (d ∷ ds) = reader_run (reader_after r d) ds
+
+-- matches begin one after the other
+abbrev pub all_begun : List Match → List Whom → List Match
+all_begun ms [] = ms
+all_begun ms (w ∷ ws) = all_begun (begun (fresh w) ms) ws
+
+-- the matches that a reader begins with
+abbrev pub first_matches : GuidPrefix → EntityId → Bool → List Facts → List Match
+first_matches own entity is_reliable fixed = all_begun [] (map (whom_of own entity is_reliable) fixed)
 
 -- a reader at the start: it has its fixed matches, and nothing came yet
-abbrev pub first_reader : EntityId → List Whom → Reader
-first_reader entity whoms =
-    record { entity = entity; fixed = length whoms; matches = map fresh whoms }
+abbrev pub first_reader : GuidPrefix → EntityId → Bool → List Facts → Reader
+first_reader own entity is_reliable fixed = record {
+  own = own;
+  entity = entity;
+  reliable = is_reliable;
+  fixed = length (first_matches own entity is_reliable fixed);
+  matches = first_matches own entity is_reliable fixed;
+}

@@ -1,10 +1,10 @@
--- The status of a reader: its fixed matches and the notices that it gave out, counted (DDS 1.4,
--- 2.2.4.1).
-use Rattle.std.specs.Prelude.{ℕ, ◌+◌, ◌-◌, Bool, true, false, List, [], ◌∷◌, ◌++◌, length, map, filter, sum, min, Option, Some, None}
+-- The status of a reader: its matches, and the notices that it gave out, counted (DDS 1.4, 2.2.4.1).
+use Rattle.std.specs.Prelude.{ℕ, ◌+◌, Bool, true, false, List, [], ◌∷◌, ◌++◌, length, map, filter, sum, min, Option, Some, None}
 use Rattle.rtps_reader.specs.declared.notice.Notice.{Notice}
 use Rattle.rtps_reader.specs.declared.notice.NoticeKind.{NoticeKind}
-use Rattle.rtps_reader.specs.declared.notice.NoticeKind.TheVariants.{Sample, Matched, Unmatched, Incompatible, Lost}
+use Rattle.rtps_reader.specs.declared.notice.NoticeKind.TheVariants.{Sample, Matched, Incompatible, Lost}
 use Rattle.rtps_reader.specs.declared.status.Status.{Status}
+use Rattle.rtps_reader.specs.Reader.{Reader}
 
 -- a total stops at 2,147,483,647
 abbrev pub capped : ℕ → ℕ
@@ -17,10 +17,6 @@ is_sample kind = false
 abbrev pub is_beginning : {M : Type 0} → NoticeKind M → Bool
 is_beginning Matched = true
 is_beginning kind = false
-
-abbrev pub is_end : {M : Type 0} → NoticeKind M → Bool
-is_end Unmatched = true
-is_end kind = false
 
 -- how many numbers a notice says are lost
 abbrev pub lost_in : {M : Type 0} → NoticeKind M → ℕ
@@ -49,11 +45,12 @@ last_of [] = None
 last_of (p ∷ []) = Some p
 last_of (p ∷ q ∷ ps) = last_of (q ∷ ps)
 
--- the status of a reader with this many fixed matches, which gave out these notices
-abbrev pub status_of : {M : Type 0} → ℕ → List (Notice M) → Status
-status_of fixed given = record {
-  matched_total = capped (fixed + count_of is_beginning given);
-  matched_now = fixed + count_of is_beginning given - count_of is_end given;
+-- the status of a reader that gave out these notices: its fixed matches and those that began since,
+-- and the matches that there are now
+abbrev pub status_of : {M : Type 0} → Reader → List (Notice M) → Status
+status_of r given = record {
+  matched_total = capped (r.fixed + count_of is_beginning given);
+  matched_now = length r.matches;
   incompatible_total = capped (length (refused_by given));
   last_policy = last_of (refused_by given);
   lost_total = capped (lost_by given);

@@ -3,9 +3,11 @@
 
 mod body;
 mod content;
+pub mod laws;
 mod notice;
 mod present;
 mod state;
+mod stateful;
 mod status;
 mod step;
 #[cfg(test)]

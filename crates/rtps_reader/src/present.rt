@@ -4,8 +4,8 @@ ghost use Rattle.std.specs.Prelude.{◌≡◌, ◌++◌, length, map, take, OnOk
 ghost use Rattle.std.specs.Option.{option_map};
 ghost use Rattle.rtps_proxy.specs.Changes.{change_view};
 ghost use Rattle.rtps_proxy.specs.Replies.{reply_view};
-ghost use Rattle.rtps_reader.specs.Notices.{answer_view, notice_view};
-ghost use Rattle.rtps_reader.specs.Reader.{loses, placed, presented};
+ghost use Rattle.rtps_reader.specs.Notices.{answer_view, kind_view, notice_view};
+ghost use Rattle.rtps_reader.specs.Reader.{loses, notice_of, placed, presented};
 ghost use Rattle.rtps_reader.specs.Standing.{KeepsFront};
 
 use crate::content::body_of;
@@ -71,10 +71,25 @@ fn tell_lost<C: Catalog, A: Allocator>(
     if lost == 0 {
         return Ok(());
     }
+    tell::<C, A>(place, writer, NoticeKind::Lost { count: lost }, notices)
+}
+
+/// Adds one notice.
+pub(crate) fn tell<C: Catalog, A: Allocator>(
+    place: Place,
+    writer: Guid,
+    what: NoticeKind<C::Value>,
+    notices: &mut Vec<Notice<C::Value>, A>,
+) -> Result<(), AllocError>
+    ensures told { OnOk result (map (notice_view C.view) notices.new.items
+        ≡ map (notice_view C.view) notices.old.items
+        ++ notice_of place writer (kind_view C.view what)) }
+    ensures kept { take (length notices.old.items) notices.new.items ≡ notices.old.items }
+{
     notices.push(Notice {
         place,
         writer,
-        what: NoticeKind::Lost { count: lost },
+        what,
     })?;
     Ok(())
 }

@@ -1,7 +1,7 @@
 //! How a reader stands with its writers.
 
-ghost use Rattle.std.specs.Prelude.{◌≡◌, ◌+◌, length};
-ghost use Rattle.rtps_reader.specs.Standing.{status_after};
+ghost use Rattle.std.specs.Prelude.{◌≡◌, ◌+◌, None, Some, length};
+ghost use Rattle.rtps_reader.specs.Standing.{counts_after, status_by};
 ghost use Rattle.rtps_reader.specs.Status.{capped};
 
 use rtps_proxy::Effects;
@@ -24,23 +24,92 @@ pub struct Status {
     pub samples: u32,
 }
 
+/// What a reader counts: its status without the number of its matches.
+#[derive(Clone, Copy, Debug)]
+pub(crate) struct Counts {
+    pub(crate) matched_total: u32,
+    pub(crate) incompatible_total: u32,
+    pub(crate) last_policy: Option<u32>,
+    pub(crate) lost_total: u32,
+    pub(crate) samples: u32,
+}
+
+impl Counts {
+    /// So many matches began, and nothing else was counted.
+    pub(crate) fn of_fixed(matches: usize) -> Counts
+        ensures { result ≡ record {
+          matched_total = capped (0 + matches);
+          incompatible_total = 0;
+          last_policy = None;
+          lost_total = 0;
+          samples = 0;
+        } }
+    {
+        Counts {
+            matched_total: counted(0, matches as u64),
+            incompatible_total: 0,
+            last_policy: None,
+            lost_total: 0,
+            samples: 0,
+        }
+    }
+
+    /// The counts once an event had these effects.
+    pub(crate) fn with_effects<A: Allocator>(self, effects: &Effects<'_, A>) -> Counts
+        ensures { result ≡ counts_after self effects.now.lost (length effects.now.ready.items) }
+    {
+        Counts {
+            lost_total: counted(self.lost_total, effects.lost),
+            samples: counted(self.samples, effects.ready.len() as u64),
+            ..self
+        }
+    }
+
+    /// The counts once a match began.
+    pub(crate) fn with_match(self) -> Counts
+        ensures { result ≡ record self { matched_total = capped (self.matched_total + 1) } }
+    {
+        Counts {
+            matched_total: counted(self.matched_total, 1),
+            ..self
+        }
+    }
+
+    /// The counts once a writer was refused for a policy.
+    pub(crate) fn with_refusal(self, policy: u32) -> Counts
+        ensures { result ≡ record self {
+          incompatible_total = capped (self.incompatible_total + 1);
+          last_policy = Some policy;
+        } }
+    {
+        Counts {
+            incompatible_total: counted(self.incompatible_total, 1),
+            last_policy: Some(policy),
+            ..self
+        }
+    }
+
+    /// The status where there are so many matches now.
+    pub(crate) fn status(self, matches: usize) -> Status
+        ensures { result ≡ status_by self matches }
+    {
+        Status {
+            matched_total: self.matched_total,
+            matched_now: matches as u64,
+            incompatible_total: self.incompatible_total,
+            last_policy: self.last_policy,
+            lost_total: self.lost_total,
+            samples: self.samples,
+        }
+    }
+}
+
 /// The greatest total that is reported.
 pub(crate) const MOST: u64 = 2_147_483_647;
 
 /// A total and some more, up to the greatest that is reported.
-pub(crate) fn counted(total: u32, more: u64) -> u32
+fn counted(total: u32, more: u64) -> u32
     ensures { result ≡ capped (total + more) }
 {
     u64::from(total).saturating_add(more).min(MOST) as u32
-}
-
-/// The status once an event had these effects.
-pub(crate) fn with_effects<A: Allocator>(status: Status, effects: &Effects<'_, A>) -> Status
-    ensures { result ≡ status_after status effects.now.lost (length effects.now.ready.items) }
-{
-    Status {
-        lost_total: counted(status.lost_total, effects.lost),
-        samples: counted(status.samples, effects.ready.len() as u64),
-        ..status
-    }
 }

@@ -5,7 +5,7 @@ ghost use Rattle.rtps_receiver.specs.Events.{view};
 ghost use Rattle.rtps_reader.specs.Steps.{asked, asks_of};
 
 use rtps_receiver::{Body, Event};
-use rtps_types::{Guid, Place, Timestamp};
+use rtps_types::{Guid, Locator, Place, Timestamp};
 
 /// One step of a reader, at a place of the run.
 #[derive(Clone, Copy, Debug)]
@@ -22,6 +22,21 @@ pub enum StepKind<'a> {
         writer: Guid,
         time: Option<Timestamp>,
         body: &'a Body<'a>,
+    },
+    /// To begin a match with a writer, whose answers go to these locators. What came for an earlier
+    /// match with it is forgotten.
+    Match {
+        writer: Guid,
+        locators: &'a [Locator],
+    },
+    /// To end the match with a writer. What came for it is forgotten.
+    Unmatch {
+        writer: Guid,
+    },
+    /// To report a writer that offers less than is requested; the policy by its id.
+    Refuse {
+        writer: Guid,
+        policy: u32,
     },
 }
 

@@ -1,6 +1,7 @@
 //! Bodies of changes that were written down by hand.
 
 mod edges;
+mod matching;
 mod reliable;
 mod state;
 

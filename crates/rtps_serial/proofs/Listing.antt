@@ -1,10 +1,10 @@
 -- The matches that are listed: in order, and just those that there are.
 use Rattle.std.proofs.Common.{◌≡◌, ℕ, zero, suc, List, [], ◌∷◌, map, Bool, true, false, ◌==◌, nat_lt, ◌&&◌, ◌||◌, refl, sym, ap, ◌∙◌, arith}
-use Rattle.std.specs.List.{AllByRecursion, list_any}
+use Rattle.std.specs.List.{list_any}
 use Rattle.std.specs.List.Sorted.{IsStrictlySortedBy}
 use Rattle.std.specs.BTreeSet.{insert_key}
 use Rattle.std.specs.Cmp.{IsTotalOrder}
-use Rattle.std.specs.Ordering.{is_eq, match_ordering, nat_cmp, ordering_reverse, ordering_then}
+use Rattle.std.specs.Ordering.{is_eq, match_ordering, nat_cmp, ordering_then}
 use Rattle.std.specs.declared.cmp.Ordering.{Ordering}
 use Rattle.std.specs.declared.cmp.Ordering.TheVariants.{Less, Equal, Greater}
 use Rattle.std.proofs.lemmas.Bool.Decides.{nat_tests}
@@ -14,7 +14,9 @@ use Rattle.std.proofs.lemmas.Slice.Eq.{bytes_eq-Decides}
 use Rattle.rtps_types.specs.declared.identity.Guid.{Guid}
 use Rattle.rtps_types.specs.Order.{octet_order}
 use Rattle.rtps_reader.specs.Listed.{match_order, with_writers}
-use Rattle.rtps_reader.specs.Reader.{Match, Reader, same_guid}
+use Rattle.rtps_proxy.specs.Matches.{Match, same_guid}
+use Rattle.rtps_reader.specs.Reader.{Reader}
+use Rattle.rtps_reader.proofs.Following.{inserted}
 use Rattle.rtps_serial.specs.Seen.{is_listed, matches_below}
 use Rattle.rtps_serial.specs.World.{is_matched}
 use Rattle.rtps_serial.proofs.Turns.{numbers_same, then_first, then_second}
@@ -23,34 +25,6 @@ matches_total : IsTotalOrder match_order
 matches_total =
     then_total (on_total (λ (m : ℕ × Guid). m.0) nat_cmp_total)
     (then_total (on_total (λ (m : ℕ × Guid). m.1.prefix.0) nat_list_cmp_total) (on_total (λ (m : ℕ × Guid). m.1.entity.0) nat_list_cmp_total))
-
--- a key that is put in its place keeps the order
-module _ {K : Type 0} (R : K → K → Ordering) (o : IsTotalOrder R) where
-  all_above : (k x : K) (ys : List K) → R k x ≡ Less → AllByRecursion (λ y. R x y ≡ Less) ys → AllByRecursion (λ y. R k y ≡ Less) ys
-  all_above k x [] less above = tt
-  all_above k x (y ∷ ys) less above = (o.trans k x y less above.0, all_above k x ys less above.1)
-
-  all_inserted : (P : K → Type 0) (ks : List K) (k : K) → AllByRecursion P ks → P k → AllByRecursion P (insert_key R ks k)
-  all_inserted P [] k all p = (p, tt)
-  all_inserted P (x ∷ xs) k all p = by_order (R k x) (all_inserted P xs k all.1 p)
-    where
-      by_order : (r : Ordering) → AllByRecursion P (insert_key R xs k) → AllByRecursion P (match_ordering r (k ∷ x ∷ xs) (x ∷ xs) (x ∷ insert_key R xs k))
-      by_order Less rest = (p, all)
-      by_order Equal rest = all
-      by_order Greater rest = (all.0, rest)
-
-  after_key : (k x : K) → R k x ≡ Greater → R x k ≡ Less
-  after_key k x is = o.antisymm x k ∙ ap ordering_reverse is
-
-  inserted : (ks : List K) (k : K) → IsStrictlySortedBy R ks → IsStrictlySortedBy R (insert_key R ks k)
-  unfolding IsStrictlySortedBy
-  inserted [] k up = (tt, tt)
-  inserted (x ∷ xs) k up = by_order (R k x) refl (inserted xs k up.1)
-    where
-      by_order : (r : Ordering) → R k x ≡ r → IsStrictlySortedBy R (insert_key R xs k) → IsStrictlySortedBy R (match_ordering r (k ∷ x ∷ xs) (x ∷ xs) (x ∷ insert_key R xs k))
-      by_order Less is rest = ((is, all_above k x xs is up.0), up)
-      by_order Equal is rest = up
-      by_order Greater is rest = (all_inserted (λ y. R x y ≡ Less) xs k up.0 (after_key k x is), rest)
 
 listed_more : (ks : List (ℕ × Guid)) (rank : ℕ) (ws : List Guid) → IsStrictlySortedBy match_order ks → IsStrictlySortedBy match_order (with_writers ks rank ws)
 listed_more ks rank [] up = up

@@ -1,15 +1,16 @@
 -- What one event does to the match of a reader with a writer, and what the reader gives out of it.
 use Rattle.std.proofs.Common.{◌≡◌, ℕ, zero, suc, ◌<◌, ◌≤◌, Bool, true, false, not, ◌&&◌, if◌then◌else◌, List, [], ◌∷◌, ◌++◌, map, Option, Some, None, refl, sym, ◌∙◌, ap, subst, arith, eqb, append-nil, append_assoc, true≢false, inl, inr}
 use Rattle.std.specs.Option.{option_map}
-use Rattle.std.specs.Str.{bytes_eq}
 use Rattle.std.proofs.lemmas.Bool.Decides.{eqb_tells, nat_tests}
-use Rattle.std.proofs.lemmas.Slice.Eq.{bytes_eq-Decides}
 use Rattle.rtps_types.specs.declared.identity.Guid.{Guid}
 use Rattle.rtps_types.specs.declared.place.Place.{Place}
 use Rattle.rtps_receiver.specs.Events.{Happening}
 use Rattle.rtps_discovery.specs.Addressed.{is_addressed, is_discovery, is_for, writer_of}
 use Rattle.rtps_proxy.specs.History.{Came, Sample}
+use Rattle.rtps_proxy.specs.Matches.{Match, extended, match_with, same_guid}
 use Rattle.rtps_proxy.specs.Replies.{Sent}
+use Rattle.rtps_proxy.proofs.Matching.{same_is}
+use Rattle.rtps_reader.proofs.Begun.{same_self}
 use Rattle.std.specs.List.{AllByRecursion}
 use Rattle.rtps_types.specs.SequenceNumber.{IsNumber}
 use Rattle.rtps_types.proofs.Nearest.{value_of-nearest}
@@ -17,7 +18,7 @@ use Rattle.dds_topic.specs.Decoding.{Decoding}
 use Rattle.rtps_reader.specs.declared.notice.Notice.{Notice}
 use Rattle.rtps_reader.specs.declared.notice.NoticeKind.TheVariants.{Lost}
 use Rattle.rtps_reader.specs.Body.{body_by}
-use Rattle.rtps_reader.specs.Reader.{Match, Reader, extended, loses, lost_at, match_with, presented, reader_after, ready_at, same_guid, sends, tells, told_of}
+use Rattle.rtps_reader.specs.Reader.{Reader, loses, lost_at, presented, reader_after, ready_at, sends, tells, told_of}
 use Rattle.rtps_reader.specs.Steps.{asks_of}
 use Rattle.rtps_serial.specs.Presentation.{Shown, came_of, samples_of, shown_in}
 use Rattle.rtps_serial.specs.Seen.{notices_by}
@@ -25,30 +26,6 @@ use Rattle.rtps_serial.specs.World.{Put, Hears, puts, puts_below, reader_by, rea
 use Rattle.rtps_serial.proofs.Dealt.{notices_by-append}
 use Rattle.rtps_serial.proofs.Reached.{puts_none, puts_told, reader_left, reader_taken}
 use Rattle.rtps_serial.proofs.Shown.{shown}
-
-and_first : (a b : Bool) → (a && b) ≡ true → a ≡ true
-and_first true b h = refl
-and_first false b h = absurd cc
-
-and_second : (a b : Bool) → (a && b) ≡ true → b ≡ true
-and_second true b h = h
-and_second false b h = absurd cc
-
-abbrev guid_of : List ℕ → List ℕ → Guid
-guid_of prefix entity = record { prefix = record { 0 = prefix }; entity = record { 0 = entity } }
-
-same_is : (a b : Guid) → same_guid a b ≡ true → a ≡ b
-same_is a b h =
-    let prefixes : a.prefix.0 ≡ b.prefix.0 = (bytes_eq-Decides a.prefix.0 b.prefix.0).0 (and_first _ _ h) in
-    let entities : a.entity.0 ≡ b.entity.0 = (bytes_eq-Decides a.entity.0 b.entity.0).0 (and_second (bytes_eq a.prefix.0 b.prefix.0) _ h) in
-    ap (λ p. guid_of p a.entity.0) prefixes ∙ ap (guid_of b.prefix.0) entities
-
-pub same_self : (a : Guid) → same_guid a a ≡ true
-same_self a = both _ _ ((bytes_eq-Decides a.prefix.0 a.prefix.0).1 refl) ((bytes_eq-Decides a.entity.0 a.entity.0).1 refl)
-  where
-    both : (x y : Bool) → x ≡ true → y ≡ true → (x && y) ≡ true
-    both true y h k = k
-    both false y h k = absurd cc
 
 other_way : (a b : Guid) → same_guid a b ≡ false → same_guid b a ≡ false
 other_way a b h = by_test (same_guid b a) refl

@@ -19,7 +19,7 @@ use Rattle.rtps_receiver.specs.Addressed.{Addressed, addressed, taken_of}
 use Rattle.rtps_receiver.specs.Context.{destination_of, source_of, time_of}
 use Rattle.rtps_receiver.specs.Events.{Happening, event_behind, events_behind, events_of, events_under, happening}
 use Rattle.rtps_discovery.specs.Addressed.{is_addressed}
-use Rattle.rtps_reader.specs.Reader.{same_guid}
+use Rattle.rtps_proxy.specs.Matches.{same_guid}
 use Rattle.rtps_serial.specs.Presentation.{events_for, not_after}
 use Rattle.rtps_serial.specs.Run.{events_from}
 

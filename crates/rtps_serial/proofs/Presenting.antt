@@ -19,9 +19,11 @@ use Rattle.rtps_proxy.specs.History.{Sample}
 use Rattle.rtps_proxy.specs.Presentation.{Brings}
 use Rattle.rtps_proxy.proofs.Presenting.{ready_brought}
 use Rattle.dds_topic.specs.Decoding.{Decoding}
-use Rattle.rtps_reader.specs.Reader.{Match, fresh, match_with, ready_at, same_guid, told_of}
+use Rattle.rtps_proxy.specs.Matches.{Match, begun, fresh, match_with, same_guid}
+use Rattle.rtps_reader.specs.Reader.{Facts, all_begun, first_matches, ready_at, told_of, whom_of}
+use Rattle.rtps_reader.proofs.Begun.{match_begun}
 use Rattle.rtps_serial.specs.Presentation.{ArePresented, Shown, came_of, events_in, samples_in, samples_of}
-use Rattle.rtps_serial.specs.Run.{Facts, entity_of, events_from, first_world, fixed_of, is_reliable, is_reliable_at, whom_of, world_run}
+use Rattle.rtps_serial.specs.Run.{entity_of, events_from, first_world, fixed_of, is_reliable, is_reliable_at, world_run}
 use Rattle.rtps_serial.specs.Seen.{notices_by}
 use Rattle.rtps_serial.specs.World.{World, puts_below, world_after}
 use Rattle.rtps_serial.proofs.Dealt.{notices_by-append}
@@ -140,15 +142,22 @@ record Begins (g : Guid) (b : Bool) (ms : List Match) : Type 0 where
   asks : match.whom.reliable ≡ b
   fresh : match.past ≡ []
 
-first_match : (g : Guid) (own : GuidPrefix) (entity : EntityId) (b : Bool) (fixed : List Facts) → Begins g b (map fresh (map (whom_of own entity b) fixed)) ⊎ (match_with g (map fresh (map (whom_of own entity b) fixed)) ≡ None)
-first_match g own entity b [] = inr refl
-first_match g own entity b (p ∷ fixed) = by_test (same_guid p.0 g) refl (first_match g own entity b fixed)
+begins_more : (g : Guid) (b : Bool) (m : Match) (ms : List Match) → m.whom.reliable ≡ b → m.past ≡ [] → Begins g b ms ⊎ (match_with g ms ≡ None) → Begins g b (begun m ms) ⊎ (match_with g (begun m ms) ≡ None)
+begins_more g b m ms asks fresh before = by_test (same_guid m.whom.writer g) refl before
   where
-    by_test : (t : Bool) → same_guid p.0 g ≡ t → Begins g b (map fresh (map (whom_of own entity b) fixed)) ⊎ (match_with g (map fresh (map (whom_of own entity b) fixed)) ≡ None)
-        → Begins g b (map fresh (map (whom_of own entity b) (p ∷ fixed))) ⊎ (match_with g (map fresh (map (whom_of own entity b) (p ∷ fixed))) ≡ None)
-    by_test true is rest = inl (record { match = fresh (whom_of own entity b p); found = rw is refl; asks = refl; fresh = refl })
-    by_test false is (inl f) = inl (record { match = f.match; found = rw is f.found; asks = f.asks; fresh = f.fresh })
-    by_test false is (inr none) = inr (rw is none)
+    by_test : (t : Bool) → same_guid m.whom.writer g ≡ t → Begins g b ms ⊎ (match_with g ms ≡ None) → Begins g b (begun m ms) ⊎ (match_with g (begun m ms) ≡ None)
+    by_test true is old = inl (record { match = m; found = match_begun g m ms ∙ ap (λ t. if t then Some m else match_with g ms) is; asks = asks; fresh = fresh })
+    by_test false is (inl f) = inl (record { match = f.match; found = match_begun g m ms ∙ ap (λ t. if t then Some m else match_with g ms) is ∙ f.found; asks = f.asks; fresh = f.fresh })
+    by_test false is (inr none) = inr (match_begun g m ms ∙ ap (λ t. if t then Some m else match_with g ms) is ∙ none)
+
+begins_all : (g : Guid) (own : GuidPrefix) (entity : EntityId) (b : Bool) (fixed : List Facts) (ms : List Match) → Begins g b ms ⊎ (match_with g ms ≡ None)
+    → Begins g b (all_begun ms (map (whom_of own entity b) fixed)) ⊎ (match_with g (all_begun ms (map (whom_of own entity b) fixed)) ≡ None)
+begins_all g own entity b [] ms before = before
+begins_all g own entity b (p ∷ fixed) ms before =
+    begins_all g own entity b fixed (begun (fresh (whom_of own entity b p)) ms) (begins_more g b (fresh (whom_of own entity b p)) ms refl refl before)
+
+first_match : (g : Guid) (own : GuidPrefix) (entity : EntityId) (b : Bool) (fixed : List Facts) → Begins g b (first_matches own entity b fixed) ⊎ (match_with g (first_matches own entity b fixed) ≡ None)
+first_match g own entity b fixed = begins_all g own entity b fixed [] (inr refl)
 
 reliable_below : {X : Type 0} (f : X → Bool) (xs : List X) (k : ℕ) → get_or (map f xs) k false ≡ true → k < length xs
 reliable_below f [] zero h = absurd cc
@@ -163,8 +172,8 @@ run_presents {M} decoding config datagrams rank g asks = by_match (first_match g
     below : rank < length config.readers.items
     below = reliable_below (λ (r : ReaderConfig). is_reliable r.requested.policies.reliability) config.readers.items rank asks
 
-    by_match : Begins g (is_reliable_at config.readers.items rank) (map fresh (map (whom_of config.own (entity_of config.readers.items rank) (is_reliable_at config.readers.items rank)) (fixed_of config.fixed.items rank)))
-        ⊎ (match_with g (map fresh (map (whom_of config.own (entity_of config.readers.items rank) (is_reliable_at config.readers.items rank)) (fixed_of config.fixed.items rank))) ≡ None)
+    by_match : Begins g (is_reliable_at config.readers.items rank) (first_matches config.own (entity_of config.readers.items rank) (is_reliable_at config.readers.items rank) (fixed_of config.fixed.items rank))
+        ⊎ (match_with g (first_matches config.own (entity_of config.readers.items rank) (is_reliable_at config.readers.items rank) (fixed_of config.fixed.items rank)) ≡ None)
         → ArePresented decoding (events_in config datagrams rank g) (samples_in decoding config datagrams rank g)
     by_match (inl m) =
         let follows = follows_run decoding (first_world config) rank g (entity_of config.readers.items rank) [] (events_from config.own 0 datagrams) (all_have_numbers config.own 0 datagrams)
@@ -177,7 +186,7 @@ run_presents {M} decoding config datagrams rank g asks = by_match (first_match g
 
 -- where there is no match at the start, no sample is presented
 pub none_presented : {M : Type 0} (decoding : Decoding M) (config : Config) (datagrams : List (List ℕ)) (rank : ℕ) (g : Guid) → rank < length config.readers.items
-    → match_with g (map fresh (map (whom_of config.own (entity_of config.readers.items rank) (is_reliable_at config.readers.items rank)) (fixed_of config.fixed.items rank))) ≡ None
+    → match_with g (first_matches config.own (entity_of config.readers.items rank) (is_reliable_at config.readers.items rank) (fixed_of config.fixed.items rank)) ≡ None
     → samples_in decoding config datagrams rank g ≡ []
 none_presented decoding config datagrams rank g below none =
     (strange_run decoding (first_world config) rank g (events_from config.own 0 datagrams) (record { below = below; none = none; untold = refl })).untold

@@ -7,16 +7,18 @@ use Rattle.rtps_types.specs.declared.identity.Guid.{Guid}
 use Rattle.rtps_discovery.specs.Addressed.{unknown_entity}
 use Rattle.rtps_discovery.specs.declared.config.FixedMatch.{FixedMatch}
 use Rattle.rtps_discovery.specs.declared.config.ReaderConfig.{ReaderConfig}
-use Rattle.rtps_reader.specs.Reader.{Match, Reader, first_reader}
+use Rattle.rtps_reader.specs.Reader.{Facts, Reader, first_reader}
 use Rattle.rtps_reader.specs.Standing as reader
-use Rattle.rtps_reader.specs.Standing.{ReaderKept, MatchKept}
+use Rattle.rtps_reader.specs.Standing.{ReaderKept, facts_in}
 use Rattle.rtps_reader.specs.Listed.{with_writers}
 use Rattle.rtps_types.specs.declared.identity.GuidPrefix.{GuidPrefix}
-use Rattle.rtps_serial.specs.Run.{Facts, entity_of, is_reliable, is_reliable_at, reader_first, whom_of}
+use Rattle.rtps_serial.specs.Run.{entity_of, is_reliable, is_reliable_at, reader_first}
 use Rattle.rtps_serial.specs.Seen.{matches_below}
 use Rattle.rtps_types.specs.declared.traffic.WriterFacts.{WriterFacts}
-use Rattle.rtps_proxy.specs.Kept.{Whom}
-use Rattle.rtps_serial.specs.Standing.{AllStandBy, AllStart, StandsFor, facts_in}
+use Rattle.rtps_proxy.specs.Kept.{Kept}
+use Rattle.rtps_proxy.specs.Matches.{AllStand, Match}
+use Rattle.std.specs.Map.{keys_of}
+use Rattle.rtps_serial.specs.Standing.{AllStandBy, AllStart, StandsFor}
 use Rattle.rtps_reader.specs.declared.notice.Notice.{Notice}
 
 -- one item more, where each item is as its place asks
@@ -65,16 +67,11 @@ pub left_more : (old states : List ReaderKept) (at : ℕ) (s : ReaderKept)
 left_more old states at s left rank other above = get_or-set_other states at rank s other (λ e. omega (arith, above, e)) ∙ left rank other (omega (arith, above))
 
 -- matches and what is kept of them have the same writers
-pub same_writers : (ms : List Match) (ss : List MatchKept) → reader.AllStand ms ss → map (λ (s : MatchKept). s.writer) ss ≡ map (λ (m : Match). m.whom.writer) ms
+pub same_writers : (ms : List Match) (ss : List (Guid × Kept)) → AllStand ms ss → keys_of ss ≡ map (λ (m : Match). m.whom.writer) ms
 same_writers [] [] all = refl
 same_writers [] (s ∷ ss) all = absurd all
 same_writers (m ∷ ms) [] all = absurd all
-same_writers (m ∷ ms) (s ∷ ss) all = ap (λ (w : Guid). w ∷ map (λ (s : MatchKept). s.writer) ss) (sym all.0.writer) ∙ ap (λ (l : List Guid). m.whom.writer ∷ l) (same_writers ms ss all.1)
-
--- between whom matches stand, by their facts
-pub whoms_in : {A : Type 0} (own : GuidPrefix) (entity : EntityId) (b : Bool) (facts : List (WriterFacts A)) → map (whom_of own entity b) (map facts_in facts) ≡ map (reader.whom_for own entity b) facts
-whoms_in own entity b [] = refl
-whoms_in own entity b (f ∷ facts) = ap (λ (l : List Whom). whom_of own entity b (facts_in f) ∷ l) (whoms_in own entity b facts)
+same_writers (m ∷ ms) (s ∷ ss) all = ap (λ (w : Guid). w ∷ keys_of ss) (sym all.0.writer) ∙ ap (λ (l : List Guid). m.whom.writer ∷ l) (same_writers ms ss all.1)
 
 -- one fixed match more that is dealt out, where the test says that it is of the rank
 pub fixed_more : {A : Type 0} (b : Bool) (m : FixedMatch) (left : List FixedMatch) (facts : WriterFacts A) (old new : List (WriterFacts A))
@@ -88,7 +85,7 @@ fixed_more false m left facts old new same pushed = ap (λ l. map facts_in l ++ 
 -- one reader more at the start
 pub first_more : (own : GuidPrefix) (readers : List ReaderConfig) (matched : ℕ → List Facts) (states : List ReaderKept) (s : ReaderKept) (n : ℕ) (config : ReaderConfig) (facts : List Facts)
     → length states ≡ n → n < length readers → config ≡ get_or readers n config → facts ≡ matched n
-    → reader.StartsAt (first_reader config.entity (map (whom_of own config.entity (is_reliable config.requested.policies.reliability)) facts)) s → s.rank ≡ n
+    → reader.StartsAt (first_reader own config.entity (is_reliable config.requested.policies.reliability) facts) s → s.rank ≡ n
     → AllStart (λ rank. reader_first own readers rank (matched rank)) states → AllStart (λ rank. reader_first own readers rank (matched rank)) (states ++ s ∷ [])
 first_more own readers matched states s n config facts e below is same stands ranked all =
     let entity : config.entity ≡ entity_of readers n = ap (λ (c : ReaderConfig). c.entity) is ∙ sym (get_or-map (λ (c : ReaderConfig). c.entity) readers n config unknown_entity below) in
@@ -96,17 +93,17 @@ first_more own readers matched states s n config facts e below is same stands ra
     all_stand_push _ _ states s n e all
     (record {
       stands = subst (λ (fs : List Facts). reader.StartsAt (reader_first own readers n fs) s) same
-          (subst (λ (b : Bool). reader.StartsAt (first_reader (entity_of readers n) (map (whom_of own (entity_of readers n) b) facts)) s) asking
-          (subst (λ (k : EntityId). reader.StartsAt (first_reader k (map (whom_of own k (is_reliable config.requested.policies.reliability)) facts)) s) entity stands));
+          (subst (λ (b : Bool). reader.StartsAt (first_reader own (entity_of readers n) b facts) s) asking
+          (subst (λ (k : EntityId). reader.StartsAt (first_reader own k (is_reliable config.requested.policies.reliability) facts) s) entity stands));
       ranked = ranked;
     })
 
 -- the matches of one rank more
 pub matches_more : {M : Type 0} (readers : ℕ → Reader) (given : List (Notice M)) (n : ℕ) (state : ReaderKept) (listed : List (ℕ × Guid)) → listed ≡ matches_below readers n → StandsFor (readers n) given n state
-    → with_writers listed state.rank (map (λ (s : MatchKept). s.writer) state.matches) ≡ matches_below readers (n + 1)
+    → with_writers listed state.rank (keys_of state.matches) ≡ matches_below readers (n + 1)
 matches_more readers given n state listed e one =
     let next : n + 1 ≡ suc n = omega arith in
-    ap (λ l. with_writers l state.rank (map (λ (s : MatchKept). s.writer) state.matches)) e
-    ∙ ap (λ k. with_writers (matches_below readers n) k (map (λ (s : MatchKept). s.writer) state.matches)) one.ranked
+    ap (λ l. with_writers l state.rank (keys_of state.matches)) e
+    ∙ ap (λ k. with_writers (matches_below readers n) k (keys_of state.matches)) one.ranked
     ∙ ap (with_writers (matches_below readers n) n) (same_writers (readers n).matches state.matches one.stands.matches)
     ∙ sym (ap (matches_below readers) next)

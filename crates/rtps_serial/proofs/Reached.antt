@@ -2,10 +2,11 @@
 use Rattle.std.proofs.Common.{◌≡◌, ℕ, zero, suc, ◌+◌, arith, List, [], ◌∷◌, ◌++◌, map, Bool, true, false, not, ◌&&◌, ◌||◌, if◌then◌else◌, Option, Some, None, refl, sym, ap, true≢false}
 use Rattle.rtps_types.specs.declared.identity.Guid.{Guid}
 use Rattle.rtps_proxy.specs.History.{Came}
+use Rattle.rtps_proxy.specs.Matches.{Match, extended, match_with, same_guid}
 use Rattle.rtps_receiver.specs.Events.{Happening}
 use Rattle.rtps_discovery.specs.Addressed.{is_discovery, is_for, writer_of}
 use Rattle.dds_topic.specs.Decoding.{Decoding}
-use Rattle.rtps_reader.specs.Reader.{Match, Reader, extended, match_with, reader_after, same_guid, sends, tells}
+use Rattle.rtps_reader.specs.Reader.{Reader, reader_after, sends, tells}
 use Rattle.rtps_reader.specs.Steps.{asks_of}
 use Rattle.rtps_serial.specs.Presentation.{came_of}
 use Rattle.rtps_serial.specs.World.{Hears, is_matched, puts, puts_below, reader_by, sent_by}

@@ -16,11 +16,12 @@ use Rattle.rtps_types.specs.Place.{place_order}
 use Rattle.rtps_receiver.specs.Events.{Happening}
 use Rattle.dds_topic.specs.Decoding.{Decoding}
 use Rattle.rtps_proxy.specs.History.{Came, Sample}
+use Rattle.rtps_proxy.specs.Matches.{Match, match_with}
 use Rattle.rtps_proxy.specs.Replies.{Sent}
 use Rattle.rtps_reader.specs.declared.notice.Notice.{Notice}
 use Rattle.rtps_reader.specs.declared.notice.NoticeKind.TheVariants as notice
-use Rattle.rtps_reader.specs.Reader.{Match, Reader, answer_at, loses, lost_at, match_with, placed, presented, ready_at, sends, sent_of, tells, told_of}
-use Rattle.rtps_reader.specs.Steps.{Asks, Event, asks_of}
+use Rattle.rtps_reader.specs.Reader.{Reader, answer_at, loses, lost_at, placed, presented, ready_at, sends, sent_of, tells, told_of}
+use Rattle.rtps_reader.specs.Steps.{Doing, Takes, Begins, Ends, Refused, asks_of}
 use Rattle.rtps_serial.specs.declared.outcome.Report.{Report}
 use Rattle.rtps_serial.specs.declared.outcome.Report.TheVariants as report
 use Rattle.rtps_serial.specs.declared.turn.ReportKind.{ReportKind}
@@ -177,8 +178,11 @@ told_at : {M : Type 0} (d : Decoding M) (place : Place) (w : Guid) (e : Came) (m
 told_at d place w e None = tt
 told_at {M} d place w e (Some m) = all_append (λ n. n.place ≡ place) (loses place w (lost_at m e)) (map (presented d place w) (ready_at m e)) (loses_at M place w (lost_at m e)) (presented_at d place w (ready_at m e))
 
-tells_at : {M : Type 0} (d : Decoding M) (r : Reader) (place : Place) (asks : Asks) → AllByRecursion (λ (n : Notice M). n.place ≡ place) (tells d r place asks)
-tells_at d r place (Event w e) = told_at d place w e (match_with w r.matches)
+tells_at : {M : Type 0} (d : Decoding M) (r : Reader) (place : Place) (asks : Doing) → AllByRecursion (λ (n : Notice M). n.place ≡ place) (tells d r place asks)
+tells_at d r place (Takes w e) = told_at d place w e (match_with w r.matches)
+tells_at d r place (Begins w locators) = (refl, tt)
+tells_at d r place (Ends w) = (refl, tt)
+tells_at d r place (Refused w policy) = (refl, tt)
 
 placed_at : (place : Place) (o : Option Sent) → AllByRecursion (λ (s : Place × Sent). s.0 ≡ place) (placed place o)
 placed_at place None = tt
@@ -188,8 +192,11 @@ sent_at : (place : Place) (e : Came) (m : Option Match) → AllByRecursion (λ (
 sent_at place e None = tt
 sent_at place e (Some m) = placed_at place (answer_at m e)
 
-sends_at : (r : Reader) (place : Place) (asks : Asks) → AllByRecursion (λ (s : Place × Sent). s.0 ≡ place) (sends r place asks)
-sends_at r place (Event w e) = sent_at place e (match_with w r.matches)
+sends_at : (r : Reader) (place : Place) (asks : Doing) → AllByRecursion (λ (s : Place × Sent). s.0 ≡ place) (sends r place asks)
+sends_at r place (Takes w e) = sent_at place e (match_with w r.matches)
+sends_at r place (Begins w locators) = tt
+sends_at r place (Ends w) = tt
+sends_at r place (Refused w policy) = tt
 
 hears_turn : {M : Type 0} (place : Place) (rank : ℕ) (ns : List (Notice M)) → AllByRecursion (λ n. n.place ≡ place) ns → AllByRecursion (λ p. put_turn p ≡ turn_at place rank kind.Notice) (map (Hears rank) ns)
 hears_turn place rank [] h = tt

@@ -1,9 +1,7 @@
 -- The run of one thread, which takes the submessages of all datagrams one by one.
 use Rattle.std.specs.Prelude.{ℕ, ◌+◌, Bool, false, true, List, [], ◌∷◌, ◌++◌, length, map, filter, slice_index_or, ◌==◌}
 use Rattle.rtps_types.specs.declared.identity.EntityId.{EntityId}
-use Rattle.rtps_types.specs.declared.identity.Guid.{Guid}
 use Rattle.rtps_types.specs.declared.identity.GuidPrefix.{GuidPrefix}
-use Rattle.rtps_types.specs.declared.locator.Locator.{Locator}
 use Rattle.dds_qos.specs.declared.policies.Reliability.{Reliability}
 use Rattle.dds_qos.specs.declared.policies.Reliability.TheVariants.{BestEffort, Reliable}
 use Rattle.rtps_receiver.specs.Events.{Happening, events_of}
@@ -11,9 +9,8 @@ use Rattle.rtps_discovery.specs.Addressed.{unknown_entity}
 use Rattle.rtps_discovery.specs.declared.config.Config.{Config}
 use Rattle.rtps_discovery.specs.declared.config.FixedMatch.{FixedMatch}
 use Rattle.rtps_discovery.specs.declared.config.ReaderConfig.{ReaderConfig}
-use Rattle.rtps_proxy.specs.Kept.{Whom}
 use Rattle.dds_topic.specs.Decoding.{Decoding}
-use Rattle.rtps_reader.specs.Reader.{Reader, first_reader}
+use Rattle.rtps_reader.specs.Reader.{Facts, Reader, first_reader}
 use Rattle.rtps_serial.specs.World.{World, world_after}
 
 -- the entity of the reader of a rank
@@ -29,29 +26,14 @@ abbrev pub is_reliable_at : List ReaderConfig → ℕ → Bool
 is_reliable_at readers rank =
     slice_index_or (map (λ r. is_reliable r.requested.policies.reliability) readers) rank false
 
--- a writer, and where answers to it go
-abbrev pub Facts : Type 0
-Facts = Guid × List Locator
-
 -- the writers that the reader of a rank is matched with from the start
 abbrev pub fixed_of : List FixedMatch → ℕ → List Facts
 fixed_of fixed rank = map (λ m. (m.writer, m.locators)) (filter (λ m. m.rank == rank) fixed)
 
--- between whom a match of a reader is
-abbrev pub whom_of : GuidPrefix → EntityId → Bool → Facts → Whom
-whom_of own entity is_asking facts = record {
-  own = own;
-  writer = facts.0;
-  reader = entity;
-  reliable = is_asking;
-  locators = facts.1;
-}
-
 -- the reader of a rank at the start, where these are its fixed matches
 abbrev pub reader_first : GuidPrefix → List ReaderConfig → ℕ → List Facts → Reader
 reader_first own readers rank fixed =
-    first_reader (entity_of readers rank)
-    (map (whom_of own (entity_of readers rank) (is_reliable_at readers rank)) fixed)
+    first_reader own (entity_of readers rank) (is_reliable_at readers rank) fixed
 
 -- the world at the start: nothing came, and there are the fixed matches
 abbrev pub first_world : {M : Type 0} → Config → World M

@@ -5,7 +5,8 @@ use Rattle.rtps_types.specs.declared.identity.Guid.{Guid}
 use Rattle.rtps_reader.specs.declared.status.Status.{Status}
 use Rattle.rtps_reader.specs.Listed.{with_writers}
 use Rattle.rtps_reader.specs.declared.notice.Notice.{Notice}
-use Rattle.rtps_reader.specs.Reader.{Reader, same_guid}
+use Rattle.rtps_proxy.specs.Matches.{same_guid}
+use Rattle.rtps_reader.specs.Reader.{Reader}
 use Rattle.rtps_reader.specs.Status.{status_of}
 use Rattle.rtps_serial.specs.World.{Put, Hears, Sends, Sending, World, is_matched}
 
@@ -22,9 +23,9 @@ answers_in [] = []
 answers_in (Hears by notice ∷ put) = answers_in put
 answers_in (Sends answer ∷ put) = answer ∷ answers_in put
 
--- the status of the reader of a rank: its fixed matches and its notices, counted
+-- the status of the reader of a rank: its matches and its notices, counted
 abbrev pub status_at : {M : Type 0} → World M → ℕ → Status
-status_at w rank = status_of (w.readers rank).fixed (notices_by rank w.put)
+status_at w rank = status_of (w.readers rank) (notices_by rank w.put)
 
 -- the same, where there is such a reader
 abbrev pub status_seen : {M : Type 0} → World M → ℕ → Option Status

@@ -12,8 +12,7 @@ use Rattle.rtps_serial.specs.declared.errors.EngineError.{EngineError}
 use Rattle.rtps_serial.specs.declared.errors.EngineError.TheVariants.{NoMemory, Failed, Spent}
 use Rattle.rtps_serial.specs.declared.errors.StartError.{StartError}
 use Rattle.rtps_serial.specs.declared.errors.StartError.TheVariants as start
-use Rattle.rtps_types.specs.declared.traffic.WriterFacts.{WriterFacts}
-use Rattle.rtps_serial.specs.Run.{Facts, run}
+use Rattle.rtps_serial.specs.Run.{run}
 use Rattle.rtps_serial.specs.Seen.{notices_by, status_at}
 use Rattle.rtps_serial.specs.World.{World}
 
@@ -26,10 +25,6 @@ pub record EngineKept (C : Type 0) : Type 0 where
   -- by rank, and the statuses after the last datagram that was taken
   pub readers : List ReaderKept
   pub statuses : List Status
-
--- a writer and its locators, without where they lie in memory
-abbrev pub facts_in : {A : Type 0} → WriterFacts A → Facts
-facts_in facts = (facts.writer, facts.locators)
 
 -- the state of a rank keeps the reader of that rank, which gave out these notices
 pub record StandsFor {M : Type 0} (r : Reader) (given : List (Notice M)) (rank : ℕ)

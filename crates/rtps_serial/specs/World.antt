@@ -8,9 +8,10 @@ use Rattle.rtps_types.specs.declared.place.Place.{Place}
 use Rattle.rtps_receiver.specs.Events.{Happening}
 use Rattle.rtps_discovery.specs.Addressed.{is_addressed}
 use Rattle.dds_topic.specs.Decoding.{Decoding}
+use Rattle.rtps_proxy.specs.Matches.{Match, same_guid}
 use Rattle.rtps_proxy.specs.Replies.{Sent}
 use Rattle.rtps_reader.specs.declared.notice.Notice.{Notice}
-use Rattle.rtps_reader.specs.Reader.{Match, Reader, reader_after, same_guid, sends, tells}
+use Rattle.rtps_reader.specs.Reader.{Reader, reader_after, sends, tells}
 use Rattle.rtps_reader.specs.Steps.{asks_of}
 
 -- an answering datagram: the place that it answers, the rank of the reader that sends it (none:

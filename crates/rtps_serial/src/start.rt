@@ -1,8 +1,10 @@
 //! The readers of a configuration, at the start.
 
 ghost use Rattle.std.specs.Prelude.{◌≡◌, List, ℕ, ◌<◌, ◌≤◌, IfOk, length, map, slice_index_or};
-ghost use Rattle.rtps_serial.specs.Run.{Facts, fixed_of, is_reliable, reader_first};
-ghost use Rattle.rtps_serial.specs.Standing.{AllStart, facts_in};
+ghost use Rattle.rtps_reader.specs.Reader.{Facts};
+ghost use Rattle.rtps_reader.specs.Standing.{facts_in};
+ghost use Rattle.rtps_serial.specs.Run.{fixed_of, is_reliable, reader_first};
+ghost use Rattle.rtps_serial.specs.Standing.{AllStart};
 
 use crate::deal::{empty_lists, push_by};
 use dds_qos::Reliability;

@@ -128,7 +128,7 @@ fn a_reader_without_memory_is_spent(rt: HostRuntime) -> Result<(), Fail> {
     let mut refused = false;
     let mut taken = false;
     for step in 0..64 {
-        let heap = LocalHeap::new(rt.alloc(), 256 + step * 64)?;
+        let heap = LocalHeap::new(rt.alloc(), 256 + step * 160)?;
         let Ok(mut reader) = reader(&heap) else {
             continue;
         };

@@ -60,7 +60,7 @@ fn an_engine_out_of_memory_has_failed(rt: HostRuntime) -> Result<(), Fail> {
     for (reliability, reports) in [(Reliability::BestEffort, 2), (Reliability::Reliable, 8)] {
         let (mut refused, mut served) = (false, false);
         for step in 0..96 {
-            match reported(rt.alloc(), 256 + step * 128, reliability, octets.as_slice())? {
+            match reported(rt.alloc(), 256 + step * 256, reliability, octets.as_slice())? {
                 Some(count) => {
                     assert_eq!(rt; count, reports);
                     served = true;

@@ -148,7 +148,7 @@ pub(super) fn refuses_and_prints(
     let text = text(alloc, lines)?;
     let mut printed = [true, false];
     for step in 0..80 {
-        let memory = 65_400 + step * 128;
+        let memory = 65_400 + step * 256;
         printed[usize::from(step > 0)] = prints_all(
             alloc,
             memory,

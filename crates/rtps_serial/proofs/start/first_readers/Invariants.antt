@@ -1,6 +1,8 @@
 use Rattle.std.proofs.Common.{◌≡◌, ℕ, ◌<◌, List, length, map, slice_index_or}
-use Rattle.rtps_serial.specs.Run.{Facts, reader_first}
-use Rattle.rtps_serial.specs.Standing.{AllStart, facts_in}
+use Rattle.rtps_reader.specs.Reader.{Facts}
+use Rattle.rtps_reader.specs.Standing.{facts_in}
+use Rattle.rtps_serial.specs.Run.{reader_first}
+use Rattle.rtps_serial.specs.Standing.{AllStart}
 use Rattle.rtps_serial.proofs.start.first_readers.Given as goal
 
 abbrev pub invariant-loop-rank : goal.invariant-loop-rank

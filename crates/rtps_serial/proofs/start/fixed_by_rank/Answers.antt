@@ -3,7 +3,7 @@ use Rattle.std.specs.Prelude.{filter}
 use Rattle.std.proofs.lemmas.List.{drop_more}
 use Rattle.rtps_discovery.specs.declared.config.FixedMatch.{FixedMatch}
 use Rattle.rtps_serial.specs.Run.{fixed_of}
-use Rattle.rtps_serial.specs.Standing.{facts_in}
+use Rattle.rtps_reader.specs.Standing.{facts_in}
 use Rattle.rtps_serial.proofs.Ranks.{fixed_more}
 use Rattle.rtps_serial.proofs.start.fixed_by_rank.Goals as goal
 

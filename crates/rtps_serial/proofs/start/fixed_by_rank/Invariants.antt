@@ -1,5 +1,5 @@
 use Rattle.std.proofs.Common.{◌≡◌, ◌++◌, ℕ, ◌<◌, drop, length, map, slice_index_or}
-use Rattle.rtps_serial.specs.Standing.{facts_in}
+use Rattle.rtps_reader.specs.Standing.{facts_in}
 use Rattle.rtps_serial.specs.Run.{fixed_of}
 use Rattle.rtps_serial.proofs.start.fixed_by_rank.Given as goal
 

@@ -1,6 +1,5 @@
 use Rattle.std.proofs.Common.{◌≡◌, ◌∙◌, ap, arith, false, length, map, refl, rules, slice_index_or}
-use Rattle.rtps_reader.specs.Standing.{ReaderKept}
-use Rattle.rtps_serial.specs.Standing.{facts_in}
+use Rattle.rtps_reader.specs.Standing.{ReaderKept, facts_in}
 use Rattle.rtps_serial.specs.Run.{fixed_of}
 use Rattle.rtps_serial.proofs.Taking.{starts_here, shows_first}
 use Rattle.rtps_serial.proofs.engine.SerialEngine.new_in.Goals as goal

@@ -1,0 +1,158 @@
+//! A reader that keeps state of each writer that it is matched with.
+
+ghost use Rattle.std.specs.Prelude.{◌≡◌, ◌++◌, List, IfOk, OnOk, false, map};
+ghost use Rattle.rtps_proxy.specs.Effects.{came};
+ghost use Rattle.rtps_proxy.specs.Matches.{AllStand, AreTaken, Match, begun, extended, fresh, match_with};
+ghost use Rattle.rtps_reader.specs.declared.notice.Notice.{Notice};
+ghost use Rattle.rtps_reader.specs.Notices.{answer_view, notice_view};
+ghost use Rattle.rtps_reader.specs.Reader.{Reader, first_reader, reader_after, sends, tells, whom_of};
+ghost use Rattle.rtps_reader.specs.Standing.{IsSameReader, KeepsFront, StandsAt, StartsAt, counts_given, facts_in, kept_by};
+ghost use Rattle.rtps_reader.specs.Steps.{asked};
+
+use crate::notice::{NoticeKind, Output};
+use crate::present::{present, tell};
+use crate::status::Counts;
+use crate::step::{Step, StepKind};
+use dds_topic::{Catalog, Decoder};
+use rtps_proxy::{Effects, Matches, ProxyConfig};
+use rtps_receiver::Body;
+use rtps_types::{EntityId, Guid, GuidPrefix, Locator, Locators, Timestamp, WriterFacts};
+use std::alloc::{AllocError, Allocator};
+
+/// A reader that keeps state of each writer that it is matched with (DDSI-RTPS 8.4.10,
+/// `StatefulReader`), and counts what it reports.
+#[derive(Drop)]
+pub(crate) struct StatefulReader<A: Allocator> {
+    pub(crate) rank: u32,
+    pub(crate) own: GuidPrefix,
+    pub(crate) entity: EntityId,
+    pub(crate) reliable: bool,
+    pub(crate) matches: Matches<A>,
+    pub(crate) counts: Counts,
+}
+
+impl<A: Allocator + Copy> StatefulReader<A> {
+    /// The matches at the start, to which nothing came yet. They are counted.
+    pub(crate) fn new(
+        alloc: A,
+        rank: u32,
+        own: GuidPrefix,
+        entity: EntityId,
+        reliable: bool,
+        fixed: &[WriterFacts<A>],
+    ) -> Result<StatefulReader<A>, AllocError>
+        ensures starts { IfOk result (λ r. StartsAt (first_reader own entity reliable
+            (map facts_in fixed.now)) (kept_by false r)) }
+        ensures place { IfOk result (λ r. (r.rank ≡ rank) × (r.own ≡ own)) }
+    {
+        let mut reader = StatefulReader {
+            rank,
+            own,
+            entity,
+            reliable,
+            matches: Matches::new(alloc),
+            counts: Counts::of_fixed(0),
+        };
+        for facts in fixed {
+            reader.begin(alloc, facts.writer, facts.locators.as_slice())?;
+        }
+        reader.counts = Counts::of_fixed(reader.matches.len());
+        Ok(reader)
+    }
+
+    /// Takes one step, and adds what it gives after what is in `output`. After a refused growth the
+    /// matches may be those of a step taken by half.
+    pub(crate) fn step<C: Catalog>(
+        &mut self,
+        alloc: A,
+        decoder: &mut Decoder<C>,
+        step: &Step<'_>,
+        output: &mut Output<C::Value, A>,
+    ) -> Result<(), AllocError>
+        ensures stands { (r : Reader) (given : List (Notice C.Meaning))
+            → StandsAt r given (kept_by false self.old)
+            → OnOk result (StandsAt (reader_after r (asked step.now.what))
+            (given ++ tells (C.decoding decoder.old) r step.now.place
+            (asked step.now.what)) (kept_by false self.new)) }
+        ensures notices { (r : Reader) (given : List (Notice C.Meaning))
+            → StandsAt r given (kept_by false self.old)
+            → OnOk result (map (notice_view C.view) output.new.notices.items
+            ≡ map (notice_view C.view) output.old.notices.items
+            ++ tells (C.decoding decoder.old) r step.now.place (asked step.now.what)) }
+        ensures answers { (r : Reader) (given : List (Notice C.Meaning))
+            → StandsAt r given (kept_by false self.old)
+            → OnOk result (map answer_view output.new.answers.items
+            ≡ map answer_view output.old.answers.items
+            ++ sends r step.now.place (asked step.now.what)) }
+        ensures reader { IsSameReader self.old self.new }
+        ensures same { decoder.new ≡ decoder.old }
+        ensures kept { KeepsFront output.old output.new }
+    {
+        match step.what {
+            StepKind::Event { writer, time, body } => match self.take(alloc, writer, time, body)? {
+                Some(effects) => present(decoder, step.place, writer, effects, output),
+                None => Ok(()),
+            },
+            StepKind::Match { writer, locators } => {
+                self.begin(alloc, writer, locators)?;
+                self.counts = self.counts.with_match();
+                tell::<C, A>(step.place, writer, NoticeKind::Matched, &mut output.notices)
+            }
+            StepKind::Unmatch { writer } => {
+                self.matches.end(writer);
+                tell::<C, A>(
+                    step.place,
+                    writer,
+                    NoticeKind::Unmatched,
+                    &mut output.notices,
+                )
+            }
+            StepKind::Refuse { writer, policy } => {
+                self.counts = self.counts.with_refusal(policy);
+                let what = NoticeKind::Incompatible { policy };
+                tell::<C, A>(step.place, writer, what, &mut output.notices)
+            }
+        }
+    }
+
+    /// Gives an event to the match with its writer, if there is one, and counts what that gives.
+    fn take<'a>(
+        &mut self,
+        alloc: A,
+        writer: Guid,
+        time: Option<Timestamp>,
+        body: &Body<'a>,
+    ) -> Result<Option<Effects<'a, A>>, AllocError>
+        ensures stands { (ms : List Match) → AllStand ms self.old.matches
+            → OnOk result (AllStand (extended writer (came time body.now) ms) self.new.matches) }
+        ensures effects { (ms : List Match) → AllStand ms self.old.matches
+            → IfOk result (AreTaken (match_with writer ms) (came time body.now)) }
+        ensures counts { IfOk result (λ effects. self.new.counts
+            ≡ counts_given self.old.counts effects) }
+        ensures reader { IsSameReader self.old self.new }
+    {
+        let Some(effects) = self.matches.on_event(alloc, writer, time, body)? else {
+            return Ok(None);
+        };
+        self.counts = self.counts.with_effects(&effects);
+        Ok(Some(effects))
+    }
+
+    /// Begins a match with a writer, which keeps a copy of these locators.
+    fn begin(&mut self, alloc: A, writer: Guid, locators: &[Locator]) -> Result<(), AllocError>
+        ensures stands { (ms : List Match) → AllStand ms self.old.matches
+            → OnOk result (AllStand (begun (fresh (whom_of self.old.own self.old.entity
+            self.old.reliable (writer, locators.now))) ms) self.new.matches) }
+        ensures counts { self.new.counts ≡ self.old.counts }
+        ensures reader { IsSameReader self.old self.new }
+    {
+        let config = ProxyConfig {
+            own: self.own,
+            writer,
+            reader: self.entity,
+            reliable: self.reliable,
+            locators: Locators::new(Vec::from_slice(alloc, locators)?),
+        };
+        self.matches.begin(alloc, config)
+    }
+}

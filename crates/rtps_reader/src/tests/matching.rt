@@ -1,0 +1,305 @@
+//! What a reliable reader reports and answers while its match with a writer begins and ends.
+
+use crate::*;
+use dds_topic::{Decoder, Shape, Shapes};
+use linked_list_allocator::LocalHeap;
+use rtps_receiver::{Body as Brought, Heartbeat, Whole};
+use rtps_types::{EntityId, Guid, GuidPrefix, Locator, Number, Place};
+use rtps_wire::{ChangeInfo, Form};
+use std::alloc::{AllocError, Allocator, Global};
+use std::test::Fail;
+
+const WRITER: Guid = Guid {
+    prefix: GuidPrefix([10; 12]),
+    entity: EntityId([0, 0, 1, 2]),
+};
+
+const PLACE: Place = Place {
+    datagram: 3,
+    submessage: 1,
+};
+
+/// What the reader is asked to do.
+#[derive(Clone, Copy)]
+enum Asks {
+    /// To take in the change of this number.
+    Change(u64),
+    /// To take in a heartbeat from the first to the last number, with this count.
+    Heartbeat(u64, u64, i32),
+    /// To begin the match, with answers to this port.
+    Match(u16),
+    Unmatch,
+    /// To report the writer for this policy.
+    Refuse(u32),
+}
+
+/// What the reader reports.
+#[derive(Clone, Copy, Debug, PartialEq, Eq)]
+enum Told {
+    Nothing,
+    Sample(u64),
+    Lost(u64),
+    Matched,
+    Unmatched,
+    Incompatible(u32),
+}
+
+/// The matches that began and those that there are, the refusals and the last policy, the lost
+/// numbers, and the samples.
+type Counted = (u32, u64, u32, Option<u32>, u32, u32);
+
+/// What is asked; what is reported; the port and the count of the answer; and the status after it.
+const STEPS: [(Asks, Told, Option<(u16, u8)>, Counted); 15] = [
+    (Asks::Change(1), Told::Nothing, None, (0, 0, 0, None, 0, 0)),
+    (
+        Asks::Match(7411),
+        Told::Matched,
+        None,
+        (1, 1, 0, None, 0, 0),
+    ),
+    (
+        Asks::Change(1),
+        Told::Sample(1),
+        None,
+        (1, 1, 0, None, 0, 1),
+    ),
+    // It waits for change 2, and goes unreported with the match.
+    (Asks::Change(3), Told::Nothing, None, (1, 1, 0, None, 0, 1)),
+    (Asks::Unmatch, Told::Unmatched, None, (1, 0, 0, None, 0, 1)),
+    (Asks::Change(2), Told::Nothing, None, (1, 0, 0, None, 0, 1)),
+    // The next match knows of nothing before: its first heartbeat loses no number, and its answers
+    // count from 1.
+    (
+        Asks::Match(7412),
+        Told::Matched,
+        None,
+        (2, 1, 0, None, 0, 1),
+    ),
+    (
+        Asks::Heartbeat(5, 5, 1),
+        Told::Nothing,
+        Some((7412, 1)),
+        (2, 1, 0, None, 0, 1),
+    ),
+    (
+        Asks::Heartbeat(7, 7, 2),
+        Told::Lost(2),
+        Some((7412, 2)),
+        (2, 1, 0, None, 2, 1),
+    ),
+    (
+        Asks::Change(7),
+        Told::Sample(7),
+        None,
+        (2, 1, 0, None, 2, 2),
+    ),
+    // One that begins while there is one takes its place.
+    (
+        Asks::Match(7413),
+        Told::Matched,
+        None,
+        (3, 1, 0, None, 2, 2),
+    ),
+    (
+        Asks::Change(1),
+        Told::Sample(1),
+        None,
+        (3, 1, 0, None, 2, 3),
+    ),
+    (
+        Asks::Refuse(11),
+        Told::Incompatible(11),
+        None,
+        (3, 1, 1, Some(11), 2, 3),
+    ),
+    (
+        Asks::Refuse(2),
+        Told::Incompatible(2),
+        None,
+        (3, 1, 2, Some(2), 2, 3),
+    ),
+    (
+        Asks::Heartbeat(1, 2, 1),
+        Told::Nothing,
+        Some((7413, 1)),
+        (3, 1, 2, Some(2), 2, 3),
+    ),
+];
+
+/// A reader without matches.
+fn reader<A: Allocator + Copy>(alloc: A) -> Result<ReaderState<A>, ReaderError> {
+    let fixed = Vec::new(alloc);
+    let entity = EntityId([0, 0, 1, 7]);
+    ReaderState::new(
+        alloc,
+        0,
+        GuidPrefix([11; 12]),
+        entity,
+        true,
+        fixed.as_slice(),
+    )
+}
+
+fn number_of(number: u64) -> Result<Number, Fail> {
+    match Number::new(number) {
+        Some(number) => Ok(number),
+        None => Err(Fail::new("no number")),
+    }
+}
+
+fn change(number: u64) -> Result<Brought<'static>, Fail> {
+    Ok(Brought::Whole(Whole {
+        number: number_of(number)?,
+        info: ChangeInfo {
+            form: Form::Nothing,
+            status: 0,
+            hash: None,
+        },
+        payload: &[],
+    }))
+}
+
+fn heartbeat(first: u64, last: u64, count: i32) -> Result<Brought<'static>, Fail> {
+    if last > 7 {
+        return Err(Fail::new("no last number"));
+    }
+    Ok(Brought::Heartbeat(Heartbeat {
+        first: number_of(first)?,
+        last,
+        count,
+        final_flag: false,
+        liveliness: false,
+    }))
+}
+
+/// What a reader gives at a step. `values` is where values are decoded.
+fn stepped<A: Allocator + Copy>(
+    alloc: A,
+    values: Global,
+    reader: &mut ReaderState<A>,
+    what: StepKind<'_>,
+) -> Result<Output<Shape, A>, ReaderError> {
+    let mut output = Output {
+        notices: Vec::new(alloc),
+        answers: Vec::new(alloc),
+    };
+    let mut decoder = Decoder::new(values, Shapes);
+    let step = Step { place: PLACE, what };
+    reader.step(alloc, &mut decoder, &step, &mut output)?;
+    Ok(output)
+}
+
+/// What a reader gives of what came from the writer.
+fn taken<A: Allocator + Copy>(
+    alloc: A,
+    values: Global,
+    reader: &mut ReaderState<A>,
+    body: &Brought<'_>,
+) -> Result<Output<Shape, A>, ReaderError> {
+    let what = StepKind::Event {
+        writer: WRITER,
+        time: None,
+        body,
+    };
+    stepped(alloc, values, reader, what)
+}
+
+/// What a reader gives of what it is asked to do.
+fn given<A: Allocator + Copy>(
+    alloc: A,
+    values: Global,
+    reader: &mut ReaderState<A>,
+    asks: Asks,
+) -> Result<Result<Output<Shape, A>, ReaderError>, Fail> {
+    let writer = WRITER;
+    Ok(match asks {
+        Asks::Change(number) => taken(alloc, values, reader, &change(number)?),
+        Asks::Heartbeat(first, last, count) => {
+            taken(alloc, values, reader, &heartbeat(first, last, count)?)
+        }
+        Asks::Match(port) => {
+            let locators = [Locator {
+                port,
+                address: [127, 0, 0, 1],
+            }];
+            let locators = &locators;
+            stepped(alloc, values, reader, StepKind::Match { writer, locators })
+        }
+        Asks::Unmatch => stepped(alloc, values, reader, StepKind::Unmatch { writer }),
+        Asks::Refuse(policy) => stepped(alloc, values, reader, StepKind::Refuse { writer, policy }),
+    })
+}
+
+/// What the only notice says, if there is one.
+fn said<A: Allocator>(output: &Output<Shape, A>) -> Result<Told, Fail> {
+    let Some(notice) = output.notices.first() else {
+        return Ok(Told::Nothing);
+    };
+    if output.notices.len() > 1 || notice.place != PLACE || notice.writer != WRITER {
+        return Err(Fail::new("another notice"));
+    }
+    Ok(match &notice.what {
+        NoticeKind::Sample { number, .. } => Told::Sample(number.get()),
+        NoticeKind::Lost { count } => Told::Lost(*count),
+        NoticeKind::Matched => Told::Matched,
+        NoticeKind::Unmatched => Told::Unmatched,
+        NoticeKind::Incompatible { policy } => Told::Incompatible(*policy),
+    })
+}
+
+/// The port of the answer, and its count, which is the first of its last four octets.
+fn answer<A: Allocator>(output: &Output<Shape, A>) -> Option<(u16, u8)> {
+    let (_, reply) = output.answers.first()?;
+    let to = reply.to.as_slice().first()?;
+    let count = reply.octets.as_slice().iter().rev().nth(3)?;
+    Some((to.port, *count))
+}
+
+fn counted(status: Status) -> Counted {
+    (
+        status.matched_total,
+        status.matched_now,
+        status.incompatible_total,
+        status.last_policy,
+        status.lost_total,
+        status.samples,
+    )
+}
+
+#[test]
+fn begin_end_and_begin_again(rt: HostRuntime) -> Result<(), Fail> {
+    let mut reader = reader(rt.alloc())?;
+    for &(asks, expected, sent, status) in &STEPS {
+        let output = given(rt.alloc(), rt.alloc(), &mut reader, asks)??;
+        assert_eq!(rt; said(&output)?, expected);
+        assert_eq!(rt; answer(&output), sent);
+        assert_eq!(rt; counted(reader.status()), status);
+    }
+    Ok(())
+}
+
+#[test]
+fn a_match_without_memory(rt: HostRuntime) -> Result<(), Fail> {
+    let (mut refused, mut begun) = (false, false);
+    for step in 0..64 {
+        let heap = LocalHeap::new(rt.alloc(), 64 + step * 160)?;
+        let mut reader = reader(&heap)?;
+        match given(&heap, rt.alloc(), &mut reader, Asks::Match(7411))? {
+            Ok(output) => {
+                begun = true;
+                assert_eq!(rt; said(&output)?, Told::Matched);
+            }
+            Err(error) => {
+                refused = true;
+                assert_eq!(rt; error, AllocError);
+                // The reader is spent: nothing else is taken, where memory would be left too.
+                for asks in [Asks::Unmatch, Asks::Refuse(2)] {
+                    let again = given(&heap, rt.alloc(), &mut reader, asks)?;
+                    assert!(rt; again.is_err());
+                }
+            }
+        }
+    }
+    assert!(rt; refused && begun);
+    Ok(())
+}
