@@ -7,3 +7,5 @@ pub mod Known
 pub mod Changes
 pub mod Records
 pub mod Differences
+pub mod OneWriter
+pub mod Kept

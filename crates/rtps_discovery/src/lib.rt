@@ -4,10 +4,17 @@
 
 mod addressed;
 mod announcement;
+mod changes;
 mod config;
+mod endpoints;
 mod faults;
+mod hear;
+mod held;
+mod known;
 pub mod laws;
+mod participants;
 mod said;
+mod standing;
 #[cfg(test)]
 mod tests;
 
@@ -15,5 +22,6 @@ pub use addressed::{
     ENTITYID_SEDP_BUILTIN_PUBLICATIONS_ANNOUNCER, ENTITYID_SEDP_BUILTIN_SUBSCRIPTIONS_ANNOUNCER,
     ENTITYID_SPDP_BUILTIN_PARTICIPANT_ANNOUNCER, ENTITYID_UNKNOWN, is_discovery, is_for,
 };
+pub use changes::{Becomes, MatchChange};
 pub use config::{Config, FixedMatch, ReaderConfig};
 pub use faults::{ConfigFault, check};
