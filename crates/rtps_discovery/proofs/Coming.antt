@@ -50,10 +50,12 @@ comes d p f ps proxies earlier e begin = record {
     own = is.own;
     readers = is.readers;
     fixed = is.fixed;
+    started = is.started;
     participants = e ∙ ap (λ (l : List (GuidPrefix × Participant)). insert_entry prefix_order l p (told_of f)) is.participants;
     announcers = rw (← is.own, ← is.participants) (begin k.announcers is.announcers);
     announce = by_test k (is_some (participant_at k p)) is.announce;
     writers = is.writers;
+    ordered = is.ordered;
     remote_readers = is.remote_readers;
     ranks = is.ranks;
   };

@@ -9,4 +9,6 @@ pub mod Turning
 pub mod Unheard
 pub mod Coming
 pub mod SameKeys
+pub mod Sizes
 pub mod Taking
+pub mod Leaving

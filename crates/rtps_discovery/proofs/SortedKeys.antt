@@ -1,6 +1,9 @@
 -- Lists of guids in order.
-use Rattle.std.proofs.Common.{◌≡◌, Bool, true, false, ◌||◌, List, [], ◌∷◌, refl, sym, ap, ◌∙◌}
+use Rattle.std.proofs.Common.{◌≡◌, cond, Bool, true, false, ◌||◌, List, [], ◌∷◌, refl, sym, ap, ◌∙◌}
+use Rattle.std.specs.BTreeMap.{insert_entry}
 use Rattle.std.specs.BTreeSet.{insert_key}
+use Rattle.std.specs.Map.{keys_of, remove_entry}
+use Rattle.std.specs.Set.{remove_key}
 use Rattle.std.specs.List.{AllByRecursion, list_any}
 use Rattle.std.specs.List.Sorted.{IsStrictlySortedBy}
 use Rattle.std.specs.Ordering.{match_ordering}
@@ -83,3 +86,22 @@ not_in_both g (x ∷ xs) ys h = by_tests (is_at x g) refl (has (both xs ys) g) r
     by_tests true e c f n more = cc
     by_tests false e true f n more = cc
     by_tests false e false f n more = let m = more f in (rw (tied g x, e) m.0, m.1)
+
+-- the keys of entries
+pub keys_insert : {X : Type 0} (es : List (Guid × X)) (g : Guid) (x : X) → keys_of (insert_entry guid_order es g x) ≡ insert_key guid_order (keys_of es) g
+keys_insert [] g x = refl
+keys_insert (e ∷ es) g x = by_order (guid_order g e.0) (keys_insert es g x)
+  where
+    by_order : (r : Ordering) → keys_of (insert_entry guid_order es g x) ≡ insert_key guid_order (keys_of es) g
+        → keys_of (match_ordering r ((g, x) ∷ e ∷ es) ((e.0, x) ∷ es) (e ∷ insert_entry guid_order es g x)) ≡ match_ordering r (g ∷ e.0 ∷ keys_of es) (e.0 ∷ keys_of es) (e.0 ∷ insert_key guid_order (keys_of es) g)
+    by_order Less h = refl
+    by_order Equal h = refl
+    by_order Greater h = ap (λ l. e.0 ∷ l) h
+
+pub keys_remove : {X : Type 0} (test : Guid → Bool) (es : List (Guid × X)) → keys_of (remove_entry test es) ≡ remove_key test (keys_of es)
+keys_remove test [] = refl
+keys_remove test (e ∷ es) = by_test (test e.0) (keys_remove test es)
+  where
+    by_test : (t : Bool) → keys_of (remove_entry test es) ≡ remove_key test (keys_of es) → keys_of (cond t es (e ∷ remove_entry test es)) ≡ cond t (keys_of es) (e.0 ∷ remove_key test (keys_of es))
+    by_test true h = refl
+    by_test false h = ap (λ l. e.0 ∷ l) h

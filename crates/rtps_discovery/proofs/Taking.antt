@@ -1,6 +1,7 @@
 -- The first key of a participant, in order.
 use Rattle.std.proofs.Common.{◌≡◌, ℕ, List, [], ◌∷◌, length, Bool, true, false, ◌&&◌, ◌||◌, not, if◌then◌else◌, cond, refl, sym, ap, ◌∙◌, arith, subst}
-use Rattle.std.specs.Prelude.{filter}
+use Rattle.std.specs.Prelude.{Option, Some, None, IfSome, filter}
+use Rattle.std.specs.Option.{option_map}
 use Rattle.std.specs.List.{AllByRecursion}
 use Rattle.std.specs.List.Sorted.{IsStrictlySortedBy}
 use Rattle.std.specs.Map.{keys_of, remove_entry}
@@ -11,11 +12,14 @@ use Rattle.std.specs.declared.cmp.Ordering.TheVariants.{Less, Equal, Greater}
 use Rattle.std.proofs.lemmas.Bool.Decides.{nat_tests}
 use Rattle.std.proofs.lemmas.Cmp.{alike_right}
 use Rattle.std.proofs.lemmas.Map.Keys.{sorted_head}
+use Rattle.std.specs.Cmp.{both_ways}
+use Rattle.std.proofs.lemmas.Slice.Eq.{bytes_eq-Decides}
 use Rattle.std.proofs.lemmas.Map.Text.{is_eq-slice_cmp}
 use Rattle.rtps_types.specs.declared.identity.Guid.{Guid}
 use Rattle.rtps_types.specs.declared.identity.GuidPrefix.{GuidPrefix}
 use Rattle.rtps_types.specs.Order.{guid_order, octet_order}
 use Rattle.rtps_proxy.specs.Matches.{is_at}
+use Rattle.rtps_proxy.proofs.Matching.{exact}
 use Rattle.rtps_discovery.specs.Addressed.{unknown_entity}
 use Rattle.rtps_discovery.specs.Known.{is_of, prefix_order}
 use Rattle.rtps_discovery.proofs.Guids.{at_itself, equal_from, found_is, prefix_total}
@@ -48,12 +52,15 @@ above_zeros (a ∷ b ∷ c ∷ d ∷ []) h =
     at_zero a _ (at_zero b _ (at_zero c _ (at_zero d Equal refl)))
 above_zeros (a ∷ b ∷ c ∷ d ∷ e ∷ ys) h = absurd (omega (arith, h))
 
-or_false : (b : Bool) → (b || false) ≡ b
+pub or_false : (b : Bool) → (b || false) ≡ b
 or_false true = refl
 or_false false = refl
 
+pub turned : (xs ys : List ℕ) → bytes_eq xs ys ≡ bytes_eq ys xs
+turned xs ys = both_ways (bytes_eq xs ys) (bytes_eq ys xs) (λ h. (bytes_eq-Decides ys xs).1 (sym ((bytes_eq-Decides xs ys).0 h))) (λ h. (bytes_eq-Decides xs ys).1 (sym ((bytes_eq-Decides ys xs).0 h)))
+
 -- the prefix is the same in order too
-of_equal : (p : GuidPrefix) (g : Guid) → of p g ≡ is_eq (prefix_order p g.prefix)
+pub of_equal : (p : GuidPrefix) (g : Guid) → of p g ≡ is_eq (prefix_order p g.prefix)
 of_equal p g = or_false (bytes_eq p.0 g.prefix.0) ∙ sym (is_eq-slice_cmp p.0 g.prefix.0)
 
 of_from : (p : GuidPrefix) (g : Guid) → length g.entity.0 ≡ 4 → of p g ≡ true → from p g ≡ true
@@ -174,3 +181,23 @@ module _ {X : Type 0} (p : GuidPrefix) where
       let all : filter mine es ≡ e ∷ filter mine rest = among_later es sized ∙ ap (filter mine) is ∙ rw own refl in
       let left : filter mine (remove_entry (is_at e.0) es) ≡ filter mine rest = mine_without e.0 own es ∙ ap (remove_entry (is_at e.0)) all ∙ rw (at_itself e.0) refl in
       record { mine = all ∙ ap (λ l. e ∷ l) (sym left); others = others_stay e.0 own es }
+
+  same_pair : (e q : Guid × X) → q.0 ≡ e.0 → q.1 ≡ e.1 → e ≡ q
+  same_pair e q k v = let one : (e.0, e.1) ≡ (q.0, e.1) = ap (λ g. (g, e.1)) (sym k) in let two : (q.0, e.1) ≡ (q.0, q.1) = ap (λ x. (q.0, x)) (sym v) in one ∙ two
+
+  -- what is found at the key that is taken out
+  pub taken_is : (es fs : List (Guid × X)) (e : Guid × X) (r : Option (Guid × X)) → Taken es fs e → IfSome r (λ q. guid_order e.0 q.0 ≡ Equal) → option_map (λ (q : Guid × X). q.1) r ≡ Some e.1
+      → IfSome r (λ q. filter mine es ≡ q ∷ filter mine fs)
+  taken_is es fs e None taken key value = tt
+  taken_is es fs e (Some q) taken key value =
+      let v : q.1 ≡ e.1 = cc in
+      taken.mine ∙ ap (λ (x : Guid × X). x ∷ filter mine fs) (same_pair e q (exact e.0 q.0 key) v)
+
+  -- where none is of the participant, all are others
+  pub all_others : (es : List (Guid × X)) → filter mine es ≡ [] → filter others es ≡ es
+  all_others [] none = refl
+  all_others (e ∷ es) none = by_test (of p e.0) none (all_others es)
+    where
+      by_test : (t : Bool) → (if t then e ∷ filter mine es else filter mine es) ≡ [] → (filter mine es ≡ [] → filter others es ≡ es) → (if not t then e ∷ filter others es else filter others es) ≡ e ∷ es
+      by_test true is more = absurd cc
+      by_test false is more = ap (λ l. e ∷ l) (more is)

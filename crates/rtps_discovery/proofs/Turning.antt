@@ -73,10 +73,12 @@ module _ (k : Known) (d : Kept) (is : IsKnown k d) (g : Guid) (w : Option Offer)
     own = is.own;
     readers = is.readers;
     fixed = is.fixed;
+    started = is.started;
     participants = is.participants;
     announcers = is.announcers;
     announce = is.announce;
     writers = refl;
+    ordered = step.sorted;
     remote_readers = is.remote_readers;
     ranks = ranked rs put;
   }

@@ -44,10 +44,12 @@ keeps_readers k d gs is = record {
   own = is.own;
   readers = is.readers;
   fixed = is.fixed;
+  started = is.started;
   participants = is.participants;
   announcers = is.announcers;
   announce = is.announce;
   writers = is.writers;
+  ordered = is.ordered;
   remote_readers = refl;
   ranks = is.ranks;
 }

@@ -1,12 +1,14 @@
 -- What discovery keeps, and when it is what is known (DDSI-RTPS 8.5).
 use Rattle.std.specs.Prelude.{◌≡◌, ℕ, List, [], ◌++◌, Bool, true, ◌&&◌, ◌||◌, Option, Some, None}
 use Rattle.std.specs.List.{AllByRecursion}
-use Rattle.std.specs.Map.{lookup}
+use Rattle.std.specs.List.Sorted.{IsStrictlySortedBy}
+use Rattle.std.specs.Map.{keys_of, lookup}
 use Rattle.std.specs.Option.{unwrap_or}
 use Rattle.std.specs.Ordering.{is_eq}
 use Rattle.std.specs.Str.{bytes_eq}
 use Rattle.rtps_types.specs.declared.identity.Guid.{Guid}
 use Rattle.rtps_types.specs.declared.identity.GuidPrefix.{GuidPrefix}
+use Rattle.rtps_types.specs.Order.{guid_order}
 use Rattle.rtps_types.specs.declared.locator.Locator.{Locator}
 use Rattle.rtps_proxy.specs.Kept as proxy
 use Rattle.rtps_proxy.specs.Matches.{AllStand, Match, is_at}
@@ -36,7 +38,7 @@ kept h = record {
   participants = h.participants.entries;
   announcers = h.announcers;
   writers = h.writers.entries;
-  remote_readers = h.remote_readers.keys;
+  remote_readers = keys_of h.remote_readers.entries;
   ranks = h.ranks.entries;
 }
 
@@ -77,10 +79,12 @@ pub record IsKnown (k : Known) (d : Kept) : Type 0 where
   pub own : d.own ≡ k.own
   pub readers : d.readers ≡ k.readers
   pub fixed : (g : Guid) (rank : ℕ) → fixed_at d g rank ≡ is_fixed k.fixed rank g
+  pub started : (g : Guid) → ranks_at g d.fixed ≡ matched_from (λ rank. is_fixed k.fixed rank g) None 0 k.readers
   pub participants : d.participants ≡ k.participants
   pub announcers : AllStand k.announcers d.announcers
   pub announce : AllByRecursion (λ m. is_announcer m ≡ true) k.announcers
   pub writers : d.writers ≡ k.writers
+  pub ordered : IsStrictlySortedBy guid_order (keys_of k.writers)
   pub remote_readers : d.remote_readers ≡ k.remote_readers
   pub ranks : (g : Guid) → ranks_at g d.ranks ≡ matched_ranks k g
 

@@ -8,4 +8,6 @@ pub mod Changes
 pub mod Records
 pub mod Differences
 pub mod OneWriter
+pub mod Sized
 pub mod Kept
+pub mod Leaving

@@ -113,7 +113,7 @@ pub(crate) struct Turn<'a, A: Allocator> {
 
 /// Puts what the reader of a rank hears after the changes, and whether it is matched now with the
 /// writer.
-fn meet<A: Allocator + Copy>(
+pub(crate) fn meet<A: Allocator + Copy>(
     alloc: A,
     rank: u32,
     reader: &Option<Reader<A>>,

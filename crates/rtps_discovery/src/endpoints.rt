@@ -58,7 +58,7 @@ impl<A: Allocator + Copy> Held<A> {
         ensures { (earlier : List ChangeAt) → OnOk result (Applies (announcement.Asks reader)
             (kept self.old) (kept self.new) earlier earlier) }
     {
-        match self.remote_readers.insert(reader) {
+        match self.remote_readers.insert(reader, ()) {
             Ok(_) => Ok(()),
             Err(_) => Err(AllocError),
         }

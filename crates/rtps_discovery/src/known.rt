@@ -96,6 +96,13 @@ impl<A: Allocator> Ranks<A> {
         Ranks { items }
     }
 
+    /// A copy of ranks.
+    pub fn copied(alloc: A, ranks: &[u32]) -> Result<Ranks<A>, AllocError>
+        ensures { IfOk result (λ copy. copy ≡ ranks.now) }
+    {
+        Ok(Ranks::new(Vec::from_slice(alloc, ranks)?))
+    }
+
     pub fn as_slice(&self) -> &[u32]
         ensures { result.now ≡ self.now }
     {

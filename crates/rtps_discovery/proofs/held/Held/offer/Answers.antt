@@ -1,4 +1,5 @@
-use Rattle.std.proofs.Common.{Some, map, if◌then◌else◌, ap, ◌∙◌}
+use Rattle.rtps_discovery.proofs.Sizes.{sized_put}
+use Rattle.std.proofs.Common.{rules, Some, map, if◌then◌else◌, ap, ◌∙◌}
 use Rattle.rtps_proxy.specs.Matches.{is_at}
 use Rattle.rtps_discovery.specs.Kept.{kept, ranks_at}
 use Rattle.rtps_discovery.specs.Seen.{change_seen}
@@ -20,3 +21,7 @@ returns-in-Ok g c =
     (λ q. c.in_ok-put_ranks.ensures q ∙ ap (λ r. if is_at w q then r else ranks_at q d.ranks) c.in_ok-ranks.ensures.ranks)
     c.in_ok-ranks.ensures.changes in
     rw (← c.in_ok-offered.ensures) applies
+
+pub invariant_of-self-2-clause-writers_sized : goal.invariant_of-self-2-clause-writers_sized
+invariant_of-self-2-clause-writers_sized g c =
+    sized_put c.insert.result c.args.self.now.writers.entries c.insert.new.self.entries c.args.writer c.in_ok-offered.offered c.insert.ensures.entries c.insert.ensures.err (search rules) c.args.self.now.writers_sized
