@@ -22,5 +22,5 @@ pub use policies::{
     AccessScope, DestinationOrder, Durability, INFINITE, Liveliness, LivelinessKind, Ownership,
     Policies, Presentation, Reliability,
 };
-pub use records::{Offered, Requested, offered_from};
+pub use records::{Offered, Requested, offered_from, partitions_in};
 pub use settings::{Settings, guid_named};

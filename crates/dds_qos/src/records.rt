@@ -100,7 +100,7 @@ pub fn offered_from<A: Allocator + Copy>(
 }
 
 /// The partitions that a record names, as a copy; none where it names none.
-fn partitions_in<A: Allocator + Copy>(
+pub fn partitions_in<A: Allocator + Copy>(
     alloc: A,
     names: Option<Strings<'_>>,
 ) -> Result<Partitions<A>, AllocError>

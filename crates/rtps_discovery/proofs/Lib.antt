@@ -2,3 +2,13 @@ pub mod Faultless
 pub mod Tested
 pub mod Rows
 pub mod Differences
+pub mod Guids
+pub mod SortedKeys
+pub mod OneWriter
+pub mod Turning
+pub mod Unheard
+pub mod Coming
+pub mod SameKeys
+pub mod Sizes
+pub mod Taking
+pub mod Leaving

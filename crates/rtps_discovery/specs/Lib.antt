@@ -7,3 +7,7 @@ pub mod Known
 pub mod Changes
 pub mod Records
 pub mod Differences
+pub mod OneWriter
+pub mod Sized
+pub mod Kept
+pub mod Leaving

@@ -1,11 +1,20 @@
 -- What the code reads, without where its texts lie in memory.
-use Rattle.std.specs.Prelude.{[], ◌∷◌}
+use Rattle.std.specs.Prelude.{[], ◌∷◌, Option}
+use Rattle.std.specs.Borrow.{Bor}
+use Rattle.std.specs.Option.{option_map}
 use Rattle.dds_qos.specs.Seen.{names_seen, settings_seen}
 use Rattle.rtps_discovery.specs.declared.announcement.Announcement.{Announcement}
 use Rattle.rtps_discovery.specs.declared.announcement.Announcement.TheVariants as announced
 use Rattle.rtps_discovery.specs.declared.announcement.Facts.{Facts}
 use Rattle.rtps_discovery.specs.declared.announcement.Offer.{Offer}
 use Rattle.rtps_discovery.specs.Announcement as announcement
+use Rattle.rtps_discovery.specs.Changes as changes
+use Rattle.rtps_discovery.specs.Known as known
+use Rattle.rtps_discovery.specs.declared.changes.Becomes.{Becomes}
+use Rattle.rtps_discovery.specs.declared.changes.Becomes.TheVariants as becoming
+use Rattle.rtps_discovery.specs.declared.changes.MatchChange.{MatchChange}
+use Rattle.rtps_discovery.specs.declared.standing.Standing.{Standing}
+use Rattle.rtps_discovery.specs.declared.standing.Standing.TheVariants as stands
 use Rattle.rtps_discovery.specs.declared.said.Said.{Said}
 use Rattle.rtps_discovery.specs.declared.said.Said.TheVariants as code
 use Rattle.rtps_discovery.specs.Said as said
@@ -39,3 +48,20 @@ announcement_seen (announced.Offers g o) = announcement.Offers g (offer_seen o)
 announcement_seen (announced.Withdraws g) = announcement.Withdraws g
 announcement_seen (announced.Asks g) = announcement.Asks g
 announcement_seen (announced.AsksNoMore g) = announcement.AsksNoMore g
+
+abbrev pub standing_seen : Standing → known.Standing
+standing_seen stands.Apart = known.Apart
+standing_seen stands.Joined = known.Joined
+standing_seen (stands.Refused policy) = known.Refused policy
+
+abbrev pub becomes_seen : {A : Type 0} → Becomes A → changes.Becomes
+becomes_seen (becoming.Match g locators) = changes.Matches g locators
+becomes_seen (becoming.Unmatch g) = changes.Unmatches g
+becomes_seen (becoming.Refuse g policy) = changes.Refuses g policy
+
+abbrev pub change_seen : {A : Type 0} → MatchChange A → changes.ChangeAt
+change_seen c = record { rank = c.rank; what = becomes_seen c.what }
+
+-- what is lent, if something is
+abbrev pub lent : {X : Type 0} → Option (Bor X) → Option X
+lent o = option_map (λ b. b.now) o

@@ -23,6 +23,21 @@ pub const ENTITYID_SEDP_BUILTIN_SUBSCRIPTIONS_ANNOUNCER: EntityId = EntityId([
     0x00, 0x00, 0x04, 0xc2,
 ]);
 
+/// Our reader of what participants announce of themselves (DDSI-RTPS 9.3.1.3).
+pub(crate) const ENTITYID_SPDP_BUILTIN_PARTICIPANT_DETECTOR: EntityId = EntityId([
+    0x00, 0x01, 0x00, 0xc7,
+]);
+
+/// Our reader of what participants announce of their writers (DDSI-RTPS 9.3.1.3).
+pub(crate) const ENTITYID_SEDP_BUILTIN_PUBLICATIONS_DETECTOR: EntityId = EntityId([
+    0x00, 0x00, 0x03, 0xc7,
+]);
+
+/// Our reader of what participants announce of their readers (DDSI-RTPS 9.3.1.3).
+pub(crate) const ENTITYID_SEDP_BUILTIN_SUBSCRIPTIONS_DETECTOR: EntityId = EntityId([
+    0x00, 0x00, 0x04, 0xc7,
+]);
+
 /// Whether the events of a writer are discovery's alone: those of the three announcers.
 pub fn is_discovery(writer: EntityId) -> bool
     ensures { result ≡ is_discovery writer }

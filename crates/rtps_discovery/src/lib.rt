@@ -4,10 +4,19 @@
 
 mod addressed;
 mod announcement;
+mod changes;
 mod config;
+mod endpoints;
 mod faults;
+mod gone;
+mod hear;
+mod held;
+mod known;
 pub mod laws;
+mod leave;
+mod participants;
 mod said;
+mod standing;
 #[cfg(test)]
 mod tests;
 
@@ -15,5 +24,6 @@ pub use addressed::{
     ENTITYID_SEDP_BUILTIN_PUBLICATIONS_ANNOUNCER, ENTITYID_SEDP_BUILTIN_SUBSCRIPTIONS_ANNOUNCER,
     ENTITYID_SPDP_BUILTIN_PARTICIPANT_ANNOUNCER, ENTITYID_UNKNOWN, is_discovery, is_for,
 };
+pub use changes::{Becomes, MatchChange};
 pub use config::{Config, FixedMatch, ReaderConfig};
 pub use faults::{ConfigFault, check};

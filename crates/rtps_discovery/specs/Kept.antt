@@ -1,0 +1,94 @@
+-- What discovery keeps, and when it is what is known (DDSI-RTPS 8.5).
+use Rattle.std.specs.Prelude.{◌≡◌, ℕ, List, [], ◌++◌, Bool, true, ◌&&◌, ◌||◌, Option, Some, None}
+use Rattle.std.specs.List.{AllByRecursion}
+use Rattle.std.specs.List.Sorted.{IsStrictlySortedBy}
+use Rattle.std.specs.Map.{keys_of, lookup}
+use Rattle.std.specs.Option.{unwrap_or}
+use Rattle.std.specs.Ordering.{is_eq}
+use Rattle.std.specs.Str.{bytes_eq}
+use Rattle.rtps_types.specs.declared.identity.Guid.{Guid}
+use Rattle.rtps_types.specs.declared.identity.GuidPrefix.{GuidPrefix}
+use Rattle.rtps_types.specs.Order.{guid_order}
+use Rattle.rtps_types.specs.declared.locator.Locator.{Locator}
+use Rattle.rtps_proxy.specs.Kept as proxy
+use Rattle.rtps_proxy.specs.Matches.{AllStand, Match, is_at}
+use Rattle.rtps_discovery.specs.Announcement.{Announcement, Offer}
+use Rattle.rtps_discovery.specs.Changes.{ChangeAt, changes}
+use Rattle.rtps_discovery.specs.Known.{Known, Participant, Wish, is_fixed, known_after, own_or, prefix_order, publications_reader, publications_writer, subscriptions_reader, subscriptions_writer, writer_at}
+use Rattle.rtps_discovery.specs.OneWriter.{column, has_rank, matched_from}
+use Rattle.rtps_discovery.specs.declared.held.Held as held
+
+-- Lists by their keys, in order: what is known; and by writers the ranks of the readers that are matched with them from the
+-- start, and of those that are matched with them now.
+pub record Kept : Type 0 where
+  pub own : GuidPrefix
+  pub readers : List (Option Wish)
+  pub fixed : List (Guid × List ℕ)
+  pub participants : List (GuidPrefix × Participant)
+  pub announcers : List (Guid × proxy.Kept)
+  pub writers : List (Guid × Offer)
+  pub remote_readers : List Guid
+  pub ranks : List (Guid × List ℕ)
+
+abbrev pub kept : {A : Type 0} → held.Held A → Kept
+kept h = record {
+  own = h.own;
+  readers = h.readers.items;
+  fixed = h.fixed.entries;
+  participants = h.participants.entries;
+  announcers = h.announcers;
+  writers = h.writers.entries;
+  remote_readers = keys_of h.remote_readers.entries;
+  ranks = h.ranks.entries;
+}
+
+-- the ranks at a writer, none where it has no entry
+abbrev pub ranks_at : Guid → List (Guid × List ℕ) → List ℕ
+ranks_at g ranks = unwrap_or (lookup (is_at g) ranks) []
+
+abbrev pub participant_in : GuidPrefix → List (GuidPrefix × Participant) → Option Participant
+participant_in p participants = lookup (λ q. is_eq (prefix_order p q)) participants
+
+-- where answers go to a writer that offers this
+abbrev pub locators_by : Kept → GuidPrefix → Option Offer → List Locator
+locators_by d prefix None = []
+locators_by d prefix (Some w) = own_or w.locators (participant_in prefix d.participants)
+
+abbrev pub fixed_at : Kept → Guid → ℕ → Bool
+fixed_at d g = has_rank (ranks_at g d.fixed)
+
+-- what the readers hear where a writer offers this now, or nothing any more; and the ranks of those that are matched with it then
+abbrev pub heard_of : Kept → Guid → Option Offer → List ChangeAt
+heard_of d g after = column (fixed_at d g) g (locators_by d g.prefix after) (lookup (is_at g) d.writers) after 0 d.readers
+
+abbrev pub ranks_of : Kept → Guid → Option Offer → List ℕ
+ranks_of d g after = matched_from (fixed_at d g) after 0 d.readers
+
+-- a match of ours with an announcer: which reader it is of follows from the writer
+abbrev pub is_announcer : Match → Bool
+is_announcer m =
+    (bytes_eq m.whom.writer.entity.0 publications_writer.0 && bytes_eq m.whom.reader.0 publications_reader.0)
+    || (bytes_eq m.whom.writer.entity.0 subscriptions_writer.0 && bytes_eq m.whom.reader.0 subscriptions_reader.0)
+
+-- the ranks of the readers that are matched with a writer, rising
+abbrev pub matched_ranks : Known → Guid → List ℕ
+matched_ranks k g = matched_from (λ rank. is_fixed k.fixed rank g) (writer_at k g) 0 k.readers
+
+-- this is what is known
+pub record IsKnown (k : Known) (d : Kept) : Type 0 where
+  pub own : d.own ≡ k.own
+  pub readers : d.readers ≡ k.readers
+  pub fixed : (g : Guid) (rank : ℕ) → fixed_at d g rank ≡ is_fixed k.fixed rank g
+  pub started : (g : Guid) → ranks_at g d.fixed ≡ matched_from (λ rank. is_fixed k.fixed rank g) None 0 k.readers
+  pub participants : d.participants ≡ k.participants
+  pub announcers : AllStand k.announcers d.announcers
+  pub announce : AllByRecursion (λ m. is_announcer m ≡ true) k.announcers
+  pub writers : d.writers ≡ k.writers
+  pub ordered : IsStrictlySortedBy guid_order (keys_of k.writers)
+  pub remote_readers : d.remote_readers ≡ k.remote_readers
+  pub ranks : (g : Guid) → ranks_at g d.ranks ≡ matched_ranks k g
+
+-- An announcement is applied: what is kept then is what is known after it, and what it changes comes after the earlier changes.
+pub record Applies (a : Announcement) (old new : Kept) (earlier all : List ChangeAt) : Type 0 where
+  pub known : (k : Known) → IsKnown k old → IsKnown (known_after k a) new
+  pub changes : (k : Known) → IsKnown k old → all ≡ earlier ++ changes k (known_after k a)

@@ -1,0 +1,37 @@
+-- What our readers hear of the writers of a participant that leaves (DDSI-RTPS 8.5.3.3).
+use Rattle.std.specs.Prelude.{ℕ, ◌+◌, List, [], ◌∷◌, ◌++◌, Bool, Option, Some, None, if◌then◌else◌}
+use Rattle.std.specs.List.{flat_map}
+use Rattle.rtps_types.specs.declared.identity.EntityId.{EntityId}
+use Rattle.rtps_types.specs.declared.identity.Guid.{Guid}
+use Rattle.rtps_types.specs.declared.identity.GuidPrefix.{GuidPrefix}
+use Rattle.rtps_proxy.specs.Matches.{is_at}
+use Rattle.rtps_discovery.specs.Announcement.{Offer}
+use Rattle.rtps_discovery.specs.Changes.{ChangeAt}
+use Rattle.rtps_discovery.specs.Known.{Wish, is_of, standing}
+use Rattle.rtps_discovery.specs.OneWriter.{has_rank, met}
+use Rattle.rtps_discovery.specs.declared.gone.Gone.{Gone}
+
+abbrev pub endpoint : GuidPrefix → EntityId → Guid
+endpoint p e = record { prefix = p; entity = e }
+
+-- an endpoint of this participant
+abbrev pub are_of : {X : Type 0} → GuidPrefix → Guid × X → Bool
+are_of prefix e = is_of (prefix ∷ []) e.0.prefix
+
+-- a writer that is gone, and what it offered
+abbrev pub gone_of : {A : Type 0} → Gone A → Guid × Offer
+gone_of g = (g.writer, g.offer)
+
+-- what the reader of one rank hears as this writer goes
+abbrev pub ending : {A : Type 0} → ℕ → Option Wish → Gone A → List ChangeAt
+ending rank r g = met (has_rank g.fixed) g.writer [] rank (standing r (Some g.offer)) (standing r None)
+
+-- what the readers hear, from this rank on, as these writers go
+abbrev pub endings : {A : Type 0} → List (Gone A) → ℕ → List (Option Wish) → List ChangeAt
+endings gone rank [] = []
+endings gone rank (r ∷ rs) = flat_map (ending rank r) gone ++ endings gone (rank + 1) rs
+
+-- the ranks at a writer once these are gone, where there were those
+abbrev pub reranked : {A : Type 0} → List (Gone A) → Guid → List ℕ → List ℕ
+reranked [] g ranks = ranks
+reranked (n ∷ ns) g ranks = reranked ns g (if is_at n.writer g then n.fixed else ranks)

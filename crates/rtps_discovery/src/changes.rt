@@ -1,0 +1,169 @@
+//! What our readers hear of one writer.
+
+ghost use Rattle.std.specs.Prelude.{◌≡◌, ◌≤◌, ◌||◌, ◌++◌, IfOk, OnOk, length, map};
+ghost use Rattle.rtps_discovery.specs.Changes.{told};
+ghost use Rattle.rtps_discovery.specs.Known as known;
+ghost use Rattle.rtps_discovery.specs.OneWriter.{column, has_rank, matched_from, met};
+ghost use Rattle.rtps_discovery.specs.Seen.{change_seen, lent, standing_seen};
+
+use crate::known::{Ranks, Reader, Writer, copied};
+use crate::standing::{Standing, standing_between};
+use rtps_types::{Guid, Locator, Locators};
+use std::alloc::{AllocError, Allocator, Global};
+
+/// What becomes of a reader and a writer.
+#[derive(Debug, Drop)]
+pub enum Becomes<A: Allocator = Global> {
+    /// A match begins; answers to the writer go to these locators.
+    Match(Guid, Locators<A>),
+    /// A match ends.
+    Unmatch(Guid),
+    /// They would be matched, but for the policy with this id.
+    Refuse(Guid, u32),
+}
+
+/// What a reader of ours hears of a writer.
+#[derive(Debug, Drop)]
+pub struct MatchChange<A: Allocator = Global> {
+    /// The rank of the reader.
+    pub rank: u32,
+    pub what: Becomes<A>,
+}
+
+/// One of our readers and a writer, and where answers to the writer go.
+#[derive(Clone, Copy)]
+struct Pair<'a> {
+    rank: u32,
+    writer: Guid,
+    locators: &'a [Locator],
+}
+
+fn is_joined(standing: Standing) -> bool
+    ensures { result ≡ known.is_joined (standing_seen standing) }
+{
+    matches!(standing, Standing::Joined)
+}
+
+/// Puts a refusal of a pair after the changes, where it is new or of another policy, and before it
+/// the end of the match that there was.
+fn tell_refusal<A: Allocator>(
+    pair: Pair<'_>,
+    before: Standing,
+    policy: u32,
+    changes: &mut Vec<MatchChange<A>, A>,
+) -> Result<(), AllocError>
+    ensures { OnOk result (map change_seen changes.new.items
+        ≡ map change_seen changes.old.items ++ told pair.entry.rank pair.entry.writer
+        pair.entry.locators.now (standing_seen before) (known.Refused policy)) }
+{
+    let rank = pair.rank;
+    match before {
+        Standing::Apart => {}
+        Standing::Joined => {
+            let what = Becomes::Unmatch(pair.writer);
+            changes.push(MatchChange { rank, what })?;
+        }
+        Standing::Refused(earlier) => {
+            if earlier == policy {
+                return Ok(());
+            }
+        }
+    }
+    let what = Becomes::Refuse(pair.writer, policy);
+    changes.push(MatchChange { rank, what })?;
+    Ok(())
+}
+
+/// Puts what becomes of a pair after the changes.
+fn tell<A: Allocator + Copy>(
+    alloc: A,
+    pair: Pair<'_>,
+    before: Standing,
+    after: Standing,
+    changes: &mut Vec<MatchChange<A>, A>,
+) -> Result<(), AllocError>
+    ensures { OnOk result (map change_seen changes.new.items
+        ≡ map change_seen changes.old.items ++ told pair.entry.rank pair.entry.writer
+        pair.entry.locators.now (standing_seen before) (standing_seen after)) }
+{
+    let rank = pair.rank;
+    let what = match after {
+        Standing::Apart if is_joined(before) => Becomes::Unmatch(pair.writer),
+        Standing::Joined if !is_joined(before) => {
+            Becomes::Match(pair.writer, copied(alloc, pair.locators)?)
+        }
+        Standing::Apart | Standing::Joined => return Ok(()),
+        Standing::Refused(policy) => return tell_refusal(pair, before, policy, changes),
+    };
+    changes.push(MatchChange { rank, what })?;
+    Ok(())
+}
+
+/// What a writer was known for, and what it is known for now.
+#[derive(Drop)]
+pub(crate) struct Turn<'a, A: Allocator> {
+    pub writer: Guid,
+    /// The ranks of the readers that it is matched with from the start.
+    pub fixed: &'a [u32],
+    /// Where answers to it go now.
+    pub locators: &'a [Locator],
+    pub before: Option<&'a Writer<A>>,
+    pub after: Option<&'a Writer<A>>,
+}
+
+/// Puts what the reader of a rank hears after the changes, and whether it is matched now with the
+/// writer.
+pub(crate) fn meet<A: Allocator + Copy>(
+    alloc: A,
+    rank: u32,
+    reader: &Option<Reader<A>>,
+    turn: &Turn<'_, A>,
+    changes: &mut Vec<MatchChange<A>, A>,
+) -> Result<bool, AllocError>
+    ensures changes { OnOk result (map change_seen changes.new.items
+        ≡ map change_seen changes.old.items ++ met (has_rank turn.now.fixed.now) turn.now.writer
+        turn.now.locators.now rank (known.standing reader.now (lent turn.now.before))
+        (known.standing reader.now (lent turn.now.after))) }
+    ensures matched { IfOk result (λ matched. matched ≡ (has_rank turn.now.fixed.now rank
+        || known.is_joined (known.standing reader.now (lent turn.now.after)))) }
+{
+    if turn.fixed.contains(&rank) {
+        return Ok(true);
+    }
+    let pair = Pair {
+        rank,
+        writer: turn.writer,
+        locators: turn.locators,
+    };
+    let after = standing_between(reader, turn.after);
+    let before = standing_between(reader, turn.before);
+    tell(alloc, pair, before, after, changes)?;
+    Ok(is_joined(after))
+}
+
+/// Puts what our readers hear of a writer after the changes, by rank; and gives the ranks of the
+/// readers that are matched with it now.
+pub(crate) fn rematch<A: Allocator + Copy>(
+    alloc: A,
+    readers: &[Option<Reader<A>>],
+    turn: &Turn<'_, A>,
+    changes: &mut Vec<MatchChange<A>, A>,
+) -> Result<Ranks<A>, AllocError>
+    requires { length readers.now ≤ 256 }
+    ensures changes { OnOk result (map change_seen changes.new.items
+        ≡ map change_seen changes.old.items ++ column (has_rank turn.now.fixed.now)
+        turn.now.writer turn.now.locators.now (lent turn.now.before) (lent turn.now.after) 0
+        readers.now) }
+    ensures ranks { IfOk result (λ ranks. ranks ≡ matched_from (has_rank turn.now.fixed.now)
+        (lent turn.now.after) 0 readers.now) }
+{
+    let mut matched = Vec::new(alloc);
+    let mut rank = 0;
+    for reader in readers {
+        if meet(alloc, rank, reader, turn, changes)? {
+            matched.push(rank)?;
+        }
+        rank += 1;
+    }
+    Ok(Ranks::new(matched))
+}

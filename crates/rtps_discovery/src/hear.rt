@@ -1,0 +1,96 @@
+//! What our readers hear of a writer, by what is kept.
+
+ghost use Rattle.std.specs.Prelude.{◌≡◌, ◌++◌, IfOk, OnOk, map, if◌then◌else◌};
+ghost use Rattle.rtps_types.specs.declared.identity.Guid.{Guid};
+ghost use Rattle.rtps_proxy.specs.Matches.{is_at};
+ghost use Rattle.rtps_discovery.specs.Known.{own_or};
+ghost use Rattle.rtps_discovery.specs.Kept.{heard_of, kept, participant_in, ranks_at, ranks_of};
+ghost use Rattle.rtps_discovery.specs.Seen.{change_seen, lent};
+
+use crate::changes::{MatchChange, Turn, rematch};
+use crate::held::Held;
+use crate::known::{Participant, Ranks, Writer};
+use rtps_types::{Guid, GuidPrefix, Locator};
+use std::alloc::{AllocError, Allocator};
+use std::collections::BTreeMap;
+
+/// The ranks at a writer.
+pub(crate) fn ranks_at<A: Allocator>(index: &BTreeMap<Guid, Ranks<A>, A>, writer: Guid) -> &[u32]
+    ensures { result.now ≡ ranks_at writer index.now.entries }
+{
+    match index.get(&writer) {
+        Some(ranks) => ranks.as_slice(),
+        None => &[],
+    }
+}
+
+/// Puts ranks in the place of those at a writer.
+pub(crate) fn put_ranks<A: Allocator + Copy>(
+    index: &mut BTreeMap<Guid, Ranks<A>, A>,
+    writer: Guid,
+    ranks: Ranks<A>,
+) -> Result<(), AllocError>
+    ensures { OnOk result ((g : Guid) → ranks_at g index.new.entries
+        ≡ (if is_at writer g then ranks else ranks_at g index.old.entries)) }
+{
+    if ranks.as_slice().is_empty() {
+        index.remove(&writer);
+        return Ok(());
+    }
+    match index.insert(writer, ranks) {
+        Ok(_) => Ok(()),
+        Err(_) => Err(AllocError),
+    }
+}
+
+/// Where answers to a writer go: to its own locators, else to the default ones of its participant.
+fn locators_for<'a, A: Allocator>(
+    participants: &'a BTreeMap<GuidPrefix, Participant<A>, A>,
+    prefix: GuidPrefix,
+    own: &'a [Locator],
+) -> &'a [Locator]
+    ensures { result.now ≡ own_or own.now (participant_in prefix participants.now.entries) }
+{
+    if !own.is_empty() {
+        return own;
+    }
+    match participants.get(&prefix) {
+        Some(participant) => participant.locators.as_slice(),
+        None => &[],
+    }
+}
+
+impl<A: Allocator + Copy> Held<A> {
+    /// Puts what our readers hear of a writer after the changes, where it offers this now, or
+    /// nothing any more; and gives the ranks of the readers that are matched with it then.
+    pub fn hear<'a>(
+        &'a self,
+        alloc: A,
+        writer: Guid,
+        after: Option<&'a Writer<A>>,
+        changes: &mut Vec<MatchChange<A>, A>,
+    ) -> Result<Ranks<A>, AllocError>
+        ensures changes { OnOk result (map change_seen changes.new.items
+            ≡ map change_seen changes.old.items
+            ++ heard_of (kept self.now) writer (lent after.entry)) }
+        ensures ranks { IfOk result (λ ranks.
+            ranks ≡ ranks_of (kept self.now) writer (lent after.entry)) }
+    {
+        let locators = match after {
+            Some(offer) => locators_for(
+                &self.participants,
+                writer.prefix,
+                offer.locators.as_slice(),
+            ),
+            None => &[],
+        };
+        let turn = Turn {
+            writer,
+            fixed: ranks_at(&self.fixed, writer),
+            locators,
+            before: self.writers.get(&writer),
+            after,
+        };
+        rematch(alloc, &self.readers, &turn, changes)
+    }
+}

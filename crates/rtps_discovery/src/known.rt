@@ -1,0 +1,157 @@
+//! What is kept of our readers, and of what participants announced (DDSI-RTPS 8.5).
+
+ghost use Rattle.std.specs.Prelude.{◌≡◌, IfOk, IfErr};
+ghost use Rattle.rtps_discovery.specs.Seen.{offer_seen};
+
+use crate::announcement::Offer;
+use dds_qos::{ListedLocators, Offered, Requested, partitions_in};
+use rtps_types::{Duration, EntityId, Locator, Locators};
+use std::alloc::{AllocError, Allocator, Global};
+use std::marker::Model;
+
+/// A reader of ours, and what it asks for.
+#[derive(Drop)]
+pub struct Reader<A: Allocator = Global> {
+    pub(crate) entity: EntityId,
+    pub(crate) topic: String<A>,
+    pub(crate) type_name: String<A>,
+    pub(crate) requested: Requested<A>,
+}
+
+impl<A: Allocator> Model for Reader<A> {
+    ghost use Rattle.std.specs.String.{string_bytes};
+    ghost use Rattle.rtps_discovery.specs.Known.{Wish};
+
+    ghost Value = { Wish };
+
+    ghost view = { λ r. record {
+      entity = r.entity;
+      topic = string_bytes r.topic;
+      type_name = string_bytes r.type_name;
+      policies = r.requested.policies;
+      partitions = r.requested.partitions;
+    } };
+}
+
+/// A writer that was announced, and what it offers.
+#[derive(Drop)]
+pub struct Writer<A: Allocator = Global> {
+    pub(crate) topic: String<A>,
+    pub(crate) type_name: String<A>,
+    pub(crate) offered: Offered<A>,
+    /// Its own, where it gives some.
+    pub(crate) locators: Locators<A>,
+}
+
+impl<A: Allocator> Model for Writer<A> {
+    ghost use Rattle.std.specs.String.{string_bytes};
+    ghost use Rattle.rtps_discovery.specs.Announcement.{Offer};
+
+    ghost Value = { Offer };
+
+    ghost view = { λ w. record {
+      topic = string_bytes w.topic;
+      type_name = string_bytes w.type_name;
+      policies = w.offered.policies;
+      partitions = w.offered.partitions;
+      locators = w.locators;
+    } };
+}
+
+/// A participant that was announced.
+#[derive(Drop)]
+pub struct Participant<A: Allocator = Global> {
+    /// Where its endpoints are reached that give no locators of their own.
+    pub(crate) locators: Locators<A>,
+    /// How long it may keep silent.
+    pub(crate) lease: Duration,
+}
+
+impl<A: Allocator> Model for Participant<A> {
+    ghost use Rattle.rtps_discovery.specs.Known.{Participant};
+
+    ghost Value = { Participant };
+
+    ghost view = { λ p. record { locators = p.locators; lease = p.lease } };
+}
+
+/// Ranks of readers, rising.
+#[derive(Drop)]
+pub(crate) struct Ranks<A: Allocator> {
+    items: Vec<u32, A>,
+}
+
+impl<A: Allocator> Model for Ranks<A> {
+    ghost use Rattle.std.specs.Prelude.{List, ℕ};
+
+    ghost Value = { List ℕ };
+
+    ghost view = { λ r. r.items.items };
+}
+
+impl<A: Allocator> Ranks<A> {
+    pub fn new(items: Vec<u32, A>) -> Ranks<A>
+        ensures { result ≡ items.items }
+    {
+        Ranks { items }
+    }
+
+    /// A copy of ranks.
+    pub fn copied(alloc: A, ranks: &[u32]) -> Result<Ranks<A>, AllocError>
+        ensures { IfOk result (λ copy. copy ≡ ranks.now) }
+    {
+        Ok(Ranks::new(Vec::from_slice(alloc, ranks)?))
+    }
+
+    pub fn as_slice(&self) -> &[u32]
+        ensures { result.now ≡ self.now }
+    {
+        self.items.as_slice()
+    }
+}
+
+/// A copy of the locators that a record lists.
+pub(crate) fn collected<A: Allocator + Copy>(
+    alloc: A,
+    listed: ListedLocators<'_>,
+) -> Result<Locators<A>, AllocError>
+    ensures { IfOk result (λ locators. locators ≡ listed.entry) }
+{
+    let mut locators = Vec::new(alloc);
+    for locator in listed {
+        locators.push(locator)?;
+    }
+    Ok(Locators::new(locators))
+}
+
+/// A copy of locators.
+pub(crate) fn copied<A: Allocator + Copy>(
+    alloc: A,
+    locators: &[Locator],
+) -> Result<Locators<A>, AllocError>
+    ensures { IfOk result (λ copy. copy ≡ locators.now) }
+{
+    Ok(Locators::new(Vec::from_slice(alloc, locators)?))
+}
+
+impl<A: Allocator + Copy> Writer<A> {
+    /// What a record offers, as a copy of its own.
+    pub(crate) fn of_offer(alloc: A, offer: Offer<'_>) -> Result<Writer<A>, AllocError>
+        ensures { IfOk result (λ writer. writer ≡ offer_seen offer.entry) }
+    {
+        let policies = offer.policies;
+        let topic = String::from_str(alloc, offer.topic)?;
+        let type_name = String::from_str(alloc, offer.type_name)?;
+        let partitions = partitions_in(alloc, offer.partitions)?;
+        let locators = collected(alloc, offer.locators)?;
+        Ok(Writer {
+            topic,
+            type_name,
+            offered: Offered {
+                policies,
+                partitions,
+            },
+            locators,
+        })
+    }
+}

@@ -1,0 +1,189 @@
+//! What the end of a participant changes (DDSI-RTPS 8.5.3.3).
+
+ghost use Rattle.std.specs.Prelude.{◌≡◌, ◌≤◌, ◌<◌, ◌∷◌, ◌++◌, [], List, IfNone, IfOk, IfSome, OnOk, OnSome, filter, length, map, not, true};
+ghost use Rattle.std.specs.List.{flat_map};
+ghost use Rattle.std.specs.Map.{keys_of};
+ghost use Rattle.rtps_types.specs.declared.identity.Guid.{Guid};
+ghost use Rattle.rtps_proxy.specs.Matches.{AllStand, Match, ended};
+ghost use Rattle.rtps_discovery.specs.Announcement as announcement;
+ghost use Rattle.rtps_discovery.specs.Kept.{Applies, kept, ranks_at};
+ghost use Rattle.rtps_discovery.specs.Known.{publications_writer, subscriptions_writer};
+ghost use Rattle.rtps_discovery.specs.Leaving.{are_of, ending, endings, endpoint, gone_of, reranked};
+ghost use Rattle.rtps_discovery.specs.Seen.{change_seen};
+ghost use Rattle.rtps_discovery.specs.Sized.{are_sized};
+
+use crate::addressed::{
+    ENTITYID_SEDP_BUILTIN_PUBLICATIONS_ANNOUNCER, ENTITYID_SEDP_BUILTIN_SUBSCRIPTIONS_ANNOUNCER,
+    ENTITYID_UNKNOWN,
+};
+use crate::changes::{MatchChange, Turn, meet};
+use crate::gone::Gone;
+use crate::hear::{put_ranks, ranks_at};
+use crate::held::Held;
+use crate::known::{Ranks, Reader, Writer};
+use rtps_proxy::Matches;
+use rtps_types::{Guid, GuidPrefix};
+use std::alloc::{AllocError, Allocator};
+use std::collections::BTreeMap;
+
+/// Takes out the first endpoint of a participant, if there is one.
+fn take_first<V, A: Allocator>(
+    endpoints: &mut BTreeMap<Guid, V, A>,
+    prefix: GuidPrefix,
+) -> Option<(Guid, V)>
+    requires { are_sized (keys_of endpoints.old.entries) ≡ true }
+    ensures taken { IfSome result (λ e. filter (are_of prefix) endpoints.old.entries
+        ≡ e ∷ filter (are_of prefix) endpoints.new.entries) }
+    ensures none { IfNone result (filter (are_of prefix) endpoints.old.entries ≡ []) }
+    ensures unchanged { IfNone result (endpoints.new.entries ≡ endpoints.old.entries) }
+    ensures others { filter (λ e. not (are_of prefix e)) endpoints.new.entries
+        ≡ filter (λ e. not (are_of prefix e)) endpoints.old.entries }
+    ensures sized { are_sized (keys_of endpoints.new.entries) ≡ true }
+    ensures fewer { OnSome result (length endpoints.new.entries
+        < length endpoints.old.entries) }
+{
+    let first = Guid {
+        prefix,
+        entity: ENTITYID_UNKNOWN,
+    };
+    let (found, _) = endpoints.range(first..).next()?;
+    let endpoint = *found;
+    if prefix != endpoint.prefix {
+        return None;
+    }
+    endpoints.remove_entry(&endpoint)
+}
+
+/// Takes out the readers of a participant.
+fn forget_readers<A: Allocator>(readers: &mut BTreeMap<Guid, (), A>, prefix: GuidPrefix)
+    requires { are_sized (keys_of readers.old.entries) ≡ true }
+    ensures left { readers.new.entries
+        ≡ filter (λ e. not (are_of prefix e)) readers.old.entries }
+    ensures sized { are_sized (keys_of readers.new.entries) ≡ true }
+{
+    'readers: while let Some(_reader) = take_first(readers, prefix) {}
+}
+
+/// Takes out the writers of a participant, in order.
+fn take_writers<A: Allocator + Copy>(
+    alloc: A,
+    prefix: GuidPrefix,
+    fixed: &BTreeMap<Guid, Ranks<A>, A>,
+    writers: &mut BTreeMap<Guid, Writer<A>, A>,
+) -> Result<Vec<Gone<A>, A>, AllocError>
+    requires { are_sized (keys_of writers.old.entries) ≡ true }
+    ensures gone { IfOk result (λ gone. map gone_of gone.items
+        ≡ filter (are_of prefix) writers.old.entries) }
+    ensures fixed { IfOk result (λ gone. map (λ n. n.fixed) gone.items
+        ≡ map (λ n. ranks_at n.writer fixed.now.entries) gone.items) }
+    ensures left { OnOk result (writers.new.entries
+        ≡ filter (λ e. not (are_of prefix e)) writers.old.entries) }
+    ensures sized { are_sized (keys_of writers.new.entries) ≡ true }
+{
+    let mut gone = Vec::new(alloc);
+    'writers: while let Some((writer, offer)) = take_first(writers, prefix) {
+        let fixed = Ranks::copied(alloc, ranks_at(fixed, writer))?;
+        gone.push(Gone {
+            writer,
+            offer,
+            fixed,
+        })?;
+    }
+    Ok(gone)
+}
+
+/// Puts what the reader of a rank hears after the changes, as these writers go.
+fn hear_ends<A: Allocator + Copy>(
+    alloc: A,
+    rank: u32,
+    reader: &Option<Reader<A>>,
+    gone: &[Gone<A>],
+    changes: &mut Vec<MatchChange<A>, A>,
+) -> Result<(), AllocError>
+    ensures { OnOk result (map change_seen changes.new.items
+        ≡ map change_seen changes.old.items ++ flat_map (ending rank reader.now) gone.now) }
+{
+    for one in gone {
+        let turn = Turn {
+            writer: one.writer,
+            fixed: one.fixed.as_slice(),
+            locators: &[],
+            before: Some(&one.offer),
+            after: None,
+        };
+        let _matched = meet(alloc, rank, reader, &turn, changes)?;
+    }
+    Ok(())
+}
+
+/// Puts what our readers hear after the changes, by rank and then by writer, as these writers go.
+fn hear_all_ends<A: Allocator + Copy>(
+    alloc: A,
+    readers: &[Option<Reader<A>>],
+    gone: &[Gone<A>],
+    changes: &mut Vec<MatchChange<A>, A>,
+) -> Result<(), AllocError>
+    requires { length readers.now ≤ 256 }
+    ensures { OnOk result (map change_seen changes.new.items
+        ≡ map change_seen changes.old.items ++ endings gone.now 0 readers.now) }
+{
+    let mut rank = 0;
+    for reader in readers {
+        hear_ends(alloc, rank, reader, gone, changes)?;
+        rank += 1;
+    }
+    Ok(())
+}
+
+/// Leaves of the matches with these writers those alone that are there from the start.
+fn rerank<A: Allocator + Copy>(
+    gone: Vec<Gone<A>, A>,
+    index: &mut BTreeMap<Guid, Ranks<A>, A>,
+) -> Result<(), AllocError>
+    ensures { OnOk result ((g : Guid) → ranks_at g index.new.entries
+        ≡ reranked gone.items g (ranks_at g index.old.entries)) }
+{
+    for one in gone {
+        put_ranks(index, one.writer, one.fixed)?;
+    }
+    Ok(())
+}
+
+/// Ends the matches of our builtin readers with the announcers of a participant.
+fn end_announcers<A: Allocator + Copy>(announcers: &mut Matches<A>, prefix: GuidPrefix)
+    ensures { (ms : List Match) → AllStand ms announcers.old → AllStand
+        (ended (endpoint prefix subscriptions_writer)
+        (ended (endpoint prefix publications_writer) ms)) announcers.new }
+{
+    announcers.end(Guid {
+        prefix,
+        entity: ENTITYID_SEDP_BUILTIN_PUBLICATIONS_ANNOUNCER,
+    });
+    announcers.end(Guid {
+        prefix,
+        entity: ENTITYID_SEDP_BUILTIN_SUBSCRIPTIONS_ANNOUNCER,
+    });
+}
+
+impl<A: Allocator + Copy> Held<A> {
+    /// A participant leaves, and with it its announcers, its writers and its readers. It takes no
+    /// step for an endpoint of another participant.
+    pub fn leave(
+        &mut self,
+        alloc: A,
+        prefix: GuidPrefix,
+        changes: &mut Vec<MatchChange<A>, A>,
+    ) -> Result<(), AllocError>
+        ensures { OnOk result (Applies (announcement.Leave (prefix ∷ [])) (kept self.old)
+            (kept self.new) (map change_seen changes.old.items)
+            (map change_seen changes.new.items)) }
+    {
+        self.participants.remove(&prefix);
+        end_announcers(&mut self.announcers, prefix);
+        forget_readers(&mut self.remote_readers, prefix);
+        let gone = take_writers(alloc, prefix, &self.fixed, &mut self.writers)?;
+        hear_all_ends(alloc, &self.readers, gone.as_slice(), changes)?;
+        rerank(gone, &mut self.ranks)?;
+        Ok(())
+    }
+}

@@ -1,0 +1,105 @@
+//! What the announcements of participants change (DDSI-RTPS 8.5.3).
+
+ghost use Rattle.std.specs.Prelude.{◌≡◌, List, OnOk};
+ghost use Rattle.rtps_proxy.specs.Matches.{AllStand, Match};
+ghost use Rattle.rtps_discovery.specs.Announcement as announcement;
+ghost use Rattle.rtps_discovery.specs.Changes.{ChangeAt};
+ghost use Rattle.rtps_discovery.specs.Kept.{Applies, kept};
+ghost use Rattle.rtps_discovery.specs.Known.{announcer, where_announced};
+ghost use Rattle.rtps_discovery.specs.Seen.{facts_seen};
+
+use crate::addressed::{
+    ENTITYID_SEDP_BUILTIN_PUBLICATIONS_ANNOUNCER, ENTITYID_SEDP_BUILTIN_PUBLICATIONS_DETECTOR,
+    ENTITYID_SEDP_BUILTIN_SUBSCRIPTIONS_ANNOUNCER, ENTITYID_SEDP_BUILTIN_SUBSCRIPTIONS_DETECTOR,
+};
+use crate::announcement::Facts;
+use crate::held::Held;
+use crate::known::{Participant, collected, copied};
+use rtps_proxy::{Matches, ProxyConfig};
+use rtps_types::{EntityId, Guid, GuidPrefix, Locator};
+use std::alloc::{AllocError, Allocator};
+
+/// A builtin reader of ours, and the writer of a participant that announces to it.
+#[derive(Clone, Copy)]
+struct Link {
+    own: GuidPrefix,
+    prefix: GuidPrefix,
+    writer: EntityId,
+    reader: EntityId,
+}
+
+/// Begins the match of a builtin reader with an announcer, if the participant has this announcer.
+fn begin_where<A: Allocator + Copy>(
+    announces: bool,
+    alloc: A,
+    link: Link,
+    metatraffic: &[Locator],
+    announcers: &mut Matches<A>,
+) -> Result<(), AllocError>
+    ensures { (ms : List Match) → AllStand ms announcers.old
+        → OnOk result (AllStand (where_announced announces (announcer link.own link.prefix
+        link.writer link.reader metatraffic.now) ms) announcers.new) }
+{
+    if !announces {
+        return Ok(());
+    }
+    let config = ProxyConfig {
+        own: link.own,
+        writer: Guid {
+            prefix: link.prefix,
+            entity: link.writer,
+        },
+        reader: link.reader,
+        reliable: true,
+        locators: copied(alloc, metatraffic)?,
+    };
+    announcers.begin(alloc, config)
+}
+
+impl<A: Allocator + Copy> Held<A> {
+    /// A participant comes, and our builtin readers are matched with its announcers; one that is
+    /// known changes its default locators and its lease alone.
+    pub fn come(&mut self, alloc: A, prefix: GuidPrefix, facts: Facts<'_>) -> Result<(), AllocError>
+        ensures { (earlier : List ChangeAt) → OnOk result (Applies
+            (announcement.Comes prefix (facts_seen facts.entry)) (kept self.old) (kept self.new)
+            earlier earlier) }
+    {
+        let lease = facts.lease;
+        let locators = collected(alloc, facts.locators)?;
+        let participant = Participant { locators, lease };
+        let known = match self.participants.insert(prefix, participant) {
+            Ok(earlier) => earlier,
+            Err(_) => return Err(AllocError),
+        };
+        if known.is_some() {
+            return Ok(());
+        }
+        let metatraffic = collected(alloc, facts.metatraffic)?;
+        let publications = Link {
+            own: self.own,
+            prefix,
+            writer: ENTITYID_SEDP_BUILTIN_PUBLICATIONS_ANNOUNCER,
+            reader: ENTITYID_SEDP_BUILTIN_PUBLICATIONS_DETECTOR,
+        };
+        let subscriptions = Link {
+            writer: ENTITYID_SEDP_BUILTIN_SUBSCRIPTIONS_ANNOUNCER,
+            reader: ENTITYID_SEDP_BUILTIN_SUBSCRIPTIONS_DETECTOR,
+            ..publications
+        };
+        begin_where(
+            facts.announces_writers,
+            alloc,
+            publications,
+            metatraffic.as_slice(),
+            &mut self.announcers,
+        )?;
+        begin_where(
+            facts.announces_readers,
+            alloc,
+            subscriptions,
+            metatraffic.as_slice(),
+            &mut self.announcers,
+        )?;
+        Ok(())
+    }
+}
