@@ -12,3 +12,5 @@ pub mod SameKeys
 pub mod Sizes
 pub mod Taking
 pub mod Leaving
+pub mod Applying
+pub mod Hearing

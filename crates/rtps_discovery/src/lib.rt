@@ -6,6 +6,7 @@ mod addressed;
 mod announcement;
 mod changes;
 mod config;
+mod effects;
 mod endpoints;
 mod faults;
 mod gone;
@@ -15,6 +16,7 @@ mod known;
 pub mod laws;
 mod leave;
 mod participants;
+mod records;
 mod said;
 mod standing;
 #[cfg(test)]
@@ -26,4 +28,5 @@ pub use addressed::{
 };
 pub use changes::{Becomes, MatchChange};
 pub use config::{Config, FixedMatch, ReaderConfig};
+pub use effects::DiscoveryEffects;
 pub use faults::{ConfigFault, check};
