@@ -14,3 +14,4 @@ pub mod Taking
 pub mod Leaving
 pub mod Applying
 pub mod Hearing
+pub mod Starting

@@ -6,6 +6,7 @@ mod addressed;
 mod announcement;
 mod changes;
 mod config;
+mod discovery;
 mod effects;
 mod endpoints;
 mod faults;
@@ -19,6 +20,7 @@ mod participants;
 mod records;
 mod said;
 mod standing;
+mod start;
 #[cfg(test)]
 mod tests;
 
