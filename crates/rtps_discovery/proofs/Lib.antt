@@ -12,3 +12,6 @@ pub mod SameKeys
 pub mod Sizes
 pub mod Taking
 pub mod Leaving
+pub mod Applying
+pub mod Hearing
+pub mod Starting

@@ -13,7 +13,7 @@ use Rattle.rtps_types.specs.declared.locator.Locator.{Locator}
 use Rattle.rtps_proxy.specs.Kept as proxy
 use Rattle.rtps_proxy.specs.Matches.{AllStand, Match, is_at}
 use Rattle.rtps_discovery.specs.Announcement.{Announcement, Offer}
-use Rattle.rtps_discovery.specs.Changes.{ChangeAt, changes}
+use Rattle.rtps_discovery.specs.Changes.{ChangeAt, changes, changes_run, known_run}
 use Rattle.rtps_discovery.specs.Known.{Known, Participant, Wish, is_fixed, known_after, own_or, prefix_order, publications_reader, publications_writer, subscriptions_reader, subscriptions_writer, writer_at}
 use Rattle.rtps_discovery.specs.OneWriter.{column, has_rank, matched_from}
 use Rattle.rtps_discovery.specs.declared.held.Held as held
@@ -92,3 +92,25 @@ pub record IsKnown (k : Known) (d : Kept) : Type 0 where
 pub record Applies (a : Announcement) (old new : Kept) (earlier all : List ChangeAt) : Type 0 where
   pub known : (k : Known) → IsKnown k old → IsKnown (known_after k a) new
   pub changes : (k : Known) → IsKnown k old → all ≡ earlier ++ changes k (known_after k a)
+
+-- The same of announcements one after the other.
+pub record AppliesAll (said : List Announcement) (old new : Kept) (earlier all : List ChangeAt) : Type 0 where
+  pub known : (k : Known) → IsKnown k old → IsKnown (known_run k said) new
+  pub changes : (k : Known) → IsKnown k old → all ≡ earlier ++ changes_run k said
+
+-- what is known at the start, where no reader is matched with a writer from the start
+abbrev pub start : GuidPrefix → List (Option Wish) → Known
+start own readers = record {
+  own = own;
+  readers = readers;
+  fixed = [];
+  participants = [];
+  announcers = [];
+  writers = [];
+  remote_readers = [];
+}
+
+-- the same of what may have been refused memory
+pub record DiscoveryKept : Type 0 where
+  pub spent : Bool
+  pub kept : Kept

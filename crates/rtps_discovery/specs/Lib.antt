@@ -11,3 +11,4 @@ pub mod OneWriter
 pub mod Sized
 pub mod Kept
 pub mod Leaving
+pub mod Effects

@@ -13,7 +13,7 @@ use Rattle.rtps_proxy.specs.Replies.{Sent}
 use Rattle.rtps_discovery.specs.Addressed.{is_for, writer_of}
 use Rattle.rtps_discovery.specs.Announcement.{Announcement, participant_said, reader_said, writer_said}
 use Rattle.rtps_discovery.specs.Changes.{ChangeAt, changes_run, known_run}
-use Rattle.rtps_discovery.specs.Known.{Known, publications_writer, spdp_reader, spdp_writer}
+use Rattle.rtps_discovery.specs.Known.{Known, publications_reader, publications_writer, spdp_reader, spdp_writer, subscriptions_reader, subscriptions_writer}
 use Rattle.rtps_discovery.specs.Said.{said_in}
 
 -- PID_PARTICIPANT_GUID and PID_ENDPOINT_GUID
@@ -31,6 +31,10 @@ participant_in own source (Fragment f) = None
 participant_in own source (Heartbeat h) = None
 participant_in own source (Gap g) = None
 participant_in own source (HeartbeatFrag h) = None
+
+-- what an event of the participants' announcer says, where it is for us
+abbrev pub participants_in : GuidPrefix → Happening → List Announcement
+participants_in own e = if is_for e.reader spdp_reader then option_to_list (participant_in own e.source e.body) else []
 
 -- a change that is ready of the announcer of writers, or of the one of readers
 abbrev pub endpoint_in : GuidPrefix → EntityId → Sample → Option Announcement
@@ -50,6 +54,13 @@ named_match e (Some m) = if is_for e.reader m.whom.reader then Some m else None
 abbrev pub announcer_of : Known → Happening → Option Match
 announcer_of k e = named_match e (match_with (writer_of e) k.announcers)
 
+-- our reader of what an announcer of endpoints announces
+abbrev pub detector_of : EntityId → Option EntityId
+detector_of writer =
+    if bytes_eq writer.0 publications_writer.0 then Some publications_reader else
+    if bytes_eq writer.0 subscriptions_writer.0 then Some subscriptions_reader else
+    None
+
 abbrev pub ready_records : Happening → Option Match → List Announcement
 ready_records e None = []
 ready_records e (Some m) =
@@ -59,7 +70,7 @@ ready_records e (Some m) =
 abbrev pub announcements : Known → Happening → List Announcement
 announcements k e =
     if bytes_eq e.writer.0 spdp_writer.0
-    then (if is_for e.reader spdp_reader then option_to_list (participant_in k.own e.source e.body) else [])
+    then participants_in k.own e
     else ready_records e (announcer_of k e)
 
 -- and what is answered to it

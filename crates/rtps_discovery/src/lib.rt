@@ -6,6 +6,8 @@ mod addressed;
 mod announcement;
 mod changes;
 mod config;
+mod discovery;
+mod effects;
 mod endpoints;
 mod faults;
 mod gone;
@@ -15,8 +17,10 @@ mod known;
 pub mod laws;
 mod leave;
 mod participants;
+mod records;
 mod said;
 mod standing;
+mod start;
 #[cfg(test)]
 mod tests;
 
@@ -26,4 +30,5 @@ pub use addressed::{
 };
 pub use changes::{Becomes, MatchChange};
 pub use config::{Config, FixedMatch, ReaderConfig};
+pub use effects::DiscoveryEffects;
 pub use faults::{ConfigFault, check};

@@ -1,6 +1,7 @@
 //! Configurations with one fault or two, and whom events are for.
 
 mod announcements;
+mod events;
 
 use crate::*;
 use dds_qos::{Ownership, Reliability, Requested};

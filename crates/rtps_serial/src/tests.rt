@@ -36,6 +36,9 @@ enum Sent {
     ForSecond(u8),
     /// HEARTBEAT of the numbers from the first to the last, with this count, for every reader.
     Heartbeat(u8, u8, u8),
+    /// DATA_FRAG of BLUE in two fragments, with number 1: for the readers whose entity ends so, this
+    /// fragment.
+    Fragment([u8; 2], u8),
 }
 
 /// What a report says.
@@ -70,6 +73,21 @@ fn push_heartbeat(octets: &mut Vec<u8>, numbers: [u8; 3]) -> Result<(), AllocErr
     octets.extend_from_slice(&[count, 0, 0, 0])
 }
 
+/// DATA_FRAG of number 1, up to the end of its octets.
+fn push_fragment(octets: &mut Vec<u8>, reader: [u8; 2], start: u8) -> Result<(), AllocError> {
+    let (front, back) = BLUE.split_at(16);
+    let (length, payload) = if start == 1 {
+        (0x30, front)
+    } else {
+        (0x2c, back)
+    };
+    octets.extend_from_slice(&[0x16, 1, length, 0, 0, 0, 0x1c, 0, 0, 0])?;
+    octets.extend_from_slice(&reader)?;
+    octets.extend_from_slice(b"\x00\x00\x01\x02\x00\x00\x00\x00\x01\x00\x00\x00")?;
+    octets.extend_from_slice(&[start, 0, 0, 0, 1, 0, 16, 0, 28, 0, 0, 0])?;
+    octets.extend_from_slice(payload)
+}
+
 /// A datagram of these submessages.
 fn datagram(alloc: Global, parts: &[Sent]) -> Result<Vec<u8>, Fail>
     ensures { IfOk result (λ octets. length octets.items ≤ 65507) }
@@ -82,6 +100,7 @@ fn datagram(alloc: Global, parts: &[Sent]) -> Result<Vec<u8>, Fail>
             Sent::Heartbeat(first, last, count) => {
                 push_heartbeat(&mut octets, [first, last, count])?
             }
+            Sent::Fragment(reader, start) => push_fragment(&mut octets, reader, start)?,
         }
     }
     if octets.len() > 65_507 {

@@ -8,19 +8,19 @@ use rtps_wire::{ChangeInfo, Form};
 use std::alloc::Allocator;
 use std::test::Fail;
 
-const OURS: GuidPrefix = GuidPrefix([11; 12]);
+pub(super) const OURS: GuidPrefix = GuidPrefix([11; 12]);
 
-const THEIRS: GuidPrefix = GuidPrefix([10; 12]);
+pub(super) const THEIRS: GuidPrefix = GuidPrefix([10; 12]);
 
 /// A record of participant 0a0a..0a: its guid, ports 7412 and 7413, a lease of 100 s, both
 /// announcers.
-const PARTICIPANT: &str = "00030000 50001000 0a0a0a0a0a0a0a0a0a0a0a0a 000001c1 \
+pub(super) const PARTICIPANT: &str = "00030000 50001000 0a0a0a0a0a0a0a0a0a0a0a0a 000001c1 \
     32001800 01000000 f41c0000 00000000 00000000 00000000 7f000001 \
     31001800 01000000 f51c0000 00000000 00000000 00000000 7f000001 \
     02000800 64000000 00000000 58000400 14000000 01000000";
 
 /// A record of its writer 00000102: topic Square, type ShapeType, reliable.
-const WRITER: &str = "00030000 5a001000 0a0a0a0a0a0a0a0a0a0a0a0a 00000102 \
+pub(super) const WRITER: &str = "00030000 5a001000 0a0a0a0a0a0a0a0a0a0a0a0a 00000102 \
     05000c00 07000000 53717561 72650000 07001000 0a000000 53686170 65547970 65000000 \
     1a000c00 02000000 00000000 00000000 01000000";
 
@@ -30,7 +30,7 @@ const READER: &str = "0002ffff 80010004 aaaaaaaa 005a0010 0a0a0a0a0a0a0a0a0a0a0a
     0005000c 00000007 53717561 72650000 00070010 0000000a 53686170 65547970 65000000 00010000";
 
 /// The octets that hex digits spell; blanks are for the eye.
-fn octets_of<A: Allocator + Copy>(alloc: A, text: &str) -> Result<Vec<u8, A>, Fail> {
+pub(super) fn octets_of<A: Allocator + Copy>(alloc: A, text: &str) -> Result<Vec<u8, A>, Fail> {
     let mut octets = Vec::new(alloc);
     for part in text.split_ascii_whitespace() {
         octets.extend_from_slice(hex::decode(alloc, part)?.as_slice())?;

@@ -48,6 +48,25 @@ fn reported(
     }
 }
 
+/// Whether an engine fails in small heaps, and reports so much of a datagram in large ones.
+fn fails_or_reports(
+    alloc: Global,
+    reliability: Reliability,
+    parts: &[Sent],
+    reports: usize,
+) -> Result<bool, Fail> {
+    let octets = datagram(alloc, parts)?;
+    let (mut refused, mut served) = (false, false);
+    for step in 0..96 {
+        match reported(alloc, 256 + step * 128, reliability, octets.as_slice())? {
+            Some(count) if count == reports => served = true,
+            Some(_) => return Ok(false),
+            None => refused = true,
+        }
+    }
+    Ok(refused && served)
+}
+
 #[test]
 fn an_engine_out_of_memory_has_failed(rt: HostRuntime) -> Result<(), Fail> {
     let parts = [

@@ -93,6 +93,19 @@ const RELIABLE: [Row; 1] = [(
     ],
 )];
 
+/// Fragment 1 comes for both readers, fragment 2 for the second one, and then for the first.
+const IN_FRAGMENTS: [Row; 1] = [(
+    &[
+        Sent::Fragment([0, 0], 1),
+        Sent::Fragment([2, 7], 2),
+        Sent::Fragment([1, 7], 2),
+    ],
+    &[
+        (Some(1), 0, 2, Said::Blue(1)),
+        (Some(0), 0, 3, Said::Blue(1)),
+    ],
+)];
+
 /// How a reader with one match stands that lost so many numbers and presented so many samples.
 fn status(lost_total: u32, samples: u32) -> Option<Status> {
     Some(Status {
@@ -167,5 +180,14 @@ fn what_engines_report_and_answer(rt: HostRuntime) -> Result<(), Fail> {
     laws::presented::<Shape>();
     laws::in_order::<Shape, Shape, Global>();
     laws::matches_listed::<Shape>();
+    Ok(())
+}
+
+#[test]
+fn each_reader_has_fragments_of_its_own(rt: HostRuntime) -> Result<(), Fail> {
+    let statuses = [status(0, 1), status(0, 1)];
+    for reliability in [Reliability::BestEffort, Reliability::Reliable] {
+        assert!(rt; meets(rt.alloc(), reliability, &IN_FRAGMENTS, statuses)?);
+    }
     Ok(())
 }

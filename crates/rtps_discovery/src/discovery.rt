@@ -1,0 +1,96 @@
+//! What a participant knows of the others, event by event.
+
+ghost use Rattle.std.specs.Prelude.{◌≡◌, IfOk, IsErr, OnErr, OnOk, false, true};
+ghost use Rattle.std.specs.Map.{keys_of};
+ghost use Rattle.rtps_receiver.specs.Events.{view};
+ghost use Rattle.rtps_discovery.specs.Effects.{AreHeard};
+ghost use Rattle.rtps_discovery.specs.Kept.{IsKnown, kept, matched_ranks};
+ghost use Rattle.rtps_discovery.specs.Known.{Known};
+ghost use Rattle.rtps_discovery.specs.Records.{answered, changes_by, known_by};
+
+use crate::effects::DiscoveryEffects;
+use crate::hear::ranks_at;
+use crate::held::Held;
+use crate::known::{Participant, Writer};
+use rtps_receiver::Event;
+use rtps_types::{Guid, GuidPrefix};
+use std::alloc::{AllocError, Allocator, Global};
+use std::collections::btree_map::Keys;
+use std::marker::Model;
+
+/// What a participant of ours knows of the others (DDSI-RTPS 8.5): participants, their writers and
+/// their readers; and which of its own readers are matched with which writers.
+#[derive(Drop)]
+pub(crate) struct Discovery<A: Allocator = Global> {
+    /// A growth was refused: an event may have been taken in by half.
+    spent: bool,
+    held: Held<A>,
+}
+
+impl<A: Allocator> Model for Discovery<A> {
+    ghost use Rattle.rtps_discovery.specs.Kept.{DiscoveryKept, kept};
+
+    ghost Value = { DiscoveryKept };
+
+    ghost view = { λ d. record { spent = d.spent; kept = kept d.held } };
+}
+
+impl<A: Allocator + Copy> Discovery<A> {
+    /// What is known at the start.
+    pub fn start(held: Held<A>) -> Discovery<A>
+        ensures { result ≡ record { spent = false; kept = kept held } }
+    {
+        Discovery { spent: false, held }
+    }
+
+    /// Takes an event in: what an announcer says is applied record by record, and any other event
+    /// changes nothing. After a refused growth each later call answers out of memory and changes
+    /// nothing.
+    pub fn step(&mut self, alloc: A, event: &Event<'_>) -> Result<DiscoveryEffects<A>, AllocError>
+        ensures known { (k : Known) → IsKnown k self.old.kept
+            → OnOk result (IsKnown (known_by k (view event.now)) self.new.kept) }
+        ensures effects { (k : Known) → IsKnown k self.old.kept → IfOk result
+            (AreHeard (changes_by k (view event.now)) (answered k (view event.now))) }
+        ensures ok { OnOk result (self.new.spent ≡ false) }
+        ensures err { OnErr result (self.new.spent ≡ true) }
+        ensures spent { self.old.spent ≡ true → IsErr result }
+        ensures still { self.old.spent ≡ true → self.new ≡ self.old }
+    {
+        if self.spent {
+            return Err(AllocError);
+        }
+        self.spent = true;
+        let effects = self.held.take(alloc, event)?;
+        self.spent = false;
+        Ok(effects)
+    }
+
+    /// The ranks of our readers that are matched with a writer, rising: those that are matched with
+    /// it from the start, and those that it was announced to. It takes one search.
+    pub fn matched(&self, writer: Guid) -> &[u32]
+        ensures { (k : Known) → IsKnown k self.now.kept → result.now ≡ matched_ranks k writer }
+    {
+        ranks_at(&self.held.ranks, writer)
+    }
+
+    /// The known participants, in the order of their octets.
+    pub fn participants(&self) -> Keys<'_, GuidPrefix, Participant<A>>
+        ensures { result ≡ keys_of self.now.kept.participants }
+    {
+        self.held.participants.keys()
+    }
+
+    /// The known writers, in the order of their octets.
+    pub fn writers(&self) -> Keys<'_, Guid, Writer<A>>
+        ensures { result ≡ keys_of self.now.kept.writers }
+    {
+        self.held.writers.keys()
+    }
+
+    /// The known readers of the others, in the order of their octets.
+    pub fn remote_readers(&self) -> Keys<'_, Guid, ()>
+        ensures { result ≡ self.now.kept.remote_readers }
+    {
+        self.held.remote_readers.keys()
+    }
+}
