@@ -36,7 +36,7 @@ pub record Addressed (is_matched : Guid → Bool) (entity : EntityId) (e : Happe
   pub matched : IsTrue (is_matched (writer_of e))
   pub meant : IsTrue (is_for e.reader entity)
 
--- the test that tells it
+-- the test of it
 abbrev pub is_addressed : (Guid → Bool) → EntityId → Happening → Bool
 is_addressed is_matched entity e = not (is_discovery e.writer) && (is_matched (writer_of e) && is_for e.reader entity)
 

@@ -42,11 +42,11 @@ pub data Announcement : Type 0 where
   Asks : Guid → Announcement
   AsksNoMore : Guid → Announcement
 
--- 100 seconds, where no lease is told (DDSI-RTPS 8.5.3.2)
+-- 100 seconds, where no lease is given (DDSI-RTPS 8.5.3.2)
 abbrev pub default_lease : Duration
 default_lease = record { seconds = pos 100; fraction = 0 }
 
--- a bit of the set of builtin endpoints; all are there where the set isn't told (DDSI-RTPS 9.3.2.12)
+-- a bit of the set of builtin endpoints; all are there where the set isn't given (DDSI-RTPS 9.3.2.12)
 abbrev pub has_bit : ℕ → Option ℕ → Bool
 has_bit bit None = true
 has_bit bit (Some set) = set / 2 ^ bit % 2 == 1
@@ -60,7 +60,7 @@ facts_of s = record {
   announces_readers = has_bit 4 s.builtin_endpoints;
 }
 
--- topic and type have to be told
+-- topic and type have to be given
 abbrev pub offer_by : Settings → Option (List ℕ) → Option (List ℕ) → Option Offer
 offer_by s None name = None
 offer_by s (Some topic) None = None

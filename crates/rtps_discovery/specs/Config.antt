@@ -1,4 +1,4 @@
--- The faults of a configuration, each by itself, and which of them is told.
+-- The faults of a configuration, each by itself, and which of them is reported.
 use Rattle.std.specs.Prelude.{◌≡◌, ℕ, ◌≤◌, ◌==◌, nat_le, nat_lt, List, [], ◌∷◌, length, slice_index, Bool, true, false, not, ◌&&◌, ◌||◌, if◌then◌else◌, Result, Ok, Err, All, AllPairs, IsFalse, ◌↔◌}
 use Rattle.std.specs.List.{list_any}
 use Rattle.std.specs.Str.{bytes_eq}
@@ -13,7 +13,7 @@ use Rattle.rtps_discovery.specs.declared.config.Config.{Config}
 use Rattle.rtps_discovery.specs.declared.faults.ConfigFault.{ConfigFault}
 use Rattle.rtps_discovery.specs.declared.faults.ConfigFault.TheVariants.{Readers, BadReader, BadFixed}
 
--- the last octet of an entity tells its kind (DDSI-RTPS 9.3.1.2)
+-- the last octet of an entity is its kind (DDSI-RTPS 9.3.1.2)
 abbrev pub kind_of : EntityId → ℕ
 kind_of e = slice_index e.0 3
 
@@ -46,7 +46,7 @@ is_same_guid a b = bytes_eq a.prefix.0 b.prefix.0 && bytes_eq a.entity.0 b.entit
 abbrev pub is_same_pair : FixedMatch → FixedMatch → Bool
 is_same_pair a b = a.rank == b.rank && is_same_guid a.writer b.writer
 
--- an item is the same as one behind it
+-- an item is the same as one after it
 abbrev pub has_twice : {T : Type 0} → (T → T → Bool) → List T → Bool
 has_twice is_same [] = false
 has_twice is_same (x ∷ xs) = list_any (is_same x) xs || has_twice is_same xs
@@ -57,7 +57,7 @@ has_fault Readers c = length c.readers.items == 0 || nat_lt 256 (length c.reader
 has_fault BadReader c = list_any is_bad_reader c.readers.items || has_twice is_same_entity c.readers.items
 has_fault BadFixed c = list_any (is_bad_fixed c.own (length c.readers.items)) c.fixed.items || has_twice is_same_pair c.fixed.items
 
--- a configuration is taken exactly where no fault stands; else the first one is told
+-- a configuration is taken exactly where no fault stands; else the first one is reported
 unfoldable pub check_of : Config → Result (Unit {0}) ConfigFault
 check_of c =
     if has_fault Readers c then Err Readers else

@@ -11,7 +11,7 @@ pub record IsRefused (k : Known) (rank : ℕ) (g : Guid) (policy : ℕ) : Type 0
   pub refused : standing (reader_at k.readers rank) (writer_at k g) ≡ Refused policy
 
 -- Matches begin at the pairs that are matched after and weren't before, with the locators that are known then; they end at those
--- that were matched before and aren't after; refusals are told that are new, or of another policy.
+-- that were matched before and aren't after; refusals are reported that are new, or of another policy.
 pub record AreDifferences (before after : Known) : Type 0 where
   pub begin : (rank : ℕ) (g : Guid) (ls : List Locator) →
       Contains (changes before after) (at rank (Matches g ls))

@@ -66,7 +66,7 @@ pub(crate) enum Announcement<'a> {
     AsksNoMore(Guid),
 }
 
-/// Whether a set of builtin endpoints has a bit; where it isn't told, it has.
+/// Whether a set of builtin endpoints has a bit; where none is given, it has.
 fn has_bit(bit: u32, set: Option<u32>) -> bool
     requires { bit < 32 }
     ensures { result ≡ announcement.has_bit bit set }
@@ -90,7 +90,7 @@ fn facts_of(settings: Settings<'_>) -> Facts<'_>
     }
 }
 
-/// What the record of an endpoint offers, or asks for, if it tells its topic and its type.
+/// What the record of an endpoint offers, or asks for, if it gives its topic and its type.
 fn offer_of(settings: Settings<'_>) -> Option<Offer<'_>>
     ensures { option_map offer_seen result ≡ announcement.offer_of (settings_seen settings.entry) }
 {

@@ -37,7 +37,7 @@ const OUR_WRITER: Guid = Guid {
     entity: EntityId([0x00, 0x00, 0x01, 0x02]),
 };
 
-/// Puts a reader behind the others of a configuration.
+/// Puts a reader after the others of a configuration.
 fn add_reader(
     alloc: Global,
     config: &mut Config,

@@ -8,7 +8,7 @@ use Rattle.rtps_frags.specs.declared.sizes.Sizes.{Sizes}
 use Rattle.rtps_frags.specs.Fragments.{There, fault_of, is_whole, payload_of, with_fragments}
 use Rattle.rtps_proxy.specs.History.{Sample}
 
--- a sample of which fragments were taken: what the first DATA_FRAG of it that was taken told, and the fragments that are there
+-- a sample of which fragments were taken: what the first DATA_FRAG of it that was taken said, and the fragments that are there
 pub record Begun : Type 0 where
   pub number : ℕ
   pub time : Option Timestamp
@@ -46,7 +46,7 @@ with_fragments_of time f (b ∷ bs) =
     else if b.number == f.number then grown b f ∷ bs
     else grown (opened time f) f ∷ b ∷ bs
 
--- the sizes are those that the first DATA_FRAG of the number told
+-- the sizes are those that the first DATA_FRAG of the number had
 abbrev pub is_cut_so : Sizes → Sizes → Bool
 is_cut_so y z = y.sample == z.sample && y.fragment == z.fragment
 
@@ -54,7 +54,7 @@ abbrev pub fits_in : Option Begun → Fragments → Bool
 fits_in None f = true
 fits_in (Some b) f = is_cut_so b.sizes (sizes_of f)
 
--- a DATA_FRAG fits where it has no fault and the sizes that were told before
+-- a DATA_FRAG fits where it has no fault and the sizes that were given before
 abbrev pub fits : List Begun → Fragments → Bool
 fits bs f = not (is_faulty f) && fits_in (begun_at f.number bs) f
 

@@ -44,7 +44,7 @@ abbrev pub BringsFragment : List Came → ℕ → Sizes → ℕ → List ℕ →
 BringsFragment [] n z k octets = ⊥
 BringsFragment (e ∷ past) n z k octets = IsFragment n z k octets e.body ⊎ BringsFragment past n z k octets
 
--- a DATA_FRAG, cut so, tells of the sample all but its payload
+-- a DATA_FRAG, cut so, says of the sample all but its payload
 abbrev pub IsToldBy : Sizes → Sample → Option Timestamp → Brought → Type 0
 IsToldBy z s time (Whole c) = ⊥
 IsToldBy z s time (Fragment f) = (f.number ≡ s.number) × (sizes_of f ≡ z) × (time ≡ s.time) × (f.info ≡ s.info)
@@ -56,7 +56,7 @@ abbrev pub IsTold : List Came → Sizes → Sample → Type 0
 IsTold [] z s = ⊥
 IsTold (e ∷ past) z s = IsToldBy z s e.time e.body ⊎ IsTold past z s
 
--- DATA_FRAGs of the match, all cut alike, brought the sample: one tells all but its payload, and each fragment of the payload
+-- DATA_FRAGs of the match, all cut alike, brought the sample: one says all but its payload, and each fragment of the payload
 -- was brought by one, octet for octet
 pub record IsPutTogether (past : List Came) (s : Sample) : Type 0 where
   pub sizes : Sizes

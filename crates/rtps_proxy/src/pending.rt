@@ -24,7 +24,7 @@ use std::alloc::{AllocError, Allocator};
 /// awaits.
 pub(crate) const SEATS: usize = 64;
 
-/// A sample of which fragments came, and what the first DATA_FRAG of it told.
+/// A sample of which fragments came, and what the first DATA_FRAG of it said.
 #[derive(Drop)]
 pub(crate) struct Pending<A: Allocator> {
     pub number: Number,
@@ -71,7 +71,7 @@ pub(crate) fn is_there<A: Allocator>(pending: &[Pending<A>], at: usize, number: 
     at < pending.len() && pending[at].number.get() == number
 }
 
-/// Whether a DATA_FRAG has no fault, and the sizes that the first one of its number told.
+/// Whether a DATA_FRAG has no fault, and the sizes that the first one of its number had.
 pub(crate) fn fits<A: Allocator>(pending: &[Pending<A>], at: usize, fragment: &Fragment<'_>) -> bool
     requires { at ≡ place_in (value_of fragment.now.number) (pending_views pending.now) }
     ensures { result ≡ fits_found (pending_views pending.now) (fragment_view fragment.now) }

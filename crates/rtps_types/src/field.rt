@@ -5,7 +5,7 @@ ghost use Rattle.rtps_types.specs.Field.{number_at, octets_at, put_at, sequence_
 
 use byteorder::{BigEndian, ByteOrder, LittleEndian};
 
-/// The order of a number's octets, which flag E of a submessage tells (DDSI-RTPS 9.4.5.1.2).
+/// The order of a number's octets, which flag E of a submessage says (DDSI-RTPS 9.4.5.1.2).
 #[derive(Clone, Copy, Debug, PartialEq, Eq)]
 pub enum Endian {
     /// The highest octet first.

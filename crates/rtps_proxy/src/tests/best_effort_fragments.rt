@@ -61,7 +61,7 @@ fn a_change_is_ready_with_its_last_fragment(rt: HostRuntime) -> Result<(), Fail>
     Ok(())
 }
 
-/// Fragment 2 comes first, and tells the time and what else is told.
+/// Fragment 2 comes first, and has the time and what else counts.
 #[test]
 fn the_first_one_tells_all(rt: HostRuntime) -> Result<(), Fail> {
     let alloc = rt.alloc();
@@ -129,7 +129,7 @@ fn the_least_of_65_is_displaced(rt: HostRuntime) -> Result<(), Fail> {
     Ok(())
 }
 
-/// Fragments with a fault, or with other sizes than were told, displace nothing and begin nothing.
+/// Fragments with a fault, or with other sizes than the first ones, displace nothing and begin nothing.
 #[test]
 fn a_fault_displaces_nothing(rt: HostRuntime) -> Result<(), Fail> {
     let mut proxy = with_64(rt.alloc())?;

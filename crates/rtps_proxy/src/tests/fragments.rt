@@ -98,7 +98,7 @@ fn fill(alloc: Global, proxy: &mut WriterProxy, from: u64, to: u64) -> Result<bo
     Ok(true)
 }
 
-/// Whether a change is number 1, sent then, and carries `abcd` and what fragment 2 told.
+/// Whether a change is number 1, sent then, and carries `abcd` and what fragment 2 said.
 pub(super) fn is_told<A: Allocator>(change: &Change<'_, A>, sent: Timestamp) -> bool {
     change.number.get() == 1
         && change.time == Some(sent)
@@ -106,7 +106,7 @@ pub(super) fn is_told<A: Allocator>(change: &Change<'_, A>, sent: Timestamp) -> 
         && change.payload.as_slice() == b"abcd".as_slice()
 }
 
-/// Fragment 2 comes first, and tells the time and what else is told; what fragment 1 tells is ignored.
+/// Fragment 2 comes first, and has the time and what else counts; what fragment 1 says is ignored.
 #[test]
 fn the_first_one_tells_all(rt: HostRuntime) -> Result<(), Fail> {
     let alloc = rt.alloc();
@@ -156,7 +156,7 @@ fn whole_ones_wait_for_earlier_ones(rt: HostRuntime) -> Result<(), Fail> {
     Ok(())
 }
 
-/// Sizes that weren't told at first, and fragments with a fault, count as not come.
+/// Sizes that the first ones hadn't, and fragments with a fault, count as not come.
 #[test]
 fn unlike_sizes_stay_out(rt: HostRuntime) -> Result<(), Fail> {
     let mut proxy = new_proxy(rt.alloc(), true)?;
@@ -214,7 +214,7 @@ fn room_is_for_each_fragment(rt: HostRuntime) -> Result<(), Fail> {
     Ok(())
 }
 
-/// A heartbeat of fragments: its number, its last fragment and its count; and the answer behind the
+/// A heartbeat of fragments: its number, its last fragment and its count; and the answer after the
 /// writerSN, empty where there is none.
 type Asked = ((u64, u32, i32), &'static [u8]);
 
