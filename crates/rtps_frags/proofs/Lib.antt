@@ -2,6 +2,7 @@ pub mod Cuts
 pub mod Runs
 pub mod Ahead
 pub mod Fronts
+pub mod Longer
 pub mod Adding
 pub mod Listed
 pub mod Puts

@@ -5,3 +5,4 @@ pub mod Kept
 pub mod Payload
 pub mod Parts
 pub mod Spans
+pub mod Longer

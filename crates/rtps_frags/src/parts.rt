@@ -11,6 +11,10 @@ ghost use Rattle.rtps_frags.specs.Missing.{missing_by};
 ghost use Rattle.rtps_frags.specs.Parts.{IsJoinable, IsKept, holds, part_at};
 ghost use Rattle.rtps_frags.specs.Runs.{AreApart, Runs, begins_behind, begun_by, covers, starts_at};
 ghost use Rattle.rtps_frags.specs.Spans.{IsAhead};
+ghost use Rattle.rtps_frags.specs.Longer.{longer_by, starts};
+ghost use Rattle.std.specs.BTreeMap.{insert_entry};
+ghost use Rattle.std.specs.Map.{lookup, remove_entry};
+ghost use Rattle.std.specs.Ordering.{nat_cmp};
 
 use crate::sizes::Sizes;
 use rtps_types::{FragSet, set_bit};
@@ -59,6 +63,8 @@ pub(crate) struct Parts<A: Allocator> {
     pub next: u32,
     /// Those after it, by the first of each chunk.
     pub early: BTreeMap<u32, Chunk<A>, A>,
+    /// The first fragment of the chunk that was put last. It may be gone.
+    pub latest: u32,
 }
 
 /// The end of the last chunk that begins up to a fragment, where it has the fragment.
@@ -144,6 +150,7 @@ impl<A: Allocator + Copy> Parts<A> {
             front: Vec::new(alloc),
             next: 1,
             early: BTreeMap::new(alloc),
+            latest: 0,
         }
     }
 }
@@ -225,11 +232,54 @@ impl<A: Allocator + Copy> Parts<A> {
             self.next += piece.count;
             return self.join(sizes);
         }
+        if let Some(chunk) = self.take_latest(piece.start) {
+            return self.extend(sizes, chunk, piece);
+        }
         let chunk = Chunk {
             count: piece.count,
             octets: Vec::from_slice(alloc, piece.octets)?,
         };
+        self.latest = piece.start;
         self.early.insert(piece.start, chunk)?;
+        Ok(())
+    }
+
+    /// Takes out the chunk that was put last, where it ends before a fragment.
+    fn take_latest(&mut self, next: u32) -> Option<Chunk<A>>
+        ensures ends { IfSome result (λ chunk. self.old.latest + chunk.count ≡ next) }
+        ensures found { IfSome result (λ chunk.
+            lookup (starts self.old.latest) self.old.early.entries ≡ Some chunk) }
+        ensures left { IfSome result (λ chunk. self.new.early.entries
+            ≡ remove_entry (starts self.old.latest) self.old.early.entries) }
+        ensures none { IfNone result (self.new.early.entries ≡ self.old.early.entries) }
+        ensures front { (self.new.front.items ≡ self.old.front.items)
+            × (self.new.next ≡ self.old.next) × (self.new.latest ≡ self.old.latest) }
+    {
+        let latest = self.early.get(&self.latest)?;
+        if next < self.latest || next - self.latest != latest.count {
+            return None;
+        }
+        self.early.remove(&self.latest)
+    }
+
+    /// Puts back the chunk that was put last, with fragments after it.
+    fn extend(
+        &mut self,
+        sizes: Sizes,
+        mut chunk: Chunk<A>,
+        piece: Piece<'_>,
+    ) -> Result<(), AllocError>
+        requires { chunk.count + piece.count < 2 ^ 32 }
+        ensures put { OnOk result (self.new.early.entries ≡ insert_entry nat_cmp
+            self.old.early.entries self.old.latest
+            (longer_by chunk piece.entry.count piece.entry.octets.now)) }
+        ensures err { OnErr result (self.new.early.entries ≡ self.old.early.entries) }
+        ensures front { (self.new.front.items ≡ self.old.front.items)
+            × (self.new.next ≡ self.old.next) }
+    {
+        append(&mut chunk.octets, sizes.sample as usize, piece.octets)?;
+        chunk.count += piece.count;
+        self.early.insert(self.latest, chunk)?;
         Ok(())
     }
 

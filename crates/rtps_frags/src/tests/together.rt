@@ -54,6 +54,23 @@ fn late_fragment_stays_out(rt: HostRuntime) -> Result<(), Fail> {
     Ok(())
 }
 
+/// Fragments that follow one another while the first is awaited; then one before them, one after
+/// them, and the first.
+#[test]
+fn fragments_after_a_missing_one(rt: HostRuntime) -> Result<(), Fail> {
+    let alloc = rt.alloc();
+    let mut sample = Assembly::new(alloc, 9, 1);
+    sample.add(alloc, 3, 1, b"c")?;
+    sample.add(alloc, 4, 1, b"d")?;
+    sample.add(alloc, 5, 2, b"ef")?;
+    sample.add(alloc, 2, 1, b"b")?;
+    sample.add(alloc, 7, 3, b"ghi")?;
+    assert!(rt; !sample.is_whole());
+    sample.add(alloc, 1, 1, b"a")?;
+    assert!(rt; is_just(sample, OCTETS));
+    Ok(())
+}
+
 /// A run that overlaps one on either side.
 #[test]
 fn runs_that_overlap(rt: HostRuntime) -> Result<(), Fail> {
