@@ -54,6 +54,7 @@ module _ (f : ℕ → Bool) (w : Option Offer) where
     where
       here : k ≡ n
       here = omega (arith, e)
+
       by_test : (b : Bool) → (f k || is_joined (standing r w)) ≡ b → has_rank (matched_from f w (k + 1) rs) n ≡ false
           → has_rank (if b then k ∷ matched_from f w (k + 1) rs else matched_from f w (k + 1) rs) n ≡ (f n || is_joined (standing r w))
       by_test true t none = rw (eq-eqb k n here) (sym t ∙ ap (λ m. f m || is_joined (standing r w)) here)
@@ -64,8 +65,10 @@ module _ (f : ℕ → Bool) (w : Option Offer) where
     where
       apart : (k == n) ≡ false
       apart = grind (arith, nat_tests)
+
       rest : Bool
       rest = nat_lt i (length rs) && (f n || is_joined (standing (reader_at rs i) w))
+
       by_test : (b : Bool) → has_rank (matched_from f w (k + 1) rs) n ≡ rest
           → has_rank (if b then k ∷ matched_from f w (k + 1) rs else matched_from f w (k + 1) rs) n ≡ rest
       by_test true more = rw apart more

@@ -13,3 +13,4 @@ pub mod Start
 pub mod Kept
 pub mod Leaving
 pub mod Effects
+pub mod Ranked

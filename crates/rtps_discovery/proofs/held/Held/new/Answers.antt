@@ -37,11 +37,11 @@ returns g c =
     let ranks = c.in_ok-ranks.ranks.entries in
     let readers : c.in_ok-readers.readers.items ≡ map reader_of config.readers.items = c.in_ok-readers.ensures ∙ ap (λ l. map reader_of l) c.deref.ensures.value in
     let start = at_start config fixed ranks c.requires
-        (λ q. c.in_ok-fixed.ensures q
-        ∙ ap (λ ps. fixed_ranks (map pair_of ps) c.deref-2.result.now q) c.deref-3.ensures.value
-        ∙ ap (λ rs. fixed_ranks (map pair_of config.fixed.items) rs q) (c.deref-2.ensures.value ∙ readers))
-        (λ q. c.in_ok-ranks.ensures q
-        ∙ ap (λ ps. fixed_ranks (map pair_of ps) c.deref-4.result.now q) c.deref-5.ensures.value
-        ∙ ap (λ rs. fixed_ranks (map pair_of config.fixed.items) rs q) (c.deref-4.ensures.value ∙ readers)) in
+    (λ q. c.in_ok-fixed.ensures q
+    ∙ ap (λ ps. fixed_ranks (map pair_of ps) c.deref-2.result.now q) c.deref-3.ensures.value
+    ∙ ap (λ rs. fixed_ranks (map pair_of config.fixed.items) rs q) (c.deref-2.ensures.value ∙ readers))
+    (λ q. c.in_ok-ranks.ensures q
+    ∙ ap (λ ps. fixed_ranks (map pair_of ps) c.deref-4.result.now q) c.deref-5.ensures.value
+    ∙ ap (λ rs. fixed_ranks (map pair_of config.fixed.items) rs q) (c.deref-4.ensures.value ∙ readers)) in
     rw (c.new-participants.ensures.empty, c.new-announcers.ensures, c.new-writers.ensures.empty, c.new-remote_readers.ensures.empty)
     (subst (λ rs. IsKnown (first_known config) (at_first config.own rs fixed ranks)) (sym readers) start)
