@@ -21,24 +21,24 @@ use Rattle.rtps_discovery.specs.Known.{Known, Standing, Apart, Joined, Refused, 
 -- ---- what a list contains
 
 -- nothing is in no list, and one thing in a list of one
-none_in : {X : Type 0} → (x : X) → Contains [] x → ⊥
+pub none_in : {X : Type 0} → (x : X) → Contains [] x → ⊥
 none_in x (k, inside, is) = let i : k < 0 = inside in omega arith
 
 one_in : {X : Type 0} → (y x : X) → Contains (y ∷ []) x → y ≡ x
 one_in y x (zero, inside, is) = is
 one_in y x (suc k, inside, is) = let i : suc k < 1 = inside in absurd (omega arith)
 
-at_first : {X : Type 0} → (x : X) (xs : List X) → Contains (x ∷ xs) x
+pub at_first : {X : Type 0} → (x : X) (xs : List X) → Contains (x ∷ xs) x
 at_first x xs = (0, omega arith, refl)
 
-first_or : {X : Type 0} → (y : X) (ys : List X) (x : X) → Contains (y ∷ ys) x → (y ≡ x) ⊎ Contains ys x
+pub first_or : {X : Type 0} → (y : X) (ys : List X) (x : X) → Contains (y ∷ ys) x → (y ≡ x) ⊎ Contains ys x
 first_or y ys x h = by_part (Contains-append_cases (y ∷ []) ys x h)
   where
     by_part : Contains (y ∷ []) x ⊎ Contains ys x → (y ≡ x) ⊎ Contains ys x
     by_part (inl here) = inl (one_in y x here)
     by_part (inr later) = inr later
 
-later_in : {X : Type 0} → (y : X) (ys : List X) (x : X) → Contains ys x → Contains (y ∷ ys) x
+pub later_in : {X : Type 0} → (y : X) (ys : List X) (x : X) → Contains ys x → Contains (y ∷ ys) x
 later_in y ys x h = Contains-append_right (y ∷ []) ys x h
 
 -- what a list of lists contains is in one of them

@@ -15,3 +15,4 @@ pub mod Leaving
 pub mod Applying
 pub mod Hearing
 pub mod Starting
+pub mod Ranked

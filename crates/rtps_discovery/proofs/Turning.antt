@@ -21,7 +21,7 @@ column_same : (f h : ℕ → Bool) → ((n : ℕ) → f n ≡ h n) → (g : Guid
 column_same f h same g ls b a k [] = refl
 column_same f h same g ls b a k (r ∷ rs) = rw (same k, column_same f h same g ls b a (k + 1) rs) refl
 
-matched_same : (f h : ℕ → Bool) → ((n : ℕ) → f n ≡ h n) → (w : Option Offer) (k : ℕ) (rs : List (Option Wish)) → matched_from f w k rs ≡ matched_from h w k rs
+pub matched_same : (f h : ℕ → Bool) → ((n : ℕ) → f n ≡ h n) → (w : Option Offer) (k : ℕ) (rs : List (Option Wish)) → matched_from f w k rs ≡ matched_from h w k rs
 matched_same f h same w k [] = refl
 matched_same f h same w k (r ∷ rs) = rw (same k, matched_same f h same w (k + 1) rs) refl
 

@@ -98,18 +98,6 @@ pub record AppliesAll (said : List Announcement) (old new : Kept) (earlier all :
   pub known : (k : Known) → IsKnown k old → IsKnown (known_run k said) new
   pub changes : (k : Known) → IsKnown k old → all ≡ earlier ++ changes_run k said
 
--- what is known at the start, where no reader is matched with a writer from the start
-abbrev pub start : GuidPrefix → List (Option Wish) → Known
-start own readers = record {
-  own = own;
-  readers = readers;
-  fixed = [];
-  participants = [];
-  announcers = [];
-  writers = [];
-  remote_readers = [];
-}
-
 -- the same of what may have been refused memory
 pub record DiscoveryKept : Type 0 where
   pub spent : Bool

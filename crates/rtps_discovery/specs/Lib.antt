@@ -9,6 +9,8 @@ pub mod Records
 pub mod Differences
 pub mod OneWriter
 pub mod Sized
+pub mod Start
 pub mod Kept
 pub mod Leaving
 pub mod Effects
+pub mod Ranked

@@ -1,13 +1,16 @@
 //! What a participant knows of the others, event by event.
 
-ghost use Rattle.std.specs.Prelude.{◌≡◌, IfOk, IsErr, OnErr, OnOk, false, true};
+ghost use Rattle.std.specs.Prelude.{◌≡◌, IfOk, IsErr, Ok, OnErr, OnOk, false, true};
 ghost use Rattle.std.specs.Map.{keys_of};
 ghost use Rattle.rtps_receiver.specs.Events.{view};
+ghost use Rattle.rtps_discovery.specs.Config.{check_of};
 ghost use Rattle.rtps_discovery.specs.Effects.{AreHeard};
-ghost use Rattle.rtps_discovery.specs.Kept.{IsKnown, kept, matched_ranks};
+ghost use Rattle.rtps_discovery.specs.Kept.{IsKnown, matched_ranks};
 ghost use Rattle.rtps_discovery.specs.Known.{Known};
 ghost use Rattle.rtps_discovery.specs.Records.{answered, changes_by, known_by};
+ghost use Rattle.rtps_discovery.specs.Start.{first_known};
 
+use crate::config::Config;
 use crate::effects::DiscoveryEffects;
 use crate::hear::ranks_at;
 use crate::held::Held;
@@ -21,7 +24,7 @@ use std::marker::Model;
 /// What a participant of ours knows of the others (DDSI-RTPS 8.5): participants, their writers and
 /// their readers; and which of its own readers are matched with which writers.
 #[derive(Drop)]
-pub(crate) struct Discovery<A: Allocator = Global> {
+pub struct Discovery<A: Allocator = Global> {
     /// A growth was refused: an event may have been taken in by half.
     spent: bool,
     held: Held<A>,
@@ -36,11 +39,16 @@ impl<A: Allocator> Model for Discovery<A> {
 }
 
 impl<A: Allocator + Copy> Discovery<A> {
-    /// What is known at the start.
-    pub fn start(held: Held<A>) -> Discovery<A>
-        ensures { result ≡ record { spent = false; kept = kept held } }
+    /// Discovery at its start, for a configuration that [`check`](crate::check) takes: its readers
+    /// and its fixed matches are known, and nobody else. `AllocError` where memory is refused.
+    pub fn new(alloc: A, config: &Config) -> Result<Discovery<A>, AllocError>
+        requires { check_of config.now ≡ Ok tt }
+        ensures known { IfOk result (λ discovery.
+            IsKnown (first_known config.now) discovery.kept) }
+        ensures ok { IfOk result (λ discovery. discovery.spent ≡ false) }
     {
-        Discovery { spent: false, held }
+        let held = Held::new(alloc, config)?;
+        Ok(Discovery { spent: false, held })
     }
 
     /// Takes an event in: what an announcer says is applied record by record, and any other event

@@ -1,6 +1,6 @@
 //! What is kept of our readers, and of what participants announced (DDSI-RTPS 8.5).
 
-ghost use Rattle.std.specs.Prelude.{◌≡◌, IfOk, IfErr};
+ghost use Rattle.std.specs.Prelude.{◌≡◌, ◌++◌, ◌∷◌, [], IfOk, IfErr};
 ghost use Rattle.rtps_discovery.specs.Seen.{offer_seen};
 
 use crate::announcement::Offer;
@@ -101,6 +101,15 @@ impl<A: Allocator> Ranks<A> {
         ensures { IfOk result (λ copy. copy ≡ ranks.now) }
     {
         Ok(Ranks::new(Vec::from_slice(alloc, ranks)?))
+    }
+
+    /// A copy of ranks, and one more after them.
+    pub fn with(alloc: A, ranks: &[u32], rank: u32) -> Result<Ranks<A>, AllocError>
+        ensures { IfOk result (λ copy. copy ≡ ranks.now ++ rank ∷ []) }
+    {
+        let mut items = Vec::from_slice(alloc, ranks)?;
+        items.push(rank)?;
+        Ok(Ranks::new(items))
     }
 
     pub fn as_slice(&self) -> &[u32]

@@ -3,6 +3,7 @@
 ghost use Rattle.rtps_discovery.specs.Addressed.{AddressedIsTested};
 ghost use Rattle.rtps_discovery.specs.Config.{TakenIsFaultless};
 ghost use Rattle.rtps_discovery.specs.Differences.{ChangesAreDifferences};
+ghost use Rattle.rtps_discovery.specs.Ranked.{RanksAreMatched};
 
 /// An event goes to a reader exactly where the test says so, whichever writers the reader is
 /// matched with.
@@ -20,4 +21,10 @@ pub fn taken_is_faultless()
 /// after; a refusal is reported exactly where it is new or of another policy.
 pub fn changes_are_differences()
     ensures { ChangesAreDifferences }
+{}
+
+/// Whatever is known: the ranks at a writer are those of the readers that are matched with it,
+/// rising.
+pub fn ranks_are_matched()
+    ensures { RanksAreMatched }
 {}

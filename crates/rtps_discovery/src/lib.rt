@@ -17,6 +17,7 @@ mod known;
 pub mod laws;
 mod leave;
 mod participants;
+mod readers;
 mod records;
 mod said;
 mod standing;
@@ -30,5 +31,7 @@ pub use addressed::{
 };
 pub use changes::{Becomes, MatchChange};
 pub use config::{Config, FixedMatch, ReaderConfig};
+pub use discovery::Discovery;
 pub use effects::DiscoveryEffects;
 pub use faults::{ConfigFault, check};
+pub use known::{Participant, Writer};

@@ -1,29 +1,96 @@
 //! What is known at the start.
 
-ghost use Rattle.std.specs.Prelude.{◌≤◌, length};
-ghost use Rattle.rtps_discovery.specs.Kept.{IsKnown, kept, start};
+ghost use Rattle.std.specs.Prelude.{◌≡◌, ◌≤◌, ℕ, IfOk, None, Ok, length, map};
+ghost use Rattle.rtps_types.specs.declared.identity.Guid.{Guid};
+ghost use Rattle.rtps_discovery.specs.Config.{check_of};
+ghost use Rattle.rtps_discovery.specs.Kept.{IsKnown, kept, ranks_at};
+ghost use Rattle.rtps_discovery.specs.Known.{is_fixed};
+ghost use Rattle.rtps_discovery.specs.OneWriter.{has_rank, matched_from};
+ghost use Rattle.rtps_discovery.specs.Start.{first_known, fixed_ranks, pair_of};
 
+use crate::changes::{Turn, rematch};
+use crate::config::{Config, FixedMatch};
+use crate::hear::{put_ranks, ranks_at};
 use crate::held::Held;
-use crate::known::Reader;
+use crate::known::{Ranks, Reader};
+use crate::readers::copied_readers;
 use rtps_proxy::Matches;
-use rtps_types::GuidPrefix;
-use std::alloc::Allocator;
+use rtps_types::Guid;
+use std::alloc::{AllocError, Allocator};
 use std::collections::BTreeMap;
 
+/// By writers, the ranks that pairs join to them, in the order of the pairs.
+fn listed<A: Allocator + Copy>(
+    alloc: A,
+    pairs: &[FixedMatch],
+) -> Result<BTreeMap<Guid, Ranks<A>, A>, AllocError>
+    ensures { IfOk result (λ index. (g : Guid) (rank : ℕ)
+        → has_rank (ranks_at g index.entries) rank ≡ is_fixed (map pair_of pairs.now) rank g) }
+{
+    let mut index = BTreeMap::new(alloc);
+    for pair in pairs {
+        let ranks = Ranks::with(alloc, ranks_at(&index, pair.writer), pair.rank)?;
+        put_ranks(&mut index, pair.writer, ranks)?;
+    }
+    Ok(index)
+}
+
+/// Those of these ranks that readers have, rising.
+fn rising<A: Allocator + Copy>(
+    alloc: A,
+    readers: &[Option<Reader<A>>],
+    writer: Guid,
+    ranks: &[u32],
+) -> Result<Ranks<A>, AllocError>
+    requires { length readers.now ≤ 256 }
+    ensures { IfOk result (λ rising.
+        rising ≡ matched_from (has_rank ranks.now) None 0 readers.now) }
+{
+    let mut changes = Vec::new(alloc);
+    let turn = Turn {
+        writer,
+        fixed: ranks,
+        locators: &[],
+        before: None,
+        after: None,
+    };
+    rematch(alloc, readers, &turn, &mut changes)
+}
+
+/// By writers, the ranks of the readers that pairs join to them, rising.
+fn index_of<A: Allocator + Copy>(
+    alloc: A,
+    readers: &[Option<Reader<A>>],
+    pairs: &[FixedMatch],
+) -> Result<BTreeMap<Guid, Ranks<A>, A>, AllocError>
+    requires { length readers.now ≤ 256 }
+    ensures { IfOk result (λ index. (g : Guid)
+        → ranks_at g index.entries ≡ fixed_ranks (map pair_of pairs.now) readers.now g) }
+{
+    let listed = listed(alloc, pairs)?;
+    let mut index = BTreeMap::new(alloc);
+    for pair in pairs {
+        let ranks = rising(alloc, readers, pair.writer, ranks_at(&listed, pair.writer))?;
+        put_ranks(&mut index, pair.writer, ranks)?;
+    }
+    Ok(index)
+}
+
 impl<A: Allocator + Copy> Held<A> {
-    /// Nothing is known of others, and no match is there from the start. No memory is taken.
-    pub fn start(alloc: A, own: GuidPrefix, readers: Vec<Option<Reader<A>>, A>) -> Held<A>
-        requires { length readers.items ≤ 256 }
-        ensures { IsKnown (start own readers.items) (kept result) }
+    /// The readers and the fixed matches of a configuration are known, and nobody else.
+    pub fn new(alloc: A, config: &Config) -> Result<Held<A>, AllocError>
+        requires { check_of config.now ≡ Ok tt }
+        ensures { IfOk result (λ held. IsKnown (first_known config.now) (kept held)) }
     {
-        let fixed = BTreeMap::new(alloc);
+        let readers = copied_readers(alloc, &config.readers)?;
+        let fixed = index_of(alloc, &readers, &config.fixed)?;
+        let ranks = index_of(alloc, &readers, &config.fixed)?;
         let participants = BTreeMap::new(alloc);
         let announcers = Matches::new(alloc);
         let writers = BTreeMap::new(alloc);
         let remote_readers = BTreeMap::new(alloc);
-        let ranks = BTreeMap::new(alloc);
-        Held {
-            own,
+        Ok(Held {
+            own: config.own,
             readers,
             fixed,
             participants,
@@ -31,6 +98,6 @@ impl<A: Allocator + Copy> Held<A> {
             writers,
             remote_readers,
             ranks,
-        }
+        })
     }
 }

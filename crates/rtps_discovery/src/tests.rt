@@ -2,6 +2,7 @@
 
 mod announcements;
 mod events;
+mod start;
 
 use crate::*;
 use dds_qos::{Ownership, Reliability, Requested};
@@ -83,8 +84,8 @@ const GOOD: Row<'static> = Row {
     fixed: &[(0, WRITER), (1, WRITER), (1, WRITER_WITHOUT_KEY)],
 };
 
-/// Whether the configuration of a row is taken.
-fn told(alloc: Global, row: Row<'_>) -> Result<Result<(), ConfigFault>, Fail> {
+/// The configuration of a row.
+fn config_of(alloc: Global, row: Row<'_>) -> Result<Config, Fail> {
     let mut config = empty(alloc);
     for entity in row.readers {
         add_reader(alloc, &mut config, *entity, row.ownership, row.reliability)?;
@@ -96,6 +97,12 @@ fn told(alloc: Global, row: Row<'_>) -> Result<Result<(), ConfigFault>, Fail> {
             locators: Locators::new(Vec::new(alloc)),
         })?;
     }
+    Ok(config)
+}
+
+/// Whether the configuration of a row is taken.
+fn told(alloc: Global, row: Row<'_>) -> Result<Result<(), ConfigFault>, Fail> {
+    let config = config_of(alloc, row)?;
     Ok(check(&config))
 }
 

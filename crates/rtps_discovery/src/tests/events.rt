@@ -5,10 +5,7 @@ use crate::addressed::{
     ENTITYID_SEDP_BUILTIN_PUBLICATIONS_ANNOUNCER, ENTITYID_SPDP_BUILTIN_PARTICIPANT_ANNOUNCER,
     ENTITYID_UNKNOWN,
 };
-use crate::changes::Becomes;
-use crate::discovery::Discovery;
-use crate::held::Held;
-use crate::known::Reader;
+use crate::{Becomes, Config, Discovery, ReaderConfig, check};
 use dds_qos::Requested;
 use rtps_receiver::{Body, Event, Whole};
 use rtps_types::{EntityId, Guid, Locator, Number, Place};
@@ -25,13 +22,19 @@ const SQUARES: Guid = Guid {
 /// A participant of ours with one reader of squares.
 fn one_reader(alloc: Global) -> Result<Discovery, Fail> {
     let mut readers = Vec::new(alloc);
-    readers.push(Some(Reader {
+    readers.push(ReaderConfig {
         entity: EntityId([0, 0, 1, 7]),
         topic: String::from_str(alloc, "Square")?,
         type_name: String::from_str(alloc, "ShapeType")?,
         requested: Requested::new(alloc),
-    }))?;
-    Ok(Discovery::start(Held::start(alloc, OURS, readers)))
+    })?;
+    let config = Config {
+        own: OURS,
+        readers,
+        fixed: Vec::new(alloc),
+    };
+    check(&config)?;
+    Ok(Discovery::new(alloc, &config)?)
 }
 
 /// Takes in a change of theirs, and gives the changes of our matches, as `Some` for what becomes of
