@@ -1,8 +1,8 @@
 -- A run that is made longer by the fragments after it.
-use Rattle.std.proofs.Common.{◌≡◌, ℕ, suc, ◌+◌, ◌-◌, ◌<◌, ◌≤◌, ◌⊎◌, Bool, true, false, ◌&&◌, cond, List, [], ◌∷◌, ◌++◌, length, take, drop, refl, sym, ◌∙◌, ap, subst, arith, ltb, leb, inl, inr, Option, Some, None}
+use Rattle.std.proofs.Common.{◌≡◌, ℕ, suc, ◌+◌, ◌-◌, ◌<◌, ◌≤◌, ◌⊎◌, Bool, true, false, ◌&&◌, cond, eqb, List, [], ◌∷◌, ◌++◌, length, take, drop, refl, sym, ◌∙◌, ap, subst, arith, ltb, leb, inl, inr, Option, Some, None}
 use Rattle.std.specs.BTreeMap.{insert_entry}
 use Rattle.std.specs.List.{AllByRecursion}
-use Rattle.std.specs.Map.{lookup, remove_entry}
+use Rattle.std.specs.Map.{lookup, remove_entry, set_value}
 use Rattle.std.specs.Ordering.{nat_cmp}
 use Rattle.std.proofs.lemmas.Bool.Decides.{nat_tests, leb_tells, eqb_tells}
 use Rattle.std.proofs.lemmas.List.{drop-append-le, length-append, length-drop, take-append-le}
@@ -258,3 +258,42 @@ module _ (z : Sizes) (cut : 0 < z.fragment) (next : ℕ) (front : List ℕ) (rs 
       swapped true true h e = absurd cc
       swapped true false h e = refl
       swapped false c h e = sym e
+
+-- a value that is put in its own place changes nothing
+pub set_same : (k : ℕ) (rs : Runs) (run : Run) → lookup (starts k) rs ≡ Some run → set_value (starts k) rs run ≡ rs
+set_same k [] run found = refl
+set_same k (r ∷ rs) run found =
+    elim (starts_tells k r.0) [
+      | inl w ↦ (
+          let same : r.1 ≡ run = same_some r.1 run (rw w.0 at found) in
+          rw w.0 (ap (λ (x : Run). (r.0, x) ∷ rs) (sym same))
+          )
+      | inr w ↦ rw w.0 (ap (λ (l : Runs). r ∷ l) (set_same k rs run (rw w.0 at found)))
+    ]
+
+-- a run before all others is put in front of them
+put_first : (k : ℕ) (low : ℕ) (rs : Runs) (run : Run) → AreApart low rs → k < low → insert_entry nat_cmp rs k run ≡ (k, run) ∷ rs
+put_first k low [] run h l = refl
+put_first k low (r ∷ rs) run h l =
+    let first : low ≤ r.0 = h.0 in
+    let before : leb (suc k) r.0 ≡ true = grind (arith, nat_tests) in
+    rw before refl
+
+-- a run that is taken out and put again has its place
+pub set_is : (k : ℕ) (low : ℕ) (rs : Runs) (was run : Run) → AreApart low rs → lookup (starts k) rs ≡ Some was → insert_entry nat_cmp (remove_entry (starts k) rs) k run ≡ set_value (starts k) rs run
+set_is k low [] was run h found = absurd cc
+set_is k low (r ∷ rs) was run h found =
+    elim (starts_tells k r.0) [
+      | inl w ↦ (
+          let some : 0 < r.1.count = h.1 in
+          rw w.0 (put_first k (end_of r) rs run h.2 (omega (arith, w.1, some)) ∙ ap (λ n. (n, run) ∷ rs) w.1)
+          )
+      | inr w ↦ (
+          let rest = low_one k was rs (end_of r) (rw w.0 at found) h.2 in
+          let after : end_of r ≤ k = rest.0 in
+          let some : 0 < r.1.count = h.1 in
+          let late : leb (suc k) r.0 ≡ false = grind (arith, nat_tests) in
+          let apart : eqb k r.0 ≡ false = grind (arith, nat_tests) in
+          rw (w.0, late, apart) (ap (λ (l : Runs). r ∷ l) (set_is k (end_of r) rs was run h.2 (rw w.0 at found)))
+          )
+    ]

@@ -1,6 +1,6 @@
 //! The octets of a sample that came, each where it belongs.
 
-ghost use Rattle.std.specs.Prelude.{◌≡◌, ◌+◌, ◌++◌, ◌-◌, ◌<◌, ◌≤◌, ◌^◌, ℕ, ◌&&◌, nat_le, nat_lt, if◌then◌else◌, length, IfNone, IfSome, OnErr, OnOk, Option, List, Some, None, false, true};
+ghost use Rattle.std.specs.Prelude.{◌≡◌, ◌+◌, ◌++◌, ◌-◌, ◌<◌, ◌≤◌, ◌^◌, ℕ, ◌&&◌, nat_le, nat_lt, if◌then◌else◌, length, IfNone, IfOk, IfSome, OnErr, OnOk, Option, List, Some, None, false, true};
 ghost use Rattle.std.specs.Option.{option_map, option_or};
 ghost use Rattle.rtps_types.specs.Named.{set_naming};
 ghost use Rattle.rtps_types.specs.Numbers.{failing_from};
@@ -11,10 +11,7 @@ ghost use Rattle.rtps_frags.specs.Missing.{missing_by};
 ghost use Rattle.rtps_frags.specs.Parts.{IsJoinable, IsKept, holds, part_at};
 ghost use Rattle.rtps_frags.specs.Runs.{AreApart, Runs, begins_behind, begun_by, covers, starts_at};
 ghost use Rattle.rtps_frags.specs.Spans.{IsAhead};
-ghost use Rattle.rtps_frags.specs.Longer.{longer_by, starts};
-ghost use Rattle.std.specs.BTreeMap.{insert_entry};
-ghost use Rattle.std.specs.Map.{lookup, remove_entry};
-ghost use Rattle.std.specs.Ordering.{nat_cmp};
+ghost use Rattle.rtps_frags.specs.Longer.{IsExtended};
 
 use crate::sizes::Sizes;
 use rtps_types::{FragSet, set_bit};
@@ -232,8 +229,8 @@ impl<A: Allocator + Copy> Parts<A> {
             self.next += piece.count;
             return self.join(sizes);
         }
-        if let Some(chunk) = self.take_latest(piece.start) {
-            return self.extend(sizes, chunk, piece);
+        if self.extend_latest(sizes, piece)? {
+            return Ok(());
         }
         let chunk = Chunk {
             count: piece.count,
@@ -244,43 +241,28 @@ impl<A: Allocator + Copy> Parts<A> {
         Ok(())
     }
 
-    /// Takes out the chunk that was put last, where it ends before a fragment.
-    fn take_latest(&mut self, next: u32) -> Option<Chunk<A>>
-        ensures ends { IfSome result (λ chunk. self.old.latest + chunk.count ≡ next) }
-        ensures found { IfSome result (λ chunk.
-            lookup (starts self.old.latest) self.old.early.entries ≡ Some chunk) }
-        ensures left { IfSome result (λ chunk. self.new.early.entries
-            ≡ remove_entry (starts self.old.latest) self.old.early.entries) }
-        ensures none { IfNone result (self.new.early.entries ≡ self.old.early.entries) }
-        ensures front { (self.new.front.items ≡ self.old.front.items)
-            × (self.new.next ≡ self.old.next) × (self.new.latest ≡ self.old.latest) }
-    {
-        let latest = self.early.get(&self.latest)?;
-        if next < self.latest || next - self.latest != latest.count {
-            return None;
-        }
-        self.early.remove(&self.latest)
-    }
-
-    /// Puts back the chunk that was put last, with fragments after it.
-    fn extend(
-        &mut self,
-        sizes: Sizes,
-        mut chunk: Chunk<A>,
-        piece: Piece<'_>,
-    ) -> Result<(), AllocError>
-        requires { chunk.count + piece.count < 2 ^ 32 }
-        ensures put { OnOk result (self.new.early.entries ≡ insert_entry nat_cmp
-            self.old.early.entries self.old.latest
-            (longer_by chunk piece.entry.count piece.entry.octets.now)) }
+    /// Puts fragments at the end of the chunk that was put last, where it ends before them; and says
+    /// whether it does.
+    fn extend_latest(&mut self, sizes: Sizes, piece: Piece<'_>) -> Result<bool, AllocError>
+        requires { piece.start + piece.count < 2 ^ 32 }
+        ensures extended { IfOk result (λ ends. ends ≡ true → IsExtended self.old.latest piece.entry.start
+            piece.entry.count piece.entry.octets.now self.old.early.entries
+            self.new.early.entries) }
+        ensures apart { IfOk result (λ ends. ends ≡ false
+            → self.new.early.entries ≡ self.old.early.entries) }
         ensures err { OnErr result (self.new.early.entries ≡ self.old.early.entries) }
         ensures front { (self.new.front.items ≡ self.old.front.items)
             × (self.new.next ≡ self.old.next) }
     {
+        let Some(chunk) = self.early.get_mut(&self.latest) else {
+            return Ok(false);
+        };
+        if piece.start < self.latest || piece.start - self.latest != chunk.count {
+            return Ok(false);
+        }
         append(&mut chunk.octets, sizes.sample as usize, piece.octets)?;
         chunk.count += piece.count;
-        self.early.insert(self.latest, chunk)?;
-        Ok(())
+        Ok(true)
     }
 
     /// Puts those of the fragments that aren't there.
