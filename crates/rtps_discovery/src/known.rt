@@ -1,6 +1,7 @@
 //! What is kept of our readers, and of what participants announced (DDSI-RTPS 8.5).
 
 ghost use Rattle.std.specs.Prelude.{◌≡◌, ◌++◌, ◌∷◌, [], IfOk, IfErr};
+ghost use Rattle.rtps_discovery.specs.OneWriter.{has_rank};
 ghost use Rattle.rtps_discovery.specs.Seen.{offer_seen};
 
 use crate::announcement::Offer;
@@ -116,6 +117,12 @@ impl<A: Allocator> Ranks<A> {
         ensures { result.now ≡ self.now }
     {
         self.items.as_slice()
+    }
+
+    pub fn has(&self, rank: u32) -> bool
+        ensures { result ≡ has_rank self.now rank }
+    {
+        self.items.contains(&rank)
     }
 }
 
