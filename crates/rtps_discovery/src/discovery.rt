@@ -1,7 +1,6 @@
 //! What a participant knows of the others, event by event.
 
 ghost use Rattle.std.specs.Prelude.{◌≡◌, IfOk, IsErr, Ok, OnErr, OnOk, false, true};
-ghost use Rattle.std.specs.Map.{keys_of};
 ghost use Rattle.rtps_receiver.specs.Events.{view};
 ghost use Rattle.rtps_discovery.specs.Config.{check_of};
 ghost use Rattle.rtps_discovery.specs.Effects.{AreHeard};
@@ -14,11 +13,11 @@ use crate::config::Config;
 use crate::effects::DiscoveryEffects;
 use crate::hear::ranks_at;
 use crate::held::Held;
-use crate::known::{Participant, Writer};
+use crate::known::{Participant, Reader, Writer};
 use rtps_receiver::Event;
 use rtps_types::{Guid, GuidPrefix};
 use std::alloc::{AllocError, Allocator, Global};
-use std::collections::btree_map::Keys;
+use std::collections::btree_map::{Iter, Keys};
 use std::marker::Model;
 
 /// What a participant of ours knows of the others (DDSI-RTPS 8.5): participants, their writers and
@@ -81,18 +80,25 @@ impl<A: Allocator + Copy> Discovery<A> {
         ranks_at(&self.held.ranks, writer)
     }
 
-    /// The known participants, in the order of their octets.
-    pub fn participants(&self) -> Keys<'_, GuidPrefix, Participant<A>>
-        ensures { result ≡ keys_of self.now.kept.participants }
+    /// Our readers by rank, `None` where one went.
+    pub fn readers(&self) -> &[Option<Reader<A>>]
+        ensures { result.now ≡ self.now.kept.readers }
     {
-        self.held.participants.keys()
+        self.held.readers.as_slice()
     }
 
-    /// The known writers, in the order of their octets.
-    pub fn writers(&self) -> Keys<'_, Guid, Writer<A>>
-        ensures { result ≡ keys_of self.now.kept.writers }
+    /// The known participants, in the order of the octets of their prefixes.
+    pub fn participants(&self) -> Iter<'_, GuidPrefix, Participant<A>>
+        ensures { result ≡ self.now.kept.participants }
     {
-        self.held.writers.keys()
+        self.held.participants.iter()
+    }
+
+    /// The known writers, in the order of the octets of their guids.
+    pub fn writers(&self) -> Iter<'_, Guid, Writer<A>>
+        ensures { result ≡ self.now.kept.writers }
+    {
+        self.held.writers.iter()
     }
 
     /// The known readers of the others, in the order of their octets.

@@ -34,4 +34,4 @@ pub use config::{Config, FixedMatch, ReaderConfig};
 pub use discovery::Discovery;
 pub use effects::DiscoveryEffects;
 pub use faults::{ConfigFault, check};
-pub use known::{Participant, Writer};
+pub use known::{Participant, Reader, Writer};

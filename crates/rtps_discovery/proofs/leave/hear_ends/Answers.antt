@@ -4,7 +4,7 @@ use Rattle.std.proofs.lemmas.List.{drop_more}
 use Rattle.rtps_discovery.specs.declared.gone.Gone.{Gone}
 use Rattle.rtps_discovery.specs.Known.{standing}
 use Rattle.rtps_discovery.specs.Leaving.{ending}
-use Rattle.rtps_discovery.specs.OneWriter.{has_rank, met}
+use Rattle.rtps_discovery.specs.OneWriter.{met}
 use Rattle.rtps_discovery.specs.Seen.{change_seen}
 use Rattle.rtps_discovery.proofs.leave.hear_ends.Goals as goal
 
