@@ -6,6 +6,7 @@ ghost use Rattle.rtps_discovery.specs.Config.{check_of};
 ghost use Rattle.rtps_discovery.specs.Effects.{AreHeard};
 ghost use Rattle.rtps_discovery.specs.Kept.{IsKnown, matched_ranks};
 ghost use Rattle.rtps_discovery.specs.Known.{Known};
+ghost use Rattle.rtps_discovery.specs.Pairs.{AreKeptPairs, ArePairs};
 ghost use Rattle.rtps_discovery.specs.Records.{answered, changes_by, known_by};
 ghost use Rattle.rtps_discovery.specs.Start.{first_known};
 
@@ -14,9 +15,11 @@ use crate::effects::DiscoveryEffects;
 use crate::hear::ranks_at;
 use crate::held::Held;
 use crate::known::{Participant, Reader, Writer};
+use crate::pairs::pairs_of;
 use rtps_receiver::Event;
 use rtps_types::{Guid, GuidPrefix};
 use std::alloc::{AllocError, Allocator, Global};
+use std::collections::BTreeSet;
 use std::collections::btree_map::{Iter, Keys};
 use std::marker::Model;
 
@@ -78,6 +81,19 @@ impl<A: Allocator + Copy> Discovery<A> {
         ensures { (k : Known) → IsKnown k self.now.kept → result.now ≡ matched_ranks k writer }
     {
         ranks_at(&self.held.ranks, writer)
+    }
+
+    /// The matches that there are: the rank of a reader of ours and a writer each, by rank and then
+    /// by the octets of the writer's guid. They are those that [`matched`](Discovery::matched)
+    /// answers by writers, also after a refused growth of [`step`](Discovery::step), when an event
+    /// may have been taken in by half. `AllocError` where memory is refused; nothing changes.
+    pub fn matches(&self, alloc: A) -> Result<BTreeSet<(u32, Guid), A>, AllocError>
+        ensures matches { (k : Known) → IsKnown k self.now.kept
+            → IfOk result (λ matches. ArePairs k matches.keys) }
+        ensures kept { IfOk result (λ matches. AreKeptPairs self.now.kept matches.keys) }
+    {
+        let pairs = pairs_of(alloc, &self.held.ranks)?;
+        Ok(pairs)
     }
 
     /// Our readers by rank, `None` where one went.

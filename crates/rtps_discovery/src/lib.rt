@@ -16,6 +16,7 @@ mod held;
 mod known;
 pub mod laws;
 mod leave;
+mod pairs;
 mod participants;
 mod readers;
 mod records;
