@@ -1,6 +1,7 @@
 pub mod Faultless
 pub mod Tested
 pub mod Rows
+pub mod Following
 pub mod Differences
 pub mod Guids
 pub mod Inserted
