@@ -16,6 +16,7 @@ use Rattle.rtps_proxy.proofs.Matching.{exact}
 use Rattle.rtps_discovery.specs.Announcement.{Offer}
 use Rattle.rtps_discovery.specs.Changes.{Becomes, ChangeAt, Matches, Unmatches, Refuses, at, at_pair, both, changes, row, rows, told}
 use Rattle.rtps_discovery.specs.Differences.{ChangesAreDifferences, IsRefused}
+use Rattle.rtps_discovery.proofs.Following.{in_order}
 use Rattle.rtps_discovery.specs.Known.{Known, Standing, Apart, Joined, Refused, Wish, is_fixed, is_joined, is_matched, locators_at, reader_at, standing, writer_at}
 
 -- ---- what a list contains
@@ -495,4 +496,5 @@ differences before after fixed = record {
   begin = λ rank g ls. (begin_is before after fixed rank g ls, begin_from before after fixed rank g ls);
   end = λ rank g. (end_is before after fixed rank g, end_from before after fixed rank g);
   refuse = λ rank g policy. (refuse_is before after fixed rank g policy, refuse_from before after fixed rank g policy);
+  order = in_order before after;
 }

@@ -1,8 +1,10 @@
 pub mod Faultless
 pub mod Tested
 pub mod Rows
+pub mod Following
 pub mod Differences
 pub mod Guids
+pub mod Inserted
 pub mod SortedKeys
 pub mod OneWriter
 pub mod Turning
@@ -16,3 +18,4 @@ pub mod Applying
 pub mod Hearing
 pub mod Starting
 pub mod Ranked
+pub mod Listing

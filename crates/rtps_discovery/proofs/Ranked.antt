@@ -11,14 +11,14 @@ use Rattle.rtps_discovery.specs.Ranked.{RanksAreMatched}
 use Rattle.rtps_discovery.proofs.Differences.{at_first, first_or, later_in, none_in}
 use Rattle.rtps_discovery.proofs.Starting.{is_member}
 
-same : (m n : ℕ) → (m == n) ≡ true → m ≡ n
+pub same : (m n : ℕ) → (m == n) ≡ true → m ≡ n
 same m n e = grind (arith, nat_tests)
 
 or_later : (b c : Bool) → c ≡ true → (b || c) ≡ true
 or_later true c h = refl
 or_later false c h = h
 
-contained : (xs : List ℕ) (n : ℕ) → Contains xs n → has_rank xs n ≡ true
+pub contained : (xs : List ℕ) (n : ℕ) → Contains xs n → has_rank xs n ≡ true
 contained [] n h = absurd (none_in n h)
 contained (x ∷ xs) n h = by_part (first_or x xs n h) (contained xs n)
   where
@@ -26,7 +26,7 @@ contained (x ∷ xs) n h = by_part (first_or x xs n h) (contained xs n)
     by_part (inl e) more = rw (eq-eqb x n e) refl
     by_part (inr later) more = or_later (x == n) (has_rank xs n) (more later)
 
-found : (xs : List ℕ) (n : ℕ) → has_rank xs n ≡ true → Contains xs n
+pub found : (xs : List ℕ) (n : ℕ) → has_rank xs n ≡ true → Contains xs n
 found [] n h = absurd cc
 found (x ∷ xs) n h = by_test (x == n) refl h (found xs n)
   where

@@ -11,10 +11,11 @@ use Rattle.std.specs.declared.cmp.Ordering.{Ordering}
 use Rattle.std.specs.declared.cmp.Ordering.TheVariants.{Less, Equal, Greater}
 use Rattle.rtps_types.specs.declared.identity.Guid.{Guid}
 use Rattle.rtps_types.specs.Order.{guid_order}
-use Rattle.rtps_discovery.proofs.Guids.{flipped, guid_total}
+use Rattle.rtps_discovery.proofs.Guids.{guid_total}
 use Rattle.rtps_proxy.specs.Matches.{is_at}
 use Rattle.rtps_discovery.specs.Changes.{both}
 use Rattle.rtps_discovery.proofs.Guids.{tied}
+use Rattle.rtps_discovery.proofs.Inserted.{all_above, inserted}
 
 -- a guid is among these
 abbrev pub has : List Guid → Guid → Bool
@@ -26,28 +27,11 @@ InOrder = IsStrictlySortedBy guid_order
 abbrev Below : Guid → List Guid → Type 0
 Below x ys = AllByRecursion (λ y. guid_order x y ≡ Less) ys
 
-below_insert : (y x : Guid) (zs : List Guid) → guid_order y x ≡ Less → Below y zs → Below y (insert_key guid_order zs x)
-below_insert y x [] e a = (e, tt)
-below_insert y x (z ∷ zs) e (b, a) = by_order (guid_order x z) (below_insert y x zs e a)
-  where
-    by_order : (r : Ordering) → Below y (insert_key guid_order zs x) → Below y (match_ordering r (x ∷ z ∷ zs) (z ∷ zs) (z ∷ insert_key guid_order zs x))
-    by_order Less more = (e, (b, a))
-    by_order Equal more = (b, a)
-    by_order Greater more = (b, more)
-
 pub below_less : (x y : Guid) (zs : List Guid) → guid_order x y ≡ Less → Below y zs → Below x zs
-below_less x y [] e a = tt
-below_less x y (z ∷ zs) e (b, a) = (guid_total.trans x y z e b, below_less x y zs e a)
+below_less = all_above guid_order guid_total
 
 pub sorted_insert : (xs : List Guid) (x : Guid) → InOrder xs → InOrder (insert_key guid_order xs x)
-unfolding IsStrictlySortedBy
-sorted_insert [] x s = (tt, tt)
-sorted_insert (y ∷ ys) x (a, s) = by_order (guid_order x y) refl (sorted_insert ys x s)
-  where
-    by_order : (r : Ordering) → guid_order x y ≡ r → InOrder (insert_key guid_order ys x) → InOrder (match_ordering r (x ∷ y ∷ ys) (y ∷ ys) (y ∷ insert_key guid_order ys x))
-    by_order Less e more = ((e, below_less x y ys e a), (a, s))
-    by_order Equal e more = (a, s)
-    by_order Greater e more = (below_insert y x ys (flipped y x Greater e) a, more)
+sorted_insert = inserted guid_order guid_total
 
 or_again : (b r : Bool) → (b || r) ≡ (b || (b || r))
 or_again true r = refl

@@ -1,8 +1,14 @@
 -- The changes of what is known, in the words of sets: differences of the pairs that are matched, and of those that are refused.
-use Rattle.std.specs.Prelude.{◌≡◌, ℕ, List, false, true, ◌↔◌, Contains}
+use Rattle.std.specs.Prelude.{◌≡◌, ℕ, List, Bool, false, true, ◌↔◌, AllPairs, Contains, IsTrue}
+use Rattle.std.specs.List.Sorted.{IsStrictlySortedBy}
+use Rattle.std.specs.Map.{keys_of}
+use Rattle.std.specs.Ordering.{nat_cmp}
+use Rattle.std.specs.declared.cmp.Ordering.{Ordering}
+use Rattle.std.specs.declared.cmp.Ordering.TheVariants.{Less, Equal, Greater}
 use Rattle.rtps_types.specs.declared.identity.Guid.{Guid}
 use Rattle.rtps_types.specs.declared.locator.Locator.{Locator}
-use Rattle.rtps_discovery.specs.Changes.{Matches, Unmatches, Refuses, at, changes}
+use Rattle.rtps_types.specs.Order.{guid_order}
+use Rattle.rtps_discovery.specs.Changes.{Becomes, ChangeAt, Matches, Unmatches, Refuses, at, changes}
 use Rattle.rtps_discovery.specs.Known.{Known, Refused, is_fixed, is_matched, locators_at, reader_at, standing, writer_at}
 
 -- a reader and a writer would be matched, but for this policy
@@ -10,8 +16,31 @@ pub record IsRefused (k : Known) (rank : ℕ) (g : Guid) (policy : ℕ) : Type 0
   pub free : is_fixed k.fixed rank g ≡ false
   pub refused : standing (reader_at k.readers rank) (writer_at k g) ≡ Refused policy
 
+-- ---- the order of changes
+
+-- the writer that becomes something
+abbrev pub writer_in : Becomes → Guid
+writer_in (Matches g ls) = g
+writer_in (Unmatches g) = g
+writer_in (Refuses g policy) = g
+
+-- at one reader and of one writer an end comes first, and then a refusal
+abbrev pub ends_first : Becomes → Becomes → Bool
+ends_first (Unmatches g) (Refuses h policy) = true
+ends_first a b = false
+
+abbrev pub first_by : Ordering → Bool → Bool
+first_by Less otherwise = true
+first_by Equal otherwise = otherwise
+first_by Greater otherwise = false
+
+-- by rank, then by writer, and an end before a refusal
+abbrev pub comes_before : ChangeAt → ChangeAt → Bool
+comes_before a b = first_by (nat_cmp a.rank b.rank) (first_by (guid_order (writer_in a.what) (writer_in b.what)) (ends_first a.what b.what))
+
 -- Matches begin at the pairs that are matched after and weren't before, with the locators that are known then; they end at those
--- that were matched before and aren't after; refusals are reported that are new, or of another policy.
+-- that were matched before and aren't after; refusals are reported that are new, or of another policy. Where the writers known after are in order,
+-- so are the changes.
 pub record AreDifferences (before after : Known) : Type 0 where
   pub begin : (rank : ℕ) (g : Guid) (ls : List Locator) →
       Contains (changes before after) (at rank (Matches g ls))
@@ -22,6 +51,7 @@ pub record AreDifferences (before after : Known) : Type 0 where
   pub refuse : (rank : ℕ) (g : Guid) (policy : ℕ) →
       Contains (changes before after) (at rank (Refuses g policy))
       ↔ (IsRefused after rank g policy × (IsRefused before rank g policy → ⊥))
+  pub order : IsStrictlySortedBy guid_order (keys_of after.writers) → AllPairs (λ a b. IsTrue (comes_before a b)) (changes before after)
 
 -- whatever is known before and after, where the fixed pairs stay
 abbrev pub ChangesAreDifferences : Type 0

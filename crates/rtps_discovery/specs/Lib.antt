@@ -14,3 +14,4 @@ pub mod Kept
 pub mod Leaving
 pub mod Effects
 pub mod Ranked
+pub mod Pairs

@@ -1,11 +1,12 @@
 //! What our readers hear of one writer.
 
-ghost use Rattle.std.specs.Prelude.{◌≡◌, ◌≤◌, ◌||◌, ◌++◌, IfOk, OnOk, length, map};
+ghost use Rattle.std.specs.Prelude.{◌≡◌, ◌≤◌, ◌<◌, ◌||◌, ◌++◌, ℕ, IfOk, OnOk, false, length, map, slice_index_or};
 ghost use Rattle.rtps_discovery.specs.Changes.{told};
 ghost use Rattle.rtps_discovery.specs.Known as known;
 ghost use Rattle.rtps_discovery.specs.OneWriter.{column, has_rank, matched_from, met};
 ghost use Rattle.rtps_discovery.specs.Seen.{change_seen, lent, standing_seen};
 
+use crate::faults::READER_LIMIT;
 use crate::known::{Ranks, Reader, Writer, copied};
 use crate::standing::{Standing, standing_between};
 use rtps_types::{Guid, Locator, Locators};
@@ -103,35 +104,41 @@ fn tell<A: Allocator + Copy>(
 #[derive(Drop)]
 pub(crate) struct Turn<'a, A: Allocator> {
     pub writer: Guid,
-    /// The ranks of the readers that it is matched with from the start.
-    pub fixed: &'a [u32],
     /// Where answers to it go now.
     pub locators: &'a [Locator],
     pub before: Option<&'a Writer<A>>,
     pub after: Option<&'a Writer<A>>,
 }
 
+/// One of our readers, by its rank.
+#[derive(Clone, Copy)]
+pub(crate) struct Seat {
+    pub rank: u32,
+    /// Whether it is matched with the writer from the start.
+    pub is_fixed: bool,
+}
+
 /// Puts what the reader of a rank hears after the changes, and whether it is matched now with the
 /// writer.
 pub(crate) fn meet<A: Allocator + Copy>(
     alloc: A,
-    rank: u32,
+    seat: Seat,
     reader: &Option<Reader<A>>,
     turn: &Turn<'_, A>,
     changes: &mut Vec<MatchChange<A>, A>,
 ) -> Result<bool, AllocError>
     ensures changes { OnOk result (map change_seen changes.new.items
-        ≡ map change_seen changes.old.items ++ met (has_rank turn.now.fixed.now) turn.now.writer
-        turn.now.locators.now rank (known.standing reader.now (lent turn.now.before))
+        ≡ map change_seen changes.old.items ++ met (λ _. seat.is_fixed) turn.now.writer
+        turn.now.locators.now seat.rank (known.standing reader.now (lent turn.now.before))
         (known.standing reader.now (lent turn.now.after))) }
-    ensures matched { IfOk result (λ matched. matched ≡ (has_rank turn.now.fixed.now rank
+    ensures matched { IfOk result (λ matched. matched ≡ (seat.is_fixed
         || known.is_joined (known.standing reader.now (lent turn.now.after)))) }
 {
-    if turn.fixed.contains(&rank) {
+    if seat.is_fixed {
         return Ok(true);
     }
     let pair = Pair {
-        rank,
+        rank: seat.rank,
         writer: turn.writer,
         locators: turn.locators,
     };
@@ -141,26 +148,45 @@ pub(crate) fn meet<A: Allocator + Copy>(
     Ok(is_joined(after))
 }
 
-/// Puts what our readers hear of a writer after the changes, by rank; and gives the ranks of the
-/// readers that are matched with it now.
+/// By rank, whether it is among these.
+fn marked(ranks: &[u32]) -> [bool; READER_LIMIT]
+    ensures { (rank : ℕ) → rank < 256
+        → slice_index_or result rank false ≡ has_rank ranks.now rank }
+{
+    let mut marks = [false; READER_LIMIT];
+    for rank in ranks {
+        let at = *rank as usize;
+        if at < READER_LIMIT {
+            marks[at] = true;
+        }
+    }
+    marks
+}
+
+/// Puts what our readers hear of a writer after the changes, by rank, where those of the ranks
+/// `fixed` are matched with it from the start; and gives the ranks of the readers that are matched
+/// with it now.
 pub(crate) fn rematch<A: Allocator + Copy>(
     alloc: A,
     readers: &[Option<Reader<A>>],
+    fixed: &[u32],
     turn: &Turn<'_, A>,
     changes: &mut Vec<MatchChange<A>, A>,
 ) -> Result<Ranks<A>, AllocError>
     requires { length readers.now ≤ 256 }
     ensures changes { OnOk result (map change_seen changes.new.items
-        ≡ map change_seen changes.old.items ++ column (has_rank turn.now.fixed.now)
+        ≡ map change_seen changes.old.items ++ column (has_rank fixed.now)
         turn.now.writer turn.now.locators.now (lent turn.now.before) (lent turn.now.after) 0
         readers.now) }
-    ensures ranks { IfOk result (λ ranks. ranks ≡ matched_from (has_rank turn.now.fixed.now)
+    ensures ranks { IfOk result (λ ranks. ranks ≡ matched_from (has_rank fixed.now)
         (lent turn.now.after) 0 readers.now) }
 {
+    let marks = marked(fixed);
     let mut matched = Vec::new(alloc);
     let mut rank = 0;
     for reader in readers {
-        if meet(alloc, rank, reader, turn, changes)? {
+        let is_fixed = marks[rank as usize];
+        if meet(alloc, Seat { rank, is_fixed }, reader, turn, changes)? {
             matched.push(rank)?;
         }
         rank += 1;

@@ -1,12 +1,12 @@
 //! What a participant knows of the others, event by event.
 
 ghost use Rattle.std.specs.Prelude.{◌≡◌, IfOk, IsErr, Ok, OnErr, OnOk, false, true};
-ghost use Rattle.std.specs.Map.{keys_of};
 ghost use Rattle.rtps_receiver.specs.Events.{view};
 ghost use Rattle.rtps_discovery.specs.Config.{check_of};
 ghost use Rattle.rtps_discovery.specs.Effects.{AreHeard};
 ghost use Rattle.rtps_discovery.specs.Kept.{IsKnown, matched_ranks};
 ghost use Rattle.rtps_discovery.specs.Known.{Known};
+ghost use Rattle.rtps_discovery.specs.Pairs.{AreKeptPairs, ArePairs};
 ghost use Rattle.rtps_discovery.specs.Records.{answered, changes_by, known_by};
 ghost use Rattle.rtps_discovery.specs.Start.{first_known};
 
@@ -14,11 +14,13 @@ use crate::config::Config;
 use crate::effects::DiscoveryEffects;
 use crate::hear::ranks_at;
 use crate::held::Held;
-use crate::known::{Participant, Writer};
+use crate::known::{Participant, Reader, Writer};
+use crate::pairs::pairs_of;
 use rtps_receiver::Event;
 use rtps_types::{Guid, GuidPrefix};
 use std::alloc::{AllocError, Allocator, Global};
-use std::collections::btree_map::Keys;
+use std::collections::BTreeSet;
+use std::collections::btree_map::{Iter, Keys};
 use std::marker::Model;
 
 /// What a participant of ours knows of the others (DDSI-RTPS 8.5): participants, their writers and
@@ -81,18 +83,38 @@ impl<A: Allocator + Copy> Discovery<A> {
         ranks_at(&self.held.ranks, writer)
     }
 
-    /// The known participants, in the order of their octets.
-    pub fn participants(&self) -> Keys<'_, GuidPrefix, Participant<A>>
-        ensures { result ≡ keys_of self.now.kept.participants }
+    /// The matches that there are: the rank of a reader of ours and a writer each, by rank and then
+    /// by the octets of the writer's guid. They are those that [`matched`](Discovery::matched)
+    /// answers by writers, also after a refused growth of [`step`](Discovery::step), when an event
+    /// may have been taken in by half. `AllocError` where memory is refused; nothing changes.
+    pub fn matches(&self, alloc: A) -> Result<BTreeSet<(u32, Guid), A>, AllocError>
+        ensures matches { (k : Known) → IsKnown k self.now.kept
+            → IfOk result (λ matches. ArePairs k matches.keys) }
+        ensures kept { IfOk result (λ matches. AreKeptPairs self.now.kept matches.keys) }
     {
-        self.held.participants.keys()
+        let pairs = pairs_of(alloc, &self.held.ranks)?;
+        Ok(pairs)
     }
 
-    /// The known writers, in the order of their octets.
-    pub fn writers(&self) -> Keys<'_, Guid, Writer<A>>
-        ensures { result ≡ keys_of self.now.kept.writers }
+    /// Our readers by rank, `None` where one went.
+    pub fn readers(&self) -> &[Option<Reader<A>>]
+        ensures { result.now ≡ self.now.kept.readers }
     {
-        self.held.writers.keys()
+        self.held.readers.as_slice()
+    }
+
+    /// The known participants, in the order of the octets of their prefixes.
+    pub fn participants(&self) -> Iter<'_, GuidPrefix, Participant<A>>
+        ensures { result ≡ self.now.kept.participants }
+    {
+        self.held.participants.iter()
+    }
+
+    /// The known writers, in the order of the octets of their guids.
+    pub fn writers(&self) -> Iter<'_, Guid, Writer<A>>
+        ensures { result ≡ self.now.kept.writers }
+    {
+        self.held.writers.iter()
     }
 
     /// The known readers of the others, in the order of their octets.

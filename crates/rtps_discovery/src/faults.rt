@@ -26,7 +26,7 @@ pub enum ConfigFault {
 }
 
 /// The most readers of a configuration.
-const READER_LIMIT: usize = 256;
+pub(crate) const READER_LIMIT: usize = 256;
 
 pub(crate) fn is_reader(entity: EntityId) -> bool
     ensures { result ≡ is_reader entity }

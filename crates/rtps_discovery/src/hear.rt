@@ -86,11 +86,11 @@ impl<A: Allocator + Copy> Held<A> {
         };
         let turn = Turn {
             writer,
-            fixed: ranks_at(&self.fixed, writer),
             locators,
             before: self.writers.get(&writer),
             after,
         };
-        rematch(alloc, &self.readers, &turn, changes)
+        let fixed = ranks_at(&self.fixed, writer);
+        rematch(alloc, &self.readers, fixed, &turn, changes)
     }
 }

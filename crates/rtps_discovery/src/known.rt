@@ -1,6 +1,7 @@
 //! What is kept of our readers, and of what participants announced (DDSI-RTPS 8.5).
 
 ghost use Rattle.std.specs.Prelude.{◌≡◌, ◌++◌, ◌∷◌, [], IfOk, IfErr};
+ghost use Rattle.rtps_discovery.specs.OneWriter.{has_rank};
 ghost use Rattle.rtps_discovery.specs.Seen.{offer_seen};
 
 use crate::announcement::Offer;
@@ -33,6 +34,36 @@ impl<A: Allocator> Model for Reader<A> {
     } };
 }
 
+impl<A: Allocator> Reader<A> {
+    pub fn entity(&self) -> EntityId
+        ensures { result ≡ self.now.entity }
+    {
+        self.entity
+    }
+
+    /// The name of the topic that it reads.
+    pub fn topic(&self) -> &str
+        ensures { result.now ≡ self.now.topic }
+    {
+        self.topic.as_str()
+    }
+
+    /// The name of the topic's type.
+    pub fn type_name(&self) -> &str
+        ensures { result.now ≡ self.now.type_name }
+    {
+        self.type_name.as_str()
+    }
+
+    /// The policies and the partitions that it asks for.
+    pub fn requested(&self) -> &Requested<A>
+        ensures policies { result.now.policies ≡ self.now.policies }
+        ensures partitions { result.now.partitions ≡ self.now.partitions }
+    {
+        &self.requested
+    }
+}
+
 /// A writer that was announced, and what it offers.
 #[derive(Drop)]
 pub struct Writer<A: Allocator = Global> {
@@ -58,6 +89,38 @@ impl<A: Allocator> Model for Writer<A> {
     } };
 }
 
+impl<A: Allocator> Writer<A> {
+    /// The name of the topic that it writes.
+    pub fn topic(&self) -> &str
+        ensures { result.now ≡ self.now.topic }
+    {
+        self.topic.as_str()
+    }
+
+    /// The name of the topic's type.
+    pub fn type_name(&self) -> &str
+        ensures { result.now ≡ self.now.type_name }
+    {
+        self.type_name.as_str()
+    }
+
+    /// The policies and the partitions that it offers.
+    pub fn offered(&self) -> &Offered<A>
+        ensures policies { result.now.policies ≡ self.now.policies }
+        ensures partitions { result.now.partitions ≡ self.now.partitions }
+    {
+        &self.offered
+    }
+
+    /// Where it is reached, if it gives locators of its own; else its participant's default
+    /// locators count.
+    pub fn locators(&self) -> &[Locator]
+        ensures { result.now ≡ self.now.locators }
+    {
+        self.locators.as_slice()
+    }
+}
+
 /// A participant that was announced.
 #[derive(Drop)]
 pub struct Participant<A: Allocator = Global> {
@@ -73,6 +136,22 @@ impl<A: Allocator> Model for Participant<A> {
     ghost Value = { Participant };
 
     ghost view = { λ p. record { locators = p.locators; lease = p.lease } };
+}
+
+impl<A: Allocator> Participant<A> {
+    /// Where its endpoints are reached that give no locators of their own.
+    pub fn locators(&self) -> &[Locator]
+        ensures { result.now ≡ self.now.locators }
+    {
+        self.locators.as_slice()
+    }
+
+    /// How long it may keep silent.
+    pub fn lease(&self) -> Duration
+        ensures { result ≡ self.now.lease }
+    {
+        self.lease
+    }
 }
 
 /// Ranks of readers, rising.
@@ -116,6 +195,12 @@ impl<A: Allocator> Ranks<A> {
         ensures { result.now ≡ self.now }
     {
         self.items.as_slice()
+    }
+
+    pub fn has(&self, rank: u32) -> bool
+        ensures { result ≡ has_rank self.now rank }
+    {
+        self.items.contains(&rank)
     }
 }
 

@@ -16,7 +16,7 @@ use crate::addressed::{
     ENTITYID_SEDP_BUILTIN_PUBLICATIONS_ANNOUNCER, ENTITYID_SEDP_BUILTIN_SUBSCRIPTIONS_ANNOUNCER,
     ENTITYID_UNKNOWN,
 };
-use crate::changes::{MatchChange, Turn, meet};
+use crate::changes::{MatchChange, Seat, Turn, meet};
 use crate::gone::Gone;
 use crate::hear::{put_ranks, ranks_at};
 use crate::held::Held;
@@ -106,12 +106,12 @@ fn hear_ends<A: Allocator + Copy>(
     for one in gone {
         let turn = Turn {
             writer: one.writer,
-            fixed: one.fixed.as_slice(),
             locators: &[],
             before: Some(&one.offer),
             after: None,
         };
-        let _matched = meet(alloc, rank, reader, &turn, changes)?;
+        let is_fixed = one.fixed.has(rank);
+        let _matched = meet(alloc, Seat { rank, is_fixed }, reader, &turn, changes)?;
     }
     Ok(())
 }

@@ -106,17 +106,16 @@ impl<A: Allocator + Copy> Held<A> {
     fn apply_change(
         &mut self,
         alloc: A,
-        source: GuidPrefix,
-        writer: EntityId,
+        writer: Guid,
         change: &Change<'_, A>,
         changes: &mut Vec<MatchChange<A>, A>,
     ) -> Result<(), AllocError>
         ensures { OnOk result (AppliesAll
-            (option_to_list (records.endpoint_in source writer (change_view change.now)))
-            (kept self.old) (kept self.new) (map change_seen changes.old.items)
-            (map change_seen changes.new.items)) }
+            (option_to_list (records.endpoint_in writer.prefix writer.entity
+            (change_view change.now))) (kept self.old) (kept self.new)
+            (map change_seen changes.old.items) (map change_seen changes.new.items)) }
     {
-        let Some(announcement) = endpoint_in(source, writer, change) else {
+        let Some(announcement) = endpoint_in(writer.prefix, writer.entity, change) else {
             return Ok(());
         };
         self.apply(alloc, announcement, changes)?;
@@ -127,18 +126,17 @@ impl<A: Allocator + Copy> Held<A> {
     fn apply_ready(
         &mut self,
         alloc: A,
-        source: GuidPrefix,
-        writer: EntityId,
+        writer: Guid,
         ready: &[Change<'_, A>],
         changes: &mut Vec<MatchChange<A>, A>,
     ) -> Result<(), AllocError>
         ensures { OnOk result (AppliesAll
-            (flat_map (λ s. option_to_list (records.endpoint_in source writer s))
+            (flat_map (λ s. option_to_list (records.endpoint_in writer.prefix writer.entity s))
             (map change_view ready.now)) (kept self.old) (kept self.new)
             (map change_seen changes.old.items) (map change_seen changes.new.items)) }
     {
         for change in ready {
-            self.apply_change(alloc, source, writer, change, changes)?;
+            self.apply_change(alloc, writer, change, changes)?;
         }
         Ok(())
     }
@@ -191,13 +189,7 @@ impl<A: Allocator + Copy> Held<A> {
             return Ok(DiscoveryEffects::none(alloc));
         };
         let mut changes = Vec::new(alloc);
-        self.apply_ready(
-            alloc,
-            event.source,
-            event.writer,
-            effects.ready.as_slice(),
-            &mut changes,
-        )?;
+        self.apply_ready(alloc, writer, effects.ready.as_slice(), &mut changes)?;
         Ok(DiscoveryEffects {
             changes,
             answer: effects.answer,

@@ -49,12 +49,11 @@ fn rising<A: Allocator + Copy>(
     let mut changes = Vec::new(alloc);
     let turn = Turn {
         writer,
-        fixed: ranks,
         locators: &[],
         before: None,
         after: None,
     };
-    rematch(alloc, readers, &turn, &mut changes)
+    rematch(alloc, readers, ranks, &turn, &mut changes)
 }
 
 /// By writers, the ranks of the readers that pairs join to them, rising.

@@ -37,24 +37,26 @@ fn one_reader(alloc: Global) -> Result<Discovery, Fail> {
     Ok(Discovery::new(alloc, &config)?)
 }
 
-/// Takes in a change of theirs, and gives the changes of our matches, as `Some` for what becomes of
-/// the writer, and whether a match begins.
-fn tell(
-    alloc: Global,
-    discovery: &mut Discovery,
+/// A change of one of their announcers.
+#[derive(Clone, Copy)]
+struct Said<'a> {
     writer: EntityId,
     number: u64,
-    change: (Form, u8, &[u8]),
-) -> Result<Vec<Becomes>, Fail> {
-    let (form, status, payload) = change;
+    form: Form,
+    status: u8,
+    payload: &'a [u8],
+}
+
+/// Takes in a change of theirs, and gives what becomes of the writers at our reader.
+fn hear(alloc: Global, discovery: &mut Discovery, said: Said<'_>) -> Result<Vec<Becomes>, Fail> {
     let whole = Whole {
-        number: Number::new(number).ok_or("no number")?,
+        number: Number::new(said.number).ok_or("no number")?,
         info: ChangeInfo {
-            form,
-            status,
+            form: said.form,
+            status: said.status,
             hash: None,
         },
-        payload,
+        payload: said.payload,
     };
     let event = Event {
         place: Place {
@@ -63,7 +65,7 @@ fn tell(
         },
         source: THEIRS,
         time: None,
-        writer,
+        writer: said.writer,
         reader: ENTITYID_UNKNOWN,
         body: Body::Whole(whole),
     };
@@ -79,16 +81,24 @@ fn tell(
 fn a_writer_is_matched_until_its_participant_leaves(rt: HostRuntime) -> Result<(), Fail> {
     let alloc = rt.alloc();
     let mut discovery = one_reader(alloc)?;
-    let spdp = ENTITYID_SPDP_BUILTIN_PARTICIPANT_ANNOUNCER;
-    let sedp = ENTITYID_SEDP_BUILTIN_PUBLICATIONS_ANNOUNCER;
     let writer = octets_of(alloc, WRITER)?;
-    let record = (Form::Value, 0, writer.as_slice());
+    let record = Said {
+        writer: ENTITYID_SEDP_BUILTIN_PUBLICATIONS_ANNOUNCER,
+        number: 1,
+        form: Form::Value,
+        status: 0,
+        payload: writer.as_slice(),
+    };
     // Nobody is heard whose participant isn't known.
-    assert!(rt; tell(alloc, &mut discovery, sedp, 1, record)?.is_empty());
+    assert!(rt; hear(alloc, &mut discovery, record)?.is_empty());
     let participant = octets_of(alloc, PARTICIPANT)?;
-    let comes = (Form::Value, 0, participant.as_slice());
-    assert!(rt; tell(alloc, &mut discovery, spdp, 1, comes)?.is_empty());
-    let heard = tell(alloc, &mut discovery, sedp, 1, record)?;
+    let comes = Said {
+        writer: ENTITYID_SPDP_BUILTIN_PARTICIPANT_ANNOUNCER,
+        payload: participant.as_slice(),
+        ..record
+    };
+    assert!(rt; hear(alloc, &mut discovery, comes)?.is_empty());
+    let heard = hear(alloc, &mut discovery, record)?;
     let [Becomes::Match(matched, locators)] = heard.as_slice() else {
         return Err(Fail::new("no match"));
     };
@@ -100,9 +110,19 @@ fn a_writer_is_matched_until_its_participant_leaves(rt: HostRuntime) -> Result<(
     assert_eq!(rt; locators.as_slice(), [default].as_slice());
     assert_eq!(rt; discovery.matched(SQUARES), [0].as_slice());
     // The same record again changes nothing.
-    assert!(rt; tell(alloc, &mut discovery, sedp, 2, record)?.is_empty());
-    let leaves = (Form::Nothing, 1, [].as_slice());
-    let heard = tell(alloc, &mut discovery, spdp, 9, leaves)?;
+    let again = Said {
+        number: 2,
+        ..record
+    };
+    assert!(rt; hear(alloc, &mut discovery, again)?.is_empty());
+    let leaves = Said {
+        number: 9,
+        form: Form::Nothing,
+        status: 1,
+        payload: &[],
+        ..comes
+    };
+    let heard = hear(alloc, &mut discovery, leaves)?;
     let [Becomes::Unmatch(ended)] = heard.as_slice() else {
         return Err(Fail::new("no end"));
     };

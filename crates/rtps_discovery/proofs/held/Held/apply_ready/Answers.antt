@@ -19,7 +19,7 @@ loop-change-preserved g c = λ k is.
     let ready = c.args.ready.now in
     let left = drop (i + 1) ready in
     let cut : drop i ready ≡ change ∷ left = drop_more ready i change c.loop-change-test.true ∙ ap (λ (x : Change g.row.A.Denot). x ∷ left) (sym c.change-item.is) in
-    let said : Sample → List Announcement = λ s. option_to_list (endpoint_in c.args.source c.args.writer s) in
+    let said : Sample → List Announcement = λ s. option_to_list (endpoint_in c.args.writer.prefix c.args.writer.entity s) in
     let all = flat_map said (map change_view ready) in
     let earlier = map change_seen c.args.changes.now.items in
     let told = map change_seen c.loop-change.changes.items in
@@ -32,7 +32,7 @@ pub returns : goal.returns
 returns g c =
     let i = c.loop-change.change-index in
     let ready = c.args.ready.now in
-    let said : Sample → List Announcement = λ s. option_to_list (endpoint_in c.args.source c.args.writer s) in
+    let said : Sample → List Announcement = λ s. option_to_list (endpoint_in c.args.writer.prefix c.args.writer.entity s) in
     let all = flat_map said (map change_view ready) in
     let earlier = map change_seen c.args.changes.now.items in
     let told = map change_seen c.loop-change.changes.items in

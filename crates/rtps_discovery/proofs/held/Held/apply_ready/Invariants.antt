@@ -12,5 +12,5 @@ use Rattle.rtps_discovery.proofs.held.Held.apply_ready.Given as goal
 -- what is applied so far, with what the changes that are left say, comes to what all say
 abbrev pub invariant-loop-change : goal.invariant-loop-change
 invariant-loop-change g l = (k : Known) → IsKnown k (kept l.fn.self)
-    → Onward k (flat_map (λ s. option_to_list (endpoint_in l.source l.writer s)) (map change_view (drop l.change-index l.ready)))
-    (flat_map (λ s. option_to_list (endpoint_in l.source l.writer s)) (map change_view l.ready)) (kept l.self) (map change_seen l.fn.changes.items) (map change_seen l.changes.items)
+    → Onward k (flat_map (λ s. option_to_list (endpoint_in l.writer.prefix l.writer.entity s)) (map change_view (drop l.change-index l.ready)))
+    (flat_map (λ s. option_to_list (endpoint_in l.writer.prefix l.writer.entity s)) (map change_view l.ready)) (kept l.self) (map change_seen l.fn.changes.items) (map change_seen l.changes.items)
