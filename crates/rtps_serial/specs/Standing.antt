@@ -3,6 +3,7 @@ use Rattle.std.specs.Prelude.{◌≡◌, ◌+◌, ◌^◌, ◌<◌, ◌≤◌, f
 use Rattle.dds_topic.specs.Decoding.{Decoding}
 use Rattle.rtps_discovery.specs.declared.config.Config.{Config}
 use Rattle.rtps_discovery.specs.declared.faults.ConfigFault.{ConfigFault}
+use Rattle.rtps_discovery.specs.Kept.{DiscoveryKept, IsKnown}
 use Rattle.rtps_reader.specs.declared.notice.Notice.{Notice}
 use Rattle.rtps_reader.specs.declared.status.Status.{Status}
 use Rattle.rtps_reader.specs.Reader.{Reader}
@@ -22,6 +23,7 @@ pub record EngineKept (C : Type 0) : Type 0 where
   -- how many datagrams were taken
   pub index : ℕ
   pub failed : Bool
+  pub discovery : DiscoveryKept
   -- by rank, and the statuses after the last datagram that was taken
   pub readers : List ReaderKept
   pub statuses : List Status
@@ -63,6 +65,7 @@ pub record StandsAt {C M : Type 0} (decoding : C → Decoding M) (datagrams : Li
     (engine : EngineKept C) : Type 0 where
   pub sound : engine.failed ≡ false
   pub index : engine.index ≡ length datagrams
+  pub known : IsKnown (run_by decoding engine datagrams).known engine.discovery.kept
   pub count : length engine.readers ≡ length engine.config.readers.items
   pub readers : AllStand (run_by decoding engine datagrams) engine.readers
   pub shows : ShowsAt decoding datagrams engine
@@ -89,7 +92,7 @@ Refuses Failed engine = engine.failed ≡ true
 Refuses Spent engine = (engine.failed ≡ false) × (datagram_limit ≤ engine.index)
 Refuses NoMemory engine = ⊥
 
--- only the readers have changed
+-- only discovery and the readers have changed
 pub record IsSteppedFrom {C : Type 0} (old new : EngineKept C) : Type 0 where
   pub catalog : new.catalog ≡ old.catalog
   pub config : new.config ≡ old.config
@@ -104,6 +107,7 @@ pub record IsFinishedFrom {C : Type 0} (old new : EngineKept C) : Type 0 where
   pub config : new.config ≡ old.config
   pub index : new.index ≡ old.index + 1
   pub sound : new.failed ≡ false
+  pub discovery : new.discovery ≡ old.discovery
   pub readers : new.readers ≡ old.readers
   pub count : length new.statuses ≡ length old.statuses
   pub statuses : (rank : ℕ) (s : Status) (r : ReaderKept) → rank < length old.readers
