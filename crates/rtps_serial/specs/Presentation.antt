@@ -128,14 +128,18 @@ stretches writer since (n ∷ ns) =
 abbrev pub events_after : Place → List Happening → List Happening
 events_after place events = filter (λ e. not (not_after e.place place)) events
 
+-- these samples are presented against the submessages since a match began, none where there is none
+abbrev pub PresentedSince : {M : Type 0} → Decoding M → List Happening → List (Shown M) → Since
+    → Type 0
+PresentedSince decoding events samples TheStart = ArePresented decoding events samples
+PresentedSince decoding events samples (ThePlace place) =
+    ArePresented decoding (events_after place events) samples
+PresentedSince decoding events samples Never = samples ≡ []
+
 -- the samples of a stretch are presented against the submessages since its match began; where
 -- nothing is matched there are none
-abbrev pub PresentedSince : {M : Type 0} → Decoding M → List Happening → Since → List (Shown M)
-    → Type 0
-PresentedSince decoding events TheStart samples = ArePresented decoding events samples
-PresentedSince decoding events (ThePlace place) samples =
-    ArePresented decoding (events_after place events) samples
-PresentedSince decoding events Never samples = samples ≡ []
+abbrev pub IsPresented : {M : Type 0} → Decoding M → List Happening → Stretch M → Type 0
+IsPresented decoding events s = PresentedSince decoding events s.samples s.since
 
 -- the reader of a rank is matched with a writer from the start
 abbrev pub is_fixed : Config → ℕ → Guid → Bool

@@ -1,7 +1,8 @@
 -- What is seen of a run: each reader's notices, the answers, the statuses and the matches.
-use Rattle.std.specs.Prelude.{ℕ, zero, suc, List, [], ◌∷◌, map, Bool, ◌&&◌, Option, Some, None, nat_lt, ◌==◌, if◌then◌else◌, is_some, length}
+use Rattle.std.specs.Prelude.{◌≡◌, ◌<◌, ℕ, zero, suc, List, [], ◌∷◌, map, Bool, ◌&&◌, Option, Some, None, nat_lt, ◌==◌, if◌then◌else◌, is_some, length}
 use Rattle.std.specs.List.{list_any}
 use Rattle.rtps_types.specs.declared.identity.Guid.{Guid}
+use Rattle.rtps_discovery.specs.Known.{is_matched}
 use Rattle.rtps_reader.specs.declared.status.Status.{Status}
 use Rattle.rtps_reader.specs.Listed.{with_writers}
 use Rattle.rtps_reader.specs.declared.notice.Notice.{Notice}
@@ -50,4 +51,10 @@ is_listed listed rank writer = list_any (λ m. m.0 == rank && same_guid m.1 writ
 
 -- there is a reader of the rank, and it is matched with the writer
 abbrev pub is_matched_at : {M : Type 0} → World M → ℕ → Guid → Bool
-is_matched_at w rank writer = nat_lt rank (reader_count w) && is_some (match_with writer (w.readers rank).matches)
+is_matched_at w rank writer =
+    nat_lt rank (reader_count w) && is_some (match_with writer (w.readers rank).matches)
+
+-- each reader is matched with just the writers that it matches by what is known
+abbrev pub Agrees : {M : Type 0} → World M → Type 0
+Agrees w = (rank : ℕ) (writer : Guid) → rank < reader_count w
+    → is_some (match_with writer (w.readers rank).matches) ≡ is_matched w.known rank writer
