@@ -1,7 +1,6 @@
 -- The world and its step (DDSI-RTPS 8.3.4, 8.4.10, 8.5): what is known of the others, every reader by
 -- its rank, and all that was put out, in the order in which it came.
 use Rattle.std.specs.Prelude.{ℕ, zero, suc, List, [], ◌∷◌, ◌++◌, length, map, filter, Option, Some, None, ◌==◌, if◌then◌else◌}
-use Rattle.rtps_types.specs.declared.identity.EntityId.{EntityId}
 use Rattle.rtps_types.specs.declared.locator.Locator.{Locator}
 use Rattle.rtps_types.specs.declared.place.Place.{Place}
 use Rattle.rtps_receiver.specs.Events.{Happening}
@@ -100,5 +99,5 @@ world_after decoding w e = record {
   known = known_after_event w.known e;
   readers = λ rank. reader_run (w.readers rank) (doings w.known rank e);
   put = w.put ++ (discovery_puts w.known e
-  ++ puts_below decoding w.known e w.readers (length w.known.readers));
+      ++ puts_below decoding w.known e w.readers (length w.known.readers));
 }
