@@ -7,7 +7,7 @@ use Rattle.rtps_reader.specs.Notices.{notice_view}
 use Rattle.rtps_serial.specs.declared.outcome.Answer.{Answer}
 use Rattle.rtps_serial.specs.declared.outcome.Outcome.{Outcome}
 use Rattle.rtps_serial.specs.Outcome.{Adds, Deals, answer_view, notices_in}
-use Rattle.rtps_serial.specs.Seen.{answers_in, notices_by}
+use Rattle.rtps_serial.specs.Seen.{answers_in, notices_by, reader_count}
 use Rattle.rtps_serial.specs.World.{Put, Hears, Sends, World}
 
 one_more : {X : Type 0} (b : Bool) (x : X) (xs ys : List X) → (if b then x ∷ (xs ++ ys) else xs ++ ys) ≡ (if b then x ∷ xs else xs) ++ ys
@@ -53,7 +53,7 @@ deal_answer f count put old new a dealt same pushed = record {
 
 -- what a world has put out more than another is what was dealt out
 pub adds_dealt : {V M A : Type 0} (f : V → M) (before after : World M) (count : ℕ) (put : List (Put M)) (outcome : Outcome V A)
-    → after.count ≡ count → after.put ≡ before.put ++ put → Deals f count put outcome → Adds f before after outcome
+    → reader_count after ≡ count → after.put ≡ before.put ++ put → Deals f count put outcome → Adds f before after outcome
 adds_dealt f before after count put outcome e more dealt = record {
   readers = dealt.readers ∙ sym e;
   notices = λ rank other below. ap (notices_by rank) more ∙ notices_by-append rank before.put put ∙ ap (λ l. notices_by rank before.put ++ l) (sym (dealt.notices rank other (rw (sym e) below)));

@@ -1,75 +1,110 @@
--- A reader that an event isn't addressed to puts out nothing at it and stays as it is.
-use Rattle.std.proofs.Common.{◌≡◌, ℕ, zero, suc, ◌+◌, arith, List, [], ◌∷◌, ◌++◌, map, Bool, true, false, not, ◌&&◌, ◌||◌, if◌then◌else◌, Option, Some, None, refl, sym, ap, true≢false}
-use Rattle.rtps_types.specs.declared.identity.Guid.{Guid}
-use Rattle.rtps_proxy.specs.History.{Came}
-use Rattle.rtps_proxy.specs.Matches.{Match, extended, match_with, same_guid}
+-- Steps one after the other, and the readers that an event is for.
+use Rattle.std.proofs.Common.{◌≡◌, ℕ, ◌+◌, ◌<◌, ◌≤◌, ◌==◌, nat_lt, List, [], ◌∷◌, ◌++◌, length, map, take, get_or, Bool, true, false, if◌then◌else◌, refl, sym, ap, ◌∙◌, arith, true≢false}
+use Rattle.std.specs.Prelude.{filter}
+use Rattle.std.proofs.lemmas.Bool.Decides.{nat_tests}
+use Rattle.std.proofs.lemmas.List.{map-append, take_more}
+use Rattle.std.proofs.lemmas.List.Elements.{filter-append}
+use Rattle.rtps_types.specs.declared.place.Place.{Place}
 use Rattle.rtps_receiver.specs.Events.{Happening}
-use Rattle.rtps_discovery.specs.Addressed.{is_discovery, is_for, writer_of}
+use Rattle.rtps_discovery.specs.Addressed.{is_for}
 use Rattle.dds_topic.specs.Decoding.{Decoding}
-use Rattle.rtps_reader.specs.Reader.{Reader, reader_after, sends, tells}
-use Rattle.rtps_reader.specs.Steps.{asks_of}
-use Rattle.rtps_serial.specs.Presentation.{came_of}
-use Rattle.rtps_serial.specs.World.{Hears, is_matched, puts, puts_below, reader_by, sent_by}
+use Rattle.rtps_reader.specs.Reader.{Reader, reader_after}
+use Rattle.rtps_reader.specs.Standing.{ReaderKept}
+use Rattle.rtps_reader.specs.Steps.{Doing, Takes, Begins, Ends, Refused, asks_of}
+use Rattle.rtps_serial.specs.declared.outcome.Report.{Report}
+use Rattle.rtps_serial.specs.Standing.{ReadersStand}
+use Rattle.rtps_serial.specs.Steps.{ReaderStep, event_steps, step_by, steps_run, world_stepped}
+use Rattle.rtps_serial.specs.World.{Put, World}
+use Rattle.rtps_serial.proofs.Stepped.{no_step_stands}
 
-none_first : (b more : Bool) (p : Match) (q : Option Match) → (b || more) ≡ false → (more ≡ false → q ≡ None) → (if b then Some p else q) ≡ None
-none_first true more p q h f = absurd (true≢false h)
-none_first false more p q h f = f h
+pub steps_run-append : {M : Type 0} (d : Decoding M) (place : Place) (w : World M) (xs ys : List ReaderStep) → steps_run d place w (xs ++ ys) ≡ steps_run d place (steps_run d place w xs) ys
+steps_run-append d place w [] ys = refl
+steps_run-append d place w (x ∷ xs) ys = steps_run-append d place (world_stepped d place w x) xs ys
 
--- nothing came for a writer that isn't matched
-none_of : (ms : List Match) (w : Guid) → is_matched ms w ≡ false → match_with w ms ≡ None
-none_of [] w h = refl
-none_of (m ∷ ms) w h = none_first (same_guid m.whom.writer w) (is_matched ms w) m (match_with w ms) h (none_of ms w)
+-- one step more
+pub steps_more : {M : Type 0} (d : Decoding M) (place : Place) (w : World M) (ss : List ReaderStep) (i : ℕ) (other : ReaderStep) → i < length ss
+    → steps_run d place w (take (i + 1) ss) ≡ world_stepped d place (steps_run d place w (take i ss)) (get_or ss i other)
+steps_more d place w ss i other h = ap (steps_run d place w) (take_more ss i other h) ∙ steps_run-append d place w (take i ss) (get_or ss i other ∷ [])
 
-same_first : (b more : Bool) (m x : Match) (ms l : List Match) → (b || more) ≡ false → (more ≡ false → l ≡ ms) → (if b then x ∷ ms else m ∷ l) ≡ m ∷ ms
-same_first true more m x ms l h f = absurd (true≢false h)
-same_first false more m x ms l h f = ap (λ k. m ∷ k) (f h)
+-- a reader stays who it is
+pub same_entity : (r : Reader) (what : Doing) → (reader_after r what).entity ≡ r.entity
+same_entity r (Takes w e) = refl
+same_entity r (Begins w locators) = refl
+same_entity r (Ends w) = refl
+same_entity r (Refused w policy) = refl
 
-same_matches : (ms : List Match) (w : Guid) (e : Came) → is_matched ms w ≡ false → extended w e ms ≡ ms
-same_matches [] w e h = refl
-same_matches (m ∷ ms) w e h = same_first (same_guid m.whom.writer w) (is_matched ms w) m (record { whom = m.whom; past = e ∷ m.past }) ms (extended w e ms) h (same_matches ms w e)
+entity_if : (b : Bool) (r : Reader) (what : Doing) → (if b then reader_after r what else r).entity ≡ r.entity
+entity_if true r what = same_entity r what
+entity_if false r what = refl
 
--- a test of three parts, of which the first says nothing and the last holds, or fails
-chosen : {X : Type 0} (d m n : Bool) (x y : X) → d ≡ false → n ≡ true → (m ≡ false → x ≡ y) → (if not d && (m && n) then x else y) ≡ x
-chosen true m n x y h k s = absurd (true≢false h)
-chosen false true true x y h k s = refl
-chosen false true false x y h k s = absurd (true≢false (sym k))
-chosen false false n x y h k s = sym (s refl)
+pub entity_stays : {M : Type 0} (d : Decoding M) (place : Place) (w : World M) (ss : List ReaderStep) (rank : ℕ) → ((steps_run d place w ss).readers rank).entity ≡ (w.readers rank).entity
+entity_stays d place w [] rank = refl
+entity_stays d place w (s ∷ ss) rank = entity_stays d place (world_stepped d place w s) ss rank ∙ entity_if (s.rank == rank) (w.readers rank) s.what
 
-left : {X : Type 0} (d m n : Bool) (x y : X) → n ≡ false → (if not d && (m && n) then x else y) ≡ y
-left true m n x y h = refl
-left false true true x y h = absurd (true≢false h)
-left false true false x y h = refl
-left false false n x y h = refl
+event_steps-append : {M : Type 0} (w : World M) (e : Happening) (xs ys : List ℕ) → event_steps w e (xs ++ ys) ≡ event_steps w e xs ++ event_steps w e ys
+event_steps-append w e xs ys =
+    ap (map (λ rank. step_by rank (asks_of e))) (filter-append (λ rank. is_for e.reader (w.readers rank).entity) xs ys)
+    ∙ map-append (λ rank. step_by rank (asks_of e)) (filter (λ rank. is_for e.reader (w.readers rank).entity) xs) (filter (λ rank. is_for e.reader (w.readers rank).entity) ys)
 
--- a reader takes in what is for it
-pub reader_taken : (e : Happening) (r : Reader) → is_discovery e.writer ≡ false → is_for e.reader r.entity ≡ true → reader_by e r ≡ reader_after r (asks_of e)
-reader_taken e r other meant =
-    chosen (is_discovery e.writer) (is_matched r.matches (writer_of e)) (is_for e.reader r.entity) (reader_after r (asks_of e)) r other meant
-    (λ no. rw (same_matches r.matches (writer_of e) (came_of e) no) refl)
+-- one rank more of those that an event may be for
+pub ranks_more : {M : Type 0} (d : Decoding M) (place : Place) (w : World M) (e : Happening) (ranks : List ℕ) (i : ℕ) (rank : ℕ) → i < length ranks → get_or ranks i rank ≡ rank
+    → steps_run d place w (event_steps w e (take (i + 1) ranks)) ≡ steps_run d place (steps_run d place w (event_steps w e (take i ranks))) (event_steps w e (rank ∷ []))
+ranks_more d place w e ranks i rank h is =
+    ap (λ l. steps_run d place w (event_steps w e l)) (take_more ranks i rank h ∙ ap (λ k. take i ranks ++ k ∷ []) is)
+    ∙ ap (steps_run d place w) (event_steps-append w e (take i ranks) (rank ∷ []))
+    ∙ steps_run-append d place w (event_steps w e (take i ranks)) (event_steps w e (rank ∷ []))
 
--- and nothing else
-pub reader_left : (e : Happening) (r : Reader) → is_for e.reader r.entity ≡ false → reader_by e r ≡ r
-reader_left e r other = left (is_discovery e.writer) (is_matched r.matches (writer_of e)) (is_for e.reader r.entity) (reader_after r (asks_of e)) r other
+-- some state, where there is one at a rank
+pub some_of : (states : List ReaderKept) (rank : ℕ) → rank < length states → ReaderKept
+some_of [] rank below = absurd (omega arith)
+some_of (s ∷ states) rank below = s
 
--- what it puts out are its notices, and then what it sends
-pub puts_told : {M : Type 0} (decoding : Decoding M) (e : Happening) (rank : ℕ) (r : Reader) → is_discovery e.writer ≡ false → is_for e.reader r.entity ≡ true
-    → puts decoding e rank r ≡ map (Hears rank) (tells decoding r e.place (asks_of e)) ++ map (sent_by rank) (sends r e.place (asks_of e))
-puts_told decoding e rank r other meant =
-    chosen (is_discovery e.writer) (is_matched r.matches (writer_of e)) (is_for e.reader r.entity) (map (Hears rank) (tells decoding r e.place (asks_of e)) ++ map (sent_by rank) (sends r e.place (asks_of e))) [] other meant
-    (λ no. rw (none_of r.matches (writer_of e) no) refl)
+record IsTest {V M A : Type 0} (view : V → M) (w v : World M) (e : Happening) (earlier : List (Put M)) (states : List ReaderKept) (reports : List (Report V A)) (rank : ℕ) (test : Bool) : Type 0 where
+  stands : ReadersStand view v earlier states reports
+  entity : (v.readers rank).entity ≡ (w.readers rank).entity
+  named : (other : ReaderKept) → rank < length states → test ≡ is_for e.reader (get_or states rank other).entity
+  past : length states ≤ rank → test ≡ false
 
-pub puts_none : {M : Type 0} (decoding : Decoding M) (e : Happening) (rank : ℕ) (r : Reader) → is_for e.reader r.entity ≡ false → puts decoding e rank r ≡ []
-puts_none decoding e rank r other =
-    left (is_discovery e.writer) (is_matched r.matches (writer_of e)) (is_for e.reader r.entity) (map (Hears rank) (tells decoding r e.place (asks_of e)) ++ map (sent_by rank) (sends r e.place (asks_of e))) [] other
+-- the test that is made of the state of a rank is the one of its reader
+tested : {V M A : Type 0} (view : V → M) (w v : World M) (e : Happening) (earlier : List (Put M)) (states : List ReaderKept) (reports : List (Report V A)) (rank : ℕ) (test : Bool)
+    → IsTest view w v e earlier states reports rank test → rank < length states → test ≡ is_for e.reader (w.readers rank).entity
+tested view w v e earlier states reports rank test h below =
+    let state = get_or states rank (some_of states rank below) in
+    let one = h.stands.readers rank (some_of states rank below) below in
+    h.named (some_of states rank below) below ∙ ap (is_for e.reader) (one.stands.entity ∙ h.entity)
 
--- an announcer's event changes no reader, and none puts out anything
-pub reader_quiet : (e : Happening) (r : Reader) → is_discovery e.writer ≡ true → reader_by e r ≡ r
-reader_quiet e r h = rw h refl
+-- an event is for the reader of a rank
+pub named_step : {V M A : Type 0} (view : V → M) (w v : World M) (e : Happening) (earlier : List (Put M)) (states : List ReaderKept) (reports : List (Report V A)) (rank : ℕ) (test : Bool)
+    → ReadersStand view v earlier states reports → (v.readers rank).entity ≡ (w.readers rank).entity
+    → ((other : ReaderKept) → rank < length states → test ≡ is_for e.reader (get_or states rank other).entity) → (length states ≤ rank → test ≡ false)
+    → test ≡ true → event_steps w e (rank ∷ []) ≡ step_by rank (asks_of e) ∷ []
+named_step view w v e earlier states reports rank test stands entity named past is = by_test (nat_lt rank (length states)) refl
+  where
+    by_test : (b : Bool) → nat_lt rank (length states) ≡ b → event_steps w e (rank ∷ []) ≡ step_by rank (asks_of e) ∷ []
+    by_test true less =
+        let below : rank < length states = grind (arith, nat_tests) in
+        let meant : is_for e.reader (w.readers rank).entity ≡ true = sym (tested view w v e earlier states reports rank test (record { stands = stands; entity = entity; named = named; past = past }) below) ∙ is in
+        rw meant refl
+    by_test false less =
+        let above : length states ≤ rank = grind (arith, nat_tests) in
+        absurd (true≢false (sym is ∙ past above))
 
-pub none_put : {M : Type 0} (decoding : Decoding M) (e : Happening) (readers : ℕ → Reader) (n : ℕ) → is_discovery e.writer ≡ true → puts_below decoding e readers n ≡ []
-none_put decoding e readers zero h = refl
-none_put decoding e readers (suc n) h = rw (none_put decoding e readers n h, h) refl
+-- or it isn't, or there is no reader of the rank
+pub unnamed_step : {V M A : Type 0} (view : V → M) (d : Decoding M) (place : Place) (w v : World M) (e : Happening) (earlier : List (Put M)) (states : List ReaderKept) (reports : List (Report V A)) (rank : ℕ) (test : Bool)
+    → ReadersStand view v earlier states reports → (v.readers rank).entity ≡ (w.readers rank).entity
+    → ((other : ReaderKept) → rank < length states → test ≡ is_for e.reader (get_or states rank other).entity) → (length states ≤ rank → test ≡ false)
+    → test ≡ false → ReadersStand view (steps_run d place v (event_steps w e (rank ∷ []))) earlier states reports
+unnamed_step view d place w v e earlier states reports rank test stands entity named past is = by_test (nat_lt rank (length states)) refl
+  where
+    if_past : (b : Bool) → length states ≤ rank → ReadersStand view (steps_run d place v (map (λ rank. step_by rank (asks_of e)) (if b then rank ∷ [] else []))) earlier states reports
+    if_past true above = no_step_stands view d place v earlier (step_by rank (asks_of e)) states reports stands above
+    if_past false above = stands
 
--- one rank more
-pub puts_more : {M : Type 0} (decoding : Decoding M) (e : Happening) (readers : ℕ → Reader) (n : ℕ) → puts_below decoding e readers (n + 1) ≡ puts_below decoding e readers n ++ puts decoding e n (readers n)
-puts_more decoding e readers n = let next : n + 1 ≡ suc n = omega arith in ap (puts_below decoding e readers) next
+    by_test : (b : Bool) → nat_lt rank (length states) ≡ b → ReadersStand view (steps_run d place v (event_steps w e (rank ∷ []))) earlier states reports
+    by_test true less =
+        let below : rank < length states = grind (arith, nat_tests) in
+        let meant : is_for e.reader (w.readers rank).entity ≡ false = sym (tested view w v e earlier states reports rank test (record { stands = stands; entity = entity; named = named; past = past }) below) ∙ is in
+        rw meant stands
+    by_test false less =
+        let above : length states ≤ rank = grind (arith, nat_tests) in
+        if_past (is_for e.reader (w.readers rank).entity) above

@@ -1,13 +1,20 @@
 -- The run, one event and one datagram more.
-use Rattle.std.proofs.Common.{◌≡◌, ℕ, ◌+◌, ◌<◌, List, [], ◌∷◌, ◌++◌, length, take, get_or, refl, sym, ap, ◌∙◌, append_assoc, append-nil, arith}
+use Rattle.std.proofs.Common.{◌≡◌, ℕ, zero, suc, ◌+◌, ◌<◌, List, [], ◌∷◌, ◌++◌, length, map, take, Some, get_or, refl, sym, ap, ◌∙◌, append_assoc, append-nil, arith}
 use Rattle.std.proofs.Math.Seq.{take-append_seam}
-use Rattle.std.proofs.lemmas.List.{take_more}
+use Rattle.std.specs.Option.{option_map}
+use Rattle.std.proofs.lemmas.List.{length-map, take_more}
 use Rattle.rtps_types.specs.declared.identity.GuidPrefix.{GuidPrefix}
 use Rattle.rtps_receiver.specs.Events.{Happening, events_of}
 use Rattle.rtps_discovery.specs.declared.config.Config.{Config}
+use Rattle.rtps_discovery.specs.declared.config.ReaderConfig.{ReaderConfig}
+use Rattle.rtps_discovery.specs.Known.{Wish, reader_at}
+use Rattle.rtps_discovery.specs.Start.{reader_of}
 use Rattle.dds_topic.specs.Decoding.{Decoding}
 use Rattle.rtps_serial.specs.World.{World, world_after}
-use Rattle.rtps_serial.specs.Run.{events_from, first_world, run, world_run}
+use Rattle.rtps_serial.specs.Run.{entity_of, events_from, first_world, run, world_run}
+use Rattle.rtps_serial.specs.Seen.{reader_count}
+use Rattle.rtps_serial.specs.Standing.{AllKnown}
+use Rattle.rtps_serial.proofs.Routed.{named_after, readers_stay}
 
 pub world_run-append : {M : Type 0} (decoding : Decoding M) (w : World M) (xs ys : List Happening) → world_run decoding w (xs ++ ys) ≡ world_run decoding (world_run decoding w xs) ys
 world_run-append decoding w [] ys = refl
@@ -18,9 +25,10 @@ pub world_run_more : {M : Type 0} (decoding : Decoding M) (w : World M) (es : Li
     → world_run decoding w (take (i + 1) es) ≡ world_after decoding (world_run decoding w (take i es)) (get_or es i d)
 world_run_more decoding w es i d h = ap (world_run decoding w) (take_more es i d h) ∙ world_run-append decoding w (take i es) (get_or es i d ∷ [])
 
-pub count_stays : {M : Type 0} (decoding : Decoding M) (w : World M) (es : List Happening) → (world_run decoding w es).count ≡ w.count
+-- no event changes how many readers there are
+pub count_stays : {M : Type 0} (decoding : Decoding M) (w : World M) (es : List Happening) → reader_count (world_run decoding w es) ≡ reader_count w
 count_stays decoding w [] = refl
-count_stays decoding w (e ∷ es) = count_stays decoding (world_after decoding w e) es
+count_stays decoding w (e ∷ es) = count_stays decoding (world_after decoding w e) es ∙ ap length (readers_stay w.known e)
 
 events_from-append : (own : GuidPrefix) (n : ℕ) (xs : List (List ℕ)) (y : List ℕ) → events_from own n (xs ++ y ∷ []) ≡ events_from own n xs ++ events_of own (n + length xs) y
 events_from-append own n [] y = let same : n ≡ n + 0 = omega arith in append-nil (events_of own n y) ∙ ap (λ k. events_of own k y) same
@@ -39,8 +47,22 @@ run_more decoding config datagrams octets index e =
     ∙ ap (λ n. world_run decoding (run decoding config datagrams) (events_of config.own n octets)) same
 
 -- a run has the readers of its configuration
-pub run_count : {M : Type 0} (decoding : Decoding M) (config : Config) (datagrams : List (List ℕ)) → (run decoding config datagrams).count ≡ length config.readers.items
-run_count decoding config datagrams = count_stays decoding (first_world config) (events_from config.own 0 datagrams)
+pub run_count : {M : Type 0} (decoding : Decoding M) (config : Config) (datagrams : List (List ℕ)) → reader_count (run decoding config datagrams) ≡ length config.readers.items
+run_count decoding config datagrams = count_stays decoding (first_world config) (events_from config.own 0 datagrams) ∙ length-map config.readers.items reader_of
+
+-- the readers of a configuration are known, each by its own entity
+first_named : (readers : List ReaderConfig) (rank : ℕ) → rank < length (map reader_of readers) → option_map (λ (r : Wish). r.entity) (reader_at (map reader_of readers) rank) ≡ Some (entity_of readers rank)
+first_named [] rank below = absurd (omega arith)
+first_named (r ∷ readers) zero below = refl
+first_named (r ∷ readers) (suc rank) below = first_named readers rank (omega arith)
+
+all_named : {M : Type 0} (decoding : Decoding M) (w : World M) (es : List Happening) → AllKnown w → AllKnown (world_run decoding w es)
+all_named decoding w [] named = named
+all_named decoding w (e ∷ es) named = all_named decoding (world_after decoding w e) es (named_after decoding w e named)
+
+-- and so they are in each run of it
+pub run_named : {M : Type 0} (decoding : Decoding M) (config : Config) (datagrams : List (List ℕ)) → AllKnown (run decoding config datagrams)
+run_named decoding config datagrams = all_named decoding (first_world config) (events_from config.own 0 datagrams) (λ rank below. first_named config.readers.items rank below)
 
 -- a front is what was put in front
 pub front_back : {X : Type 0} (n : ℕ) (xs zs : List X) → length xs ≡ n → take n (xs ++ zs) ≡ xs

@@ -1,60 +1,110 @@
--- One reader's part of an event.
-use Rattle.std.proofs.Common.{◌≡◌, ℕ, ◌<◌, ◌≤◌, List, ◌++◌, map, length, get_or, true, false, sym, ap, ◌∙◌, subst, arith, append-nil}
+-- One reader's step, in the world and in the states.
+use Rattle.std.proofs.Common.{◌≡◌, ◌≢◌, ℕ, ◌<◌, ◌≤◌, ◌==◌, nat_lt, List, [], ◌∷◌, ◌++◌, map, length, get_or, set, Bool, true, false, if◌then◌else◌, refl, sym, ap, ◌∙◌, subst, arith, append-nil, append_assoc, eq-eqb, get_or-set_same, get_or-set_other}
+use Rattle.std.proofs.Math.ListN.{length-set}
+use Rattle.std.proofs.lemmas.Bool.Decides.{nat_tests}
 use Rattle.rtps_types.specs.declared.place.Place.{Place}
 use Rattle.rtps_proxy.specs.Replies.{Sent}
-use Rattle.rtps_receiver.specs.Events.{Happening}
-use Rattle.rtps_discovery.specs.Addressed.{is_discovery, is_for}
 use Rattle.dds_topic.specs.Decoding.{Decoding}
 use Rattle.rtps_reader.specs.declared.notice.Notice.{Notice}
 use Rattle.rtps_reader.specs.Reader.{Reader, reader_after, sends, tells}
 use Rattle.rtps_reader.specs.Standing as reader
 use Rattle.rtps_reader.specs.Standing.{ReaderKept}
-use Rattle.rtps_reader.specs.Steps.{Doing, asks_of}
-use Rattle.rtps_serial.specs.Seen.{notices_by}
-use Rattle.rtps_serial.specs.Standing.{AllStand, StandsFor}
-use Rattle.rtps_serial.specs.World.{Put, Hears, World, puts, puts_below, reader_by, sent_by, world_after}
+use Rattle.rtps_reader.specs.Steps.{Doing}
+use Rattle.rtps_serial.specs.declared.outcome.Report.{Report}
+use Rattle.rtps_serial.specs.Outcome.{report_view}
+use Rattle.rtps_serial.specs.Seen.{notices_by, reader_count}
+use Rattle.rtps_serial.specs.Standing.{ReadersStand, StandsFor}
+use Rattle.rtps_serial.specs.Steps.{ReaderStep, step_puts, world_stepped}
+use Rattle.rtps_serial.specs.World.{Put, Hears, World, puts_at, sent_by}
 use Rattle.rtps_serial.proofs.Dealt.{notices_by-append}
-use Rattle.rtps_serial.proofs.Matched.{by_rank, heard_of_one}
-use Rattle.rtps_serial.proofs.Reached.{none_put, puts_none, puts_told, reader_left, reader_quiet, reader_taken}
 
--- an event that is for the reader
-pub stepped : {M : Type 0} (d : Decoding M) (e : Happening) (r : Reader) (given : List (Notice M)) (rank : ℕ) (old new : ReaderKept) (place : Place) (asks : Doing)
-    → place ≡ e.place → asks ≡ asks_of e → is_discovery e.writer ≡ false → is_for e.reader r.entity ≡ true → StandsFor r given rank old → new.rank ≡ old.rank
-    → reader.StandsAt (reader_after r asks) (given ++ tells d r place asks) new → StandsFor (reader_by e r) (given ++ notices_by rank (puts d e rank r)) rank new
-stepped d e r given rank old new place asks at is other meant one same stands =
-    rw (reader_taken e r other meant, heard_of_one d e rank r other meant) (record {
-      stands = subst (λ (a : Doing). reader.StandsAt (reader_after r a) (given ++ tells d r e.place a) new) is (subst (λ (p : Place). reader.StandsAt (reader_after r asks) (given ++ tells d r p asks) new) at stands);
-      ranked = same ∙ one.ranked;
-    })
+unequal : (m n : ℕ) → m ≢ n → (m == n) ≡ false
+unequal m n e = grind (arith, nat_tests)
 
--- and one that isn't
-pub skipped : {M : Type 0} (d : Decoding M) (e : Happening) (r : Reader) (given : List (Notice M)) (rank : ℕ) (old : ReaderKept)
-    → is_for e.reader r.entity ≡ false → StandsFor r given rank old → StandsFor (reader_by e r) (given ++ notices_by rank (puts d e rank r)) rank old
-skipped d e r given rank old meant one =
-    rw (reader_left e r meant, puts_none d e rank r meant, append-nil given) one
+less_is : (m n : ℕ) → m < n → nat_lt m n ≡ true
+less_is m n h = grind (arith, nat_tests)
 
--- what the reader gives is reported
-pub reported : {M : Type 0} (d : Decoding M) (e : Happening) (r : Reader) (given : List (Notice M)) (rank k : ℕ) (old : ReaderKept) (place : Place) (asks : Doing) (before after : List (Put M)) (ns : List (Notice M)) (ss : List (Place × Sent))
-    → place ≡ e.place → asks ≡ asks_of e → is_discovery e.writer ≡ false → is_for e.reader r.entity ≡ true → StandsFor r given rank old → k ≡ old.rank
-    → ns ≡ tells d r place asks → ss ≡ sends r place asks → after ≡ before ++ (map (Hears k) ns ++ map (sent_by k) ss) → after ≡ before ++ puts d e rank r
-reported {M} d e r given rank k old place asks before after ns ss at is other meant one same told sent moved =
-    moved
-    ∙ ap (λ (n : ℕ). before ++ (map (Hears n) ns ++ map (sent_by n) ss)) (same ∙ one.ranked)
-    ∙ ap (λ (l : List (Notice M)). before ++ (map (Hears rank) l ++ map (sent_by rank) ss)) told
-    ∙ ap (λ (l : List (Place × Sent)). before ++ (map (Hears rank) (tells d r place asks) ++ map (sent_by rank) l)) sent
-    ∙ ap (λ (p : Place). before ++ (map (Hears rank) (tells d r p asks) ++ map (sent_by rank) (sends r p asks))) at
-    ∙ ap (λ (a : Doing). before ++ (map (Hears rank) (tells d r e.place a) ++ map (sent_by rank) (sends r e.place a))) is
-    ∙ ap (λ (l : List (Put M)). before ++ l) (sym (puts_told d e rank r other meant))
+not_less : (m n : ℕ) → n ≤ m → nat_lt m n ≡ false
+not_less m n h = grind (arith, nat_tests)
 
--- an announcer's event
-pub quiet : {M : Type 0} (d : Decoding M) (e : Happening) (w : World M) (states : List ReaderKept) → is_discovery e.writer ≡ true → AllStand w states → AllStand (world_after d w e) states
-quiet d e w states alone all rank other below = rw (reader_quiet e (w.readers rank) alone, none_put d e w.readers w.count alone, append-nil w.put) (all rank other below)
+-- a reader's notices are its own
+pub own_notices : {M : Type 0} (rank : ℕ) (ns : List (Notice M)) → notices_by rank (map (Hears rank) ns) ≡ ns
+own_notices rank [] = refl
+own_notices rank (n ∷ ns) = rw (eq-eqb rank rank refl) (ap (λ l. n ∷ l) (own_notices rank ns))
 
--- once each reader has taken the event, all have
-pub all_taken : {M : Type 0} (d : Decoding M) (e : Happening) (w : World M) (states : List ReaderKept) (at : ℕ) → w.count ≡ length states → length states ≤ at
-    → ((rank : ℕ) (other : ReaderKept) → rank < at → StandsFor (reader_by e (w.readers rank)) (notices_by rank w.put ++ notices_by rank (puts d e rank (w.readers rank))) rank (get_or states rank other))
-    → AllStand (world_after d w e) states
-all_taken {M} d e w states at counted end done rank other below =
-    subst (λ (l : List (Notice M)). StandsFor (reader_by e (w.readers rank)) l rank (get_or states rank other))
-    (sym (notices_by-append rank w.put (puts_below d e w.readers w.count) ∙ ap (λ (l : List (Notice M)). notices_by rank w.put ++ l) (by_rank d e w.readers rank w.count (omega (arith, below, counted)))))
-    (done rank other (omega (arith, below, end)))
+pub others_notices : {M : Type 0} (rank k : ℕ) (ns : List (Notice M)) → (rank == k) ≡ false → notices_by k (map (Hears rank) ns) ≡ []
+others_notices rank k [] e = refl
+others_notices rank k (n ∷ ns) e = rw e (others_notices rank k ns e)
+
+pub no_notice : (M : Type 0) (rank k : ℕ) (ss : List (Place × Sent)) → notices_by k (map (sent_by {M = M} rank) ss) ≡ []
+no_notice M rank k [] = refl
+no_notice M rank k (s ∷ ss) = no_notice M rank k ss
+
+-- the notices of a step are those that its reader tells
+pub told_at_step : {M : Type 0} (d : Decoding M) (place : Place) (rank : ℕ) (r : Reader) (what : Doing) → notices_by rank (puts_at d place rank r what) ≡ tells d r place what
+told_at_step {M} d place rank r what =
+    notices_by-append rank (map (Hears rank) (tells d r place what)) (map (sent_by rank) (sends r place what))
+    ∙ ap (λ l. l ++ notices_by rank (map (sent_by rank) (sends r place what))) (own_notices rank (tells d r place what))
+    ∙ ap (λ l. tells d r place what ++ l) (no_notice M rank rank (sends r place what))
+    ∙ append-nil (tells d r place what)
+
+pub none_told_at_step : {M : Type 0} (d : Decoding M) (place : Place) (rank k : ℕ) (r : Reader) (what : Doing) → (rank == k) ≡ false → notices_by k (puts_at d place rank r what) ≡ []
+none_told_at_step {M} d place rank k r what e =
+    notices_by-append k (map (Hears rank) (tells d r place what)) (map (sent_by rank) (sends r place what))
+    ∙ ap (λ l. l ++ notices_by k (map (sent_by rank) (sends r place what))) (others_notices rank k (tells d r place what) e)
+    ∙ no_notice M rank k (sends r place what)
+
+-- the reader of a rank, as its state keeps it
+pub state_of : {V M A : Type 0} (view : V → M) (w : World M) (earlier : List (Put M)) (states : List ReaderKept) (reports : List (Report V A)) (rank : ℕ) (old : ReaderKept)
+    → ReadersStand view w earlier states reports → rank < length states → old ≡ get_or states rank old → StandsFor (w.readers rank) (notices_by rank w.put) rank old
+state_of view w earlier states reports rank old stands below is =
+    subst (StandsFor (w.readers rank) (notices_by rank w.put) rank) (sym is) (stands.readers rank old below)
+
+-- a step of a reader that there is
+pub step_stands : {V M A : Type 0} (view : V → M) (d : Decoding M) (place : Place) (w : World M) (earlier : List (Put M)) (s : ReaderStep) (states : List ReaderKept) (old new : ReaderKept) (reports more : List (Report V A))
+    → ReadersStand view w earlier states reports → s.rank < length states → old ≡ get_or states s.rank old → new.rank ≡ old.rank
+    → reader.StandsAt (reader_after (w.readers s.rank) s.what) (notices_by s.rank w.put ++ tells d (w.readers s.rank) place s.what) new
+    → map (report_view view) more ≡ map (report_view view) reports ++ puts_at d place s.rank (w.readers s.rank) s.what
+    → ReadersStand view (world_stepped d place w s) earlier (set states s.rank new) more
+step_stands {V} {M} view d place w earlier s states old new reports more stands below is same here moved = record {
+  count = length-set states s.rank new ∙ stands.count;
+  readers = λ rank other less. by_test (s.rank == rank) rank refl other less;
+  put = ap (λ l. w.put ++ l) put ∙ ap (λ l. l ++ puts) stands.put ∙ append_assoc earlier (map (report_view view) reports) puts ∙ ap (λ l. earlier ++ l) (sym moved);
+}
+  where
+    puts : List (Put M)
+    puts = puts_at d place s.rank (w.readers s.rank) s.what
+
+    put : step_puts d place w s ≡ puts
+    put = rw (less_is s.rank (reader_count w) (omega (arith, below, stands.count))) refl
+
+    given : (rank : ℕ) → notices_by rank (w.put ++ step_puts d place w s) ≡ notices_by rank w.put ++ notices_by rank puts
+    given rank = ap (λ l. notices_by rank (w.put ++ l)) put ∙ notices_by-append rank w.put puts
+
+    one : StandsFor (reader_after (w.readers s.rank) s.what) (notices_by s.rank w.put ++ tells d (w.readers s.rank) place s.what) s.rank new
+    one = record { stands = here; ranked = same ∙ (state_of view w earlier states reports s.rank old stands below is).ranked }
+
+    by_test : (b : Bool) (rank : ℕ) → (s.rank == rank) ≡ b → (other : ReaderKept) → rank < length (set states s.rank new)
+        → StandsFor (if b then reader_after (w.readers rank) s.what else w.readers rank) (notices_by rank (w.put ++ step_puts d place w s)) rank (get_or (set states s.rank new) rank other)
+    by_test true rank e other less =
+        let at : s.rank ≡ rank = grind (arith, nat_tests) in
+        subst (λ k. StandsFor (reader_after (w.readers k) s.what) (notices_by k (w.put ++ step_puts d place w s)) k (get_or (set states s.rank new) k other)) at
+        (rw (given s.rank, told_at_step d place s.rank (w.readers s.rank) s.what, get_or-set_same states s.rank new other below) one)
+    by_test false rank e other less =
+        let apart : rank ≢ s.rank = λ is. absurd (grind (arith, nat_tests)) in
+        let within : rank < length states = omega (arith, less, length-set states s.rank new) in
+        rw (given rank, none_told_at_step d place s.rank rank (w.readers s.rank) s.what e, append-nil (notices_by rank w.put), get_or-set_other states s.rank rank new other apart) (stands.readers rank other within)
+
+-- and of one that there isn't
+pub no_step_stands : {V M A : Type 0} (view : V → M) (d : Decoding M) (place : Place) (w : World M) (earlier : List (Put M)) (s : ReaderStep) (states : List ReaderKept) (reports : List (Report V A))
+    → ReadersStand view w earlier states reports → length states ≤ s.rank → ReadersStand view (world_stepped d place w s) earlier states reports
+no_step_stands {V} {M} view d place w earlier s states reports stands past = record {
+  count = stands.count;
+  readers = λ rank other less.
+      let apart : (s.rank == rank) ≡ false = unequal s.rank rank (λ e. absurd (omega arith)) in
+      rw (none, append-nil w.put, apart) (stands.readers rank other less);
+  put = ap (λ l. w.put ++ l) none ∙ append-nil w.put ∙ stands.put;
+}
+  where
+    none : step_puts d place w s ≡ []
+    none = rw (not_less s.rank (reader_count w) (omega (arith, past, stands.count))) refl

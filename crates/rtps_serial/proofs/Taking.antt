@@ -1,19 +1,22 @@
 -- One datagram more is taken.
-use Rattle.std.proofs.Common.{Bor, IfSome, None, Option, Some, if◌then◌else◌, is_some, nat_lt, ◌≡◌, ◌++◌, ◌∷◌, ◌+◌, ◌<◌, ℕ, [], List, true, false, ap, arith, get_or, length, length-append, map, refl, subst, sym, ◌∙◌}
+use Rattle.std.proofs.Common.{Bor, IfSome, None, Option, Some, if◌then◌else◌, is_some, nat_lt, ◌≡◌, ◌++◌, ◌∷◌, ◌+◌, ◌<◌, ℕ, [], List, true, false, ap, arith, get_or, length, length-append, append-nil, map, refl, subst, sym, ◌∙◌}
 use Rattle.std.specs.Option.{option_copied}
 use Rattle.std.proofs.lemmas.Bool.Decides.{nat_tests}
 use Rattle.std.proofs.lemmas.List.{get_or-map, length-map}
 use Rattle.rtps_receiver.specs.Events.{events_of}
 use Rattle.rtps_discovery.specs.declared.config.Config.{Config}
+use Rattle.rtps_discovery.specs.Kept.{DiscoveryKept, IsKnown}
 use Rattle.dds_topic.specs.Decoding.{Decoding}
 use Rattle.rtps_reader.specs.declared.status.Status.{Status}
 use Rattle.rtps_reader.specs.Standing.{ReaderKept}
 use Rattle.rtps_reader.proofs.Counting.{starts}
+use Rattle.rtps_serial.specs.declared.outcome.Report.{Report}
+use Rattle.rtps_serial.specs.Outcome.{report_view}
 use Rattle.rtps_serial.specs.Run.{fixed_of, reader_first, run, world_run}
 use Rattle.rtps_serial.specs.Seen.{status_at}
-use Rattle.rtps_serial.specs.Standing.{AllStand, AllStart, EngineKept, IsFinishedFrom, IsSteppedFrom, ShowsAt, StandsAt, run_by}
-use Rattle.rtps_serial.specs.World.{Put, World}
-use Rattle.rtps_serial.proofs.Running.{run_count, run_more}
+use Rattle.rtps_serial.specs.Standing.{AllStand, AllStart, EngineKept, IsFinishedFrom, IsSteppedFrom, ShowsAt, StandsAt, WorldStands, run_by}
+use Rattle.rtps_serial.specs.World.{World}
+use Rattle.rtps_serial.proofs.Running.{run_count, run_more, run_named}
 
 -- readers that gave out nothing are those of the first world
 pub starts_here : {M : Type 0} (d : Decoding M) (config : Config) (states : List ReaderKept) → AllStart (λ rank. reader_first config.own config.readers.items rank (fixed_of config.fixed.items rank)) states → AllStand (run d config []) states
@@ -44,48 +47,68 @@ shows_first decoding engine count shown all =
           (λ k s r less. ap (λ l. get_or l k s) shown ∙ get_or-map (λ (r : ReaderKept). r.status) engine.readers k r s less) rank other (omega (arith, below, whole));
     }
 
-pub taken : {C M : Type 0} (decoding : C → Decoding M) (datagrams : List (List ℕ)) (octets : List ℕ) (old admitted stepped new : EngineKept C) → StandsAt decoding datagrams old
+-- what stands at a list of datagrams keeps the world of its run, which put out nothing since
+pub run_stands : {C V M A : Type 0} (view : V → M) (decoding : C → Decoding M) (datagrams : List (List ℕ)) (engine : EngineKept C) → StandsAt decoding datagrams engine
+    → WorldStands {A = A} view (run_by decoding engine datagrams) (run_by decoding engine datagrams).put engine.discovery.kept engine.readers []
+run_stands view decoding datagrams engine kept = record {
+  known = kept.known;
+  named = run_named (decoding engine.catalog) engine.config datagrams;
+  readers = record {
+    count = kept.count ∙ sym (run_count (decoding engine.catalog) engine.config datagrams);
+    readers = kept.readers;
+    put = sym (append-nil (run_by decoding engine datagrams).put);
+  };
+}
+
+-- the run after one datagram more, where what is reported stands after the events of that datagram
+next_stands : {C V M A : Type 0} (view : V → M) (decoding : C → Decoding M) (datagrams : List (List ℕ)) (octets : List ℕ) (old admitted stepped : EngineKept C) (reports : List (Report V A)) → StandsAt decoding datagrams old
+    → admitted ≡ record old { failed = true }
+    → ((w : World M) → WorldStands {A = A} view w w.put admitted.discovery.kept admitted.readers []
+    → WorldStands view (world_run (decoding admitted.catalog) w (events_of admitted.config.own admitted.index octets)) w.put stepped.discovery.kept stepped.readers reports)
+    → WorldStands view (run_by decoding old (datagrams ++ octets ∷ [])) (run_by decoding old datagrams).put stepped.discovery.kept stepped.readers reports
+next_stands {C} {V} {M} {A} view decoding datagrams octets old admitted stepped reports kept is stands =
+    let before = run_by decoding old datagrams in
+    let start : WorldStands {A = A} view before before.put admitted.discovery.kept admitted.readers []
+    = subst (λ (e : EngineKept C). WorldStands {A = A} view before before.put e.discovery.kept e.readers []) (sym is) (run_stands {A = A} view decoding datagrams old kept) in
+    let here : WorldStands view (world_run (decoding old.catalog) before (events_of old.config.own old.index octets)) before.put stepped.discovery.kept stepped.readers reports
+    = subst (λ (e : EngineKept C). WorldStands view (world_run (decoding e.catalog) before (events_of e.config.own e.index octets)) before.put stepped.discovery.kept stepped.readers reports) is (stands before start) in
+    subst (λ (w : World M). WorldStands view w before.put stepped.discovery.kept stepped.readers reports) (sym (run_more (decoding old.catalog) old.config datagrams octets old.index kept.index)) here
+
+pub taken : {C V M A : Type 0} (view : V → M) (decoding : C → Decoding M) (datagrams : List (List ℕ)) (octets : List ℕ) (old admitted stepped new : EngineKept C) (reports : List (Report V A)) → StandsAt decoding datagrams old
     → admitted ≡ record old { failed = true } → IsSteppedFrom admitted stepped
-    → ((w : World M) → w.count ≡ length admitted.readers → AllStand w admitted.readers → AllStand (world_run (decoding admitted.catalog) w (events_of admitted.config.own admitted.index octets)) stepped.readers)
+    → ((w : World M) → WorldStands {A = A} view w w.put admitted.discovery.kept admitted.readers []
+    → WorldStands view (world_run (decoding admitted.catalog) w (events_of admitted.config.own admitted.index octets)) w.put stepped.discovery.kept stepped.readers reports)
     → IsFinishedFrom stepped new → StandsAt decoding (datagrams ++ octets ∷ []) new
-taken {C} {M} decoding datagrams octets old admitted stepped new kept is step stands finish =
+taken {C} {V} {M} {A} view decoding datagrams octets old admitted stepped new reports kept is step stands finish =
     let all = datagrams ++ octets ∷ [] in
     let catalog : new.catalog ≡ old.catalog = finish.catalog ∙ step.catalog ∙ ap (λ (e : EngineKept C). e.catalog) is in
     let config : new.config ≡ old.config = finish.config ∙ step.config ∙ ap (λ (e : EngineKept C). e.config) is in
     let index : new.index ≡ old.index + 1 = finish.index ∙ ap (λ n. n + 1) (step.index ∙ ap (λ (e : EngineKept C). e.index) is) in
     let readers : length stepped.readers ≡ length old.readers = step.count ∙ ap (λ (e : EngineKept C). length e.readers) is in
     let statuses : length new.statuses ≡ length old.statuses = finish.count ∙ ap length step.statuses ∙ ap (λ (e : EngineKept C). length e.statuses) is in
-    let before = run_by decoding old datagrams in
-    let counted : before.count ≡ length old.readers = run_count (decoding old.catalog) old.config datagrams ∙ sym kept.count in
     let same : run_by decoding new all ≡ run_by decoding old all = ap (λ k. run (decoding k) new.config all) catalog ∙ ap (λ k. run (decoding old.catalog) k all) config in
-    let next : run_by decoding old all ≡ world_run (decoding old.catalog) before (events_of old.config.own old.index octets) = run_more (decoding old.catalog) old.config datagrams octets old.index kept.index in
-    let here : AllStand (world_run (decoding old.catalog) before (events_of old.config.own old.index octets)) stepped.readers
-    = subst (λ (e : EngineKept C). AllStand (world_run (decoding e.catalog) before (events_of e.config.own e.index octets)) stepped.readers) is
-    (stands before (counted ∙ sym (ap (λ (e : EngineKept C). length e.readers) is)) (subst (λ (e : EngineKept C). AllStand before e.readers) (sym is) kept.readers)) in
-    let there : AllStand (run_by decoding new all) stepped.readers = subst (λ (w : World M). AllStand w stepped.readers) (sym (same ∙ next)) here in
+    let there : WorldStands view (run_by decoding new all) (run_by decoding old datagrams).put stepped.discovery.kept stepped.readers reports
+    = subst (λ (w : World M). WorldStands view w (run_by decoding old datagrams).put stepped.discovery.kept stepped.readers reports) (sym same) (next_stands view decoding datagrams octets old admitted stepped reports kept is stands) in
     let fixed : length old.config.readers.items ≡ length new.config.readers.items = ap (λ (k : Config). length k.readers.items) (sym config) in
     record {
       sound = finish.sound;
       index = omega (arith, index, kept.index, length-append datagrams (octets ∷ []));
+      known = subst (λ (d : DiscoveryKept). IsKnown (run_by decoding new all).known d.kept) (sym finish.discovery) there.known;
       count = ap length finish.readers ∙ readers ∙ kept.count ∙ fixed;
-      readers = subst (AllStand (run_by decoding new all)) (sym finish.readers) there;
+      readers = subst (AllStand (run_by decoding new all)) (sym finish.readers) there.readers.readers;
       shows = record {
         count = statuses ∙ kept.shows.count ∙ fixed;
-        statuses = λ rank other below. shows (run_by decoding new all) stepped.readers new.statuses there finish.statuses rank other (omega (arith, below, statuses, kept.shows.count, kept.count, readers));
+        statuses = λ rank other below. shows (run_by decoding new all) stepped.readers new.statuses there.readers.readers finish.statuses rank other (omega (arith, below, statuses, kept.shows.count, kept.count, readers));
       };
     }
 
 -- a run that is put out, once a datagram more is taken
-pub put_taken : {C M : Type 0} (decoding : C → Decoding M) (datagrams : List (List ℕ)) (octets : List ℕ) (old admitted : EngineKept C) (reports : List (Put M)) → StandsAt decoding datagrams old
+pub put_taken : {C V M A : Type 0} (view : V → M) (decoding : C → Decoding M) (datagrams : List (List ℕ)) (octets : List ℕ) (old admitted stepped : EngineKept C) (reports : List (Report V A)) → StandsAt decoding datagrams old
     → admitted ≡ record old { failed = true }
-    → ((w : World M) → w.count ≡ length admitted.readers → AllStand w admitted.readers → (world_run (decoding admitted.catalog) w (events_of admitted.config.own admitted.index octets)).put ≡ w.put ++ reports)
-    → (run_by decoding old (datagrams ++ octets ∷ [])).put ≡ (run_by decoding old datagrams).put ++ reports
-put_taken {C} {M} decoding datagrams octets old admitted reports kept is put =
-    let before = run_by decoding old datagrams in
-    let counted : before.count ≡ length old.readers = run_count (decoding old.catalog) old.config datagrams ∙ sym kept.count in
-    ap (λ (w : World M). w.put) (run_more (decoding old.catalog) old.config datagrams octets old.index kept.index)
-    ∙ subst (λ (e : EngineKept C). (world_run (decoding e.catalog) before (events_of e.config.own e.index octets)).put ≡ before.put ++ reports) is
-    (put before (counted ∙ sym (ap (λ (e : EngineKept C). length e.readers) is)) (subst (λ (e : EngineKept C). AllStand before e.readers) (sym is) kept.readers))
+    → ((w : World M) → WorldStands {A = A} view w w.put admitted.discovery.kept admitted.readers []
+    → WorldStands view (world_run (decoding admitted.catalog) w (events_of admitted.config.own admitted.index octets)) w.put stepped.discovery.kept stepped.readers reports)
+    → (run_by decoding old (datagrams ++ octets ∷ [])).put ≡ (run_by decoding old datagrams).put ++ map (report_view view) reports
+put_taken view decoding datagrams octets old admitted stepped reports kept is stands = (next_stands view decoding datagrams octets old admitted stepped reports kept is stands).readers.put
 
 -- what is read of the statuses at a rank
 pub copied : (o : Option (Bor Status)) (statuses : List Status) (rank n : ℕ) (at : Status) → is_some o ≡ nat_lt rank (length statuses) → IfSome o (λ x. x.now ≡ get_or statuses rank x.now)

@@ -7,7 +7,7 @@ use Rattle.rtps_serial.specs.declared.outcome.Answer.{Answer}
 use Rattle.rtps_serial.specs.declared.outcome.Outcome.{Outcome}
 use Rattle.rtps_serial.specs.declared.outcome.Report.{Report}
 use Rattle.rtps_serial.specs.declared.outcome.Report.TheVariants as report
-use Rattle.rtps_serial.specs.Seen.{answers_in, notices_by}
+use Rattle.rtps_serial.specs.Seen.{answers_in, notices_by, reader_count}
 use Rattle.rtps_serial.specs.World.{Put, Hears, Sends, Sending, World}
 
 abbrev pub answer_view : {A : Type 0} → Answer A → Sending
@@ -32,8 +32,8 @@ pub record Deals {V M A : Type 0} (f : V → M) (count : ℕ) (put : List (Put M
 -- an outcome has what is seen of one world more than of another
 pub record Adds {V M A : Type 0} (f : V → M) (before after : World M) (outcome : Outcome V A)
     : Type 0 where
-  pub readers : length outcome.notices.items ≡ after.count
-  pub notices : (rank : ℕ) (other : Vec (Notice V) A) → rank < after.count
+  pub readers : length outcome.notices.items ≡ reader_count after
+  pub notices : (rank : ℕ) (other : Vec (Notice V) A) → rank < reader_count after
       → notices_by rank after.put
       ≡ notices_by rank before.put ++ notices_in f (slice_index_or outcome.notices.items rank other)
   pub answers : answers_in after.put

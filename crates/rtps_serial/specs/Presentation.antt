@@ -1,6 +1,6 @@
 -- Presentation in a run (DDSI-RTPS 8.4.12.3, 8.3.7): the samples of a writer that a reliable reader
 -- presents, against the submessages alone that came for their match.
-use Rattle.std.specs.Prelude.{◌≡◌, ℕ, ◌<◌, ◌==◌, ◌&&◌, ◌||◌, nat_lt, nat_le, Bool, List, [], ◌∷◌, ◌++◌, map, filter, reverse, Option, if◌then◌else◌}
+use Rattle.std.specs.Prelude.{◌≡◌, ℕ, ◌<◌, ◌==◌, ◌&&◌, ◌||◌, nat_lt, nat_le, Bool, not, List, [], ◌∷◌, ◌++◌, map, filter, reverse, Option, if◌then◌else◌}
 use Rattle.std.specs.List.{AllByRecursion, list_any}
 use Rattle.rtps_types.specs.declared.identity.EntityId.{EntityId}
 use Rattle.rtps_types.specs.declared.identity.Guid.{Guid}
@@ -16,7 +16,7 @@ use Rattle.dds_topic.specs.Decoding.{Decoding}
 use Rattle.rtps_types.specs.Number.{value_of}
 use Rattle.rtps_reader.specs.declared.notice.Notice.{Notice}
 use Rattle.rtps_reader.specs.declared.notice.NoticeKind.{NoticeKind}
-use Rattle.rtps_reader.specs.declared.notice.NoticeKind.TheVariants.{Sample as ASample}
+use Rattle.rtps_reader.specs.declared.notice.NoticeKind.TheVariants.{Sample as ASample, Matched, Unmatched}
 use Rattle.rtps_reader.specs.Body.{body_by}
 use Rattle.rtps_proxy.specs.Matches.{same_guid}
 use Rattle.rtps_serial.specs.Run.{entity_of, events_from, run}
@@ -89,11 +89,57 @@ pub record ArePresented {M : Type 0} (decoding : Decoding M) (events : List Happ
   -- from 1 on, each sequence number that no sample has was given up by the place of the next sample
   pub passed_over : PassesOverOnly events 0 samples
 
--- the samples of a writer that the reader of a rank presented in a run
-abbrev pub samples_in : {M : Type 0} → Decoding M → Config → List (List ℕ) → ℕ → Guid
-    → List (Shown M)
-samples_in decoding config datagrams rank writer =
-    samples_of writer (notices_by rank (run decoding config datagrams).put)
+-- since when a reader is matched with a writer: from the start, since a place, or not at all
+pub data Since : Type 0 where
+  TheStart : Since
+  ThePlace : Place → Since
+  Never : Since
+
+-- what a reader presents of a writer from one beginning or end of their match to the next
+pub record Stretch (M : Type 0) : Type 0 where
+  pub since : Since
+  pub samples : List (Shown M)
+
+abbrev pub stretch : {M : Type 0} → Since → List (Shown M) → Stretch M
+stretch since samples = record { since = since; samples = samples }
+
+-- a stretch begins with these samples
+abbrev pub shown_first : {M : Type 0} → List (Shown M) → List (Stretch M) → List (Stretch M)
+shown_first shown [] = []
+shown_first shown (s ∷ ss) = stretch s.since (shown ++ s.samples) ∷ ss
+
+-- what a notice of the writer does to the stretch in which it is: a match that begins or ends
+-- begins another
+abbrev pub stretches_by : {M : Type 0} → Since → Place → NoticeKind M → (Since → List (Stretch M))
+    → List (Stretch M)
+stretches_by since place Matched rest = stretch since [] ∷ rest (ThePlace place)
+stretches_by since place Unmatched rest = stretch since [] ∷ rest Never
+stretches_by since place kind rest = shown_first (shown_in place kind) (rest since)
+
+-- the samples of a writer among these notices, cut where a match with it begins or ends
+abbrev pub stretches : {M : Type 0} → Guid → Since → List (Notice M) → List (Stretch M)
+stretches writer since [] = stretch since [] ∷ []
+stretches writer since (n ∷ ns) =
+    if same_guid n.writer writer
+    then stretches_by since n.place n.what (λ s. stretches writer s ns)
+    else stretches writer since ns
+
+-- the submessages after a place
+abbrev pub events_after : Place → List Happening → List Happening
+events_after place events = filter (λ e. not (not_after e.place place)) events
+
+-- these samples are presented against the submessages since a match began, none where there is none
+abbrev pub PresentedSince : {M : Type 0} → Decoding M → List Happening → List (Shown M) → Since
+    → Type 0
+PresentedSince decoding events samples TheStart = ArePresented decoding events samples
+PresentedSince decoding events samples (ThePlace place) =
+    ArePresented decoding (events_after place events) samples
+PresentedSince decoding events samples Never = samples ≡ []
+
+-- the samples of a stretch are presented against the submessages since its match began; where
+-- nothing is matched there are none
+abbrev pub IsPresented : {M : Type 0} → Decoding M → List Happening → Stretch M → Type 0
+IsPresented decoding events s = PresentedSince decoding events s.samples s.since
 
 -- the reader of a rank is matched with a writer from the start
 abbrev pub is_fixed : Config → ℕ → Guid → Bool
@@ -104,3 +150,14 @@ is_fixed config rank writer =
 abbrev pub events_in : Config → List (List ℕ) → ℕ → Guid → List Happening
 events_in config datagrams rank writer =
     events_for writer (entity_of config.readers.items rank) (events_from config.own 0 datagrams)
+
+-- since when they are matched at the start of a run
+abbrev pub first_since : Config → ℕ → Guid → Since
+first_since config rank writer = if is_fixed config rank writer then TheStart else Never
+
+-- what the reader of a rank presented of a writer in a run, match by match
+abbrev pub stretches_in : {M : Type 0} → Decoding M → Config → List (List ℕ) → ℕ → Guid
+    → List (Stretch M)
+stretches_in decoding config datagrams rank writer =
+    stretches writer (first_since config rank writer)
+    (notices_by rank (run decoding config datagrams).put)

@@ -1,5 +1,5 @@
 -- The run of one thread, which takes the submessages of all datagrams one by one.
-use Rattle.std.specs.Prelude.{ℕ, ◌+◌, Bool, false, true, List, [], ◌∷◌, ◌++◌, length, map, filter, slice_index_or, ◌==◌}
+use Rattle.std.specs.Prelude.{ℕ, ◌+◌, Bool, false, true, List, [], ◌∷◌, ◌++◌, map, filter, slice_index_or, ◌==◌}
 use Rattle.rtps_types.specs.declared.identity.EntityId.{EntityId}
 use Rattle.rtps_types.specs.declared.identity.GuidPrefix.{GuidPrefix}
 use Rattle.dds_qos.specs.declared.policies.Reliability.{Reliability}
@@ -9,6 +9,7 @@ use Rattle.rtps_discovery.specs.Addressed.{unknown_entity}
 use Rattle.rtps_discovery.specs.declared.config.Config.{Config}
 use Rattle.rtps_discovery.specs.declared.config.FixedMatch.{FixedMatch}
 use Rattle.rtps_discovery.specs.declared.config.ReaderConfig.{ReaderConfig}
+use Rattle.rtps_discovery.specs.Start.{first_known}
 use Rattle.dds_topic.specs.Decoding.{Decoding}
 use Rattle.rtps_reader.specs.Reader.{Facts, Reader, first_reader}
 use Rattle.rtps_serial.specs.World.{World, world_after}
@@ -35,10 +36,11 @@ abbrev pub reader_first : GuidPrefix → List ReaderConfig → ℕ → List Fact
 reader_first own readers rank fixed =
     first_reader own (entity_of readers rank) (is_reliable_at readers rank) fixed
 
--- the world at the start: nothing came, and there are the fixed matches
+-- the world at the start: nothing came, nobody is known but our readers, and there are the fixed
+-- matches
 abbrev pub first_world : {M : Type 0} → Config → World M
 first_world config = record {
-  count = length config.readers.items;
+  known = first_known config;
   readers = λ rank.
       reader_first config.own config.readers.items rank (fixed_of config.fixed.items rank);
   put = [];

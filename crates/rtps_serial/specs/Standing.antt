@@ -1,8 +1,11 @@
 -- What an engine keeps, and when that is what follows from a list of datagrams.
-use Rattle.std.specs.Prelude.{◌≡◌, ◌+◌, ◌^◌, ◌<◌, ◌≤◌, false, Bool, true, ℕ, List, [], length, slice_index_or, Result, Ok, Err}
+use Rattle.std.specs.Prelude.{◌≡◌, ◌+◌, ◌++◌, ◌^◌, ◌<◌, ◌≤◌, false, Bool, true, ℕ, List, [], length, map, slice_index_or, Some, Result, Ok, Err}
+use Rattle.std.specs.Option.{option_map}
 use Rattle.dds_topic.specs.Decoding.{Decoding}
 use Rattle.rtps_discovery.specs.declared.config.Config.{Config}
 use Rattle.rtps_discovery.specs.declared.faults.ConfigFault.{ConfigFault}
+use Rattle.rtps_discovery.specs.Kept.{DiscoveryKept, IsKnown, Kept}
+use Rattle.rtps_discovery.specs.Known.{reader_at}
 use Rattle.rtps_reader.specs.declared.notice.Notice.{Notice}
 use Rattle.rtps_reader.specs.declared.status.Status.{Status}
 use Rattle.rtps_reader.specs.Reader.{Reader}
@@ -12,9 +15,11 @@ use Rattle.rtps_serial.specs.declared.errors.EngineError.{EngineError}
 use Rattle.rtps_serial.specs.declared.errors.EngineError.TheVariants.{NoMemory, Failed, Spent}
 use Rattle.rtps_serial.specs.declared.errors.StartError.{StartError}
 use Rattle.rtps_serial.specs.declared.errors.StartError.TheVariants as start
+use Rattle.rtps_serial.specs.declared.outcome.Report.{Report}
+use Rattle.rtps_serial.specs.Outcome.{report_view}
 use Rattle.rtps_serial.specs.Run.{run}
-use Rattle.rtps_serial.specs.Seen.{notices_by, status_at}
-use Rattle.rtps_serial.specs.World.{World}
+use Rattle.rtps_serial.specs.Seen.{notices_by, reader_count, status_at}
+use Rattle.rtps_serial.specs.World.{Put, World}
 
 pub record EngineKept (C : Type 0) : Type 0 where
   pub catalog : C
@@ -22,6 +27,7 @@ pub record EngineKept (C : Type 0) : Type 0 where
   -- how many datagrams were taken
   pub index : ℕ
   pub failed : Bool
+  pub discovery : DiscoveryKept
   -- by rank, and the statuses after the last datagram that was taken
   pub readers : List ReaderKept
   pub statuses : List Status
@@ -46,6 +52,27 @@ AllStand w states = AllStandBy w.readers (λ rank. notices_by rank w.put) states
 abbrev pub AllStart : (ℕ → Reader) → List ReaderKept → Type 0
 AllStart readers states = AllStandBy {M = Unit {0}} readers (λ rank. []) states
 
+-- there is a state for each reader of the world, and it keeps that reader; and all that the world
+-- put out are these reports, after what was put out earlier
+pub record ReadersStand {V M A : Type 0} (view : V → M) (w : World M) (earlier : List (Put M))
+    (states : List ReaderKept) (reports : List (Report V A)) : Type 0 where
+  pub count : length states ≡ reader_count w
+  pub readers : AllStand w states
+  pub put : w.put ≡ earlier ++ map (report_view view) reports
+
+-- each reader is known, and by its own entity
+abbrev pub AllKnown : {M : Type 0} → World M → Type 0
+AllKnown w =
+    (rank : ℕ) → rank < reader_count w
+    → option_map (λ r. r.entity) (reader_at w.known.readers rank) ≡ Some (w.readers rank).entity
+
+-- the same with what discovery keeps, which is what the world knows
+pub record WorldStands {V M A : Type 0} (view : V → M) (w : World M) (earlier : List (Put M))
+    (discovery : Kept) (states : List ReaderKept) (reports : List (Report V A)) : Type 0 where
+  pub known : IsKnown w.known discovery
+  pub named : AllKnown w
+  pub readers : ReadersStand view w earlier states reports
+
 -- the run of the engine's configuration over a list of datagrams
 abbrev pub run_by : {C M : Type 0} → (C → Decoding M) → EngineKept C → List (List ℕ) → World M
 run_by decoding engine datagrams = run (decoding engine.catalog) engine.config datagrams
@@ -63,6 +90,7 @@ pub record StandsAt {C M : Type 0} (decoding : C → Decoding M) (datagrams : Li
     (engine : EngineKept C) : Type 0 where
   pub sound : engine.failed ≡ false
   pub index : engine.index ≡ length datagrams
+  pub known : IsKnown (run_by decoding engine datagrams).known engine.discovery.kept
   pub count : length engine.readers ≡ length engine.config.readers.items
   pub readers : AllStand (run_by decoding engine datagrams) engine.readers
   pub shows : ShowsAt decoding datagrams engine
@@ -89,7 +117,7 @@ Refuses Failed engine = engine.failed ≡ true
 Refuses Spent engine = (engine.failed ≡ false) × (datagram_limit ≤ engine.index)
 Refuses NoMemory engine = ⊥
 
--- only the readers have changed
+-- only discovery and the readers have changed
 pub record IsSteppedFrom {C : Type 0} (old new : EngineKept C) : Type 0 where
   pub catalog : new.catalog ≡ old.catalog
   pub config : new.config ≡ old.config
@@ -104,6 +132,7 @@ pub record IsFinishedFrom {C : Type 0} (old new : EngineKept C) : Type 0 where
   pub config : new.config ≡ old.config
   pub index : new.index ≡ old.index + 1
   pub sound : new.failed ≡ false
+  pub discovery : new.discovery ≡ old.discovery
   pub readers : new.readers ≡ old.readers
   pub count : length new.statuses ≡ length old.statuses
   pub statuses : (rank : ℕ) (s : Status) (r : ReaderKept) → rank < length old.readers

@@ -2,21 +2,23 @@
 
 ghost use Rattle.std.specs.Prelude.{◌≡◌, ◌^◌, ◌≤◌, ◌<◌, ◌++◌, ◌∷◌, [], IfErr, IfOk, OnErr, OnOk, List, ℕ, false, length, map, true};
 ghost use Rattle.rtps_discovery.specs.Config.{check_of};
+ghost use Rattle.rtps_discovery.specs.Kept.{IsKnown};
 ghost use Rattle.rtps_receiver.specs.Events.{events_of};
 ghost use Rattle.rtps_serial.specs.Outcome.{Adds, report_view};
 ghost use Rattle.rtps_serial.specs.Run.{world_run};
 ghost use Rattle.rtps_serial.specs.Seen.{matches_seen, status_seen};
-ghost use Rattle.rtps_serial.specs.Standing.{AllStand, Answers, IsFinishedFrom, IsSteppedFrom, Leaves, ShowsAt, StandsAt, Starts, Refuses, Takes, datagram_limit, run_by};
+ghost use Rattle.rtps_serial.specs.Standing.{Answers, IsFinishedFrom, IsSteppedFrom, Leaves, ShowsAt, StandsAt, Starts, Refuses, Takes, WorldStands, datagram_limit, run_by};
 ghost use Rattle.rtps_serial.specs.World.{World};
 
 use crate::deal::dealt;
 use crate::errors::{EngineError, StartError};
 use crate::outcome::{Outcome, Report};
+use crate::readers::Readers;
 use crate::start::{first_readers, first_statuses, fixed_by_rank};
 use crate::steps::{all_matches, show_all, take_events};
 use dds_topic::{Catalog, Decoder};
-use rtps_discovery::{Config, check};
-use rtps_reader::{ReaderState, Status};
+use rtps_discovery::{Config, Discovery, check};
+use rtps_reader::Status;
 use rtps_receiver::events;
 use rtps_types::Guid;
 use std::alloc::{AllocError, Allocator, Global};
@@ -26,17 +28,17 @@ use std::marker::Model;
 /// A run has at most 2^48 datagrams.
 const DATAGRAM_LIMIT: u64 = 281_474_976_710_656;
 
-/// The readers of a participant, which one thread gives their events.
+/// What a participant knows of the others, and its readers: one thread gives them the events of
+/// datagrams.
 #[derive(Drop)]
 pub struct SerialEngine<C: Catalog, A: Allocator = Global> {
-    decoder: Decoder<C>,
     config: Config,
     /// How many datagrams were taken.
     index: u64,
     /// Whether a datagram was out of memory.
     failed: bool,
-    /// By rank.
-    readers: Vec<ReaderState<A>, A>,
+    discovery: Discovery<A>,
+    readers: Readers<C, A>,
     /// By rank, as they were after the last datagram that was taken.
     statuses: Vec<Status, A>,
 }
@@ -48,16 +50,17 @@ impl<C: Catalog, A: Allocator> Model for SerialEngine<C, A> {
     ghost Value = { EngineKept C };
 
     ghost view = { λ e. record {
-      catalog = e.decoder;
+      catalog = e.readers.decoder;
       config = e.config;
       index = e.index;
       failed = e.failed;
-      readers = e.readers.items;
+      discovery = e.discovery;
+      readers = e.readers.states.items;
       statuses = e.statuses.items;
     } };
 
-    ghost invariant = { λ e. (length e.readers.items ≤ 256) × (length e.statuses.items
-        ≡ length e.readers.items) };
+    ghost invariant = { λ e. (length e.readers.states.items ≤ 256) × (length e.statuses.items
+        ≡ length e.readers.states.items) };
 }
 
 impl<C: Catalog> SerialEngine<C> {
@@ -111,14 +114,15 @@ impl<C: Catalog, A: Allocator + Copy> SerialEngine<C, A> {
             Err(fault) => return Err(StartError::Config(fault)),
         }
         let fixed = fixed_by_rank(alloc, config.readers.len(), &config.fixed)?;
-        let readers = first_readers(alloc, config.own, &config.readers, &fixed)?;
-        let statuses = first_statuses(alloc, &readers)?;
+        let states = first_readers(alloc, config.own, &config.readers, &fixed)?;
+        let statuses = first_statuses(alloc, &states)?;
+        let discovery = Discovery::new(alloc, &config)?;
         Ok(SerialEngine {
-            decoder: Decoder::new(values, catalog),
             config,
             index: 0,
             failed: false,
-            readers,
+            discovery,
+            readers: Readers::new(alloc, Decoder::new(values, catalog), states),
             statuses,
         })
     }
@@ -180,7 +184,7 @@ impl<C: Catalog, A: Allocator + Copy> SerialEngine<C, A> {
         self.admit()?;
         let mut reports = Vec::new(alloc);
         self.report(alloc, octets, &mut reports)?;
-        let outcome = dealt::<C, A>(alloc, self.readers.len(), reports)?;
+        let outcome = dealt::<C, A>(alloc, self.readers.states.len(), reports)?;
         self.finish();
         Ok(outcome)
     }
@@ -203,8 +207,8 @@ impl<C: Catalog, A: Allocator + Copy> SerialEngine<C, A> {
         Ok(())
     }
 
-    /// Gives the events of a datagram to the readers. What follows from it takes the place of what
-    /// is in `reports`.
+    /// Gives the events of a datagram to discovery and to the readers. What follows from it takes
+    /// the place of what is in `reports`.
     fn report(
         &mut self,
         alloc: A,
@@ -213,23 +217,19 @@ impl<C: Catalog, A: Allocator + Copy> SerialEngine<C, A> {
     ) -> Result<(), AllocError>
         requires { length octets.now ≤ 65507 }
         ensures same { IsSteppedFrom self.old self.new }
-        ensures stands { (w : World C.Meaning) → w.count ≡ length self.old.readers
-            → AllStand w self.old.readers
-            → OnOk result (AllStand (world_run (C.decoding self.old.catalog) w
-            (events_of self.old.config.own self.old.index octets.now)) self.new.readers) }
-        ensures put { (w : World C.Meaning) → w.count ≡ length self.old.readers
-            → AllStand w self.old.readers
-            → OnOk result ((world_run (C.decoding self.old.catalog) w
-            (events_of self.old.config.own self.old.index octets.now)).put
-            ≡ w.put ++ map (report_view C.view) reports.new.items) }
+        ensures stands { (w : World C.Meaning)
+            → WorldStands {A = A} C.view w w.put self.old.discovery.kept self.old.readers []
+            → OnOk result (WorldStands C.view (world_run (C.decoding self.old.catalog) w
+            (events_of self.old.config.own self.old.index octets.now)) w.put
+            self.new.discovery.kept self.new.readers reports.new.items) }
     {
         let Ok(events) = events(alloc, self.config.own, self.index, octets) else {
             return Err(AllocError);
         };
         take_events(
+            &mut self.discovery,
             &mut self.readers,
             alloc,
-            &mut self.decoder,
             &events,
             reports,
         )
@@ -240,7 +240,7 @@ impl<C: Catalog, A: Allocator + Copy> SerialEngine<C, A> {
         requires { self.old.index < 2 ^ 48 }
         ensures { IsFinishedFrom self.old self.new }
     {
-        show_all(&self.readers, &mut self.statuses);
+        show_all(&self.readers.states, &mut self.statuses);
         self.index += 1;
         self.failed = false;
     }
@@ -249,7 +249,7 @@ impl<C: Catalog, A: Allocator + Copy> SerialEngine<C, A> {
     pub fn readers(&self) -> u32
         ensures { result ≡ length self.now.readers }
     {
-        self.readers.len() as u32
+        self.readers.states.len() as u32
     }
 
     /// The status of the reader of a rank, after the last datagram that was taken, or `None` where
@@ -273,14 +273,22 @@ impl<C: Catalog, A: Allocator + Copy> SerialEngine<C, A> {
         if self.failed {
             Err(EngineError::Failed)
         } else {
-            Ok(all_matches::<C, A>(alloc, &self.readers)?)
+            Ok(all_matches::<C, A>(alloc, &self.readers.states)?)
         }
+    }
+
+    /// What is known of the others, as the run knows it after the last datagram that was taken.
+    pub fn discovery(&self) -> &Discovery<A>
+        ensures { (datagrams : List (List ℕ)) → StandsAt C.decoding datagrams self.now
+            → IsKnown (run_by C.decoding self.now datagrams).known result.now.kept }
+    {
+        &self.discovery
     }
 
     /// The catalog that values are decoded by.
     pub fn catalog(&self) -> &C
         ensures { result.now ≡ self.now.catalog }
     {
-        self.decoder.catalog()
+        self.readers.decoder.catalog()
     }
 }

@@ -1,6 +1,7 @@
 //! Laws of the definitions. Each is a function that does nothing, whose contract is the law.
 
-ghost use Rattle.std.specs.Prelude.{◌≡◌, ◌++◌, ℕ, List, [], false, map, true};
+ghost use Rattle.std.specs.Prelude.{◌≡◌, ◌++◌, ℕ, List, [], length, map, true};
+ghost use Rattle.std.specs.List.{AllByRecursion};
 ghost use Rattle.std.specs.List.Sorted.{IsStrictlySortedBy};
 ghost use Rattle.rtps_discovery.specs.declared.config.Config.{Config};
 ghost use Rattle.dds_topic.specs.Decoding.{Decoding};
@@ -8,29 +9,42 @@ ghost use Rattle.rtps_reader.specs.Listed.{match_order};
 ghost use Rattle.rtps_serial.specs.declared.outcome.Outcome.{Outcome};
 ghost use Rattle.rtps_serial.specs.declared.outcome.Report.{Report};
 ghost use Rattle.rtps_serial.specs.Outcome.{Adds, report_view};
-ghost use Rattle.rtps_serial.specs.Presentation.{ArePresented, events_in, is_fixed, samples_in};
+ghost use Rattle.rtps_serial.specs.Presentation.{IsPresented, Never, events_in, is_fixed, stretches_in};
 ghost use Rattle.rtps_serial.specs.Run.{is_reliable_at, run};
-ghost use Rattle.rtps_serial.specs.Seen.{is_listed, is_matched_at, matches_seen};
+ghost use Rattle.rtps_serial.specs.Seen.{Agrees, is_listed, is_matched_at, matches_seen};
 ghost use Rattle.rtps_serial.specs.Turn.{AreInOrder};
 ghost use Rattle.rtps_types.specs.declared.identity.Guid.{Guid};
 
 use std::alloc::Allocator;
 
-/// Whatever datagrams come, and whatever the catalog makes of them: in the match of a reliable reader
-/// and a writer the sequence numbers of the samples rise strictly; a DATA of the match, or DATA_FRAGs
-/// with all its fragments, brought each sample, not after its place; and each number that is passed
-/// over was given up by then, by a GAP or an accepted HEARTBEAT of the match. Of a writer that the
-/// reader isn't matched with, no sample is presented.
+/// Whatever datagrams come, and whatever the catalog makes of them: what a reliable reader presents
+/// of a writer falls into stretches, cut where their match begins or ends. In each stretch the
+/// sequence numbers of the samples rise strictly; a DATA since the match began, or DATA_FRAGs with
+/// all its fragments, brought each sample, not after its place; and each number that is passed over
+/// was given up by then, by a GAP or an accepted HEARTBEAT since the match began. Where nothing is
+/// matched no sample is presented, by any reader; and a match from the start never ends, so that
+/// there is one stretch.
 pub fn presented<M>()
     ensures matched { (decoding : Decoding M) (config : Config) (datagrams : List (List ℕ))
         (rank : ℕ) (writer : Guid)
         → is_reliable_at config.readers.items rank ≡ true
-        → ArePresented decoding (events_in config datagrams rank writer)
-        (samples_in decoding config datagrams rank writer) }
+        → AllByRecursion (IsPresented decoding (events_in config datagrams rank writer))
+        (stretches_in decoding config datagrams rank writer) }
     ensures unmatched { (decoding : Decoding M) (config : Config) (datagrams : List (List ℕ))
         (rank : ℕ) (writer : Guid)
-        → is_fixed config rank writer ≡ false → samples_in decoding config datagrams rank writer
-        ≡ [] }
+        → AllByRecursion (λ s. s.since ≡ Never → s.samples ≡ [])
+        (stretches_in decoding config datagrams rank writer) }
+    ensures fixed { (decoding : Decoding M) (config : Config) (datagrams : List (List ℕ))
+        (rank : ℕ) (writer : Guid)
+        → is_fixed config rank writer ≡ true
+        → length (stretches_in decoding config datagrams rank writer) ≡ 1 }
+{}
+
+/// Whatever datagrams come: a reader is matched with just the writers that it matches by what is
+/// known.
+pub fn matches_agree<M>()
+    ensures { (decoding : Decoding M) (config : Config) (datagrams : List (List ℕ))
+        → Agrees (run decoding config datagrams) }
 {}
 
 /// Whatever datagrams come in a batch after others: an outcome that has what the run puts out more

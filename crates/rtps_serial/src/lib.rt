@@ -10,6 +10,7 @@ mod engine;
 mod errors;
 pub mod laws;
 mod outcome;
+mod readers;
 mod start;
 mod steps;
 #[cfg(test)]

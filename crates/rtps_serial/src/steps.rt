@@ -1,45 +1,124 @@
-//! The steps of the readers, one event after another.
+//! The steps of discovery and of the readers, one event after another.
 
-ghost use Rattle.std.specs.Prelude.{◌≡◌, ℕ, ◌<◌, ◌++◌, [], IfOk, OnOk, length, map, slice_index_or};
+ghost use Rattle.std.specs.Prelude.{◌≡◌, ℕ, ◌<◌, ◌++◌, [], IfOk, List, None, OnOk, false, length, map, slice_index_or, true};
+ghost use Rattle.std.specs.Option.{option_map};
 ghost use Rattle.rtps_receiver.specs.Events.{view};
+ghost use Rattle.rtps_discovery.specs.Addressed as addressed;
+ghost use Rattle.rtps_discovery.specs.Seen.{becomes_seen, change_seen};
+ghost use Rattle.rtps_proxy.specs.Replies.{reply_view};
 ghost use Rattle.rtps_reader.specs.declared.status.Status as status;
-ghost use Rattle.rtps_reader.specs.Notices.{answer_view, notice_view};
 ghost use Rattle.rtps_reader.specs.Standing.{ReaderKept};
+ghost use Rattle.rtps_reader.specs.Steps.{asked};
 ghost use Rattle.rtps_serial.specs.Outcome.{report_view};
 ghost use Rattle.rtps_serial.specs.Run.{world_run};
 ghost use Rattle.rtps_serial.specs.Seen.{matches_below};
-ghost use Rattle.rtps_serial.specs.Standing.{AllStand};
-ghost use Rattle.rtps_serial.specs.World.{Hears, World, puts_below, sent_by, world_after};
+ghost use Rattle.rtps_serial.specs.Standing.{AllStand, ReadersStand, WorldStands};
+ghost use Rattle.rtps_serial.specs.Steps.{AreByRank, change_step, event_steps, steps_run};
+ghost use Rattle.rtps_serial.specs.World.{Put, World, answer_put, doing_of, world_after};
 
 use crate::outcome::{Answer, Report};
-use dds_topic::{Catalog, Decoder};
-use rtps_discovery::{is_discovery, is_for};
-use rtps_reader::{Output, ReaderState, Status, Step};
+use crate::readers::Readers;
+use dds_topic::Catalog;
+use rtps_discovery::{Becomes, Discovery, MatchChange, is_discovery};
+use rtps_reader::{ReaderState, Status, Step, StepKind};
 use rtps_receiver::Event;
-use rtps_types::Guid;
+use rtps_types::{Guid, Place, Reply};
 use std::alloc::{AllocError, Allocator};
 use std::collections::BTreeSet;
 
-/// Moves what the reader of a rank gave after the reports: its notices, and then its answers.
-fn report_all<C: Catalog, A: Allocator>(
-    rank: u32,
-    output: &mut Output<C::Value, A>,
+/// Gives an event to the readers of these ranks, where it names them.
+fn take_by_ranks<C: Catalog, A: Allocator + Copy>(
+    readers: &mut Readers<C, A>,
+    alloc: A,
+    ranks: &[u32],
+    event: &Event<'_>,
     reports: &mut Vec<Report<C::Value, A>, A>,
 ) -> Result<(), AllocError>
-    ensures empty { OnOk result ((output.new.notices.items ≡ []) × (output.new.answers.items
-        ≡ [])) }
-    ensures moved { OnOk result (map (report_view C.view) reports.new.items
-        ≡ map (report_view C.view) reports.old.items
-        ++ (map (Hears rank) (map (notice_view C.view) output.old.notices.items)
-        ++ map (sent_by rank) (map answer_view output.old.answers.items))) }
+    ensures same { readers.new.decoder ≡ readers.old.decoder }
+    ensures count { length readers.new.states.items ≡ length readers.old.states.items }
+    ensures stands { (w : World C.Meaning) (earlier : List (Put C.Meaning))
+        → ReadersStand C.view w earlier readers.old.states.items reports.old.items
+        → OnOk result (ReadersStand C.view (steps_run (C.decoding readers.old.decoder)
+        event.now.place w (event_steps w (view event.now) ranks.now)) earlier
+        readers.new.states.items reports.new.items) }
 {
-    for notice in output.notices.drain(..) {
-        reports.push(Report::Notice { rank, notice })?;
+    let step = Step::of_event(event);
+    for rank in ranks {
+        if readers.is_named(*rank, event.reader) {
+            readers.step(alloc, *rank, &step, reports)?;
+        }
     }
-    for (place, reply) in output.answers.drain(..) {
+    Ok(())
+}
+
+/// What a change of what is known asks of the reader that hears of it.
+fn asked_by<A: Allocator>(what: &Becomes<A>) -> StepKind<'_>
+    ensures { asked result ≡ doing_of (becomes_seen what.now) }
+{
+    match what {
+        Becomes::Match(writer, locators) => StepKind::Match {
+            writer: *writer,
+            locators: locators.as_slice(),
+        },
+        Becomes::Unmatch(writer) => StepKind::Unmatch { writer: *writer },
+        Becomes::Refuse(writer, policy) => StepKind::Refuse {
+            writer: *writer,
+            policy: *policy,
+        },
+    }
+}
+
+/// Gives each change of what is known to the reader that hears of it, one after the other.
+fn take_changes<C: Catalog, A: Allocator + Copy>(
+    readers: &mut Readers<C, A>,
+    alloc: A,
+    place: Place,
+    changes: &[MatchChange<A>],
+    reports: &mut Vec<Report<C::Value, A>, A>,
+) -> Result<(), AllocError>
+    ensures same { readers.new.decoder ≡ readers.old.decoder }
+    ensures count { length readers.new.states.items ≡ length readers.old.states.items }
+    ensures stands { (w : World C.Meaning) (earlier : List (Put C.Meaning))
+        → ReadersStand C.view w earlier readers.old.states.items reports.old.items
+        → OnOk result (ReadersStand C.view (steps_run (C.decoding readers.old.decoder) place w
+        (map change_step (map change_seen changes.now))) earlier
+        readers.new.states.items reports.new.items) }
+{
+    for change in changes {
+        let step = Step {
+            place,
+            what: asked_by(&change.what),
+        };
+        readers.step(alloc, change.rank, &step, reports)?;
+    }
+    Ok(())
+}
+
+/// The changes by the rank of the reader that hears of them, and those of one rank in the order in
+/// which they came.
+fn by_rank<A: Allocator + Copy>(
+    mut changes: Vec<MatchChange<A>, A>,
+) -> Result<Vec<MatchChange<A>, A>, AllocError>
+    ensures { IfOk result (λ sorted. AreByRank changes.items sorted.items) }
+{
+    changes.sort_by_key(|change| change.rank)?;
+    Ok(changes)
+}
+
+/// Puts discovery's answer to the event at this place after the reports.
+fn report_answer<C: Catalog, A: Allocator>(
+    place: Place,
+    answer: Option<Reply<A>>,
+    reports: &mut Vec<Report<C::Value, A>, A>,
+) -> Result<(), AllocError>
+    ensures { OnOk result (map (report_view C.view) reports.new.items
+        ≡ map (report_view C.view) reports.old.items
+        ++ answer_put place (option_map reply_view answer)) }
+{
+    if let Some(reply) = answer {
         let answer = Answer {
             place,
-            rank: Some(rank),
+            rank: None,
             to: reply.to,
             octets: reply.octets,
         };
@@ -48,61 +127,76 @@ fn report_all<C: Catalog, A: Allocator>(
     Ok(())
 }
 
-/// Gives an event to the readers that it is for, by rank. An event of an announcer is discovery's
-/// alone.
-fn step_all<C: Catalog, A: Allocator + Copy>(
-    readers: &mut [ReaderState<A>],
+/// Gives an event of an announcer to discovery: reports what discovery answers, and then gives
+/// each reader its changes, by rank.
+fn take_announcement<C: Catalog, A: Allocator + Copy>(
+    discovery: &mut Discovery<A>,
+    readers: &mut Readers<C, A>,
     alloc: A,
-    decoder: &mut Decoder<C>,
     event: &Event<'_>,
     reports: &mut Vec<Report<C::Value, A>, A>,
 ) -> Result<(), AllocError>
-    ensures same { decoder.new ≡ decoder.old }
-    ensures stands { (w : World C.Meaning) → w.count ≡ length readers.old → AllStand w readers.old
-        → OnOk result (AllStand (world_after (C.decoding decoder.old) w
-        (view event.now)) readers.new) }
-    ensures put { (w : World C.Meaning) → w.count ≡ length readers.old → AllStand w readers.old
-        → OnOk result (map (report_view C.view) reports.new.items
-        ≡ map (report_view C.view) reports.old.items
-        ++ puts_below (C.decoding decoder.old) (view event.now) w.readers w.count) }
+    ensures same { readers.new.decoder ≡ readers.old.decoder }
+    ensures count { length readers.new.states.items ≡ length readers.old.states.items }
+    ensures stands { addressed.is_discovery event.now.writer ≡ true
+        → (w : World C.Meaning) (earlier : List (Put C.Meaning))
+        → WorldStands C.view w earlier discovery.old.kept readers.old.states.items reports.old.items
+        → OnOk result (WorldStands C.view (world_after (C.decoding readers.old.decoder) w
+        (view event.now)) earlier discovery.new.kept readers.new.states.items
+        reports.new.items) }
 {
-    if is_discovery(event.writer) {
-        return Ok(());
-    }
-    let step = Step::of_event(event);
-    let mut output = Output {
-        notices: Vec::new(alloc),
-        answers: Vec::new(alloc),
-    };
-    for at in 0..readers.len() {
-        if is_for(event.reader, readers[at].entity()) {
-            readers[at].step(alloc, decoder, &step, &mut output)?;
-            report_all::<C, A>(readers[at].rank(), &mut output, reports)?;
-        }
-    }
-    Ok(())
+    let effects = discovery.step(alloc, event)?;
+    report_answer::<C, A>(event.place, effects.answer, reports)?;
+    let changes = by_rank(effects.changes)?;
+    take_changes(readers, alloc, event.place, &changes, reports)
 }
 
-/// Gives events to the readers, one by one. What follows from them takes the place of what is in
-/// `reports`.
-pub(crate) fn take_events<C: Catalog, A: Allocator + Copy>(
-    readers: &mut [ReaderState<A>],
+/// Takes one event in. An event of an announcer is discovery's; any other event is for the readers
+/// that are matched with its writer, where it names them.
+fn take_event<C: Catalog, A: Allocator + Copy>(
+    discovery: &mut Discovery<A>,
+    readers: &mut Readers<C, A>,
     alloc: A,
-    decoder: &mut Decoder<C>,
+    event: &Event<'_>,
+    reports: &mut Vec<Report<C::Value, A>, A>,
+) -> Result<(), AllocError>
+    ensures same { readers.new.decoder ≡ readers.old.decoder }
+    ensures count { length readers.new.states.items ≡ length readers.old.states.items }
+    ensures stands { (w : World C.Meaning) (earlier : List (Put C.Meaning))
+        → WorldStands C.view w earlier discovery.old.kept readers.old.states.items reports.old.items
+        → OnOk result (WorldStands C.view (world_after (C.decoding readers.old.decoder) w
+        (view event.now)) earlier discovery.new.kept readers.new.states.items
+        reports.new.items) }
+{
+    if is_discovery(event.writer) {
+        return take_announcement(discovery, readers, alloc, event, reports);
+    }
+    let writer = Guid {
+        prefix: event.source,
+        entity: event.writer,
+    };
+    take_by_ranks(readers, alloc, discovery.matched(writer), event, reports)
+}
+
+/// Takes events in, one by one. What follows from them takes the place of what is in `reports`.
+pub(crate) fn take_events<C: Catalog, A: Allocator + Copy>(
+    discovery: &mut Discovery<A>,
+    readers: &mut Readers<C, A>,
+    alloc: A,
     events: &[Event<'_>],
     reports: &mut Vec<Report<C::Value, A>, A>,
 ) -> Result<(), AllocError>
-    ensures same { decoder.new ≡ decoder.old }
-    ensures stands { (w : World C.Meaning) → w.count ≡ length readers.old → AllStand w readers.old
-        → OnOk result (AllStand (world_run (C.decoding decoder.old) w
-        (map view events.now)) readers.new) }
-    ensures put { (w : World C.Meaning) → w.count ≡ length readers.old → AllStand w readers.old
-        → OnOk result ((world_run (C.decoding decoder.old) w (map view events.now)).put
-        ≡ w.put ++ map (report_view C.view) reports.new.items) }
+    ensures same { readers.new.decoder ≡ readers.old.decoder }
+    ensures count { length readers.new.states.items ≡ length readers.old.states.items }
+    ensures stands { (w : World C.Meaning)
+        → WorldStands {A = A} C.view w w.put discovery.old.kept readers.old.states.items []
+        → OnOk result (WorldStands C.view (world_run (C.decoding readers.old.decoder) w
+        (map view events.now)) w.put discovery.new.kept readers.new.states.items
+        reports.new.items) }
 {
     reports.clear();
     for event in events {
-        step_all(readers, alloc, decoder, event, reports)?;
+        take_event(discovery, readers, alloc, event, reports)?;
     }
     Ok(())
 }

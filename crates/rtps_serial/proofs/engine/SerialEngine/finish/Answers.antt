@@ -11,6 +11,7 @@ returns g c = rw (sym c.self.view_is) (
       config = refl;
       index = refl;
       sound = refl;
+      discovery = refl;
       readers = refl;
       count = ap length front ∙ omega (arith, c.show_all.auto.statuses, ap length c.deref_mut.ensures.value);
       statuses = λ rank s r below. ap (λ l. get_or l rank s) front ∙ (rw c.deref.ensures.value at c.show_all.ensures) rank s r below;

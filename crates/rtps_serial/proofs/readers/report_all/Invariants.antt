@@ -3,7 +3,7 @@ use Rattle.std.specs.Vec.Iter.{drain_items}
 use Rattle.rtps_reader.specs.Notices.{answer_view, notice_view}
 use Rattle.rtps_serial.specs.Outcome.{report_view}
 use Rattle.rtps_serial.specs.World.{Hears, sent_by}
-use Rattle.rtps_serial.proofs.steps.report_all.Given as goal
+use Rattle.rtps_serial.proofs.readers.report_all.Given as goal
 
 -- what was added, with the notices that are left, is all of them
 abbrev pub invariant-loop-notice : goal.invariant-loop-notice

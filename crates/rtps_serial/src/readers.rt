@@ -1,0 +1,112 @@
+//! The readers of a participant, each by its rank.
+
+ghost use Rattle.std.specs.Prelude.{◌≡◌, ◌<◌, ◌≤◌, ◌++◌, List, OnOk, false, length, map, slice_index_or};
+ghost use Rattle.rtps_discovery.specs.Addressed as addressed;
+ghost use Rattle.rtps_reader.specs.Notices.{answer_view, notice_view};
+ghost use Rattle.rtps_reader.specs.Standing.{ReaderKept};
+ghost use Rattle.rtps_reader.specs.Steps.{asked};
+ghost use Rattle.rtps_serial.specs.Outcome.{report_view};
+ghost use Rattle.rtps_serial.specs.Standing.{ReadersStand};
+ghost use Rattle.rtps_serial.specs.Steps.{step_by, world_stepped};
+ghost use Rattle.rtps_serial.specs.World.{Hears, Put, World, sent_by};
+
+use crate::outcome::{Answer, Report};
+use dds_topic::{Catalog, Decoder};
+use rtps_discovery::is_for;
+use rtps_reader::{Output, ReaderState, Step};
+use rtps_types::EntityId;
+use std::alloc::{AllocError, Allocator};
+
+/// The readers of a participant, and what their steps need.
+#[derive(Drop)]
+pub(crate) struct Readers<C: Catalog, A: Allocator> {
+    pub decoder: Decoder<C>,
+    /// By rank.
+    pub states: Vec<ReaderState<A>, A>,
+    /// What a step gives before it is reported: kept from step to step, so that its memory is used
+    /// again.
+    output: Output<C::Value, A>,
+}
+
+impl<C: Catalog, A: Allocator + Copy> Readers<C, A> {
+    /// These readers, whose samples are decoded so.
+    pub fn new(alloc: A, decoder: Decoder<C>, states: Vec<ReaderState<A>, A>) -> Readers<C, A>
+        ensures decoder { result.decoder ≡ decoder }
+        ensures states { result.states ≡ states }
+    {
+        Readers {
+            decoder,
+            states,
+            output: Output {
+                notices: Vec::new(alloc),
+                answers: Vec::new(alloc),
+            },
+        }
+    }
+
+    /// Whether there is a reader of the rank, and a reader id is for it.
+    pub fn is_named(&self, rank: u32, reader: EntityId) -> bool
+        ensures named { (other : ReaderKept) → rank < length self.now.states.items
+            → result ≡ addressed.is_for reader
+            (slice_index_or self.now.states.items rank other).entity }
+        ensures past { length self.now.states.items ≤ rank → result ≡ false }
+    {
+        match self.states.get(rank as usize) {
+            Some(state) => is_for(reader, state.entity()),
+            None => false,
+        }
+    }
+
+    /// Takes one step of the reader of a rank, and puts what the reader gives after the reports:
+    /// its notices, and then its answers. There is no reader past the last rank.
+    pub fn step(
+        &mut self,
+        alloc: A,
+        rank: u32,
+        step: &Step<'_>,
+        reports: &mut Vec<Report<C::Value, A>, A>,
+    ) -> Result<(), AllocError>
+        ensures same { self.new.decoder ≡ self.old.decoder }
+        ensures count { length self.new.states.items ≡ length self.old.states.items }
+        ensures stands { (w : World C.Meaning) (earlier : List (Put C.Meaning))
+            → ReadersStand C.view w earlier self.old.states.items reports.old.items
+            → OnOk result (ReadersStand C.view (world_stepped (C.decoding self.old.decoder)
+            step.now.place w (step_by rank (asked step.now.what))) earlier
+            self.new.states.items reports.new.items) }
+    {
+        let at = rank as usize;
+        if at >= self.states.len() {
+            return Ok(());
+        }
+        self.output.notices.clear();
+        self.output.answers.clear();
+        self.states[at].step(alloc, &mut self.decoder, step, &mut self.output)?;
+        report_all::<C, A>(rank, &mut self.output, reports)
+    }
+}
+
+/// Moves what the reader of a rank gave after the reports: its notices, and then its answers.
+fn report_all<C: Catalog, A: Allocator>(
+    rank: u32,
+    output: &mut Output<C::Value, A>,
+    reports: &mut Vec<Report<C::Value, A>, A>,
+) -> Result<(), AllocError>
+    ensures { OnOk result (map (report_view C.view) reports.new.items
+        ≡ map (report_view C.view) reports.old.items
+        ++ (map (Hears rank) (map (notice_view C.view) output.old.notices.items)
+        ++ map (sent_by rank) (map answer_view output.old.answers.items))) }
+{
+    for notice in output.notices.drain(..) {
+        reports.push(Report::Notice { rank, notice })?;
+    }
+    for (place, reply) in output.answers.drain(..) {
+        let answer = Answer {
+            place,
+            rank: Some(rank),
+            to: reply.to,
+            octets: reply.octets,
+        };
+        reports.push(Report::Answer(answer))?;
+    }
+    Ok(())
+}
