@@ -15,3 +15,4 @@ pub mod OneOrder
 pub mod Turns
 pub mod InOrder
 pub mod Listing
+pub mod Agreeing

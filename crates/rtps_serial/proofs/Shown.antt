@@ -1,23 +1,34 @@
 -- The samples of one match, with their places.
-use Rattle.std.proofs.Common.{◌≡◌, ℕ, ◌<◌, ◌≤◌, ◌⊎◌, Bool, true, false, ◌||◌, List, [], ◌∷◌, ◌++◌, map, refl, sym, ◌∙◌, ap, subst, arith, eqb, inl, inr}
+use Rattle.std.proofs.Common.{◌≡◌, ℕ, ◌<◌, ◌≤◌, ◌⊎◌, Bool, true, false, ◌||◌, if◌then◌else◌, List, [], ◌∷◌, ◌++◌, map, refl, sym, ◌∙◌, ap, subst, arith, eqb, inl, inr}
 use Rattle.std.specs.List.{list_any, AllByRecursion}
 use Rattle.std.proofs.lemmas.Bool.Decides.{nat_tests}
 use Rattle.std.proofs.lemmas.List.{map-append}
 use Rattle.std.proofs.lemmas.List.Folds.{list_any-append}
+use Rattle.rtps_types.specs.declared.identity.Guid.{Guid}
 use Rattle.rtps_types.specs.declared.place.Place.{Place}
 use Rattle.rtps_receiver.specs.Events.{Happening}
 use Rattle.rtps_proxy.specs.History.{Came, Sample}
 use Rattle.rtps_proxy.specs.Presentation.{Brings, IsGivenUp, IsPresented, RisesStrictly, presented}
 use Rattle.rtps_proxy.specs.Received.{ready}
 use Rattle.rtps_proxy.proofs.Presenting.{presented_rises, ready_brought, ready_passes_over}
+use Rattle.rtps_proxy.specs.Matches.{same_guid}
 use Rattle.dds_topic.specs.Decoding.{Decoding}
+use Rattle.rtps_reader.specs.declared.notice.Notice.{Notice}
 use Rattle.rtps_reader.specs.Body.{body_by}
-use Rattle.rtps_serial.specs.Presentation.{ArePresented, IsBrought, PassesOverOnly, Shown, came_by, came_of, not_after}
+use Rattle.rtps_serial.specs.Presentation.{ArePresented, IsBrought, PassesOverOnly, Shown, came_by, came_of, not_after, shown_in}
 use Rattle.rtps_serial.proofs.Places.{PlacesFall, all_append, all_both, all_map, all_of_map, all_weaker}
 
 -- a sample, as a reader presents it at a place
 abbrev pub shown : {M : Type 0} → Decoding M → Place → Sample → Shown M
 shown decoding place s = record { place = place; number = s.number; time = s.time; body = body_by decoding s.info s.payload }
+
+-- the samples of a writer among these notices, in order
+abbrev pub samples_of : {M : Type 0} → Guid → List (Notice M) → List (Shown M)
+samples_of writer [] = []
+samples_of writer (n ∷ ns) =
+    if same_guid n.writer writer
+    then shown_in n.place n.what ++ samples_of writer ns
+    else samples_of writer ns
 
 -- the samples that these submessages of a match give, the newest submessage first
 abbrev pub shown_after : {M : Type 0} → Decoding M → List Happening → List (Shown M)
