@@ -1,5 +1,6 @@
 -- In a run each reader is matched with just the writers that it matches by what is known.
 use Rattle.std.proofs.Common.{◌≡◌, ℕ, ◌<◌, ◌==◌, Bool, true, false, not, ◌&&◌, ◌||◌, if◌then◌else◌, List, [], ◌∷◌, ◌++◌, length, map, filter, Option, Some, None, is_some, Contains, ◌⊎◌, inl, inr, refl, sym, ap, ◌∙◌, subst, true≢false, arith}
+use Rattle.std.specs.List.{list_any}
 use Rattle.std.specs.Option.{option_map}
 use Rattle.std.proofs.lemmas.Bool.Decides.{nat_tests}
 use Rattle.rtps_types.specs.declared.identity.EntityId.{EntityId}
@@ -11,21 +12,22 @@ use Rattle.rtps_discovery.specs.Announcement.{Announcement, Comes, Leave, Offers
 use Rattle.rtps_discovery.specs.Changes.{Becomes, ChangeAt, Matches, Unmatches, Refuses, at, changes, changes_run, known_run}
 use Rattle.rtps_discovery.specs.declared.config.Config.{Config}
 use Rattle.rtps_discovery.specs.declared.config.FixedMatch.{FixedMatch}
-use Rattle.rtps_discovery.specs.Known.{Known, Wish, is_fixed, is_joined, is_matched, known_after, locators_at, reader_at, standing}
+use Rattle.rtps_discovery.specs.Known.{Known, Wish, is_fixed, is_joined, is_matched, known_after, locators_at, reader_at}
 use Rattle.rtps_discovery.specs.Records.{announcements, announcer_of, changes_by, came_of, known_by, noted}
 use Rattle.rtps_discovery.specs.Start.{first_known, pair_of, reader_of}
 use Rattle.rtps_discovery.proofs.Differences.{at_first, differences, first_or, later_in, none_in}
 use Rattle.rtps_discovery.proofs.OneWriter.{no_writer}
-use Rattle.rtps_proxy.specs.Matches.{Match, begun, ended, extended, fresh, match_with, same_guid}
+use Rattle.rtps_proxy.specs.Matches.{Match, begun, extended, fresh, match_with, same_guid}
 use Rattle.rtps_proxy.proofs.Matching.{same_is}
 use Rattle.dds_topic.specs.Decoding.{Decoding}
-use Rattle.rtps_reader.specs.Reader.{Reader, all_begun, fresh_with, reader_after, reader_run, whom_of}
+use Rattle.rtps_reader.specs.Reader.{Reader, all_begun, first_matches, fresh_with, reader_after, reader_run, whom_of}
 use Rattle.rtps_reader.specs.Steps.{Doing, Takes, Begins, Ends, Refused, asks_of}
 use Rattle.rtps_reader.proofs.Begun.{match_begun, same_self}
+use Rattle.rtps_serial.specs.Presentation as start
 use Rattle.rtps_serial.specs.Run.{entity_of, first_world, fixed_of, is_reliable_at, run, events_from, world_run}
-use Rattle.rtps_serial.specs.Seen.{Agrees, reader_count}
+use Rattle.rtps_serial.specs.Seen.{Agrees}
 use Rattle.rtps_serial.specs.World.{World, addressed_to, changes_for, doing_of, doings, known_after_event, world_after}
-use Rattle.rtps_serial.proofs.Matched.{either_way, ended_match, extend, extended_match}
+use Rattle.rtps_serial.proofs.Matched.{ended_match, extend, extended_match}
 
 -- ---- whether there is a match with a writer
 
@@ -72,7 +74,7 @@ has_run g r (d ∷ ds) = has_run g (reader_after r d) ds ∙ ap (λ b. after_doi
 -- ---- what changes make of it
 
 -- a change begins or ends a match with the writer
-abbrev touches : Guid → Becomes → Bool
+abbrev pub touches : Guid → Becomes → Bool
 touches g (Matches w ls) = same_guid w g
 touches g (Unmatches w) = same_guid w g
 touches g (Refuses w policy) = false
@@ -188,7 +190,7 @@ readers_stay k (Withdraws g) = refl
 readers_stay k (Asks g) = refl
 readers_stay k (AsksNoMore g) = refl
 
-fixed_stay : (k : Known) (a : Announcement) → (known_after k a).fixed ≡ k.fixed
+pub fixed_stay : (k : Known) (a : Announcement) → (known_after k a).fixed ≡ k.fixed
 fixed_stay k (Comes p f) = refl
 fixed_stay k (Leave gone) = refl
 fixed_stay k (Offers g w) = refl
@@ -212,12 +214,12 @@ run_presence k (a ∷ more) rank g =
     ∙ run_presence (known_after k a) more rank g
 
 -- and so does what is noted of an announcer
-record IsAlike (k j : Known) : Type 0 where
-  readers : j.readers ≡ k.readers
-  fixed : j.fixed ≡ k.fixed
-  writers : j.writers ≡ k.writers
+pub record IsAlike (k j : Known) : Type 0 where
+  pub readers : j.readers ≡ k.readers
+  pub fixed : j.fixed ≡ k.fixed
+  pub writers : j.writers ≡ k.writers
 
-noted_alike : (k : Known) (e : Happening) → IsAlike k (noted k e)
+pub noted_alike : (k : Known) (e : Happening) → IsAlike k (noted k e)
 noted_alike k e = by_test (is_some (announcer_of k e))
   where
     by_test : (b : Bool) → IsAlike k (if b then record k { announcers = extended (writer_of e) (came_of e) k.announcers } else k)
@@ -306,6 +308,22 @@ fixed_begun g own entity b rank (m ∷ fixed) ms = by_rank (m.rank == rank) refl
 or_none : (b : Bool) → (b || false) ≡ b
 or_none true = refl
 or_none false = refl
+
+pairs_fixed : (rank : ℕ) (g : Guid) (fixed : List FixedMatch) → is_fixed (map pair_of fixed) rank g ≡ list_any (λ (m : FixedMatch). m.rank == rank && same_guid m.writer g) fixed
+pairs_fixed rank g [] = refl
+pairs_fixed rank g (m ∷ fixed) = ap (λ b. (m.rank == rank && same_guid m.writer g) || b) (pairs_fixed rank g fixed)
+
+-- what is known at the start has the fixed pairs of the configuration
+pub first_fixed : (config : Config) (rank : ℕ) (g : Guid) → is_fixed (first_known config).fixed rank g ≡ start.is_fixed config rank g
+first_fixed config rank g = pairs_fixed rank g config.fixed.items
+
+-- at the start a reader is matched with the writers of its fixed pairs
+pub first_has : (config : Config) (rank : ℕ) (g : Guid)
+    → has g (first_matches config.own (entity_of config.readers.items rank) (is_reliable_at config.readers.items rank) (fixed_of config.fixed.items rank)) ≡ start.is_fixed config rank g
+first_has config rank g =
+    fixed_begun g config.own (entity_of config.readers.items rank) (is_reliable_at config.readers.items rank) rank config.fixed.items []
+    ∙ or_none (is_fixed (map pair_of config.fixed.items) rank g)
+    ∙ first_fixed config rank g
 
 pub agrees_first : (M : Type 0) (config : Config) → Agrees (first_world {M = M} config)
 agrees_first M config rank g below =

@@ -10,9 +10,10 @@ pub mod Matched
 pub mod Presenting
 pub mod Stepped
 pub mod Taking
-pub mod Unmatched
 pub mod OneOrder
 pub mod Turns
 pub mod InOrder
 pub mod Listing
 pub mod Agreeing
+pub mod Stretching
+pub mod Lasting

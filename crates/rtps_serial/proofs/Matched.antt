@@ -1,5 +1,5 @@
 -- What one step does to the match of a reader with a writer, and what the reader gives out at it.
-use Rattle.std.proofs.Common.{◌≡◌, ℕ, zero, suc, ◌<◌, ◌≤◌, Bool, true, false, not, ◌&&◌, if◌then◌else◌, List, [], ◌∷◌, ◌++◌, map, length, Option, Some, None, refl, sym, ◌∙◌, ap, subst, arith, eqb, append-nil, append_assoc, true≢false, inl, inr}
+use Rattle.std.proofs.Common.{◌≡◌, ℕ, zero, suc, ◌<◌, ◌≤◌, Bool, true, false, if◌then◌else◌, List, [], ◌∷◌, ◌++◌, map, Option, Some, None, refl, sym, ◌∙◌, ap, subst, arith, eqb, append-nil, append_assoc, true≢false, inl, inr}
 use Rattle.std.specs.Option.{option_map}
 use Rattle.std.specs.List.{AllByRecursion}
 use Rattle.std.proofs.lemmas.Bool.Decides.{eqb_tells, nat_tests}
@@ -24,7 +24,7 @@ use Rattle.rtps_reader.specs.Steps.{Doing}
 use Rattle.rtps_reader.proofs.Begun.{same_self}
 use Rattle.rtps_serial.specs.Presentation.{Shown, shown_in}
 use Rattle.rtps_serial.specs.Seen.{notices_by, reader_count}
-use Rattle.rtps_serial.specs.World.{Put, Hears, World, answer_put, discovery_puts, doings, puts_at, puts_below, puts_run, sent_by, world_after}
+use Rattle.rtps_serial.specs.World.{Hears, World, answer_put, discovery_puts, doings, puts_at, puts_below, puts_run, sent_by, world_after}
 use Rattle.rtps_serial.proofs.Dealt.{notices_by-append}
 use Rattle.rtps_serial.proofs.Shown.{samples_of, shown}
 
