@@ -25,7 +25,7 @@ use Rattle.rtps_reader.specs.Steps.{Doing, Takes, Begins, Ends, Refused, asks_of
 use Rattle.rtps_reader.proofs.Begun.{match_begun, same_self}
 use Rattle.rtps_serial.specs.Presentation as start
 use Rattle.rtps_serial.specs.Run.{entity_of, first_world, fixed_of, is_reliable_at, run, events_from, world_run}
-use Rattle.rtps_serial.specs.Seen.{Agrees}
+use Rattle.rtps_serial.specs.Seen.{Agrees, reader_count}
 use Rattle.rtps_serial.specs.World.{World, addressed_to, changes_for, doing_of, doings, known_after_event, world_after}
 use Rattle.rtps_serial.proofs.Matched.{ended_match, extend, extended_match}
 
@@ -34,7 +34,7 @@ use Rattle.rtps_serial.proofs.Matched.{ended_match, extend, extended_match}
 abbrev pub has : Guid → List Match → Bool
 has g ms = is_some (match_with g ms)
 
-some_if : (b : Bool) (m : Match) (o : Option Match) → is_some (if b then Some m else o) ≡ (b || is_some o)
+pub some_if : (b : Bool) (m : Match) (o : Option Match) → is_some (if b then Some m else o) ≡ (b || is_some o)
 some_if true m o = refl
 some_if false m o = refl
 
@@ -272,6 +272,11 @@ fixed_kept k e = by_kind (is_discovery e.writer)
 
 -- ---- runs
 
+-- no event changes how many readers there are
+pub count_kept : {M : Type 0} (decoding : Decoding M) (w : World M) (es : List Happening) → reader_count (world_run decoding w es) ≡ reader_count w
+count_kept decoding w [] = refl
+count_kept decoding w (e ∷ es) = count_kept decoding (world_after decoding w e) es ∙ ap (λ (rs : List (Option Wish)). length rs) (readers_kept w.known e)
+
 pub agrees_after : {M : Type 0} (decoding : Decoding M) (w : World M) (e : Happening) → Agrees w → Agrees (world_after decoding w e)
 agrees_after decoding w e agrees rank g below =
     let was_below : rank < length w.known.readers = subst (λ (rs : List (Option Wish)). rank < length rs) (readers_kept w.known e) below in
@@ -305,7 +310,7 @@ fixed_begun g own entity b rank (m ∷ fixed) ms = by_rank (m.rank == rank) refl
         ∙ turned (is_fixed (map pair_of fixed) rank g) (same_guid m.writer g) (has g ms))
     by_rank false is rest = rw is (rest ms)
 
-or_none : (b : Bool) → (b || false) ≡ b
+pub or_none : (b : Bool) → (b || false) ≡ b
 or_none true = refl
 or_none false = refl
 

@@ -198,7 +198,7 @@ other_run decoding place rank k r (d ∷ ds) h =
     ∙ ap (λ l. l ++ notices_by rank (puts_run decoding place k (reader_after r d) ds)) (other_at decoding place rank k r d h)
     ∙ other_run decoding place rank k (reader_after r d) ds h
 
-none_below : {M : Type 0} (decoding : Decoding M) (k : Known) (e : Happening) (readers : ℕ → Reader) (rank n : ℕ) → n ≤ rank → notices_by rank (puts_below decoding k e readers n) ≡ []
+pub none_below : {M : Type 0} (decoding : Decoding M) (k : Known) (e : Happening) (readers : ℕ → Reader) (rank n : ℕ) → n ≤ rank → notices_by rank (puts_below decoding k e readers n) ≡ []
 none_below decoding k e readers rank zero le = refl
 none_below decoding k e readers rank (suc n) le =
     let differ : eqb n rank ≡ false = grind (arith, nat_tests) in
@@ -240,13 +240,18 @@ unheard {M} rank k e = by_test (is_discovery e.writer)
     by_test true = by_answer (answered k e)
     by_test false = refl
 
+-- all notices of an event are readers': discovery gives out none
+pub heard_event : {M : Type 0} (decoding : Decoding M) (w : World M) (rank : ℕ) (e : Happening)
+    → notices_by rank (discovery_puts w.known e ++ puts_below decoding w.known e w.readers (reader_count w)) ≡ notices_by rank (puts_below decoding w.known e w.readers (reader_count w))
+heard_event decoding w rank e =
+    notices_by-append rank (discovery_puts w.known e) (puts_below decoding w.known e w.readers (reader_count w))
+    ∙ ap (λ l. l ++ notices_by rank (puts_below decoding w.known e w.readers (reader_count w))) (unheard rank w.known e)
+
 heard_more : {M : Type 0} (decoding : Decoding M) (w : World M) (rank : ℕ) (e : Happening)
     → notices_by rank (world_after decoding w e).put ≡ notices_by rank w.put ++ notices_by rank (puts_below decoding w.known e w.readers (reader_count w))
 heard_more decoding w rank e =
     notices_by-append rank w.put (discovery_puts w.known e ++ puts_below decoding w.known e w.readers (reader_count w))
-    ∙ ap (λ l. notices_by rank w.put ++ l)
-    (notices_by-append rank (discovery_puts w.known e) (puts_below decoding w.known e w.readers (reader_count w))
-    ∙ ap (λ l. l ++ notices_by rank (puts_below decoding w.known e w.readers (reader_count w))) (unheard rank w.known e))
+    ∙ ap (λ l. notices_by rank w.put ++ l) (heard_event decoding w rank e)
 
 -- one event more, as the reader of a rank reports it
 pub told_more : {M : Type 0} (decoding : Decoding M) (w : World M) (rank : ℕ) (e : Happening) → rank < reader_count w
