@@ -22,13 +22,14 @@ use Rattle.rtps_serial.specs.declared.turn.ReportKind.{ReportKind}
 use Rattle.rtps_serial.specs.declared.turn.ReportKind.TheVariants as kind
 use Rattle.rtps_serial.specs.Outcome.{Adds, answer_view, notices_in, report_view}
 use Rattle.rtps_serial.specs.Run.{events_from, first_world, run, world_run}
-use Rattle.rtps_serial.specs.Seen.{answers_in, notices_by}
+use Rattle.rtps_serial.specs.Seen.{answers_in, notices_by, reader_count}
 use Rattle.rtps_serial.specs.Turn.{AreInOrder, notices_from, reports_of, turn_of, turn_order}
 use Rattle.rtps_serial.specs.World.{Put, Hears, Sends, Sending, World}
+use Rattle.rtps_serial.proofs.Agreeing.{count_kept}
 use Rattle.rtps_serial.proofs.Dealt.{answers_in-append, notices_by-append}
 use Rattle.rtps_serial.proofs.OneOrder.{filter-map, one_order, rises_map, rises_sorted, stable_by}
 use Rattle.rtps_serial.proofs.Places.{PlacesRise, rise_from}
-use Rattle.rtps_serial.proofs.Running.{count_stays, world_run-append}
+use Rattle.rtps_serial.proofs.Running.{world_run-append}
 use Rattle.rtps_serial.proofs.Turns.{alike_turns, before, equal_turns, put_all, put_turn, run_none, run_puts, run_rises, same_kind, same_rank, turns_total, view_turn, weak}
 
 -- a test that passes only notices of one rank
@@ -214,7 +215,7 @@ run_in_order {V} {M} {A} f d config datagrams batch outcome reports adds ordered
     let es = events_from config.own (0 + length datagrams) batch in
     let next : run d config (datagrams ++ batch) ≡ world_run d w es = ap (world_run d (first_world config)) (events_more config.own 0 datagrams batch) ∙ world_run-append d (first_world config) (events_from config.own 0 datagrams) es in
     let put : (run d config (datagrams ++ batch)).put ≡ w.put ++ run_puts d w es = ap (λ (v : World M). v.put) next ∙ put_all d w es in
-    let count : (run d config (datagrams ++ batch)).count ≡ w.count = ap (λ (v : World M). v.count) next ∙ count_stays d w es in
+    let count : reader_count (run d config (datagrams ++ batch)) ≡ reader_count w = ap (λ (v : World M). reader_count v) next ∙ count_kept d w es in
     let has : Has f (run_puts d w es) outcome = record {
       notices = λ rank other below. append_cancel_left (notices_by rank w.put) (notices_by rank (run_puts d w es)) (notices_in f (get_or outcome.notices.items rank other))
           (sym (notices_by-append rank w.put (run_puts d w es)) ∙ ap (notices_by rank) (sym put) ∙ adds.notices rank other (omega (arith, below, adds.readers)));

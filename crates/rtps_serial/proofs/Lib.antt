@@ -13,7 +13,9 @@ pub mod Shown
 pub mod Matched
 pub mod Presenting
 pub mod Taking
-pub mod Unmatched
 pub mod Turns
 pub mod InOrder
 pub mod Listing
+pub mod Agreeing
+pub mod Stretching
+pub mod Lasting

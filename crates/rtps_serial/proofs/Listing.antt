@@ -14,11 +14,11 @@ use Rattle.std.proofs.lemmas.Slice.Eq.{bytes_eq-Decides}
 use Rattle.rtps_types.specs.declared.identity.Guid.{Guid}
 use Rattle.rtps_types.specs.Order.{octet_order}
 use Rattle.rtps_reader.specs.Listed.{match_order, with_writers}
-use Rattle.rtps_proxy.specs.Matches.{Match, same_guid}
+use Rattle.rtps_proxy.specs.Matches.{Match, match_with, same_guid}
 use Rattle.rtps_reader.specs.Reader.{Reader}
 use Rattle.rtps_reader.proofs.Following.{inserted}
 use Rattle.rtps_serial.specs.Seen.{is_listed, matches_below}
-use Rattle.rtps_serial.specs.World.{is_matched}
+use Rattle.rtps_serial.proofs.Agreeing.{has, or_none, some_if}
 use Rattle.rtps_serial.proofs.Turns.{numbers_same, then_first, then_second}
 
 matches_total : IsTotalOrder match_order
@@ -85,18 +85,14 @@ listed_with rank writer ks n (w ∷ ws) =
     ∙ sym (or_group (is_one rank writer (n, w)) (list_any (λ w. is_one rank writer (n, w)) ws) (list_any (is_one rank writer) ks))
 
 -- of another rank no match is the one, and of its own rank those of the writer are
-of_rank : (rank : ℕ) (writer : Guid) (n : ℕ) (ms : List Match) → list_any (λ w. is_one rank writer (n, w)) (map (λ (m : Match). m.whom.writer) ms) ≡ (n == rank && is_matched ms writer)
+of_rank : (rank : ℕ) (writer : Guid) (n : ℕ) (ms : List Match) → list_any (λ w. is_one rank writer (n, w)) (map (λ (m : Match). m.whom.writer) ms) ≡ (n == rank && has writer ms)
 of_rank rank writer n ms = by_test (n == rank) ms
   where
-    by_test : (b : Bool) (ms : List Match) → list_any (λ w. b && same_guid w writer) (map (λ (m : Match). m.whom.writer) ms) ≡ (b && is_matched ms writer)
+    by_test : (b : Bool) (ms : List Match) → list_any (λ w. b && same_guid w writer) (map (λ (m : Match). m.whom.writer) ms) ≡ (b && has writer ms)
     by_test true [] = refl
-    by_test true (m ∷ ms) = ap (λ b. same_guid m.whom.writer writer || b) (by_test true ms)
+    by_test true (m ∷ ms) = ap (λ b. same_guid m.whom.writer writer || b) (by_test true ms) ∙ sym (some_if (same_guid m.whom.writer writer) m (match_with writer ms))
     by_test false [] = refl
     by_test false (m ∷ ms) = by_test false ms
-
-or_none : (b : Bool) → (b || false) ≡ b
-or_none true = refl
-or_none false = refl
 
 next_rank : (rank n : ℕ) (here there : Bool) → (n ≡ rank → here ≡ there) → (n == rank && here || (nat_lt rank n && there)) ≡ (nat_lt rank (suc n) && there)
 next_rank rank n here there same = by_test (n == rank) (nat_lt rank n) (nat_lt rank (suc n)) refl refl refl
@@ -110,10 +106,10 @@ next_rank rank n here there same = by_test (n == rank) (nat_lt rank n) (nat_lt r
     by_test false false true e f g = absurd (grind (arith, nat_tests))
     by_test false false false e f g = refl
 
-pub below_listed : (readers : ℕ → Reader) (n rank : ℕ) (writer : Guid) → is_listed (matches_below readers n) rank writer ≡ (nat_lt rank n && is_matched (readers rank).matches writer)
+pub below_listed : (readers : ℕ → Reader) (n rank : ℕ) (writer : Guid) → is_listed (matches_below readers n) rank writer ≡ (nat_lt rank n && has writer (readers rank).matches)
 below_listed readers zero rank writer = let past : nat_lt rank zero ≡ false = grind (arith, nat_tests) in rw past refl
 below_listed readers (suc n) rank writer =
     listed_with rank writer (matches_below readers n) n (map (λ (m : Match). m.whom.writer) (readers n).matches)
     ∙ ap (λ b. b || list_any (is_one rank writer) (matches_below readers n)) (of_rank rank writer n (readers n).matches)
-    ∙ ap (λ b. n == rank && is_matched (readers n).matches writer || b) (below_listed readers n rank writer)
-    ∙ next_rank rank n (is_matched (readers n).matches writer) (is_matched (readers rank).matches writer) (λ same. ap (λ k. is_matched (readers k).matches writer) same)
+    ∙ ap (λ b. n == rank && has writer (readers n).matches || b) (below_listed readers n rank writer)
+    ∙ next_rank rank n (has writer (readers n).matches) (has writer (readers rank).matches) (λ same. ap (λ k. has writer (readers k).matches) same)

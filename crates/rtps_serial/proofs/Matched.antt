@@ -1,33 +1,34 @@
--- What one event does to the match of a reader with a writer, and what the reader gives out of it.
-use Rattle.std.proofs.Common.{◌≡◌, ℕ, zero, suc, ◌<◌, ◌≤◌, Bool, true, false, not, ◌&&◌, if◌then◌else◌, List, [], ◌∷◌, ◌++◌, map, Option, Some, None, refl, sym, ◌∙◌, ap, subst, arith, eqb, append-nil, append_assoc, true≢false, inl, inr}
+-- What one step does to the match of a reader with a writer, and what the reader gives out at it.
+use Rattle.std.proofs.Common.{◌≡◌, ℕ, zero, suc, ◌<◌, ◌≤◌, Bool, true, false, if◌then◌else◌, List, [], ◌∷◌, ◌++◌, map, Option, Some, None, refl, sym, ◌∙◌, ap, subst, arith, eqb, append-nil, append_assoc, true≢false, inl, inr}
 use Rattle.std.specs.Option.{option_map}
+use Rattle.std.specs.List.{AllByRecursion}
 use Rattle.std.proofs.lemmas.Bool.Decides.{eqb_tells, nat_tests}
+use Rattle.rtps_types.specs.SequenceNumber.{IsNumber}
 use Rattle.rtps_types.specs.declared.identity.Guid.{Guid}
 use Rattle.rtps_types.specs.declared.place.Place.{Place}
+use Rattle.rtps_types.proofs.Nearest.{value_of-nearest}
 use Rattle.rtps_receiver.specs.Events.{Happening}
-use Rattle.rtps_discovery.specs.Addressed.{is_addressed, is_discovery, is_for, writer_of}
+use Rattle.rtps_discovery.specs.Addressed.{is_discovery}
+use Rattle.rtps_discovery.specs.Known.{Known}
+use Rattle.rtps_discovery.specs.Records.{answered}
 use Rattle.rtps_proxy.specs.History.{Came, Sample}
-use Rattle.rtps_proxy.specs.Matches.{Match, extended, match_with, same_guid}
+use Rattle.rtps_proxy.specs.Matches.{Match, ended, extended, match_with, same_guid}
 use Rattle.rtps_proxy.specs.Replies.{Sent}
 use Rattle.rtps_proxy.proofs.Matching.{same_is}
-use Rattle.rtps_reader.proofs.Begun.{same_self}
-use Rattle.std.specs.List.{AllByRecursion}
-use Rattle.rtps_types.specs.SequenceNumber.{IsNumber}
-use Rattle.rtps_types.proofs.Nearest.{value_of-nearest}
 use Rattle.dds_topic.specs.Decoding.{Decoding}
 use Rattle.rtps_reader.specs.declared.notice.Notice.{Notice}
 use Rattle.rtps_reader.specs.declared.notice.NoticeKind.TheVariants.{Lost}
 use Rattle.rtps_reader.specs.Body.{body_by}
 use Rattle.rtps_reader.specs.Reader.{Reader, loses, lost_at, presented, reader_after, ready_at, sends, tells, told_of}
-use Rattle.rtps_reader.specs.Steps.{asks_of}
-use Rattle.rtps_serial.specs.Presentation.{Shown, came_of, samples_of, shown_in}
-use Rattle.rtps_serial.specs.Seen.{notices_by}
-use Rattle.rtps_serial.specs.World.{Put, Hears, puts, puts_below, reader_by, reaches, sent_by}
+use Rattle.rtps_reader.specs.Steps.{Doing}
+use Rattle.rtps_reader.proofs.Begun.{same_self}
+use Rattle.rtps_serial.specs.Presentation.{Shown, shown_in}
+use Rattle.rtps_serial.specs.Seen.{notices_by, reader_count}
+use Rattle.rtps_serial.specs.World.{Hears, World, answer_put, discovery_puts, doings, puts_at, puts_below, puts_run, sent_by, world_after}
 use Rattle.rtps_serial.proofs.Dealt.{notices_by-append}
-use Rattle.rtps_serial.proofs.Reached.{puts_none, puts_told, reader_left, reader_taken}
-use Rattle.rtps_serial.proofs.Shown.{shown}
+use Rattle.rtps_serial.proofs.Shown.{samples_of, shown}
 
-other_way : (a b : Guid) → same_guid a b ≡ false → same_guid b a ≡ false
+pub other_way : (a b : Guid) → same_guid a b ≡ false → same_guid b a ≡ false
 other_way a b h = by_test (same_guid b a) refl
   where
     by_test : (t : Bool) → same_guid b a ≡ t → t ≡ false
@@ -41,7 +42,7 @@ abbrev pub extend : Came → Match → Match
 extend c m = record { whom = m.whom; past = c ∷ m.past }
 
 -- an event of one writer extends the match with it, and with no other
-extended_match : (g w : Guid) (c : Came) (ms : List Match) → match_with g (extended w c ms) ≡ (if same_guid g w then option_map (extend c) (match_with g ms) else match_with g ms)
+pub extended_match : (g w : Guid) (c : Came) (ms : List Match) → match_with g (extended w c ms) ≡ (if same_guid g w then option_map (extend c) (match_with g ms) else match_with g ms)
 extended_match g w c ms = by_test (same_guid g w) refl
   where
     same : (ms : List Match) → match_with g (extended g c ms) ≡ option_map (extend c) (match_with g ms)
@@ -69,39 +70,43 @@ extended_match g w c ms = by_test (same_guid g w) refl
     by_test true e = subst (λ v. match_with g (extended v c ms) ≡ option_map (extend c) (match_with g ms)) (same_is g w e) (same ms)
     by_test false e = others e ms
 
--- a value that depends on the reader id and then on the writer, once discovery's events are left out
-chosen : {X : Type 0} (d s n : Bool) (x y z : X) → d ≡ false → (n ≡ true → z ≡ (if s then x else y)) → (n ≡ false → z ≡ y) → z ≡ (if not d && (s && n) then x else y)
-chosen true s n x y z h t f = absurd (true≢false h)
-chosen false true true x y z h t f = t refl
-chosen false true false x y z h t f = f refl
-chosen false false true x y z h t f = t refl
-chosen false false false x y z h t f = f refl
+pub either_way : {X : Type 0} (b : Bool) (x : X) → (if b then x else x) ≡ x
+either_way true x = refl
+either_way false x = refl
 
--- an event extends the match exactly where it is addressed to it
-pub match_step : (g : Guid) (e : Happening) (r : Reader) → match_with g (reader_by e r).matches ≡ (if is_addressed (same_guid g) r.entity e then option_map (extend (came_of e)) (match_with g r.matches) else match_with g r.matches)
-match_step g e r = by_writer (is_discovery e.writer) refl
-  where
-    by_writer : (d : Bool) → is_discovery e.writer ≡ d → match_with g (reader_by e r).matches ≡ (if is_addressed (same_guid g) r.entity e then option_map (extend (came_of e)) (match_with g r.matches) else match_with g r.matches)
-    by_writer true h = rw h refl
-    by_writer false h =
-        chosen (is_discovery e.writer) (same_guid g (writer_of e)) (is_for e.reader r.entity)
-        (option_map (extend (came_of e)) (match_with g r.matches)) (match_with g r.matches) (match_with g (reader_by e r).matches) h
-        (λ meant. ap (λ (s : Reader). match_with g s.matches) (reader_taken e r h meant) ∙ extended_match g (writer_of e) (came_of e) r.matches)
-        (λ other. ap (λ (s : Reader). match_with g s.matches) (reader_left e r other))
+none_twice : (b : Bool) (x : Option Match) (o : Option Match) → (if b then None else o) ≡ (if b then None else (if b then x else o))
+none_twice true x o = refl
+none_twice false x o = refl
 
--- a reader keeps its entity
-pub entity_stays : (e : Happening) (r : Reader) → (reader_by e r).entity ≡ r.entity
-entity_stays e r = by_test (reaches e r) (reader_after r (asks_of e)) r refl
+none_later : (a b : Bool) (x : Option Match) (o : Option Match) → (a ≡ true → b ≡ false) → (if a then x else (if b then None else o)) ≡ (if b then None else (if a then x else o))
+none_later true true x o h = absurd (true≢false (h refl))
+none_later true false x o h = refl
+none_later false b x o h = refl
+
+-- the match with one writer ends, and with no other
+pub ended_match : (g w : Guid) (ms : List Match) → match_with g (ended w ms) ≡ (if same_guid w g then None else match_with g ms)
+ended_match g w [] = sym (either_way (same_guid w g) None)
+ended_match g w (m ∷ ms) = by_test (same_guid m.whom.writer w) refl (ended_match g w ms)
   where
-    by_test : (b : Bool) (s r : Reader) → s.entity ≡ r.entity → (if b then s else r).entity ≡ r.entity
-    by_test true s r h = h
-    by_test false s r h = refl
+    differs : same_guid m.whom.writer w ≡ false → same_guid m.whom.writer g ≡ true → same_guid w g ≡ false
+    differs other this = other_way g w (subst (λ h. same_guid h w ≡ false) (same_is m.whom.writer g this) other)
+
+    by_test : (b : Bool) → same_guid m.whom.writer w ≡ b → match_with g (ended w ms) ≡ (if same_guid w g then None else match_with g ms)
+        → match_with g (ended w (m ∷ ms)) ≡ (if same_guid w g then None else match_with g (m ∷ ms))
+    by_test true e rest =
+        let same : same_guid m.whom.writer g ≡ same_guid w g = ap (λ h. same_guid h g) (same_is m.whom.writer w e) in
+        rw e (rest ∙ none_twice (same_guid w g) (Some m) (match_with g ms) ∙ ap (λ b. if same_guid w g then None else (if b then Some m else match_with g ms)) (sym same))
+    by_test false e rest =
+        rw e (ap (λ o. if same_guid m.whom.writer g then Some m else o) rest
+        ∙ none_later (same_guid m.whom.writer g) (same_guid w g) (Some m) (match_with g ms) (differs e))
+
+-- ---- the samples among the notices of a reader
 
 samples_then : {M : Type 0} (b : Bool) (x xs ys : List (Shown M)) → (if b then x ++ (xs ++ ys) else xs ++ ys) ≡ (if b then x ++ xs else xs) ++ ys
 samples_then true x xs ys = sym (append_assoc x xs ys)
 samples_then false x xs ys = refl
 
-pub samples_of-append : {M : Type 0} (g : Guid) (xs ys : List (Notice M)) → samples_of g (xs ++ ys) ≡ samples_of g xs ++ samples_of g ys
+samples_of-append : {M : Type 0} (g : Guid) (xs ys : List (Notice M)) → samples_of g (xs ++ ys) ≡ samples_of g xs ++ samples_of g ys
 samples_of-append g [] ys = refl
 samples_of-append g (n ∷ xs) ys = rw (samples_of-append g xs ys) (samples_then (same_guid n.writer g) (shown_in n.place n.what) (samples_of g xs) (samples_of g ys))
 
@@ -113,10 +118,6 @@ own_samples {M} decoding place g (s ∷ ss) all =
   where
     numbered : ℕ → Shown M
     numbered n = record { place = place; number = n; time = s.time; body = body_by decoding s.info s.payload }
-
-pub either_way : {X : Type 0} (b : Bool) (x : X) → (if b then x else x) ≡ x
-either_way true x = refl
-either_way false x = refl
 
 no_losses : {M : Type 0} (place : Place) (g w : Guid) (count : ℕ) → samples_of {M = M} g (loses place w count) ≡ []
 no_losses {M} place g w count = by_test (eqb count 0)
@@ -138,20 +139,19 @@ other_samples : {M : Type 0} (decoding : Decoding M) (place : Place) (g w : Guid
 other_samples decoding place g w h [] = refl
 other_samples decoding place g w h (s ∷ ss) = rw h (other_samples decoding place g w h ss)
 
-told_by_other : {M : Type 0} (decoding : Decoding M) (place : Place) (g w : Guid) (c : Came) (o : Option Match) → same_guid w g ≡ false → samples_of g (told_of decoding place w c o) ≡ []
+pub told_by_other : {M : Type 0} (decoding : Decoding M) (place : Place) (g w : Guid) (c : Came) (o : Option Match) → same_guid w g ≡ false → samples_of g (told_of decoding place w c o) ≡ []
 told_by_other decoding place g w c None h = refl
 told_by_other decoding place g w c (Some m) h =
     samples_of-append g (loses place w (lost_at m c)) (map (presented decoding place w) (ready_at m c))
     ∙ ap (λ l. l ++ samples_of g (map (presented decoding place w) (ready_at m c))) (no_losses place g w (lost_at m c))
     ∙ other_samples decoding place g w h (ready_at m c)
 
-told_by : {M : Type 0} (decoding : Decoding M) (place : Place) (g w : Guid) (c : Came) (ms : List Match)
-    → samples_of g (told_of decoding place w c (match_with w ms)) ≡ (if same_guid g w then samples_of g (told_of decoding place g c (match_with g ms)) else [])
-told_by decoding place g w c ms = by_test (same_guid g w) refl
-  where
-    by_test : (b : Bool) → same_guid g w ≡ b → samples_of g (told_of decoding place w c (match_with w ms)) ≡ (if b then samples_of g (told_of decoding place g c (match_with g ms)) else [])
-    by_test true e = subst (λ v. samples_of g (told_of decoding place v c (match_with v ms)) ≡ samples_of g (told_of decoding place g c (match_with g ms))) (same_is g w e) refl
-    by_test false e = told_by_other decoding place g w c (match_with w ms) (other_way g w e)
+-- ---- the notices of one reader among all that is put out
+
+-- what a reader gives out at one step after the other
+abbrev pub told_run : {M : Type 0} → Decoding M → Place → Reader → List Doing → List (Notice M)
+told_run decoding place r [] = []
+told_run decoding place r (d ∷ ds) = tells decoding r place d ++ told_run decoding place (reader_after r d) ds
 
 same_rank : (k : ℕ) → eqb k k ≡ true
 same_rank k = grind (arith, nat_tests)
@@ -168,75 +168,101 @@ none_sent : {M : Type 0} (rank k : ℕ) (ss : List (Place × Sent)) → notices_
 none_sent rank k [] = refl
 none_sent rank k (s ∷ ss) = none_sent rank k ss
 
--- of what a reader puts out at an event, its notices
-heard_only : {M : Type 0} (rank : ℕ) (ns : List (Notice M)) (ss : List (Place × Sent)) → notices_by rank (map (Hears rank) ns ++ map (sent_by rank) ss) ≡ ns
-heard_only rank ns ss =
-    notices_by-append rank (map (Hears rank) ns) (map (sent_by rank) ss)
-    ∙ ap (λ l. notices_by rank (map (Hears rank) ns) ++ l) (none_sent rank rank ss)
-    ∙ append-nil (notices_by rank (map (Hears rank) ns))
-    ∙ heard_all rank ns
+-- of what a reader puts out at a step, its notices
+heard_at : {M : Type 0} (decoding : Decoding M) (place : Place) (rank : ℕ) (r : Reader) (d : Doing) → notices_by rank (puts_at decoding place rank r d) ≡ tells decoding r place d
+heard_at decoding place rank r d =
+    notices_by-append rank (map (Hears rank) (tells decoding r place d)) (map (sent_by rank) (sends r place d))
+    ∙ ap (λ l. notices_by rank (map (Hears rank) (tells decoding r place d)) ++ l) (none_sent rank rank (sends r place d))
+    ∙ append-nil (notices_by rank (map (Hears rank) (tells decoding r place d)))
+    ∙ heard_all rank (tells decoding r place d)
 
--- the notices of a reader at an event that is for it
-pub heard_of_one : {M : Type 0} (decoding : Decoding M) (e : Happening) (rank : ℕ) (r : Reader) → is_discovery e.writer ≡ false → is_for e.reader r.entity ≡ true
-    → notices_by rank (puts decoding e rank r) ≡ tells decoding r e.place (asks_of e)
-heard_of_one {M} decoding e rank r other meant =
-    ap (λ (p : List (Put M)). notices_by rank p) (puts_told decoding e rank r other meant) ∙ heard_only rank (tells decoding r e.place (asks_of e)) (sends r e.place (asks_of e))
+heard_run : {M : Type 0} (decoding : Decoding M) (place : Place) (rank : ℕ) (r : Reader) (ds : List Doing) → notices_by rank (puts_run decoding place rank r ds) ≡ told_run decoding place r ds
+heard_run decoding place rank r [] = refl
+heard_run decoding place rank r (d ∷ ds) =
+    notices_by-append rank (puts_at decoding place rank r d) (puts_run decoding place rank (reader_after r d) ds)
+    ∙ ap (λ l. l ++ notices_by rank (puts_run decoding place rank (reader_after r d) ds)) (heard_at decoding place rank r d)
+    ∙ ap (λ l. tells decoding r place d ++ l) (heard_run decoding place rank (reader_after r d) ds)
 
 -- and none of another reader's
-heard_of_none : {M : Type 0} (decoding : Decoding M) (e : Happening) (rank k : ℕ) (r : Reader) → eqb k rank ≡ false → notices_by rank (puts decoding e k r) ≡ []
-heard_of_none decoding e rank k r h = by_test (reaches e r)
-  where
-    by_test : (b : Bool) → notices_by rank (if b then map (Hears k) (tells decoding r e.place (asks_of e)) ++ map (sent_by k) (sends r e.place (asks_of e)) else []) ≡ []
-    by_test true =
-        notices_by-append rank (map (Hears k) (tells decoding r e.place (asks_of e))) (map (sent_by k) (sends r e.place (asks_of e)))
-        ∙ ap (λ l. notices_by rank (map (Hears k) (tells decoding r e.place (asks_of e))) ++ l) (none_sent rank k (sends r e.place (asks_of e)))
-        ∙ append-nil (notices_by rank (map (Hears k) (tells decoding r e.place (asks_of e))))
-        ∙ heard_none rank k h (tells decoding r e.place (asks_of e))
-    by_test false = refl
+other_at : {M : Type 0} (decoding : Decoding M) (place : Place) (rank k : ℕ) (r : Reader) (d : Doing) → eqb k rank ≡ false → notices_by rank (puts_at decoding place k r d) ≡ []
+other_at decoding place rank k r d h =
+    notices_by-append rank (map (Hears k) (tells decoding r place d)) (map (sent_by k) (sends r place d))
+    ∙ ap (λ l. notices_by rank (map (Hears k) (tells decoding r place d)) ++ l) (none_sent rank k (sends r place d))
+    ∙ append-nil (notices_by rank (map (Hears k) (tells decoding r place d)))
+    ∙ heard_none rank k h (tells decoding r place d)
 
--- the samples of a writer that a reader reports at an event: those of its match, where the event is addressed to it
-told_step : {M : Type 0} (decoding : Decoding M) (g : Guid) (e : Happening) (rank : ℕ) (r : Reader)
-    → samples_of g (notices_by rank (puts decoding e rank r)) ≡ (if is_addressed (same_guid g) r.entity e then samples_of g (told_of decoding e.place g (came_of e) (match_with g r.matches)) else [])
-told_step {M} decoding g e rank r = by_writer (is_discovery e.writer) refl
-  where
-    by_writer : (d : Bool) → is_discovery e.writer ≡ d
-        → samples_of g (notices_by rank (puts decoding e rank r)) ≡ (if is_addressed (same_guid g) r.entity e then samples_of g (told_of decoding e.place g (came_of e) (match_with g r.matches)) else [])
-    by_writer true h = rw h refl
-    by_writer false h =
-        chosen (is_discovery e.writer) (same_guid g (writer_of e)) (is_for e.reader r.entity)
-        (samples_of g (told_of decoding e.place g (came_of e) (match_with g r.matches))) [] (samples_of g (notices_by rank (puts decoding e rank r))) h
-        (λ meant. ap (samples_of g) (heard_of_one decoding e rank r h meant) ∙ told_by decoding e.place g (writer_of e) (came_of e) r.matches)
-        (λ other. ap (λ (p : List (Put M)). samples_of g (notices_by rank p)) (puts_none decoding e rank r other))
+other_run : {M : Type 0} (decoding : Decoding M) (place : Place) (rank k : ℕ) (r : Reader) (ds : List Doing) → eqb k rank ≡ false → notices_by rank (puts_run decoding place k r ds) ≡ []
+other_run decoding place rank k r [] h = refl
+other_run decoding place rank k r (d ∷ ds) h =
+    notices_by-append rank (puts_at decoding place k r d) (puts_run decoding place k (reader_after r d) ds)
+    ∙ ap (λ l. l ++ notices_by rank (puts_run decoding place k (reader_after r d) ds)) (other_at decoding place rank k r d h)
+    ∙ other_run decoding place rank k (reader_after r d) ds h
 
-pub none_below : {M : Type 0} (decoding : Decoding M) (e : Happening) (readers : ℕ → Reader) (rank n : ℕ) → n ≤ rank → notices_by rank (puts_below decoding e readers n) ≡ []
-none_below decoding e readers rank zero le = refl
-none_below decoding e readers rank (suc n) le =
+pub none_below : {M : Type 0} (decoding : Decoding M) (k : Known) (e : Happening) (readers : ℕ → Reader) (rank n : ℕ) → n ≤ rank → notices_by rank (puts_below decoding k e readers n) ≡ []
+none_below decoding k e readers rank zero le = refl
+none_below decoding k e readers rank (suc n) le =
     let differ : eqb n rank ≡ false = grind (arith, nat_tests) in
-    notices_by-append rank (puts_below decoding e readers n) (puts decoding e n (readers n))
-    ∙ ap (λ l. notices_by rank (puts_below decoding e readers n) ++ l) (heard_of_none decoding e rank n (readers n) differ)
-    ∙ append-nil (notices_by rank (puts_below decoding e readers n))
-    ∙ none_below decoding e readers rank n (omega arith)
+    notices_by-append rank (puts_below decoding k e readers n) (puts_run decoding e.place n (readers n) (doings k n e))
+    ∙ ap (λ l. notices_by rank (puts_below decoding k e readers n) ++ l) (other_run decoding e.place rank n (readers n) (doings k n e) differ)
+    ∙ append-nil (notices_by rank (puts_below decoding k e readers n))
+    ∙ none_below decoding k e readers rank n (omega arith)
 
 -- of what all readers put out at an event, the notices of one
-pub by_rank : {M : Type 0} (decoding : Decoding M) (e : Happening) (readers : ℕ → Reader) (rank n : ℕ) → rank < n → notices_by rank (puts_below decoding e readers n) ≡ notices_by rank (puts decoding e rank (readers rank))
-by_rank decoding e readers rank zero l = absurd (omega arith)
-by_rank decoding e readers rank (suc n) l =
+by_rank : {M : Type 0} (decoding : Decoding M) (k : Known) (e : Happening) (readers : ℕ → Reader) (rank n : ℕ) → rank < n
+    → notices_by rank (puts_below decoding k e readers n) ≡ told_run decoding e.place (readers rank) (doings k rank e)
+by_rank decoding k e readers rank zero l = absurd (omega arith)
+by_rank decoding k e readers rank (suc n) l =
     elim (eqb_tells n rank) [
       | inl w ↦ (
-          notices_by-append rank (puts_below decoding e readers n) (puts decoding e n (readers n))
-          ∙ ap (λ l. l ++ notices_by rank (puts decoding e n (readers n))) (none_below decoding e readers rank n (omega (arith, w.1)))
-          ∙ ap (λ k. notices_by rank (puts decoding e k (readers k))) w.1
+          notices_by-append rank (puts_below decoding k e readers n) (puts_run decoding e.place n (readers n) (doings k n e))
+          ∙ ap (λ l. l ++ notices_by rank (puts_run decoding e.place n (readers n) (doings k n e))) (none_below decoding k e readers rank n (omega (arith, w.1)))
+          ∙ ap (λ i. notices_by rank (puts_run decoding e.place i (readers i) (doings k i e))) w.1
+          ∙ heard_run decoding e.place rank (readers rank) (doings k rank e)
           )
       | inr w ↦ (
           let differ = w.1 in
-          notices_by-append rank (puts_below decoding e readers n) (puts decoding e n (readers n))
-          ∙ ap (λ l. notices_by rank (puts_below decoding e readers n) ++ l) (heard_of_none decoding e rank n (readers n) w.0)
-          ∙ append-nil (notices_by rank (puts_below decoding e readers n))
-          ∙ by_rank decoding e readers rank n (omega arith)
+          notices_by-append rank (puts_below decoding k e readers n) (puts_run decoding e.place n (readers n) (doings k n e))
+          ∙ ap (λ l. notices_by rank (puts_below decoding k e readers n) ++ l) (other_run decoding e.place rank n (readers n) (doings k n e) w.0)
+          ∙ append-nil (notices_by rank (puts_below decoding k e readers n))
+          ∙ by_rank decoding k e readers rank n (omega arith)
           )
     ]
 
--- the samples of a writer that are reported at an event
-pub told_at : {M : Type 0} (decoding : Decoding M) (g : Guid) (e : Happening) (readers : ℕ → Reader) (rank n : ℕ) → rank < n
-    → samples_of g (notices_by rank (puts_below decoding e readers n)) ≡ (if is_addressed (same_guid g) (readers rank).entity e then samples_of g (told_of decoding e.place g (came_of e) (match_with g (readers rank).matches)) else [])
-told_at decoding g e readers rank n l = ap (samples_of g) (by_rank decoding e readers rank n l) ∙ told_step decoding g e rank (readers rank)
+-- discovery reports nothing
+unheard : {M : Type 0} (rank : ℕ) (k : Known) (e : Happening) → notices_by {M = M} rank (discovery_puts k e) ≡ []
+unheard {M} rank k e = by_test (is_discovery e.writer)
+  where
+    by_answer : (o : Option Sent) → notices_by {M = M} rank (answer_put e.place o) ≡ []
+    by_answer None = refl
+    by_answer (Some s) = refl
+
+    by_test : (b : Bool) → notices_by {M = M} rank (if b then answer_put e.place (answered k e) else []) ≡ []
+    by_test true = by_answer (answered k e)
+    by_test false = refl
+
+-- all notices of an event are readers': discovery gives out none
+pub heard_event : {M : Type 0} (decoding : Decoding M) (w : World M) (rank : ℕ) (e : Happening)
+    → notices_by rank (discovery_puts w.known e ++ puts_below decoding w.known e w.readers (reader_count w)) ≡ notices_by rank (puts_below decoding w.known e w.readers (reader_count w))
+heard_event decoding w rank e =
+    notices_by-append rank (discovery_puts w.known e) (puts_below decoding w.known e w.readers (reader_count w))
+    ∙ ap (λ l. l ++ notices_by rank (puts_below decoding w.known e w.readers (reader_count w))) (unheard rank w.known e)
+
+heard_more : {M : Type 0} (decoding : Decoding M) (w : World M) (rank : ℕ) (e : Happening)
+    → notices_by rank (world_after decoding w e).put ≡ notices_by rank w.put ++ notices_by rank (puts_below decoding w.known e w.readers (reader_count w))
+heard_more decoding w rank e =
+    notices_by-append rank w.put (discovery_puts w.known e ++ puts_below decoding w.known e w.readers (reader_count w))
+    ∙ ap (λ l. notices_by rank w.put ++ l) (heard_event decoding w rank e)
+
+-- one event more, as the reader of a rank reports it
+pub told_more : {M : Type 0} (decoding : Decoding M) (w : World M) (rank : ℕ) (e : Happening) → rank < reader_count w
+    → notices_by rank (world_after decoding w e).put ≡ notices_by rank w.put ++ told_run decoding e.place (w.readers rank) (doings w.known rank e)
+told_more decoding w rank e below =
+    heard_more decoding w rank e
+    ∙ ap (λ l. notices_by rank w.put ++ l) (by_rank decoding w.known e w.readers rank (reader_count w) below)
+
+-- a rank that no reader has reports nothing
+pub untold : {M : Type 0} (decoding : Decoding M) (w : World M) (rank : ℕ) (e : Happening) → reader_count w ≤ rank → notices_by rank w.put ≡ [] → notices_by rank (world_after decoding w e).put ≡ []
+untold decoding w rank e past none =
+    heard_more decoding w rank e
+    ∙ ap (λ l. l ++ notices_by rank (puts_below decoding w.known e w.readers (reader_count w))) none
+    ∙ none_below decoding w.known e w.readers rank (reader_count w) past

@@ -1,10 +1,11 @@
 -- The places of the events of a run rise.
-use Rattle.std.proofs.Common.{◌≡◌, ℕ, ◌+◌, ◌<◌, ◌≤◌, List, [], ◌∷◌, ◌++◌, map, Bool, true, false, Option, Some, None, Result, Ok, Err, if◌then◌else◌, refl, arith}
+use Rattle.std.proofs.Common.{◌≡◌, ℕ, ◌+◌, ◌<◌, ◌≤◌, List, [], ◌∷◌, ◌++◌, map, Bool, true, false, not, Option, Some, None, Result, Ok, Err, if◌then◌else◌, refl, ap, ◌∙◌, arith}
 use Rattle.std.specs.Prelude.{drop, filter, option_to_list}
 use mathlib.Core.List.{reverse_aux}
 use Rattle.std.specs.List.{AllByRecursion}
 use Rattle.std.specs.Str.{bytes_eq}
 use Rattle.std.proofs.lemmas.Bool.Decides.{nat_tests}
+use Rattle.std.proofs.lemmas.List.Elements.{filter-append}
 use Rattle.rtps_types.specs.declared.identity.EntityId.{EntityId}
 use Rattle.rtps_types.specs.declared.identity.Guid.{Guid}
 use Rattle.rtps_types.specs.declared.identity.GuidPrefix.{GuidPrefix}
@@ -20,7 +21,7 @@ use Rattle.rtps_receiver.specs.Context.{destination_of, source_of, time_of}
 use Rattle.rtps_receiver.specs.Events.{Happening, event_behind, events_behind, events_of, events_under, happening}
 use Rattle.rtps_discovery.specs.Addressed.{is_addressed}
 use Rattle.rtps_proxy.specs.Matches.{same_guid}
-use Rattle.rtps_serial.specs.Presentation.{events_for, not_after}
+use Rattle.rtps_serial.specs.Presentation.{events_after, events_for, not_after}
 use Rattle.rtps_serial.specs.Run.{events_from}
 
 -- each event comes after those before it in the list
@@ -166,3 +167,83 @@ pub places_fall : (own : GuidPrefix) (datagrams : List (List ℕ)) (writer : Gui
 places_fall own datagrams writer reader =
     reversed_falls (filter (is_addressed (same_guid writer) reader) (events_from own 0 datagrams)) [] (filter_rises (is_addressed (same_guid writer) reader) (events_from own 0 datagrams) (places_rise own datagrams)) tt
     (none_before (filter (is_addressed (same_guid writer) reader) (events_from own 0 datagrams)))
+
+-- ---- the submessages since a place
+
+filter_falls : (p : Happening → Bool) (es : List Happening) → PlacesFall es → PlacesFall (filter p es)
+filter_falls p [] h = tt
+filter_falls p (e ∷ es) h = by_test (p e) (filter_falls p es h.1)
+  where
+    by_test : (b : Bool) → PlacesFall (filter p es) → PlacesFall (if b then e ∷ filter p es else filter p es)
+    by_test true rest = (all_filter (λ d. not_after e.place d.place ≡ false) p es h.0, rest)
+    by_test false rest = rest
+
+-- those after a place fall too
+pub later_fall : (place : Place) (es : List Happening) → PlacesFall es → PlacesFall (events_after place es)
+later_fall place es falls = filter_falls (λ e. not (not_after e.place place)) es falls
+
+-- each of the later ones is after each of the earlier ones
+pub later_first : (later mine : List Happening) → PlacesFall (reverse_aux later mine) → PlacesFall mine × AllByRecursion (λ e. AllByRecursion (λ d. not_after e.place d.place ≡ false) mine) later
+later_first [] mine falls = (falls, tt)
+later_first (e ∷ later) mine falls =
+    let rest = later_first later (e ∷ mine) falls in
+    (rest.0.1, (rest.0.0, all_weaker (λ d. AllByRecursion (λ c. not_after d.place c.place ≡ false) (e ∷ mine)) (λ d. AllByRecursion (λ c. not_after d.place c.place ≡ false) mine) later (λ d h. h.1) rest.1))
+
+filter_reversed : (p : Happening → Bool) (xs ys : List Happening) → filter p (reverse_aux xs ys) ≡ reverse_aux (filter p xs) (filter p ys)
+filter_reversed p [] ys = refl
+filter_reversed p (x ∷ xs) ys = filter_reversed p xs (x ∷ ys) ∙ by_test (p x)
+  where
+    by_test : (b : Bool) → reverse_aux (filter p xs) (if b then x ∷ filter p ys else filter p ys) ≡ reverse_aux (if b then x ∷ filter p xs else filter p xs) (filter p ys)
+    by_test true = refl
+    by_test false = refl
+
+none_pass : (p : Happening → Bool) (es : List Happening) → AllByRecursion (λ e. p e ≡ false) es → filter p es ≡ []
+none_pass p [] h = refl
+none_pass p (e ∷ es) h = let here : p e ≡ false = h.0 in rw here (none_pass p es h.1)
+
+all_pass : (p : Happening → Bool) (es : List Happening) → AllByRecursion (λ e. p e ≡ true) es → filter p es ≡ es
+all_pass p [] h = refl
+all_pass p (e ∷ es) h = let here : p e ≡ true = h.0 in rw here (ap (λ l. e ∷ l) (all_pass p es h.1))
+
+-- of a run the events before one and those after it
+parted : (before : List Happening) (e : Happening) (left : List Happening) → PlacesRise (before ++ e ∷ left)
+    → AllByRecursion (λ d. not_after e.place d.place ≡ false) before × AllByRecursion (λ d. not_after d.place e.place ≡ false) left
+parted [] e left rises = (tt, rises.0)
+parted (d ∷ before) e left rises =
+    let rest = parted before e left rises.1 in
+    ((at_one before rises.0, rest.0), rest.1)
+  where
+    at_one : (ds : List Happening) → AllByRecursion (λ c. not_after c.place d.place ≡ false) (ds ++ e ∷ left) → not_after e.place d.place ≡ false
+    at_one [] all = all.0
+    at_one (c ∷ ds) all = at_one ds all.1
+
+is_before : (a b : Place) → not_after a b ≡ false → not (not_after b a) ≡ false
+is_before a b h = grind (arith, nat_tests)
+
+is_later : (a b : Place) → not_after a b ≡ false → not (not_after a b) ≡ true
+is_later a b h = rw h refl
+
+-- the submessages for a match after the place of an event that isn't one of them are those of the events after it
+pub events_since : (writer : Guid) (reader : EntityId) (before : List Happening) (e : Happening) (left : List Happening) → PlacesRise (before ++ e ∷ left)
+    → is_addressed (same_guid writer) reader e ≡ false
+    → events_after e.place (events_for writer reader (before ++ e ∷ left)) ≡ reverse_aux (filter (is_addressed (same_guid writer) reader) left) []
+events_since writer reader before e left rises other =
+    filter_reversed later (filter mine (before ++ e ∷ left)) []
+    ∙ ap (λ l. reverse_aux (filter later l) []) (filter-append mine before (e ∷ left) ∙ ap (λ b. filter mine before ++ (if b then e ∷ filter mine left else filter mine left)) other)
+    ∙ ap (λ l. reverse_aux l []) (filter-append later (filter mine before) (filter mine left) ∙ ap (λ l. l ++ filter later (filter mine left)) earlier_pass ∙ later_pass)
+  where
+    later : Happening → Bool
+    later d = not (not_after d.place e.place)
+
+    mine : Happening → Bool
+    mine = is_addressed (same_guid writer) reader
+
+    earlier_pass : filter later (filter mine before) ≡ []
+    earlier_pass =
+        none_pass later (filter mine before)
+        (all_filter (λ d. later d ≡ false) mine before (all_weaker (λ d. not_after e.place d.place ≡ false) (λ d. later d ≡ false) before (λ d h. is_before e.place d.place h) (parted before e left rises).0))
+
+    later_pass : filter later (filter mine left) ≡ filter mine left
+    later_pass =
+        all_pass later (filter mine left)
+        (all_filter (λ d. later d ≡ true) mine left (all_weaker (λ d. not_after d.place e.place ≡ false) (λ d. later d ≡ true) left (λ d h. is_later d.place e.place h) (parted before e left rises).1))

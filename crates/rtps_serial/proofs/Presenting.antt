@@ -1,192 +1,240 @@
--- In a run a reader presents the samples that the submessages of its match give, and no others.
-use Rattle.std.proofs.Common.{◌≡◌, ℕ, zero, suc, ◌<◌, Bool, true, false, ◌⊎◌, if◌then◌else◌, List, [], ◌∷◌, ◌++◌, length, map, get_or, Some, None, refl, sym, ◌∙◌, ap, subst, arith, append-nil, inl, inr}
+-- In a run what a reader presents of a writer falls into stretches, one for each match.
+use Rattle.std.proofs.Common.{◌≡◌, ℕ, zero, suc, ◌<◌, ◌≤◌, ◌==◌, nat_lt, Bool, true, false, not, ◌&&◌, if◌then◌else◌, List, [], ◌∷◌, ◌++◌, length, map, Option, Some, None, is_some, refl, sym, ◌∙◌, ap, subst, arith, append-nil, append_assoc, true≢false}
 use mathlib.Core.List.{reverse_aux}
 use Rattle.std.specs.Prelude.{filter}
-use Rattle.std.specs.Option.{option_map}
+use Rattle.std.specs.List.{AllByRecursion}
+use Rattle.std.proofs.lemmas.Bool.Decides.{nat_tests}
 use Rattle.rtps_types.specs.declared.identity.EntityId.{EntityId}
 use Rattle.rtps_types.specs.declared.identity.Guid.{Guid}
 use Rattle.rtps_types.specs.declared.identity.GuidPrefix.{GuidPrefix}
 use Rattle.rtps_receiver.specs.Events.{Happening}
-use Rattle.rtps_discovery.specs.Addressed.{is_addressed}
+use Rattle.rtps_discovery.specs.Addressed.{is_addressed, is_discovery, is_for, writer_of}
 use Rattle.rtps_discovery.specs.declared.config.Config.{Config}
 use Rattle.rtps_discovery.specs.declared.config.ReaderConfig.{ReaderConfig}
-use Rattle.rtps_proxy.specs.History.{Came}
-use Rattle.rtps_proxy.specs.Effects.{ready_of}
-use Rattle.rtps_proxy.specs.Received.{ready}
-use Rattle.std.specs.List.{AllByRecursion}
-use Rattle.rtps_types.specs.SequenceNumber.{IsNumber}
-use Rattle.rtps_proxy.specs.History.{Sample}
-use Rattle.rtps_proxy.specs.Presentation.{Brings}
-use Rattle.rtps_proxy.proofs.Presenting.{ready_brought}
-use Rattle.dds_topic.specs.Decoding.{Decoding}
+use Rattle.rtps_discovery.specs.Known.{Known, Wish, is_matched, reader_at}
+use Rattle.rtps_discovery.specs.Records.{changes_by}
+use Rattle.rtps_discovery.specs.Start.{reader_of, wish_of}
 use Rattle.rtps_proxy.specs.Matches.{Match, begun, fresh, match_with, same_guid}
-use Rattle.rtps_reader.specs.Reader.{Facts, all_begun, first_matches, ready_at, told_of, whom_of}
+use Rattle.rtps_proxy.proofs.Matching.{same_is}
+use Rattle.dds_topic.specs.Decoding.{Decoding}
+use Rattle.rtps_reader.specs.declared.notice.Notice.{Notice}
+use Rattle.rtps_reader.specs.Reader.{Facts, Reader, all_begun, first_matches, reader_after, reader_run, tells, whom_of}
+use Rattle.rtps_reader.specs.Steps.{Doing, asks_of}
 use Rattle.rtps_reader.proofs.Begun.{match_begun}
-use Rattle.rtps_serial.specs.Presentation.{ArePresented, Shown, came_of, events_in, samples_in, samples_of}
-use Rattle.rtps_serial.specs.Run.{entity_of, events_from, first_world, fixed_of, is_reliable, is_reliable_at, world_run}
-use Rattle.rtps_serial.specs.Seen.{notices_by}
-use Rattle.rtps_serial.specs.World.{World, puts_below, world_after}
-use Rattle.rtps_serial.proofs.Dealt.{notices_by-append}
-use Rattle.rtps_serial.proofs.Matched.{either_way, entity_stays, extend, match_step, samples_of-append, samples_told, told_at}
-use Rattle.rtps_serial.proofs.Places.{all_weaker, places_fall}
-use Rattle.rtps_serial.proofs.Taken.{HasNumber, all_have_numbers, brought_number}
-use Rattle.rtps_serial.proofs.Shown.{are_presented, shown, shown_after}
+use Rattle.rtps_serial.specs.Presentation.{IsPresented, Since, TheStart, Never, Stretch, events_after, events_for, events_in, first_since, is_fixed, stretch, stretches, stretches_in}
+use Rattle.rtps_serial.specs.Run.{entity_of, events_from, first_world, fixed_of, is_reliable_at, run, world_run}
+use Rattle.rtps_serial.specs.Seen.{Agrees, notices_by, reader_count}
+use Rattle.rtps_serial.specs.World.{World, addressed_to, changes_for, doings, world_after}
+use Rattle.rtps_serial.proofs.Agreeing.{agrees_after, agrees_first, first_has, has, readers_kept}
+use Rattle.rtps_serial.proofs.Matched.{told_more, told_run, untold}
+use Rattle.rtps_serial.proofs.Places.{PlacesFall, PlacesRise, all_weaker, events_since, places_fall, places_rise}
+use Rattle.rtps_serial.proofs.Stretching.{Follows, IsNow, IsSettled, all_settled, follows_changes, follows_missed, follows_other, follows_taken, nothing_first}
+use Rattle.rtps_serial.proofs.Taken.{HasNumber, all_have_numbers}
 
--- a reliable reader's match, and the samples so far, follow from the submessages for it, the newest first
-record Follows {M : Type 0} (decoding : Decoding M) (w : World M) (rank : ℕ) (g : Guid) (entity : EntityId) (before : List Happening) : Type 0 where
-  below : rank < w.count
-  named : (w.readers rank).entity ≡ entity
-  match : Match
-  found : match_with g (w.readers rank).matches ≡ Some match
-  asks : match.whom.reliable ≡ true
-  came : match.past ≡ map came_of before
-  numbers : AllByRecursion (λ (e : Happening). HasNumber e.body) before
-  told : samples_of g (notices_by rank w.put) ≡ shown_after decoding before
+-- ---- one event
 
--- what is reported at an event, after what was reported before
-told_more : {M : Type 0} (decoding : Decoding M) (w : World M) (rank : ℕ) (g : Guid) (e : Happening) → rank < w.count
-    → samples_of g (notices_by rank (world_after decoding w e).put) ≡ samples_of g (notices_by rank w.put)
-    ++ (if is_addressed (same_guid g) (w.readers rank).entity e then samples_of g (told_of decoding e.place g (came_of e) (match_with g (w.readers rank).matches)) else [])
-told_more decoding w rank g e below =
-    ap (samples_of g) (notices_by-append rank w.put (puts_below decoding e w.readers w.count))
-    ∙ samples_of-append g (notices_by rank w.put) (notices_by rank (puts_below decoding e w.readers w.count))
-    ∙ ap (λ l. samples_of g (notices_by rank w.put) ++ l) (told_at decoding g e w.readers rank w.count below)
+no_match : (o : Option Match) → is_some o ≡ false → o ≡ None
+no_match None h = refl
+no_match (Some m) h = absurd (true≢false h)
 
-ready_is : (m : Match) (past : List Came) (c : Came) → m.whom.reliable ≡ true → m.past ≡ past → ready_at m c ≡ ready past c
-ready_is m past c asks came = ap (λ b. ready_of b m.past c) asks ∙ ap (λ p. ready p c) came
+-- what an event asks of the reader is done, where these submessages for the match are left
+abbrev Does : {M : Type 0} → Decoding M → Bool → Guid → Since → List Happening → Reader → List (Notice M) → Happening → List Happening → List Doing → Type 0
+Does decoding reliable g first all r given e left ds = Follows decoding reliable g first all (reader_run r ds) (given ++ told_run decoding e.place r ds) left
 
--- one event more
-follows_more : {M : Type 0} (decoding : Decoding M) (w : World M) (rank : ℕ) (g : Guid) (entity : EntityId) (before : List Happening) (e : Happening) → HasNumber e.body
-    → Follows decoding w rank g entity before → Follows decoding (world_after decoding w e) rank g entity (if is_addressed (same_guid g) entity e then e ∷ before else before)
-follows_more {M} decoding w rank g entity before e has f = by_test (is_addressed (same_guid g) entity e) refl
+module _ {M : Type 0} (decoding : Decoding M) (reliable : Bool) (g : Guid) (first : Since) (all : List Happening) (r : Reader) (given : List (Notice M)) (e : Happening) (left : List Happening) where
+  nothing : Follows decoding reliable g first all r given left → Does decoding reliable g first all r given e left []
+  nothing f = subst (λ ns. Follows decoding reliable g first all r ns left) (sym (append-nil given)) f
+
+  one : (d : Doing) → Follows decoding reliable g first all (reader_after r d) (given ++ tells decoding r e.place d) left → Does decoding reliable g first all r given e left (d ∷ [])
+  one d f = subst (λ ns. Follows decoding reliable g first all (reader_after r d) (given ++ ns) left) (sym (append-nil (tells decoding r e.place d))) f
+
+  -- an event of a user's writer: whether it is of this writer, whether it is for the reader, and whether its writer is matched
+  by_tests : HasNumber e.body → (ours meant matched : Bool) → same_guid g (writer_of e) ≡ ours → (ours ≡ true → has g r.matches ≡ matched)
+      → Follows decoding reliable g first all r given (if ours && meant then e ∷ left else left)
+      → Does decoding reliable g first all r given e left (if matched && meant then asks_of e ∷ [] else [])
+  by_tests has_number true true true is agrees f = one (asks_of e) (follows_taken decoding reliable g first all e r given left has_number is f)
+  by_tests has_number true true false is agrees f = nothing (follows_missed decoding reliable g first all e r given left (no_match (match_with g r.matches) (agrees refl)) f)
+  by_tests has_number true false true is agrees f = nothing f
+  by_tests has_number true false false is agrees f = nothing f
+  by_tests has_number false true true is agrees f = one (asks_of e) (follows_other decoding reliable g first all e r given left is f)
+  by_tests has_number false true false is agrees f = nothing f
+  by_tests has_number false false true is agrees f = nothing f
+  by_tests has_number false false false is agrees f = nothing f
+
+  of_user : (k : Known) (rank : ℕ) (wish : Wish) → is_discovery e.writer ≡ false → HasNumber e.body → reader_at k.readers rank ≡ Some wish → has g r.matches ≡ is_matched k rank g
+      → Follows decoding reliable g first all r given (if is_addressed (same_guid g) wish.entity e then e ∷ left else left)
+      → Does decoding reliable g first all r given e left (addressed_to k rank e (reader_at k.readers rank))
+  of_user k rank wish other has_number found agrees f =
+      subst (λ (o : Option Wish). Does decoding reliable g first all r given e left (addressed_to k rank e o)) (sym found)
+      (subst (λ d. Does decoding reliable g first all r given e left (if not d && (is_matched k rank (writer_of e) && is_for e.reader wish.entity) then asks_of e ∷ [] else [])) (sym other)
+      (by_tests has_number (same_guid g (writer_of e)) (is_for e.reader wish.entity) (is_matched k rank (writer_of e)) refl
+      (λ is. agrees ∙ ap (λ w. is_matched k rank w) (same_is g (writer_of e) is))
+      (subst (λ d. Follows decoding reliable g first all r given (if not d && (same_guid g (writer_of e) && is_for e.reader wish.entity) then e ∷ left else left)) other f)))
+
+-- ---- a run
+
+-- the reader of a rank at a world of a run, of whose events these are left
+record InRun {M : Type 0} (decoding : Decoding M) (reliable : Bool) (g : Guid) (first : Since) (all : List Happening) (rank : ℕ) (entity : EntityId) (w : World M) (left : List Happening) : Type 0 where
+  agrees : Agrees w
+  below : rank < reader_count w
+  wish : Wish
+  found : reader_at w.known.readers rank ≡ Some wish
+  named : wish.entity ≡ entity
+  follows : Follows decoding reliable g first (events_for g entity all) (w.readers rank) (notices_by rank w.put) (filter (is_addressed (same_guid g) entity) left)
+
+module _ {M : Type 0} (decoding : Decoding M) (reliable : Bool) (g : Guid) (first : Since) (all : List Happening) (rank : ℕ) (entity : EntityId) (rises : PlacesRise all) (falls : PlacesFall (events_for g entity all)) where
+  abbrev mine : Happening → Bool
+  mine = is_addressed (same_guid g) entity
+
+  -- the reader's part of an event
+  part : (w : World M) (before : List Happening) (e : Happening) (left : List Happening) → all ≡ before ++ e ∷ left → HasNumber e.body → InRun decoding reliable g first all rank entity w (e ∷ left)
+      → Does decoding reliable g first (events_for g entity all) (w.readers rank) (notices_by rank w.put) e (filter mine left) (doings w.known rank e)
+  part w before e left whole has_number i = by_kind (is_discovery e.writer) refl
+    where
+      other_way : is_discovery e.writer ≡ true → mine e ≡ false
+      other_way is = rw is refl
+
+      by_kind : (d : Bool) → is_discovery e.writer ≡ d
+          → Does decoding reliable g first (events_for g entity all) (w.readers rank) (notices_by rank w.put) e (filter mine left) (if d then changes_for rank (changes_by w.known e) else addressed_to w.known rank e (reader_at w.known.readers rank))
+      by_kind true is =
+          follows_changes decoding reliable g first (events_for g entity all) e.place (w.readers rank) (notices_by rank w.put) (filter mine left) (filter (λ c. c.rank == rank) (changes_by w.known e)) falls
+          (subst (λ l. events_after e.place (events_for g entity l) ≡ reverse_aux (filter mine left) []) (sym whole) (events_since g entity before e left (subst PlacesRise whole rises) (other_way is)))
+          (subst (λ b. Follows decoding reliable g first (events_for g entity all) (w.readers rank) (notices_by rank w.put) (if b then e ∷ filter mine left else filter mine left)) (other_way is) i.follows)
+      by_kind false is =
+          of_user decoding reliable g first (events_for g entity all) (w.readers rank) (notices_by rank w.put) e (filter mine left) w.known rank i.wish is has_number i.found (i.agrees rank g i.below)
+          (subst (λ n. Follows decoding reliable g first (events_for g entity all) (w.readers rank) (notices_by rank w.put) (if is_addressed (same_guid g) n e then e ∷ filter mine left else filter mine left)) (sym i.named) i.follows)
+
+  one_event : (w : World M) (before : List Happening) (e : Happening) (left : List Happening) → all ≡ before ++ e ∷ left → HasNumber e.body → InRun decoding reliable g first all rank entity w (e ∷ left)
+      → InRun decoding reliable g first all rank entity (world_after decoding w e) left
+  one_event w before e left whole has_number i = record {
+    agrees = agrees_after decoding w e i.agrees;
+    below = subst (λ (rs : List (Option Wish)). rank < length rs) (sym (readers_kept w.known e)) i.below;
+    wish = i.wish;
+    found = ap (λ (rs : List (Option Wish)). reader_at rs rank) (readers_kept w.known e) ∙ i.found;
+    named = i.named;
+    follows = subst (λ ns. Follows decoding reliable g first (events_for g entity all) ((world_after decoding w e).readers rank) ns (filter mine left)) (sym (told_more decoding w rank e i.below))
+        (part w before e left whole has_number i);
+  }
+
+  all_events : (w : World M) (before left : List Happening) → all ≡ before ++ left → AllByRecursion (λ (e : Happening). HasNumber e.body) left → InRun decoding reliable g first all rank entity w left
+      → InRun decoding reliable g first all rank entity (world_run decoding w left) []
+  all_events w before [] whole numbers i = i
+  all_events w before (e ∷ left) whole numbers i =
+      all_events (world_after decoding w e) (before ++ e ∷ []) left (whole ∙ sym (append_assoc before (e ∷ []) left)) numbers.1 (one_event w before e left whole numbers.0 i)
+
+-- ---- the start
+
+-- a match to which nothing came, of a reader that asks or not
+abbrev IsFresh : Bool → Option Match → Type 0
+IsFresh reliable None = Unit {0}
+IsFresh reliable (Some m) = (m.whom.reliable ≡ reliable) × (m.past ≡ [])
+
+fresh_more : (g : Guid) (reliable : Bool) (m : Match) (ms : List Match) → m.whom.reliable ≡ reliable → m.past ≡ [] → IsFresh reliable (match_with g ms) → IsFresh reliable (match_with g (begun m ms))
+fresh_more g reliable m ms asks past before = subst (IsFresh reliable) (sym (match_begun g m ms)) (by_test (same_guid m.whom.writer g))
   where
-    stepped : match_with g ((world_after decoding w e).readers rank).matches ≡ (if is_addressed (same_guid g) entity e then Some (extend (came_of e) f.match) else Some f.match)
-    stepped =
-        match_step g e (w.readers rank)
-        ∙ ap (λ o. if is_addressed (same_guid g) (w.readers rank).entity e then option_map (extend (came_of e)) o else o) f.found
-        ∙ ap (λ k. if is_addressed (same_guid g) k e then Some (extend (came_of e) f.match) else Some f.match) f.named
+    by_test : (b : Bool) → IsFresh reliable (if b then Some m else match_with g ms)
+    by_test true = (asks, past)
+    by_test false = before
 
-    numbers : AllByRecursion (λ (s : Sample). IsNumber s.number) (ready_at f.match (came_of e))
-    numbers = subst (AllByRecursion (λ (s : Sample). IsNumber s.number)) (sym (ready_is f.match (map came_of before) (came_of e) f.asks f.came))
-        (all_weaker (Brings (came_of e ∷ map came_of before)) (λ (s : Sample). IsNumber s.number) (ready (map came_of before) (came_of e)) (λ s b. brought_number (e ∷ before) s (has, f.numbers) b) (ready_brought (map came_of before) (came_of e)))
+all_fresh : (g : Guid) (own : GuidPrefix) (entity : EntityId) (reliable : Bool) (fixed : List Facts) (ms : List Match) → IsFresh reliable (match_with g ms) → IsFresh reliable (match_with g (all_begun ms (map (whom_of own entity reliable) fixed)))
+all_fresh g own entity reliable [] ms before = before
+all_fresh g own entity reliable (p ∷ fixed) ms before =
+    all_fresh g own entity reliable fixed (begun (fresh (whom_of own entity reliable p)) ms) (fresh_more g reliable (fresh (whom_of own entity reliable p)) ms refl refl before)
 
-    telling : samples_of g (notices_by rank (world_after decoding w e).put) ≡ shown_after decoding before ++ (if is_addressed (same_guid g) entity e then map (shown decoding e.place) (ready (map came_of before) (came_of e)) else [])
-    telling =
-        told_more decoding w rank g e f.below
-        ∙ ap (λ l. l ++ (if is_addressed (same_guid g) (w.readers rank).entity e then samples_of g (told_of decoding e.place g (came_of e) (match_with g (w.readers rank).matches)) else [])) f.told
-        ∙ ap (λ k. shown_after decoding before ++ (if is_addressed (same_guid g) k e then samples_of g (told_of decoding e.place g (came_of e) (match_with g (w.readers rank).matches)) else [])) f.named
-        ∙ ap (λ l. shown_after decoding before ++ (if is_addressed (same_guid g) entity e then l else []))
-        (ap (λ o. samples_of g (told_of decoding e.place g (came_of e) o)) f.found ∙ samples_told decoding e.place g (came_of e) f.match numbers ∙ ap (map (shown decoding e.place)) (ready_is f.match (map came_of before) (came_of e) f.asks f.came))
+record HasWish (readers : List ReaderConfig) (rank : ℕ) : Type 0 where
+  wish : Wish
+  found : reader_at (map reader_of readers) rank ≡ Some wish
+  named : wish.entity ≡ entity_of readers rank
 
-    by_test : (b : Bool) → is_addressed (same_guid g) entity e ≡ b → Follows decoding (world_after decoding w e) rank g entity (if b then e ∷ before else before)
-    by_test true is = record {
-      below = f.below;
-      named = entity_stays e (w.readers rank) ∙ f.named;
-      match = extend (came_of e) f.match;
-      found = stepped ∙ ap (λ b. if b then Some (extend (came_of e) f.match) else Some f.match) is;
-      asks = f.asks;
-      came = ap (λ (l : List Came). came_of e ∷ l) f.came;
-      numbers = (has, f.numbers);
-      told = telling ∙ ap (λ b. shown_after decoding before ++ (if b then map (shown decoding e.place) (ready (map came_of before) (came_of e)) else [])) is;
-    }
-    by_test false is = record {
-      below = f.below;
-      named = entity_stays e (w.readers rank) ∙ f.named;
-      match = f.match;
-      found = stepped ∙ ap (λ b. if b then Some (extend (came_of e) f.match) else Some f.match) is;
-      asks = f.asks;
-      came = f.came;
-      numbers = f.numbers;
-      told = telling ∙ ap (λ b. shown_after decoding before ++ (if b then map (shown decoding e.place) (ready (map came_of before) (came_of e)) else [])) is ∙ append-nil (shown_after decoding before);
-    }
+wish_at : (readers : List ReaderConfig) (rank : ℕ) → rank < length readers → HasWish readers rank
+wish_at [] rank below = absurd (omega (arith, below))
+wish_at (r ∷ readers) zero below = record { wish = wish_of r; found = refl; named = refl }
+wish_at (r ∷ readers) (suc rank) below =
+    let rest = wish_at readers rank (omega (arith, below)) in
+    record { wish = rest.wish; found = rest.found; named = rest.named }
 
-onto : (b : Bool) (e : Happening) (es before : List Happening) → reverse_aux es (if b then e ∷ before else before) ≡ reverse_aux (if b then e ∷ es else es) before
-onto true e es before = refl
-onto false e es before = refl
+pub as_many : (readers : List ReaderConfig) → length (map reader_of readers) ≡ length readers
+as_many [] = refl
+as_many (r ∷ readers) = let rest : length (map reader_of readers) ≡ length readers = as_many readers in omega (arith, rest)
 
-follows_run : {M : Type 0} (decoding : Decoding M) (w : World M) (rank : ℕ) (g : Guid) (entity : EntityId) (before es : List Happening)
-    → AllByRecursion (λ (e : Happening). HasNumber e.body) es → Follows decoding w rank g entity before → Follows decoding (world_run decoding w es) rank g entity (reverse_aux (filter (is_addressed (same_guid g) entity) es) before)
-follows_run decoding w rank g entity before [] all f = f
-follows_run decoding w rank g entity before (e ∷ es) all f =
-    subst (λ l. Follows decoding (world_run decoding (world_after decoding w e) es) rank g entity l) (onto (is_addressed (same_guid g) entity e) e (filter (is_addressed (same_guid g) entity) es) before)
-    (follows_run decoding (world_after decoding w e) rank g entity (if is_addressed (same_guid g) entity e then e ∷ before else before) es all.1 (follows_more decoding w rank g entity before e all.0 f))
+module _ {M : Type 0} (decoding : Decoding M) (config : Config) (rank : ℕ) (g : Guid) where
+  abbrev reliable_there : Bool
+  reliable_there = is_reliable_at config.readers.items rank
 
--- no match with the writer, and no sample of it so far
-record IsStrange {M : Type 0} (w : World M) (rank : ℕ) (g : Guid) : Type 0 where
-  below : rank < w.count
-  none : match_with g (w.readers rank).matches ≡ None
-  untold : samples_of g (notices_by rank w.put) ≡ []
+  abbrev entity_there : EntityId
+  entity_there = entity_of config.readers.items rank
 
-either_none : {X : Type 0} (b : Bool) (f : X → X) → (if b then option_map f None else None) ≡ None
-either_none true f = refl
-either_none false f = refl
+  at_first : (all : List Happening) → rank < length config.readers.items → InRun decoding reliable_there g (first_since config rank g) all rank entity_there (first_world config) all
+  at_first all below =
+      let there = wish_at config.readers.items rank below in
+      let many : length (map reader_of config.readers.items) ≡ length config.readers.items = as_many config.readers.items in
+      record {
+        agrees = agrees_first M config;
+        below = omega (arith, below, many);
+        wish = there.wish;
+        found = there.found;
+        named = there.named;
+        follows = record {
+          asks = refl;
+          over = [];
+          since = first_since config rank g;
+          shown = [];
+          settled = tt;
+          cut = λ ys. sym (nothing_first (stretches g (first_since config rank g) ys));
+          now = by_fixed (is_fixed config rank g) (match_with g matches_there) (first_has config rank g) (all_fresh g config.own entity_there reliable_there (fixed_of config.fixed.items rank) [] tt);
+        };
+      }
+    where
+      matches_there : List Match
+      matches_there = first_matches config.own entity_there reliable_there (fixed_of config.fixed.items rank)
 
-strange_run : {M : Type 0} (decoding : Decoding M) (w : World M) (rank : ℕ) (g : Guid) (es : List Happening) → IsStrange w rank g → IsStrange (world_run decoding w es) rank g
-strange_run decoding w rank g [] s = s
-strange_run {M} decoding w rank g (e ∷ es) s = strange_run decoding (world_after decoding w e) rank g es (record {
-  below = s.below;
-  none = match_step g e (w.readers rank) ∙ ap (λ o. if is_addressed (same_guid g) (w.readers rank).entity e then option_map (extend (came_of e)) o else o) s.none ∙ either_none (is_addressed (same_guid g) (w.readers rank).entity e) (extend (came_of e));
-  untold = told_more decoding w rank g e s.below
-      ∙ ap (λ l. l ++ (if is_addressed (same_guid g) (w.readers rank).entity e then samples_of g (told_of decoding e.place g (came_of e) (match_with g (w.readers rank).matches)) else [])) s.untold
-      ∙ ap (λ o. if is_addressed (same_guid g) (w.readers rank).entity e then samples_of g (told_of decoding e.place g (came_of e) o) else []) s.none
-      ∙ either_way (is_addressed (same_guid g) (w.readers rank).entity e) none_told;
-})
-  where
-    none_told : List (Shown M)
-    none_told = []
+      by_fixed : (fixed : Bool) (o : Option Match) → is_some o ≡ fixed → IsFresh reliable_there o
+          → IsNow decoding reliable_there (events_for g entity_there all) (filter (is_addressed (same_guid g) entity_there) all) (if fixed then TheStart else Never) [] o
+      by_fixed true None h none = absurd (true≢false (sym h))
+      by_fixed true (Some m) h new = record { mine = []; past = new.1; asks = new.0; numbers = tt; given = λ asks. refl; events = refl }
+      by_fixed false None h none = (refl, refl)
+      by_fixed false (Some m) h new = absurd (true≢false h)
 
--- the match with a writer at the start
-record Begins (g : Guid) (b : Bool) (ms : List Match) : Type 0 where
-  match : Match
-  found : match_with g ms ≡ Some match
-  asks : match.whom.reliable ≡ b
-  fresh : match.past ≡ []
+  -- a rank that no reader has reports nothing
+  pub none_told : (w : World M) (es : List Happening) → reader_count w ≤ rank → notices_by rank w.put ≡ [] → notices_by rank (world_run decoding w es).put ≡ []
+  none_told w [] past none = none
+  none_told w (e ∷ es) past none =
+      none_told (world_after decoding w e) es (subst (λ (rs : List (Option Wish)). length rs ≤ rank) (sym (readers_kept w.known e)) past) (untold decoding w rank e past none)
 
-begins_more : (g : Guid) (b : Bool) (m : Match) (ms : List Match) → m.whom.reliable ≡ b → m.past ≡ [] → Begins g b ms ⊎ (match_with g ms ≡ None) → Begins g b (begun m ms) ⊎ (match_with g (begun m ms) ≡ None)
-begins_more g b m ms asks fresh before = by_test (same_guid m.whom.writer g) refl before
-  where
-    by_test : (t : Bool) → same_guid m.whom.writer g ≡ t → Begins g b ms ⊎ (match_with g ms ≡ None) → Begins g b (begun m ms) ⊎ (match_with g (begun m ms) ≡ None)
-    by_test true is old = inl (record { match = m; found = match_begun g m ms ∙ ap (λ t. if t then Some m else match_with g ms) is; asks = asks; fresh = fresh })
-    by_test false is (inl f) = inl (record { match = f.match; found = match_begun g m ms ∙ ap (λ t. if t then Some m else match_with g ms) is ∙ f.found; asks = f.asks; fresh = f.fresh })
-    by_test false is (inr none) = inr (match_begun g m ms ∙ ap (λ t. if t then Some m else match_with g ms) is ∙ none)
+  empty_settled : (fixed : Bool) (all : List Happening) → IsSettled decoding reliable_there all (stretch (if fixed then TheStart else Never) [])
+  empty_settled true all = record { unmatched = λ never. refl; matched = λ asks. record { rising = tt; received = tt; passed_over = tt } }
+  empty_settled false all = record { unmatched = λ never. refl; matched = λ asks. refl }
 
-begins_all : (g : Guid) (own : GuidPrefix) (entity : EntityId) (b : Bool) (fixed : List Facts) (ms : List Match) → Begins g b ms ⊎ (match_with g ms ≡ None)
-    → Begins g b (all_begun ms (map (whom_of own entity b) fixed)) ⊎ (match_with g (all_begun ms (map (whom_of own entity b) fixed)) ≡ None)
-begins_all g own entity b [] ms before = before
-begins_all g own entity b (p ∷ fixed) ms before =
-    begins_all g own entity b fixed (begun (fresh (whom_of own entity b p)) ms) (begins_more g b (fresh (whom_of own entity b p)) ms refl refl before)
+  -- in a run each stretch of what a reader presents is settled
+  run_settled : (datagrams : List (List ℕ)) → AllByRecursion (IsSettled decoding reliable_there (events_in config datagrams rank g)) (stretches_in decoding config datagrams rank g)
+  run_settled datagrams = by_count (nat_lt rank (length config.readers.items)) refl
+    where
+      es : List Happening
+      es = events_from config.own 0 datagrams
 
-first_match : (g : Guid) (own : GuidPrefix) (entity : EntityId) (b : Bool) (fixed : List Facts) → Begins g b (first_matches own entity b fixed) ⊎ (match_with g (first_matches own entity b fixed) ≡ None)
-first_match g own entity b fixed = begins_all g own entity b fixed [] (inr refl)
+      by_count : (b : Bool) → nat_lt rank (length config.readers.items) ≡ b → AllByRecursion (IsSettled decoding reliable_there (events_in config datagrams rank g)) (stretches_in decoding config datagrams rank g)
+      by_count true is =
+          let below : rank < length config.readers.items = grind (arith, nat_tests) in
+          let falls = places_fall config.own datagrams g entity_there in
+          let last = all_events decoding reliable_there g (first_since config rank g) es rank entity_there (places_rise config.own datagrams) falls (first_world config) [] es refl (all_have_numbers config.own 0 datagrams) (at_first es below) in
+          all_settled decoding reliable_there g (first_since config rank g) (events_in config datagrams rank g) ((run decoding config datagrams).readers rank) (notices_by rank (run decoding config datagrams).put) [] falls last.follows
+      by_count false is =
+          let many : length (map reader_of config.readers.items) ≡ length config.readers.items = as_many config.readers.items in
+          let past : length config.readers.items ≤ rank = grind (arith, nat_tests) in
+          let none : notices_by rank (run decoding config datagrams).put ≡ [] = none_told (first_world config) es (omega (arith, past, many)) refl in
+          subst (λ ns. AllByRecursion (IsSettled decoding reliable_there (events_in config datagrams rank g)) (stretches g (first_since config rank g) ns)) (sym none)
+          (empty_settled (is_fixed config rank g) (events_in config datagrams rank g), tt)
 
-reliable_below : {X : Type 0} (f : X → Bool) (xs : List X) (k : ℕ) → get_or (map f xs) k false ≡ true → k < length xs
-reliable_below f [] zero h = absurd cc
-reliable_below f [] (suc k) h = absurd cc
-reliable_below f (x ∷ xs) zero h = omega arith
-reliable_below f (x ∷ xs) (suc k) h = let rest : k < length xs = reliable_below f xs k h in omega arith
+-- what a reliable reader presents of a writer, match by match
+pub run_presents : {M : Type 0} (decoding : Decoding M) (config : Config) (datagrams : List (List ℕ)) (rank : ℕ) (g : Guid) → is_reliable_at config.readers.items rank ≡ true
+    → AllByRecursion (IsPresented decoding (events_in config datagrams rank g)) (stretches_in decoding config datagrams rank g)
+run_presents decoding config datagrams rank g asks =
+    all_weaker (IsSettled decoding (is_reliable_at config.readers.items rank) (events_in config datagrams rank g)) (IsPresented decoding (events_in config datagrams rank g)) (stretches_in decoding config datagrams rank g)
+    (λ s settled. settled.matched asks) (run_settled decoding config rank g datagrams)
 
--- the samples of the match of a reliable reader and a writer are presented in order
-pub run_presents : {M : Type 0} (decoding : Decoding M) (config : Config) (datagrams : List (List ℕ)) (rank : ℕ) (g : Guid) → is_reliable_at config.readers.items rank ≡ true → ArePresented decoding (events_in config datagrams rank g) (samples_in decoding config datagrams rank g)
-run_presents {M} decoding config datagrams rank g asks = by_match (first_match g config.own (entity_of config.readers.items rank) (is_reliable_at config.readers.items rank) (fixed_of config.fixed.items rank))
-  where
-    below : rank < length config.readers.items
-    below = reliable_below (λ (r : ReaderConfig). is_reliable r.requested.policies.reliability) config.readers.items rank asks
-
-    by_match : Begins g (is_reliable_at config.readers.items rank) (first_matches config.own (entity_of config.readers.items rank) (is_reliable_at config.readers.items rank) (fixed_of config.fixed.items rank))
-        ⊎ (match_with g (first_matches config.own (entity_of config.readers.items rank) (is_reliable_at config.readers.items rank) (fixed_of config.fixed.items rank)) ≡ None)
-        → ArePresented decoding (events_in config datagrams rank g) (samples_in decoding config datagrams rank g)
-    by_match (inl m) =
-        let follows = follows_run decoding (first_world config) rank g (entity_of config.readers.items rank) [] (events_from config.own 0 datagrams) (all_have_numbers config.own 0 datagrams)
-        (record { below = below; named = refl; match = m.match; found = m.found; asks = m.asks ∙ asks; came = m.fresh; numbers = tt; told = refl }) in
-        subst (ArePresented decoding (events_in config datagrams rank g)) (sym follows.told)
-        (are_presented decoding (events_in config datagrams rank g) (places_fall config.own datagrams g (entity_of config.readers.items rank)))
-    by_match (inr none) =
-        let strange = strange_run decoding (first_world config) rank g (events_from config.own 0 datagrams) (record { below = below; none = none; untold = refl }) in
-        subst (ArePresented decoding (events_in config datagrams rank g)) (sym strange.untold) (record { rising = tt; received = tt; passed_over = tt })
-
--- where there is no match at the start, no sample is presented
-pub none_presented : {M : Type 0} (decoding : Decoding M) (config : Config) (datagrams : List (List ℕ)) (rank : ℕ) (g : Guid) → rank < length config.readers.items
-    → match_with g (first_matches config.own (entity_of config.readers.items rank) (is_reliable_at config.readers.items rank) (fixed_of config.fixed.items rank)) ≡ None
-    → samples_in decoding config datagrams rank g ≡ []
-none_presented decoding config datagrams rank g below none =
-    (strange_run decoding (first_world config) rank g (events_from config.own 0 datagrams) (record { below = below; none = none; untold = refl })).untold
+-- and none of what no reader is matched with
+pub run_presents_none : {M : Type 0} (decoding : Decoding M) (config : Config) (datagrams : List (List ℕ)) (rank : ℕ) (g : Guid)
+    → AllByRecursion (λ (s : Stretch M). s.since ≡ Never → s.samples ≡ []) (stretches_in decoding config datagrams rank g)
+run_presents_none {M} decoding config datagrams rank g =
+    all_weaker (IsSettled decoding (is_reliable_at config.readers.items rank) (events_in config datagrams rank g)) (λ (s : Stretch M). s.since ≡ Never → s.samples ≡ []) (stretches_in decoding config datagrams rank g)
+    (λ s settled. settled.unmatched) (run_settled decoding config rank g datagrams)

@@ -1,23 +1,35 @@
 -- The samples of one match, with their places.
-use Rattle.std.proofs.Common.{◌≡◌, ℕ, ◌<◌, ◌≤◌, ◌⊎◌, Bool, true, false, ◌||◌, List, [], ◌∷◌, ◌++◌, map, refl, sym, ◌∙◌, ap, subst, arith, eqb, inl, inr}
+use Rattle.std.proofs.Common.{◌≡◌, ℕ, ◌<◌, ◌≤◌, ◌⊎◌, Bool, true, false, ◌||◌, if◌then◌else◌, List, [], ◌∷◌, ◌++◌, map, refl, sym, ◌∙◌, ap, subst, arith, eqb, inl, inr}
+use mathlib.Core.List.{reverse_aux}
 use Rattle.std.specs.List.{list_any, AllByRecursion}
 use Rattle.std.proofs.lemmas.Bool.Decides.{nat_tests}
 use Rattle.std.proofs.lemmas.List.{map-append}
 use Rattle.std.proofs.lemmas.List.Folds.{list_any-append}
+use Rattle.rtps_types.specs.declared.identity.Guid.{Guid}
 use Rattle.rtps_types.specs.declared.place.Place.{Place}
 use Rattle.rtps_receiver.specs.Events.{Happening}
 use Rattle.rtps_proxy.specs.History.{Came, Sample}
 use Rattle.rtps_proxy.specs.Presentation.{Brings, IsGivenUp, IsPresented, RisesStrictly, presented}
 use Rattle.rtps_proxy.specs.Received.{ready}
 use Rattle.rtps_proxy.proofs.Presenting.{presented_rises, ready_brought, ready_passes_over}
+use Rattle.rtps_proxy.specs.Matches.{same_guid}
 use Rattle.dds_topic.specs.Decoding.{Decoding}
+use Rattle.rtps_reader.specs.declared.notice.Notice.{Notice}
 use Rattle.rtps_reader.specs.Body.{body_by}
-use Rattle.rtps_serial.specs.Presentation.{ArePresented, IsBrought, PassesOverOnly, Shown, came_by, came_of, not_after}
-use Rattle.rtps_serial.proofs.Places.{PlacesFall, all_append, all_both, all_map, all_of_map, all_weaker}
+use Rattle.rtps_serial.specs.Presentation.{ArePresented, IsBrought, PassesOverOnly, Shown, came_by, came_of, not_after, shown_in}
+use Rattle.rtps_serial.proofs.Places.{PlacesFall, all_append, all_both, all_map, all_of_map, all_weaker, later_first}
 
 -- a sample, as a reader presents it at a place
 abbrev pub shown : {M : Type 0} → Decoding M → Place → Sample → Shown M
 shown decoding place s = record { place = place; number = s.number; time = s.time; body = body_by decoding s.info s.payload }
+
+-- the samples of a writer among these notices, in order
+abbrev pub samples_of : {M : Type 0} → Guid → List (Notice M) → List (Shown M)
+samples_of writer [] = []
+samples_of writer (n ∷ ns) =
+    if same_guid n.writer writer
+    then shown_in n.place n.what ++ samples_of writer ns
+    else samples_of writer ns
 
 -- the samples that these submessages of a match give, the newest submessage first
 abbrev pub shown_after : {M : Type 0} → Decoding M → List Happening → List (Shown M)
@@ -194,3 +206,36 @@ are_presented {M} decoding es falls = record {
       | inl up ↦ inl up
       | inr was ↦ inr (any_shown decoding k es ∙ presented_within s.place k es falls was)
     ]
+
+-- ---- later submessages
+
+-- a submessage after all samples changes nothing of what was presented
+one_later : {M : Type 0} (decoding : Decoding M) (e : Happening) (es : List Happening) (ss : List (Shown M)) → AllByRecursion (λ s. not_after e.place s.place ≡ false) ss
+    → ArePresented decoding es ss → ArePresented decoding (e ∷ es) ss
+one_later {M} decoding e es ss after are = record {
+  rising = are.rising;
+  received = all_both (λ (s : Shown M). not_after e.place s.place ≡ false) (λ s. IsBrought decoding (came_by s.place es) s) (λ s. IsBrought decoding (came_by s.place (e ∷ es)) s) ss
+      (λ s later h. subst (λ l. IsBrought decoding l s) (sym (came_later s.place e es later)) h) after are.received;
+  passed_over = still 0 ss after are.passed_over;
+}
+  where
+    still : (last : ℕ) (ss : List (Shown M)) → AllByRecursion (λ s. not_after e.place s.place ≡ false) ss → PassesOverOnly es last ss → PassesOverOnly (e ∷ es) last ss
+    still last [] later h = tt
+    still last (s ∷ ss) later h = (
+      λ k more less. subst (λ l. IsGivenUp l k) (sym (came_later s.place e es later.0)) (h.0 k more less),
+      still s.number ss later.1 h.1,
+    )
+
+all_later : {M : Type 0} (decoding : Decoding M) (later es : List Happening) (ss : List (Shown M)) → AllByRecursion (λ e. AllByRecursion (λ (s : Shown M). not_after e.place s.place ≡ false) ss) later
+    → ArePresented decoding es ss → ArePresented decoding (reverse_aux later es) ss
+all_later decoding [] es ss after are = are
+all_later decoding (e ∷ later) es ss after are = all_later decoding later (e ∷ es) ss after.1 (one_later decoding e es ss after.0 are)
+
+-- the samples that the first submessages of a match give, against all of them
+pub first_presented : {M : Type 0} (decoding : Decoding M) (later mine : List Happening) → PlacesFall (reverse_aux later mine) → ArePresented decoding (reverse_aux later mine) (shown_after decoding mine)
+first_presented {M} decoding later mine falls =
+    let parts = later_first later mine falls in
+    all_later decoding later mine (shown_after decoding mine)
+    (all_weaker (λ e. AllByRecursion (λ d. not_after e.place d.place ≡ false) mine) (λ e. AllByRecursion (λ (s : Shown M). not_after e.place s.place ≡ false) (shown_after decoding mine)) later
+    (λ e h. all_placed decoding (λ place. not_after e.place place ≡ false) mine h) parts.1)
+    (are_presented decoding mine parts.0)

@@ -1,5 +1,5 @@
 -- Turns are totally ordered, and what a run puts out comes by turn.
-use Rattle.std.proofs.Common.{◌≡◌, ℕ, zero, suc, ◌<◌, ◌≤◌, List, [], ◌∷◌, ◌++◌, Bool, true, false, if◌then◌else◌, nat_lt, ◌==◌, ◌&&◌, not, Option, Some, None, refl, sym, ap, ◌∙◌, arith, append-nil, append_assoc, map, true≢false}
+use Rattle.std.proofs.Common.{◌≡◌, ℕ, zero, suc, ◌<◌, ◌≤◌, List, [], ◌∷◌, ◌++◌, Bool, true, false, if◌then◌else◌, nat_lt, ◌==◌, ◌&&◌, not, Option, Some, None, refl, sym, ap, ◌∙◌, arith, append-nil, append_assoc, filter, length, map, subst, true≢false}
 use Rattle.std.specs.List.{AllByRecursion}
 use Rattle.std.specs.Cmp.{IsStrictWeakOrder, IsTotalOrder}
 use Rattle.std.specs.Cmp.Lexicographic.{options_total}
@@ -14,13 +14,17 @@ use Rattle.rtps_types.specs.declared.identity.Guid.{Guid}
 use Rattle.rtps_types.specs.declared.place.Place.{Place}
 use Rattle.rtps_types.specs.Place.{place_order}
 use Rattle.rtps_receiver.specs.Events.{Happening}
+use Rattle.rtps_discovery.specs.Addressed.{is_addressed, is_discovery}
+use Rattle.rtps_discovery.specs.Changes.{Becomes, ChangeAt, Matches, Unmatches, Refuses}
+use Rattle.rtps_discovery.specs.Known.{Known, Wish, is_matched, reader_at}
+use Rattle.rtps_discovery.specs.Records.{answered, changes_by}
 use Rattle.dds_topic.specs.Decoding.{Decoding}
 use Rattle.rtps_proxy.specs.History.{Came, Sample}
 use Rattle.rtps_proxy.specs.Matches.{Match, match_with}
 use Rattle.rtps_proxy.specs.Replies.{Sent}
 use Rattle.rtps_reader.specs.declared.notice.Notice.{Notice}
 use Rattle.rtps_reader.specs.declared.notice.NoticeKind.TheVariants as notice
-use Rattle.rtps_reader.specs.Reader.{Reader, answer_at, loses, lost_at, placed, presented, ready_at, sends, sent_of, tells, told_of}
+use Rattle.rtps_reader.specs.Reader.{Reader, answer_at, loses, lost_at, placed, presented, reader_after, ready_at, sends, sent_of, tells, told_of}
 use Rattle.rtps_reader.specs.Steps.{Doing, Takes, Begins, Ends, Refused, asks_of}
 use Rattle.rtps_serial.specs.declared.outcome.Report.{Report}
 use Rattle.rtps_serial.specs.declared.outcome.Report.TheVariants as report
@@ -30,10 +34,12 @@ use Rattle.rtps_serial.specs.declared.turn.Turn.{Turn}
 use Rattle.rtps_serial.specs.Outcome.{report_view}
 use Rattle.rtps_serial.specs.Presentation.{not_after}
 use Rattle.rtps_serial.specs.Run.{world_run}
-use Rattle.rtps_serial.specs.Seen.{notices_by}
+use Rattle.rtps_serial.specs.Seen.{notices_by, reader_count}
 use Rattle.rtps_serial.specs.Turn.{kind_order, turn_of, turn_order}
-use Rattle.rtps_serial.specs.World.{Put, Hears, Sends, World, puts, puts_below, reaches, sent_by, world_after}
+use Rattle.rtps_serial.specs.World.{Put, Hears, Sends, World, addressed_to, answer_put, changes_for, discovery_puts, doing_of, doings, puts_at, puts_below, puts_run, sent_by, world_after}
+use Rattle.rtps_serial.proofs.Agreeing.{readers_kept}
 use Rattle.rtps_serial.proofs.Dealt.{notices_by-append}
+use Rattle.rtps_serial.proofs.Matched.{heard_event, none_below}
 use Rattle.rtps_serial.proofs.OneOrder.{Rises, rises_then}
 use Rattle.rtps_serial.proofs.Places.{PlacesRise, all_append, all_weaker}
 
@@ -217,42 +223,79 @@ record IsAt {M : Type 0} (at : Place) (own : ℕ) (p : Put M) : Type 0 where
 of_turn : {M : Type 0} (at : Place) (rank : ℕ) (k : ReportKind) (p : Put M) → put_turn p ≡ turn_at at rank k → IsAt at rank p
 of_turn at rank k p e = record { place = ap (λ (t : Turn). t.place) e; rank = ap (λ (t : Turn). t.rank) e }
 
-puts_at : {M : Type 0} (d : Decoding M) (e : Happening) (rank : ℕ) (r : Reader) → AllByRecursion (IsAt e.place rank) (puts d e rank r)
-puts_at {M} d e rank r = by_test (reaches e r)
-  where
-    by_test : (b : Bool) → AllByRecursion (IsAt {M = M} e.place rank) (if b then map (Hears rank) (tells d r e.place (asks_of e)) ++ map (sent_by rank) (sends r e.place (asks_of e)) else [])
-    by_test false = tt
-    by_test true =
-        all_append (IsAt e.place rank) (map (Hears rank) (tells d r e.place (asks_of e))) (map (sent_by rank) (sends r e.place (asks_of e)))
-        (all_weaker (λ p. put_turn p ≡ turn_at e.place rank kind.Notice) (IsAt e.place rank) _ (of_turn e.place rank kind.Notice) (hears_turn e.place rank _ (tells_at d r e.place (asks_of e))))
-        (all_weaker (λ p. put_turn p ≡ turn_at e.place rank kind.Answer) (IsAt e.place rank) _ (of_turn e.place rank kind.Answer) (sends_turn M e.place rank _ (sends_at r e.place (asks_of e))))
+module _ {M : Type 0} (d : Decoding M) (place : Place) (rank : ℕ) where
+  abbrev Notices : List (Put M) → Type 0
+  Notices = AllByRecursion (λ (p : Put M). put_turn p ≡ turn_at place rank kind.Notice)
 
-puts_rise : {M : Type 0} (d : Decoding M) (e : Happening) (rank : ℕ) (r : Reader) → Rises before (puts d e rank r)
-puts_rise {M} d e rank r = by_test (reaches e r)
+  step_told : (r : Reader) (a : Doing) → Notices (map (Hears rank) (tells d r place a))
+  step_told r a = hears_turn place rank (tells d r place a) (tells_at d r place a)
+
+  step_sent : (r : Reader) (a : Doing) → AllByRecursion (λ (p : Put M). put_turn p ≡ turn_at place rank kind.Answer) (map (sent_by rank) (sends r place a))
+  step_sent r a = sends_turn M place rank (sends r place a) (sends_at r place a)
+
+  -- at one step, and at one after the other
+  step_at : (r : Reader) (a : Doing) → AllByRecursion (IsAt place rank) (puts_at d place rank r a)
+  step_at r a =
+      all_append (IsAt place rank) (map (Hears rank) (tells d r place a)) (map (sent_by rank) (sends r place a))
+      (all_weaker (λ p. put_turn p ≡ turn_at place rank kind.Notice) (IsAt place rank) _ (of_turn place rank kind.Notice) (step_told r a))
+      (all_weaker (λ p. put_turn p ≡ turn_at place rank kind.Answer) (IsAt place rank) _ (of_turn place rank kind.Answer) (step_sent r a))
+
+  steps_at : (r : Reader) (doings : List Doing) → AllByRecursion (IsAt place rank) (puts_run d place rank r doings)
+  steps_at r [] = tt
+  steps_at r (a ∷ rest) = all_append (IsAt place rank) (puts_at d place rank r a) (puts_run d place rank (reader_after r a) rest) (step_at r a) (steps_at (reader_after r a) rest)
+
+  -- at one step the notices come first
+  step_rises : (r : Reader) (a : Doing) → Rises before (puts_at d place rank r a)
+  step_rises r a =
+      rises_then before (λ p. put_turn p ≡ turn_at place rank kind.Notice) (λ p. put_turn p ≡ turn_at place rank kind.Answer)
+      (λ x y p q. ap is_lt (ap (λ t. turn_order t (put_turn x)) q ∙ ap (turn_order (turn_at place rank kind.Answer)) p) ∙ answer_last place rank)
+      (map (Hears rank) (tells d r place a)) (map (sent_by rank) (sends r place a)) (step_told r a) (step_sent r a)
+      (rises_level (turn_at place rank kind.Notice) _ (step_told r a)) (rises_level (turn_at place rank kind.Answer) _ (step_sent r a))
+
+  -- a match that begins, ends or is refused is not answered
+  no_answer : (r : Reader) (b : Becomes) → sends r place (doing_of b) ≡ []
+  no_answer r (Matches w locators) = refl
+  no_answer r (Unmatches w) = refl
+  no_answer r (Refuses w policy) = refl
+
+  -- so changes of what is known bring notices alone
+  changes_told : (r : Reader) (cs : List ChangeAt) → Notices (puts_run d place rank r (map (λ (c : ChangeAt). doing_of c.what) cs))
+  changes_told r [] = tt
+  changes_told r (c ∷ cs) =
+      all_append (λ p. put_turn p ≡ turn_at place rank kind.Notice) (puts_at d place rank r (doing_of c.what)) (puts_run d place rank (reader_after r (doing_of c.what)) (map (λ (c : ChangeAt). doing_of c.what) cs))
+      (subst (λ (ss : List (Place × Sent)). Notices (map (Hears rank) (tells d r place (doing_of c.what)) ++ map (sent_by rank) ss)) (sym (no_answer r c.what))
+      (subst Notices (sym (append-nil (map (Hears rank) (tells d r place (doing_of c.what))))) (step_told r (doing_of c.what))))
+      (changes_told (reader_after r (doing_of c.what)) cs)
+
+-- what a reader puts out at an event comes by turn: its notices, and then its answer
+reader_rises : {M : Type 0} (d : Decoding M) (k : Known) (rank : ℕ) (r : Reader) (e : Happening) → Rises (before {M = M}) (puts_run d e.place rank r (doings k rank e))
+reader_rises {M} d k rank r e = by_kind (is_discovery e.writer)
   where
-    by_test : (b : Bool) → Rises (before {M = M}) (if b then map (Hears rank) (tells d r e.place (asks_of e)) ++ map (sent_by rank) (sends r e.place (asks_of e)) else [])
+    by_test : (b : Bool) → Rises (before {M = M}) (puts_run d e.place rank r (if b then asks_of e ∷ [] else []))
+    by_test true = subst (Rises before) (sym (append-nil (puts_at d e.place rank r (asks_of e)))) (step_rises d e.place rank r (asks_of e))
     by_test false = tt
-    by_test true =
-        let told = hears_turn e.place rank (tells d r e.place (asks_of e)) (tells_at d r e.place (asks_of e)) in
-        let sent = sends_turn M e.place rank (sends r e.place (asks_of e)) (sends_at r e.place (asks_of e)) in
-        rises_then before (λ p. put_turn p ≡ turn_at e.place rank kind.Notice) (λ p. put_turn p ≡ turn_at e.place rank kind.Answer)
-        (λ x y p q. ap is_lt (ap (λ t. turn_order t (put_turn x)) q ∙ ap (turn_order (turn_at e.place rank kind.Answer)) p) ∙ answer_last e.place rank)
-        (map (Hears rank) (tells d r e.place (asks_of e))) (map (sent_by rank) (sends r e.place (asks_of e))) told sent
-        (rises_level (turn_at e.place rank kind.Notice) _ told) (rises_level (turn_at e.place rank kind.Answer) _ sent)
+
+    by_wish : (o : Option Wish) → Rises (before {M = M}) (puts_run d e.place rank r (addressed_to k rank e o))
+    by_wish None = tt
+    by_wish (Some wish) = by_test (is_addressed (is_matched k rank) wish.entity e)
+
+    by_kind : (b : Bool) → Rises (before {M = M}) (puts_run d e.place rank r (if b then changes_for rank (changes_by k e) else addressed_to k rank e (reader_at k.readers rank)))
+    by_kind true = rises_level (turn_at e.place rank kind.Notice) _ (changes_told d e.place rank r (filter (λ c. c.rank == rank) (changes_by k e)))
+    by_kind false = by_wish (reader_at k.readers rank)
 
 -- what the readers of the ranks below a count put out at an event
-pub record IsBelow {M : Type 0} (at : Place) (count : ℕ) (p : Put M) : Type 0 where
-  pub place : (put_turn p).place ≡ at
-  pub rank : ℕ
-  pub is : (put_turn p).rank ≡ Some rank
-  pub below : rank < count
+record IsBelow {M : Type 0} (at : Place) (count : ℕ) (p : Put M) : Type 0 where
+  place : (put_turn p).place ≡ at
+  rank : ℕ
+  is : (put_turn p).rank ≡ Some rank
+  below : rank < count
 
-below_at : {M : Type 0} (d : Decoding M) (e : Happening) (readers : ℕ → Reader) (n : ℕ) → AllByRecursion (IsBelow e.place n) (puts_below d e readers n)
-below_at d e readers zero = tt
-below_at d e readers (suc n) =
-    all_append (IsBelow e.place (suc n)) (puts_below d e readers n) (puts d e n (readers n))
-    (all_weaker (IsBelow e.place n) (IsBelow e.place (suc n)) _ (λ p b. record { place = b.place; rank = b.rank; is = b.is; below = omega (arith, b.below) }) (below_at d e readers n))
-    (all_weaker (IsAt e.place n) (IsBelow e.place (suc n)) _ (λ p b. record { place = b.place; rank = n; is = b.rank; below = omega arith }) (puts_at d e n (readers n)))
+below_at : {M : Type 0} (d : Decoding M) (k : Known) (e : Happening) (readers : ℕ → Reader) (n : ℕ) → AllByRecursion (IsBelow e.place n) (puts_below d k e readers n)
+below_at d k e readers zero = tt
+below_at d k e readers (suc n) =
+    all_append (IsBelow e.place (suc n)) (puts_below d k e readers n) (puts_run d e.place n (readers n) (doings k n e))
+    (all_weaker (IsBelow e.place n) (IsBelow e.place (suc n)) _ (λ p b. record { place = b.place; rank = b.rank; is = b.is; below = omega (arith, b.below) }) (below_at d k e readers n))
+    (all_weaker (IsAt e.place n) (IsBelow e.place (suc n)) _ (λ p b. record { place = b.place; rank = n; is = b.rank; below = omega arith }) (steps_at d e.place n (readers n) (doings k n e)))
 
 higher : (r k : ℕ) → r < k → nat_cmp k r ≡ Greater
 higher r k h =
@@ -263,50 +306,77 @@ higher r k h =
 lower_first : (a b : Turn) (place : Place) (r k : ℕ) → a.place ≡ place → a.rank ≡ Some r → b.place ≡ place → b.rank ≡ Some k → r < k → is_lt (turn_order b a) ≡ false
 lower_first a b place r k ap1 ar bp br less = rw (ap1, ar, bp, br, tied_itself places_total place, higher r k less) refl
 
-below_rise : {M : Type 0} (d : Decoding M) (e : Happening) (readers : ℕ → Reader) (n : ℕ) → Rises (before {M = M}) (puts_below d e readers n)
-below_rise d e readers zero = tt
-below_rise d e readers (suc n) =
+below_rises : {M : Type 0} (d : Decoding M) (k : Known) (e : Happening) (readers : ℕ → Reader) (n : ℕ) → Rises (before {M = M}) (puts_below d k e readers n)
+below_rises d k e readers zero = tt
+below_rises d k e readers (suc n) =
     rises_then before (IsBelow e.place n) (IsAt e.place n) (λ x y p q. lower_first (put_turn x) (put_turn y) e.place p.rank n p.place p.is q.place q.rank p.below)
-    (puts_below d e readers n) (puts d e n (readers n)) (below_at d e readers n) (puts_at d e n (readers n)) (below_rise d e readers n) (puts_rise d e n (readers n))
+    (puts_below d k e readers n) (puts_run d e.place n (readers n) (doings k n e)) (below_at d k e readers n) (steps_at d e.place n (readers n) (doings k n e))
+    (below_rises d k e readers n) (reader_rises d k n (readers n) e)
+
+-- discovery's answer has no rank
+abbrev discovery_turn : Place → Turn
+discovery_turn place = record { place = place; rank = None; kind = kind.Answer }
+
+answer_turn : (M : Type 0) (k : Known) (e : Happening) → AllByRecursion (λ (p : Put M). put_turn p ≡ discovery_turn e.place) (discovery_puts k e)
+answer_turn M k e = by_test (is_discovery e.writer)
+  where
+    by_answer : (o : Option Sent) → AllByRecursion (λ (p : Put M). put_turn p ≡ discovery_turn e.place) (answer_put e.place o)
+    by_answer None = tt
+    by_answer (Some s) = (refl, tt)
+
+    by_test : (b : Bool) → AllByRecursion (λ (p : Put M). put_turn p ≡ discovery_turn e.place) (if b then answer_put e.place (answered k e) else [])
+    by_test true = by_answer (answered k e)
+    by_test false = tt
+
+-- so it comes before all that readers put out at its place
+discovery_first : (a b : Turn) (place : Place) (r : ℕ) → a ≡ discovery_turn place → b.place ≡ place → b.rank ≡ Some r → is_lt (turn_order b a) ≡ false
+discovery_first a b place r is bp br = rw (is, bp, br, tied_itself places_total place) refl
+
+-- what is put out at an event
+abbrev event_puts : {M : Type 0} → Decoding M → World M → Happening → List (Put M)
+event_puts d w e = discovery_puts w.known e ++ puts_below d w.known e w.readers (reader_count w)
+
+event_at : {M : Type 0} (d : Decoding M) (w : World M) (e : Happening) → AllByRecursion (λ (p : Put M). (put_turn p).place ≡ e.place) (event_puts d w e)
+event_at {M} d w e =
+    all_append (λ p. (put_turn p).place ≡ e.place) (discovery_puts w.known e) (puts_below d w.known e w.readers (reader_count w))
+    (all_weaker (λ p. put_turn p ≡ discovery_turn e.place) (λ p. (put_turn p).place ≡ e.place) _ (λ p is. ap (λ (t : Turn). t.place) is) (answer_turn M w.known e))
+    (all_weaker (IsBelow e.place (reader_count w)) (λ p. (put_turn p).place ≡ e.place) _ (λ p b. b.place) (below_at d w.known e w.readers (reader_count w)))
+
+event_rises : {M : Type 0} (d : Decoding M) (w : World M) (e : Happening) → Rises (before {M = M}) (event_puts d w e)
+event_rises {M} d w e =
+    rises_then before (λ p. put_turn p ≡ discovery_turn e.place) (IsBelow e.place (reader_count w)) (λ x y p q. discovery_first (put_turn x) (put_turn y) e.place q.rank p q.place q.is)
+    (discovery_puts w.known e) (puts_below d w.known e w.readers (reader_count w)) (answer_turn M w.known e) (below_at d w.known e w.readers (reader_count w))
+    (rises_level (discovery_turn e.place) _ (answer_turn M w.known e)) (below_rises d w.known e w.readers (reader_count w))
 
 -- what is put out at events, one after another
 abbrev pub run_puts : {M : Type 0} → Decoding M → World M → List Happening → List (Put M)
 run_puts d w [] = []
-run_puts d w (e ∷ es) = puts_below d e w.readers w.count ++ run_puts d (world_after d w e) es
+run_puts d w (e ∷ es) = event_puts d w e ++ run_puts d (world_after d w e) es
 
 pub put_all : {M : Type 0} (d : Decoding M) (w : World M) (es : List Happening) → (world_run d w es).put ≡ w.put ++ run_puts d w es
 put_all d w [] = sym (append-nil w.put)
-put_all d w (e ∷ es) = put_all d (world_after d w e) es ∙ append_assoc w.put (puts_below d e w.readers w.count) (run_puts d (world_after d w e) es)
+put_all d w (e ∷ es) = put_all d (world_after d w e) es ∙ append_assoc w.put (event_puts d w e) (run_puts d (world_after d w e) es)
 
 run_later : {M : Type 0} (d : Decoding M) (w : World M) (place : Place) (es : List Happening) → AllByRecursion (λ (e : Happening). not_after e.place place ≡ false) es
     → AllByRecursion (λ p. not_after (put_turn p).place place ≡ false) (run_puts d w es)
 run_later d w place [] h = tt
 run_later d w place (e ∷ es) h =
-    all_append (λ p. not_after (put_turn p).place place ≡ false) (puts_below d e w.readers w.count) (run_puts d (world_after d w e) es)
-    (all_weaker (IsBelow e.place w.count) (λ p. not_after (put_turn p).place place ≡ false) _ (λ p b. ap (λ l. not_after l place) b.place ∙ h.0) (below_at d e w.readers w.count))
+    all_append (λ p. not_after (put_turn p).place place ≡ false) (event_puts d w e) (run_puts d (world_after d w e) es)
+    (all_weaker (λ p. (put_turn p).place ≡ e.place) (λ p. not_after (put_turn p).place place ≡ false) _ (λ p is. ap (λ l. not_after l place) is ∙ h.0) (event_at d w e))
     (run_later d (world_after d w e) place es h.1)
 
 -- it comes by turn
 pub run_rises : {M : Type 0} (d : Decoding M) (w : World M) (es : List Happening) → PlacesRise es → Rises before (run_puts d w es)
 run_rises d w [] up = tt
 run_rises d w (e ∷ es) up =
-    rises_then before (IsBelow e.place w.count) (λ p. not_after (put_turn p).place e.place ≡ false) (λ x y p q. later x y e.place p.place q)
-    (puts_below d e w.readers w.count) (run_puts d (world_after d w e) es) (below_at d e w.readers w.count) (run_later d (world_after d w e) e.place es up.0)
-    (below_rise d e w.readers w.count) (run_rises d (world_after d w e) es up.1)
-
-none_by : {M : Type 0} (place : Place) (n rank : ℕ) (xs : List (Put M)) → n ≤ rank → AllByRecursion (IsBelow place n) xs → notices_by rank xs ≡ []
-none_by place n rank [] past h = refl
-none_by place n rank (Sends s ∷ xs) past h = none_by place n rank xs past h.1
-none_by place n rank (Hears by m ∷ xs) past h =
-    let is : Some by ≡ Some h.0.rank = h.0.is in
-    let same : by ≡ h.0.rank = cc in
-    let other : (by == rank) ≡ false = grind (arith, nat_tests, h.0.below) in
-    rw other (none_by place n rank xs past h.1)
+    rises_then before (λ p. (put_turn p).place ≡ e.place) (λ p. not_after (put_turn p).place e.place ≡ false) (λ x y p q. later x y e.place p q)
+    (event_puts d w e) (run_puts d (world_after d w e) es) (event_at d w e) (run_later d (world_after d w e) e.place es up.0)
+    (event_rises d w e) (run_rises d (world_after d w e) es up.1)
 
 -- no reader past the last gives out a notice
-pub run_none : {M : Type 0} (d : Decoding M) (w : World M) (rank : ℕ) (es : List Happening) → w.count ≤ rank → notices_by rank (run_puts d w es) ≡ []
+pub run_none : {M : Type 0} (d : Decoding M) (w : World M) (rank : ℕ) (es : List Happening) → reader_count w ≤ rank → notices_by rank (run_puts d w es) ≡ []
 run_none d w rank [] past = refl
 run_none d w rank (e ∷ es) past =
-    notices_by-append rank (puts_below d e w.readers w.count) (run_puts d (world_after d w e) es)
-    ∙ ap (λ l. l ++ notices_by rank (run_puts d (world_after d w e) es)) (none_by e.place w.count rank _ past (below_at d e w.readers w.count))
-    ∙ run_none d (world_after d w e) rank es past
+    notices_by-append rank (event_puts d w e) (run_puts d (world_after d w e) es)
+    ∙ ap (λ l. l ++ notices_by rank (run_puts d (world_after d w e) es)) (heard_event d w rank e ∙ none_below d w.known e w.readers rank (reader_count w) past)
+    ∙ run_none d (world_after d w e) rank es (subst (λ (rs : List (Option Wish)). length rs ≤ rank) (sym (readers_kept w.known e)) past)

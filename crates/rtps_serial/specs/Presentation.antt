@@ -35,14 +35,6 @@ shown_in place (ASample number time body) =
     record { place = place; number = value_of number; time = time; body = body } ∷ []
 shown_in place kind = []
 
--- the samples of a writer among these notices, in order
-abbrev pub samples_of : {M : Type 0} → Guid → List (Notice M) → List (Shown M)
-samples_of writer [] = []
-samples_of writer (n ∷ ns) =
-    if same_guid n.writer writer
-    then shown_in n.place n.what ++ samples_of writer ns
-    else samples_of writer ns
-
 -- a place is not after another: it is in an earlier datagram, or in the same one at no later
 -- submessage
 abbrev pub not_after : Place → Place → Bool
