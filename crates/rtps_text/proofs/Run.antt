@@ -10,10 +10,10 @@ use Rattle.rtps_records.specs.Text.{Ends, IsFront, Says}
 use Rattle.rtps_records.specs.declared.fault.RunFault.{RunFault}
 use Rattle.std.proofs.lemmas.Bool.Decides.{nat_tests}
 use Rattle.rtps_reader.specs.declared.status.Status.{Status}
-use Rattle.rtps_serial.specs.Seen.{status_at, status_seen}
+use Rattle.rtps_serial.specs.Seen.{reader_count, status_at, status_seen}
 use Rattle.rtps_types.specs.declared.identity.GuidPrefix.{GuidPrefix}
 use Rattle.rtps_receiver.specs.Events.{Happening, events_of}
-use Rattle.rtps_serial.specs.World.{Put, World, puts_below, world_after}
+use Rattle.rtps_serial.specs.World.{Put, World, discovery_puts, puts_below, world_after}
 use Rattle.rtps_serial.specs.Run.{events_from, first_world, run, world_run}
 use Rattle.rtps_serial.specs.Standing.{EngineKept, StandsAt, run_by}
 use Rattle.rtps_text.specs.Replayed.{HasSaid, put_line, put_lines, replay_text, status_lines, status_text, summary_text, text_by}
@@ -71,7 +71,7 @@ GoesOn {M} decoding w those these = (extra : List (Put M)) × ((world_run decodi
 put_stays : {M : Type 0} (decoding : Decoding M) (w : World M) (es : List Happening) → GoesOn decoding w [] es
 put_stays decoding w [] = ([], sym (append-nil w.put))
 put_stays decoding w (e ∷ es) =
-    let here = puts_below decoding e w.readers w.count in
+    let here = discovery_puts w.known e ++ puts_below decoding w.known e w.readers (reader_count w) in
     let rest = put_stays decoding (world_after decoding w e) es in
     (here ++ rest.0, rest.1 ∙ append_assoc w.put here rest.0)
 
@@ -121,9 +121,9 @@ on_ok_both (Ok x) p f h = h p f
 on_ok_both (Err e) p f h = tt
 
 -- the status of one rank more
-pub statuses_more : {M : Type 0} (w : World M) (n : ℕ) (status : Option Status) → n < w.count → status ≡ status_seen w n → status_lines w n ++ status_text n status ≡ status_lines w (n + 1)
+pub statuses_more : {M : Type 0} (w : World M) (n : ℕ) (status : Option Status) → n < reader_count w → status ≡ status_seen w n → status_lines w n ++ status_text n status ≡ status_lines w (n + 1)
 statuses_more w n status below e =
     let next : n + 1 ≡ suc n = omega arith in
-    let here : nat_lt n w.count ≡ true = grind (arith, nat_tests) in
+    let here : nat_lt n (reader_count w) ≡ true = grind (arith, nat_tests) in
     let seen : status ≡ Some (status_at w n) = e ∙ ap (λ b. if b then Some (status_at w n) else None) here in
     ap (λ s. status_lines w n ++ status_text n s) seen ∙ sym (ap (status_lines w) next)

@@ -7,7 +7,7 @@ use Rattle.rtps_discovery.specs.declared.config.Config.{Config}
 use Rattle.rtps_reader.specs.declared.status.Status.{Status}
 use Rattle.rtps_serial.specs.World.{Put, Hears, Sends, World}
 use Rattle.rtps_serial.specs.Run.{run}
-use Rattle.rtps_serial.specs.Seen.{matches_seen, status_at}
+use Rattle.rtps_serial.specs.Seen.{matches_seen, reader_count, status_at}
 use Rattle.rtps_serial.specs.Standing.{EngineKept, StandsAt, run_by}
 use Rattle.rtps_text.specs.Told.{answer_line, heard_line, match_line, status_line}
 
@@ -34,7 +34,7 @@ status_lines w (suc rank) = status_lines w rank ++ status_line rank (status_at w
 
 -- the matches and the status of each reader
 abbrev pub summary_text : {M : Type 0} → World M → List ℕ
-summary_text w = match_lines (matches_seen w) ++ status_lines w w.count
+summary_text w = match_lines (matches_seen w) ++ status_lines w (reader_count w)
 
 -- the text of these records: what the run of one thread puts out, and after it the summary where it is asked for
 abbrev pub replay_text : {M : Type 0} → (M → List ℕ) → Decoding M → Config → Bool → List (List ℕ) → List ℕ

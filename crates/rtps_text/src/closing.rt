@@ -2,6 +2,7 @@
 
 ghost use Rattle.std.specs.Prelude.{◌≡◌, ◌++◌, List, OnOk, ℕ};
 ghost use Rattle.rtps_records.specs.Text.{IsFront};
+ghost use Rattle.rtps_serial.specs.Seen.{reader_count};
 ghost use Rattle.rtps_serial.specs.Standing.{StandsAt, run_by};
 ghost use Rattle.rtps_text.specs.Replayed.{match_lines, status_lines, status_text, summary_text};
 
@@ -53,7 +54,7 @@ fn push_statuses<C: Catalog, A: Allocator, B: Allocator + Copy>(
     ensures tells { (datagrams : List (List ℕ)) → StandsAt C.decoding datagrams engine.now
         → OnOk result (out.new.items ≡ out.old.items ++
         status_lines (run_by C.decoding engine.now datagrams)
-        (run_by C.decoding engine.now datagrams).count) }
+        (reader_count (run_by C.decoding engine.now datagrams))) }
 {
     for rank in 0..engine.readers() {
         push_status_of(out, rank, engine.status(rank))?;

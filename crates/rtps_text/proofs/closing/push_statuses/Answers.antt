@@ -1,5 +1,6 @@
 use Rattle.std.proofs.Common.{◌≡◌, ◌++◌, ◌<◌, ◌∙◌, append_assoc, ap, arith, length, rules, sym}
 use Rattle.rtps_serial.proofs.Running.{run_count}
+use Rattle.rtps_serial.specs.Seen.{reader_count}
 use Rattle.rtps_serial.specs.Standing.{run_by}
 use Rattle.rtps_text.specs.Replayed.{status_lines, status_text}
 use Rattle.rtps_text.proofs.Run.{front_more, statuses_more}
@@ -13,7 +14,7 @@ loop-rank-preserved g c = record {
       let world = run_by g.C.Catalog.decoding engine datagrams in
       let rank = c.loop-rank.rank in
       let less : rank < length c.args.engine.now.readers = search rules in
-      let below : rank < world.count = omega (arith, less, stands.count, run_count (g.C.Catalog.decoding engine.catalog) engine.config datagrams) in
+      let below : rank < reader_count world = omega (arith, less, stands.count, run_count (g.C.Catalog.decoding engine.catalog) engine.config datagrams) in
       c.in_ok-push_status_of.ensures ∙ ap (λ l. l ++ status_text rank c.status.result) (c.loop-rank.invariant.tells datagrams stands)
       ∙ append_assoc c.args.out.now.items (status_lines world rank) (status_text rank c.status.result)
       ∙ ap (λ l. c.args.out.now.items ++ l) (statuses_more world rank c.status.result below (c.status.ensures datagrams stands.shows));
@@ -24,5 +25,5 @@ returns-clause-tells g c datagrams stands =
     let engine = c.args.engine.now in
     let world = run_by g.C.Catalog.decoding engine datagrams in
     let ended : c.loop-rank.rank ≡ length c.args.engine.now.readers = search rules in
-    let whole : c.loop-rank.rank ≡ world.count = ended ∙ stands.count ∙ sym (run_count (g.C.Catalog.decoding engine.catalog) engine.config datagrams) in
+    let whole : c.loop-rank.rank ≡ reader_count world = ended ∙ stands.count ∙ sym (run_count (g.C.Catalog.decoding engine.catalog) engine.config datagrams) in
     c.loop-rank.invariant.tells datagrams stands ∙ ap (λ n. c.args.out.now.items ++ status_lines world n) whole
