@@ -2,6 +2,8 @@
 use Rattle.std.proofs.Common.{◌≡◌, ℕ, ◌<◌, ◌==◌, Bool, true, false, not, ◌&&◌, ◌||◌, if◌then◌else◌, List, [], ◌∷◌, ◌++◌, length, map, filter, Option, Some, None, is_some, Contains, ◌⊎◌, inl, inr, refl, sym, ap, ◌∙◌, subst, true≢false, arith}
 use Rattle.std.specs.List.{list_any}
 use Rattle.std.specs.Option.{option_map}
+use Rattle.std.proofs.Math.Bool.{or-false}
+use Rattle.std.proofs.lemmas.Bool.{eq-eqb}
 use Rattle.std.proofs.lemmas.Bool.Decides.{nat_tests}
 use Rattle.rtps_types.specs.declared.identity.EntityId.{EntityId}
 use Rattle.rtps_types.specs.declared.identity.Guid.{Guid}
@@ -112,7 +114,7 @@ leaves g b (Matches w ls) other = rw other refl
 leaves g b (Unmatches w) other = rw other refl
 leaves g b (Refuses w policy) other = refl
 
--- after each of these changes of the reader and the writer they are matched, or after each they aren't
+-- whether they are matched after a change of the reader and the writer: the same after each of these
 abbrev AllSet : ℕ → Guid → Bool → List ChangeAt → Type 0
 AllSet rank g t cs = (x : Becomes) → Contains cs (at rank x) → touches g x ≡ true → after_doing g t (doing_of x) ≡ t
 
@@ -137,9 +139,6 @@ stays : (rank : ℕ) (g : Guid) (t : Bool) (cs : List ChangeAt) → AllSet rank 
 stays rank g t [] all = refl
 stays rank g t (c ∷ cs) all = one_change rank g t c cs ∙ ap (λ b. presence rank g b cs) (one_set rank g t c cs all) ∙ stays rank g t cs (later_set rank g t c cs all)
 
-same_rank : (k : ℕ) → (k == k) ≡ true
-same_rank k = grind (arith, nat_tests)
-
 -- and where there is such a change, it becomes so
 becomes : (rank : ℕ) (g : Guid) (t b : Bool) (x : Becomes) (cs : List ChangeAt) → touches g x ≡ true → Contains cs (at rank x) → AllSet rank g t cs → presence rank g b cs ≡ t
 becomes rank g t b x [] is there all = absurd (none_in (at rank x) there)
@@ -149,7 +148,7 @@ becomes rank g t b x (c ∷ cs) is there all = by_part (first_or c cs (at rank x
     by_part (inl here) rest =
         one_change rank g b c cs
         ∙ ap (λ d. presence rank g (after_change rank g b d) cs) here
-        ∙ ap (λ s. presence rank g (if s then after_doing g b (doing_of x) else b) cs) (same_rank rank)
+        ∙ ap (λ s. presence rank g (if s then after_doing g b (doing_of x) else b) cs) (eq-eqb rank rank refl)
         ∙ ap (λ d. presence rank g d cs) (sets g t b x (all x there) is)
         ∙ stays rank g t cs (later_set rank g t c cs all)
     by_part (inr later) rest = one_change rank g b c cs ∙ rest later
@@ -213,7 +212,7 @@ run_presence k (a ∷ more) rank g =
     ∙ ap (λ b. presence rank g b (changes_run (known_after k a) more)) (changes_presence k (known_after k a) rank g (sym (fixed_stay k a)))
     ∙ run_presence (known_after k a) more rank g
 
--- and so does what is noted of an announcer
+-- and so does what is noted of an announcer, which leaves what writers are known too
 pub record IsAlike (k j : Known) : Type 0 where
   pub readers : j.readers ≡ k.readers
   pub fixed : j.fixed ≡ k.fixed
@@ -288,7 +287,7 @@ agrees_run : {M : Type 0} (decoding : Decoding M) (w : World M) (es : List Happe
 agrees_run decoding w [] agrees = agrees
 agrees_run decoding w (e ∷ es) agrees = agrees_run decoding (world_after decoding w e) es (agrees_after decoding w e agrees)
 
-turned : (a b c : Bool) → (a || (b || c)) ≡ ((b || a) || c)
+pub turned : (a b c : Bool) → (a || (b || c)) ≡ ((b || a) || c)
 turned true true c = refl
 turned true false c = refl
 turned false true c = refl
@@ -310,10 +309,6 @@ fixed_begun g own entity b rank (m ∷ fixed) ms = by_rank (m.rank == rank) refl
         ∙ turned (is_fixed (map pair_of fixed) rank g) (same_guid m.writer g) (has g ms))
     by_rank false is rest = rw is (rest ms)
 
-pub or_none : (b : Bool) → (b || false) ≡ b
-or_none true = refl
-or_none false = refl
-
 pairs_fixed : (rank : ℕ) (g : Guid) (fixed : List FixedMatch) → is_fixed (map pair_of fixed) rank g ≡ list_any (λ (m : FixedMatch). m.rank == rank && same_guid m.writer g) fixed
 pairs_fixed rank g [] = refl
 pairs_fixed rank g (m ∷ fixed) = ap (λ b. (m.rank == rank && same_guid m.writer g) || b) (pairs_fixed rank g fixed)
@@ -327,7 +322,7 @@ pub first_has : (config : Config) (rank : ℕ) (g : Guid)
     → has g (first_matches config.own (entity_of config.readers.items rank) (is_reliable_at config.readers.items rank) (fixed_of config.fixed.items rank)) ≡ start.is_fixed config rank g
 first_has config rank g =
     fixed_begun g config.own (entity_of config.readers.items rank) (is_reliable_at config.readers.items rank) rank config.fixed.items []
-    ∙ or_none (is_fixed (map pair_of config.fixed.items) rank g)
+    ∙ or-false (is_fixed (map pair_of config.fixed.items) rank g)
     ∙ first_fixed config rank g
 
 pub agrees_first : (M : Type 0) (config : Config) → Agrees (first_world {M = M} config)

@@ -1,7 +1,9 @@
 -- In a run a match from the start never ends, and no other begins in its place.
 use Rattle.std.proofs.Common.{◌≡◌, ℕ, ◌<◌, ◌≤◌, ◌==◌, nat_lt, Bool, true, false, ◌&&◌, ◌⊎◌, if◌then◌else◌, List, [], ◌∷◌, length, map, filter, Option, Some, None, Contains, refl, sym, ◌∙◌, ap, subst, arith, append-nil, true≢false, inl, inr}
 use Rattle.std.specs.List.{AllByRecursion}
+use Rattle.std.proofs.Math.Bool.{and-false}
 use Rattle.std.proofs.lemmas.Bool.Decides.{nat_tests}
+use Rattle.std.proofs.lemmas.List.{length-map}
 use Rattle.std.proofs.lemmas.List.Elements.{Contains-append_cases}
 use Rattle.rtps_types.specs.declared.identity.Guid.{Guid}
 use Rattle.rtps_types.specs.declared.place.Place.{Place}
@@ -13,6 +15,7 @@ use Rattle.rtps_discovery.specs.declared.config.Config.{Config}
 use Rattle.rtps_discovery.specs.Known as known
 use Rattle.rtps_discovery.specs.Known.{Known, Wish, is_matched, known_after, reader_at}
 use Rattle.rtps_discovery.specs.Records.{announcements, changes_by, noted}
+use Rattle.rtps_discovery.specs.Start.{reader_of}
 use Rattle.rtps_discovery.proofs.Differences.{at_first, differences, later_in, none_in}
 use Rattle.rtps_proxy.specs.Matches.{match_with, same_guid}
 use Rattle.rtps_proxy.proofs.Matching.{same_is}
@@ -27,8 +30,8 @@ use Rattle.rtps_serial.specs.World.{World, addressed_to, changes_for, doing_of, 
 use Rattle.rtps_serial.proofs.Agreeing.{first_fixed, fixed_kept, fixed_stay, noted_alike, readers_kept, touches}
 use Rattle.rtps_serial.proofs.Matched.{told_more, told_run}
 use Rattle.rtps_serial.proofs.Places.{all_append}
-use Rattle.rtps_serial.proofs.Presenting.{as_many, none_told}
-use Rattle.rtps_serial.proofs.Stretching.{and_false, is_cut, told_uncut, uncut}
+use Rattle.rtps_serial.proofs.Presenting.{none_told}
+use Rattle.rtps_serial.proofs.Stretching.{is_cut, told_uncut, uncut}
 
 -- notices that begin and end no match make one stretch
 one_stretch : {M : Type 0} (g : Guid) (since : Since) (ns : List (Notice M)) → AllByRecursion (λ n. is_cut g n ≡ false) ns → length (stretches g since ns) ≡ 1
@@ -74,7 +77,7 @@ module _ (rank : ℕ) (g : Guid) where
   one_whole : {M : Type 0} (decoding : Decoding M) (place : Place) (r : Reader) (x : Becomes) → touches g x ≡ false → AllByRecursion (λ n. is_cut g n ≡ false) (tells decoding r place (doing_of x))
   one_whole decoding place r (Matches w ls) other = (ap (λ t. t && true) other, tt)
   one_whole decoding place r (Unmatches w) other = (ap (λ t. t && true) other, tt)
-  one_whole decoding place r (Refuses w policy) other = (and_false (same_guid w g), tt)
+  one_whole decoding place r (Refuses w policy) other = (and-false (same_guid w g), tt)
 
   changes_whole : {M : Type 0} (decoding : Decoding M) (place : Place) (r : Reader) (cs : List ChangeAt) → Untouched cs → AllByRecursion (λ n. is_cut g n ≡ false) (told_run decoding place r (changes_for rank cs))
   changes_whole decoding place r [] all = tt
@@ -122,10 +125,10 @@ run_lasts {M} decoding config datagrams rank g fixed = one_stretch g (first_sinc
   where
     by_count : (b : Bool) → nat_lt rank (length config.readers.items) ≡ b → AllByRecursion (λ n. is_cut g n ≡ false) (notices_by rank (run decoding config datagrams).put)
     by_count true is =
-        let many = as_many config.readers.items in
+        let many = length-map config.readers.items reader_of in
         let below : rank < length config.readers.items = grind (arith, nat_tests) in
         run_whole rank g decoding (first_world config) (events_from config.own 0 datagrams) (omega (arith, below, many)) (first_fixed config rank g ∙ fixed) tt
     by_count false is =
-        let many = as_many config.readers.items in
+        let many = length-map config.readers.items reader_of in
         let past : length config.readers.items ≤ rank = grind (arith, nat_tests) in
         subst (AllByRecursion (λ (n : Notice M). is_cut g n ≡ false)) (sym (none_told decoding config rank g (first_world config) (events_from config.own 0 datagrams) (omega (arith, past, many)) refl)) tt

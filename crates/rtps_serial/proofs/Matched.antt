@@ -2,6 +2,7 @@
 use Rattle.std.proofs.Common.{◌≡◌, ℕ, zero, suc, ◌<◌, ◌≤◌, Bool, true, false, if◌then◌else◌, List, [], ◌∷◌, ◌++◌, map, Option, Some, None, refl, sym, ◌∙◌, ap, subst, arith, eqb, append-nil, append_assoc, true≢false, inl, inr}
 use Rattle.std.specs.Option.{option_map}
 use Rattle.std.specs.List.{AllByRecursion}
+use Rattle.std.proofs.lemmas.Bool.{eq-eqb}
 use Rattle.std.proofs.lemmas.Bool.Decides.{eqb_tells, nat_tests}
 use Rattle.rtps_types.specs.SequenceNumber.{IsNumber}
 use Rattle.rtps_types.specs.declared.identity.Guid.{Guid}
@@ -153,12 +154,9 @@ abbrev pub told_run : {M : Type 0} → Decoding M → Place → Reader → List 
 told_run decoding place r [] = []
 told_run decoding place r (d ∷ ds) = tells decoding r place d ++ told_run decoding place (reader_after r d) ds
 
-same_rank : (k : ℕ) → eqb k k ≡ true
-same_rank k = grind (arith, nat_tests)
-
 heard_all : {M : Type 0} (rank : ℕ) (ns : List (Notice M)) → notices_by rank (map (Hears rank) ns) ≡ ns
 heard_all rank [] = refl
-heard_all rank (n ∷ ns) = rw (same_rank rank) (ap (λ l. n ∷ l) (heard_all rank ns))
+heard_all rank (n ∷ ns) = rw (eq-eqb rank rank refl) (ap (λ l. n ∷ l) (heard_all rank ns))
 
 heard_none : {M : Type 0} (rank k : ℕ) → eqb k rank ≡ false → (ns : List (Notice M)) → notices_by rank (map (Hears k) ns) ≡ []
 heard_none rank k h [] = refl
@@ -259,10 +257,3 @@ pub told_more : {M : Type 0} (decoding : Decoding M) (w : World M) (rank : ℕ) 
 told_more decoding w rank e below =
     heard_more decoding w rank e
     ∙ ap (λ l. notices_by rank w.put ++ l) (by_rank decoding w.known e w.readers rank (reader_count w) below)
-
--- a rank that no reader has reports nothing
-pub untold : {M : Type 0} (decoding : Decoding M) (w : World M) (rank : ℕ) (e : Happening) → reader_count w ≤ rank → notices_by rank w.put ≡ [] → notices_by rank (world_after decoding w e).put ≡ []
-untold decoding w rank e past none =
-    heard_more decoding w rank e
-    ∙ ap (λ l. l ++ notices_by rank (puts_below decoding w.known e w.readers (reader_count w))) none
-    ∙ none_below decoding w.known e w.readers rank (reader_count w) past

@@ -23,6 +23,7 @@ use Rattle.rtps_discovery.specs.Addressed.{is_addressed}
 use Rattle.rtps_proxy.specs.Matches.{same_guid}
 use Rattle.rtps_serial.specs.Presentation.{events_after, events_for, not_after}
 use Rattle.rtps_serial.specs.Run.{events_from}
+use Rattle.rtps_serial.proofs.OneOrder.{filter_none}
 
 -- each event comes after those before it in the list
 abbrev pub PlacesRise : List Happening → Type 0
@@ -71,7 +72,7 @@ later_submessage a b index count is same more = rw is (grind (arith, nat_tests))
 later_datagram : (a b : Place) → a.datagram < b.datagram → not_after b a ≡ false
 later_datagram a b less = grind (arith, nat_tests)
 
--- an event that there may be stands at its place
+-- an event, where there is one, has its place
 at_place : (place : Place) (source : GuidPrefix) (time : Option Timestamp) (b : Bool) (a : Option Addressed) → AllByRecursion (λ e. e.place ≡ place) (option_to_list (if b then happening place source time a else None))
 at_place place source time true (Some a) = (refl, tt)
 at_place place source time true None = tt
@@ -197,15 +198,11 @@ filter_reversed p (x ∷ xs) ys = filter_reversed p xs (x ∷ ys) ∙ by_test (p
     by_test true = refl
     by_test false = refl
 
-none_pass : (p : Happening → Bool) (es : List Happening) → AllByRecursion (λ e. p e ≡ false) es → filter p es ≡ []
-none_pass p [] h = refl
-none_pass p (e ∷ es) h = let here : p e ≡ false = h.0 in rw here (none_pass p es h.1)
-
 all_pass : (p : Happening → Bool) (es : List Happening) → AllByRecursion (λ e. p e ≡ true) es → filter p es ≡ es
 all_pass p [] h = refl
 all_pass p (e ∷ es) h = let here : p e ≡ true = h.0 in rw here (ap (λ l. e ∷ l) (all_pass p es h.1))
 
--- of a run the events before one and those after it
+-- the events before one in order, and those after it
 parted : (before : List Happening) (e : Happening) (left : List Happening) → PlacesRise (before ++ e ∷ left)
     → AllByRecursion (λ d. not_after e.place d.place ≡ false) before × AllByRecursion (λ d. not_after d.place e.place ≡ false) left
 parted [] e left rises = (tt, rises.0)
@@ -223,7 +220,7 @@ is_before a b h = grind (arith, nat_tests)
 is_later : (a b : Place) → not_after a b ≡ false → not (not_after a b) ≡ true
 is_later a b h = rw h refl
 
--- the submessages for a match after the place of an event that isn't one of them are those of the events after it
+-- where an event isn't one of a match's, the match's submessages after its place are those of the later events
 pub events_since : (writer : Guid) (reader : EntityId) (before : List Happening) (e : Happening) (left : List Happening) → PlacesRise (before ++ e ∷ left)
     → is_addressed (same_guid writer) reader e ≡ false
     → events_after e.place (events_for writer reader (before ++ e ∷ left)) ≡ reverse_aux (filter (is_addressed (same_guid writer) reader) left) []
@@ -240,7 +237,7 @@ events_since writer reader before e left rises other =
 
     earlier_pass : filter later (filter mine before) ≡ []
     earlier_pass =
-        none_pass later (filter mine before)
+        filter_none later (filter mine before)
         (all_filter (λ d. later d ≡ false) mine before (all_weaker (λ d. not_after e.place d.place ≡ false) (λ d. later d ≡ false) before (λ d h. is_before e.place d.place h) (parted before e left rises).0))
 
     later_pass : filter later (filter mine left) ≡ filter mine left

@@ -4,6 +4,7 @@ use mathlib.Core.List.{reverse_aux}
 use Rattle.std.specs.Prelude.{filter}
 use Rattle.std.specs.List.{AllByRecursion}
 use Rattle.std.proofs.lemmas.Bool.Decides.{nat_tests}
+use Rattle.std.proofs.lemmas.List.{length-map}
 use Rattle.rtps_types.specs.declared.identity.EntityId.{EntityId}
 use Rattle.rtps_types.specs.declared.identity.Guid.{Guid}
 use Rattle.rtps_types.specs.declared.identity.GuidPrefix.{GuidPrefix}
@@ -26,10 +27,12 @@ use Rattle.rtps_serial.specs.Run.{entity_of, events_from, first_world, fixed_of,
 use Rattle.rtps_serial.specs.Seen.{Agrees, notices_by, reader_count}
 use Rattle.rtps_serial.specs.World.{World, addressed_to, changes_for, doings, world_after}
 use Rattle.rtps_serial.proofs.Agreeing.{agrees_after, agrees_first, first_has, has, readers_kept}
-use Rattle.rtps_serial.proofs.Matched.{told_more, told_run, untold}
+use Rattle.rtps_serial.proofs.Dealt.{notices_by-append}
+use Rattle.rtps_serial.proofs.Matched.{told_more, told_run}
 use Rattle.rtps_serial.proofs.Places.{PlacesFall, PlacesRise, all_weaker, events_since, places_fall, places_rise}
 use Rattle.rtps_serial.proofs.Stretching.{Follows, IsNow, IsSettled, all_settled, follows_changes, follows_missed, follows_other, follows_taken, nothing_first}
 use Rattle.rtps_serial.proofs.Taken.{HasNumber, all_have_numbers}
+use Rattle.rtps_serial.proofs.Turns.{put_all, run_none, run_puts}
 
 -- ---- one event
 
@@ -37,7 +40,7 @@ no_match : (o : Option Match) → is_some o ≡ false → o ≡ None
 no_match None h = refl
 no_match (Some m) h = absurd (true≢false h)
 
--- what an event asks of the reader is done, where these submessages for the match are left
+-- what an event asks of the reader is done, and then these submessages for the match are left
 abbrev Does : {M : Type 0} → Decoding M → Bool → Guid → Since → List Happening → Reader → List (Notice M) → Happening → List Happening → List Doing → Type 0
 Does decoding reliable g first all r given e left ds = Follows decoding reliable g first all (reader_run r ds) (given ++ told_run decoding e.place r ds) left
 
@@ -124,7 +127,7 @@ module _ {M : Type 0} (decoding : Decoding M) (reliable : Bool) (g : Guid) (firs
 
 -- ---- the start
 
--- a match to which nothing came, of a reader that asks or not
+-- a match for which nothing came yet, as reliable as its reader
 abbrev IsFresh : Bool → Option Match → Type 0
 IsFresh reliable None = Unit {0}
 IsFresh reliable (Some m) = (m.whom.reliable ≡ reliable) × (m.past ≡ [])
@@ -153,10 +156,6 @@ wish_at (r ∷ readers) (suc rank) below =
     let rest = wish_at readers rank (omega (arith, below)) in
     record { wish = rest.wish; found = rest.found; named = rest.named }
 
-pub as_many : (readers : List ReaderConfig) → length (map reader_of readers) ≡ length readers
-as_many [] = refl
-as_many (r ∷ readers) = let rest : length (map reader_of readers) ≡ length readers = as_many readers in omega (arith, rest)
-
 module _ {M : Type 0} (decoding : Decoding M) (config : Config) (rank : ℕ) (g : Guid) where
   abbrev reliable_there : Bool
   reliable_there = is_reliable_at config.readers.items rank
@@ -167,7 +166,7 @@ module _ {M : Type 0} (decoding : Decoding M) (config : Config) (rank : ℕ) (g 
   at_first : (all : List Happening) → rank < length config.readers.items → InRun decoding reliable_there g (first_since config rank g) all rank entity_there (first_world config) all
   at_first all below =
       let there = wish_at config.readers.items rank below in
-      let many : length (map reader_of config.readers.items) ≡ length config.readers.items = as_many config.readers.items in
+      let many : length (map reader_of config.readers.items) ≡ length config.readers.items = length-map config.readers.items reader_of in
       record {
         agrees = agrees_first M config;
         below = omega (arith, below, many);
@@ -195,11 +194,9 @@ module _ {M : Type 0} (decoding : Decoding M) (config : Config) (rank : ℕ) (g 
       by_fixed false None h none = (refl, refl)
       by_fixed false (Some m) h new = absurd (true≢false h)
 
-  -- a rank that no reader has reports nothing
+  -- a rank that no reader has gives out no notice
   pub none_told : (w : World M) (es : List Happening) → reader_count w ≤ rank → notices_by rank w.put ≡ [] → notices_by rank (world_run decoding w es).put ≡ []
-  none_told w [] past none = none
-  none_told w (e ∷ es) past none =
-      none_told (world_after decoding w e) es (subst (λ (rs : List (Option Wish)). length rs ≤ rank) (sym (readers_kept w.known e)) past) (untold decoding w rank e past none)
+  none_told w es past none = ap (notices_by rank) (put_all decoding w es) ∙ notices_by-append rank w.put (run_puts decoding w es) ∙ ap (λ l. l ++ notices_by rank (run_puts decoding w es)) none ∙ run_none decoding w rank es past
 
   empty_settled : (fixed : Bool) (all : List Happening) → IsSettled decoding reliable_there all (stretch (if fixed then TheStart else Never) [])
   empty_settled true all = record { unmatched = λ never. refl; matched = λ asks. record { rising = tt; received = tt; passed_over = tt } }
@@ -219,7 +216,7 @@ module _ {M : Type 0} (decoding : Decoding M) (config : Config) (rank : ℕ) (g 
           let last = all_events decoding reliable_there g (first_since config rank g) es rank entity_there (places_rise config.own datagrams) falls (first_world config) [] es refl (all_have_numbers config.own 0 datagrams) (at_first es below) in
           all_settled decoding reliable_there g (first_since config rank g) (events_in config datagrams rank g) ((run decoding config datagrams).readers rank) (notices_by rank (run decoding config datagrams).put) [] falls last.follows
       by_count false is =
-          let many : length (map reader_of config.readers.items) ≡ length config.readers.items = as_many config.readers.items in
+          let many : length (map reader_of config.readers.items) ≡ length config.readers.items = length-map config.readers.items reader_of in
           let past : length config.readers.items ≤ rank = grind (arith, nat_tests) in
           let none : notices_by rank (run decoding config datagrams).put ≡ [] = none_told (first_world config) es (omega (arith, past, many)) refl in
           subst (λ ns. AllByRecursion (IsSettled decoding reliable_there (events_in config datagrams rank g)) (stretches g (first_since config rank g) ns)) (sym none)

@@ -2,6 +2,7 @@
 use Rattle.std.proofs.Common.{◌≡◌, ℕ, ◌<◌, ◌≤◌, ◌⊎◌, Bool, true, false, ◌||◌, if◌then◌else◌, List, [], ◌∷◌, ◌++◌, map, refl, sym, ◌∙◌, ap, subst, arith, eqb, inl, inr}
 use mathlib.Core.List.{reverse_aux}
 use Rattle.std.specs.List.{list_any, AllByRecursion}
+use Rattle.std.proofs.lemmas.Bool.{or_left}
 use Rattle.std.proofs.lemmas.Bool.Decides.{nat_tests}
 use Rattle.std.proofs.lemmas.List.{map-append}
 use Rattle.std.proofs.lemmas.List.Folds.{list_any-append}
@@ -70,9 +71,6 @@ all_placed {M} decoding P (e ∷ es) h =
     at_one [] = tt
     at_one (s ∷ ss) = (h.0, at_one ss)
 
-other_way : (a b : Place) → not_after a b ≡ false → not_after b a ≡ true
-other_way a b h = grind (arith, nat_tests)
-
 same_place : (a : Place) → not_after a a ≡ true
 same_place a = grind (arith, nat_tests)
 
@@ -123,10 +121,6 @@ Passes past n = (k : ℕ) → 1 ≤ k → k < n → IsGivenUp past k ⊎ IsPrese
 
 passes : {M : Type 0} (decoding : Decoding M) (es : List Happening) → PlacesFall es → AllByRecursion (λ (s : Shown M). Passes (came_by s.place es) s.number) (shown_after decoding es)
 passes {M} decoding = by_place decoding (λ past (s : Shown M). Passes past s.number) (λ past e. ready_passes_over past (came_of e))
-
-or_left : (a b : Bool) → a ≡ true → (a || b) ≡ true
-or_left true b h = refl
-or_left false b h = absurd cc
 
 -- what was presented by a place was presented in the end
 presented_within : (place : Place) (k : ℕ) (es : List Happening) → PlacesFall es → IsPresented (came_by place es) k → IsPresented (map came_of es) k
@@ -191,7 +185,7 @@ all_from_zero [] = tt
 all_from_zero (s ∷ ss) = (omega arith, all_from_zero ss)
 
 -- the samples that the submessages of a match give, where these are in order
-pub are_presented : {M : Type 0} (decoding : Decoding M) (es : List Happening) → PlacesFall es → ArePresented decoding es (shown_after decoding es)
+are_presented : {M : Type 0} (decoding : Decoding M) (es : List Happening) → PlacesFall es → ArePresented decoding es (shown_after decoding es)
 are_presented {M} decoding es falls = record {
   rising = rising;
   received = brought decoding es falls;

@@ -3,6 +3,7 @@ use Rattle.std.proofs.Common.{◌≡◌, ◌==◌, Bool, true, false, ◌&&◌, 
 use mathlib.Core.List.{reverse_aux}
 use Rattle.std.specs.List.{AllByRecursion}
 use Rattle.std.specs.Option.{option_map}
+use Rattle.std.proofs.Math.Bool.{and-false}
 use Rattle.rtps_types.specs.SequenceNumber.{IsNumber}
 use Rattle.rtps_types.specs.declared.identity.Guid.{Guid}
 use Rattle.rtps_types.specs.declared.place.Place.{Place}
@@ -71,10 +72,6 @@ uncut {M} g since (n ∷ ns) ys all = by_writer (same_guid n.writer g) all.0 (un
     by_writer true h rest = by_kind n.what h rest
     by_writer false h rest = rest
 
-pub and_false : (b : Bool) → (b && false) ≡ false
-and_false true = refl
-and_false false = refl
-
 -- what a reader reports of an event begins and ends no match
 pub told_uncut : {M : Type 0} (decoding : Decoding M) (place : Place) (g w : Guid) (c : Came) (o : Option Match) → AllByRecursion (λ n. is_cut g n ≡ false) (told_of decoding place w c o)
 told_uncut decoding place g w c None = tt
@@ -83,11 +80,11 @@ told_uncut {M} decoding place g w c (Some m) =
   where
     no_losses : (b : Bool) → AllByRecursion (λ (n : Notice M). is_cut g n ≡ false) (if b then [] else record { place = place; writer = w; what = Lost (lost_at m c) } ∷ [])
     no_losses true = tt
-    no_losses false = (and_false (same_guid w g), tt)
+    no_losses false = (and-false (same_guid w g), tt)
 
     of_samples : (ss : List Sample) → AllByRecursion (λ (n : Notice M). is_cut g n ≡ false) (map (presented decoding place w) ss)
     of_samples [] = tt
-    of_samples (s ∷ ss) = (and_false (same_guid w g), of_samples ss)
+    of_samples (s ∷ ss) = (and-false (same_guid w g), of_samples ss)
 
 -- ---- a reader, step by step
 
@@ -102,7 +99,7 @@ IsSince TheStart all es = all ≡ es
 IsSince (ThePlace place) all es = events_after place all ≡ es
 IsSince Never all es = ⊥
 
--- a match that goes on: the submessages that came for it, the newest first, are those since it began, but for those that are left
+-- a match that goes on: what came for it, the newest first, and what is left are its submessages since it began
 pub record GoesOn {M : Type 0} (decoding : Decoding M) (reliable : Bool) (all left : List Happening) (since : Since) (shown : List (Shown M)) (m : Match) : Type 0 where
   pub mine : List Happening
   pub past : m.past ≡ map came_of mine
@@ -193,7 +190,7 @@ module _ {M : Type 0} (decoding : Decoding M) (reliable : Bool) (g : Guid) (firs
   }
 
   -- a change of what is known, at a place after which these submessages are left
-  pub follows_change : (place : Place) (r : Reader) (given : List (Notice M)) (left : List Happening) (x : Becomes) → PlacesFall all → events_after place all ≡ reverse_aux left []
+  follows_change : (place : Place) (r : Reader) (given : List (Notice M)) (left : List Happening) (x : Becomes) → PlacesFall all → events_after place all ≡ reverse_aux left []
       → Follows decoding reliable g first all r given left → Follows decoding reliable g first all (reader_after r (doing_of x)) (given ++ tells decoding r place (doing_of x)) left
   follows_change place r given left (Matches w ls) falls here f = by_writer (same_guid w g) refl
     where
@@ -222,7 +219,7 @@ module _ {M : Type 0} (decoding : Decoding M) (reliable : Bool) (g : Guid) (firs
           (ended_match g w r.matches ∙ ap (λ t. if t then None else match_with g r.matches) other)
           (ap (λ t. t && true) other, tt) (rw other refl)
   follows_change place r given left (Refuses w policy) falls here f =
-      left_alone r r given (record { place = place; writer = w; what = Incompatible policy } ∷ []) left f refl refl (and_false (same_guid w g), tt) (either_way (same_guid w g) none)
+      left_alone r r given (record { place = place; writer = w; what = Incompatible policy } ∷ []) left f refl refl (and-false (same_guid w g), tt) (either_way (same_guid w g) none)
     where
       none : List (Shown M)
       none = []

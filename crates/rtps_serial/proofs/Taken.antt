@@ -3,6 +3,7 @@ use Rattle.std.proofs.Common.{◌≡◌, ℕ, ◌+◌, ◌^◌, ◌&&◌, Bool, 
 use Rattle.std.specs.Prelude.{drop, option_to_list}
 use Rattle.std.specs.List.{AllByRecursion, list_all}
 use Rattle.std.specs.Str.{bytes_eq}
+use Rattle.std.proofs.lemmas.Bool.{and_parts}
 use Rattle.std.proofs.lemmas.Bool.Decides.{nat_tests}
 use Rattle.rtps_types.specs.SequenceNumber.{IsNumber}
 use Rattle.rtps_types.specs.declared.identity.GuidPrefix.{GuidPrefix}
@@ -33,20 +34,12 @@ HasNumber (Heartbeat h) = Unit {0}
 HasNumber (Gap g) = Unit {0}
 HasNumber (HeartbeatFrag h) = Unit {0}
 
-and_first : (a b : Bool) → (a && b) ≡ true → a ≡ true
-and_first true b h = refl
-and_first false b h = absurd cc
-
-and_second : (a b : Bool) → (a && b) ≡ true → b ≡ true
-and_second true b h = h
-and_second false b h = absurd cc
-
 within : (n : ℕ) → nat_le 1 n ≡ true → nat_le n (2 ^ 62) ≡ true → IsNumber n
 within n low high = (grind (arith, nat_tests), grind (arith, nat_tests))
 
 by_body : (b : Brought) → (nat_le 1 (first_of b) && list_all is_taken (numbers_of b)) ≡ true → HasNumber b
-by_body (Whole c) h = within c.number (and_first _ _ h) (and_first _ true (and_second (nat_le 1 c.number) _ h))
-by_body (Fragment f) h = within f.number (and_first _ _ h) (and_first _ true (and_second (nat_le 1 f.number) _ h))
+by_body (Whole c) h = let both = and_parts _ _ h in within c.number both.0 (and_parts _ true both.1).0
+by_body (Fragment f) h = let both = and_parts _ _ h in within f.number both.0 (and_parts _ true both.1).0
 by_body (Heartbeat h) k = tt
 by_body (Gap g) h = tt
 by_body (HeartbeatFrag h) k = tt

@@ -10,6 +10,7 @@ use Rattle.std.specs.declared.cmp.Ordering.TheVariants.{Less, Equal, Greater}
 use Rattle.std.proofs.lemmas.Bool.Decides.{nat_tests}
 use Rattle.std.proofs.lemmas.Cmp.{alike_right, nat_cmp_total, on_total, then_total, tied_itself}
 use Rattle.std.proofs.lemmas.List.Sorted.{ranks_by}
+use Rattle.std.proofs.lemmas.Map.Lookups.{exact_unsigned}
 use Rattle.rtps_types.specs.declared.identity.Guid.{Guid}
 use Rattle.rtps_types.specs.declared.place.Place.{Place}
 use Rattle.rtps_types.specs.Place.{place_order}
@@ -117,19 +118,11 @@ then_second Less p h = absurd cc
 then_second Equal p h = h
 then_second Greater p h = absurd cc
 
-pub numbers_same : (a b : ℕ) → nat_cmp a b ≡ Equal → a ≡ b
-numbers_same a b h = by_test (nat_lt a b) (a == b) refl refl h
-  where
-    by_test : (l e : Bool) → nat_lt a b ≡ l → (a == b) ≡ e → (if l then Less else (if e then Equal else Greater)) ≡ Equal → a ≡ b
-    by_test true e i j h = absurd cc
-    by_test false true i j h = grind (arith, nat_tests)
-    by_test false false i j h = absurd cc
-
 ranks_same : (a b : Option ℕ) → option_cmp nat_cmp a b ≡ Equal → a ≡ b
 ranks_same None None h = refl
 ranks_same None (Some b) h = absurd cc
 ranks_same (Some a) None h = absurd cc
-ranks_same (Some a) (Some b) h = ap Some (numbers_same a b h)
+ranks_same (Some a) (Some b) h = ap Some (exact_unsigned a b h)
 
 kinds_same : (a b : ReportKind) → kind_order a b ≡ Equal → a ≡ b
 kinds_same kind.Notice kind.Notice h = refl
