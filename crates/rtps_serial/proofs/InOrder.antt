@@ -200,7 +200,7 @@ in_order {V} {M} {A} f d w es outcome reports has ordered up =
         ∙ at_turn f (run_puts d w es) outcome has z
 
 -- some datagrams more
-events_more : (own : GuidPrefix) (n : ℕ) (xs ys : List (List ℕ)) → events_from own n (xs ++ ys) ≡ events_from own n xs ++ events_from own (n + length xs) ys
+pub events_more : (own : GuidPrefix) (n : ℕ) (xs ys : List (List ℕ)) → events_from own n (xs ++ ys) ≡ events_from own n xs ++ events_from own (n + length xs) ys
 events_more own n [] ys = let same : n ≡ n + 0 = omega arith in ap (λ k. events_from own k ys) same
 events_more own n (x ∷ xs) ys =
     let same : n + 1 + length xs ≡ n + length (x ∷ xs) = omega arith in
