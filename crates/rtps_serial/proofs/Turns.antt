@@ -177,7 +177,7 @@ told_at : {M : Type 0} (d : Decoding M) (place : Place) (w : Guid) (e : Came) (m
 told_at d place w e None = tt
 told_at {M} d place w e (Some m) = all_append (λ n. n.place ≡ place) (loses place w (lost_at m e)) (map (presented d place w) (ready_at m e)) (loses_at M place w (lost_at m e)) (presented_at d place w (ready_at m e))
 
-tells_at : {M : Type 0} (d : Decoding M) (r : Reader) (place : Place) (asks : Doing) → AllByRecursion (λ (n : Notice M). n.place ≡ place) (tells d r place asks)
+pub tells_at : {M : Type 0} (d : Decoding M) (r : Reader) (place : Place) (asks : Doing) → AllByRecursion (λ (n : Notice M). n.place ≡ place) (tells d r place asks)
 tells_at d r place (Takes w e) = told_at d place w e (match_with w r.matches)
 tells_at d r place (Begins w locators) = (refl, tt)
 tells_at d r place (Ends w) = (refl, tt)
@@ -191,7 +191,7 @@ sent_at : (place : Place) (e : Came) (m : Option Match) → AllByRecursion (λ (
 sent_at place e None = tt
 sent_at place e (Some m) = placed_at place (answer_at m e)
 
-sends_at : (r : Reader) (place : Place) (asks : Doing) → AllByRecursion (λ (s : Place × Sent). s.0 ≡ place) (sends r place asks)
+pub sends_at : (r : Reader) (place : Place) (asks : Doing) → AllByRecursion (λ (s : Place × Sent). s.0 ≡ place) (sends r place asks)
 sends_at r place (Takes w e) = sent_at place e (match_with w r.matches)
 sends_at r place (Begins w locators) = tt
 sends_at r place (Ends w) = tt
@@ -246,7 +246,7 @@ module _ {M : Type 0} (d : Decoding M) (place : Place) (rank : ℕ) where
       (rises_level (turn_at place rank kind.Notice) _ (step_told r a)) (rises_level (turn_at place rank kind.Answer) _ (step_sent r a))
 
   -- a match that begins, ends or is refused is not answered
-  no_answer : (r : Reader) (b : Becomes) → sends r place (doing_of b) ≡ []
+  pub no_answer : (r : Reader) (b : Becomes) → sends r place (doing_of b) ≡ []
   no_answer r (Matches w locators) = refl
   no_answer r (Unmatches w) = refl
   no_answer r (Refuses w policy) = refl

@@ -1,0 +1,3 @@
+mod Alone
+mod Cuts
+mod Merged
