@@ -35,6 +35,7 @@ impl<A: Allocator> Model for Reader<A> {
 }
 
 impl<A: Allocator> Reader<A> {
+    /// Its own part of its guid, by which events name it.
     pub fn entity(&self) -> EntityId
         ensures { result ≡ self.now.entity }
     {
