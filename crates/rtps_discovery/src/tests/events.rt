@@ -20,18 +20,22 @@ pub(super) const SQUARES: Guid = Guid {
     entity: EntityId([0, 0, 1, 2]),
 };
 
+/// What a reader asks for that gives these two policies.
+fn asks(alloc: Global, reliability: Reliability, durability: Durability) -> Requested<Global> {
+    let mut requested = Requested::new(alloc);
+    requested.policies.reliability = reliability;
+    requested.policies.durability = durability;
+    requested
+}
+
 /// Puts a reader of shapes after the others of a configuration.
 fn add_reader(
     alloc: Global,
     config: &mut Config,
     key: u8,
     topic: &str,
-    reliability: Reliability,
-    durability: Durability,
+    requested: Requested<Global>,
 ) -> Result<(), Fail> {
-    let mut requested = Requested::new(alloc);
-    requested.policies.reliability = reliability;
-    requested.policies.durability = durability;
     config.readers.push(ReaderConfig {
         entity: EntityId([0, 0, key, 7]),
         topic: String::from_str(alloc, topic)?,
@@ -49,22 +53,10 @@ pub(super) fn two_readers(alloc: Global) -> Result<Config, Fail> {
         readers: Vec::new(alloc),
         fixed: Vec::new(alloc),
     };
-    add_reader(
-        alloc,
-        &mut config,
-        1,
-        "Square",
-        Reliability::Reliable,
-        Durability::TransientLocal,
-    )?;
-    add_reader(
-        alloc,
-        &mut config,
-        2,
-        "Circle",
-        Reliability::BestEffort,
-        Durability::Volatile,
-    )?;
+    let squares = asks(alloc, Reliability::Reliable, Durability::TransientLocal);
+    add_reader(alloc, &mut config, 1, "Square", squares)?;
+    let circles = asks(alloc, Reliability::BestEffort, Durability::Volatile);
+    add_reader(alloc, &mut config, 2, "Circle", circles)?;
     Ok(config)
 }
 
