@@ -7,7 +7,8 @@ use Rattle.clap.specs.Words.{Text}
 use Rattle.dds_qos.specs.declared.policies.Reliability.{Reliability}
 use Rattle.rtps_discovery.specs.Config.{has_twice}
 use Rattle.rtps_discovery.specs.declared.config.ReaderConfig.{ReaderConfig}
-use Rattle.rtps_listen.specs.Configs.{reader_in, reader_of, readers_of}
+use Rattle.rtps_discovery.specs.Start.{wish_of}
+use Rattle.rtps_listen.specs.Configs.{reader_of, readers_of}
 
 -- one rank more
 pub ranks_more : {X : Type 0} (f : ℕ → X) (n : ℕ) → map f (range_with_len 0 (n + 1)) ≡ map f (range_with_len 0 n) ++ f n ∷ []
@@ -15,9 +16,9 @@ ranks_more f n = map-range_with_len_more f 0 n n (omega arith)
 
 -- and one reader more
 pub readers_more : (all before : List ReaderConfig) (last : ReaderConfig) (topic : Text) (reliability : Reliability) (n : ℕ) → all ≡ before ++ last ∷ []
-    → map reader_in before ≡ readers_of topic reliability n → reader_in last ≡ reader_of topic reliability n → map reader_in all ≡ readers_of topic reliability (n + 1)
+    → map wish_of before ≡ readers_of topic reliability n → wish_of last ≡ reader_of topic reliability n → map wish_of all ≡ readers_of topic reliability (n + 1)
 readers_more all before last topic reliability n more have is =
-    ap (map reader_in) more ∙ map-append reader_in before (last ∷ []) ∙ ap₂ (λ xs x. xs ++ x ∷ []) have is ∙ sym (ranks_more (reader_of topic reliability) n)
+    ap (map wish_of) more ∙ map-append wish_of before (last ∷ []) ∙ ap₂ (λ xs x. xs ++ x ∷ []) have is ∙ sym (ranks_more (reader_of topic reliability) n)
 
 -- no item of some ranks passes a test
 pub no_rank_passes : {X : Type 0} (p : X → Bool) (f : ℕ → X) (a n : ℕ) → ((k : ℕ) → a ≤ k → k < a + n → p (f k) ≡ false) → list_any p (map f (range_with_len a n)) ≡ false

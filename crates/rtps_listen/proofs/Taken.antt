@@ -17,21 +17,23 @@ use Rattle.rtps_discovery.specs.declared.config.Config.{Config}
 use Rattle.rtps_discovery.specs.declared.config.ReaderConfig.{ReaderConfig}
 use Rattle.rtps_discovery.specs.declared.faults.ConfigFault.{ConfigFault}
 use Rattle.rtps_discovery.specs.declared.faults.ConfigFault.TheVariants.{Readers, BadReader, BadFixed}
-use Rattle.rtps_listen.specs.Configs.{AreWritten, IsMadeOf, IsUnmatched, Reader, is_unmatched, match_of, matches_of, reader_in, reader_of, readers_of, reliability_of}
+use Rattle.rtps_discovery.specs.Known.{Wish}
+use Rattle.rtps_discovery.specs.Start.{wish_of}
+use Rattle.rtps_listen.specs.Configs.{AreWritten, IsMadeOf, IsUnmatched, is_unmatched, match_of, matches_of, reader_of, readers_of, reliability_of}
 use Rattle.rtps_listen.specs.declared.options.Options.{Options}
 use Rattle.rtps_listen.proofs.Ranks.{each_rank_passes, no_rank_passes, ranks_differ}
 use Rattle.rtps_listen.proofs.Written.{same_prefix, same_writer}
 
 -- the tests of readers see no more of them than is asked
-abbrev is_bad : Reader → Bool
+abbrev is_bad : Wish → Bool
 is_bad r = not (is_reader r.entity) || is_exclusive r.policies.ownership
 
-abbrev is_same : Reader → Reader → Bool
+abbrev is_same : Wish → Wish → Bool
 is_same a b = bytes_eq a.entity.0 b.entity.0
 
-twice_shown : (rs : List ReaderConfig) → has_twice is_same_entity rs ≡ has_twice is_same (map reader_in rs)
+twice_shown : (rs : List ReaderConfig) → has_twice is_same_entity rs ≡ has_twice is_same (map wish_of rs)
 twice_shown [] = refl
-twice_shown (r ∷ rs) = ap₂ (λ a b. a || b) (list_any-map (is_same (reader_in r)) reader_in rs) (twice_shown rs)
+twice_shown (r ∷ rs) = ap₂ (λ a b. a || b) (list_any-map (is_same (wish_of r)) wish_of rs) (twice_shown rs)
 
 entities_differ : (topic : Text) (reliability : Reliability) (i j : ℕ) → i < j → is_same (reader_of topic reliability i) (reader_of topic reliability j) ≡ false
 entities_differ topic reliability i j lt = rw (ne_eqb (i + 1) (j + 1) (λ e. omega arith)) refl
@@ -43,9 +45,9 @@ pairs_differ writer i j lt = rw (ne_eqb i j (λ e. omega arith)) refl
 few : (n : ℕ) → 1 ≤ n → n ≤ 8 → (n == 0 || nat_lt 256 n) ≡ false
 few n low high = grind (arith, nat_tests)
 
-readers_good : (topic : Text) (reliability : Reliability) (rs : List ReaderConfig) (n : ℕ) → map reader_in rs ≡ readers_of topic reliability n → (list_any is_bad_reader rs || has_twice is_same_entity rs) ≡ false
+readers_good : (topic : Text) (reliability : Reliability) (rs : List ReaderConfig) (n : ℕ) → map wish_of rs ≡ readers_of topic reliability n → (list_any is_bad_reader rs || has_twice is_same_entity rs) ≡ false
 readers_good topic reliability rs n have =
-    let bad : list_any is_bad_reader rs ≡ false = list_any-map is_bad reader_in rs ∙ ap (list_any is_bad) have ∙ no_rank_passes is_bad (reader_of topic reliability) 0 n (λ k above below. refl) in
+    let bad : list_any is_bad_reader rs ≡ false = list_any-map is_bad wish_of rs ∙ ap (list_any is_bad) have ∙ no_rank_passes is_bad (reader_of topic reliability) 0 n (λ k above below. refl) in
     let twice : has_twice is_same_entity rs ≡ false = twice_shown rs ∙ ap (has_twice is_same) have ∙ ranks_differ is_same (reader_of topic reliability) 0 n (entities_differ topic reliability) in
     ap₂ (λ a b. a || b) bad twice
 
@@ -73,7 +75,7 @@ unfolding answer check_of
 made_told options own writer config made =
     let n = options.readers in
     let count : length config.readers.items ≡ n =
-    sym (length-map config.readers.items reader_in) ∙ ap length made.readers ∙ length-map-range_with_len (reader_of options.topic.now (reliability_of options.best_effort)) 0 n in
+    sym (length-map config.readers.items wish_of) ∙ ap length made.readers ∙ length-map-range_with_len (reader_of options.topic.now (reliability_of options.best_effort)) 0 n in
     let readers : has_fault Readers config ≡ false = rw count (few n options.some options.few) in
     let bad : has_fault BadReader config ≡ false = readers_good options.topic.now (reliability_of options.best_effort) config.readers.items n made.readers in
     let fixed : has_fault BadFixed config ≡ is_unmatched own writer = rw (count, made.prefix, made.fixed) (fixed_fault own writer n options.some) in

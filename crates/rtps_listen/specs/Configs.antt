@@ -2,42 +2,24 @@
 use Rattle.std.specs.Prelude.{◌≡◌, ℕ, ◌+◌, List, [], ◌∷◌, map, Bool, true, false, not, ◌||◌, IsTrue, Option, Some, None, ◌⊎◌, Result, Err, codes}
 use Rattle.std.specs.List.{range_with_len}
 use Rattle.std.specs.Str.{bytes_eq}
-use Rattle.std.specs.String.{string_bytes}
 use Rattle.std.specs.Borrow.{Bor}
 use Rattle.clap.specs.Words.{Text}
 use Rattle.rtps_types.specs.declared.identity.EntityId.{EntityId}
 use Rattle.rtps_types.specs.declared.identity.Guid.{Guid}
 use Rattle.rtps_types.specs.declared.identity.GuidPrefix.{GuidPrefix}
 use Rattle.dds_qos.specs.Defaults.{default_policies}
-use Rattle.dds_qos.specs.declared.policies.Policies.{Policies}
 use Rattle.dds_qos.specs.declared.policies.Reliability.{Reliability}
 use Rattle.dds_qos.specs.declared.policies.Reliability.TheVariants.{BestEffort, Reliable}
 use Rattle.rtps_discovery.specs.Config.{is_writer}
 use Rattle.rtps_discovery.specs.declared.config.Config.{Config}
 use Rattle.rtps_discovery.specs.declared.config.FixedMatch.{FixedMatch}
-use Rattle.rtps_discovery.specs.declared.config.ReaderConfig.{ReaderConfig}
+use Rattle.rtps_discovery.specs.Known.{Wish}
+use Rattle.rtps_discovery.specs.Start.{wish_of}
 use Rattle.rtps_records.specs.declared.fault.RunFault.TheVariants.{NoMemory}
 use Rattle.rtps_listen.specs.Identities.{IsGuidText, IsPrefixText, WritesGuid, WritesPrefix}
 use Rattle.rtps_listen.specs.declared.options.Options.{Options}
 use Rattle.rtps_listen.specs.declared.fault.ListenFault.{ListenFault}
 use Rattle.rtps_listen.specs.declared.fault.ListenFault.TheVariants.{BadPrefix, BadWriter, Run}
-
--- what is asked of a reader, whatever room its texts have
-pub record Reader : Type 0 where
-  pub entity : EntityId
-  pub topic : Text
-  pub type_name : Text
-  pub policies : Policies
-  pub partitions : List Text
-
-abbrev pub reader_in : ReaderConfig → Reader
-reader_in r = record {
-  entity = r.entity;
-  topic = string_bytes r.topic;
-  type_name = string_bytes r.type_name;
-  policies = r.requested.policies;
-  partitions = r.requested.partitions;
-}
 
 -- the entity of the reader of a rank: readers with a key (DDSI-RTPS 9.3.1.2) that are counted from 1
 abbrev pub entity_of : ℕ → EntityId
@@ -49,7 +31,7 @@ reliability_of true = BestEffort
 reliability_of false = Reliable
 
 -- the reader of a rank: it has the type of the Shapes demo, and its other policies are what holds where none is given
-abbrev pub reader_of : Text → Reliability → ℕ → Reader
+abbrev pub reader_of : Text → Reliability → ℕ → Wish
 reader_of topic reliability rank = record {
   entity = entity_of rank;
   topic = topic;
@@ -59,7 +41,7 @@ reader_of topic reliability rank = record {
 }
 
 -- so many readers, by their ranks
-abbrev pub readers_of : Text → Reliability → ℕ → List Reader
+abbrev pub readers_of : Text → Reliability → ℕ → List Wish
 readers_of topic reliability count = map (reader_of topic reliability) (range_with_len 0 count)
 
 -- the match of the reader of a rank, which knows no address of the writer
@@ -81,7 +63,7 @@ NamesWriter (Some text) (Some writer) = WritesGuid text.now writer
 -- the configuration of the options, with what their texts write
 pub record IsMadeOf (options : Options) (own : GuidPrefix) (writer : Option Guid) (config : Config) : Type 0 where
   pub prefix : config.own ≡ own
-  pub readers : map reader_in config.readers.items ≡ readers_of options.topic.now (reliability_of options.best_effort) options.readers
+  pub readers : map wish_of config.readers.items ≡ readers_of options.topic.now (reliability_of options.best_effort) options.readers
   pub fixed : config.fixed.items ≡ matches_of writer options.readers
 
 -- what the texts of options write

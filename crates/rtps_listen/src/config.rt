@@ -2,7 +2,8 @@
 
 ghost use Rattle.std.specs.Prelude.{◌≡◌, ◌<◌, ◌≤◌, ◌↔◌, IfErr, IfOk, IsOk, Ok, map};
 ghost use Rattle.rtps_discovery.specs.Config.{check_of};
-ghost use Rattle.rtps_listen.specs.Configs.{IsCause, IsConfigOf, IsFixedText, IsMadeOf, NamesWriter, Refuses, matches_of, reader_in, reader_of, readers_of, reliability_of};
+ghost use Rattle.rtps_discovery.specs.Start.{wish_of};
+ghost use Rattle.rtps_listen.specs.Configs.{IsCause, IsConfigOf, IsFixedText, IsMadeOf, NamesWriter, Refuses, matches_of, reader_of, readers_of, reliability_of};
 
 use crate::fault::ListenFault;
 use crate::options::Options;
@@ -35,7 +36,7 @@ fn reader_for(
     rank: u8,
 ) -> Result<ReaderConfig, AllocError>
     requires { rank < 8 }
-    ensures { IfOk result (λ reader. reader_in reader ≡ reader_of topic.now reliability rank) }
+    ensures { IfOk result (λ reader. wish_of reader ≡ reader_of topic.now reliability rank) }
 {
     let mut requested = Requested::new(alloc);
     requested.policies.reliability = reliability;
@@ -56,7 +57,7 @@ fn readers_for(
     count: u8,
 ) -> Result<Vec<ReaderConfig>, AllocError>
     requires { count ≤ 8 }
-    ensures { IfOk result (λ readers. map reader_in readers.items ≡
+    ensures { IfOk result (λ readers. map wish_of readers.items ≡
         readers_of topic.now reliability count) }
 {
     let mut readers = Vec::new(alloc);
