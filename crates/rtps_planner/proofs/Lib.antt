@@ -1,3 +1,4 @@
 mod Alone
 mod Cuts
 mod Merged
+mod Planned

@@ -3,3 +3,6 @@
 #![tactic(auto)]
 
 pub mod laws;
+mod plan;
+
+pub use plan::PlannedStep;

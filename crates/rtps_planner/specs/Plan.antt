@@ -1,0 +1,49 @@
+-- The jobs of a plan, whose steps point into the batch's list of events.
+use Rattle.std.specs.Prelude.{◌≡◌, ℕ, Bool, false, ◌<◌, List, ◌++◌, length, map, filter, ◌==◌, Option, Some, None, Box, box_value, option_to_list, slice_index_or}
+use Rattle.std.specs.List.{flat_map, slice_get}
+use Rattle.std.specs.Option.{option_map}
+use Rattle.std.specs.declared.vec.Vec.{Vec}
+use Rattle.rtps_types.specs.declared.identity.EntityId.{EntityId}
+use Rattle.rtps_receiver.specs.Events.{Happening}
+use Rattle.rtps_discovery.specs.Addressed.{is_for}
+use Rattle.rtps_discovery.specs.Known.{Wish, reader_at}
+use Rattle.rtps_discovery.specs.declared.changes.Becomes.{Becomes}
+use Rattle.rtps_discovery.specs.Seen.{becomes_seen}
+use Rattle.rtps_reader.specs.Steps.{Doing, asks_of}
+use Rattle.rtps_serial.specs.Steps.{step_by}
+use Rattle.rtps_serial.specs.World.{doing_of}
+use Rattle.rtps_planner.specs.declared.plan.PlannedStep.{PlannedStep}
+use Rattle.rtps_planner.specs.Job.{Job}
+
+-- what a step asks at its event: what becomes of a match, or to take the event in
+abbrev pub asked_of : {A : Type 0} → Happening → Option (Box (Becomes A) A) → Doing
+asked_of e None = asks_of e
+asked_of e (Some change) = doing_of (becomes_seen (box_value change))
+
+-- a step, by the events that it points into; nothing where there is no such event
+abbrev pub step_seen : {A : Type 0} → List Happening → PlannedStep A → Job
+step_seen es s =
+    option_to_list (option_map (λ e. (e.place, asked_of e s.change)) (slice_get es s.event))
+
+abbrev pub steps_seen : {A : Type 0} → List Happening → List (PlannedStep A) → Job
+steps_seen es steps = flat_map (step_seen es) steps
+
+-- there is such a reader, and a reader id is for it
+abbrev pub is_named : EntityId → Option Wish → Bool
+is_named reader None = false
+is_named reader (Some r) = is_for reader r.entity
+
+-- to the steps of each rank these are added
+pub record Grow {A : Type 0} (es : List Happening) (old new : List (Vec (PlannedStep A) A))
+    (added : ℕ → Job) : Type 0 where
+  pub count : length new ≡ length old
+  pub steps : (rank : ℕ) (other : Vec (PlannedStep A) A) → rank < length old
+      → steps_seen es (slice_index_or new rank other).items
+      ≡ steps_seen es (slice_index_or old rank other).items ++ added rank
+
+-- what an event asks of the reader of a rank, where that is among these and the event names it
+abbrev pub taken_at : Happening → List (Option Wish) → List ℕ → ℕ → Job
+taken_at e readers ranks rank =
+    map (λ what. (e.place, what)) (map (λ s. s.what) (filter (λ s. s.rank == rank)
+    (map (λ r. step_by r (asks_of e))
+    (filter (λ r. is_named e.reader (reader_at readers r)) ranks))))
