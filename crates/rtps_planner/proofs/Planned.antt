@@ -15,13 +15,14 @@ use Rattle.rtps_discovery.specs.Seen.{change_seen}
 use Rattle.rtps_discovery.specs.Addressed.{is_discovery, writer_of}
 use Rattle.rtps_discovery.specs.Kept.{matched_ranks}
 use Rattle.rtps_discovery.specs.Known.{Known, Wish, is_fixed, is_matched, reader_at, writer_at}
-use Rattle.rtps_discovery.specs.Records.{changes_by}
+use Rattle.rtps_discovery.specs.Records.{answered, changes_by}
+use Rattle.rtps_reader.specs.Reader.{placed}
 use Rattle.rtps_reader.specs.Steps.{Doing, asks_of}
 use Rattle.rtps_serial.specs.Steps.{ReaderStep, step_by}
 use Rattle.rtps_serial.proofs.Hearing.{announced_doings, asked_from}
 use Rattle.rtps_serial.specs.World.{addressed_to, changes_for, doing_of, doings}
 use Rattle.rtps_planner.specs.declared.plan.PlannedStep.{PlannedStep}
-use Rattle.rtps_planner.specs.Job.{Job}
+use Rattle.rtps_planner.specs.Job.{Job, discovery_answer}
 use Rattle.rtps_planner.specs.Plan.{Grow, asked_of, is_named, step_seen, steps_seen, taken_at}
 
 -- one step more, where the test says that it is of the rank
@@ -159,3 +160,17 @@ event_asked k e rank others below =
 pub changes_asked : {A : Type 0} (k : Known) (e : Happening) (changes : List (MatchChange A)) (rank : ℕ) → is_discovery e.writer ≡ true → map change_seen changes ≡ changes_by k e
     → changes_asked_at e.place changes rank ≡ map (λ what. (e.place, what)) (doings k rank e)
 changes_asked k e changes rank is heard = ap (map (λ what. (e.place, what))) (ap (changes_for rank) heard ∙ sym (announced_doings k rank e is))
+
+-- the same is added, by each rank that there is
+pub grow_same : {A : Type 0} (es : List Happening) (old new : List (Vec (PlannedStep A) A)) (added other : ℕ → Job) → ((rank : ℕ) → rank < length old → added rank ≡ other rank) → Grow es old new added → Grow es old new other
+grow_same es old new added other same grows = record {
+  count = grows.count;
+  steps = λ rank o below. grows.steps rank o below ∙ ap (λ l. steps_seen es (get_or old rank o).items ++ l) (same rank below);
+}
+
+-- what discovery answers to an announcement, and to no other event
+pub announced_answer : (k : Known) (e : Happening) → is_discovery e.writer ≡ true → discovery_answer k e ≡ placed e.place (answered k e)
+announced_answer k e is = rw is refl
+
+pub no_answer : (k : Known) (e : Happening) → is_discovery e.writer ≡ false → discovery_answer k e ≡ []
+no_answer k e others = rw others refl

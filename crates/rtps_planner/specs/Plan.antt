@@ -6,14 +6,19 @@ use Rattle.std.specs.declared.vec.Vec.{Vec}
 use Rattle.rtps_types.specs.declared.identity.EntityId.{EntityId}
 use Rattle.rtps_receiver.specs.Events.{Happening}
 use Rattle.rtps_discovery.specs.Addressed.{is_for}
-use Rattle.rtps_discovery.specs.Known.{Wish, reader_at}
+use Rattle.rtps_discovery.specs.Known.{Known, Wish, reader_at}
 use Rattle.rtps_discovery.specs.declared.changes.Becomes.{Becomes}
 use Rattle.rtps_discovery.specs.Seen.{becomes_seen}
 use Rattle.rtps_reader.specs.Steps.{Doing, asks_of}
 use Rattle.rtps_serial.specs.Steps.{step_by}
-use Rattle.rtps_serial.specs.World.{doing_of}
+use Rattle.rtps_serial.specs.World.{Sending, doing_of, doings, known_after_event}
+use Rattle.rtps_serial.specs.Outcome.{answer_view}
+use Rattle.rtps_proxy.specs.Replies.{Sent}
+use Rattle.rtps_types.specs.declared.place.Place.{Place}
+use Rattle.rtps_discovery.specs.Kept.{IsKnown, Kept}
+use Rattle.rtps_planner.specs.declared.plan.Planning.{Planning}
 use Rattle.rtps_planner.specs.declared.plan.PlannedStep.{PlannedStep}
-use Rattle.rtps_planner.specs.Job.{Job}
+use Rattle.rtps_planner.specs.Job.{Job, discovery_answer}
 
 -- what a step asks at its event: what becomes of a match, or to take the event in
 abbrev pub asked_of : {A : Type 0} → Happening → Option (Box (Becomes A) A) → Doing
@@ -47,3 +52,17 @@ taken_at e readers ranks rank =
     map (λ what. (e.place, what)) (map (λ s. s.what) (filter (λ s. s.rank == rank)
     (map (λ r. step_by r (asks_of e))
     (filter (λ r. is_named e.reader (reader_at readers r)) ranks))))
+
+-- an answer of discovery
+abbrev pub discovery_sending : Place × Sent → Sending
+discovery_sending s = record { place = s.0; rank = None; to = s.1.to; octets = s.1.octets }
+
+-- what an event asks of each reader and what discovery answers to it are added, and discovery keeps
+-- what is known after it
+pub record IsPlanned {A : Type 0} (es : List Happening) (k : Known) (e : Happening)
+    (old new : Planning A) (kept : Kept) : Type 0 where
+  pub known : IsKnown (known_after_event k e) kept
+  pub steps : length old.lists.items ≡ length k.readers → Grow es old.lists.items new.lists.items
+      (λ rank. map (λ what. (e.place, what)) (doings k rank e))
+  pub answers : map answer_view new.answers.items
+      ≡ map answer_view old.answers.items ++ map discovery_sending (discovery_answer k e)

@@ -1,15 +1,23 @@
 //! What each reader has to do in a batch.
 
-ghost use Rattle.std.specs.Prelude.{◌≡◌, ℕ, ◌<◌, ◌==◌, ◌++◌, [], ◌∷◌, List, OnOk, IfOk, if◌then◌else◌, length, map, slice_index_or, Some};
+ghost use Rattle.std.specs.Prelude.{◌≡◌, ℕ, ◌<◌, ◌==◌, ◌++◌, [], ◌∷◌, List, OnOk, IfOk, if◌then◌else◌, length, map, slice_index_or, Some, true};
 ghost use Rattle.std.specs.List.{slice_get};
-ghost use Rattle.rtps_discovery.specs.Known.{reader_at};
+ghost use Rattle.std.specs.Option.{option_map};
+ghost use Rattle.rtps_discovery.specs.Addressed as addressed;
+ghost use Rattle.rtps_discovery.specs.Kept.{IsKnown};
+ghost use Rattle.rtps_discovery.specs.Known.{Known, reader_at};
 ghost use Rattle.rtps_discovery.specs.Seen.{change_seen};
-ghost use Rattle.rtps_receiver.specs.Events.{Happening};
+ghost use Rattle.rtps_receiver.specs.Events.{Happening, view};
+ghost use Rattle.rtps_proxy.specs.Replies.{reply_view};
+ghost use Rattle.rtps_reader.specs.Reader.{placed};
+ghost use Rattle.rtps_serial.specs.Outcome.{answer_view};
 ghost use Rattle.rtps_serial.specs.World.{changes_for};
-ghost use Rattle.rtps_planner.specs.Plan.{Grow, is_named, step_seen, taken_at};
+ghost use Rattle.rtps_planner.specs.Plan.{Grow, IsPlanned, discovery_sending, is_named, step_seen, taken_at};
 
-use rtps_discovery::{Becomes, MatchChange, Reader, is_for};
-use rtps_types::EntityId;
+use rtps_discovery::{Becomes, Discovery, MatchChange, Reader, is_discovery, is_for};
+use rtps_receiver::Event;
+use rtps_serial::Answer;
+use rtps_types::{EntityId, Guid, Place, Reply};
 use std::alloc::{AllocError, Allocator, Global};
 
 /// One step of a job.
@@ -108,4 +116,79 @@ pub(crate) fn add_event<A: Allocator>(
         }
     }
     Ok(())
+}
+
+/// The steps of each reader so far, by its rank, and what discovery answers.
+#[derive(Drop)]
+pub(crate) struct Planning<A: Allocator> {
+    pub lists: Vec<Vec<PlannedStep<A>, A>, A>,
+    pub answers: Vec<Answer<A>, A>,
+}
+
+/// Puts discovery's answer to the event at this place after the others.
+fn add_answer<A: Allocator>(
+    answers: &mut Vec<Answer<A>, A>,
+    place: Place,
+    answer: Option<Reply<A>>,
+) -> Result<(), AllocError>
+    ensures { OnOk result (map answer_view answers.new.items
+        ≡ map answer_view answers.old.items
+        ++ map discovery_sending (placed place (option_map reply_view answer))) }
+{
+    if let Some(reply) = answer {
+        let answer = Answer {
+            place,
+            rank: None,
+            to: reply.to,
+            octets: reply.octets,
+        };
+        answers.push(answer)?;
+    }
+    Ok(())
+}
+
+/// Gives an announcement to discovery, and each change that it brings to the reader that hears of
+/// it.
+fn plan_announcement<A: Allocator + Copy>(
+    discovery: &mut Discovery<A>,
+    planning: &mut Planning<A>,
+    alloc: A,
+    index: usize,
+    event: &Event<'_>,
+) -> Result<(), AllocError>
+    ensures { (k : Known) (es : List Happening) → IsKnown k discovery.old.kept
+        → slice_get es index ≡ Some (view event.now)
+        → addressed.is_discovery event.now.writer ≡ true
+        → OnOk result (IsPlanned es k (view event.now) planning.old planning.new
+        discovery.new.kept) }
+{
+    let effects = discovery.step(alloc, event)?;
+    add_answer(&mut planning.answers, event.place, effects.answer)?;
+    add_changes(&mut planning.lists, alloc, index, effects.changes)
+}
+
+/// Takes one event into the plan. An announcer's event is discovery's; any other event is for the
+/// readers that are matched with its writer, where it names them.
+fn plan_event<A: Allocator + Copy>(
+    discovery: &mut Discovery<A>,
+    planning: &mut Planning<A>,
+    alloc: A,
+    index: usize,
+    event: &Event<'_>,
+) -> Result<(), AllocError>
+    ensures { (k : Known) (es : List Happening) → IsKnown k discovery.old.kept
+        → slice_get es index ≡ Some (view event.now)
+        → OnOk result (IsPlanned es k (view event.now) planning.old planning.new
+        discovery.new.kept) }
+{
+    if is_discovery(event.writer) {
+        return plan_announcement(discovery, planning, alloc, index, event);
+    }
+    let writer = Guid {
+        prefix: event.source,
+        entity: event.writer,
+    };
+    let readers = discovery.readers();
+    let ranks = discovery.matched(writer);
+    add_event(&mut planning.lists, readers, ranks, index, event.reader)
 }
