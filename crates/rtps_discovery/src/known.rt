@@ -35,6 +35,7 @@ impl<A: Allocator> Model for Reader<A> {
 }
 
 impl<A: Allocator> Reader<A> {
+    /// Its own part of its guid, by which events name it.
     pub fn entity(&self) -> EntityId
         ensures { result ≡ self.now.entity }
     {
@@ -169,6 +170,7 @@ impl<A: Allocator> Model for Ranks<A> {
 }
 
 impl<A: Allocator> Ranks<A> {
+    /// The ranks of this list, which rise.
     pub fn new(items: Vec<u32, A>) -> Ranks<A>
         ensures { result ≡ items.items }
     {
@@ -191,12 +193,14 @@ impl<A: Allocator> Ranks<A> {
         Ok(Ranks::new(items))
     }
 
+    /// The ranks, rising.
     pub fn as_slice(&self) -> &[u32]
         ensures { result.now ≡ self.now }
     {
         self.items.as_slice()
     }
 
+    /// Whether a rank is among them.
     pub fn has(&self, rank: u32) -> bool
         ensures { result ≡ has_rank self.now rank }
     {

@@ -1,7 +1,9 @@
 //! Configurations with one fault or two, and whom events are for.
 
 mod announcements;
+mod announcers;
 mod events;
+mod memory;
 mod start;
 
 use crate::*;

@@ -16,7 +16,7 @@ use Rattle.rtps_serial.specs.Run.{world_run}
 use Rattle.rtps_serial.specs.Seen.{notices_by, reader_count}
 use Rattle.rtps_serial.specs.World as world
 use Rattle.rtps_serial.specs.World.{Put, Hears, Sends, World, answer_put, discovery_puts, doings, puts_at, puts_below, puts_run, world_after}
-use Rattle.rtps_serial.proofs.Agreeing.{readers_kept}
+use Rattle.rtps_serial.proofs.Routed.{readers_stay}
 use Rattle.rtps_serial.proofs.Matched.{told_more, told_run}
 use Rattle.rtps_planner.specs.Commuting.{IsDiscovered, IsPart, answers_by, is_of}
 use Rattle.rtps_planner.specs.Job.{Job, discovery_answer, discovery_answers, job_of, known_after_events, job_run, job_sent, job_told}
@@ -176,7 +176,7 @@ reader_of decoding w (e ∷ es) rank =
     ∙ sym (reader_front e.place (w.readers rank) (doings w.known rank e) (job_of rank after.known es))
 
 below_after : {M : Type 0} (decoding : Decoding M) (w : World M) (e : Happening) (rank : ℕ) → rank < reader_count w → rank < reader_count (world_after decoding w e)
-below_after decoding w e rank below = subst (λ (rs : List (Option Wish)). rank < length rs) (sym (readers_kept w.known e)) below
+below_after decoding w e rank below = subst (λ (rs : List (Option Wish)). rank < length rs) (sym (readers_stay w.known e)) below
 
 told_of : {M : Type 0} (decoding : Decoding M) (w : World M) (es : List Happening) (rank : ℕ) → rank < reader_count w
     → notices_by rank (world_run decoding w es).put ≡ notices_by rank w.put ++ job_told decoding (w.readers rank) (job_of rank w.known es)

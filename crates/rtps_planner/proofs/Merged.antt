@@ -20,7 +20,7 @@ use Rattle.rtps_serial.specs.Presentation.{not_after}
 use Rattle.rtps_serial.specs.Seen.{reader_count}
 use Rattle.rtps_serial.specs.World as world
 use Rattle.rtps_serial.specs.World.{Put, Hears, World, addressed_to, answer_put, changes_for, discovery_puts, doing_of, doings, known_after_event, puts_at, puts_below, puts_run, world_after}
-use Rattle.rtps_serial.proofs.Agreeing.{readers_kept}
+use Rattle.rtps_serial.proofs.Routed.{readers_stay}
 use Rattle.rtps_serial.proofs.Matched.{told_run}
 use Rattle.rtps_serial.proofs.OneOrder.{filter_none}
 use Rattle.rtps_serial.proofs.Places.{PlacesRise, all_append, all_weaker}
@@ -266,6 +266,6 @@ by_places decoding w (e ∷ es) h =
     let here = discovery_puts w.known e ++ puts_below decoding w.known e w.readers count in
     let more = parts_of decoding next.known next.readers es in
     by_places decoding next es h.1
-    ∙ ap (λ n. next.put ++ merged more n places) (ap (λ (rs : List (Option Wish)). length rs) (readers_kept w.known e))
+    ∙ ap (λ n. next.put ++ merged more n places) (ap (λ (rs : List (Option Wish)). length rs) (readers_stay w.known e))
     ∙ append_assoc w.put here (merged more count places)
     ∙ ap (λ l. w.put ++ l) (sym (merged_first decoding w.known w.readers e es count h.0))

@@ -31,6 +31,7 @@ pub struct Change<'a, A: Allocator = Global> {
 }
 
 impl<A: Allocator> Payload<'_, A> {
+    /// Its octets, wherever they lie.
     pub fn as_slice(&self) -> &[u8]
         ensures { result.now ≡ octets_of self.now }
     {

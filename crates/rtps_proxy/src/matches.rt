@@ -64,7 +64,7 @@ impl<A: Allocator + Copy> Matches<A> {
         ensures err { OnErr result (self.new ≡ self.old) }
     {
         let writer = config.writer;
-        let proxy = WriterProxy::new(alloc, config);
+        let proxy = WriterProxy::new(alloc, config)?;
         match self.proxies.insert(writer, proxy) {
             Ok(_) => Ok(()),
             Err(_) => Err(AllocError),

@@ -1,6 +1,6 @@
 //! The proxy of one writer.
 
-ghost use Rattle.std.specs.Prelude.{◌≡◌, [], List, false, true};
+ghost use Rattle.std.specs.Prelude.{◌≡◌, [], IfOk, List, false, true};
 ghost use Rattle.rtps_receiver.specs.declared.body.Body.TheVariants as body;
 ghost use Rattle.rtps_proxy.specs.Effects.{StandsAt, TakesIn, came};
 ghost use Rattle.rtps_proxy.specs.History.{Came};
@@ -21,7 +21,8 @@ pub struct WriterProxy<A: Allocator = Global> {
     config: ProxyConfig<A>,
     /// A growth was refused: the state may be that of an event taken in by half.
     spent: bool,
-    state: State<A>,
+    /// In a block of its own, so that little is moved where a match begins or ends among others.
+    state: Box<State<A>, A>,
 }
 
 impl<A: Allocator> Model for WriterProxy<A> {
@@ -29,20 +30,22 @@ impl<A: Allocator> Model for WriterProxy<A> {
 
     ghost Value = { Kept };
 
-    ghost view = { λ p. record { whom = whom p.config; spent = p.spent; state = standing p.state } };
+    ghost view = { λ p. record { whom = whom p.config; spent = p.spent; state = standing p.state.value } };
 }
 
 impl<A: Allocator + Copy> WriterProxy<A> {
-    /// The proxy of a match that begins: nothing has come yet.
-    pub fn new(alloc: A, config: ProxyConfig<A>) -> WriterProxy<A>
-        ensures stands { StandsAt [] result }
-        ensures whom { result.whom ≡ whom config }
+    /// The proxy of a match that begins: nothing has come yet. `AllocError` where memory is refused.
+    pub fn new(alloc: A, config: ProxyConfig<A>) -> Result<WriterProxy<A>, ProxyError>
+        ensures stands { IfOk result (StandsAt []) }
+        ensures whom { IfOk result (λ proxy. proxy.whom ≡ whom config) }
     {
-        let state = State::new(alloc, config.reliable);
-        WriterProxy {
-            config,
-            spent: false,
-            state,
+        match Box::new(alloc, State::new(alloc, config.reliable)) {
+            Ok(state) => Ok(WriterProxy {
+                config,
+                spent: false,
+                state,
+            }),
+            Err(_) => Err(AllocError),
         }
     }
 
@@ -60,7 +63,10 @@ impl<A: Allocator + Copy> WriterProxy<A> {
             return Err(AllocError);
         }
         self.spent = true;
-        let effects = self.state.on_event(alloc, &self.config, time, brought)?;
+        let effects = self
+            .state
+            .as_mut()
+            .on_event(alloc, &self.config, time, brought)?;
         self.spent = false;
         Ok(effects)
     }
@@ -138,7 +144,7 @@ impl<A: Allocator + Copy> WriterProxy<A> {
         ensures best_effort { (past : List Came) → StandsAt past self.now →
             self.now.whom.reliable ≡ false → result.now ≡ [] }
     {
-        match &self.state {
+        match self.state.as_ref() {
             State::BestEffort(_) => &[],
             State::Reliable(reliable) => reliable.settled.runs.as_slice(),
         }

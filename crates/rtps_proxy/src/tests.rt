@@ -73,7 +73,7 @@ type Row = (
 /// The proxy of a match of reader 00000107 with writer 00000102.
 fn new_proxy<A: Allocator + Copy>(alloc: A, reliable: bool) -> Result<WriterProxy<A>, AllocError> {
     let locators = Vec::from_slice(alloc, &[LOCATOR])?;
-    Ok(WriterProxy::new(
+    WriterProxy::new(
         alloc,
         ProxyConfig {
             own: GuidPrefix([11; 12]),
@@ -85,7 +85,7 @@ fn new_proxy<A: Allocator + Copy>(alloc: A, reliable: bool) -> Result<WriterProx
             reliable,
             locators: Locators::new(locators),
         },
-    ))
+    )
 }
 
 fn number_of(value: u64) -> Result<Number, Fail> {

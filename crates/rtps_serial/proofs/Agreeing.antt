@@ -27,9 +27,10 @@ use Rattle.rtps_reader.specs.Steps.{Doing, Takes, Begins, Ends, Refused, asks_of
 use Rattle.rtps_reader.proofs.Begun.{match_begun, same_self}
 use Rattle.rtps_serial.specs.Presentation as start
 use Rattle.rtps_serial.specs.Run.{entity_of, first_world, fixed_of, is_reliable_at, run, events_from, world_run}
-use Rattle.rtps_serial.specs.Seen.{Agrees, reader_count}
+use Rattle.rtps_serial.specs.Seen.{Agrees}
 use Rattle.rtps_serial.specs.World.{World, addressed_to, changes_for, doing_of, doings, known_after_event, world_after}
 use Rattle.rtps_serial.proofs.Matched.{ended_match, extend, extended_match}
+use Rattle.rtps_serial.proofs.Routed.{readers_stay}
 
 -- ---- whether there is a match with a writer
 
@@ -180,15 +181,7 @@ changes_presence before after rank g fixed = by_both (is_matched before rank g) 
 
 -- ---- announcements and events
 
--- announcements leave our readers and the fixed pairs
-readers_stay : (k : Known) (a : Announcement) → (known_after k a).readers ≡ k.readers
-readers_stay k (Comes p f) = refl
-readers_stay k (Leave gone) = refl
-readers_stay k (Offers g w) = refl
-readers_stay k (Withdraws g) = refl
-readers_stay k (Asks g) = refl
-readers_stay k (AsksNoMore g) = refl
-
+-- announcements leave the fixed pairs
 pub fixed_stay : (k : Known) (a : Announcement) → (known_after k a).fixed ≡ k.fixed
 fixed_stay k (Comes p f) = refl
 fixed_stay k (Leave gone) = refl
@@ -196,10 +189,6 @@ fixed_stay k (Offers g w) = refl
 fixed_stay k (Withdraws g) = refl
 fixed_stay k (Asks g) = refl
 fixed_stay k (AsksNoMore g) = refl
-
-readers_stay_run : (k : Known) (said : List Announcement) → (known_run k said).readers ≡ k.readers
-readers_stay_run k [] = refl
-readers_stay_run k (a ∷ more) = readers_stay_run (known_after k a) more ∙ readers_stay k a
 
 fixed_stay_run : (k : Known) (said : List Announcement) → (known_run k said).fixed ≡ k.fixed
 fixed_stay_run k [] = refl
@@ -254,14 +243,7 @@ known_presence k e rank g = by_kind (is_discovery e.writer)
     by_kind true = heard
     by_kind false = taken (reader_at k.readers rank)
 
--- an event leaves our readers and the fixed pairs
-pub readers_kept : (k : Known) (e : Happening) → (known_after_event k e).readers ≡ k.readers
-readers_kept k e = by_kind (is_discovery e.writer)
-  where
-    by_kind : (b : Bool) → (if b then known_by k e else k).readers ≡ k.readers
-    by_kind true = readers_stay_run (noted k e) (announcements k e) ∙ (noted_alike k e).readers
-    by_kind false = refl
-
+-- an event leaves the fixed pairs
 pub fixed_kept : (k : Known) (e : Happening) → (known_after_event k e).fixed ≡ k.fixed
 fixed_kept k e = by_kind (is_discovery e.writer)
   where
@@ -271,14 +253,9 @@ fixed_kept k e = by_kind (is_discovery e.writer)
 
 -- ---- runs
 
--- no event changes how many readers there are
-pub count_kept : {M : Type 0} (decoding : Decoding M) (w : World M) (es : List Happening) → reader_count (world_run decoding w es) ≡ reader_count w
-count_kept decoding w [] = refl
-count_kept decoding w (e ∷ es) = count_kept decoding (world_after decoding w e) es ∙ ap (λ (rs : List (Option Wish)). length rs) (readers_kept w.known e)
-
 pub agrees_after : {M : Type 0} (decoding : Decoding M) (w : World M) (e : Happening) → Agrees w → Agrees (world_after decoding w e)
 agrees_after decoding w e agrees rank g below =
-    let was_below : rank < length w.known.readers = subst (λ (rs : List (Option Wish)). rank < length rs) (readers_kept w.known e) below in
+    let was_below : rank < length w.known.readers = subst (λ (rs : List (Option Wish)). rank < length rs) (readers_stay w.known e) below in
     has_run g (w.readers rank) (doings w.known rank e)
     ∙ ap (λ b. after_doings g b (doings w.known rank e)) (agrees rank g was_below)
     ∙ known_presence w.known e rank g

@@ -1,5 +1,5 @@
 -- What is put out more, put in order, is what the run puts out more.
-use Rattle.std.proofs.Common.{◌≡◌, ◌≢◌, ℕ, zero, suc, ◌+◌, ◌<◌, ◌≤◌, List, [], ◌∷◌, ◌++◌, Bool, true, false, if◌then◌else◌, ◌==◌, nat_lt, ◌&&◌, not, Option, Some, None, refl, sym, ap, ◌∙◌, arith, append-nil, append_assoc, length, get_or, map}
+use Rattle.std.proofs.Common.{◌≡◌, ◌≢◌, ℕ, zero, suc, ◌+◌, ◌<◌, ◌≤◌, List, [], ◌∷◌, ◌++◌, Bool, true, false, if◌then◌else◌, ◌==◌, nat_lt, ◌&&◌, not, Option, Some, None, refl, sym, ap, ◌∙◌, arith, append-nil, length, get_or, map}
 use Rattle.std.specs.Prelude.{filter}
 use Rattle.std.specs.List.Sorted.{ties}
 use Rattle.std.specs.Ordering.{is_lt}
@@ -8,8 +8,7 @@ use Rattle.std.proofs.lemmas.Bool.Decides.{nat_tests}
 use Rattle.std.proofs.lemmas.List.{append_cancel_left, map-append}
 use Rattle.std.proofs.lemmas.List.Elements.{filter-append}
 use Rattle.std.proofs.lemmas.List.Sorted.{ranks_by}
-use Rattle.rtps_types.specs.declared.identity.GuidPrefix.{GuidPrefix}
-use Rattle.rtps_receiver.specs.Events.{Happening, events_of}
+use Rattle.rtps_receiver.specs.Events.{Happening}
 use Rattle.rtps_discovery.specs.declared.config.Config.{Config}
 use Rattle.dds_topic.specs.Decoding.{Decoding}
 use Rattle.rtps_reader.specs.declared.notice.Notice.{Notice}
@@ -25,11 +24,10 @@ use Rattle.rtps_serial.specs.Run.{events_from, first_world, run, world_run}
 use Rattle.rtps_serial.specs.Seen.{answers_in, notices_by, reader_count}
 use Rattle.rtps_serial.specs.Turn.{AreInOrder, notices_from, reports_of, turn_of, turn_order}
 use Rattle.rtps_serial.specs.World.{Put, Hears, Sends, Sending, World}
-use Rattle.rtps_serial.proofs.Agreeing.{count_kept}
 use Rattle.rtps_serial.proofs.Dealt.{answers_in-append, notices_by-append}
 use Rattle.rtps_serial.proofs.OneOrder.{filter-map, one_order, rises_map, rises_sorted, stable_by}
 use Rattle.rtps_serial.proofs.Places.{PlacesRise, rise_from}
-use Rattle.rtps_serial.proofs.Running.{world_run-append}
+use Rattle.rtps_serial.proofs.Running.{count_stays, events_more, world_run-append}
 use Rattle.rtps_serial.proofs.Turns.{alike_turns, before, equal_turns, put_all, put_turn, run_none, run_puts, run_rises, same_kind, same_rank, turns_total, view_turn, weak}
 
 -- a test that passes only notices of one rank
@@ -199,14 +197,6 @@ in_order {V} {M} {A} f d w es outcome reports has ordered up =
         ∙ sym (filter-map (ties before z) (report_view f) (reports_of outcome))
         ∙ at_turn f (run_puts d w es) outcome has z
 
--- some datagrams more
-pub events_more : (own : GuidPrefix) (n : ℕ) (xs ys : List (List ℕ)) → events_from own n (xs ++ ys) ≡ events_from own n xs ++ events_from own (n + length xs) ys
-events_more own n [] ys = let same : n ≡ n + 0 = omega arith in ap (λ k. events_from own k ys) same
-events_more own n (x ∷ xs) ys =
-    let same : n + 1 + length xs ≡ n + length (x ∷ xs) = omega arith in
-    ap (λ l. events_of own n x ++ l) (events_more own (n + 1) xs ys ∙ ap (λ k. events_from own (n + 1) xs ++ events_from own k ys) same)
-    ∙ sym (append_assoc (events_of own n x) (events_from own (n + 1) xs) (events_from own (n + length (x ∷ xs)) ys))
-
 pub run_in_order : {V M A : Type 0} (f : V → M) (d : Decoding M) (config : Config) (datagrams batch : List (List ℕ)) (outcome : Outcome V A) (reports : List (Report V A))
     → Adds f (run d config datagrams) (run d config (datagrams ++ batch)) outcome → AreInOrder outcome reports
     → (run d config (datagrams ++ batch)).put ≡ (run d config datagrams).put ++ map (report_view f) reports
@@ -215,7 +205,7 @@ run_in_order {V} {M} {A} f d config datagrams batch outcome reports adds ordered
     let es = events_from config.own (0 + length datagrams) batch in
     let next : run d config (datagrams ++ batch) ≡ world_run d w es = ap (world_run d (first_world config)) (events_more config.own 0 datagrams batch) ∙ world_run-append d (first_world config) (events_from config.own 0 datagrams) es in
     let put : (run d config (datagrams ++ batch)).put ≡ w.put ++ run_puts d w es = ap (λ (v : World M). v.put) next ∙ put_all d w es in
-    let count : reader_count (run d config (datagrams ++ batch)) ≡ reader_count w = ap (λ (v : World M). reader_count v) next ∙ count_kept d w es in
+    let count : reader_count (run d config (datagrams ++ batch)) ≡ reader_count w = ap (λ (v : World M). reader_count v) next ∙ count_stays d w es in
     let has : Has f (run_puts d w es) outcome = record {
       notices = λ rank other below. append_cancel_left (notices_by rank w.put) (notices_by rank (run_puts d w es)) (notices_in f (get_or outcome.notices.items rank other))
           (sym (notices_by-append rank w.put (run_puts d w es)) ∙ ap (notices_by rank) (sym put) ∙ adds.notices rank other (omega (arith, below, adds.readers)));

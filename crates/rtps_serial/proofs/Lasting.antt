@@ -27,7 +27,8 @@ use Rattle.rtps_serial.specs.Presentation.{Since, Stretch, came_of, first_since,
 use Rattle.rtps_serial.specs.Run.{events_from, first_world, run, world_run}
 use Rattle.rtps_serial.specs.Seen.{notices_by, reader_count}
 use Rattle.rtps_serial.specs.World.{World, addressed_to, changes_for, doing_of, doings, world_after}
-use Rattle.rtps_serial.proofs.Agreeing.{first_fixed, fixed_kept, fixed_stay, noted_alike, readers_kept, touches}
+use Rattle.rtps_serial.proofs.Agreeing.{first_fixed, fixed_kept, fixed_stay, noted_alike, touches}
+use Rattle.rtps_serial.proofs.Routed.{readers_stay}
 use Rattle.rtps_serial.proofs.Matched.{told_more, told_run}
 use Rattle.rtps_serial.proofs.Places.{all_append}
 use Rattle.rtps_serial.proofs.Presenting.{none_told}
@@ -114,7 +115,7 @@ module _ (rank : ℕ) (g : Guid) where
   run_whole decoding w [] below fixed whole = whole
   run_whole {M} decoding w (e ∷ es) below fixed whole =
       run_whole decoding (world_after decoding w e) es
-      (subst (λ (rs : List (Option Wish)). rank < length rs) (sym (readers_kept w.known e)) below)
+      (subst (λ (rs : List (Option Wish)). rank < length rs) (sym (readers_stay w.known e)) below)
       (subst (λ f. known.is_fixed f rank g ≡ true) (sym (fixed_kept w.known e)) fixed)
       (subst (AllByRecursion (λ (n : Notice M). is_cut g n ≡ false)) (sym (told_more decoding w rank e below))
       (all_append (λ (n : Notice M). is_cut g n ≡ false) (notices_by rank w.put) (told_run decoding e.place (w.readers rank) (doings w.known rank e)) whole (event_whole decoding w.known (w.readers rank) e fixed)))

@@ -1,5 +1,5 @@
 -- In a run what a reader presents of a writer falls into stretches, one for each match.
-use Rattle.std.proofs.Common.{◌≡◌, ℕ, zero, suc, ◌<◌, ◌≤◌, ◌==◌, nat_lt, Bool, true, false, not, ◌&&◌, if◌then◌else◌, List, [], ◌∷◌, ◌++◌, length, map, Option, Some, None, is_some, refl, sym, ◌∙◌, ap, subst, arith, append-nil, append_assoc, true≢false}
+use Rattle.std.proofs.Common.{◌≡◌, ℕ, ◌<◌, ◌≤◌, ◌==◌, nat_lt, Bool, true, false, not, ◌&&◌, if◌then◌else◌, List, [], ◌∷◌, ◌++◌, length, map, Option, Some, None, is_some, refl, sym, ◌∙◌, ap, subst, arith, append-nil, append_assoc, true≢false}
 use mathlib.Core.List.{reverse_aux}
 use Rattle.std.specs.Prelude.{filter}
 use Rattle.std.specs.List.{AllByRecursion}
@@ -11,10 +11,9 @@ use Rattle.rtps_types.specs.declared.identity.GuidPrefix.{GuidPrefix}
 use Rattle.rtps_receiver.specs.Events.{Happening}
 use Rattle.rtps_discovery.specs.Addressed.{is_addressed, is_discovery, is_for, writer_of}
 use Rattle.rtps_discovery.specs.declared.config.Config.{Config}
-use Rattle.rtps_discovery.specs.declared.config.ReaderConfig.{ReaderConfig}
 use Rattle.rtps_discovery.specs.Known.{Known, Wish, is_matched, reader_at}
 use Rattle.rtps_discovery.specs.Records.{changes_by}
-use Rattle.rtps_discovery.specs.Start.{reader_of, wish_of}
+use Rattle.rtps_discovery.specs.Start.{reader_of}
 use Rattle.rtps_proxy.specs.Matches.{Match, begun, fresh, match_with, same_guid}
 use Rattle.rtps_proxy.proofs.Matching.{same_is}
 use Rattle.dds_topic.specs.Decoding.{Decoding}
@@ -26,7 +25,9 @@ use Rattle.rtps_serial.specs.Presentation.{IsPresented, Since, TheStart, Never, 
 use Rattle.rtps_serial.specs.Run.{entity_of, events_from, first_world, fixed_of, is_reliable_at, run, world_run}
 use Rattle.rtps_serial.specs.Seen.{Agrees, notices_by, reader_count}
 use Rattle.rtps_serial.specs.World.{World, addressed_to, changes_for, doings, world_after}
-use Rattle.rtps_serial.proofs.Agreeing.{agrees_after, agrees_first, first_has, has, readers_kept}
+use Rattle.rtps_serial.proofs.Agreeing.{agrees_after, agrees_first, first_has, has}
+use Rattle.rtps_serial.proofs.Routed.{readers_stay}
+use Rattle.rtps_serial.proofs.Running.{wish_at}
 use Rattle.rtps_serial.proofs.Dealt.{notices_by-append}
 use Rattle.rtps_serial.proofs.Matched.{told_more, told_run}
 use Rattle.rtps_serial.proofs.Places.{PlacesFall, PlacesRise, all_weaker, events_since, places_fall, places_rise}
@@ -111,9 +112,9 @@ module _ {M : Type 0} (decoding : Decoding M) (reliable : Bool) (g : Guid) (firs
       → InRun decoding reliable g first all rank entity (world_after decoding w e) left
   one_event w before e left whole has_number i = record {
     agrees = agrees_after decoding w e i.agrees;
-    below = subst (λ (rs : List (Option Wish)). rank < length rs) (sym (readers_kept w.known e)) i.below;
+    below = subst (λ (rs : List (Option Wish)). rank < length rs) (sym (readers_stay w.known e)) i.below;
     wish = i.wish;
-    found = ap (λ (rs : List (Option Wish)). reader_at rs rank) (readers_kept w.known e) ∙ i.found;
+    found = ap (λ (rs : List (Option Wish)). reader_at rs rank) (readers_stay w.known e) ∙ i.found;
     named = i.named;
     follows = subst (λ ns. Follows decoding reliable g first (events_for g entity all) ((world_after decoding w e).readers rank) ns (filter mine left)) (sym (told_more decoding w rank e i.below))
         (part w before e left whole has_number i);
@@ -143,18 +144,6 @@ all_fresh : (g : Guid) (own : GuidPrefix) (entity : EntityId) (reliable : Bool) 
 all_fresh g own entity reliable [] ms before = before
 all_fresh g own entity reliable (p ∷ fixed) ms before =
     all_fresh g own entity reliable fixed (begun (fresh (whom_of own entity reliable p)) ms) (fresh_more g reliable (fresh (whom_of own entity reliable p)) ms refl refl before)
-
-record HasWish (readers : List ReaderConfig) (rank : ℕ) : Type 0 where
-  wish : Wish
-  found : reader_at (map reader_of readers) rank ≡ Some wish
-  named : wish.entity ≡ entity_of readers rank
-
-wish_at : (readers : List ReaderConfig) (rank : ℕ) → rank < length readers → HasWish readers rank
-wish_at [] rank below = absurd (omega (arith, below))
-wish_at (r ∷ readers) zero below = record { wish = wish_of r; found = refl; named = refl }
-wish_at (r ∷ readers) (suc rank) below =
-    let rest = wish_at readers rank (omega (arith, below)) in
-    record { wish = rest.wish; found = rest.found; named = rest.named }
 
 module _ {M : Type 0} (decoding : Decoding M) (config : Config) (rank : ℕ) (g : Guid) where
   abbrev reliable_there : Bool

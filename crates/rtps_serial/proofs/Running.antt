@@ -3,12 +3,13 @@ use Rattle.std.proofs.Common.{◌≡◌, ℕ, zero, suc, ◌+◌, ◌<◌, List,
 use Rattle.std.proofs.Math.Seq.{take-append_seam}
 use Rattle.std.specs.Option.{option_map}
 use Rattle.std.proofs.lemmas.List.{length-map, take_more}
+use Rattle.rtps_types.specs.declared.identity.EntityId.{EntityId}
 use Rattle.rtps_types.specs.declared.identity.GuidPrefix.{GuidPrefix}
 use Rattle.rtps_receiver.specs.Events.{Happening, events_of}
 use Rattle.rtps_discovery.specs.declared.config.Config.{Config}
 use Rattle.rtps_discovery.specs.declared.config.ReaderConfig.{ReaderConfig}
 use Rattle.rtps_discovery.specs.Known.{Wish, reader_at}
-use Rattle.rtps_discovery.specs.Start.{reader_of}
+use Rattle.rtps_discovery.specs.Start.{reader_of, wish_of}
 use Rattle.dds_topic.specs.Decoding.{Decoding}
 use Rattle.rtps_serial.specs.World.{World, world_after}
 use Rattle.rtps_serial.specs.Run.{entity_of, events_from, first_world, run, world_run}
@@ -30,19 +31,20 @@ pub count_stays : {M : Type 0} (decoding : Decoding M) (w : World M) (es : List 
 count_stays decoding w [] = refl
 count_stays decoding w (e ∷ es) = count_stays decoding (world_after decoding w e) es ∙ ap length (readers_stay w.known e)
 
-events_from-append : (own : GuidPrefix) (n : ℕ) (xs : List (List ℕ)) (y : List ℕ) → events_from own n (xs ++ y ∷ []) ≡ events_from own n xs ++ events_of own (n + length xs) y
-events_from-append own n [] y = let same : n ≡ n + 0 = omega arith in append-nil (events_of own n y) ∙ ap (λ k. events_of own k y) same
-events_from-append own n (x ∷ xs) y =
+-- some datagrams more
+pub events_more : (own : GuidPrefix) (n : ℕ) (xs ys : List (List ℕ)) → events_from own n (xs ++ ys) ≡ events_from own n xs ++ events_from own (n + length xs) ys
+events_more own n [] ys = let same : n ≡ n + 0 = omega arith in ap (λ k. events_from own k ys) same
+events_more own n (x ∷ xs) ys =
     let same : n + 1 + length xs ≡ n + length (x ∷ xs) = omega arith in
-    ap (λ l. events_of own n x ++ l) (events_from-append own (n + 1) xs y ∙ ap (λ k. events_from own (n + 1) xs ++ events_of own k y) same)
-    ∙ sym (append_assoc (events_of own n x) (events_from own (n + 1) xs) (events_of own (n + length (x ∷ xs)) y))
+    ap (λ l. events_of own n x ++ l) (events_more own (n + 1) xs ys ∙ ap (λ k. events_from own (n + 1) xs ++ events_from own k ys) same)
+    ∙ sym (append_assoc (events_of own n x) (events_from own (n + 1) xs) (events_from own (n + length (x ∷ xs)) ys))
 
 -- one datagram more
 pub run_more : {M : Type 0} (decoding : Decoding M) (config : Config) (datagrams : List (List ℕ)) (octets : List ℕ) (index : ℕ) → index ≡ length datagrams
     → run decoding config (datagrams ++ octets ∷ []) ≡ world_run decoding (run decoding config datagrams) (events_of config.own index octets)
 run_more decoding config datagrams octets index e =
     let same : 0 + length datagrams ≡ index = omega (arith, e) in
-    ap (world_run decoding (first_world config)) (events_from-append config.own 0 datagrams octets)
+    ap (world_run decoding (first_world config)) (events_more config.own 0 datagrams (octets ∷ []) ∙ ap (λ l. events_from config.own 0 datagrams ++ l) (append-nil (events_of config.own (0 + length datagrams) octets)))
     ∙ world_run-append decoding (first_world config) (events_from config.own 0 datagrams) (events_of config.own (0 + length datagrams) octets)
     ∙ ap (λ n. world_run decoding (run decoding config datagrams) (events_of config.own n octets)) same
 
@@ -51,10 +53,22 @@ pub run_count : {M : Type 0} (decoding : Decoding M) (config : Config) (datagram
 run_count decoding config datagrams = count_stays decoding (first_world config) (events_from config.own 0 datagrams) ∙ length-map config.readers.items reader_of
 
 -- the readers of a configuration are known, each by its own entity
+pub record HasWish (readers : List ReaderConfig) (rank : ℕ) : Type 0 where
+  pub wish : Wish
+  pub found : reader_at (map reader_of readers) rank ≡ Some wish
+  pub named : wish.entity ≡ entity_of readers rank
+
+pub wish_at : (readers : List ReaderConfig) (rank : ℕ) → rank < length readers → HasWish readers rank
+wish_at [] rank below = absurd (omega (arith, below))
+wish_at (r ∷ readers) zero below = record { wish = wish_of r; found = refl; named = refl }
+wish_at (r ∷ readers) (suc rank) below =
+    let rest = wish_at readers rank (omega (arith, below)) in
+    record { wish = rest.wish; found = rest.found; named = rest.named }
+
 first_named : (readers : List ReaderConfig) (rank : ℕ) → rank < length (map reader_of readers) → option_map (λ (r : Wish). r.entity) (reader_at (map reader_of readers) rank) ≡ Some (entity_of readers rank)
-first_named [] rank below = absurd (omega arith)
-first_named (r ∷ readers) zero below = refl
-first_named (r ∷ readers) (suc rank) below = first_named readers rank (omega arith)
+first_named readers rank below =
+    let there = wish_at readers rank (omega (arith, below, length-map readers reader_of)) in
+    ap (option_map (λ (r : Wish). r.entity)) there.found ∙ ap (λ (e : EntityId). Some e) there.named
 
 all_named : {M : Type 0} (decoding : Decoding M) (w : World M) (es : List Happening) → AllKnown w → AllKnown (world_run decoding w es)
 all_named decoding w [] named = named

@@ -38,7 +38,7 @@ use Rattle.rtps_serial.specs.Run.{world_run}
 use Rattle.rtps_serial.specs.Seen.{notices_by, reader_count}
 use Rattle.rtps_serial.specs.Turn.{kind_order, turn_of, turn_order}
 use Rattle.rtps_serial.specs.World.{Put, Hears, Sends, World, addressed_to, answer_put, changes_for, discovery_puts, doing_of, doings, puts_at, puts_below, puts_run, sent_by, world_after}
-use Rattle.rtps_serial.proofs.Agreeing.{readers_kept}
+use Rattle.rtps_serial.proofs.Routed.{readers_stay}
 use Rattle.rtps_serial.proofs.Dealt.{notices_by-append}
 use Rattle.rtps_serial.proofs.Matched.{heard_event, none_below}
 use Rattle.rtps_serial.proofs.OneOrder.{Rises, rises_then}
@@ -372,4 +372,4 @@ run_none d w rank [] past = refl
 run_none d w rank (e ∷ es) past =
     notices_by-append rank (event_puts d w e) (run_puts d (world_after d w e) es)
     ∙ ap (λ l. l ++ notices_by rank (run_puts d (world_after d w e) es)) (heard_event d w rank e ∙ none_below d w.known e w.readers rank (reader_count w) past)
-    ∙ run_none d (world_after d w e) rank es (subst (λ (rs : List (Option Wish)). length rs ≤ rank) (sym (readers_kept w.known e)) past)
+    ∙ run_none d (world_after d w e) rank es (subst (λ (rs : List (Option Wish)). length rs ≤ rank) (sym (readers_stay w.known e)) past)

@@ -2,7 +2,10 @@
 
 ghost use Rattle.std.specs.Prelude.{◌≤◌, IfOk, length};
 
+mod announced;
 mod edges;
+mod known;
+mod matching;
 mod memory;
 mod order;
 mod runs;
@@ -11,7 +14,7 @@ use crate::*;
 use dds_qos::{Reliability, Requested};
 use dds_topic::{Shape, Shapes};
 use rtps_discovery::{Config, FixedMatch, ReaderConfig};
-use rtps_reader::{Body, NoticeKind};
+use rtps_reader::{Body, Notice, NoticeKind};
 use rtps_types::{EntityId, Guid, GuidPrefix, Locators};
 use std::alloc::{AllocError, Allocator, Global};
 use std::test::Fail;
@@ -48,6 +51,10 @@ enum Said {
     Blue(u64),
     /// So many numbers are lost.
     Lost(u64),
+    /// A match with the writer whose entity has this third octet begins.
+    Matched(u8),
+    /// It ends.
+    Unmatched(u8),
     /// An answer is sent.
     Answer,
     Other,
@@ -164,8 +171,11 @@ fn two(alloc: Global, reliability: Reliability) -> Result<Config, AllocError> {
     config(alloc, reliability, &[0, 1], &[(0, SENDER), (1, SENDER)])
 }
 
-fn said_by(kind: &NoticeKind<Shape>) -> Said {
-    match kind {
+fn said_by(notice: &Notice<Shape>) -> Said {
+    let [_, _, key, _] = notice.writer.entity.0;
+    match &notice.what {
+        NoticeKind::Matched => Said::Matched(key),
+        NoticeKind::Unmatched => Said::Unmatched(key),
         NoticeKind::Lost { count } => Said::Lost(*count),
         NoticeKind::Sample {
             number,
@@ -181,7 +191,7 @@ fn said_by(kind: &NoticeKind<Shape>) -> Said {
 fn line<A: Allocator>(report: &Report<Shape, A>) -> Line {
     let turn = report.turn();
     let said = match report {
-        Report::Notice { notice, .. } => said_by(&notice.what),
+        Report::Notice { notice, .. } => said_by(notice),
         Report::Answer(_) => Said::Answer,
     };
     (turn.rank, turn.place.datagram, turn.place.submessage, said)

@@ -30,12 +30,14 @@ impl<A: Allocator> Model for Locators<A> {
 }
 
 impl<A: Allocator> Locators<A> {
+    /// The locators of this list, which isn't copied.
     pub fn new(items: Vec<Locator, A>) -> Locators<A>
         ensures { result ≡ items.items }
     {
         Locators { items }
     }
 
+    /// The locators, in their order.
     pub fn as_slice(&self) -> &[Locator]
         ensures { result.now ≡ self.now }
     {

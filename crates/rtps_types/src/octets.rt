@@ -19,12 +19,14 @@ impl<A: Allocator> Model for Octets<A> {
 }
 
 impl<A: Allocator> Octets<A> {
+    /// These octets, which aren't copied.
     pub fn new(items: Vec<u8, A>) -> Octets<A>
         ensures { result ≡ items.items }
     {
         Octets { items }
     }
 
+    /// The octets, from the first one on.
     pub fn as_slice(&self) -> &[u8]
         ensures { result.now ≡ self.now }
     {

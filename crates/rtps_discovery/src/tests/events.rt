@@ -1,64 +1,192 @@
 //! What events make of what is known, by octets that were written down by hand.
 
-use super::announcements::{OURS, PARTICIPANT, THEIRS, WRITER, octets_of};
+use super::announcements::{OURS, PARTICIPANT, THEIRS, octets_of};
 use crate::addressed::{
-    ENTITYID_SEDP_BUILTIN_PUBLICATIONS_ANNOUNCER, ENTITYID_SPDP_BUILTIN_PARTICIPANT_ANNOUNCER,
+    ENTITYID_SEDP_BUILTIN_PUBLICATIONS_ANNOUNCER, ENTITYID_SEDP_BUILTIN_PUBLICATIONS_DETECTOR,
+    ENTITYID_SEDP_BUILTIN_SUBSCRIPTIONS_ANNOUNCER, ENTITYID_SPDP_BUILTIN_PARTICIPANT_ANNOUNCER,
     ENTITYID_UNKNOWN,
 };
-use crate::{Becomes, Config, Discovery, ReaderConfig, check};
-use dds_qos::Requested;
+use crate::{Becomes, Config, Discovery, FixedMatch, MatchChange, ReaderConfig, check};
+use dds_qos::{Durability, Reliability, Requested};
 use rtps_receiver::{Body, Event, Whole};
-use rtps_types::{EntityId, Guid, Locator, Number, Place};
+use rtps_types::{EntityId, Guid, KeyHash, Locators, Number, Place};
 use rtps_wire::{ChangeInfo, Form};
-use std::alloc::Global;
+use std::alloc::{Allocator, Global};
 use std::test::Fail;
 
-/// Their writer of the record.
-const SQUARES: Guid = Guid {
+/// Their writer 00000102.
+pub(super) const SQUARES: Guid = Guid {
     prefix: THEIRS,
     entity: EntityId([0, 0, 1, 2]),
 };
 
-/// A participant of ours with one reader of squares.
-fn one_reader(alloc: Global) -> Result<Discovery, Fail> {
-    let mut readers = Vec::new(alloc);
-    readers.push(ReaderConfig {
-        entity: EntityId([0, 0, 1, 7]),
-        topic: String::from_str(alloc, "Square")?,
+/// What a reader asks for that gives these two policies.
+fn asks(alloc: Global, reliability: Reliability, durability: Durability) -> Requested<Global> {
+    let mut requested = Requested::new(alloc);
+    requested.policies.reliability = reliability;
+    requested.policies.durability = durability;
+    requested
+}
+
+/// Puts a reader of shapes after the others of a configuration.
+fn add_reader(
+    alloc: Global,
+    config: &mut Config,
+    key: u8,
+    topic: &str,
+    requested: Requested<Global>,
+) -> Result<(), Fail> {
+    config.readers.push(ReaderConfig {
+        entity: EntityId([0, 0, key, 7]),
+        topic: String::from_str(alloc, topic)?,
         type_name: String::from_str(alloc, "ShapeType")?,
-        requested: Requested::new(alloc),
+        requested,
     })?;
-    let config = Config {
+    Ok(())
+}
+
+/// A participant of ours with a reader of squares, reliable and transient local, and one of
+/// circles, which asks for nothing.
+pub(super) fn two_readers(alloc: Global) -> Result<Config, Fail> {
+    let mut config = Config {
         own: OURS,
-        readers,
+        readers: Vec::new(alloc),
         fixed: Vec::new(alloc),
     };
-    check(&config)?;
-    Ok(Discovery::new(alloc, &config)?)
+    let squares = asks(alloc, Reliability::Reliable, Durability::TransientLocal);
+    add_reader(alloc, &mut config, 1, "Square", squares)?;
+    let circles = asks(alloc, Reliability::BestEffort, Durability::Volatile);
+    add_reader(alloc, &mut config, 2, "Circle", circles)?;
+    Ok(config)
 }
 
-/// A change of one of their announcers.
+/// A change of one of their announcers, its payload in parts.
 #[derive(Clone, Copy)]
-struct Said<'a> {
-    writer: EntityId,
-    number: u64,
-    form: Form,
-    status: u8,
-    payload: &'a [u8],
+pub(super) struct Said {
+    pub(super) writer: EntityId,
+    pub(super) reader: EntityId,
+    pub(super) number: u64,
+    pub(super) info: ChangeInfo,
+    pub(super) payload: &'static [&'static str],
 }
 
-/// Takes in a change of theirs, and gives what becomes of the writers at our reader.
-fn hear(alloc: Global, discovery: &mut Discovery, said: Said<'_>) -> Result<Vec<Becomes>, Fail> {
-    let whole = Whole {
-        number: Number::new(said.number).ok_or("no number")?,
-        info: ChangeInfo {
-            form: said.form,
-            status: said.status,
-            hash: None,
-        },
-        payload: said.payload,
+/// The first record of the participant.
+pub(super) const COMES: Said = Said {
+    writer: ENTITYID_SPDP_BUILTIN_PARTICIPANT_ANNOUNCER,
+    reader: ENTITYID_UNKNOWN,
+    number: 1,
+    info: ChangeInfo {
+        form: Form::Value,
+        status: 0,
+        hash: None,
+    },
+    payload: &[PARTICIPANT],
+};
+
+/// Its end, which names nothing.
+const LEAVES: Said = Said {
+    info: ChangeInfo {
+        form: Form::Nothing,
+        status: 1,
+        hash: None,
+    },
+    payload: &[],
+    ..COMES
+};
+
+/// A later record of it, in which nothing is but another port, 7777.
+pub(super) const MOVES: Said = Said {
+    payload: &[
+        LITTLE,
+        "31001800 01000000 611e0000 00000000 00000000 00000000 7f000001",
+        SENTINEL,
+    ],
+    ..COMES
+};
+
+const LITTLE: &str = "00030000";
+
+const SENTINEL: &str = "01000000";
+
+/// The guids of two writers of theirs.
+const FIRST: &str = "5a001000 0a0a0a0a0a0a0a0a0a0a0a0a 00000102";
+
+const SECOND: &str = "5a001000 0a0a0a0a0a0a0a0a0a0a0a0a 00000202";
+
+const SQUARE: &str = "05000c00 07000000 53717561 72650000";
+
+const CIRCLE: &str = "05000c00 07000000 43697263 6c650000";
+
+const SHAPE: &str = "07001000 0a000000 53686170 65547970 65000000";
+
+const RELIABLE: &str = "1a000c00 02000000 00000000 00000000";
+
+const BEST_EFFORT: &str = "1a000c00 01000000 00000000 00000000";
+
+const TRANSIENT_LOCAL: &str = "1d000400 01000000";
+
+/// The partition `a`.
+const PARTITION: &str = "29000c00 01000000 02000000 61000000";
+
+/// Port 7000.
+const LOCATOR: &str = "2f001800 01000000 581b0000 00000000 00000000 00000000 7f000001";
+
+/// A record of the first writer that matches our reader of squares.
+pub(super) const OFFERS: Said = Said {
+    writer: ENTITYID_SEDP_BUILTIN_PUBLICATIONS_ANNOUNCER,
+    payload: &[
+        LITTLE,
+        FIRST,
+        SQUARE,
+        SHAPE,
+        RELIABLE,
+        TRANSIENT_LOCAL,
+        SENTINEL,
+    ],
+    ..COMES
+};
+
+/// What becomes of a reader and a writer: the port of the first locator, or the policy, with it.
+#[derive(Clone, Copy, Debug, PartialEq)]
+enum Became {
+    Match(u16),
+    Unmatch,
+    Refuse(u32),
+}
+
+/// A change: the rank, the third octet of the writer's entity, and what becomes of them.
+type Heard = (u32, u8, Became);
+
+fn heard_of(change: &MatchChange) -> Heard {
+    let (writer, became) = match &change.what {
+        Becomes::Match(writer, locators) => {
+            let port = locators
+                .as_slice()
+                .first()
+                .map_or(0, |locator| locator.port);
+            (writer, Became::Match(port))
+        }
+        Becomes::Unmatch(writer) => (writer, Became::Unmatch),
+        Becomes::Refuse(writer, policy) => (writer, Became::Refuse(*policy)),
     };
-    let event = Event {
+    (change.rank, writer.entity.0[2], became)
+}
+
+/// The octets of a payload in parts.
+pub(super) fn payload_of<A: Allocator + Copy>(
+    alloc: A,
+    parts: &[&str],
+) -> Result<Vec<u8, A>, Fail> {
+    let mut payload = Vec::new(alloc);
+    for part in parts {
+        payload.extend_from_slice(octets_of(alloc, part)?.as_slice())?;
+    }
+    Ok(payload)
+}
+
+/// The event of a change of theirs.
+pub(super) fn event_of(said: Said, payload: &[u8]) -> Result<Event<'_>, Fail> {
+    Ok(Event {
         place: Place {
             datagram: 0,
             submessage: 1,
@@ -66,67 +194,361 @@ fn hear(alloc: Global, discovery: &mut Discovery, said: Said<'_>) -> Result<Vec<
         source: THEIRS,
         time: None,
         writer: said.writer,
-        reader: ENTITYID_UNKNOWN,
-        body: Body::Whole(whole),
-    };
+        reader: said.reader,
+        body: Body::Whole(Whole {
+            number: Number::new(said.number).ok_or("no number")?,
+            info: said.info,
+            payload,
+        }),
+    })
+}
+
+/// Discovery at its start, where our reader of squares is matched with these writers from the
+/// start.
+fn started(alloc: Global, fixed: &[Guid]) -> Result<Discovery, Fail> {
+    let mut config = two_readers(alloc)?;
+    for writer in fixed {
+        config.fixed.push(FixedMatch {
+            rank: 0,
+            writer: *writer,
+            locators: Locators::new(Vec::new(alloc)),
+        })?;
+    }
+    check(&config)?;
+    Ok(Discovery::new(alloc, &config)?)
+}
+
+/// Takes in a change of theirs, and gives what our readers hear.
+fn hear(alloc: Global, discovery: &mut Discovery, said: Said) -> Result<Vec<Heard>, Fail> {
+    let payload = payload_of(alloc, said.payload)?;
+    let event = event_of(said, payload.as_slice())?;
     let effects = discovery.step(alloc, &event)?;
     let mut heard = Vec::new(alloc);
-    for change in effects.changes {
-        heard.push(change.what)?;
+    for change in &effects.changes {
+        heard.push(heard_of(change))?;
     }
     Ok(heard)
 }
 
-#[test]
-fn a_writer_is_matched_until_its_participant_leaves(rt: HostRuntime) -> Result<(), Fail> {
-    let alloc = rt.alloc();
-    let mut discovery = one_reader(alloc)?;
-    let writer = octets_of(alloc, WRITER)?;
-    let record = Said {
-        writer: ENTITYID_SEDP_BUILTIN_PUBLICATIONS_ANNOUNCER,
-        number: 1,
-        form: Form::Value,
-        status: 0,
-        payload: writer.as_slice(),
-    };
+/// Discovery after these changes.
+pub(super) fn after(alloc: Global, said: &[Said]) -> Result<Discovery, Fail> {
+    let mut discovery = started(alloc, &[])?;
+    for change in said {
+        let _heard = hear(alloc, &mut discovery, *change)?;
+    }
+    Ok(discovery)
+}
+
+/// Changes of theirs, one after the other, and what our readers hear of each.
+type Steps<'a> = &'a [(Said, &'a [Heard])];
+
+/// The place of the first of these changes of which our readers hear something else.
+fn first_unheard(alloc: Global, fixed: &[Guid], steps: Steps<'_>) -> Result<Option<usize>, Fail> {
+    let mut discovery = started(alloc, fixed)?;
+    for (at, (said, expected)) in steps.iter().enumerate() {
+        if hear(alloc, &mut discovery, *said)?.as_slice() != *expected {
+            return Ok(Some(at));
+        }
+    }
+    Ok(None)
+}
+
+/// What becomes of one writer, record by record.
+const ONE_WRITER: [(Said, &[Heard]); 16] = [
     // Nobody is heard whose participant isn't known.
-    assert!(rt; hear(alloc, &mut discovery, record)?.is_empty());
-    let participant = octets_of(alloc, PARTICIPANT)?;
-    let comes = Said {
-        writer: ENTITYID_SPDP_BUILTIN_PARTICIPANT_ANNOUNCER,
-        payload: participant.as_slice(),
-        ..record
-    };
-    assert!(rt; hear(alloc, &mut discovery, comes)?.is_empty());
-    let heard = hear(alloc, &mut discovery, record)?;
-    let [Becomes::Match(matched, locators)] = heard.as_slice() else {
-        return Err(Fail::new("no match"));
-    };
-    assert_eq!(rt; *matched, SQUARES);
-    let default = Locator {
-        port: 7413,
-        address: [127, 0, 0, 1],
-    };
-    assert_eq!(rt; locators.as_slice(), [default].as_slice());
-    assert_eq!(rt; discovery.matched(SQUARES), [0].as_slice());
+    (OFFERS, &[]),
+    (COMES, &[]),
+    (OFFERS, &[(0, 1, Became::Match(7413))]),
     // The same record again changes nothing.
-    let again = Said {
-        number: 2,
-        ..record
-    };
-    assert!(rt; hear(alloc, &mut discovery, again)?.is_empty());
-    let leaves = Said {
-        number: 9,
-        form: Form::Nothing,
-        status: 1,
-        payload: &[],
-        ..comes
-    };
-    let heard = hear(alloc, &mut discovery, leaves)?;
-    let [Becomes::Unmatch(ended)] = heard.as_slice() else {
-        return Err(Fail::new("no end"));
-    };
-    assert_eq!(rt; *ended, SQUARES);
-    assert!(rt; discovery.matched(SQUARES).is_empty());
+    (
+        Said {
+            number: 2,
+            ..OFFERS
+        },
+        &[],
+    ),
+    // It is refused by its reliability; refused twice; and refused by its durability.
+    (
+        Said {
+            number: 3,
+            payload: &[
+                LITTLE,
+                FIRST,
+                SQUARE,
+                SHAPE,
+                BEST_EFFORT,
+                TRANSIENT_LOCAL,
+                SENTINEL,
+            ],
+            ..OFFERS
+        },
+        &[(0, 1, Became::Unmatch), (0, 1, Became::Refuse(11))],
+    ),
+    (
+        Said {
+            number: 4,
+            payload: &[
+                LITTLE,
+                FIRST,
+                SQUARE,
+                SHAPE,
+                BEST_EFFORT,
+                TRANSIENT_LOCAL,
+                LOCATOR,
+                SENTINEL,
+            ],
+            ..OFFERS
+        },
+        &[],
+    ),
+    (
+        Said {
+            number: 5,
+            payload: &[LITTLE, FIRST, SQUARE, SHAPE, RELIABLE, SENTINEL],
+            ..OFFERS
+        },
+        &[(0, 1, Became::Refuse(2))],
+    ),
+    // It ends, by its hash without a payload, and is refused again.
+    (
+        Said {
+            number: 6,
+            info: ChangeInfo {
+                form: Form::Nothing,
+                status: 1,
+                hash: Some(KeyHash([10, 10, 10, 10, 10, 10, 10, 10, 10, 10, 10, 10, 0, 0, 1, 2])),
+            },
+            payload: &[],
+            ..OFFERS
+        },
+        &[],
+    ),
+    (
+        Said {
+            number: 7,
+            payload: &[LITTLE, FIRST, SQUARE, SHAPE, SENTINEL],
+            ..OFFERS
+        },
+        &[(0, 1, Became::Refuse(2))],
+    ),
+    // Another topic, and locators of its own; and back.
+    (
+        Said {
+            number: 8,
+            payload: &[LITTLE, FIRST, CIRCLE, SHAPE, LOCATOR, SENTINEL],
+            ..OFFERS
+        },
+        &[(1, 1, Became::Match(7000))],
+    ),
+    (
+        Said {
+            number: 9,
+            ..OFFERS
+        },
+        &[(0, 1, Became::Match(7413)), (1, 1, Became::Unmatch)],
+    ),
+    // A partition that no reader is in.
+    (
+        Said {
+            number: 10,
+            payload: &[
+                LITTLE,
+                FIRST,
+                SQUARE,
+                SHAPE,
+                RELIABLE,
+                TRANSIENT_LOCAL,
+                PARTITION,
+                SENTINEL,
+            ],
+            ..OFFERS
+        },
+        &[(0, 1, Became::Unmatch)],
+    ),
+    (
+        Said {
+            number: 11,
+            ..OFFERS
+        },
+        &[(0, 1, Became::Match(7413))],
+    ),
+    // A record that can't be read changes nothing, and its number is received.
+    (
+        Said {
+            number: 12,
+            payload: &[LITTLE, FIRST],
+            ..OFFERS
+        },
+        &[],
+    ),
+    // Another type; and it ends, by a key.
+    (
+        Said {
+            number: 13,
+            payload: &[
+                LITTLE,
+                FIRST,
+                SQUARE,
+                "07000800 02000000 61000000",
+                SENTINEL,
+            ],
+            ..OFFERS
+        },
+        &[(0, 1, Became::Unmatch)],
+    ),
+    (
+        Said {
+            number: 14,
+            info: ChangeInfo {
+                form: Form::Key,
+                status: 3,
+                hash: None,
+            },
+            payload: &[LITTLE, FIRST, SENTINEL],
+            ..OFFERS
+        },
+        &[],
+    ),
+];
+
+/// A participant that speaks again, leaves, and comes again; and two writers of it.
+const ONE_PARTICIPANT: [(Said, &[Heard]); 8] = [
+    (COMES, &[]),
+    (OFFERS, &[(0, 1, Became::Match(7413))]),
+    // Later records are numbered as they like.
+    (MOVES, &[]),
+    (
+        Said {
+            number: 2,
+            payload: &[LITTLE, SECOND, SQUARE, SHAPE, TRANSIENT_LOCAL, SENTINEL],
+            ..OFFERS
+        },
+        &[(0, 2, Became::Match(7777))],
+    ),
+    (LEAVES, &[(0, 1, Became::Unmatch), (0, 2, Became::Unmatch)]),
+    // Its announcers begin again with number 1.
+    (OFFERS, &[]),
+    (COMES, &[]),
+    (OFFERS, &[(0, 1, Became::Match(7413))]),
+];
+
+/// Three records that become ready at once are applied one after the other.
+const AT_ONCE: [(Said, &[Heard]); 4] = [
+    (COMES, &[]),
+    (
+        Said {
+            number: 3,
+            ..OFFERS
+        },
+        &[],
+    ),
+    (
+        Said {
+            number: 2,
+            payload: &[
+                LITTLE,
+                FIRST,
+                SQUARE,
+                SHAPE,
+                BEST_EFFORT,
+                TRANSIENT_LOCAL,
+                SENTINEL,
+            ],
+            ..OFFERS
+        },
+        &[],
+    ),
+    (
+        OFFERS,
+        &[
+            (0, 1, Became::Match(7413)),
+            (0, 1, Became::Unmatch),
+            (0, 1, Became::Refuse(11)),
+            (0, 1, Became::Match(7413)),
+        ],
+    ),
+];
+
+/// A participant that has only the announcer of readers.
+const ONE_ANNOUNCER: Said = Said {
+    payload: &[LITTLE, "58000400 10000000", SENTINEL],
+    ..COMES
+};
+
+/// A record of a reader of theirs, 00000107.
+pub(super) const ASKS: Said = Said {
+    writer: ENTITYID_SEDP_BUILTIN_SUBSCRIPTIONS_ANNOUNCER,
+    payload: &[
+        LITTLE,
+        "5a001000 0a0a0a0a0a0a0a0a0a0a0a0a 00000107",
+        SQUARE,
+        SHAPE,
+        SENTINEL,
+    ],
+    ..COMES
+};
+
+/// What leaves no trace: an announcer that the participant doesn't have, and an event for another
+/// reader than the one that it announces to.
+const UNHEARD: [(Said, &[Heard]); 4] = [
+    (ONE_ANNOUNCER, &[]),
+    (OFFERS, &[]),
+    (
+        Said {
+            reader: ENTITYID_SEDP_BUILTIN_PUBLICATIONS_DETECTOR,
+            ..ASKS
+        },
+        &[],
+    ),
+    (ASKS, &[]),
+];
+
+/// A match from the start; and another of the same writer.
+const FIXED: [(Said, &[Heard]); 4] = [
+    (COMES, &[]),
+    (
+        Said {
+            payload: &[LITTLE, FIRST, SQUARE, SHAPE, TRANSIENT_LOCAL, SENTINEL],
+            ..OFFERS
+        },
+        &[],
+    ),
+    (
+        Said {
+            number: 2,
+            payload: &[LITTLE, FIRST, SQUARE, SHAPE, SENTINEL],
+            ..OFFERS
+        },
+        &[],
+    ),
+    (
+        Said {
+            number: 3,
+            info: ChangeInfo {
+                form: Form::Key,
+                status: 1,
+                hash: None,
+            },
+            payload: &[LITTLE, FIRST, SENTINEL],
+            ..OFFERS
+        },
+        &[],
+    ),
+];
+
+/// Each run, and the writers that our reader of squares is matched with from the start.
+const RUNS: [(&[Guid], Steps<'static>); 5] = [
+    (&[], &ONE_WRITER),
+    (&[], &ONE_PARTICIPANT),
+    (&[], &AT_ONCE),
+    (&[], &UNHEARD),
+    (&[SQUARES], &FIXED),
+];
+
+#[test]
+fn what_our_readers_hear(rt: HostRuntime) -> Result<(), Fail> {
+    for &(fixed, steps) in &RUNS {
+        assert_eq!(rt; first_unheard(rt.alloc(), fixed, steps)?, None);
+    }
     Ok(())
 }

@@ -2,11 +2,14 @@
 
 ghost use Rattle.std.specs.Prelude.{◌≤◌, length};
 
+use super::announced::{FIRST, Offer, Says, WRITERS, datagram_of};
+use super::matching::{Unlike, two_unlike};
 use super::{Sent, datagram, two};
 use crate::*;
 use dds_qos::Reliability;
 use dds_topic::Shapes;
 use linked_list_allocator::LocalHeap;
+use rtps_discovery::Config;
 use rtps_reader::Status;
 use std::alloc::Global;
 use std::test::Fail;
@@ -24,70 +27,102 @@ fn has_failed<'a>(
         && engine.take_in(heap, octets).err() == Some(EngineError::Failed)
 }
 
-/// How many reports come of a datagram in a heap of this size, where there is memory for them.
-fn reported(
-    alloc: Global,
-    size: usize,
-    reliability: Reliability,
-    octets: &[u8],
-) -> Result<Option<usize>, Fail>
+/// What comes of a datagram in a small heap.
+#[derive(Clone, Copy, PartialEq, Eq)]
+enum Met {
+    /// There was no memory for an engine.
+    NoEngine,
+    /// The engine has failed.
+    Failed,
+    /// So many reports come.
+    Reports(usize),
+    /// There was no memory to put them in order.
+    Unordered,
+}
+
+/// What comes of a datagram in a heap of this size.
+fn take_once(alloc: Global, size: usize, config: Config, octets: &[u8]) -> Result<Met, Fail>
     requires { length octets.now ≤ 65507 }
 {
     let heap = LocalHeap::new(alloc, size)?;
-    let config = two(alloc, reliability)?;
-    let Ok(mut engine) = SerialEngine::new_in(&heap, alloc, config, Shapes) else {
-        return Ok(None);
+    let mut engine = match SerialEngine::new_in(&heap, alloc, config, Shapes) {
+        Ok(engine) => engine,
+        Err(StartError::NoMemory) => return Ok(Met::NoEngine),
+        Err(_) => return Err(Fail::new("the configuration is refused")),
     };
     match engine.take_in(&heap, octets) {
         Ok(outcome) => match outcome.in_order(&heap) {
-            Ok(reports) => Ok(Some(reports.len())),
-            Err(_) => Ok(None),
+            Ok(reports) => Ok(Met::Reports(reports.len())),
+            Err(_) => Ok(Met::Unordered),
         },
-        Err(EngineError::NoMemory) if has_failed(&heap, &mut engine, octets) => Ok(None),
+        Err(EngineError::NoMemory) if has_failed(&heap, &mut engine, octets) => Ok(Met::Failed),
         Err(_) => Err(Fail::new("an engine out of memory has not failed")),
     }
 }
 
-/// Whether an engine fails in small heaps, and reports so much of a datagram in large ones.
-fn fails_or_reports(
-    alloc: Global,
-    reliability: Reliability,
-    parts: &[Sent],
-    reports: usize,
-) -> Result<bool, Fail> {
-    let octets = datagram(alloc, parts)?;
-    let (mut refused, mut served) = (false, false);
-    for step in 0..96 {
-        match reported(alloc, 256 + step * 128, reliability, octets.as_slice())? {
-            Some(count) if count == reports => served = true,
-            Some(_) => return Ok(false),
-            None => refused = true,
+/// Two readers, and whom they are matched with.
+#[derive(Clone, Copy)]
+enum Given {
+    /// Both are matched with the writer from the start.
+    Fixed(Reliability),
+    /// The writer is announced to the first one.
+    Announced,
+}
+
+fn config_given(alloc: Global, what: Given) -> Result<Config, Fail> {
+    match what {
+        Given::Fixed(reliability) => Ok(two(alloc, reliability)?),
+        Given::Announced => two_unlike(alloc, Unlike::Topics),
+    }
+}
+
+/// Whether there is no engine in small heaps, one that fails in larger ones, and one that reports
+/// so much of a datagram in large ones.
+fn fails_or_reports(alloc: Global, what: Given, octets: &[u8], reports: usize) -> Result<bool, Fail>
+    requires { length octets.now ≤ 65507 }
+{
+    let (mut missing, mut failed, mut served) = (false, false, false);
+    for step in 0..192 {
+        match take_once(alloc, 256 + step * 128, config_given(alloc, what)?, octets)? {
+            Met::NoEngine => missing = true,
+            Met::Failed => failed = true,
+            Met::Reports(count) if count == reports => served = true,
+            Met::Reports(_) => return Ok(false),
+            Met::Unordered => {}
         }
     }
-    Ok(refused && served)
+    Ok(missing && failed && served)
 }
 
 #[test]
 fn an_engine_out_of_memory_has_failed(rt: HostRuntime) -> Result<(), Fail> {
+    let alloc = rt.alloc();
     let parts = [
         Sent::ForAll(1),
         Sent::Heartbeat(1, 3, 1),
         Sent::Heartbeat(3, 3, 2),
     ];
-    let octets = datagram(rt.alloc(), &parts)?;
+    let octets = datagram(alloc, &parts)?;
     // A best-effort reader has one sample, a reliable one answers twice and has lost a number.
     for (reliability, reports) in [(Reliability::BestEffort, 2), (Reliability::Reliable, 8)] {
-        let (mut refused, mut served) = (false, false);
-        for step in 0..96 {
-            match reported(rt.alloc(), 256 + step * 256, reliability, octets.as_slice())? {
-                Some(count) => {
-                    assert_eq!(rt; count, reports);
-                    served = true;
-                }
-                None => refused = true,
-            }
-        }
-        assert!(rt; refused && served);
+        let what = Given::Fixed(reliability);
+        assert!(rt; fails_or_reports(alloc, what, octets.as_slice(), reports)?);
     }
+    Ok(())
+}
+
+#[test]
+fn an_announcement_out_of_memory_fails_an_engine(rt: HostRuntime) -> Result<(), Fail> {
+    let alloc = rt.alloc();
+    // Discovery answers, and the reader is matched, has a sample and answers.
+    let parts = [
+        Says::Comes,
+        Says::Offers(2, 1, Offer::Square),
+        Says::Heartbeat(WRITERS, [2, 2, 2]),
+        Says::Blue(1, 1),
+        Says::Heartbeat(FIRST, [1, 1, 1]),
+    ];
+    let octets = datagram_of(alloc, &parts)?;
+    assert!(rt; fails_or_reports(alloc, Given::Announced, octets.as_slice(), 4)?);
     Ok(())
 }

@@ -9,4 +9,4 @@ returns-in-Ok-clause-stands g c ms all =
     let kept : AllStand ms c.self.inside.proxies.entries = subst (AllStand ms) (sym c.self.view_is) all in
     let m : Match = record { whom = whom c.args.config; past = [] } in
     subst (AllStand (begun m ms)) (sym c.in-Ok.ensures.entries)
-    (begun_stands m c.args.config.writer c.new-proxy.result ms c.self.inside.proxies.entries (record { writer = refl; whom = sym c.new-proxy.ensures.whom; stands = c.new-proxy.ensures.stands }) kept)
+    (begun_stands m c.args.config.writer c.in_ok-proxy.proxy ms c.self.inside.proxies.entries (record { writer = refl; whom = sym c.in_ok-proxy.ensures.whom; stands = c.in_ok-proxy.ensures.stands }) kept)

@@ -1,0 +1,111 @@
+//! What is known after records of theirs, and what is answered to their announcers.
+
+use super::events::{ASKS, COMES, MOVES, OFFERS, SQUARES, Said, after};
+use crate::Discovery;
+use crate::addressed::{ENTITYID_SEDP_BUILTIN_PUBLICATIONS_ANNOUNCER, ENTITYID_UNKNOWN};
+use dds_qos::Reliability;
+use rtps_receiver::{Body, Event, Heartbeat};
+use rtps_types::{EntityId, Number, Place};
+use std::alloc::Global;
+use std::test::Fail;
+
+/// Whether the participant is known by its first record.
+fn knows_participant(discovery: &Discovery) -> bool {
+    match discovery.participants().next() {
+        Some((prefix, participant)) => {
+            *prefix == SQUARES.prefix
+                && participant.lease().seconds == 100
+                && participant.locators().len() == 1
+        }
+        None => false,
+    }
+}
+
+/// Whether the writer is known by its record.
+fn knows_writer(discovery: &Discovery) -> bool {
+    match discovery.writers().next() {
+        Some((guid, writer)) => {
+            *guid == SQUARES
+                && writer.topic() == "Square"
+                && writer.type_name() == "ShapeType"
+                && writer.offered().policies.reliability == Reliability::Reliable
+                && writer.locators().is_empty()
+        }
+        None => false,
+    }
+}
+
+/// Whether their reader is known, and our own is lent.
+fn knows_readers(discovery: &Discovery) -> bool {
+    let entity = EntityId([0, 0, 1, 7]);
+    let known = match discovery.remote_readers().next() {
+        Some(reader) => reader.entity == entity,
+        None => false,
+    };
+    match discovery.readers().first() {
+        Some(Some(ours)) => {
+            known
+                && ours.entity() == entity
+                && ours.topic() == "Square"
+                && ours.type_name() == "ShapeType"
+                && ours.requested().policies.reliability == Reliability::Reliable
+        }
+        _ => false,
+    }
+}
+
+#[test]
+fn what_is_known(rt: HostRuntime) -> Result<(), Fail> {
+    let discovery = after(rt.alloc(), &[COMES, OFFERS, ASKS])?;
+    assert!(rt; knows_participant(&discovery));
+    assert!(rt; knows_writer(&discovery));
+    assert!(rt; knows_readers(&discovery));
+    let matches = discovery.matches(rt.alloc())?;
+    assert!(rt; matches.len() == 1 && matches.contains(&(0, SQUARES)));
+    Ok(())
+}
+
+/// The port that a heartbeat of their announcer of writers is answered at, if it is.
+fn answered(alloc: Global, mut discovery: Discovery) -> Result<Option<u16>, Fail> {
+    let writer = ENTITYID_SEDP_BUILTIN_PUBLICATIONS_ANNOUNCER;
+    let heartbeat = Heartbeat {
+        first: Number::new(1).ok_or("no number")?,
+        last: 2,
+        count: 1,
+        final_flag: false,
+        liveliness: false,
+    };
+    let event = Event {
+        place: Place {
+            datagram: 0,
+            submessage: 1,
+        },
+        source: SQUARES.prefix,
+        time: None,
+        writer,
+        reader: ENTITYID_UNKNOWN,
+        body: Body::Heartbeat(heartbeat),
+    };
+    let effects = discovery.step(alloc, &event)?;
+    match &effects.answer {
+        Some(answer) => Ok(answer.to.as_slice().first().map(|locator| locator.port)),
+        None => Ok(None),
+    }
+}
+
+/// Nobody is answered whose participant isn't known; and a later record doesn't move its
+/// announcers.
+const ANSWERS: [(&[Said], Option<u16>); 3] = [
+    (&[], None),
+    (&[COMES], Some(7412)),
+    (&[COMES, MOVES], Some(7412)),
+];
+
+#[test]
+fn announcers_are_answered(rt: HostRuntime) -> Result<(), Fail> {
+    for &(said, expected) in &ANSWERS {
+        let discovery = after(rt.alloc(), said)?;
+        assert_eq!(rt; answered(rt.alloc(), discovery)?, expected);
+    }
+    Ok(())
+}
