@@ -2,3 +2,4 @@ mod Alone
 mod Cuts
 mod Merged
 mod Planned
+mod Whole

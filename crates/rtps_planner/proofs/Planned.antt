@@ -21,7 +21,7 @@ use Rattle.rtps_reader.specs.Steps.{Doing, asks_of}
 use Rattle.rtps_serial.specs.Steps.{ReaderStep, step_by}
 use Rattle.rtps_serial.proofs.Hearing.{announced_doings, asked_from}
 use Rattle.rtps_serial.specs.World.{addressed_to, changes_for, doing_of, doings}
-use Rattle.rtps_planner.specs.declared.plan.PlannedStep.{PlannedStep}
+use Rattle.rtps_planner.specs.declared.steps.PlannedStep.{PlannedStep}
 use Rattle.rtps_planner.specs.Job.{Job, discovery_answer}
 use Rattle.rtps_planner.specs.Plan.{Grow, asked_of, is_named, step_seen, steps_seen, taken_at}
 

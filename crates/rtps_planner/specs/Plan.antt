@@ -1,5 +1,5 @@
 -- The jobs of a plan, whose steps point into the batch's list of events.
-use Rattle.std.specs.Prelude.{◌≡◌, ℕ, Bool, false, ◌<◌, List, ◌++◌, length, map, filter, ◌==◌, Option, Some, None, Box, box_value, option_to_list, slice_index_or}
+use Rattle.std.specs.Prelude.{◌≡◌, ℕ, zero, suc, [], ◌∷◌, Bool, false, ◌<◌, List, ◌++◌, length, map, filter, ◌==◌, Option, Some, None, Box, box_value, option_to_list, slice_index_or}
 use Rattle.std.specs.List.{flat_map, slice_get}
 use Rattle.std.specs.Option.{option_map}
 use Rattle.std.specs.declared.vec.Vec.{Vec}
@@ -16,9 +16,11 @@ use Rattle.rtps_serial.specs.Outcome.{answer_view}
 use Rattle.rtps_proxy.specs.Replies.{Sent}
 use Rattle.rtps_types.specs.declared.place.Place.{Place}
 use Rattle.rtps_discovery.specs.Kept.{IsKnown, Kept}
-use Rattle.rtps_planner.specs.declared.plan.Planning.{Planning}
-use Rattle.rtps_planner.specs.declared.plan.PlannedStep.{PlannedStep}
-use Rattle.rtps_planner.specs.Job.{Job, discovery_answer}
+use Rattle.rtps_planner.specs.declared.steps.Planning.{Planning}
+use Rattle.rtps_planner.specs.declared.steps.PlannedStep.{PlannedStep}
+use Rattle.rtps_planner.specs.declared.jobs.Job as plan_job
+use Rattle.rtps_planner.specs.declared.jobs.Plan.{Plan}
+use Rattle.rtps_planner.specs.Job.{Job, discovery_answer, discovery_answers, job_of, known_after_events}
 
 -- what a step asks at its event: what becomes of a match, or to take the event in
 abbrev pub asked_of : {A : Type 0} → Happening → Option (Box (Becomes A) A) → Doing
@@ -66,3 +68,46 @@ pub record IsPlanned {A : Type 0} (es : List Happening) (k : Known) (e : Happeni
       (λ rank. map (λ what. (e.place, what)) (doings k rank e))
   pub answers : map answer_view new.answers.items
       ≡ map answer_view old.answers.items ++ map discovery_sending (discovery_answer k e)
+
+-- the steps of each rank are what is asked of it, and there are none where nothing is asked
+pub record AreSteps {A : Type 0} (es : List Happening) (lists : List (Vec (PlannedStep A) A))
+    (asked : ℕ → Job) : Type 0 where
+  pub steps : (rank : ℕ) (other : Vec (PlannedStep A) A) → rank < length lists
+      → steps_seen es (slice_index_or lists rank other).items ≡ asked rank
+  pub none : (rank : ℕ) (other : Vec (PlannedStep A) A) → rank < length lists
+      → asked rank ≡ [] → (slice_index_or lists rank other).items ≡ []
+
+-- what these events ask of each reader and what discovery answers to them is there, and discovery
+-- keeps what is known after them; steps point into all events of the batch
+pub record AreAllPlanned {A : Type 0} (k : Known) (all es : List Happening) (new : Planning A)
+    (kept : Kept) : Type 0 where
+  pub known : IsKnown (known_after_events k es) kept
+  pub count : length new.lists.items ≡ length k.readers
+  pub steps : AreSteps all new.lists.items (λ rank. job_of rank k es)
+  pub answers : map answer_view new.answers.items
+      ≡ map discovery_sending (discovery_answers k es)
+
+-- a job, by the events that its steps point into
+abbrev pub job_seen : {A : Type 0} → List Happening → plan_job.Job A → ℕ × Job
+job_seen es job = (job.rank, steps_seen es job.steps.items)
+
+-- the job of a rank, where something is asked of it
+abbrev pub job_at : ℕ → Job → List (ℕ × Job)
+job_at rank [] = []
+job_at rank (s ∷ ss) = (rank, s ∷ ss) ∷ []
+
+-- those of the ranks below a count, by rising rank
+abbrev pub jobs_by : (ℕ → Job) → ℕ → List (ℕ × Job)
+jobs_by asked zero = []
+jobs_by asked (suc n) = jobs_by asked n ++ job_at n (asked n)
+
+-- a plan has a job for each reader of whom discovery asks something over the events, and
+-- discovery's answers; and discovery keeps what is known after the events
+pub record IsPlan {A : Type 0} (k : Known) (es : List Happening) (plan : Plan A) (kept : Kept)
+    : Type 0 where
+  pub known : IsKnown (known_after_events k es) kept
+  pub jobs : map (job_seen es) plan.jobs.items
+      ≡ jobs_by (λ rank. job_of rank k es) (length k.readers)
+  pub readers : plan.rest.readers ≡ length k.readers
+  pub answers : map answer_view plan.rest.answers.items
+      ≡ map discovery_sending (discovery_answers k es)

@@ -2,7 +2,11 @@
 //! together.
 #![tactic(auto)]
 
+mod jobs;
 pub mod laws;
-mod plan;
+mod planner;
+mod steps;
 
-pub use plan::PlannedStep;
+pub use jobs::{Job, Plan, Rest};
+pub use planner::plan;
+pub use steps::PlannedStep;

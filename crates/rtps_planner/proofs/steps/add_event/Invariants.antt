@@ -2,7 +2,7 @@ use Rattle.std.proofs.Common.{◌≡◌, List, Some, take}
 use Rattle.std.specs.List.{slice_get}
 use Rattle.rtps_receiver.specs.Events.{Happening}
 use Rattle.rtps_planner.specs.Plan.{Grow, taken_at}
-use Rattle.rtps_planner.proofs.plan.add_event.Given as goal
+use Rattle.rtps_planner.proofs.steps.add_event.Given as goal
 
 -- the event is added for the ranks so far
 abbrev pub invariant-loop-rank : goal.invariant-loop-rank

@@ -1,4 +1,4 @@
-//! What each reader has to do in a batch.
+//! The steps of readers at one event.
 
 ghost use Rattle.std.specs.Prelude.{◌≡◌, ℕ, ◌<◌, ◌==◌, ◌++◌, [], ◌∷◌, List, OnOk, IfOk, if◌then◌else◌, length, map, slice_index_or, Some, true};
 ghost use Rattle.std.specs.List.{slice_get};
@@ -16,7 +16,7 @@ ghost use Rattle.rtps_planner.specs.Plan.{Grow, IsPlanned, discovery_sending, is
 
 use rtps_discovery::{Becomes, Discovery, MatchChange, Reader, is_discovery, is_for};
 use rtps_receiver::Event;
-use rtps_serial::Answer;
+use rtps_serial::{Answer, push_by};
 use rtps_types::{EntityId, Guid, Place, Reply};
 use std::alloc::{AllocError, Allocator, Global};
 
@@ -39,27 +39,7 @@ pub(crate) fn add_step<A: Allocator>(
     ensures { (es : List Happening) → OnOk result (Grow es lists.old.items lists.new.items
         (λ at. if rank == at then step_seen es step else [])) }
 {
-    push_step(lists, rank, step)
-}
-
-/// Puts a step after those of the reader of a rank; there is none for a rank past the last.
-fn push_step<A: Allocator>(
-    lists: &mut Vec<Vec<PlannedStep<A>, A>, A>,
-    rank: u32,
-    step: PlannedStep<A>,
-) -> Result<(), AllocError>
-    ensures count { length lists.new.items ≡ length lists.old.items }
-    ensures pushed { OnOk result ((at : ℕ) (other : _) → at < length lists.old.items
-        → (slice_index_or lists.new.items at other).items
-        ≡ (if rank == at then (slice_index_or lists.old.items at other).items
-        ++ step ∷ [] else (slice_index_or lists.old.items at other).items)) }
-{
-    let at = rank as usize;
-    if at >= lists.len() {
-        return Ok(());
-    }
-    lists[at].push(step)?;
-    Ok(())
+    push_by(lists, rank, step)
 }
 
 /// Puts what becomes of matches after the steps of the readers that hear of it.
@@ -169,7 +149,7 @@ fn plan_announcement<A: Allocator + Copy>(
 
 /// Takes one event into the plan. An announcer's event is discovery's; any other event is for the
 /// readers that are matched with its writer, where it names them.
-fn plan_event<A: Allocator + Copy>(
+pub(crate) fn plan_event<A: Allocator + Copy>(
     discovery: &mut Discovery<A>,
     planning: &mut Planning<A>,
     alloc: A,

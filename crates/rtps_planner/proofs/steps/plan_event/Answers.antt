@@ -7,7 +7,7 @@ use Rattle.rtps_serial.proofs.Answered.{on_ok_then}
 use Rattle.rtps_serial.proofs.Hearing.{other_known}
 use Rattle.rtps_planner.specs.Plan.{discovery_sending, taken_at}
 use Rattle.rtps_planner.proofs.Planned.{event_asked, grow_same, no_answer}
-use Rattle.rtps_planner.proofs.plan.plan_event.Goals as goal
+use Rattle.rtps_planner.proofs.steps.plan_event.Goals as goal
 
 pub returns : goal.returns
 returns g c = λ k es known at.

@@ -1,11 +1,11 @@
 use Rattle.std.proofs.Common.{◌≡◌, ◌<◌, ◌+◌, ◌==◌, ◌++◌, ◌∷◌, [], ◌∙◌, None, ap, arith, get_or, if◌then◌else◌, length, refl, subst, sym, take, true, false}
 use Rattle.std.proofs.lemmas.List.{take_all, take_more}
 use Rattle.rtps_discovery.specs.Known.{reader_at}
-use Rattle.rtps_planner.specs.declared.plan.PlannedStep.{PlannedStep}
+use Rattle.rtps_planner.specs.declared.steps.PlannedStep.{PlannedStep}
 use Rattle.rtps_planner.specs.Plan.{Grow, is_named, step_seen, taken_at}
 use Rattle.rtps_planner.proofs.Planned.{grow_more, grow_not, rank_more, rank_named, rank_unnamed, step_at}
-use Rattle.rtps_planner.proofs.plan.add_event.Goals as goal
-use Rattle.rtps_planner.proofs.plan.add_event.Goals.{then-is_named+in_ok-add_step, else-is_named}
+use Rattle.rtps_planner.proofs.steps.add_event.Goals as goal
+use Rattle.rtps_planner.proofs.steps.add_event.Goals.{then-is_named+in_ok-add_step, else-is_named}
 
 pub loop-rank-preserved : goal.loop-rank-preserved
 loop-rank-preserved g c =

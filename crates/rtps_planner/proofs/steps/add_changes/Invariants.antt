@@ -3,7 +3,7 @@ use Rattle.std.specs.List.{slice_get}
 use Rattle.rtps_receiver.specs.Events.{Happening}
 use Rattle.rtps_planner.specs.Plan.{Grow}
 use Rattle.rtps_planner.proofs.Planned.{changes_asked_at}
-use Rattle.rtps_planner.proofs.plan.add_changes.Given as goal
+use Rattle.rtps_planner.proofs.steps.add_changes.Given as goal
 
 -- the steps of the changes so far are added
 abbrev pub invariant-loop-change : goal.invariant-loop-change

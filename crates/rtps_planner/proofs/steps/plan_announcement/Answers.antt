@@ -7,7 +7,7 @@ use Rattle.rtps_serial.proofs.Answered.{on_ok_then}
 use Rattle.rtps_serial.proofs.Hearing.{announced_known}
 use Rattle.rtps_planner.specs.Plan.{discovery_sending}
 use Rattle.rtps_planner.proofs.Planned.{announced_answer, changes_asked, grow_same}
-use Rattle.rtps_planner.proofs.plan.plan_announcement.Goals as goal
+use Rattle.rtps_planner.proofs.steps.plan_announcement.Goals as goal
 
 pub returns : goal.returns
 returns g c = λ k es known at is.

@@ -2,10 +2,10 @@ use Rattle.std.proofs.Common.{◌≡◌, ◌++◌, ◌∙◌, ◌∷◌, [], app
 use Rattle.std.proofs.lemmas.List.{nil_from_length}
 use Rattle.rtps_discovery.specs.Seen.{becomes_seen, change_seen}
 use Rattle.rtps_serial.specs.World.{doing_of}
-use Rattle.rtps_planner.specs.declared.plan.PlannedStep.{PlannedStep}
+use Rattle.rtps_planner.specs.declared.steps.PlannedStep.{PlannedStep}
 use Rattle.rtps_planner.specs.Plan.{Grow, step_seen}
 use Rattle.rtps_planner.proofs.Planned.{change_more, changes_asked_at, grow_more, grow_not, step_at}
-use Rattle.rtps_planner.proofs.plan.add_changes.Goals as goal
+use Rattle.rtps_planner.proofs.steps.add_changes.Goals as goal
 
 pub loop-change-init : goal.loop-change-init
 loop-change-init g c = record {

@@ -1,7 +1,7 @@
 use Rattle.std.proofs.Common.{◌≡◌, ◌<◌, ◌≤◌, Some, None, ap, get_or, length, rules, sym}
 use Rattle.rtps_planner.specs.Plan.{is_named}
 use Rattle.rtps_planner.proofs.Planned.{reader_got, reader_past}
-use Rattle.rtps_planner.proofs.plan.is_named.Goals as goal
+use Rattle.rtps_planner.proofs.steps.is_named.Goals as goal
 
 pub returns-in-Some-Some : goal.returns-in-Some-Some
 returns-in-Some-Some g c =
