@@ -1,3 +1,5 @@
 mod Alone
 mod Cuts
 mod Merged
+mod Planned
+mod Whole

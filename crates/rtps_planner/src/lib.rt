@@ -2,4 +2,11 @@
 //! together.
 #![tactic(auto)]
 
+mod jobs;
 pub mod laws;
+mod planner;
+mod steps;
+
+pub use jobs::{Job, Plan, Rest};
+pub use planner::plan;
+pub use steps::PlannedStep;

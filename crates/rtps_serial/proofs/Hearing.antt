@@ -124,7 +124,7 @@ module _ (p : ℕ → Bool) (f : ℕ → Bool) (o : Option Offer) (what : Doing)
       by_test true false e more = rw e more
       by_test false named e more = more
 
-  asked_from : (i n k : ℕ) (rs : List (Option Wish)) → i < length rs → n ≡ k + i
+  pub asked_from : (i n k : ℕ) (rs : List (Option Wish)) → i < length rs → n ≡ k + i
       → asks_for n (steps_from k rs) ≡ (if (f n || is_joined (standing (reader_at rs i) o)) && p n then what ∷ [] else [])
   asked_from i n k [] less at = absurd (omega arith)
   asked_from zero n k (r ∷ rs) less at =
@@ -167,10 +167,10 @@ event_asked w e rank others named less =
 
 -- ---- the whole event
 
-announced_known : (k : Known) (e : Happening) → is_discovery e.writer ≡ true → known_after_event k e ≡ known_by k e
+pub announced_known : (k : Known) (e : Happening) → is_discovery e.writer ≡ true → known_after_event k e ≡ known_by k e
 announced_known k e is = rw is refl
 
-announced_doings : (k : Known) (rank : ℕ) (e : Happening) → is_discovery e.writer ≡ true → doings k rank e ≡ changes_for rank (changes_by k e)
+pub announced_doings : (k : Known) (rank : ℕ) (e : Happening) → is_discovery e.writer ≡ true → doings k rank e ≡ changes_for rank (changes_by k e)
 announced_doings k rank e is = rw is refl
 
 pub announced_puts : {M : Type 0} (k : Known) (e : Happening) → is_discovery e.writer ≡ true → discovery_puts {M = M} k e ≡ answer_put e.place (answered k e)
@@ -188,7 +188,7 @@ announcement_stands view d w e earlier kept changes sorted states reports is nam
 }
 
 -- a user's event changes nothing of what is known, and discovery puts out nothing
-other_known : (k : Known) (e : Happening) → is_discovery e.writer ≡ false → known_after_event k e ≡ k
+pub other_known : (k : Known) (e : Happening) → is_discovery e.writer ≡ false → known_after_event k e ≡ k
 other_known k e others = rw others refl
 
 pub no_puts : {M : Type 0} (k : Known) (e : Happening) → is_discovery e.writer ≡ false → discovery_puts {M = M} k e ≡ []

@@ -8,8 +8,8 @@ use crate::outcome::{Answer, Outcome, Report};
 use dds_topic::Catalog;
 use std::alloc::{AllocError, Allocator};
 
-/// As many empty lists.
-pub(crate) fn empty_lists<T: Drop, A: Allocator + Copy>(
+/// As many empty lists as `count` says. An error is a refused growth.
+pub fn empty_lists<T: Drop, A: Allocator + Copy>(
     alloc: A,
     count: usize,
 ) -> Result<Vec<Vec<T, A>, A>, AllocError>
@@ -24,8 +24,9 @@ pub(crate) fn empty_lists<T: Drop, A: Allocator + Copy>(
     Ok(lists)
 }
 
-/// Adds an item to the list of its rank; there is none for a rank past the last.
-pub(crate) fn push_by<T: Drop, A: Allocator>(
+/// Adds an item to the list of its rank, where there is one: a rank past the last changes nothing.
+/// An error is a refused growth, after which the lists are as they were.
+pub fn push_by<T: Drop, A: Allocator>(
     lists: &mut Vec<Vec<T, A>, A>,
     rank: u32,
     item: T,

@@ -17,6 +17,7 @@ mod steps;
 mod tests;
 mod turn;
 
+pub use deal::{empty_lists, push_by};
 pub use engine::SerialEngine;
 pub use errors::{EngineError, StartError};
 pub use outcome::{Answer, Outcome, Report};

@@ -1,0 +1,153 @@
+-- A whole batch: one event more, and the jobs of the readers that have steps.
+use Rattle.std.proofs.Common.{◌≡◌, ◌==◌, false, true≢false, ℕ, suc, ◌<◌, ◌+◌, arith, List, [], ◌∷◌, ◌++◌, length, map, Some, get_or, refl, sym, ap, ◌∙◌, subst, append_assoc, append-nil}
+use Rattle.std.specs.Prelude.{replicate}
+use Rattle.std.specs.List.{slice_get}
+use Rattle.std.specs.declared.vec.Vec.{Vec}
+use Rattle.std.proofs.Math.Seq.{get_or-append_seam}
+use Rattle.std.proofs.lemmas.List.{get_or_append_left, length-append, length-map, length-replicate, map-append, map_push, nil_from_length}
+use Rattle.std.proofs.lemmas.Option.{slice_get-get_or}
+use Rattle.rtps_receiver.specs.Events.{Happening}
+use Rattle.rtps_discovery.specs.Kept.{IsKnown, Kept}
+use Rattle.rtps_discovery.specs.Known.{Known}
+use Rattle.rtps_serial.specs.World.{doings, known_after_event}
+use Rattle.rtps_serial.proofs.Routed.{readers_stay}
+use Rattle.rtps_planner.specs.Job.{Job, discovery_answer, discovery_answers, job_of, known_after_events}
+use Rattle.rtps_planner.specs.declared.jobs.Job as plan_job
+use Rattle.rtps_planner.specs.declared.steps.PlannedStep.{PlannedStep}
+use Rattle.rtps_planner.specs.declared.steps.Planning.{Planning}
+use Rattle.rtps_planner.specs.Plan.{AreAllPlanned, AreSteps, Grow, IsPlanned, discovery_sending, job_at, job_seen, jobs_by, steps_seen}
+use Rattle.rtps_planner.proofs.Planned.{step_at}
+
+-- ---- one event more
+
+pub known_more : (k : Known) (es : List Happening) (e : Happening) → known_after_events k (es ++ e ∷ []) ≡ known_after_event (known_after_events k es) e
+known_more k [] e = refl
+known_more k (d ∷ es) e = known_more (known_after_event k d) es e
+
+pub job_more : (rank : ℕ) (k : Known) (es : List Happening) (e : Happening)
+    → job_of rank k (es ++ e ∷ []) ≡ job_of rank k es ++ map (λ what. (e.place, what)) (doings (known_after_events k es) rank e)
+job_more rank k [] e = append-nil (map (λ what. (e.place, what)) (doings k rank e))
+job_more rank k (d ∷ es) e =
+    let here : Job = map (λ what. (d.place, what)) (doings k rank d) in
+    let after = known_after_event k d in
+    ap (λ l. here ++ l) (job_more rank after es e)
+    ∙ sym (append_assoc here (job_of rank after es) (map (λ what. (e.place, what)) (doings (known_after_events after es) rank e)))
+
+pub answers_more : (k : Known) (es : List Happening) (e : Happening) → discovery_answers k (es ++ e ∷ []) ≡ discovery_answers k es ++ discovery_answer (known_after_events k es) e
+answers_more k [] e = append-nil (discovery_answer k e)
+answers_more k (d ∷ es) e =
+    let after = known_after_event k d in
+    ap (λ l. discovery_answer k d ++ l) (answers_more after es e)
+    ∙ sym (append_assoc (discovery_answer k d) (discovery_answers after es) (discovery_answer (known_after_events after es) e))
+
+pub readers_stay_all : (k : Known) (es : List Happening) → (known_after_events k es).readers ≡ k.readers
+readers_stay_all k [] = refl
+readers_stay_all k (e ∷ es) = readers_stay_all (known_after_event k e) es ∙ readers_stay k e
+
+-- ---- steps
+
+-- there are no steps where nothing is seen of them, whatever events there are besides
+no_steps : {A : Type 0} (all : List Happening) (i : ℕ) (e : Happening) → i < length all → get_or all i e ≡ e → (steps : List (PlannedStep A))
+    → ((es : List Happening) → slice_get es i ≡ Some e → steps_seen es steps ≡ []) → steps ≡ []
+no_steps all i e below is [] none = refl
+no_steps all i e below is (s ∷ ss) none =
+    let more : List Happening = replicate (s.event + 1) e in
+    let es : List Happening = all ++ more in
+    let long : s.event < length es = omega (arith, length-append all more, length-replicate (s.event + 1) e) in
+    let fits : i < length es = omega (arith, length-append all more, below) in
+    let at : slice_get es i ≡ Some e = slice_get-get_or es i e fits ∙ ap Some (get_or_append_left all more e i below ∙ is) in
+    let seen = step_at es (get_or es s.event e) s (slice_get-get_or es s.event e long) in
+    absurd (omega (arith, ap length (ap (λ l. l ++ steps_seen es ss) (sym seen) ∙ none es at)))
+
+front_nil : {X : Type 0} (xs ys : List X) → xs ++ ys ≡ [] → xs ≡ []
+front_nil xs ys e = nil_from_length xs (omega (arith, length-append xs ys, ap length e))
+
+back_nil : {X : Type 0} (xs ys : List X) → xs ++ ys ≡ [] → ys ≡ []
+back_nil xs ys e = nil_from_length ys (omega (arith, length-append xs ys, ap length e))
+
+-- one event more is planned
+pub planned_more : {A : Type 0} (k : Known) (all es : List Happening) (i : ℕ) (e : Happening) (old new : Planning A) (before kept : Kept)
+    → i < length all → get_or all i e ≡ e → AreAllPlanned k all es old before
+    → ((hs : List Happening) → slice_get hs i ≡ Some e → IsPlanned hs (known_after_events k es) e old new kept) → AreAllPlanned k all (es ++ e ∷ []) new kept
+planned_more {A} k all es i e old new before kept below is was planned =
+    let k' : Known = known_after_events k es in
+    let asked : ℕ → Job = λ rank. map (λ what. (e.place, what)) (doings k' rank e) in
+    let at : slice_get all i ≡ Some e = slice_get-get_or all i e below ∙ ap Some is in
+    let count : length old.lists.items ≡ length k'.readers = was.count ∙ ap length (sym (readers_stay_all k es)) in
+    let grows : (hs : List Happening) → slice_get hs i ≡ Some e → Grow hs old.lists.items new.lists.items asked = λ hs h. (planned hs h).steps count in
+    let fewer : (rank : ℕ) → rank < length new.lists.items → rank < length old.lists.items = λ rank less. subst (λ n. rank < n) (grows all at).count less in
+    record {
+      known = subst (λ w. IsKnown w kept) (sym (known_more k es e)) (planned all at).known;
+      count = (grows all at).count ∙ was.count;
+      steps = record {
+        steps = λ rank other less.
+            (grows all at).steps rank other (fewer rank less)
+            ∙ ap (λ l. l ++ asked rank) (was.steps.steps rank other (fewer rank less))
+            ∙ sym (job_more rank k es e);
+        none = λ rank other less none.
+            let both : job_of rank k es ++ asked rank ≡ [] = sym (job_more rank k es e) ∙ none in
+            no_steps all i e below is (get_or new.lists.items rank other).items
+            (λ hs h. (grows hs h).steps rank other (fewer rank less)
+            ∙ ap (λ l. steps_seen hs l ++ asked rank) (was.steps.none rank other (fewer rank less) (front_nil (job_of rank k es) (asked rank) both))
+            ∙ back_nil (job_of rank k es) (asked rank) both);
+      };
+      answers = (planned all at).answers
+          ∙ ap (λ l. l ++ map discovery_sending (discovery_answer k' e)) was.answers
+          ∙ sym (map-append discovery_sending (discovery_answers k es) (discovery_answer k' e))
+          ∙ ap (map discovery_sending) (sym (answers_more k es e));
+    }
+
+-- ---- the jobs of the readers that have steps
+
+-- a list whose length isn't zero has an item
+pub some_left : {X : Type 0} (xs : List X) → (length xs == 0) ≡ false → 0 < length xs
+some_left [] e = absurd (true≢false e)
+some_left (x ∷ xs) e = omega arith
+
+-- the list after those that were taken is that of the next rank
+module _ {A : Type 0} (es : List Happening) (lists : List (Vec (PlannedStep A) A)) (asked : ℕ → Job) (done : List (ℕ × Vec (PlannedStep A) A)) (v : Vec (PlannedStep A) A) (rest : List (Vec (PlannedStep A) A))
+    (steps : AreSteps es lists asked) (left : lists ≡ map (λ s. s.1) done ++ v ∷ rest) where
+  abbrev done_lists : List (Vec (PlannedStep A) A)
+  done_lists = map (λ s. s.1) done
+
+  is_next : get_or lists (length done) v ≡ v
+  is_next = ap (λ l. get_or l (length done) v) left ∙ ap (λ n. get_or (done_lists ++ v ∷ rest) n v) (sym (length-map done (λ s. s.1))) ∙ get_or-append_seam done_lists v rest v
+
+  is_there : length done < length lists
+  is_there =
+      let whole : length lists ≡ length done + suc (length rest) = ap length left ∙ length-append done_lists (v ∷ rest) ∙ ap (λ n. n + suc (length rest)) (length-map done (λ s. s.1)) in
+      omega (arith, whole)
+
+  next_steps : steps_seen es v.items ≡ asked (length done)
+  next_steps = ap (λ (w : Vec (PlannedStep A) A). steps_seen es w.items) (sym is_next) ∙ steps.steps (length done) v is_there
+
+  next_none : asked (length done) ≡ [] → v.items ≡ []
+  next_none none = ap (λ (w : Vec (PlannedStep A) A). w.items) (sym is_next) ∙ steps.none (length done) v is_there none
+
+  one_job : (job : Job) → (job ≡ [] → v.items ≡ []) → 0 < length v.items → job_at (length done) job ≡ (length done, job) ∷ []
+  one_job [] none some = absurd (omega (arith, some, ap length (none refl)))
+  one_job (s ∷ ss) none some = refl
+
+  -- a job more, and none
+  pub job_pushed : (jobs new : List (plan_job.Job A)) (job : plan_job.Job A) (p : ℕ × Vec (PlannedStep A) A) → new ≡ jobs ++ job ∷ [] → job.rank ≡ length done → job.steps ≡ v → 0 < length v.items
+      → map (job_seen es) jobs ≡ jobs_by asked (length done) → map (job_seen es) new ≡ jobs_by asked (length (done ++ p ∷ []))
+  job_pushed jobs new job p pushed ranked same some first =
+      let next : length (done ++ p ∷ []) ≡ suc (length done) = omega (arith, length-append done (p ∷ [])) in
+      ap (map (job_seen es)) pushed
+      ∙ map_push (job_seen es) jobs job
+      ∙ ap (λ l. l ++ job_seen es job ∷ []) first
+      ∙ ap (λ n. jobs_by asked (length done) ++ (n, steps_seen es job.steps.items) ∷ []) ranked
+      ∙ ap (λ (w : Vec (PlannedStep A) A). jobs_by asked (length done) ++ (length done, steps_seen es w.items) ∷ []) same
+      ∙ ap (λ l. jobs_by asked (length done) ++ (length done, l) ∷ []) next_steps
+      ∙ ap (λ l. jobs_by asked (length done) ++ l) (sym (one_job (asked (length done)) next_none some))
+      ∙ ap (jobs_by asked) (sym next)
+
+  pub no_job_pushed : (jobs : List (plan_job.Job A)) (p : ℕ × Vec (PlannedStep A) A) → v.items ≡ []
+      → map (job_seen es) jobs ≡ jobs_by asked (length done) → map (job_seen es) jobs ≡ jobs_by asked (length (done ++ p ∷ []))
+  no_job_pushed jobs p none first =
+      let next : length (done ++ p ∷ []) ≡ suc (length done) = omega (arith, length-append done (p ∷ [])) in
+      let nothing : asked (length done) ≡ [] = sym next_steps ∙ ap (steps_seen es) none in
+      first
+      ∙ sym (append-nil (jobs_by asked (length done)))
+      ∙ ap (λ l. jobs_by asked (length done) ++ l) (sym (ap (job_at (length done)) nothing))
+      ∙ ap (jobs_by asked) (sym next)

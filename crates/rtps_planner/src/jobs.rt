@@ -1,0 +1,31 @@
+//! What a plan consists of.
+
+use crate::steps::PlannedStep;
+use rtps_serial::Answer;
+use std::alloc::{Allocator, Global};
+
+/// What one reader has to do in a batch.
+#[derive(Debug, Drop)]
+pub struct Job<A: Allocator = Global> {
+    /// The rank of the reader.
+    pub rank: u32,
+    /// At least one, in the order of the events.
+    pub steps: Vec<PlannedStep<A>, A>,
+}
+
+/// What is left of a batch beside the jobs.
+#[derive(Debug, Drop)]
+pub struct Rest<A: Allocator = Global> {
+    /// How many readers there are, those without a job too.
+    pub readers: usize,
+    /// What discovery answers, by place.
+    pub answers: Vec<Answer<A>, A>,
+}
+
+/// The jobs of a batch, and the rest of it.
+#[derive(Debug, Drop)]
+pub struct Plan<A: Allocator = Global> {
+    /// By rising rank, one for each reader that has something to do.
+    pub jobs: Vec<Job<A>, A>,
+    pub rest: Rest<A>,
+}

@@ -1,0 +1,174 @@
+//! The steps of readers at one event.
+
+ghost use Rattle.std.specs.Prelude.{◌≡◌, ℕ, ◌<◌, ◌==◌, ◌++◌, [], ◌∷◌, List, OnOk, IfOk, if◌then◌else◌, length, map, slice_index_or, Some, true};
+ghost use Rattle.std.specs.List.{slice_get};
+ghost use Rattle.std.specs.Option.{option_map};
+ghost use Rattle.rtps_discovery.specs.Addressed as addressed;
+ghost use Rattle.rtps_discovery.specs.Kept.{IsKnown};
+ghost use Rattle.rtps_discovery.specs.Known.{Known, reader_at};
+ghost use Rattle.rtps_discovery.specs.Seen.{change_seen};
+ghost use Rattle.rtps_receiver.specs.Events.{Happening, view};
+ghost use Rattle.rtps_proxy.specs.Replies.{reply_view};
+ghost use Rattle.rtps_reader.specs.Reader.{placed};
+ghost use Rattle.rtps_serial.specs.Outcome.{answer_view};
+ghost use Rattle.rtps_serial.specs.World.{changes_for};
+ghost use Rattle.rtps_planner.specs.Plan.{Grow, IsPlanned, discovery_sending, is_named, step_seen, taken_at};
+
+use rtps_discovery::{Becomes, Discovery, MatchChange, Reader, is_discovery, is_for};
+use rtps_receiver::Event;
+use rtps_serial::{Answer, push_by};
+use rtps_types::{EntityId, Guid, Place, Reply};
+use std::alloc::{AllocError, Allocator, Global};
+
+/// One step of a job.
+#[derive(Debug, Drop)]
+pub struct PlannedStep<A: Allocator = Global> {
+    /// The index, in the batch's list of events, of the event that asks it.
+    pub event: usize,
+    /// What becomes of a match, where the event announces that. Where there is none the reader
+    /// takes the event in.
+    pub change: Option<Box<Becomes<A>, A>>,
+}
+
+/// Puts a step after those of the reader of a rank; there is none for a rank past the last.
+pub(crate) fn add_step<A: Allocator>(
+    lists: &mut Vec<Vec<PlannedStep<A>, A>, A>,
+    rank: u32,
+    step: PlannedStep<A>,
+) -> Result<(), AllocError>
+    ensures { (es : List Happening) → OnOk result (Grow es lists.old.items lists.new.items
+        (λ at. if rank == at then step_seen es step else [])) }
+{
+    push_by(lists, rank, step)
+}
+
+/// Puts what becomes of matches after the steps of the readers that hear of it.
+pub(crate) fn add_changes<A: Allocator + Copy>(
+    lists: &mut Vec<Vec<PlannedStep<A>, A>, A>,
+    alloc: A,
+    event: usize,
+    changes: Vec<MatchChange<A>, A>,
+) -> Result<(), AllocError>
+    ensures { (es : List Happening) (e : Happening) → slice_get es event ≡ Some e
+        → OnOk result (Grow es lists.old.items lists.new.items (λ rank.
+        map (λ what. (e.place, what)) (changes_for rank (map change_seen changes.items)))) }
+{
+    for change in changes {
+        let step = PlannedStep {
+            event,
+            change: Some(Box::new(alloc, change.what)?),
+        };
+        add_step(lists, change.rank, step)?;
+    }
+    Ok(())
+}
+
+/// Whether there is a reader of the rank, and a reader id is for it.
+fn is_named<A: Allocator>(readers: &[Option<Reader<A>>], rank: u32, reader: EntityId) -> bool
+    ensures { result ≡ is_named reader (reader_at readers.now rank) }
+{
+    match readers.get(rank as usize) {
+        Some(Some(wish)) => is_for(reader, wish.entity()),
+        Some(None) => false,
+        None => false,
+    }
+}
+
+/// Puts an event after the steps of the readers of these ranks, where its reader id names them.
+pub(crate) fn add_event<A: Allocator>(
+    lists: &mut Vec<Vec<PlannedStep<A>, A>, A>,
+    readers: &[Option<Reader<A>>],
+    ranks: &[u32],
+    event: usize,
+    reader: EntityId,
+) -> Result<(), AllocError>
+    ensures { (es : List Happening) (e : Happening) → slice_get es event ≡ Some e
+        → e.reader ≡ reader → OnOk result (Grow es lists.old.items lists.new.items
+        (taken_at e readers.now ranks.now)) }
+{
+    for rank in ranks {
+        if is_named(readers, *rank, reader) {
+            let step = PlannedStep {
+                event,
+                change: None,
+            };
+            add_step(lists, *rank, step)?;
+        }
+    }
+    Ok(())
+}
+
+/// The steps of each reader so far, by its rank, and what discovery answers.
+#[derive(Drop)]
+pub(crate) struct Planning<A: Allocator> {
+    pub lists: Vec<Vec<PlannedStep<A>, A>, A>,
+    pub answers: Vec<Answer<A>, A>,
+}
+
+/// Puts discovery's answer to the event at this place after the others.
+fn add_answer<A: Allocator>(
+    answers: &mut Vec<Answer<A>, A>,
+    place: Place,
+    answer: Option<Reply<A>>,
+) -> Result<(), AllocError>
+    ensures { OnOk result (map answer_view answers.new.items
+        ≡ map answer_view answers.old.items
+        ++ map discovery_sending (placed place (option_map reply_view answer))) }
+{
+    if let Some(reply) = answer {
+        let answer = Answer {
+            place,
+            rank: None,
+            to: reply.to,
+            octets: reply.octets,
+        };
+        answers.push(answer)?;
+    }
+    Ok(())
+}
+
+/// Gives an announcement to discovery, and each change that it brings to the reader that hears of
+/// it.
+fn plan_announcement<A: Allocator + Copy>(
+    discovery: &mut Discovery<A>,
+    planning: &mut Planning<A>,
+    alloc: A,
+    index: usize,
+    event: &Event<'_>,
+) -> Result<(), AllocError>
+    ensures { (k : Known) (es : List Happening) → IsKnown k discovery.old.kept
+        → slice_get es index ≡ Some (view event.now)
+        → addressed.is_discovery event.now.writer ≡ true
+        → OnOk result (IsPlanned es k (view event.now) planning.old planning.new
+        discovery.new.kept) }
+{
+    let effects = discovery.step(alloc, event)?;
+    add_answer(&mut planning.answers, event.place, effects.answer)?;
+    add_changes(&mut planning.lists, alloc, index, effects.changes)
+}
+
+/// Takes one event into the plan. An announcer's event is discovery's; any other event is for the
+/// readers that are matched with its writer, where it names them.
+pub(crate) fn plan_event<A: Allocator + Copy>(
+    discovery: &mut Discovery<A>,
+    planning: &mut Planning<A>,
+    alloc: A,
+    index: usize,
+    event: &Event<'_>,
+) -> Result<(), AllocError>
+    ensures { (k : Known) (es : List Happening) → IsKnown k discovery.old.kept
+        → slice_get es index ≡ Some (view event.now)
+        → OnOk result (IsPlanned es k (view event.now) planning.old planning.new
+        discovery.new.kept) }
+{
+    if is_discovery(event.writer) {
+        return plan_announcement(discovery, planning, alloc, index, event);
+    }
+    let writer = Guid {
+        prefix: event.source,
+        entity: event.writer,
+    };
+    let readers = discovery.readers();
+    let ranks = discovery.matched(writer);
+    add_event(&mut planning.lists, readers, ranks, index, event.reader)
+}
