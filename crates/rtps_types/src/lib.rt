@@ -10,6 +10,7 @@ pub mod laws;
 mod locator;
 mod number;
 mod octets;
+mod order;
 mod place;
 mod set;
 #[cfg(test)]
