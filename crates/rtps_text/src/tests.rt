@@ -3,6 +3,7 @@
 mod answers;
 mod fragments;
 mod lines;
+mod matches;
 mod runs;
 
 use crate::{dump, dump_in};

@@ -1,6 +1,6 @@
 //! Runs of reliable readers over a record file that was written down by hand.
 
-use super::runs::refuses_and_prints;
+use super::runs::{Given, refuses_and_prints};
 use dds_qos::Reliability;
 use std::test::Fail;
 
@@ -24,6 +24,7 @@ const LINES: [&str; 4] = [
 
 #[test]
 fn prints_a_front_where_a_growth_for_an_answer_is_refused(rt: HostRuntime) -> Result<(), Fail> {
-    assert!(rt; refuses_and_prints(rt.alloc(), Reliability::Reliable, &FILE, &LINES)?);
+    let given = Given::Fixed(Reliability::Reliable);
+    assert!(rt; refuses_and_prints(rt.alloc(), given, &FILE, &LINES)?);
     Ok(())
 }

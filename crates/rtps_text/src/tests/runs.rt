@@ -47,8 +47,29 @@ const LINES: [&str; 7] = [
     "1:1 reader 1 sample 0a0a0a0a0a0a0a0a0a0a0a0a00000102 4 - value 424c5545 10 20 30",
 ];
 
-/// Two readers that ask for this and are matched with the writer from the start.
-fn config_of(alloc: Global, reliability: Reliability) -> Result<Config, Fail>
+/// The readers of a run.
+#[derive(Clone, Copy)]
+pub(super) enum Given {
+    /// Two that ask for this and are matched with the writer from the start.
+    Fixed(Reliability),
+    /// A reliable one that is matched with nobody.
+    Unmatched,
+}
+
+/// A reader of squares, by its rank.
+fn reader_config(alloc: Global, reliability: Reliability, rank: u8) -> Result<ReaderConfig, Fail> {
+    let mut requested = Requested::new(alloc);
+    requested.policies.reliability = reliability;
+    Ok(ReaderConfig {
+        entity: EntityId([0, 0, rank.wrapping_add(1), 7]),
+        topic: String::from_str(alloc, "Square")?,
+        type_name: String::from_str(alloc, "ShapeType")?,
+        requested,
+    })
+}
+
+/// A configuration of these readers.
+fn config_of(alloc: Global, given: Given) -> Result<Config, Fail>
     ensures { IfOk result (λ config. check_of config ≡ Ok tt) }
 {
     let mut config = Config {
@@ -56,20 +77,24 @@ fn config_of(alloc: Global, reliability: Reliability) -> Result<Config, Fail>
         readers: Vec::new(alloc),
         fixed: Vec::new(alloc),
     };
-    for rank in 0..2u8 {
-        let mut requested = Requested::new(alloc);
-        requested.policies.reliability = reliability;
-        config.readers.push(ReaderConfig {
-            entity: EntityId([0, 0, rank + 1, 7]),
-            topic: String::from_str(alloc, "Square")?,
-            type_name: String::from_str(alloc, "ShapeType")?,
-            requested,
-        })?;
-        config.fixed.push(FixedMatch {
-            rank: u32::from(rank),
-            writer: WRITER,
-            locators: Locators::new(Vec::new(alloc)),
-        })?;
+    match given {
+        Given::Fixed(reliability) => {
+            for rank in 0..2u8 {
+                config
+                    .readers
+                    .push(reader_config(alloc, reliability, rank)?)?;
+                config.fixed.push(FixedMatch {
+                    rank: u32::from(rank),
+                    writer: WRITER,
+                    locators: Locators::new(Vec::new(alloc)),
+                })?;
+            }
+        }
+        Given::Unmatched => {
+            config
+                .readers
+                .push(reader_config(alloc, Reliability::Reliable, 0)?)?;
+        }
     }
     match check(&config) {
         Ok(()) => Ok(config),
@@ -88,15 +113,10 @@ fn setup(config: Config) -> Setup<Shapes>
     }
 }
 
-/// Whether two readers of this reliability print this text of octets after which a read fails.
-fn prints_before(
-    alloc: Global,
-    reliability: Reliability,
-    octets: &[u8],
-    text: &str,
-) -> Result<bool, Fail> {
+/// Whether these readers print this text of octets after which a read fails.
+fn prints_before(alloc: Global, given: Given, octets: &[u8], text: &str) -> Result<bool, Fail> {
     let mut out = Vec::new(alloc);
-    let setup = setup(config_of(alloc, reliability)?);
+    let setup = setup(config_of(alloc, given)?);
     let outcome = replay(alloc, setup, &mut Failing(octets), &mut out);
     Ok(outcome == Err(RunFault::CannotRead) && out.as_slice() == text.as_bytes())
 }
@@ -109,25 +129,30 @@ fn prints_the_records_before_a_fault(rt: HostRuntime) -> Result<(), Fail> {
     for read in [FIRST, FIRST + 2, FIRST + 50] {
         let front = file.as_slice().get(..read).unwrap_or(&[]);
         assert!(rt;
-            prints_before(alloc, Reliability::BestEffort, front, first.as_str())?,
+            prints_before(
+                alloc,
+                Given::Fixed(Reliability::BestEffort),
+                front,
+                first.as_str()
+            )?,
             "at {read}"
         );
     }
     Ok(())
 }
 
-/// Runs two readers of this reliability over a file with this much memory, and gives whether all of
-/// the text was printed; else a growth was refused, and a front of it was printed.
+/// Runs these readers over a file with this much memory, and gives whether all of the text was
+/// printed; else a growth was refused, and a front of it was printed.
 fn prints_all(
     alloc: Global,
     memory: usize,
-    reliability: Reliability,
+    given: Given,
     file: &[u8],
     text: &str,
 ) -> Result<bool, Fail> {
     let heap = LocalHeap::new(alloc, memory)?;
     let mut out = Vec::new(alloc);
-    let setup = setup(config_of(alloc, reliability)?);
+    let setup = setup(config_of(alloc, given)?);
     let mut reader = file;
     match replay_in(&heap, alloc, setup, &mut reader, &mut out) {
         Ok(()) if out.as_slice() == text.as_bytes() => Ok(true),
@@ -136,11 +161,10 @@ fn prints_all(
     }
 }
 
-/// Whether two readers of this reliability are refused a growth with the least memory, and print all
-/// with the most.
+/// Whether these readers are refused a growth with the least memory, and print all with the most.
 pub(super) fn refuses_and_prints(
     alloc: Global,
-    reliability: Reliability,
+    given: Given,
     parts: &[&str],
     lines: &[&str],
 ) -> Result<bool, Fail> {
@@ -149,19 +173,14 @@ pub(super) fn refuses_and_prints(
     let mut printed = [true, false];
     for step in 0..80 {
         let memory = 65_400 + step * 256;
-        printed[usize::from(step > 0)] = prints_all(
-            alloc,
-            memory,
-            reliability,
-            &file,
-            text.as_str(),
-        )?;
+        printed[usize::from(step > 0)] = prints_all(alloc, memory, given, &file, text.as_str())?;
     }
     Ok(printed == [false, true])
 }
 
 #[test]
 fn prints_a_front_of_a_run_where_a_growth_is_refused(rt: HostRuntime) -> Result<(), Fail> {
-    assert!(rt; refuses_and_prints(rt.alloc(), Reliability::BestEffort, &FILE, &LINES)?);
+    let given = Given::Fixed(Reliability::BestEffort);
+    assert!(rt; refuses_and_prints(rt.alloc(), given, &FILE, &LINES)?);
     Ok(())
 }
