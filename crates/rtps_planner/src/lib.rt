@@ -4,9 +4,13 @@
 
 mod jobs;
 pub mod laws;
+mod outputs;
 mod planner;
 mod steps;
+#[cfg(test)]
+mod tests;
 
 pub use jobs::{Job, Plan, Rest};
+pub use outputs::{GatherFault, gather};
 pub use planner::plan;
 pub use steps::PlannedStep;

@@ -1,6 +1,6 @@
 //! What each reader has to do in a batch.
 
-ghost use Rattle.std.specs.Prelude.{◌≡◌, ℕ, IfOk, List, length, map};
+ghost use Rattle.std.specs.Prelude.{◌≡◌, ◌≤◌, ℕ, IfOk, List, length, map};
 ghost use Rattle.rtps_discovery.specs.Kept.{IsKnown};
 ghost use Rattle.rtps_discovery.specs.Known.{Known};
 ghost use Rattle.rtps_receiver.specs.Events.{Happening, view};
@@ -19,7 +19,8 @@ fn plan_events<A: Allocator + Copy>(
     events: &[Event<'_>],
     discovery: &mut Discovery<A>,
 ) -> Result<Planning<A>, AllocError>
-    ensures { (k : Known) → IsKnown k discovery.old.kept → IfOk result (λ planning.
+    ensures few { IfOk result (λ planning. length planning.lists.items ≤ 256) }
+    ensures planned { (k : Known) → IsKnown k discovery.old.kept → IfOk result (λ planning.
         AreAllPlanned k (map view events.now) (map view events.now) planning
         discovery.new.kept) }
 {
@@ -38,20 +39,29 @@ fn jobs_of<A: Allocator + Copy>(
     alloc: A,
     lists: Vec<Vec<PlannedStep<A>, A>, A>,
 ) -> Result<Vec<Job<A>, A>, AllocError>
+    requires { length lists.items ≤ 256 }
     ensures { (es : List Happening) (asked : ℕ → _) → AreSteps es lists.items asked
         → IfOk result (λ jobs. map (job_seen es) jobs.items ≡ jobs_by asked (length lists.items)) }
 {
     let mut jobs = Vec::new(alloc);
     for (rank, steps) in lists.into_iter().enumerate() {
-        // Ranks have 32 bits.
-        let Ok(rank) = u32::try_from(rank) else {
-            return Err(AllocError);
-        };
         if !steps.is_empty() {
+            let rank = rank as u32;
             jobs.push(Job { rank, steps })?;
         }
     }
     Ok(jobs)
+}
+
+/// The ranks of jobs.
+fn ranks_of<A: Allocator + Copy>(alloc: A, jobs: &[Job<A>]) -> Result<Vec<u32, A>, AllocError>
+    ensures { IfOk result (λ ranks. ranks.items ≡ map (λ job. job.rank) jobs.now) }
+{
+    let mut ranks = Vec::new(alloc);
+    for job in jobs {
+        ranks.push(job.rank)?;
+    }
+    Ok(ranks)
 }
 
 /// What each reader has to do at the events of a batch, and what discovery answers to them.
@@ -68,12 +78,11 @@ pub fn plan<A: Allocator + Copy>(
 {
     let planning = plan_events(alloc, events, discovery)?;
     let readers = planning.lists.len();
+    let jobs = jobs_of(alloc, planning.lists)?;
     let rest = Rest {
         readers,
+        ranks: ranks_of(alloc, &jobs)?,
         answers: planning.answers,
     };
-    Ok(Plan {
-        jobs: jobs_of(alloc, planning.lists)?,
-        rest,
-    })
+    Ok(Plan { jobs, rest })
 }

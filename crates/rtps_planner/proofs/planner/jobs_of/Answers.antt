@@ -12,13 +12,12 @@ loop-rank-preserved-in-Continue-1 g c =
     let taken : c.loop-rank.rank-iterator.iter.rest.items ≡ steps ∷ rest = search rules in
     let ranked : c.in-Some.rank ≡ c.loop-rank.rank-iterator.count = search rules in
     let counted : c.next.new.self.count ≡ c.loop-rank.rank-iterator.count + 1 = search rules in
-    let fits : c.in-Ok.rank ≡ c.in-Some.rank = search rules in
     let length_is : steps.len ≡ length steps.items = search rules in
     let some : 0 < length steps.items = some_left steps.items (ap (λ n. n == 0) (sym length_is) ∙ sym c.is_empty.ensures ∙ c.if-not-is_empty.true) in
     let left : c.args.lists.items ≡ map (λ s. s.1) done ++ steps ∷ rest = c.loop-rank.invariant.left ∙ ap (λ l. map (λ s. s.1) done ++ l) taken in
     record {
-      jobs = λ es asked are. job_pushed es c.args.lists.items asked done steps rest are left c.loop-rank.jobs.items c.push.new.self.items (record { rank = c.in-Ok.rank; steps = steps }) (c.in-Some.rank, steps)
-          c.in_ok-push.ensures.items (fits ∙ ranked ∙ c.loop-rank.invariant.count) refl some (c.loop-rank.invariant.jobs es asked are);
+      jobs = λ es asked are. job_pushed es c.args.lists.items asked done steps rest are left c.loop-rank.jobs.items c.push.new.self.items (record { rank = c.in-Some.rank; steps = steps }) (c.in-Some.rank, steps)
+          c.in_ok-push.ensures.items (ranked ∙ c.loop-rank.invariant.count) refl some (c.loop-rank.invariant.jobs es asked are);
       left = left ∙ sym (ap (λ l. l ++ rest) (map_push (λ s. s.1) done (c.in-Some.rank, steps)) ∙ append_assoc (map (λ s. s.1) done) (steps ∷ []) rest);
       count = counted ∙ ap (λ n. n + 1) c.loop-rank.invariant.count ∙ sym (length-append done ((c.in-Some.rank, steps) ∷ []));
     }
