@@ -8,6 +8,7 @@ use rtps_receiver::Event;
 use std::alloc::Global;
 
 /// What all workers of a batch look at.
+#[derive(Drop)]
 pub struct Batch<'a, C, G> {
     pub catalog: &'a C,
     /// Told as each job begins and ends.

@@ -6,6 +6,8 @@ mod gate;
 mod jobs;
 mod piles;
 mod steps;
+#[cfg(test)]
+mod tests;
 mod workers;
 
 pub use gate::{Gate, NoGate};
