@@ -3,3 +3,7 @@ mod Cuts
 mod Merged
 mod Planned
 mod Whole
+mod Judged
+mod Gathered
+mod Adding
+mod Gathering

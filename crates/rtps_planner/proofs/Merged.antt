@@ -31,20 +31,20 @@ use Rattle.rtps_planner.proofs.Alone.{sent_front, sent_run, told_front}
 
 -- ---- what is at one place of a list
 
-same_self : (p : Place) → same_place p p ≡ true
+pub same_self : (p : Place) → same_place p p ≡ true
 same_self p = grind (arith, nat_tests)
 
-not_earlier : (a b : Place) → not_after b a ≡ false → same_place a b ≡ false
+pub not_earlier : (a b : Place) → not_after b a ≡ false → same_place a b ≡ false
 not_earlier a b h = let g : not_after b a ≡ false = h in grind (arith, nat_tests, g)
 
-not_later : (a b : Place) → not_after b a ≡ false → same_place b a ≡ false
+pub not_later : (a b : Place) → not_after b a ≡ false → same_place b a ≡ false
 not_later a b h = let g : not_after b a ≡ false = h in grind (arith, nat_tests, g)
 
 module _ {X : Type 0} (place : X → Place) where
   abbrev at : Place → List X → List X
   at p xs = filter (λ x. same_place (place x) p) xs
 
-  abbrev AreAt : Place → List X → Type 0
+  abbrev pub AreAt : Place → List X → Type 0
   AreAt p xs = AllByRecursion (λ x. place x ≡ p) xs
 
   abbrev AreAfter : Place → List X → Type 0
@@ -79,7 +79,7 @@ module _ {X : Type 0} (place : X → Place) where
 abbrev notice_place : {M : Type 0} → Notice M → Place
 notice_place n = n.place
 
-abbrev sent_place : Place × Sent → Place
+abbrev pub sent_place : Place × Sent → Place
 sent_place s = s.0
 
 -- ---- what an event brings is at its place
@@ -88,11 +88,11 @@ told_here : {M : Type 0} (decoding : Decoding M) (place : Place) (r : Reader) (d
 told_here decoding place r [] = tt
 told_here decoding place r (d ∷ ds) = all_append (λ n. n.place ≡ place) (tells decoding r place d) (told_run decoding place (reader_after r d) ds) (tells_at decoding r place d) (told_here decoding place (reader_after r d) ds)
 
-sent_here : (place : Place) (r : Reader) (ds : List Doing) → AreAt sent_place place (sent_run place r ds)
+pub sent_here : (place : Place) (r : Reader) (ds : List Doing) → AreAt sent_place place (sent_run place r ds)
 sent_here place r [] = tt
 sent_here place r (d ∷ ds) = all_append (λ (s : Place × Sent). s.0 ≡ place) (sends r place d) (sent_run place (reader_after r d) ds) (sends_at r place d) (sent_here place (reader_after r d) ds)
 
-answer_here : (k : Known) (e : Happening) → AreAt sent_place e.place (discovery_answer k e)
+pub answer_here : (k : Known) (e : Happening) → AreAt sent_place e.place (discovery_answer k e)
 answer_here k e = by_test (is_discovery e.writer)
   where
     by_answer : (o : Option Sent) → AreAt sent_place e.place (placed e.place o)

@@ -109,5 +109,6 @@ pub record IsPlan {A : Type 0} (k : Known) (es : List Happening) (plan : Plan A)
   pub jobs : map (job_seen es) plan.jobs.items
       ≡ jobs_by (λ rank. job_of rank k es) (length k.readers)
   pub readers : plan.rest.readers ≡ length k.readers
+  pub ranks : plan.rest.ranks.items ≡ map (λ job. job.rank) plan.jobs.items
   pub answers : map answer_view plan.rest.answers.items
       ≡ map discovery_sending (discovery_answers k es)

@@ -1,5 +1,7 @@
 //! What a plan consists of.
 
+ghost use Rattle.std.specs.Prelude.{◌^◌, ◌≤◌};
+
 use crate::steps::PlannedStep;
 use rtps_serial::Answer;
 use std::alloc::{Allocator, Global};
@@ -18,8 +20,12 @@ pub struct Job<A: Allocator = Global> {
 pub struct Rest<A: Allocator = Global> {
     /// How many readers there are, those without a job too.
     pub readers: usize,
+    /// The ranks of the readers that have a job, rising.
+    pub ranks: Vec<u32, A>,
     /// What discovery answers, by place.
     pub answers: Vec<Answer<A>, A>,
+    /// Ranks have 32 bits.
+    ghost ranked: { readers ≤ 2 ^ 32 },
 }
 
 /// The jobs of a batch, and the rest of it.

@@ -1,13 +1,23 @@
 //! Laws of the definitions. Each is a function that does nothing, whose contract is the law.
 
-ghost use Rattle.std.specs.Prelude.{ℕ, List};
+ghost use Rattle.std.specs.Prelude.{◌≡◌, ℕ, List, None};
+ghost use Rattle.std.specs.List.{All};
 ghost use Rattle.rtps_types.specs.declared.identity.GuidPrefix.{GuidPrefix};
 ghost use Rattle.rtps_receiver.specs.Events.{Happening};
+ghost use Rattle.rtps_discovery.specs.Kept.{Kept};
 ghost use Rattle.dds_topic.specs.Decoding.{Decoding};
-ghost use Rattle.rtps_serial.specs.Run.{events_from};
+ghost use Rattle.rtps_reader.specs.declared.notice.Output.{Output};
+ghost use Rattle.rtps_serial.specs.declared.outcome.Outcome.{Outcome};
+ghost use Rattle.rtps_serial.specs.Outcome.{Adds};
+ghost use Rattle.rtps_serial.specs.Run.{events_from, world_run};
 ghost use Rattle.rtps_serial.specs.World.{World};
 ghost use Rattle.rtps_planner.specs.Commuting.{IsByPlace, IsDiscovered, IsPart};
 ghost use Rattle.rtps_planner.specs.Cut.{EveryCut};
+ghost use Rattle.rtps_planner.specs.declared.jobs.Plan.{Plan};
+ghost use Rattle.rtps_planner.specs.Gather.{IsGathered, IsOutputOf, fault_of, ranks_of};
+ghost use Rattle.rtps_planner.specs.Plan.{IsPlan};
+
+use std::alloc::Allocator;
 
 /// Whatever events come: what comes of each reader, and what it gives out and sends, depends on its
 /// own job alone, which is what discovery asks of it; and discovery depends on no reader.
@@ -28,4 +38,16 @@ pub fn by_place<M>()
 /// Every cut of a list of datagrams into batches gives the run of one thread.
 pub fn every_cut<M>()
     ensures { (decoding : Decoding M) → EveryCut decoding }
+{}
+
+/// Whatever datagrams come in a batch: of outputs that are those of its plan's jobs, an outcome is
+/// gathered that has what the run puts out more.
+pub fn gathered<V, M, A: Allocator>()
+    ensures { (view : V → M) (decoding : Decoding M) (w : World M) (own : GuidPrefix) (index : ℕ)
+        (datagrams : List (List ℕ)) (plan : Plan A) (kept : Kept) (outputs : List (ℕ × Output V A))
+        (outcome : Outcome V A) → IsPlan w.known (events_from own index datagrams) plan kept
+        → fault_of plan.rest.ranks.items (ranks_of outputs) ≡ None
+        → All (IsOutputOf view decoding w (events_from own index datagrams)) outputs
+        → IsGathered plan.rest outputs outcome
+        → Adds view w (world_run decoding w (events_from own index datagrams)) outcome }
 {}

@@ -4,9 +4,11 @@
 
 mod jobs;
 pub mod laws;
+mod outputs;
 mod planner;
 mod steps;
 
 pub use jobs::{Job, Plan, Rest};
+pub use outputs::{GatherFault, gather};
 pub use planner::plan;
 pub use steps::PlannedStep;

@@ -1,6 +1,6 @@
 //! What each reader has to do in a batch.
 
-ghost use Rattle.std.specs.Prelude.{◌≡◌, ℕ, IfOk, List, length, map};
+ghost use Rattle.std.specs.Prelude.{◌≡◌, ◌^◌, ◌≤◌, ℕ, IfOk, List, OnOk, length, map};
 ghost use Rattle.rtps_discovery.specs.Kept.{IsKnown};
 ghost use Rattle.rtps_discovery.specs.Known.{Known};
 ghost use Rattle.rtps_receiver.specs.Events.{Happening, view};
@@ -38,8 +38,9 @@ fn jobs_of<A: Allocator + Copy>(
     alloc: A,
     lists: Vec<Vec<PlannedStep<A>, A>, A>,
 ) -> Result<Vec<Job<A>, A>, AllocError>
-    ensures { (es : List Happening) (asked : ℕ → _) → AreSteps es lists.items asked
+    ensures jobs { (es : List Happening) (asked : ℕ → _) → AreSteps es lists.items asked
         → IfOk result (λ jobs. map (job_seen es) jobs.items ≡ jobs_by asked (length lists.items)) }
+    ensures ranked { OnOk result (length lists.items ≤ 2 ^ 32) }
 {
     let mut jobs = Vec::new(alloc);
     for (rank, steps) in lists.into_iter().enumerate() {
@@ -52,6 +53,17 @@ fn jobs_of<A: Allocator + Copy>(
         }
     }
     Ok(jobs)
+}
+
+/// The ranks of jobs.
+fn ranks_of<A: Allocator + Copy>(alloc: A, jobs: &[Job<A>]) -> Result<Vec<u32, A>, AllocError>
+    ensures { IfOk result (λ ranks. ranks.items ≡ map (λ job. job.rank) jobs.now) }
+{
+    let mut ranks = Vec::new(alloc);
+    for job in jobs {
+        ranks.push(job.rank)?;
+    }
+    Ok(ranks)
 }
 
 /// What each reader has to do at the events of a batch, and what discovery answers to them.
@@ -68,12 +80,11 @@ pub fn plan<A: Allocator + Copy>(
 {
     let planning = plan_events(alloc, events, discovery)?;
     let readers = planning.lists.len();
+    let jobs = jobs_of(alloc, planning.lists)?;
     let rest = Rest {
         readers,
+        ranks: ranks_of(alloc, &jobs)?,
         answers: planning.answers,
     };
-    Ok(Plan {
-        jobs: jobs_of(alloc, planning.lists)?,
-        rest,
-    })
+    Ok(Plan { jobs, rest })
 }

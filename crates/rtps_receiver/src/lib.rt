@@ -13,4 +13,4 @@ mod tests;
 pub use body::{Body, Fragment, Gap, Heartbeat, HeartbeatFrag, Whole};
 pub use datagram::Events;
 pub use event::Event;
-pub use receive::{ReceiverError, events};
+pub use receive::{ReceiverError, add_events, events};

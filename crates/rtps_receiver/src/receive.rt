@@ -1,6 +1,6 @@
 //! From octets to events.
 
-ghost use Rattle.std.specs.Prelude.{◌≡◌, ◌≤◌, length, map, IfOk};
+ghost use Rattle.std.specs.Prelude.{◌≡◌, ◌≤◌, ◌++◌, length, map, IfOk, OnErr, OnOk};
 ghost use Rattle.rtps_receiver.specs.Events.{events_of, view};
 
 use crate::datagram::Events;
@@ -10,6 +10,30 @@ use std::alloc::{AllocError, Allocator};
 
 /// Why the events of a datagram could not be found: the allocator refused a growth.
 pub type ReceiverError = AllocError;
+
+/// Puts the events of one datagram, in order, after those that are there, as [`events`] finds them.
+///
+/// Payloads stay where the datagram lies.
+pub fn add_events<'a, A: Allocator>(
+    events: &mut Vec<Event<'a>, A>,
+    own: GuidPrefix,
+    index: u64,
+    octets: &'a [u8],
+) -> Result<(), ReceiverError>
+    requires { length octets.now ≤ 65507 }
+    ensures added { OnOk result (map view events.new.items
+        ≡ map view events.old.items ++ events_of own index octets.now) }
+    ensures same { OnErr result (events.new.items ≡ events.old.items) }
+{
+    let before = events.len();
+    for event in Events::new(own, index, octets) {
+        if events.push(event).is_err() {
+            events.truncate(before);
+            return Err(AllocError);
+        }
+    }
+    Ok(())
+}
 
 /// The events of one datagram, in order (DDSI-RTPS 8.3.4): its valid submessages of the five kinds
 /// that bring something to readers, where their destination is the participant `own` and they name
@@ -27,8 +51,6 @@ pub fn events<A: Allocator>(
     ensures { IfOk result (λ events. map view events.items ≡ events_of own index octets.now) }
 {
     let mut events = Vec::new(alloc);
-    for event in Events::new(own, index, octets) {
-        events.push(event)?;
-    }
+    add_events(&mut events, own, index, octets)?;
     Ok(events)
 }

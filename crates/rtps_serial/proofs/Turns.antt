@@ -66,7 +66,7 @@ kinds_alike kind.Answer kind.Answer c h = refl
 kinds_total : IsTotalOrder kind_order
 kinds_total = record { antisymm = kinds_flip; trans = kinds_trans; congr = kinds_alike }
 
-places_total : IsTotalOrder place_order
+pub places_total : IsTotalOrder place_order
 places_total = then_total (on_total (λ (p : Place). p.datagram) nat_cmp_total) (on_total (λ (p : Place). p.submessage) nat_cmp_total)
 
 pub turns_total : IsTotalOrder turn_order
@@ -137,7 +137,7 @@ pub same_kind : (a b : Turn) → turn_order a b ≡ Equal → a.kind ≡ b.kind
 same_kind a b h = kinds_same a.kind b.kind (then_second (option_cmp nat_cmp a.rank b.rank) _ (then_second (place_order a.place b.place) _ h))
 
 -- an earlier place comes first
-later_place : (a b : Place) → not_after b a ≡ false → place_order b a ≡ Greater
+pub later_place : (a b : Place) → not_after b a ≡ false → place_order b a ≡ Greater
 later_place a b h = by_test (nat_lt b.datagram a.datagram) (b.datagram == a.datagram) (nat_lt b.submessage a.submessage) (b.submessage == a.submessage) refl refl refl refl
   where
     by_test : (dl de sl se : Bool) → nat_lt b.datagram a.datagram ≡ dl → (b.datagram == a.datagram) ≡ de → nat_lt b.submessage a.submessage ≡ sl → (b.submessage == a.submessage) ≡ se
@@ -151,14 +151,14 @@ later_place a b h = by_test (nat_lt b.datagram a.datagram) (b.datagram == a.data
 later : {M : Type 0} (x y : Put M) (place : Place) → (put_turn x).place ≡ place → not_after (put_turn y).place place ≡ false → before y x ≡ false
 later x y place is h = rw (later_place (put_turn x).place (put_turn y).place (ap (not_after (put_turn y).place) is ∙ h)) refl
 
-level : (a b t : Turn) → a ≡ t → b ≡ t → is_lt (turn_order a b) ≡ false
+pub level : (a b t : Turn) → a ≡ t → b ≡ t → is_lt (turn_order a b) ≡ false
 level a b t e f = rw (e, f) (ap is_lt (tied_itself turns_total t))
 
 rises_level : {M : Type 0} (t : Turn) (xs : List (Put M)) → AllByRecursion (λ p. put_turn p ≡ t) xs → Rises before xs
 rises_level t [] h = tt
 rises_level t (x ∷ xs) h = (all_weaker (λ p. put_turn p ≡ t) (λ y. before y x ≡ false) xs (λ y e. level (put_turn y) (put_turn x) t e h.0) h.1, rises_level t xs h.1)
 
-abbrev turn_at : Place → ℕ → ReportKind → Turn
+abbrev pub turn_at : Place → ℕ → ReportKind → Turn
 turn_at place rank k = record { place = place; rank = Some rank; kind = k }
 
 -- what a reader puts out at an event has the event's place
@@ -296,7 +296,7 @@ higher r k h =
     let same : (k == r) ≡ false = grind (arith, nat_tests) in
     rw (less, same) refl
 
-lower_first : (a b : Turn) (place : Place) (r k : ℕ) → a.place ≡ place → a.rank ≡ Some r → b.place ≡ place → b.rank ≡ Some k → r < k → is_lt (turn_order b a) ≡ false
+pub lower_first : (a b : Turn) (place : Place) (r k : ℕ) → a.place ≡ place → a.rank ≡ Some r → b.place ≡ place → b.rank ≡ Some k → r < k → is_lt (turn_order b a) ≡ false
 lower_first a b place r k ap1 ar bp br less = rw (ap1, ar, bp, br, tied_itself places_total place, higher r k less) refl
 
 below_rises : {M : Type 0} (d : Decoding M) (k : Known) (e : Happening) (readers : ℕ → Reader) (n : ℕ) → Rises (before {M = M}) (puts_below d k e readers n)
@@ -307,7 +307,7 @@ below_rises d k e readers (suc n) =
     (below_rises d k e readers n) (reader_rises d k n (readers n) e)
 
 -- discovery's answer has no rank
-abbrev discovery_turn : Place → Turn
+abbrev pub discovery_turn : Place → Turn
 discovery_turn place = record { place = place; rank = None; kind = kind.Answer }
 
 answer_turn : (M : Type 0) (k : Known) (e : Happening) → AllByRecursion (λ (p : Put M). put_turn p ≡ discovery_turn e.place) (discovery_puts k e)
@@ -322,7 +322,7 @@ answer_turn M k e = by_test (is_discovery e.writer)
     by_test false = tt
 
 -- so it comes before all that readers put out at its place
-discovery_first : (a b : Turn) (place : Place) (r : ℕ) → a ≡ discovery_turn place → b.place ≡ place → b.rank ≡ Some r → is_lt (turn_order b a) ≡ false
+pub discovery_first : (a b : Turn) (place : Place) (r : ℕ) → a ≡ discovery_turn place → b.place ≡ place → b.rank ≡ Some r → is_lt (turn_order b a) ≡ false
 discovery_first a b place r is bp br = rw (is, bp, br, tied_itself places_total place) refl
 
 -- what is put out at an event

@@ -11,7 +11,8 @@ returns g c k known =
     let readers : c.len-readers.result ≡ length c.in_ok-planning.planning.lists.items = search rules in
     record {
       known = planned.known;
-      jobs = c.in_ok-jobs_of.ensures es (λ rank. job_of rank k es) planned.steps ∙ ap (jobs_by (λ rank. job_of rank k es)) planned.count;
+      jobs = c.in_ok-jobs.ensures.jobs es (λ rank. job_of rank k es) planned.steps ∙ ap (jobs_by (λ rank. job_of rank k es)) planned.count;
       readers = readers ∙ planned.count;
+      ranks = c.in_ok-ranks_of.ensures ∙ ap (map (λ job. job.rank)) (search rules);
       answers = planned.answers;
     }

@@ -1,0 +1,143 @@
+-- How the outputs of a batch's jobs are put together (DDSI-RTPS 8.4.10): which outputs are refused, and
+-- what comes of the others.
+use Rattle.std.specs.Prelude.{◌≡◌, ◌⊎◌, ℕ, ◌<◌, ◌==◌, ◌||◌, nat_lt, not, Bool, List, [], ◌∷◌, ◌++◌, length, map, filter, Option, Some, None, Result, Ok, Err, if◌then◌else◌, set, slice_index_or, true, false}
+use Rattle.std.specs.List.{All, AllByRecursion, Contains, list_any}
+use Rattle.std.specs.List.Sorted.{IsSortedByKey, IsStableByKey}
+use Rattle.std.specs.declared.vec.Vec.{Vec}
+use Rattle.rtps_types.specs.declared.place.Place.{Place}
+use Rattle.rtps_receiver.specs.Events.{Happening}
+use Rattle.dds_topic.specs.Decoding.{Decoding}
+use Rattle.rtps_proxy.specs.Replies.{Sent}
+use Rattle.rtps_reader.specs.declared.notice.Notice.{Notice}
+use Rattle.rtps_reader.specs.declared.notice.Output.{Output}
+use Rattle.rtps_reader.specs.Notices as reader
+use Rattle.rtps_serial.specs.declared.outcome.Answer.{Answer}
+use Rattle.rtps_serial.specs.declared.outcome.Outcome.{Outcome}
+use Rattle.rtps_serial.specs.declared.turn.ReportKind.TheVariants as kind
+use Rattle.rtps_serial.specs.declared.turn.Turn.{Turn}
+use Rattle.rtps_serial.specs.Outcome.{answer_view}
+use Rattle.rtps_serial.specs.Presentation.{not_after}
+use Rattle.rtps_serial.specs.Seen.{answers_in}
+use Rattle.rtps_serial.specs.Turn.{turn_order}
+use Rattle.rtps_serial.specs.World.{Sending, World}
+use Rattle.rtps_planner.specs.declared.jobs.Rest.{Rest}
+use Rattle.rtps_planner.specs.declared.outputs.GatherFault.{GatherFault}
+use Rattle.rtps_planner.specs.declared.outputs.GatherFault.TheVariants as fault
+use Rattle.rtps_planner.specs.Commuting.{Parts, merged, same_place}
+use Rattle.rtps_planner.specs.Job.{job_of, job_sent, job_told}
+use Rattle.rtps_planner.specs.Plan.{discovery_sending}
+
+-- ---- which outputs are refused
+
+-- the ranks of outputs
+abbrev pub ranks_of : {V A : Type 0} → List (ℕ × Output V A) → List ℕ
+ranks_of outputs = map (λ o. o.0) outputs
+
+-- how often a rank is among these
+abbrev pub times : ℕ → List ℕ → ℕ
+times rank ranks = length (filter (λ r. r == rank) ranks)
+
+-- a rank is among these
+abbrev pub is_among : List ℕ → ℕ → Bool
+is_among ranks rank = list_any (λ r. r == rank) ranks
+
+-- what is wrong with outputs of the given ranks, where these were planned
+abbrev pub fault_of : List ℕ → List ℕ → Option GatherFault
+fault_of planned given =
+    if list_any (λ rank. times rank given == 0) planned then Some fault.Missing
+    else (if list_any (λ rank. nat_lt 1 (times rank given)) planned then Some fault.Double
+    else (if list_any (λ rank. not (is_among planned rank)) given then Some fault.Stranger
+    else None))
+
+-- an error is what is wrong; where nothing is, it is want of memory
+unfoldable pub IsJudged : {X : Type 0} → Option GatherFault → Result X GatherFault → Type 0
+IsJudged wrong (Ok x) = wrong ≡ None
+IsJudged wrong (Err e) = (wrong ≡ Some e) ⊎ ((wrong ≡ None) × (e ≡ fault.NoMemory))
+
+-- ---- what comes of the others
+
+-- the lists of notices, with those of the outputs in the places of their ranks
+abbrev pub lists_with : {V A : Type 0} → List (Vec (Notice V) A) → List (ℕ × Output V A)
+    → List (Vec (Notice V) A)
+lists_with lists [] = lists
+lists_with lists (o ∷ os) = lists_with (set lists o.0 o.1.notices) os
+
+-- an answer of the reader of a rank
+abbrev pub sending_by : ℕ → Place × Sent → Sending
+sending_by rank s = record { place = s.0; rank = Some rank; to = s.1.to; octets = s.1.octets }
+
+-- the answers of outputs, one output after the other
+abbrev pub sends_of : {V A : Type 0} → List (ℕ × Output V A) → List Sending
+sends_of [] = []
+sends_of (o ∷ os) =
+    map (sending_by o.0) (map reader.answer_view o.1.answers.items) ++ sends_of os
+
+-- when an answer comes
+abbrev pub answer_turn : Sending → Turn
+answer_turn s = record { place = s.place; rank = s.rank; kind = kind.Answer }
+
+abbrev pub turn_of : {A : Type 0} → Answer A → Turn
+turn_of a = answer_turn (answer_view a)
+
+-- answers were put in order: by turn, and what has one turn comes as it did
+pub record AreSorted {A : Type 0} (old new : List (Answer A)) : Type 0 where
+  pub sorted : IsSortedByKey turn_of turn_order new
+  pub stable : IsStableByKey turn_of turn_order old new
+
+-- what the reader of a rank gives out and sends by these outputs
+abbrev pub told_by : {V A : Type 0} → List (ℕ × Output V A) → ℕ → List (Notice V)
+told_by [] rank = []
+told_by (o ∷ os) rank =
+    if o.0 == rank then o.1.notices.items ++ told_by os rank else told_by os rank
+
+abbrev pub sent_by : {V A : Type 0} → List (ℕ × Output V A) → ℕ → List (Place × Sent)
+sent_by [] rank = []
+sent_by (o ∷ os) rank =
+    if o.0 == rank
+    then map reader.answer_view o.1.answers.items ++ sent_by os rank
+    else sent_by os rank
+
+-- the parts of a batch: what discovery answers, and these outputs
+abbrev pub parts_in : {V A : Type 0} → List (Place × Sent) → List (ℕ × Output V A) → Parts V
+parts_in answers outputs = record {
+  answers = answers;
+  told = told_by outputs;
+  sent = sent_by outputs;
+}
+
+-- each place comes after those before it in the list
+abbrev pub AreRising : List Place → Type 0
+AreRising [] = Unit {0}
+AreRising (p ∷ ps) = AllByRecursion (λ q. not_after q p ≡ false) ps × AreRising ps
+
+-- the place of each of these answers is among these places
+abbrev pub StandAmong : List Place → List (Place × Sent) → Type 0
+StandAmong places answers = All (λ s. list_any (same_place s.0) places ≡ true) answers
+
+-- An outcome has the outputs of a batch: the notices of each output stand as they are in the place of
+-- its rank, and a reader without a job has none; and the answers are those of the parts, merged by
+-- whatever places the events of the batch have, which are those of the answers too.
+pub record IsGathered {V A : Type 0} (rest : Rest A) (outputs : List (ℕ × Output V A))
+    (outcome : Outcome V A) : Type 0 where
+  pub readers : length outcome.notices.items ≡ rest.readers
+  pub moved : (rank : ℕ) (output : Output V A) (other : Vec (Notice V) A) → rank < rest.readers
+      → Contains outputs (rank, output)
+      → slice_index_or outcome.notices.items rank other ≡ output.notices
+  pub others : (rank : ℕ) (other : Vec (Notice V) A) → rank < rest.readers
+      → is_among rest.ranks.items rank ≡ false
+      → (slice_index_or outcome.notices.items rank other).items ≡ []
+  pub answers : (answers : List (Place × Sent)) (places : List Place)
+      → map answer_view rest.answers.items ≡ map discovery_sending answers
+      → All (λ rank. rank < rest.readers) rest.ranks.items
+      → AreRising places → StandAmong places answers
+      → ((rank : ℕ) → StandAmong places (sent_by outputs rank))
+      → map answer_view outcome.answers.items
+      ≡ answers_in (merged (parts_in answers outputs) rest.readers places)
+
+-- an output has what comes of its reader's job over these events
+pub record IsOutputOf {V M A : Type 0} (f : V → M) (decoding : Decoding M) (w : World M)
+    (es : List Happening) (o : ℕ × Output V A) : Type 0 where
+  pub told : map (reader.notice_view f) o.1.notices.items
+      ≡ job_told decoding (w.readers o.0) (job_of o.0 w.known es)
+  pub sent : map reader.answer_view o.1.answers.items
+      ≡ job_sent (w.readers o.0) (job_of o.0 w.known es)
