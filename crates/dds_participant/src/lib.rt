@@ -1,0 +1,9 @@
+//! A participant that takes datagrams in batches, on as many threads as it is asked to.
+#![tactic(auto)]
+
+mod batch;
+mod decode;
+mod participant;
+mod readers;
+
+pub use participant::Participant;
