@@ -1,9 +1,9 @@
-mod Alone
+pub mod Alone
 mod Cuts
 mod Merged
 mod Planned
 mod Whole
-mod Judged
+pub mod Judged
 mod Gathered
-mod Adding
+pub mod Adding
 mod Gathering

@@ -21,4 +21,6 @@ pub use deal::{empty_lists, push_by};
 pub use engine::SerialEngine;
 pub use errors::{EngineError, StartError};
 pub use outcome::{Answer, Outcome, Report};
+pub use start::{first_readers, first_statuses, fixed_by_rank};
+pub use steps::{all_matches, asked_by, show_all};
 pub use turn::{ReportKind, Turn};

@@ -13,8 +13,9 @@ use rtps_reader::{ReaderState, Status};
 use rtps_types::{GuidPrefix, Locators, WriterFacts};
 use std::alloc::{AllocError, Allocator};
 
-/// The writers that each reader is matched with from the start, by rank.
-pub(crate) fn fixed_by_rank<A: Allocator + Copy>(
+/// The writers that each of so many readers is matched with from the start, by rank. An error is a
+/// refused growth.
+pub fn fixed_by_rank<A: Allocator + Copy>(
     alloc: A,
     readers: usize,
     fixed: &[FixedMatch],
@@ -42,8 +43,10 @@ fn is_reliable(reader: &ReaderConfig) -> bool
     matches!(reader.requested.policies.reliability, Reliability::Reliable)
 }
 
-/// Readers to which nothing came yet.
-pub(crate) fn first_readers<A: Allocator + Copy>(
+/// The readers of a participant, to which nothing came yet, by rank: `own` is its prefix, and
+/// `fixed` has the writers that each is matched with from the start, by rank too. An error is a
+/// refused growth.
+pub fn first_readers<A: Allocator + Copy>(
     alloc: A,
     own: GuidPrefix,
     readers: &[ReaderConfig],
@@ -67,8 +70,8 @@ pub(crate) fn first_readers<A: Allocator + Copy>(
     Ok(states)
 }
 
-/// The statuses of these readers.
-pub(crate) fn first_statuses<A: Allocator + Copy>(
+/// The statuses of these readers. An error is a refused growth.
+pub fn first_statuses<A: Allocator + Copy>(
     alloc: A,
     readers: &[ReaderState<A>],
 ) -> Result<Vec<Status, A>, AllocError>

@@ -52,7 +52,7 @@ fn take_by_ranks<C: Catalog, A: Allocator + Copy>(
 }
 
 /// What a change of what is known asks of the reader that hears of it.
-fn asked_by<A: Allocator>(what: &Becomes<A>) -> StepKind<'_>
+pub fn asked_by<A: Allocator>(what: &Becomes<A>) -> StepKind<'_>
     ensures { asked result ≡ doing_of (becomes_seen what.now) }
 {
     match what {
@@ -201,8 +201,9 @@ pub(crate) fn take_events<C: Catalog, A: Allocator + Copy>(
     Ok(())
 }
 
-/// The matches of all readers, by rank.
-pub(crate) fn all_matches<C: Catalog, A: Allocator + Copy>(
+/// The matches of all readers, which stand by rank: a rank and a writer each. An error is a refused
+/// growth.
+pub fn all_matches<C: Catalog, A: Allocator + Copy>(
     alloc: A,
     readers: &[ReaderState<A>],
 ) -> Result<BTreeSet<(u32, Guid), A>, AllocError>
@@ -217,7 +218,7 @@ pub(crate) fn all_matches<C: Catalog, A: Allocator + Copy>(
 }
 
 /// Writes down the status of each reader, by its rank.
-pub(crate) fn show_all<A: Allocator + Copy>(readers: &[ReaderState<A>], statuses: &mut [Status])
+pub fn show_all<A: Allocator + Copy>(readers: &[ReaderState<A>], statuses: &mut [Status])
     requires { length statuses.old ≡ length readers.now }
     ensures { (rank : ℕ) (s : status.Status) (r : ReaderKept) → rank < length readers.now
         → slice_index_or statuses.new rank s ≡ (slice_index_or readers.now rank r).status }

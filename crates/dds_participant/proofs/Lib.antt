@@ -1,0 +1,5 @@
+mod Numbers
+mod Pairing
+mod Returned
+mod Taken
+mod Decoding

@@ -1,0 +1,165 @@
+//! A batch of datagrams.
+
+ghost use Rattle.std.specs.Prelude.{◌≡◌, ◌+◌, ◌^◌, ◌≤◌, ◌<◌, ◌++◌, ℕ, All, IfErr, IfOk, List, OnErr, OnOk, false, true, length, map};
+ghost use Rattle.rtps_receiver.specs.Events.{view};
+ghost use Rattle.rtps_serial.specs.Outcome.{Adds};
+ghost use Rattle.rtps_serial.specs.Run.{events_from, world_run};
+ghost use Rattle.rtps_serial.specs.Standing.{ShowsAt, StandsAt, datagram_limit, run_by};
+ghost use Rattle.rtps_serial.specs.World.{World};
+ghost use Rattle.rtps_shards.specs.Results.{Share};
+ghost use Rattle.dds_participant.specs.Batch.{IsFinishedBy, Keeps, OnlyRuns, failing};
+ghost use Rattle.dds_participant.specs.Kept.{RefusesBatch, TakesBatch};
+ghost use Rattle.dds_participant.specs.Sharing.{AllShare, AreJobs, AreRun};
+
+use crate::decode::decoded;
+use crate::participant::Participant;
+use crate::readers::{Parted, pair, part};
+use dds_topic::Catalog;
+use rtps_planner::{Job, gather, plan};
+use rtps_reader::ReaderState;
+use rtps_serial::{EngineError, Outcome, show_all};
+use rtps_shards::{Batch, Gate, run_jobs};
+use std::alloc::{AllocError, Global};
+use std::mem;
+use std::thread::Threads;
+
+/// A run has at most 2^48 datagrams.
+const DATAGRAM_LIMIT: u64 = 281_474_976_710_656;
+
+/// Has the readers, by rank, run these jobs on so many workers.
+fn run_readers<C: Catalog, G: Gate, R: Threads + Sync>(
+    rt: &R,
+    alloc: Global,
+    batch: &Batch<'_, C, G>,
+    jobs: Vec<Job>,
+    readers: Vec<ReaderState>,
+    workers: usize,
+) -> Result<Parted<C::Value>, AllocError>
+    requires readers { length readers.items ≤ 256 }
+    requires workers { (1 ≤ workers) × (workers ≤ 64) }
+    ensures count { IfOk result (λ p. length p.states.items ≡ length readers.items) }
+    ensures run { (shares : ℕ → Share C.Meaning) → AllShare shares readers.items
+        → AreJobs (map view batch.now.events.now) shares jobs.items (length readers.items)
+        → IfOk result (AreRun C.view (C.decoding batch.now.catalog.now) shares readers.items) }
+{
+    let paired = pair::<C>(alloc, jobs, readers)?;
+    let results = run_jobs(rt, alloc, batch, paired.work, workers)?;
+    part::<C>(alloc, paired.idle, results)
+}
+
+impl<C: Catalog> Participant<C> {
+    /// Takes the next datagrams, at most 4,096 of at most 65,507 octets each, and gives the notices
+    /// of each reader and what is to be sent, as [`rtps_serial::SerialEngine::take`] gives them of
+    /// one datagram after another. The readers' jobs are run by so many workers, 1 to 64, of which
+    /// the caller is one; `gate` is told as each job begins and ends.
+    ///
+    /// When a batch is out of memory, on whichever worker, nothing of it is given, and the
+    /// participant has failed: from then on it answers [`EngineError::Failed`], and its statuses
+    /// are those before that batch. A batch that would pass 2^48 datagrams is refused with
+    /// [`EngineError::Spent`] and changes nothing.
+    #[tactic(auto, unfolding(crate::specs::Kept::TakesBatch, crate::specs::Kept::RefusesBatch))]
+    pub fn run_batch<G: Gate, R: Threads + Sync>(
+        &mut self,
+        rt: &R,
+        alloc: Global,
+        gate: &G,
+        datagrams: &[&[u8]],
+        workers: usize,
+    ) -> Result<Outcome<C::Value>, EngineError>
+        requires few { length datagrams.now ≤ 4096 }
+        requires fit { All (λ d. length d.now ≤ 65507) datagrams.now }
+        requires workers { (1 ≤ workers) × (workers ≤ 64) }
+        ensures takes { TakesBatch (length datagrams.now) result self.old self.new }
+        ensures same { (self.new.engine.catalog ≡ self.old.engine.catalog)
+            × (self.new.engine.config ≡ self.old.engine.config) }
+        ensures stands { (earlier : List (List ℕ)) → StandsAt C.decoding earlier self.old.engine
+            → OnOk result (StandsAt C.decoding (earlier ++ map (λ d. d.now) datagrams.now)
+            self.new.engine) }
+        ensures adds { (earlier : List (List ℕ)) → StandsAt C.decoding earlier self.old.engine
+            → IfOk result (Adds C.view (run_by C.decoding self.old.engine earlier)
+            (run_by C.decoding self.old.engine (earlier ++ map (λ d. d.now) datagrams.now))) }
+        ensures shows { (earlier : List (List ℕ)) → ShowsAt C.decoding earlier self.old.engine
+            → OnErr result (ShowsAt C.decoding earlier self.new.engine) }
+    {
+        self.admit(datagrams.len())?;
+        let outcome = self.run(rt, alloc, gate, datagrams, workers)?;
+        self.finish(datagrams.len());
+        Ok(outcome)
+    }
+
+    /// Refuses a batch of so many datagrams before it is looked at, or has the participant failed
+    /// until it is taken.
+    #[tactic(auto, unfolding(crate::specs::Kept::RefusesBatch))]
+    fn admit(&mut self, count: usize) -> Result<(), EngineError>
+        requires { count ≤ 4096 }
+        ensures ok { OnOk result ((self.old.engine.failed ≡ false)
+            × (self.old.engine.index + count ≤ datagram_limit) × (self.new ≡ failing self.old)) }
+        ensures few { OnOk result ((length self.old.engine.readers ≤ 256)
+            × (length self.old.engine.readers ≡ length self.old.engine.statuses)) }
+        ensures err { IfErr result (λ e. RefusesBatch count e self.old) }
+        ensures still { OnErr result (self.new ≡ self.old) }
+    {
+        if self.failed {
+            return Err(EngineError::Failed);
+        }
+        if self.index.saturating_add(count as u64) > DATAGRAM_LIMIT {
+            return Err(EngineError::Spent);
+        }
+        self.failed = true;
+        Ok(())
+    }
+
+    /// Gives the events of the datagrams to discovery and to the readers.
+    fn run<G: Gate, R: Threads + Sync>(
+        &mut self,
+        rt: &R,
+        alloc: Global,
+        gate: &G,
+        datagrams: &[&[u8]],
+        workers: usize,
+    ) -> Result<Outcome<C::Value>, AllocError>
+        requires room { self.old.engine.index + length datagrams.now < 2 ^ 64 }
+        requires fit { All (λ d. length d.now ≤ 65507) datagrams.now }
+        requires workers { (1 ≤ workers) × (workers ≤ 64) }
+        requires readers { length self.old.engine.readers ≤ 256 }
+        requires failed { self.old.engine.failed ≡ true }
+        ensures same { OnlyRuns self.old self.new }
+        ensures count { OnOk result
+            (length self.new.engine.readers ≡ length self.old.engine.readers) }
+        ensures keeps { (w : World C.Meaning) → Keeps w self.old.engine → OnOk result
+            (Keeps (world_run (C.decoding self.old.engine.catalog) w (events_from
+            self.old.engine.config.own self.old.engine.index (map (λ d. d.now) datagrams.now)))
+            self.new.engine) }
+        ensures adds { (w : World C.Meaning) → Keeps w self.old.engine → IfOk result (Adds C.view w
+            (world_run (C.decoding self.old.engine.catalog) w (events_from
+            self.old.engine.config.own self.old.engine.index (map (λ d. d.now) datagrams.now)))) }
+    {
+        let events = decoded(alloc, self.config.own, self.index, datagrams)?;
+        let plan = plan(alloc, &events, &mut self.discovery)?;
+        let readers = mem::replace(&mut self.readers, Vec::new(alloc));
+        let batch = Batch {
+            catalog: &self.catalog,
+            gate,
+            events: &events,
+        };
+        let parted = run_readers(rt, alloc, &batch, plan.jobs, readers, workers)?;
+        self.readers = parted.states;
+        // The outputs are those of the plan's jobs: only memory can be wanting.
+        match gather(alloc, plan.rest, parted.outputs) {
+            Ok(outcome) => Ok(outcome),
+            Err(_) => Err(AllocError),
+        }
+    }
+
+    /// Counts so many datagrams and a batch as taken, and shows the statuses of the readers.
+    fn finish(&mut self, count: usize)
+        requires room { self.old.engine.index + count ≤ datagram_limit }
+        requires readers { length self.old.engine.readers ≡ length self.old.engine.statuses }
+        ensures { IsFinishedBy count self.old self.new }
+    {
+        show_all(&self.readers, &mut self.statuses);
+        self.index += count as u64;
+        self.batches = self.batches.saturating_add(1);
+        self.failed = false;
+    }
+}

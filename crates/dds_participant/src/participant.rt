@@ -1,0 +1,149 @@
+//! A participant: what it keeps, and what is asked of it between batches.
+
+ghost use Rattle.std.specs.Prelude.{◌≡◌, [], IfOk, List, ℕ, length, map};
+ghost use Rattle.rtps_discovery.specs.Config.{check_of};
+ghost use Rattle.rtps_discovery.specs.Kept.{IsKnown};
+ghost use Rattle.rtps_serial.specs.Seen.{matches_seen, status_seen};
+ghost use Rattle.rtps_serial.specs.Standing.{Answers, ShowsAt, StandsAt, Starts, run_by};
+
+use dds_topic::Catalog;
+use rtps_discovery::{Config, Discovery, check};
+use rtps_reader::{ReaderState, Status};
+use rtps_serial::{
+    EngineError, StartError, all_matches, first_readers, first_statuses, fixed_by_rank,
+};
+use rtps_types::Guid;
+use std::alloc::Global;
+use std::collections::BTreeSet;
+use std::marker::Model;
+
+/// What a participant knows of the others, and its readers: it takes the datagrams of a batch
+/// together, and has the jobs of its readers run on several threads.
+///
+/// It keeps what [`rtps_serial::SerialEngine`] keeps after the same datagrams, however they are cut
+/// into batches.
+#[derive(Drop)]
+pub struct Participant<C: Catalog> {
+    pub(crate) catalog: C,
+    pub(crate) config: Config,
+    /// How many datagrams were taken.
+    pub(crate) index: u64,
+    /// How many batches were taken.
+    pub(crate) batches: u64,
+    /// Whether a batch was out of memory.
+    pub(crate) failed: bool,
+    pub(crate) discovery: Discovery,
+    /// By rank; none while their jobs are run.
+    pub(crate) readers: Vec<ReaderState>,
+    /// By rank, as they were after the last batch that was taken.
+    pub(crate) statuses: Vec<Status>,
+}
+
+impl<C: Catalog> Model for Participant<C> {
+    ghost use Rattle.std.specs.Prelude.{◌≡◌, ◌≤◌, false, length};
+    ghost use Rattle.dds_participant.specs.Kept.{ParticipantKept};
+
+    ghost Value = { ParticipantKept C };
+
+    ghost view = { λ p. record {
+      engine = record {
+        catalog = p.catalog;
+        config = p.config;
+        index = p.index;
+        failed = p.failed;
+        discovery = p.discovery;
+        readers = p.readers.items;
+        statuses = p.statuses.items;
+      };
+      batches = p.batches;
+    } };
+
+    ghost invariant = { λ p. (length p.statuses.items ≤ 256)
+        × (p.failed ≡ false → length p.readers.items ≡ length p.statuses.items) };
+}
+
+impl<C: Catalog> Participant<C> {
+    /// A participant for this configuration: its readers with their fixed matches, to which nothing
+    /// came yet.
+    #[tactic(auto, unfolding(rtps_serial::specs::Standing::Starts))]
+    pub fn new(alloc: Global, config: Config, catalog: C) -> Result<Participant<C>, StartError>
+        ensures starts { Starts (check_of config) result }
+        ensures same { IfOk result (λ p. (p.engine.catalog ≡ catalog)
+            × (p.engine.config ≡ config) × (p.batches ≡ 0)) }
+        ensures stands { IfOk result (λ p. StandsAt C.decoding [] p.engine) }
+    {
+        match check(&config) {
+            Ok(()) => {}
+            Err(fault) => return Err(StartError::Config(fault)),
+        }
+        let fixed = fixed_by_rank(alloc, config.readers.len(), &config.fixed)?;
+        let readers = first_readers(alloc, config.own, &config.readers, &fixed)?;
+        let statuses = first_statuses(alloc, &readers)?;
+        let discovery = Discovery::new(alloc, &config)?;
+        Ok(Participant {
+            catalog,
+            config,
+            index: 0,
+            batches: 0,
+            failed: false,
+            discovery,
+            readers,
+            statuses,
+        })
+    }
+
+    /// How many readers there are, 1 to 256. Their ranks are the numbers below it.
+    pub fn readers(&self) -> u32
+        ensures { result ≡ length self.now.engine.statuses }
+    {
+        self.statuses.len() as u32
+    }
+
+    /// How many batches were taken. The count stays at 2^64 - 1.
+    pub fn batches(&self) -> u64
+        ensures { result ≡ self.now.batches }
+    {
+        self.batches
+    }
+
+    /// The status of the reader of a rank, after the last batch that was taken, or `None` where no
+    /// reader has the rank. No memory is taken.
+    pub fn status(&self, rank: u32) -> Option<Status>
+        ensures { (datagrams : List (List ℕ)) → ShowsAt C.decoding datagrams self.now.engine
+            → result ≡ status_seen (run_by C.decoding self.now.engine datagrams) rank }
+    {
+        self.statuses.get(rank as usize).copied()
+    }
+
+    /// The matches that there are now, a rank and a writer each. A refusal changes nothing:
+    /// [`EngineError::Failed`] where the participant has failed, and else
+    /// [`EngineError::NoMemory`].
+    #[tactic(auto, unfolding(rtps_serial::specs::Standing::Answers))]
+    pub fn matches(&self, alloc: Global) -> Result<BTreeSet<(u32, Guid)>, EngineError>
+        ensures answers { Answers result self.now.engine }
+        ensures matches { (datagrams : List (List ℕ))
+            → StandsAt C.decoding datagrams self.now.engine → IfOk result (λ matches.
+            matches.keys ≡ matches_seen (run_by C.decoding self.now.engine datagrams)) }
+    {
+        if self.failed {
+            Err(EngineError::Failed)
+        } else {
+            Ok(all_matches::<C, Global>(alloc, &self.readers)?)
+        }
+    }
+
+    /// What is known of the others, as the run knows it after the last batch that was taken.
+    pub fn discovery(&self) -> &Discovery
+        ensures { (datagrams : List (List ℕ)) → StandsAt C.decoding datagrams self.now.engine
+            → IsKnown (run_by C.decoding self.now.engine datagrams).known result.now.kept }
+    {
+        &self.discovery
+    }
+
+    /// The catalog that values are decoded by.
+    pub fn catalog(&self) -> &C
+        ensures { result.now ≡ self.now.engine.catalog }
+    {
+        &self.catalog
+    }
+}

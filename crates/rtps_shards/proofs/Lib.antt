@@ -1,0 +1,3 @@
+mod Dealt
+mod Together
+mod Taking

@@ -1,0 +1,11 @@
+use Rattle.std.proofs.Common.{◌≡◌, ◌++◌, length}
+use Rattle.std.specs.List.{flat_map}
+use Rattle.std.specs.List.Sorted.{IsPermutation}
+use Rattle.rtps_shards.proofs.piles.deal.Given as goal
+
+-- what is dealt and what is left are all
+abbrev pub invariant-loop-at : goal.invariant-loop-at
+invariant-loop-at g l = record {
+  count : length l.piles.items ≡ l.fn.workers;
+  dealt : IsPermutation l.fn.things.items (flat_map (λ p. p.items) l.piles.items ++ l.at-iterator.iter.rest.items);
+}

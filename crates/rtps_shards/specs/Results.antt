@@ -1,0 +1,61 @@
+-- What comes of the jobs of a batch (DDSI-RTPS 8.4.10, 8.5).
+use Rattle.std.specs.Prelude.{◌≡◌, ℕ, List, ◌++◌, map}
+use Rattle.rtps_receiver.specs.Events.{Happening}
+use Rattle.dds_topic.specs.Decoding.{Decoding}
+use Rattle.rtps_reader.specs.declared.notice.Notice.{Notice}
+use Rattle.rtps_reader.specs.Notices.{answer_view, notice_view}
+use Rattle.rtps_reader.specs.Reader.{Reader}
+use Rattle.rtps_reader.specs.Standing.{StandsAt}
+use Rattle.rtps_serial.specs.Standing.{StandsFor}
+use Rattle.rtps_planner.specs.Job.{Job, job_run, job_sent, job_told}
+use Rattle.rtps_planner.specs.Plan.{steps_seen}
+use Rattle.rtps_shards.specs.declared.jobs.JobResult.{JobResult}
+use Rattle.rtps_shards.specs.declared.jobs.ReaderJob.{ReaderJob}
+
+-- a reader's share of a batch: the reader and the notices that it gave out before, and its job
+pub record Share (M : Type 0) : Type 0 where
+  pub reader : Reader
+  pub given : List (Notice M)
+  pub job : Job
+
+abbrev pub share : {M : Type 0} → Reader → List (Notice M) → Job → Share M
+share reader given job = record { reader = reader; given = given; job = job }
+
+-- the share after its job: the reader, and the notices that it gave out by then
+abbrev pub reader_done : {M : Type 0} → Share M → Reader
+reader_done s = job_run s.reader s.job
+
+abbrev pub given_done : {M : Type 0} → Decoding M → Share M → List (Notice M)
+given_done decoding s = s.given ++ job_told decoding s.reader s.job
+
+-- the steps are those of the share of the job's rank, and the state keeps the reader of that rank
+pub record IsReady {V M : Type 0} (es : List Happening) (shares : ℕ → Share M) (x : ReaderJob V)
+    : Type 0 where
+  pub job : steps_seen es x.job.steps.items ≡ (shares x.job.rank).job
+  pub state : StandsFor (shares x.job.rank).reader (shares x.job.rank).given x.job.rank x.state
+
+-- a result is what the reader of its rank makes of its job: what it comes to, what it gives out and
+-- what it sends
+pub record IsDone {V M : Type 0} (f : V → M) (decoding : Decoding M) (shares : ℕ → Share M)
+    (x : JobResult V) : Type 0 where
+  pub state : StandsFor (reader_done (shares x.rank)) (given_done decoding (shares x.rank)) x.rank
+      x.state
+  pub told : map (notice_view f) x.output.notices.items
+      ≡ job_told decoding (shares x.rank).reader (shares x.rank).job
+  pub sent : map answer_view x.output.answers.items
+      ≡ job_sent (shares x.rank).reader (shares x.rank).job
+
+-- a reader took its job, and what it gave out and sent is added
+pub record HasTaken {V M : Type 0} (f : V → M) (decoding : Decoding M) (s : Share M)
+    (old new : JobResult V) : Type 0 where
+  pub stands : StandsAt (reader_done s) (given_done decoding s) new.state
+  pub told : map (notice_view f) new.output.notices.items
+      ≡ map (notice_view f) old.output.notices.items ++ job_told decoding s.reader s.job
+  pub sent : map answer_view new.output.answers.items
+      ≡ map answer_view old.output.answers.items ++ job_sent s.reader s.job
+
+abbrev pub rank_in : {V : Type 0} → ReaderJob V → ℕ
+rank_in x = x.job.rank
+
+abbrev pub rank_of : {V : Type 0} → JobResult V → ℕ
+rank_of x = x.rank

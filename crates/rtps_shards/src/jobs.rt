@@ -1,0 +1,56 @@
+//! Jobs on their way through a worker.
+
+ghost use Rattle.std.specs.Prelude.{◌≡◌, []};
+
+use rtps_planner::Job;
+use rtps_reader::{Output, ReaderState};
+use rtps_receiver::Event;
+use std::alloc::Global;
+
+/// What all workers of a batch look at.
+#[derive(Drop)]
+pub struct Batch<'a, C, G> {
+    pub catalog: &'a C,
+    /// Told as each job begins and ends.
+    pub gate: &'a G,
+    /// All events of the batch, into which the steps of the jobs point.
+    pub events: &'a [Event<'a>],
+}
+
+/// A job, with all that is moved to the worker who runs it.
+#[derive(Drop)]
+pub struct ReaderJob<V> {
+    pub job: Job,
+    /// The reader of the job's rank.
+    pub state: ReaderState,
+    /// Lists for what comes of the job. What is in them is dropped by the worker.
+    pub output: Output<V>,
+}
+
+impl<V: Drop> ReaderJob<V> {
+    /// A job with new lists. No memory is taken before something comes.
+    pub fn new(alloc: Global, job: Job, state: ReaderState) -> ReaderJob<V>
+        ensures given { (result.job ≡ job) × (result.state ≡ state) }
+        ensures empty { (result.output.notices.items ≡ [])
+            × (result.output.answers.items ≡ []) }
+    {
+        ReaderJob {
+            job,
+            state,
+            output: Output {
+                notices: Vec::new(alloc),
+                answers: Vec::new(alloc),
+            },
+        }
+    }
+}
+
+/// What comes of a job.
+#[derive(Drop)]
+pub struct JobResult<V> {
+    /// The rank of the job's reader.
+    pub rank: u32,
+    /// The reader after the job.
+    pub state: ReaderState,
+    pub output: Output<V>,
+}

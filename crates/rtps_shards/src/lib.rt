@@ -1,0 +1,15 @@
+//! The jobs of a batch, run by workers: each job once, and what comes of it is that of its reader,
+//! whichever worker runs it and whenever.
+#![tactic(auto)]
+
+mod gate;
+mod jobs;
+mod piles;
+mod steps;
+#[cfg(test)]
+mod tests;
+mod workers;
+
+pub use gate::{Gate, NoGate};
+pub use jobs::{Batch, JobResult, ReaderJob};
+pub use workers::run_jobs;

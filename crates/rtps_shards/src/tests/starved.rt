@@ -1,0 +1,88 @@
+//! Jobs that are out of memory.
+
+use super::gates::Counting;
+use super::run;
+use dds_topic::{Catalog, CatalogError, Shapes};
+use rtps_types::KeyHash;
+use std::alloc::{AllocError, Global};
+use std::sync::atomic::{AtomicU64, Ordering};
+use std::test::Fail;
+
+/// A catalog that finds no memory for one value, counted from 0 in the order in which they come.
+#[derive(Drop)]
+struct Starved<C> {
+    catalog: C,
+    refused: u64,
+    decoded: AtomicU64,
+}
+
+impl<C: Catalog> Catalog for Starved<C> {
+    type Value = C::Value;
+
+    type Memo = C::Memo;
+
+    ghost Meaning = { C.Meaning };
+
+    ghost view = { C.view };
+
+    ghost decoding = { λ s. C.decoding s.catalog };
+
+    ghost key = { λ s. C.key s.catalog };
+
+    ghost text_of = { λ s. C.text_of s.catalog };
+
+    fn decode(&self, alloc: Global, kind: u16, body: &[u8]) -> Result<C::Value, CatalogError> {
+        if self.decoded.fetch_add(1, Ordering::SeqCst) == self.refused {
+            return Err(CatalogError::NoMemory);
+        }
+        self.catalog.decode(alloc, kind, body)
+    }
+
+    fn key_of(&self, alloc: Global, value: &C::Value) -> Result<KeyHash, AllocError> {
+        self.catalog.key_of(alloc, value)
+    }
+
+    fn key_by(
+        &self,
+        memo: &mut C::Memo,
+        alloc: Global,
+        value: &C::Value,
+    ) -> Result<KeyHash, AllocError> {
+        self.catalog.key_by(memo, alloc, value)
+    }
+
+    fn key_payload(&self, alloc: Global, value: &C::Value) -> Result<Vec<u8>, AllocError> {
+        self.catalog.key_payload(alloc, value)
+    }
+
+    fn key_of_payload(
+        &self,
+        alloc: Global,
+        kind: u16,
+        body: &[u8],
+    ) -> Result<KeyHash, CatalogError> {
+        self.catalog.key_of_payload(alloc, kind, body)
+    }
+
+    ghost key_again = { λ s v. C.key_again s.catalog v };
+}
+
+#[test]
+fn a_job_out_of_memory_fails_the_batch(rt: HostRuntime) -> Result<(), Fail> {
+    // Three readers present eight values.
+    for refused in 0..9 {
+        for workers in [1, 3] {
+            let catalog = Starved {
+                catalog: Shapes,
+                refused,
+                decoded: AtomicU64::new(0),
+            };
+            let gate = Counting::new();
+            let results = run(&rt, rt.alloc(), &catalog, &gate, (3, workers));
+            assert_eq!(rt; results.is_ok(), refused == 8);
+            // On three workers each job is run whatever comes of the others.
+            assert!(rt; workers == 1 || gate.saw_each_once(3));
+        }
+    }
+    Ok(())
+}
