@@ -1,6 +1,6 @@
 //! What a participant knows of the others, event by event.
 
-ghost use Rattle.std.specs.Prelude.{◌≡◌, IfOk, IsErr, Ok, OnErr, OnOk, false, true};
+ghost use Rattle.std.specs.Prelude.{◌≡◌, ◌≤◌, IfOk, IsErr, Ok, OnErr, OnOk, false, length, true};
 ghost use Rattle.rtps_receiver.specs.Events.{view};
 ghost use Rattle.rtps_discovery.specs.Config.{check_of};
 ghost use Rattle.rtps_discovery.specs.Effects.{AreHeard};
@@ -96,9 +96,10 @@ impl<A: Allocator + Copy> Discovery<A> {
         Ok(pairs)
     }
 
-    /// Our readers by rank, `None` where one went.
+    /// Our readers by rank, `None` where one went; at most 256.
     pub fn readers(&self) -> &[Option<Reader<A>>]
-        ensures { result.now ≡ self.now.kept.readers }
+        ensures known { result.now ≡ self.now.kept.readers }
+        ensures few { length result.now ≤ 256 }
     {
         self.held.readers.as_slice()
     }

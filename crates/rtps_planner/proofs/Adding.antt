@@ -1,11 +1,10 @@
 -- What is gathered of the outputs of a plan's jobs is what the run puts out more.
-use Rattle.std.proofs.Common.{◌≡◌, ℕ, zero, suc, ◌<◌, ◌≤◌, ◌==◌, ◌||◌, not, nat_lt, List, [], ◌∷◌, ◌++◌, length, map, filter, get_or, Bool, true, false, if◌then◌else◌, Option, Some, None, refl, sym, ap, ◌∙◌, subst, arith, append-nil, append_assoc, true≢false, inl, inr}
+use Rattle.std.proofs.Common.{◌≡◌, ℕ, zero, suc, ◌<◌, ◌≤◌, ◌==◌, nat_lt, List, [], ◌∷◌, ◌++◌, length, map, filter, get_or, Bool, true, false, if◌then◌else◌, refl, sym, ap, ◌∙◌, subst, arith, append-nil, true≢false, inl, inr}
 use Rattle.std.specs.List.{All, AllByRecursion, Contains, list_any}
 use Rattle.std.specs.declared.vec.Vec.{Vec}
-use Rattle.std.proofs.lemmas.Bool.{cases_lt, eq-eqb, eqb-false, eqb-true, le-ltb, ltb-false, ne_eqb, or_from, or_left, or_parts, or_right}
+use Rattle.std.proofs.lemmas.Bool.{cases_lt, eq-eqb, eqb-false, eqb-true, ltb-false, ne_eqb, or_from, or_left, or_parts, or_right}
 use Rattle.std.proofs.lemmas.List.{map-append}
 use Rattle.std.proofs.lemmas.List.Elements.{All-contains, All-from_recursion, recursion_from_All}
-use Rattle.rtps_types.specs.declared.identity.GuidPrefix.{GuidPrefix}
 use Rattle.rtps_types.specs.declared.place.Place.{Place}
 use Rattle.rtps_receiver.specs.Events.{Happening}
 use Rattle.rtps_discovery.specs.Kept.{Kept}
@@ -19,23 +18,22 @@ use Rattle.rtps_reader.specs.Reader.{Reader, reader_run}
 use Rattle.rtps_serial.specs.declared.outcome.Outcome.{Outcome}
 use Rattle.rtps_serial.specs.Outcome.{Adds, answer_view, notices_in}
 use Rattle.rtps_serial.specs.Presentation.{not_after}
-use Rattle.rtps_serial.specs.Run.{events_from, world_run}
+use Rattle.rtps_serial.specs.Run.{world_run}
 use Rattle.rtps_serial.specs.Seen.{answers_in, notices_by, reader_count}
 use Rattle.rtps_serial.specs.World.{World, doings, known_after_event}
 use Rattle.rtps_serial.proofs.Dealt.{answers_in-append}
-use Rattle.rtps_serial.proofs.Places.{PlacesRise, all_append, all_map, all_weaker, rise_from}
+use Rattle.rtps_serial.proofs.Places.{PlacesRise, all_append, all_map, all_weaker}
 use Rattle.rtps_serial.proofs.Running.{count_stays}
 use Rattle.rtps_planner.specs.Commuting.{answers_at, merged, parts_of, same_place}
 use Rattle.rtps_planner.specs.Job.{Job, discovery_answer, discovery_answers, job_of, job_sent, job_told}
-use Rattle.rtps_planner.specs.Gather.{AreRising, IsGathered, IsOutputOf, StandAmong, fault_of, is_among, parts_in, ranks_of, sending_by, sent_by, times}
+use Rattle.rtps_planner.specs.Gather.{AreRising, IsGathered, IsOutputOf, StandAmong, is_among, parts_in, ranks_of, sending_by, sent_by, times}
 use Rattle.rtps_planner.specs.Plan.{IsPlan, discovery_sending, job_at, job_seen, jobs_by}
 use Rattle.rtps_planner.specs.declared.jobs.Job as plan_job
 use Rattle.rtps_planner.specs.declared.jobs.Plan.{Plan}
-use Rattle.rtps_planner.specs.declared.outputs.GatherFault.TheVariants as fault
 use Rattle.rtps_planner.proofs.Alone.{parts, sent_front, sent_run}
 use Rattle.rtps_planner.proofs.Gathered.{along, below, merged_seen}
-use Rattle.rtps_planner.proofs.Judged.{IsRight, any_at, none_sent, right, unplanned}
-use Rattle.rtps_planner.proofs.Merged.{answer_here, by_places, same_self, sent_here, sent_place}
+use Rattle.rtps_planner.proofs.Judged.{IsRight, any_at, none_sent, unplanned}
+use Rattle.rtps_planner.proofs.Merged.{answer_here, by_places, same_self, sent_here}
 
 -- ---- places of the events, and of what comes of them
 

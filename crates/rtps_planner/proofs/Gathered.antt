@@ -1,12 +1,11 @@
 -- Answers in order, by turn, are those of the parts, place by place.
-use Rattle.std.proofs.Common.{◌≡◌, ℕ, zero, suc, ◌<◌, ◌≤◌, ◌==◌, ◌||◌, ◌&&◌, not, nat_lt, List, [], ◌∷◌, ◌++◌, length, map, filter, Bool, true, false, if◌then◌else◌, Option, Some, None, refl, sym, ap, ◌∙◌, subst, arith, append-nil, append_assoc, true≢false, inl, inr}
+use Rattle.std.proofs.Common.{◌≡◌, ℕ, zero, suc, ◌<◌, ◌≤◌, ◌==◌, ◌||◌, ◌&&◌, List, [], ◌∷◌, ◌++◌, map, filter, Bool, true, false, if◌then◌else◌, Option, Some, None, refl, sym, ap, ◌∙◌, arith, append-nil, true≢false, inl, inr}
 use Rattle.std.specs.Cmp.{IsStrictWeakOrder}
-use Rattle.std.specs.List.{All, AllByRecursion, list_any}
+use Rattle.std.specs.List.{AllByRecursion, list_any}
 use Rattle.std.specs.List.Sorted.{IsSortedByKey, IsStableByKey, ties}
-use Rattle.std.specs.Option.{option_cmp}
 use Rattle.std.specs.Ordering.{is_lt, nat_cmp}
 use Rattle.std.specs.declared.cmp.Ordering.TheVariants.{Equal}
-use Rattle.std.proofs.lemmas.Bool.{and_from, and_parts, and_right, cases_lt, eq-eqb, eqb-false, eqb-true, ltb-true, ne_eqb, or_left, or_parts}
+use Rattle.std.proofs.lemmas.Bool.{and_from, and_parts, and_right, cases_lt, eq-eqb, eqb-false, eqb-true, ne_eqb, or_parts}
 use Rattle.std.proofs.lemmas.Bool.Decides.{nat_tests}
 use Rattle.std.proofs.lemmas.List.{map-append}
 use Rattle.std.proofs.lemmas.List.Elements.{filter-append, filter_agree, recursion_from_All}
@@ -24,7 +23,7 @@ use Rattle.rtps_serial.specs.declared.turn.Turn.{Turn}
 use Rattle.rtps_serial.specs.Outcome.{answer_view}
 use Rattle.rtps_serial.specs.Presentation.{not_after}
 use Rattle.rtps_serial.specs.Seen.{answers_in}
-use Rattle.rtps_serial.specs.Turn.{kind_order, turn_order}
+use Rattle.rtps_serial.specs.Turn.{turn_order}
 use Rattle.rtps_serial.specs.World as world
 use Rattle.rtps_serial.specs.World.{Put, Hears, Sending}
 use Rattle.rtps_serial.proofs.Dealt.{answers_in-append}

@@ -1,12 +1,13 @@
 -- The steps of a plan, one after the other.
-use Rattle.std.proofs.Common.{◌≡◌, ℕ, zero, suc, ◌<◌, ◌≤◌, arith, ◌==◌, ◌&&◌, List, [], ◌∷◌, ◌++◌, length, map, Bool, true, false, if◌then◌else◌, Option, Some, None, get_or, refl, sym, ap, ◌∙◌, subst, append_assoc, append-nil}
-use Rattle.std.specs.Prelude.{filter, option_to_list}
+use Rattle.std.proofs.Common.{◌≡◌, ℕ, zero, suc, ◌<◌, ◌≤◌, arith, ◌==◌, ◌&&◌, List, [], ◌∷◌, ◌++◌, length, map, Bool, true, false, if◌then◌else◌, Option, Some, None, get_or, refl, sym, ap, ◌∙◌, subst, append_assoc, append-nil, ◌+◌}
+use Rattle.std.specs.Prelude.{filter, option_to_list, replicate}
 use Rattle.std.specs.List.{slice_get}
 use Rattle.std.specs.Option.{option_map}
 use Rattle.std.specs.declared.vec.Vec.{Vec}
 use Rattle.std.proofs.lemmas.Grind.{flat_map-append}
-use Rattle.std.proofs.lemmas.List.{map-append}
+use Rattle.std.proofs.lemmas.List.{get_or-replicate, length-replicate, map-append}
 use Rattle.std.proofs.lemmas.List.Elements.{filter-append}
+use Rattle.std.proofs.lemmas.Option.{slice_get-get_or}
 use Rattle.rtps_types.specs.declared.place.Place.{Place}
 use Rattle.rtps_receiver.specs.Events.{Happening}
 use Rattle.rtps_discovery.specs.declared.changes.MatchChange.{MatchChange}
@@ -174,3 +175,10 @@ announced_answer k e is = rw is refl
 
 pub no_answer : (k : Known) (e : Happening) → is_discovery e.writer ≡ false → discovery_answer k e ≡ []
 no_answer k e others = rw others refl
+
+-- a list that has an event at an index
+abbrev pub list_to : ℕ → Happening → List Happening
+list_to i e = replicate (i + 1) e
+
+pub there_is : (i : ℕ) (e : Happening) → slice_get (list_to i e) i ≡ Some e
+there_is i e = slice_get-get_or (list_to i e) i e (omega (arith, length-replicate (i + 1) e)) ∙ ap Some (get_or-replicate (i + 1) i e e (omega arith))

@@ -1,6 +1,6 @@
 -- How the outputs of a batch's jobs are put together (DDSI-RTPS 8.4.10): which outputs are refused, and
 -- what comes of the others.
-use Rattle.std.specs.Prelude.{◌≡◌, ◌⊎◌, ℕ, ◌<◌, ◌==◌, ◌||◌, nat_lt, not, Bool, List, [], ◌∷◌, ◌++◌, length, map, filter, Option, Some, None, Result, Ok, Err, if◌then◌else◌, set, slice_index_or, true, false}
+use Rattle.std.specs.Prelude.{◌≡◌, ◌⊎◌, ℕ, ◌<◌, ◌==◌, nat_lt, not, Bool, List, [], ◌∷◌, ◌++◌, length, map, filter, Option, Some, None, Result, Ok, Err, if◌then◌else◌, set, slice_index_or, true, false}
 use Rattle.std.specs.List.{All, AllByRecursion, Contains, list_any}
 use Rattle.std.specs.List.Sorted.{IsSortedByKey, IsStableByKey}
 use Rattle.std.specs.declared.vec.Vec.{Vec}

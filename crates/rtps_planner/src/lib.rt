@@ -7,6 +7,8 @@ pub mod laws;
 mod outputs;
 mod planner;
 mod steps;
+#[cfg(test)]
+mod tests;
 
 pub use jobs::{Job, Plan, Rest};
 pub use outputs::{GatherFault, gather};

@@ -1,6 +1,6 @@
 //! What each reader has to do in a batch.
 
-ghost use Rattle.std.specs.Prelude.{◌≡◌, ◌^◌, ◌≤◌, ℕ, IfOk, List, OnOk, length, map};
+ghost use Rattle.std.specs.Prelude.{◌≡◌, ◌≤◌, ℕ, IfOk, List, length, map};
 ghost use Rattle.rtps_discovery.specs.Kept.{IsKnown};
 ghost use Rattle.rtps_discovery.specs.Known.{Known};
 ghost use Rattle.rtps_receiver.specs.Events.{Happening, view};
@@ -19,7 +19,8 @@ fn plan_events<A: Allocator + Copy>(
     events: &[Event<'_>],
     discovery: &mut Discovery<A>,
 ) -> Result<Planning<A>, AllocError>
-    ensures { (k : Known) → IsKnown k discovery.old.kept → IfOk result (λ planning.
+    ensures few { IfOk result (λ planning. length planning.lists.items ≤ 256) }
+    ensures planned { (k : Known) → IsKnown k discovery.old.kept → IfOk result (λ planning.
         AreAllPlanned k (map view events.now) (map view events.now) planning
         discovery.new.kept) }
 {
@@ -38,17 +39,14 @@ fn jobs_of<A: Allocator + Copy>(
     alloc: A,
     lists: Vec<Vec<PlannedStep<A>, A>, A>,
 ) -> Result<Vec<Job<A>, A>, AllocError>
-    ensures jobs { (es : List Happening) (asked : ℕ → _) → AreSteps es lists.items asked
+    requires { length lists.items ≤ 256 }
+    ensures { (es : List Happening) (asked : ℕ → _) → AreSteps es lists.items asked
         → IfOk result (λ jobs. map (job_seen es) jobs.items ≡ jobs_by asked (length lists.items)) }
-    ensures ranked { OnOk result (length lists.items ≤ 2 ^ 32) }
 {
     let mut jobs = Vec::new(alloc);
     for (rank, steps) in lists.into_iter().enumerate() {
-        // Ranks have 32 bits.
-        let Ok(rank) = u32::try_from(rank) else {
-            return Err(AllocError);
-        };
         if !steps.is_empty() {
+            let rank = rank as u32;
             jobs.push(Job { rank, steps })?;
         }
     }

@@ -136,7 +136,9 @@ fn plan_announcement<A: Allocator + Copy>(
     index: usize,
     event: &Event<'_>,
 ) -> Result<(), AllocError>
-    ensures { (k : Known) (es : List Happening) → IsKnown k discovery.old.kept
+    ensures count { OnOk result (length planning.new.lists.items
+        ≡ length planning.old.lists.items) }
+    ensures planned { (k : Known) (es : List Happening) → IsKnown k discovery.old.kept
         → slice_get es index ≡ Some (view event.now)
         → addressed.is_discovery event.now.writer ≡ true
         → OnOk result (IsPlanned es k (view event.now) planning.old planning.new
@@ -156,7 +158,9 @@ pub(crate) fn plan_event<A: Allocator + Copy>(
     index: usize,
     event: &Event<'_>,
 ) -> Result<(), AllocError>
-    ensures { (k : Known) (es : List Happening) → IsKnown k discovery.old.kept
+    ensures count { OnOk result (length planning.new.lists.items
+        ≡ length planning.old.lists.items) }
+    ensures planned { (k : Known) (es : List Happening) → IsKnown k discovery.old.kept
         → slice_get es index ≡ Some (view event.now)
         → OnOk result (IsPlanned es k (view event.now) planning.old planning.new
         discovery.new.kept) }

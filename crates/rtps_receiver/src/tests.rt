@@ -71,6 +71,18 @@ fn a_change_and_its_context(rt: HostRuntime) -> Result<(), Fail> {
 }
 
 #[test]
+fn two_datagrams_in_one_list(rt: HostRuntime) -> Result<(), Fail> {
+    let octets = message(rt.alloc(), &[&DATA])?;
+    assert!(rt; octets.len() < 200);
+    let mut found = Vec::new(rt.alloc());
+    add_events(&mut found, OURS, 7, &octets)?;
+    add_events(&mut found, OURS, 8, &octets)?;
+    assert_eq!(rt; found.len(), 2);
+    assert_eq!(rt; (found[0].place.datagram, found[1].place.datagram), (7, 8));
+    Ok(())
+}
+
+#[test]
 fn destinations(rt: HostRuntime) -> Result<(), Fail> {
     let others = [0x0e, 1, 12, 0, 9, 9, 9, 9, 9, 9, 9, 9, 9, 9, 9, 9];
     let anyone = [0x0e, 1, 12, 0, 0, 0, 0, 0, 0, 0, 0, 0, 0, 0, 0, 0];

@@ -1,4 +1,4 @@
-use Rattle.std.proofs.Common.{◌≡◌, ℕ, ◌^◌, ◌≤◌, ◌++◌, List, length, map}
+use Rattle.std.proofs.Common.{◌≡◌, ℕ, ◌++◌, List, length, map}
 use Rattle.rtps_receiver.specs.Events.{Happening}
 use Rattle.rtps_planner.specs.Job.{Job}
 use Rattle.rtps_planner.specs.Plan.{AreSteps, job_seen, jobs_by}
@@ -10,5 +10,4 @@ invariant-loop-rank g l = record {
   jobs : (es : List Happening) (asked : ℕ → Job) → AreSteps es l.fn.lists.items asked → map (job_seen es) l.jobs.items ≡ jobs_by asked (length l.yielded);
   left : l.fn.lists.items ≡ map (λ s. s.1) l.yielded ++ l.rank-iterator.iter.rest.items;
   count : l.rank-iterator.count ≡ length l.yielded;
-  few : l.rank-iterator.count ≤ 2 ^ 32;
 }

@@ -6,11 +6,16 @@ use Rattle.rtps_serial.specs.Outcome.{answer_view}
 use Rattle.rtps_serial.proofs.Answered.{on_ok_then}
 use Rattle.rtps_serial.proofs.Hearing.{announced_known}
 use Rattle.rtps_planner.specs.Plan.{discovery_sending}
-use Rattle.rtps_planner.proofs.Planned.{announced_answer, changes_asked, grow_same}
+use Rattle.rtps_planner.proofs.Planned.{announced_answer, changes_asked, grow_same, list_to, there_is}
 use Rattle.rtps_planner.proofs.steps.plan_announcement.Goals as goal
 
-pub returns : goal.returns
-returns g c = λ k es known at is.
+pub returns-clause-count : goal.returns-clause-count
+returns-clause-count g c =
+    let e = view c.args.event.now in
+    on_ok_then c.add_changes.result (λ grows. grows.count) (c.add_changes.ensures (list_to c.args.index e) e (there_is c.args.index e))
+
+pub returns-clause-planned : goal.returns-clause-planned
+returns-clause-planned g c = λ k es known at is.
     let e = view c.args.event.now in
     let old = c.args.planning.now in
     let sent = map answer_view old.answers.items in

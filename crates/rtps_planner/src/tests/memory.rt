@@ -1,0 +1,73 @@
+//! Refused growths.
+
+ghost use Rattle.std.specs.Prelude.{◌≡◌, Ok};
+ghost use Rattle.rtps_discovery.specs.Config.{check_of};
+
+use super::outputs::{BOTH, gather_all, is_of_both};
+use super::plans::{six_events, two_readers};
+use crate::*;
+use linked_list_allocator::LocalHeap;
+use rtps_discovery::{Config, Discovery, check};
+use rtps_receiver::Event;
+use std::alloc::Global;
+use std::test::Fail;
+
+/// Whether outputs are put together in a heap of this size, or memory is refused.
+fn gathers_in(alloc: Global, size: usize) -> Result<bool, Fail> {
+    let heap = LocalHeap::new(alloc, size)?;
+    match gather_all(&heap, &BOTH) {
+        Ok(outcome) => {
+            if !is_of_both(outcome) {
+                return Err(Fail::new("another outcome"));
+            }
+            Ok(true)
+        }
+        Err(GatherFault::NoMemory) => Ok(false),
+        Err(_) => Err(Fail::new("a fault of good outputs")),
+    }
+}
+
+#[test]
+fn refused_growths_gather_nothing(rt: HostRuntime) -> Result<(), Fail> {
+    let (mut refused, mut gathered) = (false, false);
+    for step in 1..65 {
+        if gathers_in(rt.alloc(), step * 64)? {
+            gathered = true;
+        } else {
+            refused = true;
+        }
+    }
+    assert!(rt; refused && gathered);
+    Ok(())
+}
+
+/// How many jobs are planned in a heap of this size; none where memory is refused.
+fn jobs_in(alloc: Global, config: &Config, events: &[Event<'_>], size: usize) -> Result<usize, Fail>
+    requires { check_of config.now ≡ Ok tt }
+{
+    let heap = LocalHeap::new(alloc, size)?;
+    let Ok(mut discovery) = Discovery::new(&heap, config) else {
+        return Ok(0);
+    };
+    match plan(&heap, events, &mut discovery) {
+        Ok(plan) => Ok(plan.jobs.len()),
+        Err(_) => Ok(0),
+    }
+}
+
+#[test]
+fn refused_growths_plan_nothing(rt: HostRuntime) -> Result<(), Fail> {
+    let config = two_readers(rt.alloc())?;
+    check(&config)?;
+    let events = six_events(rt.alloc())?;
+    let (mut refused, mut planned) = (false, false);
+    for step in 1..65 {
+        match jobs_in(rt.alloc(), &config, &events, step * 64)? {
+            0 => refused = true,
+            2 => planned = true,
+            _ => return Err(Fail::new("a job is lost")),
+        }
+    }
+    assert!(rt; refused && planned);
+    Ok(())
+}

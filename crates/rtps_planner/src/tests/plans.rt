@@ -1,0 +1,137 @@
+//! Plans of events that were written down by hand.
+
+ghost use Rattle.std.specs.Prelude.{◌≡◌, Ok};
+ghost use Rattle.rtps_discovery.specs.Config.{check_of};
+
+use super::place;
+use crate::*;
+use dds_qos::Requested;
+use rtps_discovery::{Config, Discovery, FixedMatch, ReaderConfig, check};
+use rtps_receiver::{Body, Event, HeartbeatFrag};
+use rtps_types::{EntityId, Guid, GuidPrefix, Locators, Number};
+use std::alloc::{AllocError, Global};
+use std::test::Fail;
+
+const WRITER: Guid = Guid {
+    prefix: GuidPrefix([0x0a; 12]),
+    entity: EntityId([0, 0, 1, 2]),
+};
+
+/// The entities of two readers.
+const FIRST: EntityId = EntityId([0, 0, 1, 7]);
+
+const SECOND: EntityId = EntityId([0, 0, 2, 7]);
+
+/// Names no reader: an event is for each that is matched with its writer.
+const ALL: EntityId = EntityId([0; 4]);
+
+fn add_reader(
+    alloc: Global,
+    config: &mut Config,
+    rank: u32,
+    entity: EntityId,
+) -> Result<(), AllocError> {
+    config.fixed.push(FixedMatch {
+        rank,
+        writer: WRITER,
+        locators: Locators::new(Vec::new(alloc)),
+    })?;
+    config.readers.push(ReaderConfig {
+        entity,
+        topic: String::from_str(alloc, "Square")?,
+        type_name: String::from_str(alloc, "ShapeType")?,
+        requested: Requested::new(alloc),
+    })?;
+    Ok(())
+}
+
+/// Two readers that are matched with the writer.
+pub(super) fn two_readers(alloc: Global) -> Result<Config, AllocError> {
+    let mut config = Config {
+        own: GuidPrefix([0x0b; 12]),
+        readers: Vec::new(alloc),
+        fixed: Vec::new(alloc),
+    };
+    add_reader(alloc, &mut config, 0, FIRST)?;
+    add_reader(alloc, &mut config, 1, SECOND)?;
+    Ok(config)
+}
+
+/// An event of the writer for a reader.
+pub(super) fn event_for(submessage: u32, reader: EntityId) -> Option<Event<'static>> {
+    let number = Number::new(1)?;
+    Some(Event {
+        place: place(submessage),
+        source: WRITER.prefix,
+        time: None,
+        writer: WRITER.entity,
+        reader,
+        body: Body::HeartbeatFrag(HeartbeatFrag {
+            number,
+            last: 1,
+            count: 1,
+        }),
+    })
+}
+
+/// Six events for the first reader, of which every third is for the second one too.
+pub(super) fn six_events(alloc: Global) -> Result<Vec<Event<'static>>, Fail> {
+    let mut events = Vec::new(alloc);
+    for submessage in 1..7 {
+        let reader = if submessage % 3 == 0 { ALL } else { FIRST };
+        match event_for(submessage, reader) {
+            Some(event) => events.push(event)?,
+            None => return Err(Fail::new("1 is no number")),
+        }
+    }
+    Ok(events)
+}
+
+/// Whether a job takes in these events, in this order.
+fn takes(job: &Job, rank: u32, events: &[usize]) -> bool {
+    job.rank == rank
+        && job.steps.len() == events.len()
+        && job.steps.iter().zip(events).all(|(step, event)| step.event == *event
+            && step.change.is_none())
+}
+
+/// Whether the plan is that of the six events.
+fn is_of_six(plan: Plan) -> bool {
+    let [first, second] = plan.jobs.as_slice() else {
+        return false;
+    };
+    takes(first, 0, &[0, 1, 2, 3, 4, 5])
+        && takes(second, 1, &[2, 5])
+        && plan.rest.readers == 2
+        && plan.rest.ranks.as_slice() == [0, 1].as_slice()
+        && plan.rest.answers.is_empty()
+}
+
+/// Whether the plan is that of no event.
+fn is_of_none(plan: Plan) -> bool {
+    plan.jobs.is_empty() && plan.rest.readers == 2 && plan.rest.ranks.is_empty()
+}
+
+fn plan_of(alloc: Global, config: &Config, events: &[Event<'_>]) -> Result<Plan, AllocError>
+    requires { check_of config.now ≡ Ok tt }
+{
+    let mut discovery = Discovery::new(alloc, config)?;
+    plan(alloc, events, &mut discovery)
+}
+
+#[test]
+fn every_third_event_is_for_the_second_reader(rt: HostRuntime) -> Result<(), Fail> {
+    let config = two_readers(rt.alloc())?;
+    check(&config)?;
+    let events = six_events(rt.alloc())?;
+    assert!(rt; is_of_six(plan_of(rt.alloc(), &config, &events)?));
+    Ok(())
+}
+
+#[test]
+fn no_event_gives_no_job(rt: HostRuntime) -> Result<(), Fail> {
+    let config = two_readers(rt.alloc())?;
+    check(&config)?;
+    assert!(rt; is_of_none(plan_of(rt.alloc(), &config, &[])?));
+    Ok(())
+}
