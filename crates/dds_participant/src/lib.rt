@@ -5,5 +5,7 @@ mod batch;
 mod decode;
 mod participant;
 mod readers;
+#[cfg(test)]
+mod tests;
 
 pub use participant::Participant;

@@ -30,7 +30,9 @@ pub struct ReaderJob<V> {
 impl<V: Drop> ReaderJob<V> {
     /// A job with new lists. No memory is taken before something comes.
     pub fn new(alloc: Global, job: Job, state: ReaderState) -> ReaderJob<V>
-        ensures { (result.job ≡ job) × (result.state ≡ state) }
+        ensures given { (result.job ≡ job) × (result.state ≡ state) }
+        ensures empty { (result.output.notices.items ≡ [])
+            × (result.output.answers.items ≡ []) }
     {
         ReaderJob {
             job,

@@ -23,7 +23,7 @@ pair-preserved-in-Continue-1 g c =
     let done = map rank_in work in
     let idle = map state_rank c.pair.idle.items in
     let more : map rank_in c.push.new.self.items ≡ done ++ state.rank ∷ []
-    = ap (map rank_in) pushed ∙ map_push rank_in work c.new.result ∙ ap (λ j. done ++ j.rank ∷ []) c.new.ensures.0 ∙ ap (λ n. done ++ n ∷ []) ranked in
+    = ap (map rank_in) pushed ∙ map_push rank_in work c.new.result ∙ ap (λ j. done ++ j.rank ∷ []) c.new.ensures.given.0 ∙ ap (λ n. done ++ n ∷ []) ranked in
     record {
       paired = λ es decoding shares stand are.
           let before = c.pair.invariant.paired es decoding shares stand are in
@@ -32,7 +32,7 @@ pair-preserved-in-Continue-1 g c =
           let last = job_last es (λ rank. (shares rank).job) (length front) c.pair.jobs.items c.last_of.new.jobs.items job jobs (ranked ∙ one.ranked) (before.1 ∙ ap (jobs_by (λ rank. (shares rank).job)) count) in (
             share_front shares states front state was before.0,
             last.rest,
-            subst (All (IsReady es shares)) (sym pushed) (All-push (IsReady es shares) work c.new.result before.2 (ready es shares (length front) c.new.result job state c.new.ensures.0 c.new.ensures.1 (ranked ∙ one.ranked) last.steps one)),
+            subst (All (IsReady es shares)) (sym pushed) (All-push (IsReady es shares) work c.new.result before.2 (ready es shares (length front) c.new.result job state c.new.ensures.given.0 c.new.ensures.given.1 (ranked ∙ one.ranked) last.steps one)),
             before.3,
           );
       ranks = subst (λ l. IsPermutation all (map state_rank front ++ (l ++ idle))) (sym more)

@@ -1,0 +1,265 @@
+//! Participants against datagrams that were written down by hand.
+
+ghost use Rattle.std.specs.Prelude.{◌≡◌, ◌≤◌, All, length, true};
+
+mod failing;
+
+use crate::*;
+use dds_qos::{Reliability, Requested};
+use dds_topic::{Catalog, Shape, Shapes};
+use rtps_discovery::{Config, FixedMatch, ReaderConfig};
+use rtps_reader::{Body, NoticeKind, Status};
+use rtps_serial::Report;
+use rtps_shards::{Gate, NoGate};
+use rtps_types::{EntityId, Guid, GuidPrefix, Locators};
+use std::alloc::{AllocError, Global};
+use std::sync::atomic::{AtomicU64, Ordering};
+use std::test::Fail;
+use std::thread::Threads;
+
+/// DATA with number 1 and the shape BLUE at 10, 20 of size 30, for every reader.
+const DATA: &[u8] = b"RTPS\x02\x05\x00\x00\
+    \x0a\x0a\x0a\x0a\x0a\x0a\x0a\x0a\x0a\x0a\x0a\x0a\
+    \x15\x05\x30\x00\x00\x00\x10\x00\x00\x00\x00\x00\x00\x00\x01\x02\
+    \x00\x00\x00\x00\x01\x00\x00\x00\
+    \x00\x01\x00\x00\x05\x00\x00\x00BLUE\x00\x00\x00\x00\
+    \x0a\x00\x00\x00\x14\x00\x00\x00\x1e\x00\x00\x00";
+
+/// HEARTBEAT of the numbers 1 to 3, for every reader.
+const HEARTBEAT: &[u8] = b"RTPS\x02\x05\x00\x00\
+    \x0a\x0a\x0a\x0a\x0a\x0a\x0a\x0a\x0a\x0a\x0a\x0a\
+    \x07\x01\x1c\x00\x00\x00\x00\x00\x00\x00\x01\x02\
+    \x00\x00\x00\x00\x01\x00\x00\x00\x00\x00\x00\x00\x03\x00\x00\x00\x01\x00\x00\x00";
+
+/// The same later, for the second reader alone: only number 3 is still there.
+const LATER: &[u8] = b"RTPS\x02\x05\x00\x00\
+    \x0a\x0a\x0a\x0a\x0a\x0a\x0a\x0a\x0a\x0a\x0a\x0a\
+    \x07\x01\x1c\x00\x00\x00\x02\x07\x00\x00\x01\x02\
+    \x00\x00\x00\x00\x03\x00\x00\x00\x00\x00\x00\x00\x03\x00\x00\x00\x02\x00\x00\x00";
+
+const ALL: [&[u8]; 3] = [DATA, HEARTBEAT, LATER];
+
+fn reader_config(alloc: Global, rank: u8) -> Result<ReaderConfig, AllocError> {
+    let mut requested = Requested::new(alloc);
+    requested.policies.reliability = Reliability::Reliable;
+    Ok(ReaderConfig {
+        entity: EntityId([0, 0, rank.wrapping_add(1), 7]),
+        topic: String::from_str(alloc, "Square")?,
+        type_name: String::from_str(alloc, "ShapeType")?,
+        requested,
+    })
+}
+
+/// Two reliable readers that are both matched with the writer from the start.
+fn config(alloc: Global) -> Result<Config, AllocError> {
+    let mut config = Config {
+        own: GuidPrefix([0x0b; 12]),
+        readers: Vec::new(alloc),
+        fixed: Vec::new(alloc),
+    };
+    for rank in [0, 1] {
+        config.readers.push(reader_config(alloc, rank)?)?;
+        config.fixed.push(FixedMatch {
+            rank: u32::from(rank),
+            writer: Guid {
+                prefix: GuidPrefix([0x0a; 12]),
+                entity: EntityId([0, 0, 1, 2]),
+            },
+            locators: Locators::new(Vec::new(alloc)),
+        })?;
+    }
+    Ok(config)
+}
+
+/// Whether a participant takes these datagrams in one batch.
+fn fit(datagrams: &[&[u8]]) -> bool
+    ensures few { result ≡ true → length datagrams.now ≤ 4096 }
+    ensures short { result ≡ true → All (λ d. length d.now ≤ 65507) datagrams.now }
+{
+    for datagram in datagrams {
+        if datagram.len() > 65_507 {
+            return false;
+        }
+    }
+    datagrams.len() <= 4096
+}
+
+/// What a report says.
+#[derive(Clone, Copy, PartialEq, Eq)]
+enum Said {
+    /// A sample of this number, which is BLUE.
+    Blue(u64),
+    /// So many numbers are lost.
+    Lost(u64),
+    Answer,
+    Other,
+}
+
+/// The rank of a report, the datagram that caused it, and what it says.
+type Line = (Option<u32>, u64, Said);
+
+fn line(report: &Report<Shape>) -> Line {
+    let said = match report {
+        Report::Answer(_) => Said::Answer,
+        Report::Notice { notice, .. } => match &notice.what {
+            NoticeKind::Lost { count } => Said::Lost(*count),
+            NoticeKind::Sample {
+                number,
+                body: Body::Value(_, shape),
+                ..
+            } if shape.color.as_str() == "BLUE" => Said::Blue(number.get()),
+            _ => Said::Other,
+        },
+    };
+    let turn = report.turn();
+    (turn.rank, turn.place.datagram, said)
+}
+
+/// Has a participant take a batch, and puts what it gives after the lines, in order.
+fn take<C: Catalog<Value = Shape>, G: Gate, R: Threads + Sync>(
+    rt: &R,
+    alloc: Global,
+    gate: &G,
+    participant: &mut Participant<C>,
+    batch: (&[&[u8]], usize),
+    lines: &mut Vec<Line>,
+) -> Result<(), Fail>
+    requires { (1 ≤ batch.1) × (batch.1 ≤ 64) }
+{
+    let (datagrams, workers) = batch;
+    if !fit(datagrams) {
+        return Err(Fail::new("the batch is too large"));
+    }
+    let outcome = participant.run_batch(rt, alloc, gate, datagrams, workers)?;
+    for report in &outcome.in_order(alloc)? {
+        lines.push(line(report))?;
+    }
+    Ok(())
+}
+
+/// What the readers give of the three datagrams. Only the second one is told of the lost number 2.
+const EXPECTED: [Line; 6] = [
+    (Some(0), 0, Said::Blue(1)),
+    (Some(1), 0, Said::Blue(1)),
+    (Some(0), 1, Said::Answer),
+    (Some(1), 1, Said::Answer),
+    (Some(1), 2, Said::Lost(1)),
+    (Some(1), 2, Said::Answer),
+];
+
+/// How a reader with one match and one sample stands that lost so many numbers.
+fn status(lost_total: u32) -> Option<Status> {
+    Some(Status {
+        matched_total: 1,
+        matched_now: 1,
+        incompatible_total: 0,
+        last_policy: None,
+        lost_total,
+        samples: 1,
+    })
+}
+
+/// Whether a participant stands as it has to after the three datagrams, in so many batches.
+fn stands(alloc: Global, participant: &Participant<Shapes>, batches: usize) -> Result<bool, Fail> {
+    Ok(
+        participant.status(0) == status(0)
+            && participant.status(1) == status(1)
+            && participant.status(2).is_none()
+            && participant.readers() == 2
+            && participant.batches() == batches as u64
+            && participant.matches(alloc)?.len() == 2,
+    )
+}
+
+/// Whether the three datagrams give what they have to, in batches of these lengths.
+fn gives_all<R: Threads + Sync>(
+    rt: &R,
+    alloc: Global,
+    cut: &[usize],
+    workers: usize,
+) -> Result<bool, Fail>
+    requires { (1 ≤ workers) × (workers ≤ 64) }
+{
+    let mut participant = Participant::new(alloc, config(alloc)?, Shapes)?;
+    let mut lines = Vec::new(alloc);
+    let mut at = 0_usize;
+    for length in cut {
+        let end = at.saturating_add(*length);
+        let Some(batch) = ALL.get(at..end) else {
+            return Ok(false);
+        };
+        take(
+            rt,
+            alloc,
+            &NoGate,
+            &mut participant,
+            (batch, workers),
+            &mut lines,
+        )?;
+        at = end;
+    }
+    Ok(lines.as_slice() == EXPECTED.as_slice() && stands(alloc, &participant, cut.len())?)
+}
+
+#[test]
+fn any_cut_and_any_workers_give_the_same(rt: HostRuntime) -> Result<(), Fail> {
+    let alloc = rt.alloc();
+    let cuts: [&[usize]; 4] = [&[3], &[1, 1, 1], &[0, 2, 0, 1, 0], &[1, 2]];
+    for cut in cuts {
+        for workers in [1, 2, 64] {
+            assert!(rt; gives_all(&rt, alloc, cut, workers)?);
+        }
+    }
+    Ok(())
+}
+
+/// A gate that counts the jobs of the first reader and those of the others, as they begin and as
+/// they end.
+#[derive(Drop)]
+struct Counting {
+    first: AtomicU64,
+    others: AtomicU64,
+}
+
+impl Gate for Counting {
+    fn enter(&self, rank: u32) {
+        let count = if rank == 0 { &self.first } else { &self.others };
+        count.fetch_add(1, Ordering::SeqCst);
+    }
+
+    fn leave(&self, rank: u32) {
+        let count = if rank == 0 { &self.first } else { &self.others };
+        count.fetch_add(100, Ordering::SeqCst);
+    }
+}
+
+/// How often jobs of the first reader and of the others began, and a hundred times how often they
+/// ended, once a participant took DATA and then the heartbeat for the second reader.
+fn told<R: Threads + Sync>(rt: &R, alloc: Global) -> Result<(u64, u64), Fail> {
+    let gate = Counting {
+        first: AtomicU64::new(0),
+        others: AtomicU64::new(0),
+    };
+    let mut participant = Participant::new(alloc, config(alloc)?, Shapes)?;
+    let mut lines = Vec::new(alloc);
+    for datagram in [DATA, LATER] {
+        take(
+            rt,
+            alloc,
+            &gate,
+            &mut participant,
+            (&[datagram], 2),
+            &mut lines,
+        )?;
+    }
+    Ok((
+        gate.first.load(Ordering::SeqCst),
+        gate.others.load(Ordering::SeqCst),
+    ))
+}
+
+#[test]
+fn a_reader_without_a_step_has_no_job(rt: HostRuntime) -> Result<(), Fail> {
+    assert_eq!(rt; told(&rt, rt.alloc())?, (101, 202));
+    Ok(())
+}

@@ -1,0 +1,124 @@
+//! Batches that are out of memory.
+
+use super::{DATA, HEARTBEAT, config, fit};
+use crate::*;
+use dds_topic::{Catalog, CatalogError, Shapes};
+use rtps_reader::Status;
+use rtps_serial::EngineError;
+use rtps_shards::NoGate;
+use rtps_types::KeyHash;
+use std::alloc::{AllocError, Global};
+use std::sync::atomic::{AtomicU64, Ordering};
+use std::test::Fail;
+use std::thread::Threads;
+
+/// A catalog that finds no memory for one value, counted from 0 in the order in which they come.
+#[derive(Drop)]
+struct Starved<C> {
+    catalog: C,
+    refused: u64,
+    decoded: AtomicU64,
+}
+
+impl<C: Catalog> Catalog for Starved<C> {
+    type Value = C::Value;
+
+    type Memo = C::Memo;
+
+    ghost Meaning = { C.Meaning };
+
+    ghost view = { C.view };
+
+    ghost decoding = { λ s. C.decoding s.catalog };
+
+    ghost key = { λ s. C.key s.catalog };
+
+    ghost text_of = { λ s. C.text_of s.catalog };
+
+    fn decode(&self, alloc: Global, kind: u16, body: &[u8]) -> Result<C::Value, CatalogError> {
+        if self.decoded.fetch_add(1, Ordering::SeqCst) == self.refused {
+            return Err(CatalogError::NoMemory);
+        }
+        self.catalog.decode(alloc, kind, body)
+    }
+
+    fn key_of(&self, alloc: Global, value: &C::Value) -> Result<KeyHash, AllocError> {
+        self.catalog.key_of(alloc, value)
+    }
+
+    fn key_by(
+        &self,
+        memo: &mut C::Memo,
+        alloc: Global,
+        value: &C::Value,
+    ) -> Result<KeyHash, AllocError> {
+        self.catalog.key_by(memo, alloc, value)
+    }
+
+    fn key_payload(&self, alloc: Global, value: &C::Value) -> Result<Vec<u8>, AllocError> {
+        self.catalog.key_payload(alloc, value)
+    }
+
+    fn key_of_payload(
+        &self,
+        alloc: Global,
+        kind: u16,
+        body: &[u8],
+    ) -> Result<KeyHash, CatalogError> {
+        self.catalog.key_of_payload(alloc, kind, body)
+    }
+
+    ghost key_again = { λ s v. C.key_again s.catalog v };
+}
+
+/// Why a participant refuses a batch, if it does.
+fn refusal<R: Threads + Sync>(
+    rt: &R,
+    alloc: Global,
+    participant: &mut Participant<Starved<Shapes>>,
+) -> Result<Option<EngineError>, Fail> {
+    let datagrams = [DATA, HEARTBEAT];
+    if !fit(&datagrams) {
+        return Err(Fail::new("the batch is too large"));
+    }
+    Ok(
+        participant
+            .run_batch(rt, alloc, &NoGate, &datagrams, 2)
+            .err(),
+    )
+}
+
+/// Whether a participant whose batch has two values takes it, or else fails for good, where this
+/// value finds no memory.
+fn fails_at<R: Threads + Sync>(rt: &R, alloc: Global, refused: u64) -> Result<bool, Fail> {
+    let catalog = Starved {
+        catalog: Shapes,
+        refused,
+        decoded: AtomicU64::new(0),
+    };
+    let mut participant = Participant::new(alloc, config(alloc)?, catalog)?;
+    let first = refusal(rt, alloc, &mut participant)?;
+    let second = refusal(rt, alloc, &mut participant)?;
+    let samples = match participant.status(0) {
+        Some(Status { samples, .. }) => samples,
+        None => return Ok(false),
+    };
+    if refused >= 2 {
+        return Ok(first.is_none() && second.is_none() && samples == 1);
+    }
+    Ok(
+        first == Some(EngineError::NoMemory)
+            && second == Some(EngineError::Failed)
+            && samples == 0
+            && participant.batches() == 0
+            && participant.matches(alloc).err() == Some(EngineError::Failed),
+    )
+}
+
+#[test]
+fn a_batch_out_of_memory_fails_a_participant(rt: HostRuntime) -> Result<(), Fail> {
+    for refused in [0, 1, 2] {
+        assert!(rt; fails_at(&rt, rt.alloc(), refused)?);
+    }
+    Ok(())
+}
