@@ -3,6 +3,7 @@
 ghost use Rattle.std.specs.Prelude.{◌≡◌, ◌≤◌, All, length, true};
 
 mod failing;
+mod stress;
 
 use crate::*;
 use dds_qos::{Reliability, Requested};
