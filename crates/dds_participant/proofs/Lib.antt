@@ -3,3 +3,6 @@ mod Pairing
 mod Returned
 mod Taken
 mod Decoding
+pub mod Giving
+mod Dealing
+mod Leaving

@@ -8,14 +8,16 @@ use Rattle.std.proofs.lemmas.List.Elements.{All-append, All-cons, All-nil}
 use Rattle.std.proofs.lemmas.List.Sorted.{IsPermutation-append_right, IsPermutation-middle, IsPermutation-sym, IsPermutation-to_front, IsPermutation-trans}
 use Rattle.rtps_receiver.specs.Events.{Happening}
 use Rattle.dds_topic.specs.Decoding.{Decoding}
+use Rattle.rtps_reader.specs.Notices.{answer_view, notice_view}
 use Rattle.rtps_reader.specs.Standing.{ReaderKept}
 use Rattle.rtps_serial.specs.Standing.{StandsFor}
 use Rattle.rtps_planner.specs.declared.jobs.Job as plan_job
-use Rattle.rtps_planner.specs.Job.{Job}
+use Rattle.rtps_planner.specs.Job.{Job, job_sent, job_told}
 use Rattle.rtps_planner.specs.Plan.{job_at, job_seen, jobs_by, steps_seen}
+use Rattle.rtps_shards.specs.declared.jobs.JobResult.{JobResult}
 use Rattle.rtps_shards.specs.declared.jobs.ReaderJob.{ReaderJob}
-use Rattle.rtps_shards.specs.Results.{IsReady, Share, given_done, reader_done}
-use Rattle.dds_participant.specs.Sharing.{AllShare, IsAfter}
+use Rattle.rtps_shards.specs.Results.{IsDone, IsReady, Share, given_done, reader_done}
+use Rattle.dds_participant.specs.Sharing.{AllShare}
 
 -- ---- the last of a list
 
@@ -116,12 +118,18 @@ share_front shares states front s is all rank other below =
     (ap (λ l. get_or l rank other) is ∙ get_or_append_left front (s ∷ []) other rank below)
     (all rank other (omega (arith, below, ap length is, length-append front (s ∷ []))))
 
--- a reader without a job is as it was
-pub stays : {M : Type 0} (decoding : Decoding M) (shares : ℕ → Share M) (rank : ℕ) (s : ReaderKept) → (shares rank).job ≡ [] → StandsFor (shares rank).reader (shares rank).given rank s → IsAfter decoding shares s
-stays {M} decoding shares rank s none stands =
-    let was : Share M = shares rank in
-    let one : StandsFor (reader_done was) (given_done decoding was) rank s = by_job was none stands in
-    subst (λ n. StandsFor (reader_done (shares n)) (given_done decoding (shares n)) n s) (sym stands.ranked) one
+-- a reader without a job is as one whose job is done
+pub idle_done : {V M : Type 0} (f : V → M) (decoding : Decoding M) (shares : ℕ → Share M) (rank : ℕ) (s : ReaderKept) (x : JobResult V) → (shares rank).job ≡ [] → StandsFor (shares rank).reader (shares rank).given rank s
+    → x.rank ≡ s.rank → x.state ≡ s → x.output.notices.items ≡ [] → x.output.answers.items ≡ [] → IsDone f decoding shares x
+idle_done {V} {M} f decoding shares rank s x none stands ranked is told sent =
+    let here : x.rank ≡ rank = ranked ∙ stands.ranked in
+    let idle : (shares x.rank).job ≡ [] = ap (λ n. (shares n).job) here ∙ none in
+    record {
+      state = subst (λ n. StandsFor (reader_done (shares n)) (given_done decoding (shares n)) n x.state) (sym here)
+          (subst (StandsFor (reader_done (shares rank)) (given_done decoding (shares rank)) rank) (sym is) (by_job (shares rank) none stands));
+      told = ap (map (notice_view f)) told ∙ ap (job_told decoding (shares x.rank).reader) (sym idle);
+      sent = ap (map answer_view) sent ∙ ap (job_sent (shares x.rank).reader) (sym idle);
+    }
   where
     by_job : (w : Share M) → w.job ≡ [] → StandsFor w.reader w.given rank s → StandsFor (reader_done w) (given_done decoding w) rank s
     by_job w e h = rw (e, append-nil w.given) h

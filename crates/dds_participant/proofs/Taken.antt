@@ -33,10 +33,6 @@ all_after decoding w es states count after rank other below =
     let part = parts decoding w es rank in
     rw (part.reader, part.told (omega (arith, below, count))) (after rank other below)
 
--- and so is what comes of it
-pub outputs_of : {V A M : Type 0} (f : V → M) (decoding : Decoding M) (w : World M) (es : List Happening) (outputs : List (ℕ × Output V A)) → All (IsOutput f decoding (shares_in w es)) outputs → All (IsOutputOf f decoding w es) outputs
-outputs_of f decoding w es outputs all k d below = let one = all k d below in record { told = one.told; sent = one.sent }
-
 -- the run over some datagrams more
 pub batch_more : {M : Type 0} (decoding : Decoding M) (config : Config) (earlier batch : List (List ℕ)) (index : ℕ) → index ≡ length earlier
     → run decoding config (earlier ++ batch) ≡ world_run decoding (run decoding config earlier) (events_from config.own index batch)
@@ -118,11 +114,3 @@ run_keeps f decoding w es hs plan p old new read kept planned ran is =
       count = ap length is ∙ count ∙ sym (count_stays decoding w es);
       readers = subst (AllStand (world_run decoding w es)) (sym is) (all_after decoding w es p.states.items count ran.states);
     })
-
-pub run_adds : {V M : Type 0} (f : V → M) (decoding : Decoding M) (w : World M) (es : List Happening) (own : GuidPrefix) (index : ℕ) (datagrams : List (List ℕ)) (plan : Plan Global) (kept : Kept) (outputs : List (ℕ × Output V Global)) (outcome : Outcome V Global)
-    → es ≡ events_from own index datagrams → IsPlan w.known es plan kept → fault_of plan.rest.ranks.items (ranks_of outputs) ≡ None → All (IsOutput f decoding (shares_in w es)) outputs → IsGathered plan.rest outputs outcome
-    → Adds f w (world_run decoding w (events_from own index datagrams)) outcome
-run_adds f decoding w es own index datagrams plan kept outputs outcome read planned fine all has =
-    let hs = events_from own index datagrams in
-    adds f decoding w hs (rise_from own index datagrams) plan kept outputs outcome (subst (λ l. IsPlan w.known l plan kept) read planned) (right plan.rest.ranks.items (ranks_of outputs) fine)
-    (subst (λ l. All (IsOutputOf f decoding w l) outputs) read (outputs_of f decoding w es outputs all)) has

@@ -1,3 +1,4 @@
 pub mod Kept
 pub mod Sharing
 pub mod Batch
+pub mod Given

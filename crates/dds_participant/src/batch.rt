@@ -1,22 +1,25 @@
 //! A batch of datagrams.
 
 ghost use Rattle.std.specs.Prelude.{◌≡◌, ◌+◌, ◌^◌, ◌≤◌, ◌<◌, ◌++◌, ℕ, All, IfErr, IfOk, List, OnErr, OnOk, false, true, length, map};
+ghost use Rattle.std.specs.List.Sorted.{IsPermutation};
 ghost use Rattle.rtps_receiver.specs.Events.{view};
 ghost use Rattle.rtps_serial.specs.Outcome.{Adds};
 ghost use Rattle.rtps_serial.specs.Run.{events_from, world_run};
 ghost use Rattle.rtps_serial.specs.Standing.{ShowsAt, StandsAt, datagram_limit, run_by};
 ghost use Rattle.rtps_serial.specs.World.{World};
-ghost use Rattle.rtps_shards.specs.Results.{Share};
+ghost use Rattle.rtps_reader.specs.Standing.{ReaderKept};
+ghost use Rattle.rtps_shards.specs.Results.{Share, rank_in, rank_of};
 ghost use Rattle.dds_participant.specs.Batch.{IsFinishedBy, Keeps, OnlyRuns, failing};
+ghost use Rattle.dds_participant.specs.Given.{IsGiven, LeavesLists};
 ghost use Rattle.dds_participant.specs.Kept.{RefusesBatch, TakesBatch};
-ghost use Rattle.dds_participant.specs.Sharing.{AllShare, AreJobs, AreRun};
+ghost use Rattle.dds_participant.specs.Sharing.{AllShare, ArePaired, AreRun, state_rank};
 
-use crate::decode::decoded;
+use crate::decode::{decoded, places_of};
+use crate::given::{Given, outcome_of};
 use crate::participant::Participant;
-use crate::readers::{Parted, pair, part};
+use crate::readers::{Paired, Parted, pair, part};
 use dds_topic::Catalog;
-use rtps_planner::{Job, gather, plan};
-use rtps_reader::ReaderState;
+use rtps_planner::plan;
 use rtps_serial::{EngineError, Outcome, show_all};
 use rtps_shards::{Batch, Gate, run_jobs};
 use std::alloc::{AllocError, Global};
@@ -26,25 +29,38 @@ use std::thread::Threads;
 /// A run has at most 2^48 datagrams.
 const DATAGRAM_LIMIT: u64 = 281_474_976_710_656;
 
-/// Has the readers, by rank, run these jobs on so many workers.
-fn run_readers<C: Catalog, G: Gate, R: Threads + Sync>(
+/// Who runs a batch.
+#[derive(Clone, Copy, Debug)]
+pub struct Workers<'a, G> {
+    /// How many workers there are, 1 to 64, of which the caller is one.
+    pub count: usize,
+    /// Told as each job begins and ends.
+    pub gate: &'a G,
+}
+
+/// Has so many workers run the jobs of readers.
+fn run_paired<C: Catalog, G: Gate, R: Threads + Sync>(
     rt: &R,
     alloc: Global,
     batch: &Batch<'_, C, G>,
-    jobs: Vec<Job>,
-    readers: Vec<ReaderState>,
+    paired: Paired<C::Value>,
     workers: usize,
 ) -> Result<Parted<C::Value>, AllocError>
-    requires readers { length readers.items ≤ 256 }
+    requires few { length paired.work.items ≤ 256 }
     requires workers { (1 ≤ workers) × (workers ≤ 64) }
-    ensures count { IfOk result (λ p. length p.states.items ≡ length readers.items) }
-    ensures run { (shares : ℕ → Share C.Meaning) → AllShare shares readers.items
-        → AreJobs (map view batch.now.events.now) shares jobs.items (length readers.items)
-        → IfOk result (AreRun C.view (C.decoding batch.now.catalog.now) shares readers.items) }
+    ensures count { IfOk result (λ p. length p.states.items
+        ≡ length paired.work.items + length paired.idle.items) }
+    ensures outputs { IfOk result (λ p. length p.outputs.items
+        ≡ length paired.work.items + length paired.idle.items) }
+    ensures run { (shares : ℕ → Share C.Meaning) (old : List ReaderKept) → AllShare shares old
+        → IsPermutation (map state_rank old)
+        (map rank_in paired.work.items ++ map rank_of paired.idle.items)
+        → ArePaired C.view (map view batch.now.events.now) (C.decoding batch.now.catalog.now) shares
+        paired
+        → IfOk result (AreRun C.view (C.decoding batch.now.catalog.now) shares old) }
 {
-    let paired = pair::<C>(alloc, jobs, readers)?;
     let results = run_jobs(rt, alloc, batch, paired.work, workers)?;
-    part::<C>(alloc, paired.idle, results)
+    part(alloc, paired.idle, results)
 }
 
 impl<C: Catalog> Participant<C> {
@@ -82,9 +98,56 @@ impl<C: Catalog> Participant<C> {
             → OnErr result (ShowsAt C.decoding earlier self.new.engine) }
     {
         self.admit(datagrams.len())?;
-        let outcome = self.run(rt, alloc, gate, datagrams, workers)?;
+        let workers = Workers {
+            count: workers,
+            gate,
+        };
+        let given = self.run(rt, alloc, &workers, datagrams, Given::new(alloc))?;
+        let outcome = outcome_of::<C>(alloc, given)?;
         self.finish(datagrams.len());
         Ok(outcome)
+    }
+
+    /// Takes the next datagrams as [`Participant::run_batch`] does, and gives what is put out in
+    /// lists that the caller lends: the places of the batch, discovery's answers, and what each
+    /// reader gives out and sends. Merged by place, as [`Given`] says, they are what the run puts
+    /// out more.
+    ///
+    /// What is in the lists is dropped. For the next batch they are lent again as they are: each
+    /// reader's lists are emptied by the worker that runs its job, and no memory is taken anew for
+    /// what they have room for. A refusal that changes nothing leaves them as they were, and want of
+    /// memory leaves them empty.
+    #[tactic(auto, unfolding(crate::specs::Kept::TakesBatch, crate::specs::Kept::RefusesBatch))]
+    pub fn run_in_order<G: Gate, R: Threads + Sync>(
+        &mut self,
+        rt: &R,
+        alloc: Global,
+        workers: &Workers<'_, G>,
+        datagrams: &[&[u8]],
+        given: &mut Given<C::Value>,
+    ) -> Result<(), EngineError>
+        requires few { length datagrams.now ≤ 4096 }
+        requires fit { All (λ d. length d.now ≤ 65507) datagrams.now }
+        requires workers { (1 ≤ workers.now.count) × (workers.now.count ≤ 64) }
+        ensures takes { TakesBatch (length datagrams.now) result self.old self.new }
+        ensures same { (self.new.engine.catalog ≡ self.old.engine.catalog)
+            × (self.new.engine.config ≡ self.old.engine.config) }
+        ensures stands { (earlier : List (List ℕ)) → StandsAt C.decoding earlier self.old.engine
+            → OnOk result (StandsAt C.decoding (earlier ++ map (λ d. d.now) datagrams.now)
+            self.new.engine) }
+        ensures gives { (earlier : List (List ℕ)) → StandsAt C.decoding earlier self.old.engine
+            → OnOk result (IsGiven C.view (run_by C.decoding self.old.engine earlier)
+            (run_by C.decoding self.old.engine (earlier ++ map (λ d. d.now) datagrams.now))
+            given.new) }
+        ensures shows { (earlier : List (List ℕ)) → ShowsAt C.decoding earlier self.old.engine
+            → OnErr result (ShowsAt C.decoding earlier self.new.engine) }
+        ensures lists { IfErr result (λ e. LeavesLists e given.old given.new) }
+    {
+        self.admit(datagrams.len())?;
+        let lent = mem::replace(given, Given::new(alloc));
+        *given = self.run(rt, alloc, workers, datagrams, lent)?;
+        self.finish(datagrams.len());
+        Ok(())
     }
 
     /// Refuses a batch of so many datagrams before it is looked at, or has the participant failed
@@ -109,46 +172,51 @@ impl<C: Catalog> Participant<C> {
         Ok(())
     }
 
-    /// Gives the events of the datagrams to discovery and to the readers.
+    /// Gives the events of the datagrams to discovery and to the readers. What they give is put
+    /// into the lists, in the place of what is there.
     fn run<G: Gate, R: Threads + Sync>(
         &mut self,
         rt: &R,
         alloc: Global,
-        gate: &G,
+        workers: &Workers<'_, G>,
         datagrams: &[&[u8]],
-        workers: usize,
-    ) -> Result<Outcome<C::Value>, AllocError>
+        lists: Given<C::Value>,
+    ) -> Result<Given<C::Value>, AllocError>
         requires room { self.old.engine.index + length datagrams.now < 2 ^ 64 }
         requires fit { All (λ d. length d.now ≤ 65507) datagrams.now }
-        requires workers { (1 ≤ workers) × (workers ≤ 64) }
+        requires workers { (1 ≤ workers.now.count) × (workers.now.count ≤ 64) }
         requires readers { length self.old.engine.readers ≤ 256 }
         requires failed { self.old.engine.failed ≡ true }
         ensures same { OnlyRuns self.old self.new }
         ensures count { OnOk result
             (length self.new.engine.readers ≡ length self.old.engine.readers) }
+        ensures outputs { IfOk result (λ given.
+            length given.outputs.items ≡ length self.old.engine.readers) }
         ensures keeps { (w : World C.Meaning) → Keeps w self.old.engine → OnOk result
             (Keeps (world_run (C.decoding self.old.engine.catalog) w (events_from
             self.old.engine.config.own self.old.engine.index (map (λ d. d.now) datagrams.now)))
             self.new.engine) }
-        ensures adds { (w : World C.Meaning) → Keeps w self.old.engine → IfOk result (Adds C.view w
-            (world_run (C.decoding self.old.engine.catalog) w (events_from
+        ensures gives { (w : World C.Meaning) → Keeps w self.old.engine → IfOk result
+            (IsGiven C.view w (world_run (C.decoding self.old.engine.catalog) w (events_from
             self.old.engine.config.own self.old.engine.index (map (λ d. d.now) datagrams.now)))) }
     {
         let events = decoded(alloc, self.config.own, self.index, datagrams)?;
+        let places = places_of(lists.places, &events)?;
         let plan = plan(alloc, &events, &mut self.discovery)?;
         let readers = mem::replace(&mut self.readers, Vec::new(alloc));
+        let paired = pair::<C>(alloc, plan.jobs, readers, lists.outputs)?;
         let batch = Batch {
             catalog: &self.catalog,
-            gate,
+            gate: workers.gate,
             events: &events,
         };
-        let parted = run_readers(rt, alloc, &batch, plan.jobs, readers, workers)?;
+        let parted = run_paired(rt, alloc, &batch, paired, workers.count)?;
         self.readers = parted.states;
-        // The outputs are those of the plan's jobs: only memory can be wanting.
-        match gather(alloc, plan.rest, parted.outputs) {
-            Ok(outcome) => Ok(outcome),
-            Err(_) => Err(AllocError),
-        }
+        Ok(Given {
+            places,
+            answers: plan.rest.answers,
+            outputs: parted.outputs,
+        })
     }
 
     /// Counts so many datagrams and a batch as taken, and shows the statuses of the readers.

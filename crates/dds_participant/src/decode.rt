@@ -5,7 +5,7 @@ ghost use Rattle.rtps_receiver.specs.Events.{view};
 ghost use Rattle.rtps_serial.specs.Run.{events_from};
 
 use rtps_receiver::{Event, add_events};
-use rtps_types::GuidPrefix;
+use rtps_types::{GuidPrefix, Place};
 use std::alloc::{AllocError, Global};
 
 /// The events of these datagrams, in order, for the participant `own`. `first` is the place of the
@@ -26,4 +26,17 @@ pub(crate) fn decoded<'a>(
         add_events(&mut all, own, first + at as u64, datagram)?;
     }
     Ok(all)
+}
+
+/// The places of events, in a list that was lent, in the place of what is there.
+pub(crate) fn places_of(lent: Vec<Place>, events: &[Event<'_>]) -> Result<Vec<Place>, AllocError>
+    ensures { IfOk result (λ places.
+        places.items ≡ map (λ e. e.place) (map view events.now)) }
+{
+    let mut places = lent;
+    places.clear();
+    for event in events {
+        places.push(event.place)?;
+    }
+    Ok(places)
 }

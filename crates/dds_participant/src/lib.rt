@@ -3,9 +3,12 @@
 
 mod batch;
 mod decode;
+mod given;
 mod participant;
 mod readers;
 #[cfg(test)]
 mod tests;
 
+pub use batch::Workers;
+pub use given::Given;
 pub use participant::Participant;

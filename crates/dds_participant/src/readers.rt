@@ -1,13 +1,12 @@
 //! The readers of a participant on their way to the workers and back.
 
-ghost use Rattle.std.specs.Prelude.{◌≡◌, ◌+◌, ◌++◌, ◌==◌, ◌-◌, ◌<◌, ℕ, List, All, IfOk, MatchOption, false, length, map, option_to_list, slice_index_or};
-ghost use Rattle.std.specs.List.Sorted.{IsPermutation, IsSortedByKey};
-ghost use Rattle.std.specs.Ordering.{nat_cmp};
+ghost use Rattle.std.specs.Prelude.{◌≡◌, ◌+◌, ◌++◌, ◌==◌, ◌-◌, ◌<◌, [], ◌∷◌, ℕ, List, IfOk, MatchOption, false, length, map, option_to_list, slice_index_or};
+ghost use Rattle.std.specs.List.Sorted.{IsPermutation};
 ghost use Rattle.dds_topic.specs.Decoding.{Decoding};
 ghost use Rattle.rtps_receiver.specs.Events.{Happening};
 ghost use Rattle.rtps_planner.specs.declared.jobs.Job as plan_job;
-ghost use Rattle.rtps_shards.specs.Results.{IsDone, Share, rank_in, rank_of};
-ghost use Rattle.dds_participant.specs.Sharing.{AllShare, AreJobs, ArePaired, AreParted, IsAfter, state_rank};
+ghost use Rattle.rtps_shards.specs.Results.{Share, rank_in, rank_of};
+ghost use Rattle.dds_participant.specs.Sharing.{AllShare, AreJobs, ArePaired, AreParted, AreSplit, state_rank};
 
 use dds_topic::Catalog;
 use rtps_planner::Job;
@@ -20,8 +19,8 @@ use std::alloc::{AllocError, Global};
 pub(crate) struct Paired<V> {
     /// The jobs, each with the state of its reader.
     pub work: Vec<ReaderJob<V>>,
-    /// The states of the readers that have no job.
-    pub idle: Vec<ReaderState>,
+    /// The readers that have no job, of which nothing comes.
+    pub idle: Vec<JobResult<V>>,
 }
 
 /// The last job, taken from the others, where it is of this rank.
@@ -34,61 +33,94 @@ fn last_of(jobs: &mut Vec<Job>, rank: u32) -> Option<Job>
     jobs.pop_if(|job| job.rank == rank)
 }
 
-/// Gives each job the state of its reader. The jobs come by rising rank, the states by rank.
+/// The last of the lists that were lent, taken from the others, or new ones where none is left.
+fn lists_of<V: Drop>(alloc: Global, lent: &mut Vec<Output<V>>) -> Output<V>
+    ensures { 0 < length lent.old.items → lent.old.items ≡ lent.new.items ++ result ∷ [] }
+{
+    match lent.pop() {
+        Some(output) => output,
+        None => Output {
+            notices: Vec::new(alloc),
+            answers: Vec::new(alloc),
+        },
+    }
+}
+
+/// A reader that has no job: nothing comes of it.
+fn idle_reader<V: Drop>(state: ReaderState, mut output: Output<V>) -> JobResult<V>
+    ensures same { (result.rank ≡ state.rank) × (result.state ≡ state) }
+    ensures empty { (result.output.notices.items ≡ []) × (result.output.answers.items ≡ []) }
+{
+    output.notices.clear();
+    output.answers.clear();
+    JobResult {
+        rank: state.rank(),
+        state,
+        output,
+    }
+}
+
+/// Gives each job the state of its reader, and each reader lists for what comes of it: those that
+/// were lent, and new ones where there are too few. The jobs come by rising rank, the states by
+/// rank.
 pub(crate) fn pair<C: Catalog>(
     alloc: Global,
     mut jobs: Vec<Job>,
     mut states: Vec<ReaderState>,
+    mut lent: Vec<Output<C::Value>>,
 ) -> Result<Paired<C::Value>, AllocError>
     ensures paired { (es : List Happening) (decoding : Decoding C.Meaning)
         (shares : ℕ → Share C.Meaning) → AllShare shares states.items
         → AreJobs es shares jobs.items (length states.items)
-        → IfOk result (ArePaired es decoding shares) }
+        → IfOk result (ArePaired C.view es decoding shares) }
     ensures ranks { IfOk result (λ p. IsPermutation (map state_rank states.items)
-        (map rank_in p.work.items ++ map state_rank p.idle.items)) }
+        (map rank_in p.work.items ++ map rank_of p.idle.items)) }
 {
     let mut work = Vec::new(alloc);
     let mut idle = Vec::new(alloc);
     'pair: while let Some(state) = states.pop() {
+        let output = lists_of(alloc, &mut lent);
         match last_of(&mut jobs, state.rank()) {
-            Some(job) => work.push(ReaderJob::new(alloc, job, state))?,
-            None => idle.push(state)?,
+            Some(job) => work.push(ReaderJob { job, state, output })?,
+            None => idle.push(idle_reader(state, output))?,
         }
     }
     Ok(Paired { work, idle })
 }
 
-/// What comes of a batch.
+/// What comes of a batch, by rank.
 #[derive(Drop)]
 pub(crate) struct Parted<V> {
-    /// The states of all readers.
+    /// The states of the readers.
     pub states: Vec<ReaderState>,
-    /// What comes of the jobs, each with the rank of its reader.
-    pub outputs: Vec<(u32, Output<V>)>,
+    /// What comes of their jobs.
+    pub outputs: Vec<Output<V>>,
 }
 
-/// Parts the results of jobs, and puts the states in order with those of the readers that had no
-/// job.
-pub(crate) fn part<C: Catalog>(
-    alloc: Global,
-    idle: Vec<ReaderState>,
-    results: Vec<JobResult<C::Value>>,
-) -> Result<Parted<C::Value>, AllocError>
-    ensures parted { (decoding : Decoding C.Meaning) (shares : ℕ → Share C.Meaning)
-        → All (IsAfter decoding shares) idle.items
-        → All (IsDone C.view decoding shares) results.items
-        → IfOk result (AreParted C.view decoding shares idle.items results.items) }
-    ensures sorted { IfOk result (λ p. IsSortedByKey state_rank nat_cmp p.states.items) }
-    ensures ranks { IfOk result (λ p. map (λ o. o.0) p.outputs.items ≡ map rank_of results.items) }
-    ensures count { IfOk result (λ p.
-        length p.states.items ≡ length idle.items + length results.items) }
+/// Parts the states of readers from what came of their jobs.
+fn split<V: Drop>(alloc: Global, all: Vec<JobResult<V>>) -> Result<Parted<V>, AllocError>
+    ensures { IfOk result (AreSplit all.items) }
 {
-    let mut states = idle;
+    let mut states = Vec::new(alloc);
     let mut outputs = Vec::new(alloc);
-    for result in results {
+    for result in all {
         states.push(result.state)?;
-        outputs.push((result.rank, result.output))?;
+        outputs.push(result.output)?;
     }
-    states.sort_unstable_by_key(|state| state.rank());
     Ok(Parted { states, outputs })
+}
+
+/// Puts the readers that had no job and those of the results in order, and parts their states from
+/// what came of their jobs.
+pub(crate) fn part<V: Drop>(
+    alloc: Global,
+    idle: Vec<JobResult<V>>,
+    mut results: Vec<JobResult<V>>,
+) -> Result<Parted<V>, AllocError>
+    ensures { IfOk result (AreParted idle.items results.items) }
+{
+    let mut all = idle;
+    all.append(&mut results)?;
+    all.sort_unstable_by_key(|reader| reader.rank);
+    split(alloc, all)
 }

@@ -37,7 +37,7 @@ use Rattle.rtps_planner.proofs.Merged.{answer_here, by_places, same_self, sent_h
 
 -- ---- places of the events, and of what comes of them
 
-rising : (es : List Happening) → PlacesRise es → AreRising (map (λ (e : Happening). e.place) es)
+pub rising : (es : List Happening) → PlacesRise es → AreRising (map (λ (e : Happening). e.place) es)
 rising [] up = tt
 rising (e ∷ es) up = (all_map (λ q. not_after q e.place ≡ false) (λ (d : Happening). d.place) es up.0, rising es up.1)
 
@@ -149,7 +149,7 @@ below_same said xs ys p (suc n) same =
     ap (λ l. l ++ map (sending_by n) (answers_at p (xs n))) (below_same said xs ys p n (λ rank less. same rank (omega (arith, less))))
     ∙ ap (λ ss. below said ys p n ++ map (sending_by n) (answers_at p ss)) (same n (omega arith))
 
-along_same : (said : List (Place × Sent)) (xs ys : ℕ → List (Place × Sent)) (n : ℕ) (ps : List Place) → ((rank : ℕ) → rank < n → xs rank ≡ ys rank) → along said xs n ps ≡ along said ys n ps
+pub along_same : (said : List (Place × Sent)) (xs ys : ℕ → List (Place × Sent)) (n : ℕ) (ps : List Place) → ((rank : ℕ) → rank < n → xs rank ≡ ys rank) → along said xs n ps ≡ along said ys n ps
 along_same said xs ys n [] same = refl
 along_same said xs ys n (p ∷ ps) same =
     ap (λ l. (map discovery_sending (answers_at p said) ++ l) ++ along said xs n ps) (below_same said xs ys p n same)

@@ -1,9 +1,10 @@
 pub mod Alone
 mod Cuts
-mod Merged
+pub mod Merged
 mod Planned
 mod Whole
 pub mod Judged
-mod Gathered
+pub mod Gathered
 pub mod Adding
 mod Gathering
+pub mod Along

@@ -47,7 +47,7 @@ module _ {X : Type 0} (place : X → Place) where
   abbrev pub AreAt : Place → List X → Type 0
   AreAt p xs = AllByRecursion (λ x. place x ≡ p) xs
 
-  abbrev AreAfter : Place → List X → Type 0
+  abbrev pub AreAfter : Place → List X → Type 0
   AreAfter p xs = AllByRecursion (λ x. not_after (place x) p ≡ false) xs
 
   all_at : (p : Place) (xs : List X) → AreAt p xs → at p xs ≡ xs
@@ -57,7 +57,7 @@ module _ {X : Type 0} (place : X → Place) where
       rw here (ap (λ l. x ∷ l) (all_at p xs h.1))
 
   -- those at a place that come before those after it
-  front_here : (p : Place) (xs ys : List X) → AreAt p xs → AreAfter p ys → at p (xs ++ ys) ≡ xs
+  pub front_here : (p : Place) (xs ys : List X) → AreAt p xs → AreAfter p ys → at p (xs ++ ys) ≡ xs
   front_here p xs ys h k =
       filter-append (λ x. same_place (place x) p) xs ys
       ∙ ap (λ l. l ++ at p ys) (all_at p xs h)
@@ -65,7 +65,7 @@ module _ {X : Type 0} (place : X → Place) where
       ∙ append-nil xs
 
   -- are at no later one
-  front_there : (p q : Place) (xs ys : List X) → AreAt p xs → not_after q p ≡ false → at q (xs ++ ys) ≡ at q ys
+  pub front_there : (p q : Place) (xs ys : List X) → AreAt p xs → not_after q p ≡ false → at q (xs ++ ys) ≡ at q ys
   front_there p q xs ys h later =
       filter-append (λ x. same_place (place x) q) xs ys
       ∙ ap (λ l. l ++ at q ys) (filter_none (λ x. same_place (place x) q) xs (all_weaker (λ x. place x ≡ p) (λ x. same_place (place x) q ≡ false) xs (λ x e. ap (λ r. same_place r q) e ∙ not_earlier p q later) h))
@@ -76,7 +76,7 @@ module _ {X : Type 0} (place : X → Place) where
       all_append (λ x. not_after (place x) q ≡ false) xs ys
       (all_weaker (λ x. place x ≡ p) (λ x. not_after (place x) q ≡ false) xs (λ x e. ap (λ r. not_after r q) e ∙ later) h) k
 
-abbrev notice_place : {M : Type 0} → Notice M → Place
+abbrev pub notice_place : {M : Type 0} → Notice M → Place
 notice_place n = n.place
 
 abbrev pub sent_place : Place × Sent → Place
@@ -84,7 +84,7 @@ sent_place s = s.0
 
 -- ---- what an event brings is at its place
 
-told_here : {M : Type 0} (decoding : Decoding M) (place : Place) (r : Reader) (ds : List Doing) → AreAt (notice_place {M = M}) place (told_run decoding place r ds)
+pub told_here : {M : Type 0} (decoding : Decoding M) (place : Place) (r : Reader) (ds : List Doing) → AreAt (notice_place {M = M}) place (told_run decoding place r ds)
 told_here decoding place r [] = tt
 told_here decoding place r (d ∷ ds) = all_append (λ n. n.place ≡ place) (tells decoding r place d) (told_run decoding place (reader_after r d) ds) (tells_at decoding r place d) (told_here decoding place (reader_after r d) ds)
 
@@ -108,7 +108,7 @@ EventsAfter p es = AllByRecursion (λ (d : Happening). not_after d.place p ≡ f
 
 -- ---- what later events bring is after it
 
-told_after : {M : Type 0} (decoding : Decoding M) (p : Place) (rank : ℕ) (k : Known) (r : Reader) (es : List Happening) → EventsAfter p es → AreAfter (notice_place {M = M}) p (job_told decoding r (job_of rank k es))
+pub told_after : {M : Type 0} (decoding : Decoding M) (p : Place) (rank : ℕ) (k : Known) (r : Reader) (es : List Happening) → EventsAfter p es → AreAfter (notice_place {M = M}) p (job_told decoding r (job_of rank k es))
 told_after decoding p rank k r [] h = tt
 told_after {M} decoding p rank k r (e ∷ es) h =
     let after = known_after_event k e in
@@ -117,7 +117,7 @@ told_after {M} decoding p rank k r (e ∷ es) h =
     (front_after (notice_place {M = M}) e.place p (told_run decoding e.place r ds) (job_told decoding (reader_run r ds) (job_of rank after es)) (told_here decoding e.place r ds) h.0
     (told_after decoding p rank after (reader_run r ds) es h.1))
 
-sent_after : (p : Place) (rank : ℕ) (k : Known) (r : Reader) (es : List Happening) → EventsAfter p es → AreAfter sent_place p (job_sent r (job_of rank k es))
+pub sent_after : (p : Place) (rank : ℕ) (k : Known) (r : Reader) (es : List Happening) → EventsAfter p es → AreAfter sent_place p (job_sent r (job_of rank k es))
 sent_after p rank k r [] h = tt
 sent_after p rank k r (e ∷ es) h =
     let after = known_after_event k e in
@@ -126,7 +126,7 @@ sent_after p rank k r (e ∷ es) h =
     (front_after sent_place e.place p (sent_run e.place r ds) (job_sent (reader_run r ds) (job_of rank after es)) (sent_here e.place r ds) h.0
     (sent_after p rank after (reader_run r ds) es h.1))
 
-answers_after : (p : Place) (k : Known) (es : List Happening) → EventsAfter p es → AreAfter sent_place p (discovery_answers k es)
+pub answers_after : (p : Place) (k : Known) (es : List Happening) → EventsAfter p es → AreAfter sent_place p (discovery_answers k es)
 answers_after p k [] h = tt
 answers_after p k (e ∷ es) h = front_after sent_place e.place p (discovery_answer k e) (discovery_answers (known_after_event k e) es) (answer_here k e) h.0 (answers_after p (known_after_event k e) es h.1)
 

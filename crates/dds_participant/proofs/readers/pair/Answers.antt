@@ -1,11 +1,12 @@
-use Rattle.std.proofs.Common.{◌≡◌, ◌-◌, ◌==◌, ◌++◌, ◌∷◌, [], ◌∙◌, All, ap, append-nil, arith, get_or, length, map, rules, subst, suc, sym}
+use Rattle.std.proofs.Common.{◌≡◌, ◌-◌, ◌==◌, ◌++◌, ◌∷◌, [], ◌∙◌, All, ap, append-nil, arith, get_or, length, map, refl, rules, subst, suc, sym}
 use Rattle.std.proofs.lemmas.List.{length-append, map_push}
 use Rattle.std.proofs.lemmas.List.Elements.{All-push}
 use Rattle.std.specs.List.Sorted.{IsPermutation}
 use Rattle.rtps_planner.specs.Plan.{job_seen, jobs_by}
-use Rattle.rtps_shards.specs.Results.{IsReady, rank_in}
-use Rattle.dds_participant.specs.Sharing.{IsAfter, state_rank}
-use Rattle.dds_participant.proofs.Pairing.{job_last, job_none, ranks_moved, ready, share_front, share_last, stays, to_idle, to_work}
+use Rattle.rtps_shards.specs.declared.jobs.ReaderJob.{ReaderJob}
+use Rattle.rtps_shards.specs.Results.{IsDone, IsReady, rank_in, rank_of}
+use Rattle.dds_participant.specs.Sharing.{state_rank}
+use Rattle.dds_participant.proofs.Pairing.{idle_done, job_last, job_none, ranks_moved, ready, share_front, share_last, to_idle, to_work}
 use Rattle.dds_participant.proofs.readers.pair.Goals as goal
 
 pub pair-preserved-in-Continue-1 : goal.pair-preserved-in-Continue-1
@@ -17,13 +18,14 @@ pair-preserved-in-Continue-1 g c =
     let work = c.pair.work.items in
     let was : states ≡ front ++ state ∷ [] = search rules in
     let jobs : c.pair.jobs.items ≡ c.last_of.new.jobs.items ++ job ∷ [] = search rules in
-    let pushed : c.push.new.self.items ≡ work ++ c.new.result ∷ [] = c.in_ok-push-in-Some-last_of.ensures.items in
+    let one_job : ReaderJob _ = record { job = job; state = state; output = c.lists_of-output.result } in
+    let pushed : c.push.new.self.items ≡ work ++ one_job ∷ [] = c.in_ok-push-in-Some-last_of.ensures.items in
     let ranked : job.rank ≡ state.rank = c.in-Some-last_of.ensures.last ∙ c.rank.ensures in
     let all = map state_rank c.args.states.items in
     let done = map rank_in work in
-    let idle = map state_rank c.pair.idle.items in
+    let idle = map rank_of c.pair.idle.items in
     let more : map rank_in c.push.new.self.items ≡ done ++ state.rank ∷ []
-    = ap (map rank_in) pushed ∙ map_push rank_in work c.new.result ∙ ap (λ j. done ++ j.rank ∷ []) c.new.ensures.given.0 ∙ ap (λ n. done ++ n ∷ []) ranked in
+    = ap (map rank_in) pushed ∙ map_push rank_in work one_job ∙ ap (λ n. done ++ n ∷ []) ranked in
     record {
       paired = λ es decoding shares stand are.
           let before = c.pair.invariant.paired es decoding shares stand are in
@@ -32,7 +34,7 @@ pair-preserved-in-Continue-1 g c =
           let last = job_last es (λ rank. (shares rank).job) (length front) c.pair.jobs.items c.last_of.new.jobs.items job jobs (ranked ∙ one.ranked) (before.1 ∙ ap (jobs_by (λ rank. (shares rank).job)) count) in (
             share_front shares states front state was before.0,
             last.rest,
-            subst (All (IsReady es shares)) (sym pushed) (All-push (IsReady es shares) work c.new.result before.2 (ready es shares (length front) c.new.result job state c.new.ensures.given.0 c.new.ensures.given.1 (ranked ∙ one.ranked) last.steps one)),
+            subst (All (IsReady es shares)) (sym pushed) (All-push (IsReady es shares) work one_job before.2 (ready es shares (length front) one_job job state refl refl (ranked ∙ one.ranked) last.steps one)),
             before.3,
           );
       ranks = subst (λ l. IsPermutation all (map state_rank front ++ (l ++ idle))) (sym more)
@@ -42,17 +44,19 @@ pair-preserved-in-Continue-1 g c =
 
 pub pair-preserved : goal.pair-preserved
 pair-preserved g c =
+    let f = g.C.Catalog.view in
     let state = c.in-Some.state in
     let states = c.pair.states.items in
     let front = c.pop.new.self.items in
     let was : states ≡ front ++ state ∷ [] = search rules in
     let jobs = c.pair.jobs.items in
     let same : jobs ≡ c.last_of.new.jobs.items = c.in-None.ensures.items ∙ append-nil c.last_of.new.jobs.items in
-    let pushed : c.push-in-None.new.self.items ≡ c.pair.idle.items ++ state ∷ [] = c.in_ok-push-in-None.ensures.items in
+    let alone = c.idle_reader.result in
+    let pushed : c.push-in-None.new.self.items ≡ c.pair.idle.items ++ alone ∷ [] = c.in_ok-push-in-None.ensures.items in
     let all = map state_rank c.args.states.items in
     let done = map rank_in c.pair.work.items in
-    let idle = map state_rank c.pair.idle.items in
-    let more : map state_rank c.push-in-None.new.self.items ≡ idle ++ state.rank ∷ [] = ap (map state_rank) pushed ∙ map_push state_rank c.pair.idle.items state in
+    let idle = map rank_of c.pair.idle.items in
+    let more : map rank_of c.push-in-None.new.self.items ≡ idle ++ state.rank ∷ [] = ap (map rank_of) pushed ∙ map_push rank_of c.pair.idle.items alone ∙ ap (λ n. idle ++ n ∷ []) c.idle_reader.ensures.same.0 in
     record {
       paired = λ es decoding shares stand are.
           let before = c.pair.invariant.paired es decoding shares stand are in
@@ -64,7 +68,8 @@ pair-preserved g c =
             share_front shares states front state was before.0,
             ap (map (job_seen es)) (sym same) ∙ none.rest,
             before.2,
-            subst (All (IsAfter decoding shares)) (sym pushed) (All-push (IsAfter decoding shares) c.pair.idle.items state before.3 (stays decoding shares (length front) state none.none one)),
+            subst (All (IsDone f decoding shares)) (sym pushed) (All-push (IsDone f decoding shares) c.pair.idle.items alone before.3
+                (idle_done f decoding shares (length front) state alone none.none one c.idle_reader.ensures.same.0 c.idle_reader.ensures.same.1 c.idle_reader.ensures.empty.0 c.idle_reader.ensures.empty.1)),
           );
       ranks = subst (λ l. IsPermutation all (map state_rank front ++ (done ++ l))) (sym more)
           (to_idle all (map state_rank front) done idle state.rank

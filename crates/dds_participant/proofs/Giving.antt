@@ -1,0 +1,180 @@
+-- What a batch gives is what the run puts out more.
+use Rattle.std.proofs.Common.{◌≡◌, ℕ, zero, suc, ◌<◌, ◌≤◌, List, [], ◌∷◌, ◌++◌, length, map, Global, Option, None, get_or, inl, inr, refl, sym, ap, ◌∙◌, subst, arith}
+use Rattle.std.specs.List.{flat_map}
+use Rattle.std.proofs.lemmas.Bool.{cases_lt}
+use Rattle.rtps_types.specs.declared.identity.GuidPrefix.{GuidPrefix}
+use Rattle.rtps_types.specs.declared.place.Place.{Place}
+use Rattle.rtps_receiver.specs.Events.{Happening}
+use Rattle.rtps_discovery.specs.Kept.{Kept}
+use Rattle.dds_topic.specs.Decoding.{Decoding}
+use Rattle.rtps_proxy.specs.Replies.{Sent}
+use Rattle.rtps_reader.specs.declared.notice.Notice.{Notice}
+use Rattle.rtps_reader.specs.declared.notice.Output.{Output}
+use Rattle.rtps_reader.specs.Notices as reader
+use Rattle.rtps_reader.specs.Standing.{ReaderKept}
+use Rattle.rtps_serial.specs.declared.outcome.Answer.{Answer}
+use Rattle.rtps_serial.specs.Outcome.{answer_view}
+use Rattle.rtps_serial.specs.Run.{events_from, world_run}
+use Rattle.rtps_serial.specs.Seen.{notices_by, reader_count}
+use Rattle.rtps_serial.specs.World as world
+use Rattle.rtps_serial.specs.World.{Hears, Sending, World}
+use Rattle.rtps_serial.proofs.Places.{PlacesRise, rise_from}
+use Rattle.rtps_serial.proofs.Running.{count_stays}
+use Rattle.rtps_planner.specs.declared.jobs.Plan.{Plan}
+use Rattle.rtps_planner.specs.Commuting.{Parts, answers_at, discovery_sends, merged, merged_below, notices_at, parts_of}
+use Rattle.rtps_planner.specs.Gather.{AreRising}
+use Rattle.rtps_planner.specs.Job.{discovery_answers, job_of, job_sent, job_told}
+use Rattle.rtps_planner.specs.Plan.{IsPlan, discovery_sending}
+use Rattle.rtps_planner.proofs.Adding.{rising}
+use Rattle.rtps_planner.proofs.Alone.{parts}
+use Rattle.rtps_planner.proofs.Along.{answers_along, sent_along, told_along}
+use Rattle.rtps_planner.proofs.Merged.{by_places}
+use Rattle.dds_participant.specs.Batch.{shares_in}
+use Rattle.dds_participant.specs.Given.{AreAnswersAlong, AreNoticesAlong, IsGiven, parts_given, said_view, sent_in, told_in}
+use Rattle.dds_participant.specs.declared.given.Given.{Given}
+use Rattle.dds_participant.specs.declared.readers.Parted.{Parted}
+use Rattle.dds_participant.specs.Sharing.{AreRun}
+
+-- ---- what is given by a rank
+
+module _ {V M : Type 0} (f : V → M) where
+  pub told_at : (outputs : List (Output V Global)) (rank : ℕ) (other : Output V Global) → rank < length outputs → told_in f outputs rank ≡ map (reader.notice_view f) (get_or outputs rank other).notices.items
+  told_at [] rank other below = absurd (omega (arith, below))
+  told_at (o ∷ os) zero other below = refl
+  told_at (o ∷ os) (suc rank) other below = told_at os rank other (omega (arith, below))
+
+  pub told_past : (outputs : List (Output V Global)) (rank : ℕ) → length outputs ≤ rank → told_in f outputs rank ≡ []
+  told_past [] rank past = refl
+  told_past (o ∷ os) zero past = absurd (omega (arith, past))
+  told_past (o ∷ os) (suc rank) past = told_past os rank (omega (arith, past))
+
+module _ {V : Type 0} where
+  pub sent_at : (outputs : List (Output V Global)) (rank : ℕ) (other : Output V Global) → rank < length outputs → sent_in outputs rank ≡ map reader.answer_view (get_or outputs rank other).answers.items
+  sent_at [] rank other below = absurd (omega (arith, below))
+  sent_at (o ∷ os) zero other below = refl
+  sent_at (o ∷ os) (suc rank) other below = sent_at os rank other (omega (arith, below))
+
+  pub sent_past : (outputs : List (Output V Global)) (rank : ℕ) → length outputs ≤ rank → sent_in outputs rank ≡ []
+  sent_past [] rank past = refl
+  sent_past (o ∷ os) zero past = absurd (omega (arith, past))
+  sent_past (o ∷ os) (suc rank) past = sent_past os rank (omega (arith, past))
+
+  some_output : (outputs : List (Output V Global)) (rank : ℕ) → rank < length outputs → Output V Global
+  some_output [] rank below = absurd (omega (arith, below))
+  some_output (o ∷ os) rank below = o
+
+-- ---- only the ranks below the count are merged
+
+module _ {M : Type 0} (a b : Parts M) where
+  abbrev AreSameBelow : ℕ → Type 0
+  AreSameBelow n = (rank : ℕ) → rank < n → (a.told rank ≡ b.told rank) × (a.sent rank ≡ b.sent rank)
+
+  below_same : (p : Place) (n : ℕ) → AreSameBelow n → merged_below p a n ≡ merged_below p b n
+  below_same p zero same = refl
+  below_same p (suc n) same =
+      let here = same n (omega arith) in
+      ap (λ l. l ++ (map (Hears n) (notices_at p (a.told n)) ++ map (world.sent_by n) (answers_at p (a.sent n)))) (below_same p n (λ rank less. same rank (omega (arith, less))))
+      ∙ ap (λ l. merged_below p b n ++ (map (Hears n) (notices_at p l) ++ map (world.sent_by n) (answers_at p (a.sent n)))) here.0
+      ∙ ap (λ l. merged_below p b n ++ (map (Hears n) (notices_at p (b.told n)) ++ map (world.sent_by n) (answers_at p l))) here.1
+
+  pub merged_same : (n : ℕ) (places : List Place) → a.answers ≡ b.answers → AreSameBelow n → merged a n places ≡ merged b n places
+  merged_same n [] said same = refl
+  merged_same n (p ∷ ps) said same =
+      ap (λ l. (map discovery_sends (answers_at p l) ++ merged_below p a n) ++ merged a n ps) said
+      ∙ ap (λ l. (map discovery_sends (answers_at p b.answers) ++ l) ++ merged a n ps) (below_same p n same)
+      ∙ ap (λ l. (map discovery_sends (answers_at p b.answers) ++ merged_below p b n) ++ l) (merged_same n ps said same)
+
+-- ---- discovery's answers
+
+abbrev unranked_view : Sending → Place × Sent
+unranked_view s = (s.place, record { to = s.to; octets = s.octets })
+
+said_of_view : (xs : List (Answer Global)) → map said_view xs ≡ map unranked_view (map answer_view xs)
+said_of_view [] = refl
+said_of_view (a ∷ xs) = ap (λ l. said_view a ∷ l) (said_of_view xs)
+
+view_of_said : (ss : List (Place × Sent)) → map unranked_view (map discovery_sending ss) ≡ ss
+view_of_said [] = refl
+view_of_said (s ∷ ss) = ap (λ l. s ∷ l) (view_of_said ss)
+
+said_is : (xs : List (Answer Global)) (ss : List (Place × Sent)) → map answer_view xs ≡ map discovery_sending ss → map said_view xs ≡ ss
+said_is xs ss is = said_of_view xs ∙ ap (map unranked_view) is ∙ view_of_said ss
+
+-- ---- what isn't there is by place
+
+no_notices : (M : Type 0) (places : List Place) → AreNoticesAlong {M = M} places []
+no_notices M [] = refl
+no_notices M (p ∷ ps) = no_notices M ps
+
+no_answers : (places : List Place) → AreAnswersAlong places []
+no_answers [] = refl
+no_answers (p ∷ ps) = no_answers ps
+
+-- ---- what the jobs of a batch give
+
+module _ {V M : Type 0} (f : V → M) (decoding : Decoding M) (w : World M) (es : List Happening) (up : PlacesRise es) (plan : Plan Global) (kept : Kept) (old : List ReaderKept) (p : Parted V) (given : Given V)
+    (planned : IsPlan w.known es plan kept) (ran : AreRun f decoding (shares_in w es) old p) (total : length given.outputs.items ≡ reader_count w)
+    (placed : given.places.items ≡ map (λ (e : Happening). e.place) es) (said : given.answers.items ≡ plan.rest.answers.items) (put : given.outputs.items ≡ p.outputs.items) where
+  abbrev places : List Place
+  places = map (λ (e : Happening). e.place) es
+
+  abbrev outputs : List (Output V Global)
+  outputs = given.outputs.items
+
+  inside : (rank : ℕ) → rank < length outputs → rank < length p.outputs.items
+  inside rank below = subst (λ l. rank < length l) put below
+
+  told_is : (rank : ℕ) → rank < length outputs → told_in f outputs rank ≡ job_told decoding (w.readers rank) (job_of rank w.known es)
+  told_is rank below =
+      let other = some_output outputs rank below in
+      ap (λ l. told_in f l rank) put ∙ told_at f p.outputs.items rank other (inside rank below) ∙ (ran.outputs rank other (inside rank below)).told
+
+  sent_is : (rank : ℕ) → rank < length outputs → sent_in outputs rank ≡ job_sent (w.readers rank) (job_of rank w.known es)
+  sent_is rank below =
+      let other = some_output outputs rank below in
+      ap (λ l. sent_in l rank) put ∙ sent_at p.outputs.items rank other (inside rank below) ∙ (ran.outputs rank other (inside rank below)).sent
+
+  view_is : map answer_view given.answers.items ≡ map discovery_sending (discovery_answers w.known es)
+  view_is = ap (map answer_view) said ∙ planned.answers
+
+  answers_are : map said_view given.answers.items ≡ discovery_answers w.known es
+  answers_are = said_is given.answers.items (discovery_answers w.known es) view_is
+
+  merged_are : merged (parts_given f given) (length outputs) given.places.items ≡ merged (parts_of decoding w.known w.readers es) (reader_count w) places
+  merged_are =
+      ap (merged (parts_given f given) (length outputs)) placed
+      ∙ ap (λ n. merged (parts_given f given) n places) total
+      ∙ merged_same (parts_given f given) (parts_of decoding w.known w.readers es) (reader_count w) places answers_are
+      (λ rank less. (told_is rank (subst (λ n. rank < n) (sym total) less), sent_is rank (subst (λ n. rank < n) (sym total) less)))
+
+  notices_along : (rank : ℕ) → AreNoticesAlong given.places.items (told_in f outputs rank)
+  notices_along rank = elim (cases_lt rank (length outputs)) [
+    | inl less ↦ subst (λ l. AreNoticesAlong l (told_in f outputs rank)) (sym placed) (subst (AreNoticesAlong places) (sym (told_is rank less)) (told_along decoding rank w.known (w.readers rank) es up))
+    | inr past ↦ subst (AreNoticesAlong given.places.items) (sym (told_past f outputs rank past)) (no_notices M given.places.items)
+  ]
+
+  sent_by_place : (rank : ℕ) → AreAnswersAlong given.places.items (sent_in outputs rank)
+  sent_by_place rank = elim (cases_lt rank (length outputs)) [
+    | inl less ↦ subst (λ l. AreAnswersAlong l (sent_in outputs rank)) (sym placed) (subst (AreAnswersAlong places) (sym (sent_is rank less)) (sent_along rank w.known (w.readers rank) es up))
+    | inr past ↦ subst (AreAnswersAlong given.places.items) (sym (sent_past outputs rank past)) (no_answers given.places.items)
+  ]
+
+  gives : IsGiven f w (world_run decoding w es) given
+  gives = record {
+    readers = total ∙ sym (count_stays decoding w es);
+    put = by_places decoding w es up ∙ ap (λ l. w.put ++ l) (sym merged_are);
+    told = λ rank below. (parts decoding w es rank).told (subst (λ n. rank < n) total below) ∙ ap (λ l. notices_by rank w.put ++ l) (sym (told_is rank below));
+    places = subst AreRising (sym placed) (rising es up);
+    said = subst (λ l. AreAnswersAlong l (map said_view given.answers.items)) (sym placed) (subst (AreAnswersAlong places) (sym answers_are) (answers_along w.known es up));
+    notices = notices_along;
+    answers = sent_by_place;
+    unranked = view_is ∙ ap (map discovery_sending) (sym answers_are);
+  }
+
+pub run_gives : {V M : Type 0} (f : V → M) (decoding : Decoding M) (w : World M) (es : List Happening) (own : GuidPrefix) (index : ℕ) (datagrams : List (List ℕ)) (plan : Plan Global) (kept : Kept) (old : List ReaderKept) (p : Parted V) (given : Given V)
+    → es ≡ events_from own index datagrams → IsPlan w.known es plan kept → AreRun f decoding (shares_in w es) old p → length given.outputs.items ≡ reader_count w
+    → given.places.items ≡ map (λ (e : Happening). e.place) es → given.answers.items ≡ plan.rest.answers.items → given.outputs.items ≡ p.outputs.items
+    → IsGiven f w (world_run decoding w (events_from own index datagrams)) given
+run_gives f decoding w es own index datagrams plan kept old p given read planned ran total placed said put =
+    subst (λ l. IsGiven f w (world_run decoding w l) given) read
+    (gives f decoding w es (subst PlacesRise (sym read) (rise_from own index datagrams)) plan kept old p given planned ran total placed said put)

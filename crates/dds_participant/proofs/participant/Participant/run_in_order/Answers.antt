@@ -1,0 +1,40 @@
+use Rattle.std.proofs.Common.{◌∙◌, ap, length, map, subst, sym}
+use Rattle.std.proofs.lemmas.List.{length-map}
+use Rattle.rtps_serial.specs.World.{World}
+use Rattle.dds_participant.specs.Given.{HoldsNothing, IsGiven}
+use Rattle.dds_participant.specs.Kept.{ParticipantKept}
+use Rattle.dds_participant.proofs.Leaving.{left_alone, left_empty}
+use Rattle.dds_participant.proofs.Taken.{adds_after, stands_after}
+use Rattle.dds_participant.proofs.participant.Participant.run_in_order.Goals as goal
+
+pub finish-requires-clause-readers : goal.finish-requires-clause-readers
+finish-requires-clause-readers g c κs outlives =
+    let is = c.in_ok-admit.ensures.ok.2 in
+    c.in_ok-given.ensures.count
+    ∙ ap (λ (p : ParticipantKept _). length p.engine.readers) is
+    ∙ c.in_ok-admit.ensures.few.1
+    ∙ sym (ap (λ (p : ParticipantKept _). length p.engine.statuses) is)
+    ∙ sym (ap length c.run.ensures.same.statuses)
+
+pub returns-clause-stands : goal.returns-clause-stands
+returns-clause-stands g c earlier kept =
+    let is = c.in_ok-admit.ensures.ok.2 in
+    let batch = map (λ d. d.now) c.args.datagrams.now in
+    let shown = c.in_ok-given.ensures.count
+    ∙ ap (λ (p : ParticipantKept _). length p.engine.readers) is
+    ∙ c.in_ok-admit.ensures.few.1
+    ∙ sym (ap (λ (p : ParticipantKept _). length p.engine.statuses) is)
+    ∙ sym (ap length c.run.ensures.same.statuses) in
+    stands_after g.C.Catalog.decoding earlier batch c.args.self.now c.admit.new.self c.run.new.self kept is c.finish.new.self (length c.args.datagrams.now) (sym (length-map c.args.datagrams.now (λ d. d.now)))
+    c.run.ensures.same c.in_ok-given.ensures.keeps c.finish.ensures shown
+
+pub returns-clause-gives : goal.returns-clause-gives
+returns-clause-gives g c earlier kept =
+    adds_after g.C.Catalog.decoding earlier (map (λ d. d.now) c.args.datagrams.now) c.args.self.now c.admit.new.self c.run.new.self kept c.in_ok-admit.ensures.ok.2
+    (λ (before after : World g.C.Catalog.Meaning). IsGiven g.C.Catalog.view before after c.in_ok-given.field-0) c.in_ok-given.ensures.gives
+
+pub returns-in_err-admit-clause-lists : goal.returns-in_err-admit-clause-lists
+returns-in_err-admit-clause-lists g c = left_alone c.from_residual.result c.in_err-admit.field-0.0 (length c.args.datagrams.now) c.args.self.now c.args.given.now c.from_residual.ensures.1 c.in_err-admit.ensures.err
+
+pub returns-in_err-given-clause-lists : goal.returns-in_err-given-clause-lists
+returns-in_err-given-clause-lists g c = left_empty c.from_residual-in_err-given.result c.args.given.now _ c.from_residual-in_err-given.ensures.1 (subst HoldsNothing (sym c.replace-lent.ensures.after) c.new.ensures)

@@ -1,0 +1,84 @@
+-- What a batch gives, in lists by rank and by place (DDSI-RTPS 8.3.4, 8.4.10).
+use Rattle.std.specs.Prelude.{◌≡◌, ℕ, zero, suc, ◌<◌, List, [], ◌∷◌, ◌++◌, length, map}
+use Rattle.std.specs.List.{flat_map}
+use Rattle.std.specs.declared.alloc.Global.{Global}
+use Rattle.rtps_types.specs.declared.place.Place.{Place}
+use Rattle.rtps_proxy.specs.Replies.{Sent}
+use Rattle.rtps_reader.specs.declared.notice.Notice.{Notice}
+use Rattle.rtps_reader.specs.declared.notice.Output.{Output}
+use Rattle.rtps_reader.specs.Notices as reader
+use Rattle.rtps_serial.specs.declared.errors.EngineError.{EngineError}
+use Rattle.rtps_serial.specs.declared.errors.EngineError.TheVariants.{NoMemory, Failed, Spent}
+use Rattle.rtps_serial.specs.declared.outcome.Answer.{Answer}
+use Rattle.rtps_serial.specs.Outcome.{answer_view}
+use Rattle.rtps_serial.specs.Seen.{notices_by, reader_count}
+use Rattle.rtps_serial.specs.World.{World}
+use Rattle.rtps_planner.specs.Commuting.{Parts, answers_at, merged, notices_at}
+use Rattle.rtps_planner.specs.Gather.{AreRising}
+use Rattle.rtps_planner.specs.Plan.{discovery_sending}
+use Rattle.dds_participant.specs.declared.given.Given.{Given}
+
+-- what the reader of a rank gives out, and what it sends; nothing where there is no such reader
+abbrev pub told_in : {V M : Type 0} → (V → M) → List (Output V Global) → ℕ → List (Notice M)
+told_in f [] rank = []
+told_in f (o ∷ os) zero = map (reader.notice_view f) o.notices.items
+told_in f (o ∷ os) (suc rank) = told_in f os rank
+
+abbrev pub sent_in : {V : Type 0} → List (Output V Global) → ℕ → List (Place × Sent)
+sent_in [] rank = []
+sent_in (o ∷ os) zero = map reader.answer_view o.answers.items
+sent_in (o ∷ os) (suc rank) = sent_in os rank
+
+-- an answer of discovery, with its place
+abbrev pub said_view : Answer Global → Place × Sent
+said_view a = (a.place, record { to = a.to; octets = a.octets })
+
+-- the parts of a batch: what discovery answers, and what each reader gives out and sends
+abbrev pub parts_given : {V M : Type 0} → (V → M) → Given V → Parts M
+parts_given f given = record {
+  answers = map said_view given.answers.items;
+  told = told_in f given.outputs.items;
+  sent = sent_in given.outputs.items;
+}
+
+-- a list is by place: taken place by place, it is the same list
+abbrev pub AreNoticesAlong : {M : Type 0} → List Place → List (Notice M) → Type 0
+AreNoticesAlong places notices = flat_map (λ p. notices_at p notices) places ≡ notices
+
+abbrev pub AreAnswersAlong : List Place → List (Place × Sent) → Type 0
+AreAnswersAlong places answers = flat_map (λ p. answers_at p answers) places ≡ answers
+
+-- A batch gave what one world put out more than another: its parts, merged by its places; and by
+-- itself each reader gave its own notices. Its lists are by place.
+pub record IsGiven {V M : Type 0} (f : V → M) (before after : World M) (given : Given V)
+    : Type 0 where
+  pub readers : length given.outputs.items ≡ reader_count after
+  pub put : after.put ≡ before.put
+      ++ merged (parts_given f given) (length given.outputs.items) given.places.items
+  pub told : (rank : ℕ) → rank < length given.outputs.items → notices_by rank after.put
+      ≡ notices_by rank before.put ++ told_in f given.outputs.items rank
+  pub places : AreRising given.places.items
+  pub said : AreAnswersAlong given.places.items (map said_view given.answers.items)
+  pub notices : (rank : ℕ) → AreNoticesAlong given.places.items (told_in f given.outputs.items rank)
+  pub answers : (rank : ℕ) → AreAnswersAlong given.places.items (sent_in given.outputs.items rank)
+  -- discovery's answers are of no rank
+  pub unranked : map answer_view given.answers.items
+      ≡ map discovery_sending (map said_view given.answers.items)
+
+-- nothing is in the lists
+pub record HoldsNothing {V : Type 0} (given : Given V) : Type 0 where
+  pub places : given.places.items ≡ []
+  pub answers : given.answers.items ≡ []
+  pub outputs : given.outputs.items ≡ []
+
+-- What a refusal leaves of the lists that were lent: all that was in them, where the batch isn't
+-- looked at; nothing, after want of memory.
+unfoldable pub LeavesLists : {V : Type 0} → EngineError → Given V → Given V → Type 0
+LeavesLists Failed old new = new ≡ old
+LeavesLists Spent old new = new ≡ old
+LeavesLists NoMemory old new = HoldsNothing new
+
+-- outputs with their ranks, from a rank on
+abbrev pub ranked_from : {V : Type 0} → ℕ → List (Output V Global) → List (ℕ × Output V Global)
+ranked_from rank [] = []
+ranked_from rank (o ∷ os) = (rank, o) ∷ ranked_from (suc rank) os
