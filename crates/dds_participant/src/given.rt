@@ -25,7 +25,7 @@ use std::alloc::{AllocError, Global};
 /// is gone through once.
 #[derive(Drop)]
 pub struct Given<V> {
-    /// The places of the batch's events, each after those before it. Not all of them have something.
+    /// The places of the batch's events, each after those before it. At some there may be nothing.
     pub places: Vec<Place>,
     /// What discovery answers.
     pub answers: Vec<Answer>,
