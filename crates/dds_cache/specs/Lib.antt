@@ -1,0 +1,6 @@
+pub mod Calls
+pub mod Instances
+pub mod Cache
+pub mod Answered
+pub mod Standing
+pub mod Effects
