@@ -52,10 +52,11 @@ pub popped : {A : Type 0} (es new : List (KeyHash × Instance A)) (key : KeyHash
 popped es new key i v n ns most found updates is cut more =
     let was : known_at es key ≡ Some (known i) = ap (option_map known) found in
     let here : lookup (is_key key) new ≡ Some v = updates key ∙ ap (λ b. cond b (Some v) (lookup (is_key key) es)) (key_itself key) in
-    let now : numbers_in (known_at new key) ≡ ns = ap (λ o. numbers_in (option_map known o)) here ∙ ap (λ (j : Known). j.numbers) is in
-    (subst (λ o. most < length (numbers_in o)) (sym was) more,
-     ap numbers_in was ∙ cut ∙ ap (λ l. n ∷ l) (sym now),
-     subst (λ l. ChangesAt key (option_map (with_numbers l)) (known_at es) (known_at new)) (sym now) (changed es new key i v (with_numbers ns) found updates is))
+    let now : numbers_in (known_at new key) ≡ ns = ap (λ o. numbers_in (option_map known o)) here ∙ ap (λ (j : Known). j.numbers) is in (
+      subst (λ o. most < length (numbers_in o)) (sym was) more,
+      ap numbers_in was ∙ cut ∙ ap (λ l. n ∷ l) (sym now),
+      subst (λ l. ChangesAt key (option_map (with_numbers l)) (known_at es) (known_at new)) (sym now) (changed es new key i v (with_numbers ns) found updates is),
+    )
 
 pub few : {A : Type 0} (es new : List (KeyHash × Instance A)) (key : KeyHash) (i v : Instance A) (most : ℕ) → lookup (is_key key) es ≡ Some i
     → ((q : KeyHash) → lookup (is_key q) new ≡ cond (is_key key q) (Some v) (lookup (is_key q) es)) → known v ≡ known i → length i.numbers.keys ≤ most

@@ -1,3 +1,11 @@
 mod Keys
 mod Knowing
 mod Choosing
+mod Lists
+mod Living
+mod Taking
+mod Answering
+mod Next
+mod Seeing
+mod Marks
+mod Reading

@@ -1,5 +1,5 @@
 -- What a call answers: entries, each with its states before the call (DDS 1.4, 2.2.2.5.1).
-use Rattle.std.specs.Prelude.{ℕ, List, map, Bool, if◌then◌else◌}
+use Rattle.std.specs.Prelude.{ℕ, List, map, Bool, true, false, if◌then◌else◌}
 use Rattle.dds_cache.specs.declared.condition.Condition.{Condition}
 use Rattle.dds_cache.specs.declared.entry.Entry.{Entry}
 use Rattle.dds_cache.specs.declared.entry.Sample.{Sample}
@@ -42,3 +42,7 @@ answered_by past c max flags = map (shown_by past c) (first_by (meets past c fla
 
 abbrev pub answered : {M : Type 0} → History → List (Done M) → ℕ → Condition → List (Sample M)
 answered keep past max flags = answered_by past (cached keep past) max flags
+
+-- the condition that no call answered an entry
+abbrev pub unread : Condition
+unread = record { not_read = true; new = false; alive = false }

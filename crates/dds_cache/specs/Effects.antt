@@ -202,3 +202,21 @@ read_each c = seen
 
 abbrev pub spend_each : Chosen → Known → Known
 spend_each c = spent c.number
+
+-- these entries left
+pub record HandsOver {M : Type 0} (cs : List Chosen) (old new : Parts M) : Type 0 where
+  pub keep : new.keep ≡ old.keep
+  pub accepted : new.accepted ≡ old.accepted
+  pub entries : new.entries ≡ take_each cs old.entries
+  pub not_read : new.not_read ≡ drop_each cs old.not_read
+  pub find : (k : KeyHash) → new.find k ≡ each spend_each cs k (old.find k)
+  pub live : new.live ≡ old.live
+
+-- these entries were read
+pub record Reads {M : Type 0} (cs : List Chosen) (old new : Parts M) : Type 0 where
+  pub keep : new.keep ≡ old.keep
+  pub accepted : new.accepted ≡ old.accepted
+  pub entries : new.entries ≡ mark_each cs old.entries
+  pub not_read : new.not_read ≡ drop_each cs old.not_read
+  pub find : (k : KeyHash) → new.find k ≡ each read_each cs k (old.find k)
+  pub live : new.live ≡ old.live

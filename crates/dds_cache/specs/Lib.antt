@@ -4,3 +4,4 @@ pub mod Cache
 pub mod Answered
 pub mod Standing
 pub mod Effects
+pub mod Lent

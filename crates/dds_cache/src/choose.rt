@@ -39,9 +39,9 @@ impl States {
     pub fn of<A: Allocator>(instances: &Instances<A>, key: KeyHash) -> States
         ensures { let known = known_at instances.now.entries key in
             result ≡ (record {
-                is_new = new_in known;
-                is_disposed = disposed_in known;
-                is_written = nat_lt 0 (count_in known);
+              is_new = new_in known;
+              is_disposed = disposed_in known;
+              is_written = nat_lt 0 (count_in known);
             }) }
     {
         match instances.get(&key) {
@@ -61,11 +61,11 @@ impl States {
     /// An entry with these states of its instance.
     pub fn show<V>(self, number: u64, entry: &Entry<V>) -> Chosen
         ensures { result ≡ (record {
-            number = number;
-            key = entry.now.key;
-            sample = sample_state entry.now.is_read;
-            view = view_state self.is_new;
-            instance = state_by self.is_disposed self.is_written;
+          number = number;
+          key = entry.now.key;
+          sample = sample_state entry.now.is_read;
+          view = view_state self.is_new;
+          instance = state_by self.is_disposed self.is_written;
         }) }
     {
         Chosen {

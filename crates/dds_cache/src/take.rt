@@ -1,18 +1,21 @@
 //! Entries leave.
 
-ghost use Rattle.std.specs.Prelude.{◌≡◌, ◌+◌, ◌≤◌, ◌++◌, OnOk, length, vec_capacity, vec_len};
+ghost use Rattle.std.specs.Prelude.{◌≡◌, ◌+◌, ◌≤◌, ◌∷◌, ◌++◌, IfOk, List, OnErr, OnOk, length, option_to_list, vec_capacity, vec_len};
+ghost use Rattle.dds_cache.specs.Answered.{answered, unread};
+ghost use Rattle.dds_cache.specs.Calls.{Done, WasTaken};
 ghost use Rattle.rtps_types.specs.declared.identity.KeyHash.{KeyHash};
 ghost use Rattle.std.specs.Option.{option_map};
 ghost use Rattle.std.specs.Map.{lookup, remove_entry};
 ghost use Rattle.std.specs.Set.{remove_key};
-ghost use Rattle.dds_cache.specs.Effects.{ChangesAt, drop_each, each, shown_as, spend_each, spent, take_each, take_shown};
-ghost use Rattle.dds_cache.specs.Standing.{is_number, known_at};
+ghost use Rattle.dds_cache.specs.Effects.{ChangesAt, IsSame, drop_each, each, shown_as, spend_each, spent, take_each, take_shown};
+ghost use Rattle.dds_cache.specs.Standing.{StandsBy, is_number, known_at, parts};
 
-use crate::choose::Chosen;
+use crate::choose::{Chosen, States, choose};
+use crate::condition::Condition;
 use crate::entry::{Entry, Sample, Taken};
 use crate::index::Index;
 use crate::instance::note_taken;
-use std::alloc::Allocator;
+use std::alloc::{AllocError, Allocator};
 use std::collections::BTreeMap;
 
 impl<V> Entry<V> {
@@ -76,5 +79,63 @@ pub(crate) fn hand_over<V: Drop, A: Allocator + Copy>(
         if let Some(entry) = forget(index, entries, *one) {
             let _room = taken.push(entry.into_sample(*one));
         }
+    }
+}
+
+/// Takes the first `max` entries that meet a condition.
+pub(crate) fn take_some<V: Drop, A: Allocator + Copy>(
+    alloc: A,
+    index: &mut Index<A>,
+    entries: &mut BTreeMap<u64, Entry<V>, A>,
+    max: usize,
+    condition: Condition,
+) -> Result<Vec<Taken<V>, A>, AllocError>
+    ensures answers { (past : List (Done V))
+        → StandsBy past (parts index.old entries.old.entries)
+        → IfOk result (λ taken. taken.items ≡ answered index.old.keep past max condition) }
+    ensures stands { (past : List (Done V))
+        → StandsBy past (parts index.old entries.old.entries)
+        → OnOk result (StandsBy (WasTaken max condition ∷ past)
+        (parts index.new entries.new.entries)) }
+    ensures keep { index.new.keep ≡ index.old.keep }
+    ensures err { OnErr result (IsSame (parts index.old entries.old.entries)
+        (parts index.new entries.new.entries)) }
+{
+    let chosen = choose(
+        alloc,
+        entries,
+        &index.not_read,
+        &index.instances,
+        max,
+        condition,
+    )?;
+    let mut taken = Vec::with_capacity(alloc, chosen.len())?;
+    hand_over(index, entries, &chosen, &mut taken);
+    Ok(taken)
+}
+
+/// Takes the first entry that no call answered. No memory is taken.
+pub(crate) fn take_next<V: Drop, A: Allocator>(
+    index: &mut Index<A>,
+    entries: &mut BTreeMap<u64, Entry<V>, A>,
+) -> Option<Taken<V>>
+    ensures answer { (past : List (Done V))
+        → StandsBy past (parts index.old entries.old.entries)
+        → option_to_list result ≡ answered index.old.keep past 1 unread }
+    ensures stands { (past : List (Done V))
+        → StandsBy past (parts index.old entries.old.entries)
+        → StandsBy (WasTaken 1 unread ∷ past) (parts index.new entries.new.entries) }
+    ensures keep { index.new.keep ≡ index.old.keep }
+{
+    let Some(number) = index.not_read.first() else {
+        return None;
+    };
+    let Some(entry) = entries.get(number) else {
+        return None;
+    };
+    let chosen = States::of(&index.instances, entry.key).show(*number, entry);
+    match forget(index, entries, chosen) {
+        Some(entry) => Some(entry.into_sample(chosen)),
+        None => None,
     }
 }

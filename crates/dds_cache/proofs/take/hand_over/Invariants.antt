@@ -12,5 +12,5 @@ invariant-loop-one g l = record {
   left : take_each (drop l.one-index l.chosen) l.entries.entries ≡ take_each l.chosen l.fn.entries.entries;
   not_read : drop_each (drop l.one-index l.chosen) l.index.not_read.keys ≡ drop_each l.chosen l.fn.index.not_read.keys;
   find : (k : KeyHash) → each spend_each (drop l.one-index l.chosen) k (known_at l.index.instances.entries k) ≡ each spend_each l.chosen k (known_at l.fn.index.instances.entries k);
-  same : (l.index.keep ≡ l.fn.index.keep) × (l.index.accepted ≡ l.fn.index.accepted) × (l.index.live.keys ≡ l.fn.index.live.keys)
+  same : (l.index.keep ≡ l.fn.index.keep) × (l.index.accepted ≡ l.fn.index.accepted) × (l.index.live.keys ≡ l.fn.index.live.keys);
 }
