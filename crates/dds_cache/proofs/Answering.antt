@@ -1,9 +1,9 @@
 -- What a call answers, and where a cache stands once it took entries.
-use Rattle.std.proofs.Common.{◌≡◌, ℕ, zero, suc, ◌<◌, ◌≤◌, Bool, true, false, List, [], ◌∷◌, ◌++◌, map, Some, None, refl, sym, ap, ◌∙◌, subst}
+use Rattle.std.proofs.Common.{◌≡◌, ℕ, ◌<◌, Bool, true, false, List, [], ◌∷◌, map, Some, None, refl, sym, ap, ◌∙◌, subst}
 use Rattle.std.proofs.Math.Path.{fun_ext}
-use Rattle.std.specs.Prelude.{Option, filter, if◌then◌else◌, is_some, not, ◌&&◌, ◌||◌, nat_lt}
+use Rattle.std.specs.Prelude.{Option, filter, is_some, not, ◌&&◌, ◌||◌, nat_lt}
 use Rattle.std.specs.Option.{option_map}
-use Rattle.std.specs.List.{AllByRecursion, list_any}
+use Rattle.std.specs.List.{list_any}
 use Rattle.rtps_types.specs.declared.identity.KeyHash.{KeyHash}
 use Rattle.dds_cache.specs.declared.choose.Chosen.{Chosen}
 use Rattle.dds_cache.specs.declared.condition.Condition.{Condition}
@@ -11,12 +11,12 @@ use Rattle.dds_cache.specs.declared.entry.Entry.{Entry}
 use Rattle.dds_cache.specs.declared.entry.Sample.{Sample}
 use Rattle.dds_cache.specs.declared.history.History.{History}
 use Rattle.dds_cache.specs.declared.history.History.TheVariants.{KeepLast, KeepAll}
-use Rattle.dds_cache.specs.Answered.{answered, unread, sample_state, shown, shown_by, view_state}
-use Rattle.dds_cache.specs.Cache.{Cached, cached, first_by, is_of, left_by, meets}
-use Rattle.dds_cache.specs.Calls.{Done, Accepted, WasRead, WasTaken}
-use Rattle.dds_cache.specs.Effects.{FindsSame, HandsOver, IsSame, drop_each, take_each, take_shown, chosen_by, each, passes, shown_as, spend_each, spent}
-use Rattle.dds_cache.specs.Instances.{is_alive, is_disposed, state_by}
-use Rattle.dds_cache.specs.Standing.{Known, Pair, Parts, Rising, StandsBy, alive_in, count_in, disposed_in, is_key, new_in, not_yet, numbers, numbers_in, numbers_kept, of_key}
+use Rattle.dds_cache.specs.Answered.{answered, sample_state, shown, shown_by, view_state}
+use Rattle.dds_cache.specs.Cache.{cached, first_by, is_of, left_by, meets}
+use Rattle.dds_cache.specs.Calls.{Done, WasTaken}
+use Rattle.dds_cache.specs.Effects.{HandsOver, IsSame, drop_each, take_each, take_shown, chosen_by, each, passes, shown_as, spend_each}
+use Rattle.dds_cache.specs.Instances.{is_disposed, state_by}
+use Rattle.dds_cache.specs.Standing.{Known, Pair, Parts, StandsBy, alive_in, count_in, disposed_in, is_key, new_in, not_yet, numbers, numbers_in, numbers_kept, of_key}
 use Rattle.dds_cache.proofs.Keys.{key_tie}
 use Rattle.dds_cache.proofs.Lists.{all_left, any_first, any_left, any_map, first_map, left_map, rising_left}
 use Rattle.dds_cache.proofs.Living.{alive_is, has_live_is}

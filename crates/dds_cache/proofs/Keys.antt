@@ -1,7 +1,7 @@
 -- The orders of keys, numbers and pairs tell different ones apart.
 use Rattle.std.proofs.Common.{◌≡◌, ℕ, Bool, true, false, ◌&&◌, List, refl, sym, ap, ◌∙◌}
-use Rattle.std.specs.Cmp.{IsTotalOrder, nat_cmp_total, both_ways}
-use Rattle.std.specs.Ordering.{is_eq, nat_cmp, ordering_reverse, ordering_then}
+use Rattle.std.specs.Cmp.{IsTotalOrder, both_ways}
+use Rattle.std.specs.Ordering.{is_eq, ordering_reverse, ordering_then}
 use Rattle.std.specs.Str.{bytes_eq}
 use Rattle.std.specs.declared.cmp.Ordering.{Ordering}
 use Rattle.std.specs.declared.cmp.Ordering.TheVariants.{Less, Equal, Greater}
@@ -15,7 +15,7 @@ use Rattle.rtps_types.specs.declared.identity.KeyHash.{KeyHash}
 use Rattle.rtps_types.specs.Order.{guid_order, octet_order}
 use Rattle.rtps_proxy.specs.Matches.{same_guid}
 use Rattle.dds_cache.specs.Calls.{same_key}
-use Rattle.dds_cache.specs.Standing.{Pair, is_key, is_number, is_pair, key_order, pair_order}
+use Rattle.dds_cache.specs.Standing.{Pair, is_key, is_pair, key_order, pair_order}
 
 pub key_total : IsTotalOrder key_order
 key_total = on_total (λ (k : KeyHash). k.0) nat_list_cmp_total

@@ -1,10 +1,9 @@
 -- The first entries that pass a test, and those that are left.
-use Rattle.std.proofs.Common.{◌≡◌, ℕ, zero, suc, ◌+◌, ◌<◌, ◌≤◌, Bool, true, false, List, [], ◌∷◌, ◌++◌, map, length, cond, refl, sym, ap, ◌∙◌, arith}
-use Rattle.std.specs.Prelude.{filter, if◌then◌else◌, not, ◌&&◌, ◌||◌, nat_lt}
+use Rattle.std.proofs.Common.{◌≡◌, ℕ, zero, suc, ◌≤◌, Bool, true, false, List, [], ◌∷◌, map, length, refl, ap, arith}
+use Rattle.std.specs.Prelude.{filter, if◌then◌else◌, ◌||◌, nat_lt}
 use Rattle.std.specs.List.{AllByRecursion, list_any}
 use Rattle.std.proofs.lemmas.Bool.Decides.{nat_tests}
-use Rattle.dds_cache.specs.declared.entry.Entry.{Entry}
-use Rattle.dds_cache.specs.Cache.{first_by, left_by, marked, marked_by}
+use Rattle.dds_cache.specs.Cache.{first_by, left_by}
 use Rattle.dds_cache.specs.Standing.{Rising}
 
 -- ---- tests of lists

@@ -1,16 +1,15 @@
 -- An instance has a live writer where the count of its live writers isn't 0.
-use Rattle.std.proofs.Common.{◌≡◌, ℕ, Bool, true, false, List, [], ◌∷◌, refl, sym, ap, ◌∙◌, subst}
+use Rattle.std.proofs.Common.{◌≡◌, Bool, true, false, List, [], ◌∷◌, refl, sym, ap, ◌∙◌}
 use Rattle.std.specs.Cmp.{both_ways}
 use Rattle.std.specs.Prelude.{not, ◌&&◌, ◌||◌, nat_lt}
 use Rattle.std.specs.List.{list_any}
 use Rattle.rtps_types.specs.declared.identity.Guid.{Guid}
 use Rattle.rtps_types.specs.declared.identity.KeyHash.{KeyHash}
 use Rattle.rtps_proxy.specs.Matches.{same_guid}
-use Rattle.rtps_reader.specs.declared.notice.Notice.{Notice}
 use Rattle.dds_cache.specs.Calls.{Done, Accepted, WasRead, WasTaken, same_key}
 use Rattle.dds_cache.specs.Instances.{About, AValue, ADisposal, AnUnregistration, Nothing, alive_by, brought, has_live, is_alive, is_end, is_live, is_value, live_by, told_about}
 use Rattle.dds_cache.specs.Standing.{Pair, Parts, StandsBy, alive_in, count_in, is_key, is_pair}
-use Rattle.dds_cache.proofs.Keys.{and_left, and_right, guid_is, guid_tie, itself, key_is, key_tie, guid_total, pair_tie}
+use Rattle.dds_cache.proofs.Keys.{and_left, and_right, guid_is, guid_tie, itself, key_tie, guid_total, pair_tie}
 use Rattle.rtps_types.specs.Order.{guid_order}
 use Rattle.dds_cache.proofs.Lists.{any_count, any_from, or_left, or_right, witness}
 

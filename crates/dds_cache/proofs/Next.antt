@@ -1,16 +1,15 @@
 -- The first entry that no call answered.
-use Rattle.std.proofs.Common.{◌≡◌, ℕ, suc, ◌<◌, ◌≤◌, Bool, true, false, List, [], ◌∷◌, map, length, Some, None, refl, sym, ap, ◌∙◌, subst, arith}
-use Rattle.std.specs.Prelude.{Option, filter, if◌then◌else◌, not, ◌&&◌, ◌||◌, slice_get, ◌↔◌, IsSome}
+use Rattle.std.proofs.Common.{◌≡◌, ℕ, suc, ◌<◌, ◌≤◌, Bool, true, false, List, [], ◌∷◌, map, length, Some, None, refl, sym, ap, ◌∙◌, arith}
+use Rattle.std.specs.Prelude.{Option, filter, if◌then◌else◌, not, ◌&&◌, slice_get}
 use Rattle.std.specs.Map.{lookup}
 use Rattle.std.proofs.lemmas.List.{length-map}
-use Rattle.rtps_types.specs.declared.identity.KeyHash.{KeyHash}
 use Rattle.dds_cache.specs.declared.choose.Chosen.{Chosen}
 use Rattle.dds_cache.specs.declared.entry.Entry.{Entry}
 use Rattle.dds_cache.specs.Answered.{answered, unread}
-use Rattle.dds_cache.specs.Cache.{first_by, left_by}
+use Rattle.dds_cache.specs.Cache.{first_by}
 use Rattle.dds_cache.specs.Calls.{Done, WasTaken}
 use Rattle.dds_cache.specs.Effects.{HandsOver, chosen_by, looked, passes, shown_as, with_found, with_shown}
-use Rattle.dds_cache.specs.Standing.{Known, Parts, StandsBy, is_number, not_yet, numbers}
+use Rattle.dds_cache.specs.Standing.{Parts, StandsBy, is_number, not_yet, numbers}
 use Rattle.dds_cache.proofs.Answering.{picked, took, took_shown}
 use Rattle.dds_cache.proofs.Choosing.{from_numbers, looked_all}
 

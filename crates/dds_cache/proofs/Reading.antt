@@ -1,6 +1,6 @@
 -- Where a cache stands once it answered entries that stay.
-use Rattle.std.proofs.Common.{◌≡◌, ℕ, zero, suc, ◌<◌, ◌≤◌, Bool, true, false, List, [], ◌∷◌, map, cond, Some, None, refl, sym, ap, ◌∙◌, arith}
-use Rattle.std.specs.Prelude.{Option, filter, if◌then◌else◌, is_some, not, ◌&&◌, ◌||◌}
+use Rattle.std.proofs.Common.{◌≡◌, ℕ, zero, suc, ◌<◌, Bool, true, false, List, [], ◌∷◌, map, cond, Some, None, refl, sym, ap, ◌∙◌, arith}
+use Rattle.std.specs.Prelude.{Option, filter, if◌then◌else◌, is_some, ◌||◌}
 use Rattle.std.specs.List.{AllByRecursion, list_any}
 use Rattle.std.specs.Map.{lookup}
 use Rattle.std.specs.Option.{option_map}
@@ -8,7 +8,6 @@ use Rattle.rtps_types.specs.declared.identity.KeyHash.{KeyHash}
 use Rattle.dds_cache.specs.declared.choose.Chosen.{Chosen}
 use Rattle.dds_cache.specs.declared.condition.Condition.{Condition}
 use Rattle.dds_cache.specs.declared.entry.Entry.{Entry}
-use Rattle.dds_cache.specs.declared.entry.Sample.{Sample}
 use Rattle.dds_cache.specs.declared.history.History.{History}
 use Rattle.dds_cache.specs.declared.history.History.TheVariants.{KeepLast, KeepAll}
 use Rattle.dds_cache.specs.Answered.{answered}

@@ -8,7 +8,7 @@ use Rattle.dds_cache.specs.declared.index.Index.{Index}
 use Rattle.dds_cache.specs.declared.instance.Instance.{Instance}
 use Rattle.dds_cache.specs.Calls.{Done}
 use Rattle.dds_cache.specs.Effects.{IsSame}
-use Rattle.dds_cache.specs.Standing.{Known, StandsAt, StandsBy, is_key, kept, known, known_at, parts, parts_in}
+use Rattle.dds_cache.specs.Standing.{StandsAt, StandsBy, is_key, kept, known, known_at, parts, parts_in}
 use Rattle.dds_cache.proofs.Answering.{stands_same}
 
 seen_known : {A : Type 0} (k : KeyHash) (es : List (KeyHash × Instance A)) → lookup (is_key k) (map (λ p. (p.0, known p.1)) es) ≡ known_at es k

@@ -1,6 +1,6 @@
 -- What is left of a cache once entries were taken, or read.
-use Rattle.std.proofs.Common.{◌≡◌, ℕ, zero, suc, ◌+◌, ◌-◌, ◌<◌, ◌≤◌, Bool, true, false, List, [], ◌∷◌, ◌++◌, map, cond, Some, None, refl, sym, ap, ◌∙◌, arith, append_assoc, append-nil}
-use Rattle.std.specs.Prelude.{Option, filter, if◌then◌else◌, is_some, not, ◌&&◌, ◌||◌}
+use Rattle.std.proofs.Common.{◌≡◌, ℕ, zero, suc, ◌<◌, ◌≤◌, Bool, true, false, List, [], ◌∷◌, ◌++◌, map, cond, Some, None, refl, sym, ap, ◌∙◌, arith, append_assoc}
+use Rattle.std.specs.Prelude.{Option, filter, if◌then◌else◌, not, ◌&&◌, ◌||◌}
 use Rattle.std.specs.List.{AllByRecursion, list_any}
 use Rattle.std.specs.Map.{lookup, remove_entry}
 use Rattle.std.specs.Set.{remove_key}
@@ -9,9 +9,9 @@ use Rattle.rtps_types.specs.declared.identity.KeyHash.{KeyHash}
 use Rattle.dds_cache.specs.declared.choose.Chosen.{Chosen}
 use Rattle.dds_cache.specs.declared.entry.Entry.{Entry}
 use Rattle.dds_cache.specs.declared.entry.Sample.{Sample}
-use Rattle.dds_cache.specs.Cache.{first_by, left_by, marked}
-use Rattle.dds_cache.specs.Effects.{chosen_by, drop_each, each, mark_each, mark_one, seen, read_each, shown_as, spend_each, spent, take_each, take_shown, with_shown}
-use Rattle.dds_cache.specs.Standing.{Known, Rising, count_in, disposed_in, is_key, is_number, new_in, not_yet, numbers, numbers_in, of_key}
+use Rattle.dds_cache.specs.Cache.{first_by, left_by}
+use Rattle.dds_cache.specs.Effects.{chosen_by, drop_each, each, shown_as, spend_each, spent, take_each, take_shown, with_shown}
+use Rattle.dds_cache.specs.Standing.{Known, Rising, is_key, is_number, new_in, not_yet, numbers, numbers_in, of_key}
 use Rattle.dds_cache.proofs.Choosing.{above, number_apart, number_before, number_itself}
 use Rattle.dds_cache.proofs.Keys.{key_tie}
 

@@ -5,3 +5,4 @@ pub mod Answered
 pub mod Standing
 pub mod Effects
 pub mod Lent
+pub mod After

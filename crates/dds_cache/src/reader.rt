@@ -1,9 +1,11 @@
 //! A reader's cache.
 
-ghost use Rattle.std.specs.Prelude.{◌≡◌, ◌∷◌, [], IfOk, List, OnErr, OnOk, option_to_list};
+ghost use Rattle.std.specs.Prelude.{◌≡◌, ◌∷◌, [], IfOk, List, OnErr, OnOk, Some, map, option_to_list};
 ghost use Rattle.dds_cache.specs.Answered.{answered, unread};
 ghost use Rattle.dds_cache.specs.Cache.{IsHistory};
 ghost use Rattle.dds_cache.specs.Calls.{Done, WasTaken};
+ghost use Rattle.dds_cache.specs.Lent.{answers_in};
+ghost use Rattle.std.specs.Borrow.{sem};
 ghost use Rattle.dds_cache.specs.Standing.{StandsAt};
 
 use crate::answers::Answers;
@@ -11,6 +13,7 @@ use crate::condition::Condition;
 use crate::entry::Taken;
 use crate::history::History;
 use crate::index::Index;
+use crate::read::read_some;
 use crate::take::{take_next, take_some};
 use std::alloc::{AllocError, Allocator, Global};
 use std::collections::BTreeMap;
@@ -27,6 +30,8 @@ pub struct DataReader<V, A: Allocator = Global> {
 }
 
 impl<V, A: Allocator> Model for DataReader<V, A> {
+    ghost use Rattle.dds_cache.specs.Lent.{answers_in};
+    ghost use Rattle.std.specs.Borrow.{sem};
     ghost use Rattle.dds_cache.specs.Standing.{Kept, kept};
 
     ghost Value = { Kept V };
@@ -35,6 +40,8 @@ impl<V, A: Allocator> Model for DataReader<V, A> {
 }
 
 impl<V: Drop, A: Allocator + Copy> DataReader<V, A> {
+    ghost use Rattle.dds_cache.specs.After.{WasReadFrom, ends_read};
+
     /// An empty cache. No memory is taken.
     pub fn new(alloc: A, keep: History) -> DataReader<V, A>
         requires { IsHistory keep }
@@ -47,6 +54,27 @@ impl<V: Drop, A: Allocator + Copy> DataReader<V, A> {
                 entries: BTreeMap::new(alloc),
                 answered: Vec::new(alloc),
             },
+        }
+    }
+
+    /// Lends the first `max` entries, in order of acceptance, that meet the condition, each with its
+    /// states before the call. They stay and are read now, and their instances aren't new any more
+    /// (DDS 1.4, 2.2.2.5.3.8, `read`). A refused growth answers and marks nothing.
+    pub fn read(
+        &mut self,
+        alloc: A,
+        max: usize,
+        condition: Condition,
+    ) -> Result<&Answers<V, A>, AllocError>
+        ensures* after { sem 𝓛 (ends_read V.row A.row A.Allocator self.entry
+            (WasReadFrom self.old max condition result)) }
+        ensures answers { (past : List (Done V)) → StandsAt past self.old
+            → IfOk result (λ answers. answers_in answers.now
+            ≡ map (λ s. Some s) (answered self.old.keep past max condition)) }
+    {
+        match read_some(alloc, &mut self.index, &mut self.shelf, max, condition) {
+            Ok(()) => Ok(&self.shelf),
+            Err(refused) => Err(refused),
         }
     }
 

@@ -1,4 +1,4 @@
-use Rattle.std.proofs.Common.{◌≡◌, List, map, ap, ◌∙◌, subst}
+use Rattle.std.proofs.Common.{◌≡◌, List, map, ap, subst}
 use Rattle.std.specs.Prelude.{IfOk}
 use Rattle.dds_cache.specs.Effects.{chosen_by}
 use Rattle.dds_cache.specs.Standing.{known_at}

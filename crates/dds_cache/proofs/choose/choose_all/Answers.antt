@@ -1,12 +1,9 @@
-use Rattle.std.proofs.Common.{◌≡◌, ℕ, ◌-◌, true, false, List, ◌∷◌, ◌++◌, map, Some, None, ap, sym, ◌∙◌, arith, subst}
-use Rattle.std.specs.Map.{lookup}
-use Rattle.std.specs.Option.{option_copied}
-use Rattle.dds_cache.specs.declared.choose.Chosen.{Chosen}
+use Rattle.std.proofs.Common.{◌≡◌, ℕ, ◌-◌, List, ◌∷◌, ◌++◌, map, ap, ◌∙◌, subst}
 use Rattle.dds_cache.specs.declared.entry.Entry.{Entry}
 use Rattle.dds_cache.specs.Cache.{first_by}
-use Rattle.dds_cache.specs.Effects.{chosen_by, looked, passes, with_found}
-use Rattle.dds_cache.specs.Standing.{is_number, known_at}
-use Rattle.dds_cache.proofs.Choosing.{enough, judged, not_this, one_more, refused}
+use Rattle.dds_cache.specs.Effects.{chosen_by, passes}
+use Rattle.dds_cache.specs.Standing.{known_at}
+use Rattle.dds_cache.proofs.Choosing.{enough, judged, one_more}
 use Rattle.dds_cache.proofs.choose.choose_all.Goals as goal
 
 pub entries-preserved-in-Some-judge : goal.entries-preserved-in-Some-judge

@@ -1,10 +1,10 @@
-use Rattle.std.proofs.Common.{◌≡◌, ℕ, ◌+◌, ◌<◌, ◌≤◌, Some, None, List, [], ◌∷◌, length, true, false, refl, sym, ap, ◌∙◌, subst, rules, arith}
+use Rattle.std.proofs.Common.{◌≡◌, Some, None, List, refl, sym, ap, ◌∙◌, subst, rules}
 use Rattle.std.specs.Map.{lookup}
 use Rattle.std.specs.Option.{option_copied_mut, option_map}
 use Rattle.rtps_types.specs.declared.identity.KeyHash.{KeyHash}
 use Rattle.dds_cache.specs.declared.instance.Instance.{Instance}
-use Rattle.dds_cache.specs.Effects.{ChangesAt, FindsSame, with_number}
-use Rattle.dds_cache.specs.Standing.{Known, count_in, is_key, known, known_at, numbers_in}
+use Rattle.dds_cache.specs.Effects.{ChangesAt, with_number}
+use Rattle.dds_cache.specs.Standing.{Known, is_key, known_at}
 use Rattle.dds_cache.proofs.Knowing.{changed, stays, unknown}
 use Rattle.dds_cache.proofs.instance.add_number.Goals as goal
 

@@ -1,10 +1,10 @@
-use Rattle.std.proofs.Common.{◌≡◌, Some, None, List, true, false, refl, sym, ap, ◌∙◌, subst, rules}
+use Rattle.std.proofs.Common.{◌≡◌, Some, None, List, false, refl, sym, ap, ◌∙◌, subst, rules}
 use Rattle.std.specs.Map.{lookup}
 use Rattle.std.specs.Option.{option_copied_mut, option_map}
 use Rattle.rtps_types.specs.declared.identity.KeyHash.{KeyHash}
 use Rattle.dds_cache.specs.declared.instance.Instance.{Instance}
 use Rattle.dds_cache.specs.Effects.{ChangesAt, seen}
-use Rattle.dds_cache.specs.Standing.{is_key, known, known_at}
+use Rattle.dds_cache.specs.Standing.{is_key, known_at}
 use Rattle.dds_cache.proofs.Knowing.{changed, unknown}
 use Rattle.dds_cache.proofs.instance.note_read.Goals as goal
 

@@ -1,8 +1,8 @@
-use Rattle.std.proofs.Common.{◌≡◌, ℕ, ◌<◌, ◌≤◌, Some, None, List, [], ◌∷◌, length, refl, sym, ap, ◌∙◌, rules, arith}
+use Rattle.std.proofs.Common.{◌≡◌, ◌<◌, ◌≤◌, Some, length, refl, sym, ap, ◌∙◌, arith}
 use Rattle.std.specs.Map.{lookup}
 use Rattle.std.specs.Option.{option_copied_mut}
 use Rattle.dds_cache.specs.declared.instance.Instance.{Instance}
-use Rattle.dds_cache.specs.Standing.{Known, is_key}
+use Rattle.dds_cache.specs.Standing.{is_key}
 use Rattle.dds_cache.proofs.Knowing.{few, popped}
 use Rattle.dds_cache.proofs.instance.pop_oldest.Goals as goal
 

@@ -1,7 +1,6 @@
-use Rattle.std.proofs.Common.{◌≡◌, List, Some, map, refl, ap, sym, ◌∙◌}
+use Rattle.std.proofs.Common.{◌≡◌, map, ap, ◌∙◌}
 use Rattle.dds_cache.specs.Lent.{answer_at}
-use Rattle.dds_cache.specs.Effects.{Reads}
-use Rattle.dds_cache.specs.Standing.{Parts, parts}
+use Rattle.dds_cache.specs.Standing.{parts}
 use Rattle.dds_cache.proofs.Answering.{picked}
 use Rattle.dds_cache.proofs.Reading.{read_answers, was_read}
 use Rattle.dds_cache.proofs.read.read_some.Goals as goal

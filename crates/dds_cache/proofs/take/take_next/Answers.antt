@@ -1,4 +1,4 @@
-use Rattle.std.proofs.Common.{◌≡◌, ℕ, List, [], ◌∷◌, Some, None, refl, ap, sym, ◌∙◌}
+use Rattle.std.proofs.Common.{◌≡◌, ℕ, [], ◌∷◌, Some, refl, ap, sym, ◌∙◌}
 use Rattle.std.specs.Map.{lookup}
 use Rattle.std.specs.Option.{option_copied}
 use Rattle.dds_cache.specs.declared.choose.Chosen.{Chosen}
@@ -8,7 +8,7 @@ use Rattle.dds_cache.specs.Instances.{state_by}
 use Rattle.dds_cache.specs.Effects.{HandsOver, chosen_by, shown_as}
 use Rattle.std.specs.Prelude.{Option, nat_lt}
 use Rattle.dds_cache.specs.declared.choose.States.{States}
-use Rattle.dds_cache.specs.Standing.{Known, Parts, count_in, disposed_in, is_number, new_in, parts}
+use Rattle.dds_cache.specs.Standing.{Known, count_in, disposed_in, is_number, new_in, parts}
 use Rattle.dds_cache.proofs.Next.{head_of, never, none_of, nothing, taken_next}
 use Rattle.dds_cache.proofs.take.take_next.Goals as goal
 

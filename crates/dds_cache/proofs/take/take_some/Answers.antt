@@ -1,7 +1,6 @@
-use Rattle.std.proofs.Common.{◌≡◌, List, ◌++◌, refl, ap, sym, ◌∙◌}
-use Rattle.dds_cache.specs.declared.choose.Chosen.{Chosen}
-use Rattle.dds_cache.specs.Effects.{HandsOver, take_shown}
-use Rattle.dds_cache.specs.Standing.{Parts, StandsBy, parts}
+use Rattle.std.proofs.Common.{◌≡◌, ◌++◌, ap, ◌∙◌}
+use Rattle.dds_cache.specs.Effects.{take_shown}
+use Rattle.dds_cache.specs.Standing.{parts}
 use Rattle.dds_cache.proofs.Answering.{picked, took, took_shown}
 use Rattle.dds_cache.proofs.take.take_some.Goals as goal
 

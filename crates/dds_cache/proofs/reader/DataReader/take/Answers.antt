@@ -1,9 +1,9 @@
-use Rattle.std.proofs.Common.{◌≡◌, List, ◌∷◌, sym, ap, subst}
-use Rattle.std.specs.Prelude.{IfOk, OnErr, OnOk}
+use Rattle.std.proofs.Common.{◌≡◌, ◌∷◌, sym, subst}
+use Rattle.std.specs.Prelude.{IfOk}
 use Rattle.std.proofs.lemmas.Result.{on_err_weaker, on_ok_weaker}
-use Rattle.dds_cache.specs.Calls.{Done, WasTaken}
+use Rattle.dds_cache.specs.Calls.{WasTaken}
 use Rattle.dds_cache.specs.Effects.{IsSame}
-use Rattle.dds_cache.specs.Standing.{Kept, StandsAt, StandsBy, kept, parts}
+use Rattle.dds_cache.specs.Standing.{Kept, StandsAt, parts}
 use Rattle.dds_cache.specs.Answered.{answered}
 use Rattle.dds_cache.proofs.Answering.{stands_same}
 use Rattle.dds_cache.proofs.Seeing.{from_parts, to_parts}

@@ -1,6 +1,6 @@
-use Rattle.std.proofs.Common.{◌≡◌, List, ◌∷◌, sym, ap, ◌∙◌, subst}
-use Rattle.dds_cache.specs.Calls.{Done, WasTaken}
-use Rattle.dds_cache.specs.Standing.{Kept, StandsAt, StandsBy, kept, parts}
+use Rattle.std.proofs.Common.{◌∷◌, sym, ap, ◌∙◌, subst}
+use Rattle.dds_cache.specs.Calls.{WasTaken}
+use Rattle.dds_cache.specs.Standing.{Kept, StandsAt}
 use Rattle.dds_cache.specs.Answered.{answered, unread}
 use Rattle.dds_cache.proofs.Seeing.{from_parts, to_parts}
 use Rattle.dds_cache.proofs.reader.DataReader.take_next_sample.Goals as goal
