@@ -9,3 +9,4 @@ mod Next
 mod Seeing
 mod Marks
 mod Reading
+mod Rows
