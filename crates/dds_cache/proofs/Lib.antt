@@ -1,0 +1,12 @@
+mod Keys
+mod Knowing
+mod Choosing
+mod Lists
+mod Living
+mod Taking
+mod Answering
+mod Next
+mod Seeing
+mod Marks
+mod Reading
+mod Rows

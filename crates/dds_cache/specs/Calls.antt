@@ -1,0 +1,17 @@
+-- What was done with a cache (DDS 1.4, 2.2.2.5).
+use Rattle.std.specs.Prelude.{ℕ, Bool}
+use Rattle.std.specs.Str.{bytes_eq}
+use Rattle.rtps_types.specs.declared.identity.KeyHash.{KeyHash}
+use Rattle.rtps_reader.specs.declared.notice.Notice.{Notice}
+use Rattle.dds_cache.specs.declared.condition.Condition.{Condition}
+
+-- a notice was accepted; or so many entries at most that meet a condition were read, or taken. What
+-- was done with a cache is the list of these, the newest first.
+pub data Done (M : Type 0) : Type 0 where
+  Accepted : Notice M → Done M
+  WasRead : ℕ → Condition → Done M
+  WasTaken : ℕ → Condition → Done M
+
+-- an instance is the hash of its key (DDSI-RTPS 9.6.4.8)
+abbrev pub same_key : KeyHash → KeyHash → Bool
+same_key a b = bytes_eq a.0 b.0

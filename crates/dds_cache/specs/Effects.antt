@@ -1,0 +1,222 @@
+-- What the steps of a call do to what is kept.
+use Rattle.std.specs.Prelude.{◌≡◌, ℕ, ◌+◌, ◌-◌, ◌<◌, ◌≤◌, length, nat_lt, List, [], ◌∷◌, Bool, true, false, not, ◌&&◌, ◌||◌, Option, Some, None, if◌then◌else◌}
+use Rattle.std.specs.BTreeMap.{insert_entry}
+use Rattle.std.specs.BTreeSet.{insert_key}
+use Rattle.std.specs.List.{list_any}
+use Rattle.std.specs.Map.{lookup, remove_entry}
+use Rattle.std.specs.Set.{remove_key}
+use Rattle.std.specs.Option.{option_map}
+use Rattle.std.specs.Ordering.{nat_cmp}
+use Rattle.rtps_types.specs.declared.identity.KeyHash.{KeyHash}
+use Rattle.dds_cache.specs.declared.choose.Chosen.{Chosen}
+use Rattle.dds_cache.specs.declared.condition.Condition.{Condition}
+use Rattle.dds_cache.specs.declared.entry.Content.{Content}
+use Rattle.dds_cache.specs.declared.entry.Content.TheVariants as content
+use Rattle.dds_cache.specs.declared.entry.Entry.{Entry}
+use Rattle.dds_cache.specs.declared.entry.Sample.{Sample}
+use Rattle.dds_cache.specs.declared.history.History.{History}
+use Rattle.dds_cache.specs.declared.history.History.TheVariants.{KeepLast, KeepAll}
+use Rattle.dds_cache.specs.Answered.{sample_state, shown, view_state}
+use Rattle.dds_cache.specs.Cache.{marked}
+use Rattle.dds_cache.specs.Instances.{alive_by, state_by}
+use Rattle.dds_cache.specs.Standing.{Known, Pair, Parts, alive_in, count_in, disposed_in, is_key, is_number, is_pair, new_in, numbers_in, pair_order, writers_in}
+
+-- ---- what becomes of an instance
+
+abbrev pub fresh : Known
+fresh = record { is_disposed = false; is_new = true; live = 0; numbers = [] }
+
+-- a value came, of a writer that wasn't live before, or of one that was
+abbrev pub valued : Bool → Known → Known
+valued joined i = record {
+  is_disposed = false;
+  is_new = i.is_new || not (alive_by i.is_disposed (nat_lt 0 i.live));
+  live = if joined then i.live + 1 else i.live;
+  numbers = i.numbers;
+}
+
+abbrev pub disposed : Known → Known
+disposed i = record i { is_disposed = true }
+
+-- a writer isn't live any more
+abbrev pub left : Known → Known
+left i = record i { live = i.live - 1 }
+
+abbrev pub with_number : ℕ → Known → Known
+with_number n i = record i { numbers = insert_key nat_cmp i.numbers n }
+
+abbrev pub with_numbers : List ℕ → Known → Known
+with_numbers ns i = record i { numbers = ns }
+
+abbrev pub without_number : ℕ → Known → Known
+without_number n i = record i { numbers = remove_key (is_number n) i.numbers }
+
+-- an entry of it was read, and stays; it was taken
+abbrev pub seen : Known → Known
+seen i = record i { is_new = false }
+
+abbrev pub spent : ℕ → Known → Known
+spent n i = record {
+  is_disposed = i.is_disposed;
+  is_new = false;
+  live = i.live;
+  numbers = remove_key (is_number n) i.numbers;
+}
+
+-- what is known of one instance changes
+abbrev pub ChangesAt : KeyHash → (Option Known → Option Known) → (KeyHash → Option Known) → (KeyHash → Option Known) → Type 0
+ChangesAt key f old new = (k : KeyHash) → new k ≡ (if is_key key k then f (old k) else old k)
+
+-- the same is found
+abbrev pub FindsSame : (KeyHash → Option Known) → (KeyHash → Option Known) → Type 0
+FindsSame old new = (k : KeyHash) → new k ≡ old k
+
+-- what is known but for the count of live writers
+abbrev pub uncounted : Option Known → Option Known
+uncounted o = option_map (λ (i : Known). let j : Known = record i { live = 0 } in j) o
+
+abbrev pub KeepsRest : (KeyHash → Option Known) → (KeyHash → Option Known) → Type 0
+KeepsRest old new = (k : KeyHash) → uncounted (new k) ≡ uncounted (old k)
+
+abbrev pub AreCounted : (KeyHash → Option Known) → List Pair → Type 0
+AreCounted find live = (k : KeyHash) → count_in (find k) ≡ writers_in k live
+
+-- ---- an entry comes
+
+-- nothing is changed
+pub record IsSame {M : Type 0} (old new : Parts M) : Type 0 where
+  pub keep : new.keep ≡ old.keep
+  pub accepted : new.accepted ≡ old.accepted
+  pub entries : new.entries ≡ old.entries
+  pub not_read : new.not_read ≡ old.not_read
+  pub find : FindsSame old.find new.find
+  pub live : new.live ≡ old.live
+
+-- an entry is put, and what is known of its instance changes
+pub record IsPut {M : Type 0} (e : Entry M) (f : Option Known → Option Known) (after : List Pair) (old new : Parts M) : Type 0 where
+  pub keep : new.keep ≡ old.keep
+  pub accepted : new.accepted ≡ old.accepted
+  pub entries : new.entries ≡ insert_entry nat_cmp old.entries old.accepted e
+  pub not_read : new.not_read ≡ insert_key nat_cmp old.not_read old.accepted
+  pub find : ChangesAt e.key f old.find new.find
+  pub live : new.live ≡ after
+
+abbrev pub numbered : History → ℕ → Known → Known
+numbered (KeepLast most) n i = with_number n i
+numbered KeepAll n i = i
+
+abbrev pub is_value_of : {M : Type 0} → Content M → Bool
+is_value_of (content.Value v) = true
+is_value_of content.Disposed = false
+
+-- the live writers once a value came, or a disposal
+abbrev pub joined_by : Bool → Pair → List Pair → List Pair
+joined_by is_value p live = if is_value then insert_key pair_order live p else live
+
+-- the writer of a value wasn't live
+abbrev pub joins : Bool → Pair → List Pair → Bool
+joins is_value p live = is_value && not (list_any (is_pair p) live)
+
+abbrev pub or_fresh : Option Known → Known
+or_fresh None = fresh
+or_fresh (Some i) = i
+
+-- an instance that isn't known is made
+abbrev pub made : (Known → Known) → Option Known → Option Known
+made f o = Some (f (or_fresh o))
+
+-- ---- what a call answers
+
+abbrev pub passes : {M : Type 0} → (KeyHash → Option Known) → Condition → ℕ × Entry M → Bool
+passes find flags e =
+    (not flags.not_read || not e.1.is_read)
+    && ((not flags.new || new_in (find e.1.key)) && (not flags.alive || alive_in (find e.1.key)))
+
+abbrev pub chosen_by : {M : Type 0} → (KeyHash → Option Known) → ℕ × Entry M → Chosen
+chosen_by find e = record {
+  number = e.0;
+  key = e.1.key;
+  sample = sample_state e.1.is_read;
+  view = view_state (new_in (find e.1.key));
+  instance = state_by (disposed_in (find e.1.key)) (nat_lt 0 (count_in (find e.1.key)));
+}
+
+-- an entry with the states that it was chosen with
+abbrev pub shown_as : {M : Type 0} → Entry M → Chosen → Sample M
+shown_as e c = shown e c.sample c.view c.instance
+
+-- the entry with a number is read; it leaves
+abbrev pub mark_one : {M : Type 0} → ℕ → List (ℕ × Entry M) → List (ℕ × Entry M)
+mark_one n [] = []
+mark_one n (e ∷ es) = if is_number n e.0 then (e.0, marked e.1) ∷ es else e ∷ mark_one n es
+
+-- what is known of an instance once these entries were answered
+abbrev pub each : (Chosen → Known → Known) → List Chosen → KeyHash → Option Known → Option Known
+each f [] k o = o
+each f (c ∷ cs) k o = each f cs k (if is_key c.key k then option_map (f c) o else o)
+
+-- the number of the oldest entry of an instance is given up, where it has more than so many
+abbrev pub PopsOldest : KeyHash → ℕ → Option ℕ → (KeyHash → Option Known) → (KeyHash → Option Known) → Type 0
+PopsOldest key most None old new = (length (numbers_in (old key)) ≤ most) × FindsSame old new
+PopsOldest key most (Some n) old new =
+    (most < length (numbers_in (old key))) × (numbers_in (old key) ≡ n ∷ numbers_in (new key))
+    × ChangesAt key (option_map (with_numbers (numbers_in (new key)))) old new
+
+-- the entries of these numbers
+abbrev pub with_found : {M : Type 0} → ℕ → Option (Entry M) → List (ℕ × Entry M) → List (ℕ × Entry M)
+with_found n None es = es
+with_found n (Some e) es = (n, e) ∷ es
+
+abbrev pub looked : {M : Type 0} → List (ℕ × Entry M) → List ℕ → List (ℕ × Entry M)
+looked es [] = []
+looked es (n ∷ ns) = with_found n (lookup (is_number n) es) (looked es ns)
+
+-- ---- once entries were chosen
+
+-- the entries once these were read; once these were taken
+abbrev pub mark_each : {M : Type 0} → List Chosen → List (ℕ × Entry M) → List (ℕ × Entry M)
+mark_each [] es = es
+mark_each (c ∷ cs) es = mark_each cs (mark_one c.number es)
+
+abbrev pub take_each : {M : Type 0} → List Chosen → List (ℕ × Entry M) → List (ℕ × Entry M)
+take_each [] es = es
+take_each (c ∷ cs) es = take_each cs (remove_entry (is_number c.number) es)
+
+-- the numbers that are left
+abbrev pub drop_each : List Chosen → List ℕ → List ℕ
+drop_each [] ns = ns
+drop_each (c ∷ cs) ns = drop_each cs (remove_key (is_number c.number) ns)
+
+-- what is handed over
+abbrev pub with_shown : {M : Type 0} → Chosen → Option (Entry M) → List (Sample M) → List (Sample M)
+with_shown c None samples = samples
+with_shown c (Some e) samples = shown_as e c ∷ samples
+
+abbrev pub take_shown : {M : Type 0} → List Chosen → List (ℕ × Entry M) → List (Sample M)
+take_shown [] es = []
+take_shown (c ∷ cs) es =
+    with_shown c (lookup (is_number c.number) es) (take_shown cs (remove_entry (is_number c.number) es))
+
+abbrev pub read_each : Chosen → Known → Known
+read_each c = seen
+
+abbrev pub spend_each : Chosen → Known → Known
+spend_each c = spent c.number
+
+-- these entries left
+pub record HandsOver {M : Type 0} (cs : List Chosen) (old new : Parts M) : Type 0 where
+  pub keep : new.keep ≡ old.keep
+  pub accepted : new.accepted ≡ old.accepted
+  pub entries : new.entries ≡ take_each cs old.entries
+  pub not_read : new.not_read ≡ drop_each cs old.not_read
+  pub find : (k : KeyHash) → new.find k ≡ each spend_each cs k (old.find k)
+  pub live : new.live ≡ old.live
+
+-- these entries were read
+pub record Reads {M : Type 0} (cs : List Chosen) (old new : Parts M) : Type 0 where
+  pub keep : new.keep ≡ old.keep
+  pub accepted : new.accepted ≡ old.accepted
+  pub entries : new.entries ≡ mark_each cs old.entries
+  pub not_read : new.not_read ≡ drop_each cs old.not_read
+  pub find : (k : KeyHash) → new.find k ≡ each read_each cs k (old.find k)
+  pub live : new.live ≡ old.live

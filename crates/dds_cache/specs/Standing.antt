@@ -1,0 +1,173 @@
+-- What a cache keeps.
+use Rattle.std.specs.Prelude.{◌≡◌, ℕ, suc, ◌<◌, ◌≤◌, nat_lt, List, [], ◌∷◌, map, filter, length, Bool, true, false, not, Option, Some, None, is_some}
+use Rattle.std.specs.List.{list_any, AllByRecursion}
+use Rattle.std.specs.Map.{lookup}
+use Rattle.std.specs.Option.{option_map}
+use Rattle.std.specs.Ordering.{is_eq, nat_cmp, ordering_then}
+use Rattle.std.specs.declared.cmp.Ordering.{Ordering}
+use Rattle.rtps_types.specs.declared.identity.Guid.{Guid}
+use Rattle.rtps_types.specs.declared.identity.KeyHash.{KeyHash}
+use Rattle.rtps_types.specs.Order.{guid_order, octet_order}
+use Rattle.dds_cache.specs.declared.entry.Entry.{Entry}
+use Rattle.dds_cache.specs.declared.history.History.{History}
+use Rattle.dds_cache.specs.declared.history.History.TheVariants.{KeepLast, KeepAll}
+use Rattle.dds_cache.specs.declared.index.Index.{Index}
+use Rattle.dds_cache.specs.declared.instance.Instance.{Instance}
+use Rattle.dds_cache.specs.Cache.{cached, is_of}
+use Rattle.dds_cache.specs.Calls.{Done}
+use Rattle.dds_cache.specs.Instances.{alive_by, is_disposed, is_live}
+
+-- the orders in which instances, and writers with instances, are found
+abbrev pub key_order : KeyHash → KeyHash → Ordering
+key_order a b = octet_order a.0 b.0
+
+-- a writer that is live in an instance
+abbrev pub Pair : Type 0
+Pair = Guid × KeyHash
+
+abbrev pub pair_order : Pair → Pair → Ordering
+pair_order a b = ordering_then (guid_order a.0 b.0) (key_order a.1 b.1)
+
+abbrev pub is_key : KeyHash → KeyHash → Bool
+is_key k h = is_eq (key_order k h)
+
+abbrev pub is_pair : Pair → Pair → Bool
+is_pair p q = is_eq (pair_order p q)
+
+abbrev pub is_number : ℕ → ℕ → Bool
+is_number n m = is_eq (nat_cmp n m)
+
+-- what is known of an instance
+pub record Known : Type 0 where
+  pub is_disposed : Bool
+  pub is_new : Bool
+  -- how many writers are live in it
+  pub live : ℕ
+  -- the numbers of its entries, where the last so many are kept
+  pub numbers : List ℕ
+
+abbrev pub known : {A : Type 0} → Instance A → Known
+known i = record {
+  is_disposed = i.is_disposed;
+  is_new = i.is_new;
+  live = i.live;
+  numbers = i.numbers.keys;
+}
+
+abbrev pub known_at : {A : Type 0} → List (KeyHash × Instance A) → KeyHash → Option Known
+known_at is k = option_map known (lookup (is_key k) is)
+
+-- what is kept, as contracts see it
+pub record Kept (M : Type 0) : Type 0 where
+  pub keep : History
+  -- how many entries were made; each has the count before it as its number
+  pub accepted : ℕ
+  pub entries : List (ℕ × Entry M)
+  -- the numbers of those that no call answered
+  pub not_read : List ℕ
+  pub instances : List (KeyHash × Known)
+  pub live : List Pair
+
+-- the same, with a function that finds an instance
+pub record Parts (M : Type 0) : Type 0 where
+  pub keep : History
+  pub accepted : ℕ
+  pub entries : List (ℕ × Entry M)
+  pub not_read : List ℕ
+  pub find : KeyHash → Option Known
+  pub live : List Pair
+
+abbrev pub parts_in : {M : Type 0} → Kept M → Parts M
+parts_in kept = record {
+  keep = kept.keep;
+  accepted = kept.accepted;
+  entries = kept.entries;
+  not_read = kept.not_read;
+  find = λ k. lookup (is_key k) kept.instances;
+  live = kept.live;
+}
+
+abbrev pub parts : {A M : Type 0} → Index A → List (ℕ × Entry M) → Parts M
+parts index entries = record {
+  keep = index.keep;
+  accepted = index.accepted;
+  entries = entries;
+  not_read = index.not_read.keys;
+  find = known_at index.instances.entries;
+  live = index.live.keys;
+}
+
+abbrev pub kept : {A M : Type 0} → Index A → List (ℕ × Entry M) → Kept M
+kept index entries = record {
+  keep = index.keep;
+  accepted = index.accepted;
+  entries = entries;
+  not_read = index.not_read.keys;
+  instances = map (λ p. (p.0, known p.1)) index.instances.entries;
+  live = index.live.keys;
+}
+
+-- ---- what is known of an instance, and of one that isn't known
+
+abbrev pub disposed_in : Option Known → Bool
+disposed_in None = false
+disposed_in (Some i) = i.is_disposed
+
+abbrev pub new_in : Option Known → Bool
+new_in None = true
+new_in (Some i) = i.is_new
+
+abbrev pub count_in : Option Known → ℕ
+count_in None = 0
+count_in (Some i) = i.live
+
+abbrev pub numbers_in : Option Known → List ℕ
+numbers_in None = []
+numbers_in (Some i) = i.numbers
+
+abbrev pub alive_in : Option Known → Bool
+alive_in o = alive_by (disposed_in o) (nat_lt 0 (count_in o))
+
+-- ---- a cache stands at what was done with it, the newest first
+
+-- the numbers of entries rise, from this one on
+abbrev pub Rising : {E : Type 0} → ℕ → List (ℕ × E) → Type 0
+Rising low [] = Unit {0}
+Rising low (e ∷ es) = (low ≤ e.0) × Rising (suc e.0) es
+
+abbrev pub not_yet : {M : Type 0} → ℕ × Entry M → Bool
+not_yet e = not e.1.is_read
+
+abbrev pub numbers : {E : Type 0} → List (ℕ × E) → List ℕ
+numbers es = map (λ e. e.0) es
+
+abbrev pub of_key : {M : Type 0} → KeyHash → ℕ × Entry M → Bool
+of_key k e = is_of k e.1
+
+abbrev pub numbers_kept : {M : Type 0} → History → KeyHash → List (ℕ × Entry M) → List ℕ
+numbers_kept (KeepLast n) k es = numbers (filter (of_key k) es)
+numbers_kept KeepAll k es = []
+
+-- how many writers are live in an instance
+abbrev pub writers_in : KeyHash → List Pair → ℕ
+writers_in k live = length (filter (λ p. is_key k p.1) live)
+
+-- a hash of a key is sixteen octets
+abbrev pub AreSized : List Pair → Type 0
+AreSized live = AllByRecursion (λ p. length p.1.0 ≡ 16) live
+
+pub record StandsBy {M : Type 0} (past : List (Done M)) (p : Parts M) : Type 0 where
+  pub entries : map (λ e. e.1) p.entries ≡ (cached p.keep past).entries
+  pub rising : Rising 0 p.entries
+  pub below : AllByRecursion (λ e. e.0 < p.accepted) p.entries
+  pub not_read : p.not_read ≡ numbers (filter not_yet p.entries)
+  pub there : (k : KeyHash) → list_any (of_key k) p.entries ≡ true → is_some (p.find k) ≡ true
+  pub numbers : (k : KeyHash) → numbers_in (p.find k) ≡ numbers_kept p.keep k p.entries
+  pub new : (k : KeyHash) → new_in (p.find k) ≡ (cached p.keep past).is_new k
+  pub disposed : (k : KeyHash) → disposed_in (p.find k) ≡ is_disposed past k
+  pub counts : (k : KeyHash) → count_in (p.find k) ≡ writers_in k p.live
+  pub live : (k : KeyHash) (w : Guid) → list_any (is_pair (w, k)) p.live ≡ is_live past k w
+  pub sized : AreSized p.live
+
+abbrev pub StandsAt : {M : Type 0} → List (Done M) → Kept M → Type 0
+StandsAt past kept = StandsBy past (parts_in kept)

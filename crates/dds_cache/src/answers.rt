@@ -1,0 +1,68 @@
+//! What a read lends.
+
+ghost use Rattle.std.specs.Prelude.{◌≡◌, ◌↔◌, IsTrue, length};
+ghost use Rattle.std.specs.Option.{option_map};
+ghost use Rattle.dds_cache.specs.Effects.{shown_as};
+ghost use Rattle.dds_cache.specs.Lent.{answers_in, lent_sample, nth_answer};
+
+use crate::choose::Chosen;
+use crate::entry::{Content, Entry, Sample, Seen};
+use std::alloc::{Allocator, Global};
+use std::collections::BTreeMap;
+
+/// The entries that a read answers, in order of acceptance. They stay in the cache: their values
+/// are lent.
+#[derive(Drop)]
+pub struct Answers<V, A: Allocator = Global> {
+    /// All entries of the cache, by their numbers.
+    pub(crate) entries: BTreeMap<u64, Entry<V>, A>,
+    /// Those that the last read answered.
+    pub(crate) answered: Vec<Chosen, A>,
+}
+
+impl<V> Entry<V> {
+    /// The entry with the states that it was chosen with; its value is lent.
+    fn lend(&self, chosen: Chosen) -> Seen<'_, V>
+        ensures { lent_sample result ≡ shown_as self.now chosen }
+    {
+        Sample {
+            place: self.place,
+            writer: self.writer,
+            number: self.number,
+            time: self.time,
+            body: match &self.body {
+                Content::Value(value) => Content::Value(value),
+                Content::Disposed => Content::Disposed,
+            },
+            sample: chosen.sample,
+            view: chosen.view,
+            instance: chosen.instance,
+        }
+    }
+}
+
+impl<V, A: Allocator> Answers<V, A> {
+    /// How many entries are answered.
+    pub fn len(&self) -> usize
+        ensures { result ≡ length (answers_in self.now) }
+    {
+        self.answered.len()
+    }
+
+    /// Whether none is.
+    pub fn is_empty(&self) -> bool
+        ensures { IsTrue result ↔ (length (answers_in self.now) ≡ 0) }
+    {
+        self.answered.is_empty()
+    }
+
+    /// The entry at a place of the list, from 0, with its states before the read; `None` at and
+    /// past the length.
+    pub fn get(&self, at: usize) -> Option<Seen<'_, V>>
+        ensures { option_map lent_sample result ≡ nth_answer (answers_in self.now) at }
+    {
+        let chosen = self.answered.get(at)?;
+        let entry = self.entries.get(&chosen.number)?;
+        Some(entry.lend(*chosen))
+    }
+}

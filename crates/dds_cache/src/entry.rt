@@ -1,0 +1,47 @@
+//! What stands in a cache, and what a call answers of it.
+
+use crate::state::{InstanceState, SampleState, ViewState};
+use rtps_types::{Guid, KeyHash, Number, Place, Timestamp};
+
+/// What an entry is.
+#[derive(Debug, Drop)]
+pub enum Content<V> {
+    Value(V),
+    /// Its writer disposed the instance.
+    Disposed,
+}
+
+/// What stands in a cache: a value, or the end of an instance.
+#[derive(Debug, Drop)]
+pub(crate) struct Entry<V> {
+    /// The event that made it.
+    pub place: Place,
+    pub writer: Guid,
+    pub number: Number,
+    pub time: Option<Timestamp>,
+    /// The instance.
+    pub key: KeyHash,
+    pub body: Content<V>,
+    /// A call answered it.
+    pub is_read: bool,
+}
+
+/// An entry as a call answers it, with its states before the call (DDS 1.4, 2.2.2.5.1).
+#[derive(Debug, Drop)]
+pub struct Sample<T> {
+    /// The event that made the entry.
+    pub place: Place,
+    pub writer: Guid,
+    pub number: Number,
+    pub time: Option<Timestamp>,
+    pub body: Content<T>,
+    pub sample: SampleState,
+    pub view: ViewState,
+    pub instance: InstanceState,
+}
+
+/// An entry that stays in the cache: its value is lent.
+pub type Seen<'a, V> = Sample<&'a V>;
+
+/// An entry that left the cache.
+pub type Taken<V> = Sample<V>;

@@ -1,0 +1,21 @@
+//! A reader's cache.
+#![tactic(auto)]
+
+mod answers;
+mod choose;
+mod condition;
+mod entry;
+mod history;
+mod index;
+mod instance;
+mod read;
+mod reader;
+mod state;
+mod take;
+
+pub use answers::Answers;
+pub use condition::Condition;
+pub use entry::{Content, Sample, Seen, Taken};
+pub use history::History;
+pub use reader::DataReader;
+pub use state::{InstanceState, SampleState, ViewState};

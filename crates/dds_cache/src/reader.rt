@@ -1,0 +1,118 @@
+//! A reader's cache.
+
+ghost use Rattle.std.specs.Prelude.{◌≡◌, ◌∷◌, [], IfOk, List, OnErr, OnOk, Some, map, option_to_list};
+ghost use Rattle.dds_cache.specs.Answered.{answered, unread};
+ghost use Rattle.dds_cache.specs.Cache.{IsHistory};
+ghost use Rattle.dds_cache.specs.Calls.{Done, WasTaken};
+ghost use Rattle.dds_cache.specs.Lent.{answers_in};
+ghost use Rattle.std.specs.Borrow.{sem};
+ghost use Rattle.dds_cache.specs.Standing.{StandsAt};
+
+use crate::answers::Answers;
+use crate::condition::Condition;
+use crate::entry::Taken;
+use crate::history::History;
+use crate::index::Index;
+use crate::read::read_some;
+use crate::take::{take_next, take_some};
+use std::alloc::{AllocError, Allocator, Global};
+use std::collections::BTreeMap;
+use std::marker::Model;
+
+/// A reader's cache (DDS 1.4, 2.2.2.5): the values and the disposals of the notices that it
+/// accepted, until they are taken or, where the last so many are kept of an instance, until newer
+/// ones of the instance come.
+#[derive(Drop)]
+pub struct DataReader<V, A: Allocator = Global> {
+    index: Index<A>,
+    /// The entries, and what the last read answered of them.
+    shelf: Answers<V, A>,
+}
+
+impl<V, A: Allocator> Model for DataReader<V, A> {
+    ghost use Rattle.dds_cache.specs.Lent.{answers_in};
+    ghost use Rattle.std.specs.Borrow.{sem};
+    ghost use Rattle.dds_cache.specs.Standing.{Kept, kept};
+
+    ghost Value = { Kept V };
+
+    ghost view = { λ r. kept r.index r.shelf.entries.entries };
+}
+
+impl<V: Drop, A: Allocator + Copy> DataReader<V, A> {
+    ghost use Rattle.dds_cache.specs.After.{WasReadFrom, ends_read};
+
+    /// An empty cache. No memory is taken.
+    pub fn new(alloc: A, keep: History) -> DataReader<V, A>
+        requires { IsHistory keep }
+        ensures stands { StandsAt [] result }
+        ensures keep { result.keep ≡ keep }
+    {
+        DataReader {
+            index: Index::new(alloc, keep),
+            shelf: Answers {
+                entries: BTreeMap::new(alloc),
+                answered: Vec::new(alloc),
+            },
+        }
+    }
+
+    /// Lends the first `max` entries, in order of acceptance, that meet the condition, each with its
+    /// states before the call. They stay and are read now, and their instances aren't new any more
+    /// (DDS 1.4, 2.2.2.5.3.8, `read`). A refused growth answers and marks nothing.
+    pub fn read(
+        &mut self,
+        alloc: A,
+        max: usize,
+        condition: Condition,
+    ) -> Result<&Answers<V, A>, AllocError>
+        ensures* after { sem 𝓛 (ends_read V.row A.row A.Allocator self.entry
+            (WasReadFrom self.old max condition result)) }
+        ensures answers { (past : List (Done V)) → StandsAt past self.old
+            → IfOk result (λ answers. answers_in answers.now
+            ≡ map (λ s. Some s) (answered self.old.keep past max condition)) }
+    {
+        match read_some(alloc, &mut self.index, &mut self.shelf, max, condition) {
+            Ok(()) => Ok(&self.shelf),
+            Err(refused) => Err(refused),
+        }
+    }
+
+    /// Hands over the first `max` entries, in order of acceptance, that meet the condition, each
+    /// with its states before the call. They leave the cache, and their instances aren't new any
+    /// more (DDS 1.4, 2.2.2.5.3.9, `take`). A refused growth takes and marks nothing.
+    pub fn take(
+        &mut self,
+        alloc: A,
+        max: usize,
+        condition: Condition,
+    ) -> Result<Vec<Taken<V>, A>, AllocError>
+        ensures answers { (past : List (Done V)) → StandsAt past self.old
+            → IfOk result (λ taken. taken.items ≡ answered self.old.keep past max condition) }
+        ensures stands { (past : List (Done V)) → StandsAt past self.old
+            → OnOk result (StandsAt (WasTaken max condition ∷ past) self.new) }
+        ensures err { (past : List (Done V)) → StandsAt past self.old
+            → OnErr result (StandsAt past self.new) }
+        ensures keep { self.new.keep ≡ self.old.keep }
+    {
+        take_some(
+            alloc,
+            &mut self.index,
+            &mut self.shelf.entries,
+            max,
+            condition,
+        )
+    }
+
+    /// Hands over the first entry that no call answered, which leaves the cache; `None` where
+    /// there is none (DDS 1.4, 2.2.2.5.3.11, `take_next_sample`). No memory is taken.
+    pub fn take_next_sample(&mut self) -> Option<Taken<V>>
+        ensures answer { (past : List (Done V)) → StandsAt past self.old
+            → option_to_list result ≡ answered self.old.keep past 1 unread }
+        ensures stands { (past : List (Done V)) → StandsAt past self.old
+            → StandsAt (WasTaken 1 unread ∷ past) self.new }
+        ensures keep { self.new.keep ≡ self.old.keep }
+    {
+        take_next(&mut self.index, &mut self.shelf.entries)
+    }
+}
