@@ -19,3 +19,6 @@ pub use entry::{Content, Sample, Seen, Taken};
 pub use history::History;
 pub use reader::DataReader;
 pub use state::{InstanceState, SampleState, ViewState};
+
+#[cfg(test)]
+mod tests;
