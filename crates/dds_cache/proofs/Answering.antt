@@ -1,4 +1,4 @@
--- What a call answers, and where a cache stands once it took entries.
+-- What a call answers, and what a cache keeps after it took entries.
 use Rattle.std.proofs.Common.{◌≡◌, ℕ, ◌<◌, Bool, true, false, List, [], ◌∷◌, map, Some, None, refl, sym, ap, ◌∙◌, subst}
 use Rattle.std.proofs.Math.Path.{fun_ext}
 use Rattle.std.specs.Prelude.{Option, filter, is_some, not, ◌&&◌, ◌||◌, nat_lt}

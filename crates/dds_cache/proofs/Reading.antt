@@ -1,4 +1,4 @@
--- Where a cache stands once it answered entries that stay.
+-- What a cache keeps after it answered entries that stay.
 use Rattle.std.proofs.Common.{◌≡◌, ℕ, zero, suc, ◌<◌, Bool, true, false, List, [], ◌∷◌, map, cond, Some, None, refl, sym, ap, ◌∙◌, arith}
 use Rattle.std.specs.Prelude.{Option, filter, if◌then◌else◌, is_some, ◌||◌}
 use Rattle.std.specs.List.{AllByRecursion, list_any}

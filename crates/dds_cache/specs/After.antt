@@ -1,4 +1,4 @@
--- Where a cache stands once what a read lent is given back.
+-- What a cache keeps after what a read lent is given back.
 use Rattle.std.specs.Prelude.{◌≡◌, ℕ, List, ◌∷◌, Result, OnErr, OnOk, ⊤}
 use Rattle.std.specs.Borrow.{Fml, MutBor, follows_so}
 use mathlib.Core.Option.{none}

@@ -1,4 +1,4 @@
--- What stands in a cache (DDS 1.4, 2.2.2.5): its entries in the order in which they were accepted,
+-- What is in a cache (DDS 1.4, 2.2.2.5): its entries in the order in which they were accepted,
 -- and which instances are new (2.2.2.5.1.4).
 use Rattle.std.specs.Prelude.{◌≤◌, ℕ, zero, suc, List, [], ◌∷◌, ◌++◌, length, filter, nat_lt, Bool, true, false, not, ◌&&◌, ◌||◌, if◌then◌else◌}
 use Rattle.std.specs.List.{list_any}

@@ -45,8 +45,8 @@ is_value ADisposal = false
 is_value AnUnregistration = false
 is_value Nothing = false
 
--- a writer is live in an instance where it has a value there behind its last unregistration there
--- and behind the last end of its match
+-- a writer is live in an instance where it has a value there after its last unregistration there
+-- and after the last end of its match
 abbrev pub live_by : About → Bool → Bool → Bool → Bool
 live_by AValue by_it ended before = by_it || before
 live_by ADisposal by_it ended before = before

@@ -29,7 +29,7 @@ lent_sample s = record {
   instance = s.instance;
 }
 
--- an entry that was chosen, where it stands
+-- an entry that was chosen, at its place
 abbrev pub answer_at : {M : Type 0} → List (ℕ × Entry M) → Chosen → Option (Sample M)
 answer_at es c = option_map (λ e. shown_as e c) (lookup (is_number c.number) es)
 

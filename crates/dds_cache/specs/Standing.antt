@@ -128,7 +128,7 @@ numbers_in (Some i) = i.numbers
 abbrev pub alive_in : Option Known → Bool
 alive_in o = alive_by (disposed_in o) (nat_lt 0 (count_in o))
 
--- ---- a cache stands at what was done with it, the newest first
+-- ---- a cache keeps what follows from all that was done with it, the newest first
 
 -- the numbers of entries rise, from this one on
 abbrev pub Rising : {E : Type 0} → ℕ → List (ℕ × E) → Type 0

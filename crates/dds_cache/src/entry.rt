@@ -1,4 +1,4 @@
-//! What stands in a cache, and what a call answers of it.
+//! What is in a cache, and what a call answers of it.
 
 use crate::state::{InstanceState, SampleState, ViewState};
 use rtps_types::{Guid, KeyHash, Number, Place, Timestamp};
@@ -11,7 +11,7 @@ pub enum Content<V> {
     Disposed,
 }
 
-/// What stands in a cache: a value, or the end of an instance.
+/// What is in a cache: a value, or the end of an instance.
 #[derive(Debug, Drop)]
 pub(crate) struct Entry<V> {
     /// The event that made it.

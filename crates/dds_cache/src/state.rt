@@ -15,7 +15,7 @@ pub enum ViewState {
     NotNew,
 }
 
-/// How an instance stands with its writers (DDS 1.4, 2.2.2.5.1.3, `instance_state`).
+/// What is known of an instance and its writers (DDS 1.4, 2.2.2.5.1.3, `instance_state`).
 #[derive(Clone, Copy, Debug, PartialEq, Eq)]
 pub enum InstanceState {
     /// A writer is live in it, and it was not disposed since its last value.

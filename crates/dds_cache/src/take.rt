@@ -57,7 +57,7 @@ pub(crate) fn forget<V, A: Allocator>(
     entries.remove(&chosen.number)
 }
 
-/// Takes out these entries, and puts each with its states behind those that were taken. There is
+/// Takes out these entries, and puts each with its states after those that were taken. There is
 /// room for them.
 pub(crate) fn hand_over<V: Drop, A: Allocator + Copy>(
     index: &mut Index<A>,

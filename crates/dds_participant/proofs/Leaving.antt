@@ -22,7 +22,7 @@ by_memory : {V : Type 0} (old new : Given V) → HoldsNothing new → LeavesList
 unfolding LeavesLists
 by_memory old new empty = empty
 
--- want of memory leaves them empty
+-- a batch that is out of memory leaves them empty
 pub left_empty : {V T : Type 0} (r : Result T EngineError) (old new : Given V) → IsErrAnd r (λ x. x ≡ NoMemory) → HoldsNothing new → IfErr r (λ x. LeavesLists x old new)
 left_empty (Ok x) old new is empty = absurd is
 left_empty (Err x) old new is empty = subst (λ y. LeavesLists y old new) (sym is) (by_memory old new empty)

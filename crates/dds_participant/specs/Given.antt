@@ -72,7 +72,7 @@ pub record HoldsNothing {V : Type 0} (given : Given V) : Type 0 where
   pub outputs : given.outputs.items ≡ []
 
 -- What a refusal leaves of the lists that were lent: all that was in them, where the batch isn't
--- looked at; nothing, after want of memory.
+-- looked at; nothing, where it is out of memory.
 unfoldable pub LeavesLists : {V : Type 0} → EngineError → Given V → Given V → Type 0
 LeavesLists Failed old new = new ≡ old
 LeavesLists Spent old new = new ≡ old
