@@ -7,7 +7,7 @@ ghost use Rattle.rtps_discovery.specs.OneWriter.{column, has_rank, matched_from,
 ghost use Rattle.rtps_discovery.specs.Seen.{change_seen, lent, standing_seen};
 
 use crate::faults::READER_LIMIT;
-use crate::known::{Ranks, Reader, Writer, copied};
+use crate::known::{Ranks, Reader, Writer};
 use crate::standing::{Standing, standing_between};
 use rtps_types::{Guid, Locator, Locators};
 use std::alloc::{AllocError, Allocator, Global};
@@ -91,7 +91,7 @@ fn tell<A: Allocator + Copy>(
     let what = match after {
         Standing::Apart if is_joined(before) => Becomes::Unmatch(pair.writer),
         Standing::Joined if !is_joined(before) => {
-            Becomes::Match(pair.writer, copied(alloc, pair.locators)?)
+            Becomes::Match(pair.writer, Locators::copied(alloc, pair.locators)?)
         }
         Standing::Apart | Standing::Joined => return Ok(()),
         Standing::Refused(policy) => return tell_refusal(pair, before, policy, changes),

@@ -208,28 +208,38 @@ impl<A: Allocator> Ranks<A> {
     }
 }
 
-/// A copy of the locators that a record lists.
-pub(crate) fn collected<A: Allocator + Copy>(
+/// Two locators and those that a record lists after them.
+fn gathered<A: Allocator + Copy>(
     alloc: A,
+    first: Locator,
+    second: Locator,
     listed: ListedLocators<'_>,
 ) -> Result<Locators<A>, AllocError>
-    ensures { IfOk result (λ locators. locators ≡ listed.entry) }
+    ensures { IfOk result (λ locators. locators ≡ first ∷ second ∷ listed.entry) }
 {
     let mut locators = Vec::new(alloc);
+    locators.push(first)?;
+    locators.push(second)?;
     for locator in listed {
         locators.push(locator)?;
     }
     Ok(Locators::new(locators))
 }
 
-/// A copy of locators.
-pub(crate) fn copied<A: Allocator + Copy>(
+/// A copy of the locators that a record lists. None and one take no memory.
+pub(crate) fn collected<A: Allocator + Copy>(
     alloc: A,
-    locators: &[Locator],
+    mut listed: ListedLocators<'_>,
 ) -> Result<Locators<A>, AllocError>
-    ensures { IfOk result (λ copy. copy ≡ locators.now) }
+    ensures { IfOk result (λ locators. locators ≡ listed.entry) }
 {
-    Ok(Locators::new(Vec::from_slice(alloc, locators)?))
+    let Some(first) = listed.next() else {
+        return Ok(Locators::new(Vec::new(alloc)));
+    };
+    match listed.next() {
+        None => Ok(Locators::one(alloc, first)),
+        Some(second) => gathered(alloc, first, second, listed),
+    }
 }
 
 impl<A: Allocator + Copy> Writer<A> {

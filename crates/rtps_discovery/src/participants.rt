@@ -14,9 +14,9 @@ use crate::addressed::{
 };
 use crate::announcement::Facts;
 use crate::held::Held;
-use crate::known::{Participant, collected, copied};
+use crate::known::{Participant, collected};
 use rtps_proxy::{Matches, ProxyConfig};
-use rtps_types::{EntityId, Guid, GuidPrefix, Locator};
+use rtps_types::{EntityId, Guid, GuidPrefix, Locator, Locators};
 use std::alloc::{AllocError, Allocator};
 
 /// A builtin reader of ours, and the writer of a participant that announces to it.
@@ -51,7 +51,7 @@ fn begin_where<A: Allocator + Copy>(
         },
         reader: link.reader,
         reliable: true,
-        locators: copied(alloc, metatraffic)?,
+        locators: Locators::copied(alloc, metatraffic)?,
     };
     announcers.begin(alloc, config)
 }

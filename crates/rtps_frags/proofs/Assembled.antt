@@ -1,6 +1,8 @@
 -- A sample that is put together.
-use Rattle.std.proofs.Common.{◌≡◌, ℕ, zero, suc, ◌+◌, ◌-◌, ◌<◌, ◌≤◌, Bool, true, false, ◌&&◌, ◌||◌, cond, List, length, drop, refl, sym, ◌∙◌, ap, arith, ltb, leb, inl, inr, min, Some, None}
+use Rattle.std.proofs.Common.{◌≡◌, ℕ, zero, suc, ◌+◌, ◌-◌, ◌*◌, ◌==◌, ◌<◌, ◌≤◌, Bool, true, false, ◌&&◌, ◌||◌, cond, List, length, drop, refl, sym, ◌∙◌, ap, arith, ltb, leb, inl, inr, min, Some, None}
 use Rattle.std.proofs.lemmas.Bool.Decides.{nat_tests, leb_tells}
+use Rattle.std.proofs.lemmas.Grind.{div_ceil_times}
+use Rattle.std.proofs.Math.Nat.{mul-le-mul_right, suc-mul}
 use Rattle.rtps_types.specs.Named.{set_naming}
 use Rattle.rtps_types.specs.Numbers.{failing_from, first_failing}
 use Rattle.rtps_frags.specs.declared.sizes.Sizes.{Sizes}
@@ -47,6 +49,18 @@ module _ (z : Sizes) (next : ℕ) (front : List ℕ) (rs : Runs) (kept : AreKept
             sym (rw w.0 (sym (one_missing (there_of z next front rs) 1 (last_of z) next begun (omega (arith, near)) (has_is next begun near ∙ next_lacks)))))
       ]
 
+  -- a front that isn't all has fewer octets
+  near_short : 0 < z.fragment → next ≤ last_of z → length front < z.sample
+  near_short cut near =
+      let begun : 1 ≤ next = kept.begun in
+      let bound : last_of z * z.fragment < z.sample + z.fragment = (div_ceil_times z.sample z.fragment cut).1 in
+      let rises : next * z.fragment ≤ last_of z * z.fragment = mul-le-mul_right z.fragment near in
+      let less : suc (next - 1) * z.fragment ≡ (next - 1) * z.fragment + z.fragment = suc-mul (next - 1) z.fragment in
+      let is : suc (next - 1) ≡ next = omega (arith, begun) in
+      let same : suc (next - 1) * z.fragment ≡ next * z.fragment = ap (λ n. n * z.fragment) is in
+      let full = kept.full in
+      omega (arith, full, bound, rises, less, same)
+
   module _ (cut : 0 < z.fragment) (all : last_of z < next) where
     at_end : next ≡ suc (last_of z)
     at_end = let reached = kept.reached in omega (arith, reached, all)
@@ -62,6 +76,22 @@ module _ (z : Sizes) (next : ℕ) (front : List ℕ) (rs : Runs) (kept : AreKept
         payload_listed z cut front (kept_at z next front rs) size_is
         (λ j one le. let inside : (leb 1 j && ltb j next) ≡ true = grind (arith, nat_tests) in rw inside refl)
         1 (last_of z) (omega arith) (omega arith) ∙ ap (λ n. drop n front) start
+
+  -- the front is all where it has all octets
+  pub full_is : 0 < z.fragment → (length front == z.sample) ≡ ltb (last_of z) next
+  full_is cut =
+      elim (leb_tells (suc (last_of z)) next) [
+        | inl w ↦ (
+            let far : last_of z < next = w.1 in
+            let size : length front ≡ z.sample = size_is cut far in
+            let same : (length front == z.sample) ≡ true = grind (arith, nat_tests) in
+            same ∙ sym w.0)
+        | inr w ↦ (
+            let near : next ≤ last_of z = omega (arith, w.1) in
+            let short : length front < z.sample = near_short cut near in
+            let other : (length front == z.sample) ≡ false = grind (arith, nat_tests) in
+            other ∙ sym w.0)
+      ]
 
 -- the first one that fails
 pub first_is : (p : ℕ → Bool) (n k m : ℕ) → n ≤ m → m ≤ n + k → ((j : ℕ) → n ≤ j → j < m → p j ≡ true) → (m < n + k → p m ≡ false) → first_failing p n k ≡ m

@@ -1,11 +1,15 @@
 -- Where fragments begin and end.
-use Rattle.std.proofs.Common.{◌≡◌, ℕ, zero, suc, ◌+◌, ◌-◌, ◌*◌, ◌<◌, ◌≤◌, sym, ◌∙◌, ap, arith, inl, inr, List, take, drop}
-use Rattle.std.proofs.lemmas.Bool.Decides.{leb_tells}
+use Rattle.std.proofs.Common.{◌≡◌, ℕ, zero, suc, ◌+◌, ◌-◌, ◌*◌, ◌<◌, ◌≤◌, sym, ◌∙◌, ap, arith, inl, inr, List, take, drop, true, false, leb, ltb, ◌==◌, refl}
+use Rattle.std.proofs.lemmas.Bool.Decides.{leb_tells, nat_tests}
 use Rattle.std.proofs.lemmas.Grind.{div_ceil_times}
 use Rattle.std.proofs.lemmas.List.{drop-drop, drop-take, take-take}
 use Rattle.std.proofs.Math.Nat.{mul-le-mul_left, mul-le-mul_right, suc-mul}
 use Rattle.rtps_frags.specs.declared.sizes.Sizes.{Sizes}
-use Rattle.rtps_frags.specs.Fragments.{before, fragment_in, last_of, length_of, upto}
+use Rattle.rtps_frags.specs.Fragments.{before, fragment_in, is_outside, last_of, length_of, upto}
+
+positive : (n : ℕ) → (n ≡ 0 → ⊥) → 1 ≤ n
+positive zero h = absurd (h refl)
+positive (suc n) h = omega arith
 
 pub before_is : (z : Sizes) (k : ℕ) → 1 ≤ k → before z k ≡ (k - 1) * z.fragment
 before_is z zero one = absurd (omega arith)
@@ -35,6 +39,36 @@ module _ (z : Sizes) (some : 0 < z.fragment) where
       let step : suc k * z.fragment ≤ last_of z * z.fragment = mul-le-mul_right z.fragment l in
       let one_more : suc k * z.fragment ≡ k * z.fragment + z.fragment = suc-mul k z.fragment in
       omega (arith, bound, step, one_more)
+
+  -- those up to one are all where it has all octets before its end
+  outside_is : (k : ℕ) → ltb (last_of z) (suc k) ≡ leb z.sample (k * z.fragment)
+  outside_is k =
+      let bound : last_of z * z.fragment < z.sample + z.fragment = (div_ceil_times z.sample z.fragment some).1 in
+      let all : z.sample ≤ last_of z * z.fragment = (div_ceil_times z.sample z.fragment some).0 in
+      elim (leb_tells (last_of z) k) [
+        | inl w ↦ (
+            let rises : last_of z * z.fragment ≤ k * z.fragment = mul-le-mul_right z.fragment w.1 in
+            let le : z.sample ≤ k * z.fragment = omega (arith, all, rises) in
+            let l : ltb (last_of z) (suc k) ≡ true = grind (arith, nat_tests) in
+            l ∙ sym (grind (arith, nat_tests))
+            )
+        | inr w ↦ (
+            let rises : suc k * z.fragment ≤ last_of z * z.fragment = mul-le-mul_right z.fragment (omega (arith, w.1)) in
+            let one_more : suc k * z.fragment ≡ k * z.fragment + z.fragment = suc-mul k z.fragment in
+            let l : k * z.fragment < z.sample = omega (arith, bound, rises, one_more) in
+            let no : ltb (last_of z) (suc k) ≡ false = grind (arith, nat_tests) in
+            no ∙ sym (grind (arith, nat_tests))
+            )
+      ]
+
+  pub outside_by : (start count : ℕ) → (start ≡ 0 → ⊥) → (count ≡ 0 → ⊥) → leb z.sample ((start + count - 2) * z.fragment) ≡ is_outside z start count
+  outside_by start count begun more =
+      let one : 1 ≤ start = positive start begun in
+      let some_more : 1 ≤ count = positive count more in
+      let first : (start == 0) ≡ false = grind (arith, nat_tests) in
+      let counts : (count == 0) ≡ false = grind (arith, nat_tests) in
+      let last : start + count - 1 ≡ suc (start + count - 2) = omega (arith, one, some_more) in
+      rw (first, counts) (rw last (sym (outside_is (start + count - 2))))
 
   -- one ends where the next begins, but the last one where the sample ends
   pub ends_at : (k : ℕ) → k < last_of z → upto z k ≡ before z (suc k)

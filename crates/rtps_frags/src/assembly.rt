@@ -106,7 +106,7 @@ impl<A: Allocator> Assembly<A> {
         if self.spent || self.sizes.is_empty() {
             return false;
         }
-        self.parts.next > self.sizes.last()
+        self.parts.front.len() == self.sizes.sample as usize
     }
 
     /// What is missing up to a fragment, and up to the sample's last one: from the least missing one

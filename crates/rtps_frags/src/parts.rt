@@ -119,7 +119,7 @@ fn next_span<A: Allocator>(
     }
 }
 
-/// Appends octets. Where there is no room for them, it is made for four times as many as there are
+/// Appends octets. Where there is no room for them, it is made for sixteen times as many as there are
 /// then, or for the most that there will be.
 fn append<A: Allocator>(
     front: &mut Vec<u8, A>,
@@ -131,7 +131,7 @@ fn append<A: Allocator>(
 {
     let length = front.len() + octets.len();
     if front.capacity() < length {
-        let room = length.saturating_mul(4).min(most).max(length);
+        let room = length.saturating_mul(16).min(most).max(length);
         front.reserve_exact(room - front.len())?;
     }
     front.extend_from_slice(octets)

@@ -43,13 +43,17 @@ impl Sizes {
         (fragment as usize * usize::from(self.fragment)).min(self.sample as usize)
     }
 
-    /// Whether there are no such fragments.
+    /// Whether there are no such fragments: the octets before the last of them are all that the sample
+    /// has, which takes no division.
     pub(crate) fn is_outside(self, start: u32, count: u16) -> bool
         requires { 0 < self.fragment }
         ensures { result ≡ is_outside self start count }
     {
-        let last = u64::from(self.last());
-        start == 0 || count == 0 || last < u64::from(start) + u64::from(count) - 1
+        if start == 0 || count == 0 {
+            return true;
+        }
+        let earlier = u64::from(start) + u64::from(count) - 2;
+        u64::from(self.sample) <= earlier * u64::from(self.fragment)
     }
 
     /// How many octets fragments have.

@@ -12,6 +12,7 @@ pub mod Frontier
 pub mod Beats
 pub mod Naming
 pub mod ByKind
+pub mod Beginning
 pub mod Members
 pub mod Brought
 pub mod Presenting

@@ -1,5 +1,5 @@
 -- What a proxy keeps (DDSI-RTPS 8.4.10.4).
-use Rattle.std.specs.Prelude.{ℕ, ℤ, ◌+◌, ◌%◌, ◌^◌, Bool, not, ◌&&◌, ◌||◌, if◌then◌else◌, List, length, nat_le, nat_lt, Option, None, is_some, map}
+use Rattle.std.specs.Prelude.{ℕ, ℤ, ◌+◌, ◌%◌, ◌^◌, Bool, true, false, not, ◌&&◌, ◌||◌, if◌then◌else◌, List, [], length, nat_le, nat_lt, Option, None, Some, Box, is_some, map}
 use Rattle.rtps_types.specs.declared.identity.EntityId.{EntityId}
 use Rattle.rtps_types.specs.declared.identity.Guid.{Guid}
 use Rattle.rtps_types.specs.declared.identity.GuidPrefix.{GuidPrefix}
@@ -100,9 +100,25 @@ pub data Standing : Type 0 where
   BestEffort : Latest → Standing
   Reliable : Awaited → Standing
 
+-- what is kept where nothing has come yet
+abbrev pub awaited_first : Awaited
+awaited_first = record { accepted = None; announced = 0; frontier = 1; runs = []; held = []; begun = []; sound = true; answers = 0; frag_accepted = None; nacks = 0 }
+
+abbrev pub latest_first : Latest
+latest_first = record { top = 0; begun = []; sound = true }
+
+abbrev pub standing_first : Bool → Standing
+standing_first false = BestEffort latest_first
+standing_first true = Reliable awaited_first
+
 abbrev pub standing : {A : Type 0} → State A → Standing
 standing (code.BestEffort b) = BestEffort (latest b)
 standing (code.Reliable r) = Reliable (awaited r)
+
+-- what is kept by whether the reader is reliable, and once something has come in a block of its own
+abbrev pub standing_since : {A : Type 0} → Bool → Option (Box (State A) A) → Standing
+standing_since is_reliable None = standing_first is_reliable
+standing_since is_reliable (Some state) = standing state.value
 
 pub record Kept : Type 0 where
   pub whom : Whom

@@ -5,7 +5,7 @@ ghost use Rattle.rtps_types.specs.Number.{value_of};
 ghost use Rattle.rtps_proxy.specs.BestEffort.{above, skipped};
 ghost use Rattle.rtps_proxy.specs.Changes.{change_view};
 ghost use Rattle.rtps_proxy.specs.Effects.{BestEffortStandsAt, came};
-ghost use Rattle.rtps_proxy.specs.Kept.{latest};
+ghost use Rattle.rtps_proxy.specs.Kept.{latest, latest_first};
 ghost use Rattle.rtps_proxy.specs.Pending.{are_sound, pending_views};
 ghost use Rattle.rtps_proxy.specs.Steps.{BestEffortTakes};
 
@@ -28,7 +28,7 @@ pub(crate) struct BestEffort<A: Allocator> {
 impl<A: Allocator + Copy> BestEffort<A> {
     /// Nothing has come yet.
     pub fn new(alloc: A) -> BestEffort<A>
-        ensures { BestEffortStandsAt [] (latest result) }
+        ensures { latest result ≡ latest_first }
     {
         BestEffort {
             top: 0,

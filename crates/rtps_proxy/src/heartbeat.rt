@@ -67,11 +67,8 @@ impl<A: Allocator + Copy> Reliable<A> {
                 count: self.answers.wrapping_add(1),
             },
         )?;
-        let to = Vec::from_slice(alloc, config.locators.as_slice())?;
-        Ok(Reply {
-            to: Locators::new(to),
-            octets,
-        })
+        let to = Locators::copied(alloc, config.locators.as_slice())?;
+        Ok(Reply { to, octets })
     }
 
     /// The answer to an accepted heartbeat where one is due, which is counted then.

@@ -75,11 +75,8 @@ impl<A: Allocator + Copy> Reliable<A> {
                 count: self.nacks.wrapping_add(1),
             },
         )?;
-        let to = Vec::from_slice(alloc, config.locators.as_slice())?;
-        Ok(Reply {
-            to: Locators::new(to),
-            octets,
-        })
+        let to = Locators::copied(alloc, config.locators.as_slice())?;
+        Ok(Reply { to, octets })
     }
 
     /// Takes in a heartbeat of fragments. One whose count isn't above those of all earlier ones does

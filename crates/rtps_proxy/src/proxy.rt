@@ -4,7 +4,7 @@ ghost use Rattle.std.specs.Prelude.{◌≡◌, [], IfOk, List, false, true};
 ghost use Rattle.rtps_receiver.specs.declared.body.Body.TheVariants as body;
 ghost use Rattle.rtps_proxy.specs.Effects.{StandsAt, TakesIn, came};
 ghost use Rattle.rtps_proxy.specs.History.{Came};
-ghost use Rattle.rtps_proxy.specs.Kept.{whom};
+ghost use Rattle.rtps_proxy.specs.Kept.{standing, standing_since, whom};
 ghost use Rattle.rtps_proxy.specs.Runs.{AreRuns};
 
 use crate::config::ProxyConfig;
@@ -21,32 +21,48 @@ pub struct WriterProxy<A: Allocator = Global> {
     config: ProxyConfig<A>,
     /// A growth was refused: the state may be that of an event taken in by half.
     spent: bool,
-    /// In a block of its own, so that little is moved where a match begins or ends among others.
-    state: Box<State<A>, A>,
+    /// In a block of its own, so that little is moved where a match begins or ends among others;
+    /// none until something comes, so that a match alone takes no memory.
+    state: Option<Box<State<A>, A>>,
 }
 
 impl<A: Allocator> Model for WriterProxy<A> {
-    ghost use Rattle.rtps_proxy.specs.Kept.{Kept, standing, whom};
+    ghost use Rattle.rtps_proxy.specs.Kept.{Kept, standing_since, whom};
 
     ghost Value = { Kept };
 
-    ghost view = { λ p. record { whom = whom p.config; spent = p.spent; state = standing p.state.value } };
+    ghost view = { λ p. record { whom = whom p.config; spent = p.spent; state = standing_since p.config.reliable p.state } };
+}
+
+/// What is kept, or, where nothing has come yet, what a reader keeps then.
+fn begun<A: Allocator + Copy>(
+    alloc: A,
+    reliable: bool,
+    state: Option<Box<State<A>, A>>,
+) -> Result<Box<State<A>, A>, ProxyError>
+    ensures { IfOk result (λ begun. standing begun.value ≡ standing_since reliable state) }
+{
+    if let Some(state) = state {
+        return Ok(state);
+    }
+    match Box::new(alloc, State::new(alloc, reliable)) {
+        Ok(state) => Ok(state),
+        Err(_) => Err(AllocError),
+    }
 }
 
 impl<A: Allocator + Copy> WriterProxy<A> {
-    /// The proxy of a match that begins: nothing has come yet. `AllocError` where memory is refused.
+    /// The proxy of a match that begins: nothing has come yet. It takes no memory before something
+    /// comes. `AllocError` where memory is refused.
     pub fn new(alloc: A, config: ProxyConfig<A>) -> Result<WriterProxy<A>, ProxyError>
         ensures stands { IfOk result (StandsAt []) }
         ensures whom { IfOk result (λ proxy. proxy.whom ≡ whom config) }
     {
-        match Box::new(alloc, State::new(alloc, config.reliable)) {
-            Ok(state) => Ok(WriterProxy {
-                config,
-                spent: false,
-                state,
-            }),
-            Err(_) => Err(AllocError),
-        }
+        Ok(WriterProxy {
+            config,
+            spent: false,
+            state: None,
+        })
     }
 
     /// Takes in what an event brings, by its kind. After a refused growth the proxy is spent: each
@@ -63,10 +79,9 @@ impl<A: Allocator + Copy> WriterProxy<A> {
             return Err(AllocError);
         }
         self.spent = true;
-        let effects = self
-            .state
-            .as_mut()
-            .on_event(alloc, &self.config, time, brought)?;
+        let mut state = begun(alloc, self.config.reliable, self.state.take())?;
+        let effects = state.as_mut().on_event(alloc, &self.config, time, brought)?;
+        self.state = Some(state);
         self.spent = false;
         Ok(effects)
     }
@@ -144,7 +159,10 @@ impl<A: Allocator + Copy> WriterProxy<A> {
         ensures best_effort { (past : List Came) → StandsAt past self.now →
             self.now.whom.reliable ≡ false → result.now ≡ [] }
     {
-        match self.state.as_ref() {
+        let Some(state) = &self.state else {
+            return &[];
+        };
+        match state.as_ref() {
             State::BestEffort(_) => &[],
             State::Reliable(reliable) => reliable.settled.runs.as_slice(),
         }

@@ -34,14 +34,14 @@ pub(crate) struct Reliable<A: Allocator> {
 }
 
 impl<A: Allocator + Copy> Reliable<A> {
-    ghost use Rattle.std.specs.Prelude.{[]};
-    ghost use Rattle.rtps_proxy.specs.Effects.{ReliableStandsAt, came};
-    ghost use Rattle.rtps_proxy.specs.Kept.{awaited, whom};
+    ghost use Rattle.std.specs.Prelude.{◌≡◌};
+    ghost use Rattle.rtps_proxy.specs.Effects.{came};
+    ghost use Rattle.rtps_proxy.specs.Kept.{awaited, awaited_first, whom};
     ghost use Rattle.rtps_proxy.specs.Steps.{ReliableTakes};
 
     /// Nothing has come yet.
     pub fn new(alloc: A) -> Reliable<A>
-        ensures { ReliableStandsAt [] (awaited result) }
+        ensures { awaited result ≡ awaited_first }
     {
         Reliable {
             accepted: None,

@@ -1,8 +1,8 @@
 //! What a proxy keeps, by whether its reader is reliable.
 
-ghost use Rattle.std.specs.Prelude.{[]};
-ghost use Rattle.rtps_proxy.specs.Effects.{StateStandsAt, came};
-ghost use Rattle.rtps_proxy.specs.Kept.{standing, whom};
+ghost use Rattle.std.specs.Prelude.{◌≡◌};
+ghost use Rattle.rtps_proxy.specs.Effects.{came};
+ghost use Rattle.rtps_proxy.specs.Kept.{standing, standing_first, whom};
 ghost use Rattle.rtps_proxy.specs.Steps.{StateTakes};
 
 use crate::best_effort::BestEffort;
@@ -23,7 +23,7 @@ pub(crate) enum State<A: Allocator> {
 impl<A: Allocator + Copy> State<A> {
     /// Nothing has come yet.
     pub fn new(alloc: A, reliable: bool) -> State<A>
-        ensures { StateStandsAt [] reliable (standing result) }
+        ensures { standing result ≡ standing_first reliable }
     {
         if reliable {
             State::Reliable(Reliable::new(alloc))

@@ -151,7 +151,7 @@ impl<A: Allocator + Copy> StatefulReader<A> {
             writer,
             reader: self.entity,
             reliable: self.reliable,
-            locators: Locators::new(Vec::from_slice(alloc, locators)?),
+            locators: Locators::copied(alloc, locators)?,
         };
         self.matches.begin(alloc, config)
     }

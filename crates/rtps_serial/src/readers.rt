@@ -13,8 +13,8 @@ ghost use Rattle.rtps_serial.specs.World.{Hears, Put, World, sent_by};
 use crate::outcome::{Answer, Report};
 use dds_topic::{Catalog, Decoder};
 use rtps_discovery::is_for;
-use rtps_reader::{Output, ReaderState, Step};
-use rtps_types::EntityId;
+use rtps_reader::{Notice, Output, ReaderState, Step};
+use rtps_types::{EntityId, Place, Reply};
 use std::alloc::{AllocError, Allocator};
 
 /// The readers of a participant, and what their steps need.
@@ -96,10 +96,43 @@ fn report_all<C: Catalog, A: Allocator>(
         ++ (map (Hears rank) (map (notice_view C.view) output.old.notices.items)
         ++ map (sent_by rank) (map answer_view output.old.answers.items))) }
 {
-    for notice in output.notices.drain(..) {
+    report_notices::<C, A>(rank, &mut output.notices, reports)?;
+    report_answers::<C, A>(rank, &mut output.answers, reports)
+}
+
+/// Moves the notices of the reader of a rank after the reports. Most steps give none.
+fn report_notices<C: Catalog, A: Allocator>(
+    rank: u32,
+    notices: &mut Vec<Notice<C::Value>, A>,
+    reports: &mut Vec<Report<C::Value, A>, A>,
+) -> Result<(), AllocError>
+    ensures { OnOk result (map (report_view C.view) reports.new.items
+        ≡ map (report_view C.view) reports.old.items
+        ++ map (Hears rank) (map (notice_view C.view) notices.old.items)) }
+{
+    if notices.is_empty() {
+        return Ok(());
+    }
+    for notice in notices.drain(..) {
         reports.push(Report::Notice { rank, notice })?;
     }
-    for (place, reply) in output.answers.drain(..) {
+    Ok(())
+}
+
+/// Moves the answers of the reader of a rank after the reports. Most steps give none.
+fn report_answers<C: Catalog, A: Allocator>(
+    rank: u32,
+    answers: &mut Vec<(Place, Reply<A>), A>,
+    reports: &mut Vec<Report<C::Value, A>, A>,
+) -> Result<(), AllocError>
+    ensures { OnOk result (map (report_view C.view) reports.new.items
+        ≡ map (report_view C.view) reports.old.items
+        ++ map (sent_by rank) (map answer_view answers.old.items)) }
+{
+    if answers.is_empty() {
+        return Ok(());
+    }
+    for (place, reply) in answers.drain(..) {
         let answer = Answer {
             place,
             rank: Some(rank),

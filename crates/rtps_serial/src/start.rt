@@ -26,10 +26,10 @@ pub fn fixed_by_rank<A: Allocator + Copy>(
 {
     let mut lists = empty_lists(alloc, readers)?;
     for pair in fixed {
-        let locators = Vec::from_slice(alloc, pair.locators.as_slice())?;
+        let locators = Locators::copied(alloc, pair.locators.as_slice())?;
         let facts = WriterFacts {
             writer: pair.writer,
-            locators: Locators::new(locators),
+            locators,
         };
         push_by(&mut lists, pair.rank, facts)?;
     }

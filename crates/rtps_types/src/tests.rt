@@ -215,8 +215,14 @@ fn lists_keep_their_items(rt: HostRuntime) -> Result<(), Fail> {
         port: 7412,
         address: [127, 0, 0, 1],
     };
-    let locators = Locators::new([here].to_vec(rt.alloc())?);
-    assert_eq!(rt; locators.as_slice(), [here].as_slice());
+    let there = Locator { port: 7413, ..here };
+    let lists: [&[Locator]; 3] = [&[], &[there], &[here, there]];
+    for list in lists {
+        assert_eq!(rt; Locators::new(list.to_vec(rt.alloc())?).as_slice(), list);
+        assert_eq!(rt; Locators::copied(rt.alloc(), list)?.as_slice(), list);
+    }
+    let one = Locators::one(rt.alloc(), here);
+    assert_eq!(rt; one.as_slice(), [here].as_slice());
     let octets = Octets::new([0x52, 0x54].to_vec(rt.alloc())?);
     assert_eq!(rt; octets.as_slice(), [0x52, 0x54].as_slice());
     Ok(())

@@ -17,8 +17,8 @@ loop-pair-preserved g c =
       count = c.in_ok-push_by.ensures.count ∙ c.loop-pair.invariant.count;
       fixed = λ rank other below.
           let old = (get_or c.loop-pair.lists.items rank other).items in
-          fixed_more (pair.rank == rank) pair (filter (λ (m : FixedMatch). m.rank == rank) left) (record { writer = pair.writer; locators = c.new.result }) old (get_or c.push_by.new.lists.items rank other).items
-          (ap (λ l. (pair.writer, l)) (c.new.ensures ∙ c.in_ok-locators.ensures.items ∙ c.as_slice.ensures))
+          fixed_more (pair.rank == rank) pair (filter (λ (m : FixedMatch). m.rank == rank) left) (record { writer = pair.writer; locators = c.in_ok-locators.locators }) old (get_or c.push_by.new.lists.items rank other).items
+          (ap (λ l. (pair.writer, l)) (c.in_ok-locators.ensures.copy ∙ c.as_slice.ensures))
           (c.in_ok-push_by.ensures.pushed rank other (rw c.loop-pair.invariant.count below))
           ∙ ap (λ l. map facts_in old ++ fixed_of l rank) (sym cut)
           ∙ c.loop-pair.invariant.fixed rank other below;

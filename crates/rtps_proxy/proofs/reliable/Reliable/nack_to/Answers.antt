@@ -9,6 +9,6 @@ use Rattle.rtps_proxy.proofs.reliable.Reliable.nack_to.Goals as goal
 pub returns : goal.returns
 returns g c =
     let w = whom c.args.config.now in
-    nack_is w (nack_by (value_of c.args.number) c.args.self.now.nacks (frag_view c.args.missing)) c.new.result c.in_ok-octets.octets
-    (c.new.ensures ∙ c.in_ok-to.ensures.items ∙ c.as_slice.ensures)
+    nack_is w (nack_by (value_of c.args.number) c.args.self.now.nacks (frag_view c.args.missing)) c.in_ok-to.to c.in_ok-octets.octets
+    (c.in_ok-to.ensures.copy ∙ c.as_slice.ensures)
     (c.in_ok-octets.ensures.octets ∙ nack_octets_are w c.args.number c.args.self.now.nacks ((c.args.self.now.nacks + 1) % 2 ^ 32) c.args.missing refl)

@@ -10,4 +10,4 @@ returns g c =
     let s = c.args.self.now.settled in
     let a : Acknack = asked_by (awaited c.args.self.now) in
     let final = final_is s.frontier s.runs (apart_from s.frontier s.runs s.apart) c.args.self.now.announced in
-    sent_is (whom c.args.config.now) a c.new.result c.in_ok-octets.octets (c.new.ensures ∙ c.in_ok-to.ensures.items ∙ c.as_slice.ensures) (c.in_ok-octets.ensures.octets ∙ octets_are (whom c.args.config.now) a c.missing_up_to.result c.missing_up_to.ensures final)
+    sent_is (whom c.args.config.now) a c.in_ok-to.to c.in_ok-octets.octets (c.in_ok-to.ensures.copy ∙ c.as_slice.ensures) (c.in_ok-octets.ensures.octets ∙ octets_are (whom c.args.config.now) a c.missing_up_to.result c.missing_up_to.ensures final)
