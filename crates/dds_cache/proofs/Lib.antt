@@ -9,4 +9,15 @@ mod Next
 mod Seeing
 mod Marks
 mod Reading
+mod Placing
+mod Entering
+mod Dropping
+mod Going
+mod Ranging
+mod Putting
+mod Admitting
+mod Charting
+mod Parting
+mod Keeping
+mod Older
 mod Rows

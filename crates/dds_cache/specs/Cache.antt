@@ -17,8 +17,8 @@ use Rattle.dds_cache.specs.declared.history.History.TheVariants.{KeepLast, KeepA
 use Rattle.dds_cache.specs.Calls.{Done, Accepted, WasRead, WasTaken, same_key}
 use Rattle.dds_cache.specs.Instances.{is_alive, is_value, told_about}
 
--- how many may be kept of an instance (DDS 1.4, 2.2.3.18): at least one; the bound above is a choice
--- of this project
+-- how many may be kept of an instance (DDS 1.4, 2.2.3.18): at least one; the bound above is a
+-- choice of this project
 abbrev pub IsHistory : History → Type 0
 IsHistory (KeepLast n) = (1 ≤ n) × (n ≤ 65536)
 IsHistory KeepAll = Unit {0}

@@ -1,8 +1,6 @@
 -- What the steps of a call do to what is kept.
 use Rattle.std.specs.Prelude.{◌≡◌, ℕ, ◌+◌, ◌-◌, ◌<◌, ◌≤◌, length, nat_lt, List, [], ◌∷◌, Bool, true, false, not, ◌&&◌, ◌||◌, Option, Some, None, if◌then◌else◌}
-use Rattle.std.specs.BTreeMap.{insert_entry}
 use Rattle.std.specs.BTreeSet.{insert_key}
-use Rattle.std.specs.List.{list_any}
 use Rattle.std.specs.Map.{lookup, remove_entry}
 use Rattle.std.specs.Set.{remove_key}
 use Rattle.std.specs.Option.{option_map}
@@ -10,16 +8,12 @@ use Rattle.std.specs.Ordering.{nat_cmp}
 use Rattle.rtps_types.specs.declared.identity.KeyHash.{KeyHash}
 use Rattle.dds_cache.specs.declared.choose.Chosen.{Chosen}
 use Rattle.dds_cache.specs.declared.condition.Condition.{Condition}
-use Rattle.dds_cache.specs.declared.entry.Content.{Content}
-use Rattle.dds_cache.specs.declared.entry.Content.TheVariants as content
 use Rattle.dds_cache.specs.declared.entry.Entry.{Entry}
 use Rattle.dds_cache.specs.declared.entry.Sample.{Sample}
-use Rattle.dds_cache.specs.declared.history.History.{History}
-use Rattle.dds_cache.specs.declared.history.History.TheVariants.{KeepLast, KeepAll}
 use Rattle.dds_cache.specs.Answered.{sample_state, shown, view_state}
 use Rattle.dds_cache.specs.Cache.{marked}
 use Rattle.dds_cache.specs.Instances.{alive_by, state_by}
-use Rattle.dds_cache.specs.Standing.{Known, Pair, Parts, alive_in, count_in, disposed_in, is_key, is_number, is_pair, new_in, numbers_in, pair_order, writers_in}
+use Rattle.dds_cache.specs.Standing.{Known, Parts, alive_in, count_in, disposed_in, is_key, is_number, new_in, numbers_in}
 
 -- ---- what becomes of an instance
 
@@ -71,18 +65,6 @@ ChangesAt key f old new = (k : KeyHash) → new k ≡ (if is_key key k then f (o
 abbrev pub FindsSame : (KeyHash → Option Known) → (KeyHash → Option Known) → Type 0
 FindsSame old new = (k : KeyHash) → new k ≡ old k
 
--- what is known but for the count of live writers
-abbrev pub uncounted : Option Known → Option Known
-uncounted o = option_map (λ (i : Known). let j : Known = record i { live = 0 } in j) o
-
-abbrev pub KeepsRest : (KeyHash → Option Known) → (KeyHash → Option Known) → Type 0
-KeepsRest old new = (k : KeyHash) → uncounted (new k) ≡ uncounted (old k)
-
-abbrev pub AreCounted : (KeyHash → Option Known) → List Pair → Type 0
-AreCounted find live = (k : KeyHash) → count_in (find k) ≡ writers_in k live
-
--- ---- an entry comes
-
 -- nothing is changed
 pub record IsSame {M : Type 0} (old new : Parts M) : Type 0 where
   pub keep : new.keep ≡ old.keep
@@ -91,39 +73,6 @@ pub record IsSame {M : Type 0} (old new : Parts M) : Type 0 where
   pub not_read : new.not_read ≡ old.not_read
   pub find : FindsSame old.find new.find
   pub live : new.live ≡ old.live
-
--- an entry is put, and what is known of its instance changes
-pub record IsPut {M : Type 0} (e : Entry M) (f : Option Known → Option Known) (after : List Pair) (old new : Parts M) : Type 0 where
-  pub keep : new.keep ≡ old.keep
-  pub accepted : new.accepted ≡ old.accepted
-  pub entries : new.entries ≡ insert_entry nat_cmp old.entries old.accepted e
-  pub not_read : new.not_read ≡ insert_key nat_cmp old.not_read old.accepted
-  pub find : ChangesAt e.key f old.find new.find
-  pub live : new.live ≡ after
-
-abbrev pub numbered : History → ℕ → Known → Known
-numbered (KeepLast most) n i = with_number n i
-numbered KeepAll n i = i
-
-abbrev pub is_value_of : {M : Type 0} → Content M → Bool
-is_value_of (content.Value v) = true
-is_value_of content.Disposed = false
-
--- the live writers once a value came, or a disposal
-abbrev pub joined_by : Bool → Pair → List Pair → List Pair
-joined_by is_value p live = if is_value then insert_key pair_order live p else live
-
--- the writer of a value wasn't live
-abbrev pub joins : Bool → Pair → List Pair → Bool
-joins is_value p live = is_value && not (list_any (is_pair p) live)
-
-abbrev pub or_fresh : Option Known → Known
-or_fresh None = fresh
-or_fresh (Some i) = i
-
--- an instance that isn't known is made
-abbrev pub made : (Known → Known) → Option Known → Option Known
-made f o = Some (f (or_fresh o))
 
 -- ---- what a call answers
 

@@ -6,3 +6,8 @@ pub mod Standing
 pub mod Effects
 pub mod Lent
 pub mod After
+pub mod Departing
+pub mod Coming
+pub mod Chart
+pub mod Parted
+pub mod Dropped

@@ -9,11 +9,12 @@ ghost use Rattle.dds_cache.specs.Standing.{Rising, count_in, disposed_in, known_
 
 use crate::condition::Condition;
 use crate::entry::Entry;
+use crate::index::Index;
 use crate::instance::Instances;
 use crate::state::{InstanceState, SampleState, ViewState};
 use rtps_types::KeyHash;
 use std::alloc::{AllocError, Allocator};
-use std::collections::{BTreeMap, BTreeSet};
+use std::collections::BTreeMap;
 
 /// An entry that a call answers, with its states before the call.
 #[derive(Clone, Copy)]
@@ -141,28 +142,28 @@ fn choose_all<V, A: Allocator + Copy>(
     Ok(chosen)
 }
 
-/// The first `max` entries of these numbers that meet a condition.
-fn choose_among<V, A: Allocator + Copy>(
+/// The first `max` entries that no call answered and that meet a condition.
+fn choose_unread<V, A: Allocator + Copy>(
     alloc: A,
     entries: &BTreeMap<u64, Entry<V>, A>,
-    among: &BTreeSet<u64, A>,
-    instances: &Instances<A>,
+    index: &Index<A>,
     max: usize,
     condition: Condition,
 ) -> Result<Vec<Chosen, A>, AllocError>
-    ensures { let find = known_at instances.now.entries in
+    ensures { let find = known_at index.now.instances.entries in
         IfOk result (λ chosen. chosen.items ≡ map (chosen_by find)
-        (first_by (passes find condition) max (looked entries.now.entries among.now.keys))) }
+        (first_by (passes find condition) max
+        (looked entries.now.entries index.now.not_read.keys))) }
 {
     let mut chosen = Vec::new(alloc);
     let mut left = max;
-    let mut rest = among.iter();
+    let mut rest = index.not_read.iter();
     'numbers: while left > 0 {
         let Some(number) = rest.next() else {
             return Ok(chosen);
         };
         if let Some(entry) = entries.get(number) {
-            if let Some(one) = judge(*number, entry, instances, condition) {
+            if let Some(one) = judge(*number, entry, &index.instances, condition) {
                 chosen.push(one)?;
                 left -= 1;
             }
@@ -176,20 +177,19 @@ fn choose_among<V, A: Allocator + Copy>(
 pub(crate) fn choose<V, A: Allocator + Copy>(
     alloc: A,
     entries: &BTreeMap<u64, Entry<V>, A>,
-    not_read: &BTreeSet<u64, A>,
-    instances: &Instances<A>,
+    index: &Index<A>,
     max: usize,
     condition: Condition,
 ) -> Result<Vec<Chosen, A>, AllocError>
-    ensures { let find = known_at instances.now.entries in
-        not_read.now.keys ≡ numbers (filter not_yet entries.now.entries)
+    ensures { let find = known_at index.now.instances.entries in
+        index.now.not_read.keys ≡ numbers (filter not_yet entries.now.entries)
         → Rising 0 entries.now.entries
         → IfOk result (λ chosen. chosen.items ≡ map (chosen_by find)
         (first_by (passes find condition) max entries.now.entries)) }
 {
     if condition.not_read {
-        choose_among(alloc, entries, not_read, instances, max, condition)
+        choose_unread(alloc, entries, index, max, condition)
     } else {
-        choose_all(alloc, entries, instances, max, condition)
+        choose_all(alloc, entries, &index.instances, max, condition)
     }
 }

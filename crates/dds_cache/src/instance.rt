@@ -1,6 +1,7 @@
 //! What is known of the instances of a cache (DDS 1.4, 2.2.2.5.1.3).
 
 ghost use Rattle.std.specs.Prelude.{◌≡◌, ◌<◌, IfOk, OnErr, OnOk, nat_lt, not, true};
+ghost use Rattle.std.specs.Bool.{OnFalse};
 ghost use Rattle.std.specs.List.{list_any};
 ghost use Rattle.std.specs.Option.{option_map};
 ghost use Rattle.dds_cache.specs.Effects.{ChangesAt, FindsSame, PopsOldest, disposed, fresh, left, seen, spent, valued, with_number, without_number};
@@ -128,6 +129,8 @@ pub(crate) fn add_number<A: Allocator + Copy>(
         (known_at instances.old.entries) (known_at instances.new.entries)) }
     ensures new { IfOk result (λ added. added ≡ not (list_any (is_number number)
         (numbers_in (known_at instances.old.entries key)))) }
+    ensures there { IfOk result (λ added. OnFalse added
+        (FindsSame (known_at instances.old.entries) (known_at instances.new.entries))) }
     ensures err { OnErr result (FindsSame (known_at instances.old.entries)
         (known_at instances.new.entries)) }
 {

@@ -1,6 +1,7 @@
 //! A reader's cache.
 #![tactic(auto)]
 
+mod accept;
 mod answers;
 mod choose;
 mod condition;
@@ -8,6 +9,9 @@ mod entry;
 mod history;
 mod index;
 mod instance;
+pub mod laws;
+mod leave;
+mod put;
 mod read;
 mod reader;
 mod state;

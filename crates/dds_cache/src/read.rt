@@ -85,14 +85,7 @@ pub(crate) fn read_some<V, A: Allocator + Copy>(
     ensures err { OnErr result (IsSame (parts index.old shelf.old.entries.entries)
         (parts index.new shelf.new.entries.entries)) }
 {
-    let chosen = choose(
-        alloc,
-        &shelf.entries,
-        &index.not_read,
-        &index.instances,
-        max,
-        condition,
-    )?;
+    let chosen = choose(alloc, &shelf.entries, index, max, condition)?;
     mark_all(index, &mut shelf.entries, &chosen);
     shelf.answered = chosen;
     Ok(())

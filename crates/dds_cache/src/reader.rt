@@ -1,13 +1,14 @@
 //! A reader's cache.
 
-ghost use Rattle.std.specs.Prelude.{◌≡◌, ◌∷◌, [], IfOk, List, OnErr, OnOk, Some, map, option_to_list};
+ghost use Rattle.std.specs.Prelude.{◌≡◌, ◌∷◌, [], IfErr, IfOk, List, OnErr, OnOk, Some, length, map, option_to_list};
 ghost use Rattle.dds_cache.specs.Answered.{answered, unread};
-ghost use Rattle.dds_cache.specs.Cache.{IsHistory};
-ghost use Rattle.dds_cache.specs.Calls.{Done, WasTaken};
+ghost use Rattle.dds_cache.specs.Cache.{IsHistory, entry_by};
+ghost use Rattle.dds_cache.specs.Calls.{Accepted, Done, WasTaken};
 ghost use Rattle.dds_cache.specs.Lent.{answers_in};
 ghost use Rattle.std.specs.Borrow.{sem};
 ghost use Rattle.dds_cache.specs.Standing.{StandsAt};
 
+use crate::accept::accept;
 use crate::answers::Answers;
 use crate::condition::Condition;
 use crate::entry::Taken;
@@ -15,7 +16,8 @@ use crate::history::History;
 use crate::index::Index;
 use crate::read::read_some;
 use crate::take::{take_next, take_some};
-use std::alloc::{AllocError, Allocator, Global};
+use rtps_reader::Notice;
+use std::alloc::{AllocError, AllocFailed, Allocator, Global};
 use std::collections::BTreeMap;
 use std::marker::Model;
 
@@ -57,9 +59,29 @@ impl<V: Drop, A: Allocator + Copy> DataReader<V, A> {
         }
     }
 
-    /// Lends the first `max` entries, in order of acceptance, that meet the condition, each with its
-    /// states before the call. They stay and are read now, and their instances aren't new any more
-    /// (DDS 1.4, 2.2.2.5.3.8, `read`). A refused growth answers and marks nothing.
+    /// Accepts a notice. A value and a disposal are put after all other entries; where the last so
+    /// many are kept of an instance, its oldest entry is dropped when there is one more, whether it
+    /// was read or not (DDS 1.4, 2.2.3.18). After a refused growth, which only these two ask for,
+    /// the notice comes back and the cache is as it was.
+    pub fn accept(&mut self, alloc: A, notice: Notice<V>) -> Result<(), AllocFailed<Notice<V>>>
+        ensures stands { (past : List (Done V)) → StandsAt past self.old
+            → OnOk result (StandsAt (Accepted notice ∷ past) self.new) }
+        ensures err { (past : List (Done V)) → StandsAt past self.old
+            → OnErr result (StandsAt past self.new) }
+        ensures back { IfErr result (λ refused. refused.value ≡ notice) }
+        ensures makes { OnErr result
+            (length (entry_by notice.place notice.writer notice.what) ≡ 1) }
+        ensures keep { self.new.keep ≡ self.old.keep }
+    {
+        match accept(alloc, &mut self.index, &mut self.shelf.entries, notice) {
+            Ok(()) => Ok(()),
+            Err(value) => Err(AllocFailed { value }),
+        }
+    }
+
+    /// Lends the first `max` entries, in order of acceptance, that meet the condition, each with
+    /// its states before the call. They stay and are read now, and their instances aren't new any
+    /// more (DDS 1.4, 2.2.2.5.3.8, `read`). A refused growth answers and marks nothing.
     pub fn read(
         &mut self,
         alloc: A,

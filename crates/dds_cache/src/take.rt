@@ -101,14 +101,7 @@ pub(crate) fn take_some<V: Drop, A: Allocator + Copy>(
     ensures err { OnErr result (IsSame (parts index.old entries.old.entries)
         (parts index.new entries.new.entries)) }
 {
-    let chosen = choose(
-        alloc,
-        entries,
-        &index.not_read,
-        &index.instances,
-        max,
-        condition,
-    )?;
+    let chosen = choose(alloc, entries, index, max, condition)?;
     let mut taken = Vec::with_capacity(alloc, chosen.len())?;
     hand_over(index, entries, &chosen, &mut taken);
     Ok(taken)

@@ -6,17 +6,17 @@ use Rattle.dds_cache.specs.Cache.{first_by}
 use Rattle.dds_cache.specs.Effects.{chosen_by, looked, passes, with_found}
 use Rattle.dds_cache.specs.Standing.{is_number, known_at}
 use Rattle.dds_cache.proofs.Choosing.{enough, judged, not_this, one_more, refused}
-use Rattle.dds_cache.proofs.choose.choose_among.Goals as goal
+use Rattle.dds_cache.proofs.choose.choose_unread.Goals as goal
 
 pub numbers-preserved-in-Some-judge : goal.numbers-preserved-in-Some-judge
 numbers-preserved-in-Some-judge g c =
-    let find = known_at c.args.instances.now.entries in
+    let find = known_at c.args.index.now.instances.entries in
     let es = c.args.entries.now.entries in
     let p = passes {M = g.row.V.Denot} find c.args.condition in
     let f = chosen_by {M = g.row.V.Denot} find in
     let n = c.in-Some.number.now in
     let e : ℕ × Entry g.row.V.Denot = (n, c.in-Some-get.entry.now) in
-    let all = map f (first_by p c.args.max (looked es c.args.among.now.keys)) in
+    let all = map f (first_by p c.args.max (looked es c.args.index.now.not_read.keys)) in
     let j = judged (p e) (f e) c.in-Some-judge.one c.in-Some-judge.ensures in
     let found : lookup (is_number n) es ≡ Some c.in-Some-get.entry.now = sym c.get.ensures.value ∙ ap option_copied c.in-Some-get.is in
     let cut : looked es c.numbers.rest ≡ e ∷ looked es c.next.new.self = ap (looked es) c.in-Some.ensures.steps ∙ ap (λ o. with_found n o (looked es c.next.new.self)) found in
@@ -26,13 +26,13 @@ numbers-preserved-in-Some-judge g c =
 
 pub numbers-preserved-in_default-judge : goal.numbers-preserved-in_default-judge
 numbers-preserved-in_default-judge g c =
-    let find = known_at c.args.instances.now.entries in
+    let find = known_at c.args.index.now.instances.entries in
     let es = c.args.entries.now.entries in
     let p = passes {M = g.row.V.Denot} find c.args.condition in
     let f = chosen_by {M = g.row.V.Denot} find in
     let n = c.in-Some.number.now in
     let e : ℕ × Entry g.row.V.Denot = (n, c.in-Some-get.entry.now) in
-    let all = map f (first_by p c.args.max (looked es c.args.among.now.keys)) in
+    let all = map f (first_by p c.args.max (looked es c.args.index.now.not_read.keys)) in
     let not_so = refused (p e) (f e) (sym c.in_default-judge.is ∙ c.judge.ensures) in
     let found : lookup (is_number n) es ≡ Some c.in-Some-get.entry.now = sym c.get.ensures.value ∙ ap option_copied c.in-Some-get.is in
     let cut : looked es c.numbers.rest ≡ e ∷ looked es c.next.new.self = ap (looked es) c.in-Some.ensures.steps ∙ ap (λ o. with_found n o (looked es c.next.new.self)) found in
@@ -41,8 +41,8 @@ numbers-preserved-in_default-judge g c =
 
 pub returns : goal.returns
 returns g c =
-    let find = known_at c.args.instances.now.entries in
+    let find = known_at c.args.index.now.instances.entries in
     let p = passes {M = g.row.V.Denot} find c.args.condition in
     let f = chosen_by {M = g.row.V.Denot} find in
     let es = c.args.entries.now.entries in
-    enough p f c.numbers.chosen.items (map f (first_by p c.args.max (looked es c.args.among.now.keys))) c.numbers.left (looked es c.numbers.rest) c.numbers-test.false c.numbers.invariant
+    enough p f c.numbers.chosen.items (map f (first_by p c.args.max (looked es c.args.index.now.not_read.keys))) c.numbers.left (looked es c.numbers.rest) c.numbers-test.false c.numbers.invariant
