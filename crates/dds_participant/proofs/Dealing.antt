@@ -11,7 +11,7 @@ use Rattle.rtps_reader.specs.declared.notice.Output.{Output}
 use Rattle.rtps_reader.specs.Notices as reader
 use Rattle.rtps_serial.specs.declared.outcome.Outcome.{Outcome}
 use Rattle.rtps_serial.specs.Outcome.{Adds, answer_view, notices_in}
-use Rattle.rtps_serial.specs.Seen.{answers_in, notices_by, reader_count}
+use Rattle.rtps_serial.specs.Seen.{answers_in, notices_by}
 use Rattle.rtps_serial.specs.World.{World}
 use Rattle.rtps_serial.proofs.Dealt.{answers_in-append}
 use Rattle.rtps_serial.proofs.Places.{all_append, all_weaker}

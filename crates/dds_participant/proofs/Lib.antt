@@ -3,6 +3,7 @@ mod Pairing
 mod Returned
 mod Taken
 mod Decoding
+mod Pieces
 pub mod Giving
 mod Dealing
 mod Leaving

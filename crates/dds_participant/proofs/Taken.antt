@@ -1,30 +1,22 @@
 -- A batch is taken.
-use Rattle.std.proofs.Common.{◌≡◌, ℕ, ◌+◌, ◌<◌, List, [], ◌∷◌, ◌++◌, length, All, Global, None, sym, ap, ◌∙◌, subst, arith, length-append}
-use Rattle.rtps_types.specs.declared.identity.GuidPrefix.{GuidPrefix}
+use Rattle.std.proofs.Common.{◌≡◌, ℕ, ◌+◌, ◌<◌, List, [], ◌∷◌, ◌++◌, length, Global, sym, ap, ◌∙◌, subst, arith, length-append}
 use Rattle.rtps_receiver.specs.Events.{Happening}
 use Rattle.rtps_discovery.specs.declared.config.Config.{Config}
-use Rattle.rtps_discovery.specs.Kept.{DiscoveryKept, IsKnown, Kept}
+use Rattle.rtps_discovery.specs.Kept.{DiscoveryKept, IsKnown}
 use Rattle.dds_topic.specs.Decoding.{Decoding}
-use Rattle.rtps_reader.specs.declared.notice.Output.{Output}
 use Rattle.rtps_reader.specs.Standing.{ReaderKept}
-use Rattle.rtps_serial.specs.declared.outcome.Outcome.{Outcome}
-use Rattle.rtps_serial.specs.Outcome.{Adds}
 use Rattle.rtps_serial.specs.Run.{events_from, first_world, run, world_run}
 use Rattle.rtps_serial.specs.Seen.{reader_count}
 use Rattle.rtps_serial.specs.Standing.{AllStand, EngineKept, StandsAt, run_by}
 use Rattle.rtps_serial.specs.World.{World}
-use Rattle.rtps_serial.proofs.Places.{rise_from}
 use Rattle.rtps_serial.proofs.Running.{count_stays, events_more, run_count, world_run-append}
 use Rattle.rtps_planner.specs.declared.jobs.Plan.{Plan}
-use Rattle.rtps_planner.specs.Gather.{IsGathered, IsOutputOf, fault_of, ranks_of}
 use Rattle.rtps_planner.specs.Plan.{IsPlan}
-use Rattle.rtps_planner.proofs.Adding.{adds}
 use Rattle.rtps_planner.proofs.Alone.{discovered, parts}
-use Rattle.rtps_planner.proofs.Judged.{right}
 use Rattle.dds_participant.specs.Batch.{IsFinishedBy, Keeps, OnlyRuns, failing, shares_in}
 use Rattle.dds_participant.specs.Kept.{ParticipantKept}
 use Rattle.dds_participant.specs.declared.readers.Parted.{Parted}
-use Rattle.dds_participant.specs.Sharing.{AllAfter, AreRun, IsOutput}
+use Rattle.dds_participant.specs.Sharing.{AllAfter, AreRun}
 
 -- each reader is in the run as its own job leaves it
 pub all_after : {M : Type 0} (decoding : Decoding M) (w : World M) (es : List Happening) (states : List ReaderKept) → length states ≡ reader_count w → AllAfter decoding (shares_in w es) states

@@ -14,7 +14,7 @@ ghost use Rattle.dds_participant.specs.Given.{IsGiven, LeavesLists};
 ghost use Rattle.dds_participant.specs.Kept.{RefusesBatch, TakesBatch};
 ghost use Rattle.dds_participant.specs.Sharing.{AllShare, ArePaired, AreRun, state_rank};
 
-use crate::decode::{decoded, places_of};
+use crate::decode::{Arrived, decoded, places_of};
 use crate::given::{Given, outcome_of};
 use crate::participant::Participant;
 use crate::readers::{Paired, Parted, pair, part};
@@ -67,7 +67,8 @@ impl<C: Catalog> Participant<C> {
     /// Takes the next datagrams, at most 4,096 of at most 65,507 octets each, and gives the notices
     /// of each reader and what is to be sent, as [`rtps_serial::SerialEngine::take`] gives them of
     /// one datagram after another. The readers' jobs are run by so many workers, 1 to 64, of which
-    /// the caller is one; `gate` is told as each job begins and ends.
+    /// the caller is one; `gate` is told as each job begins and ends. Where there is more than one
+    /// worker, more than 1 MiB of datagrams are decoded on as many threads as there are processors.
     ///
     /// When a batch is out of memory, on whichever worker, nothing of it is given, and the
     /// participant has failed: from then on it answers [`EngineError::Failed`], and its statuses
@@ -200,7 +201,12 @@ impl<C: Catalog> Participant<C> {
             (IsGiven C.view w (world_run (C.decoding self.old.engine.catalog) w (events_from
             self.old.engine.config.own self.old.engine.index (map (λ d. d.now) datagrams.now)))) }
     {
-        let events = decoded(alloc, self.config.own, self.index, datagrams)?;
+        let arrived = Arrived {
+            own: self.config.own,
+            first: self.index,
+            datagrams,
+        };
+        let events = decoded(rt, alloc, arrived, workers.count)?;
         let places = places_of(lists.places, &events)?;
         let plan = plan(alloc, &events, &mut self.discovery)?;
         let readers = mem::replace(&mut self.readers, Vec::new(alloc));

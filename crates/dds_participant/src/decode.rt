@@ -1,16 +1,38 @@
 //! The events of a batch.
 
-ghost use Rattle.std.specs.Prelude.{◌≡◌, ◌+◌, ◌^◌, ◌<◌, ◌≤◌, All, IfOk, length, map};
+ghost use Rattle.std.specs.Prelude.{◌≡◌, ◌+◌, ◌*◌, ◌^◌, ◌<◌, ◌≤◌, All, IfOk, drop, length, map, take};
+ghost use Rattle.std.specs.List.{AllZip, range_with_len};
+ghost use Rattle.std.specs.Int.{div_ceil};
 ghost use Rattle.rtps_receiver.specs.Events.{view};
 ghost use Rattle.rtps_serial.specs.Run.{events_from};
+ghost use Rattle.dds_participant.specs.Pieces.{IsPiece};
 
+use rayon::prelude::*;
 use rtps_receiver::{Event, add_events};
+use rtps_shards::joined;
 use rtps_types::{GuidPrefix, Place};
 use std::alloc::{AllocError, Global};
+use std::thread::Threads;
+
+/// Up to so many octets of datagrams are decoded sooner than threads are started.
+const ALONE: usize = 1 << 20;
+
+/// So many datagrams are decoded together.
+const PIECE: usize = 64;
+
+/// Datagrams that came one after the other.
+#[derive(Clone, Copy)]
+pub(crate) struct Arrived<'a, 'b> {
+    /// The participant that they came to.
+    pub own: GuidPrefix,
+    /// The place of the first of them in the run, counted from 0.
+    pub first: u64,
+    pub datagrams: &'b [&'a [u8]],
+}
 
 /// The events of these datagrams, in order, for the participant `own`. `first` is the place of the
 /// first of them in the run, counted from 0. An error is a refused growth.
-pub(crate) fn decoded<'a>(
+fn decoded_alone<'a>(
     alloc: Global,
     own: GuidPrefix,
     first: u64,
@@ -26,6 +48,72 @@ pub(crate) fn decoded<'a>(
         add_events(&mut all, own, first + at as u64, datagram)?;
     }
     Ok(all)
+}
+
+/// The piece of this index, counted from 0; the last may be shorter than the others.
+fn piece<'a, 'b>(datagrams: &'b [&'a [u8]], index: usize) -> &'b [&'a [u8]]
+    requires { index * 64 < length datagrams.now }
+    ensures { result.now ≡ take 64 (drop (index * 64) datagrams.now) }
+{
+    let (_, rest) = datagrams.split_at(index * PIECE);
+    let (piece, _) = rest.split_at(PIECE.min(rest.len()));
+    piece
+}
+
+/// The events of each piece of the datagrams, as many pieces at a time as there are processors.
+fn decoded_apart<'a, R: Threads + Sync>(
+    rt: &R,
+    alloc: Global,
+    own: GuidPrefix,
+    first: u64,
+    datagrams: &[&'a [u8]],
+) -> Result<Vec<Result<Vec<Event<'a>>, AllocError>>, AllocError>
+    requires room { first + length datagrams.now < 2 ^ 64 }
+    requires fit { All (λ d. length d.now ≤ 65507) datagrams.now }
+    ensures { IfOk result (λ pieces. AllZip (IsPiece own first datagrams.now)
+        (range_with_len 0 (div_ceil (length datagrams.now) 64)) pieces.items) }
+{
+    (0..datagrams.len().div_ceil(PIECE))
+        .into_par_iter()
+        .map(
+            |index: usize| -> Result<Vec<Event<'_>>, AllocError>
+                requires { (index * 64 < length datagrams.now)
+                    × (first + length datagrams.now < 2 ^ 64)
+                    × All (λ d. length d.now ≤ 65507) datagrams.now }
+                ensures { IsPiece own first datagrams.entry.now index result }
+            {
+                let from = first + (index * PIECE) as u64;
+                decoded_alone(alloc, own, from, piece(datagrams, index))
+            },
+        )
+        .collect(rt, alloc)
+}
+
+/// The events of these datagrams, in order. An error is a refused growth.
+pub(crate) fn decoded<'a, R: Threads + Sync>(
+    rt: &R,
+    alloc: Global,
+    arrived: Arrived<'a, '_>,
+    workers: usize,
+) -> Result<Vec<Event<'a>>, AllocError>
+    requires room { arrived.first + length arrived.datagrams.now < 2 ^ 64 }
+    requires fit { All (λ d. length d.now ≤ 65507) arrived.datagrams.now }
+    ensures { IfOk result (λ all. map view all.items ≡ events_from arrived.entry.own
+        arrived.entry.first (map (λ d. d.now) arrived.entry.datagrams.now)) }
+{
+    let Arrived {
+        own,
+        first,
+        datagrams,
+    } = arrived;
+    let octets = datagrams.iter().fold(
+        0_usize,
+        |octets, datagram| octets.saturating_add(datagram.len()),
+    );
+    if workers == 1 || octets <= ALONE {
+        return decoded_alone(alloc, own, first, datagrams);
+    }
+    joined(alloc, decoded_apart(rt, alloc, own, first, datagrams)?)
 }
 
 /// The places of events, in a list that was lent, in the place of what is there.

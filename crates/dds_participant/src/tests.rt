@@ -3,6 +3,8 @@
 ghost use Rattle.std.specs.Prelude.{◌≡◌, ◌≤◌, All, length, true};
 
 mod failing;
+mod lent;
+mod routed;
 mod stress;
 
 use crate::*;
@@ -51,17 +53,25 @@ fn reader_config(alloc: Global, rank: u8) -> Result<ReaderConfig, AllocError> {
     })
 }
 
-/// Two reliable readers that are both matched with the writer from the start.
-fn config(alloc: Global) -> Result<Config, AllocError> {
+/// So many reliable readers that are matched with no writer.
+fn unmatched(alloc: Global, readers: u8) -> Result<Config, AllocError> {
     let mut config = Config {
         own: GuidPrefix([0x0b; 12]),
         readers: Vec::new(alloc),
         fixed: Vec::new(alloc),
     };
-    for rank in [0, 1] {
+    for rank in 0..readers {
         config.readers.push(reader_config(alloc, rank)?)?;
+    }
+    Ok(config)
+}
+
+/// Two reliable readers that are both matched with the writer from the start.
+fn config(alloc: Global) -> Result<Config, AllocError> {
+    let mut config = unmatched(alloc, 2)?;
+    for rank in [0, 1] {
         config.fixed.push(FixedMatch {
-            rank: u32::from(rank),
+            rank,
             writer: Guid {
                 prefix: GuidPrefix([0x0a; 12]),
                 entity: EntityId([0, 0, 1, 2]),
@@ -92,6 +102,8 @@ enum Said {
     Blue(u64),
     /// So many numbers are lost.
     Lost(u64),
+    /// A match with the writer of this third octet began.
+    Matched(u8),
     Answer,
     Other,
 }
@@ -104,6 +116,7 @@ fn line(report: &Report<Shape>) -> Line {
         Report::Answer(_) => Said::Answer,
         Report::Notice { notice, .. } => match &notice.what {
             NoticeKind::Lost { count } => Said::Lost(*count),
+            NoticeKind::Matched => Said::Matched(notice.writer.entity.0[2]),
             NoticeKind::Sample {
                 number,
                 body: Body::Value(_, shape),
@@ -172,6 +185,37 @@ fn stands(alloc: Global, participant: &Participant<Shapes>, batches: usize) -> R
     )
 }
 
+/// Has a participant take datagrams in batches of these lengths, and gives what it gives, in order.
+fn take_all<R: Threads + Sync>(
+    rt: &R,
+    alloc: Global,
+    participant: &mut Participant<Shapes>,
+    datagrams: &[&[u8]],
+    sizes: (&[usize], usize),
+) -> Result<Vec<Line>, Fail>
+    requires { (1 ≤ sizes.1) × (sizes.1 ≤ 64) }
+{
+    let (cut, workers) = sizes;
+    let mut lines = Vec::new(alloc);
+    let mut at = 0_usize;
+    for length in cut {
+        let end = at.saturating_add(*length);
+        let Some(batch) = datagrams.get(at..end) else {
+            return Err(Fail::new("the cut is too long"));
+        };
+        take(
+            rt,
+            alloc,
+            &NoGate,
+            participant,
+            (batch, workers),
+            &mut lines,
+        )?;
+        at = end;
+    }
+    Ok(lines)
+}
+
 /// Whether the three datagrams give what they have to, in batches of these lengths.
 fn gives_all<R: Threads + Sync>(
     rt: &R,
@@ -182,23 +226,7 @@ fn gives_all<R: Threads + Sync>(
     requires { (1 ≤ workers) × (workers ≤ 64) }
 {
     let mut participant = Participant::new(alloc, config(alloc)?, Shapes)?;
-    let mut lines = Vec::new(alloc);
-    let mut at = 0_usize;
-    for length in cut {
-        let end = at.saturating_add(*length);
-        let Some(batch) = ALL.get(at..end) else {
-            return Ok(false);
-        };
-        take(
-            rt,
-            alloc,
-            &NoGate,
-            &mut participant,
-            (batch, workers),
-            &mut lines,
-        )?;
-        at = end;
-    }
+    let lines = take_all(rt, alloc, &mut participant, &ALL, (cut, workers))?;
     Ok(lines.as_slice() == EXPECTED.as_slice() && stands(alloc, &participant, cut.len())?)
 }
 
@@ -234,18 +262,34 @@ impl Gate for Counting {
     }
 }
 
-/// How often jobs of the first reader and of the others began, and a hundred times how often they
-/// ended, once a participant took DATA and then the heartbeat for the second reader.
-fn told<R: Threads + Sync>(rt: &R, alloc: Global) -> Result<(u64, u64), Fail> {
-    let gate = Counting {
-        first: AtomicU64::new(0),
-        others: AtomicU64::new(0),
-    };
+impl Counting {
+    fn new() -> Counting {
+        Counting {
+            first: AtomicU64::new(0),
+            others: AtomicU64::new(0),
+        }
+    }
+
+    /// How often jobs of the first reader and of the others began, and a hundred times how often
+    /// they ended.
+    fn counts(&self) -> (u64, u64) {
+        (
+            self.first.load(Ordering::SeqCst),
+            self.others.load(Ordering::SeqCst),
+        )
+    }
+}
+
+#[test]
+fn a_reader_without_a_step_has_no_job(rt: HostRuntime) -> Result<(), Fail> {
+    let alloc = rt.alloc();
+    let gate = Counting::new();
     let mut participant = Participant::new(alloc, config(alloc)?, Shapes)?;
     let mut lines = Vec::new(alloc);
+    // The heartbeat is for the second reader alone.
     for datagram in [DATA, LATER] {
         take(
-            rt,
+            &rt,
             alloc,
             &gate,
             &mut participant,
@@ -253,14 +297,6 @@ fn told<R: Threads + Sync>(rt: &R, alloc: Global) -> Result<(u64, u64), Fail> {
             &mut lines,
         )?;
     }
-    Ok((
-        gate.first.load(Ordering::SeqCst),
-        gate.others.load(Ordering::SeqCst),
-    ))
-}
-
-#[test]
-fn a_reader_without_a_step_has_no_job(rt: HostRuntime) -> Result<(), Fail> {
-    assert_eq!(rt; told(&rt, rt.alloc())?, (101, 202));
+    assert_eq!(rt; gate.counts(), (101, 202));
     Ok(())
 }

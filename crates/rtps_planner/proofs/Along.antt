@@ -6,8 +6,6 @@ use Rattle.rtps_types.specs.declared.place.Place.{Place}
 use Rattle.rtps_receiver.specs.Events.{Happening}
 use Rattle.rtps_discovery.specs.Known.{Known}
 use Rattle.dds_topic.specs.Decoding.{Decoding}
-use Rattle.rtps_proxy.specs.Replies.{Sent}
-use Rattle.rtps_reader.specs.declared.notice.Notice.{Notice}
 use Rattle.rtps_reader.specs.Reader.{Reader, reader_run}
 use Rattle.rtps_serial.specs.Presentation.{not_after}
 use Rattle.rtps_serial.specs.World.{doings, known_after_event}

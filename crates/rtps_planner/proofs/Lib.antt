@@ -7,4 +7,5 @@ pub mod Judged
 pub mod Gathered
 pub mod Adding
 mod Gathering
+mod Rising
 pub mod Along

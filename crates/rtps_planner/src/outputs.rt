@@ -1,6 +1,6 @@
 //! How what the readers put out in a batch is put together.
 
-ghost use Rattle.std.specs.Prelude.{◌≡◌, ◌==◌, ◌++◌, IfOk, OnOk, map, nat_lt, not, set};
+ghost use Rattle.std.specs.Prelude.{◌≡◌, ◌==◌, ◌++◌, IfOk, None, OnOk, map, nat_lt, not, set, true};
 ghost use Rattle.std.specs.List.{list_any};
 ghost use Rattle.rtps_reader.specs.Notices as reader;
 ghost use Rattle.rtps_serial.specs.Outcome.{answer_view};
@@ -74,13 +74,35 @@ fn has_stranger<V, A: Allocator>(planned: &[u32], outputs: &[(u32, Output<V, A>)
     outputs.iter().any(|output| !is_among(planned, output.0))
 }
 
-/// What is wrong with outputs, where these ranks were planned.
+/// Whether the outputs are those of these ranks, in their order, and the ranks rise. Then nothing
+/// is wrong with them.
+fn are_in_order<V, A: Allocator>(planned: &[u32], outputs: &[(u32, Output<V, A>)]) -> bool
+    ensures { result ≡ true → fault_of planned.now (ranks_of outputs.now) ≡ None }
+{
+    if planned.len() != outputs.len() {
+        return false;
+    }
+    let mut least = 0_u64;
+    for (at, output) in outputs.iter().enumerate() {
+        let rank = output.0;
+        if u64::from(rank) < least || rank != planned[at] {
+            return false;
+        }
+        least = u64::from(rank) + 1;
+    }
+    true
+}
+
+/// What is wrong with outputs, where these ranks were planned. Outputs in order are looked at once.
 fn fault_in<V, A: Allocator>(
     planned: &[u32],
     outputs: &[(u32, Output<V, A>)],
 ) -> Option<GatherFault>
     ensures { result ≡ fault_of planned.now (ranks_of outputs.now) }
 {
+    if are_in_order(planned, outputs) {
+        return None;
+    }
     if is_missing(planned, outputs) {
         return Some(GatherFault::Missing);
     }

@@ -12,4 +12,5 @@ mod workers;
 
 pub use gate::{Gate, NoGate};
 pub use jobs::{Batch, JobResult, ReaderJob};
+pub use piles::joined;
 pub use workers::run_jobs;

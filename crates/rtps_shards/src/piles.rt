@@ -27,8 +27,9 @@ pub(crate) fn deal<T: Drop>(
     Ok(piles)
 }
 
-/// All that the workers gave, where each of them gave something.
-pub(crate) fn joined<T: Drop>(
+/// All that the workers gave, one worker's after another's, where each of them gave something. An
+/// error is a refused growth, on whichever worker or here.
+pub fn joined<T: Drop>(
     alloc: Global,
     piles: Vec<Result<Vec<T>, AllocError>>,
 ) -> Result<Vec<T>, AllocError>

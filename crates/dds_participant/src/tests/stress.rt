@@ -2,16 +2,18 @@
 
 ghost use Rattle.std.specs.Prelude.{◌≤◌};
 
+use super::routed::{COMES, ROUTED};
 use super::{DATA, Line, fit, line, reader_config};
 use crate::*;
 use dds_qos::Reliability;
-use dds_topic::Shapes;
+use dds_topic::{Shape, Shapes};
 use rtps_discovery::{Config, FixedMatch};
 use rtps_reader::Status;
-use rtps_serial::SerialEngine;
+use rtps_serial::{Report, SerialEngine};
 use rtps_shards::NoGate;
 use rtps_types::{EntityId, Guid, GuidPrefix, Locators};
 use std::alloc::{AllocError, Global};
+use std::collections::BTreeSet;
 use std::test::Fail;
 use std::thread::Threads;
 
@@ -32,26 +34,25 @@ impl Dice {
     }
 }
 
+/// The participant 0a0a..0a leaves.
+const LEAVES: &[u8] = b"RTPS\x02\x05\x00\x00\
+    \x0a\x0a\x0a\x0a\x0a\x0a\x0a\x0a\x0a\x0a\x0a\x0a\
+    \x15\x03\x34\x00\x00\x00\x10\x00\x00\x01\x00\xc7\x00\x01\x00\xc2\
+    \x00\x00\x00\x00\x02\x00\x00\x00\
+    \x70\x00\x10\x00\x0a\x0a\x0a\x0a\x0a\x0a\x0a\x0a\x0a\x0a\x0a\x0a\x00\x00\x01\xc1\
+    \x71\x00\x04\x00\x00\x00\x00\x01\x01\x00\x00\x00";
+
 /// DATA, HEARTBEAT or GAP of one of three writers, for one of the first two readers or for all. Its
 /// sequence number is a little above the count, so that numbers are lost, come again and come late.
-fn datagram(alloc: Global, dice: &mut Dice, count: u8) -> Result<Vec<u8>, AllocError> {
+fn datagram(alloc: Global, dice: &mut Dice, count: u32) -> Result<Vec<u8>, AllocError> {
     let writer = [0, 0, dice.octet() % 3, 2];
     let reader = match dice.octet() % 4 {
         0 => [0, 0, 1, 7],
         1 => [0, 0, 2, 7],
         _ => [0, 0, 0, 0],
     };
-    let low = [0, 0, 0, 0, (count / 4).saturating_add(1), 0, 0, 0];
-    let high = [
-        0,
-        0,
-        0,
-        0,
-        (count / 4).saturating_add(1 + dice.octet() % 5),
-        0,
-        0,
-        0,
-    ];
+    let low = (count / 4).saturating_add(1);
+    let high = low.saturating_add(u32::from(dice.octet() % 5));
     let mut octets = Vec::from_slice(alloc, &DATA[..20])?;
     let kind = dice.octet() % 8;
     octets.extend_from_slice(match kind {
@@ -62,21 +63,30 @@ fn datagram(alloc: Global, dice: &mut Dice, count: u8) -> Result<Vec<u8>, AllocE
     octets.extend_from_slice(&reader)?;
     octets.extend_from_slice(&writer)?;
     if kind < 2 {
-        octets.extend_from_slice(&low)?;
-        octets.extend_from_slice(&high)?;
-        octets.extend_from_slice(&[if kind == 0 { count } else { 0 }, 0, 0, 0])?;
+        octets.extend_from_slice(&[0; 4])?;
+        octets.extend_from_slice(&low.to_le_bytes())?;
+        octets.extend_from_slice(&[0; 4])?;
+        octets.extend_from_slice(&high.to_le_bytes())?;
+        octets.extend_from_slice(&if kind == 0 { count } else { 0 }.to_le_bytes())?;
     } else {
-        octets.extend_from_slice(&high)?;
+        octets.extend_from_slice(&[0; 4])?;
+        octets.extend_from_slice(&high.to_le_bytes())?;
         octets.extend_from_slice(&DATA[44..])?;
     }
     Ok(octets)
 }
 
-fn datagrams(alloc: Global) -> Result<Vec<Vec<u8>>, AllocError> {
+/// So many datagrams. Amid them a participant comes with its writers, leaves, and comes again.
+fn datagrams(alloc: Global, count: u32) -> Result<Vec<Vec<u8>>, AllocError> {
     let mut dice = Dice { state: 7 };
     let mut all = Vec::new(alloc);
-    for count in 0..=255 {
-        all.push(datagram(alloc, &mut dice, count)?)?;
+    for at in 0..count {
+        all.push(match at % 200 {
+            50 => Vec::from_slice(alloc, COMES)?,
+            100 => Vec::from_slice(alloc, ROUTED)?,
+            150 => Vec::from_slice(alloc, LEAVES)?,
+            _ => datagram(alloc, &mut dice, at)?,
+        })?;
     }
     Ok(all)
 }
@@ -108,32 +118,45 @@ fn config(alloc: Global) -> Result<Config, AllocError> {
     Ok(config)
 }
 
-/// What comes of a run: what was put out, in order, and how each reader stands.
-type Run = (Vec<Line>, [Option<Status>; 3]);
+/// What is put out: a line, the submessage that caused it, and a sum over the octets of an answer.
+type Trace = (Line, u32, u64);
+
+fn trace(report: &Report<Shape>) -> Trace {
+    let mut sum = 0_u64;
+    if let Report::Answer(answer) = report {
+        for octet in answer.octets.as_slice() {
+            sum = sum.wrapping_mul(31).wrapping_add(u64::from(*octet));
+        }
+    }
+    (line(report), report.turn().place.submessage, sum)
+}
+
+/// What comes of a run: what was put out, in order, how each reader stands, and the matches.
+type Run = (Vec<Trace>, [Option<Status>; 3], BTreeSet<(u32, Guid)>);
 
 /// The run of one thread.
 fn in_series(alloc: Global, datagrams: &[Vec<u8>]) -> Result<Run, Fail> {
     let mut engine = SerialEngine::new(alloc, config(alloc)?, Shapes)?;
-    let mut lines = Vec::new(alloc);
+    let mut traces = Vec::new(alloc);
     for octets in datagrams {
         if octets.len() > 65_507 {
             return Err(Fail::new("a datagram is too long"));
         }
         for report in &engine.take(alloc, octets)?.in_order(alloc)? {
-            lines.push(line(report))?;
+            traces.push(trace(report))?;
         }
     }
     let statuses = [engine.status(0), engine.status(1), engine.status(2)];
-    Ok((lines, statuses))
+    Ok((traces, statuses, engine.matches(alloc)?))
 }
 
-/// Has a participant take these datagrams in one batch, and puts what it gives after the lines.
+/// Has a participant take these datagrams in one batch, and puts what it gives after the traces.
 fn take<R: Threads + Sync>(
     rt: &R,
     alloc: Global,
     participant: &mut Participant<Shapes>,
     batch: (&[Vec<u8>], usize),
-    lines: &mut Vec<Line>,
+    traces: &mut Vec<Trace>,
 ) -> Result<(), Fail>
     requires { (1 ≤ batch.1) × (batch.1 ≤ 64) }
 {
@@ -146,49 +169,100 @@ fn take<R: Threads + Sync>(
     }
     let outcome = participant.run_batch(rt, alloc, &NoGate, &slices, batch.1)?;
     for report in &outcome.in_order(alloc)? {
-        lines.push(line(report))?;
+        traces.push(trace(report))?;
     }
     Ok(())
 }
 
-/// The run of a participant in batches of this length, the last of which may be shorter.
+/// How many datagrams the next batch takes, where so many are left.
+fn length(cut: u32, dice: &mut Dice, left: usize) -> usize {
+    match cut {
+        0 => 1,
+        1 => left,
+        2 => left.div_ceil(2),
+        3 => usize::from(dice.octet() % 2) * 1000,
+        4 => 64,
+        _ => usize::from(dice.octet()) % (cut as usize).saturating_mul(7),
+    }
+}
+
+/// How many workers take the next batch.
+fn workers(dice: &mut Dice) -> usize
+    ensures { (1 ≤ result) × (result ≤ 64) }
+{
+    match dice.octet() % 5 {
+        0 => 1,
+        1 => 2,
+        2 => 3,
+        3 => 7,
+        _ => 64,
+    }
+}
+
+/// The run of a participant in the batches of a cut, by workers whose number changes.
 fn in_batches<R: Threads + Sync>(
     rt: &R,
     alloc: Global,
     datagrams: &[Vec<u8>],
-    sizes: (usize, usize),
-) -> Result<Run, Fail>
-    requires { (1 ≤ sizes.0) × (1 ≤ sizes.1) × (sizes.1 ≤ 64) }
-{
-    let (length, workers) = sizes;
+    cut: u32,
+) -> Result<Run, Fail> {
+    let mut dice = Dice {
+        state: u64::from(cut),
+    };
     let mut participant = Participant::new(alloc, config(alloc)?, Shapes)?;
-    let mut lines = Vec::new(alloc);
-    for batch in datagrams.chunks(length) {
-        take(rt, alloc, &mut participant, (batch, workers), &mut lines)?;
+    let mut traces = Vec::new(alloc);
+    let mut rest = datagrams;
+    for _batch in 0..100_000 {
+        if rest.is_empty() {
+            break;
+        }
+        let (batch, after) = rest.split_at(length(cut, &mut dice, rest.len()).min(rest.len()));
+        let workers = workers(&mut dice);
+        take(rt, alloc, &mut participant, (batch, workers), &mut traces)?;
+        rest = after;
     }
     let statuses = [
         participant.status(0),
         participant.status(1),
         participant.status(2),
     ];
-    Ok((lines, statuses))
+    Ok((traces, statuses, participant.matches(alloc)?))
 }
 
 fn are_same(a: &Run, b: &Run) -> bool {
-    a.0.as_slice() == b.0.as_slice() && a.1 == b.1
+    a.0.as_slice() == b.0.as_slice() && a.1 == b.1 && a.2 == b.2
 }
 
 #[test]
 fn batches_give_what_one_thread_gives(rt: HostRuntime) -> Result<(), Fail> {
     let alloc = rt.alloc();
-    let datagrams = datagrams(alloc)?;
+    let datagrams = datagrams(alloc, 2000)?;
     let expected = in_series(alloc, &datagrams)?;
-    assert!(rt; expected.0.len() > 200);
-    for length in [1, 2, 5, 31, 128, 256] {
-        for workers in [1, 2, 3, 7, 64] {
-            let found = in_batches(&rt, alloc, &datagrams, (length, workers))?;
-            assert!(rt; are_same(&found, &expected));
-        }
+    assert!(rt; expected.0.len() > 2000);
+    for cut in 0..40 {
+        assert!(rt; are_same(&in_batches(&rt, alloc, &datagrams, cut)?, &expected));
     }
+    Ok(())
+}
+
+/// The same datagrams, each with a PAD of 5,000 octets at its end.
+fn padded(alloc: Global, datagrams: Vec<Vec<u8>>) -> Result<Vec<Vec<u8>>, AllocError> {
+    let mut all = Vec::new(alloc);
+    for mut octets in datagrams {
+        octets.extend_from_slice(b"\x01\x01\x88\x13")?;
+        octets.extend_from_slice(&[0; 5000])?;
+        all.push(octets)?;
+    }
+    Ok(all)
+}
+
+#[test]
+fn large_batches_are_decoded_apart(rt: HostRuntime) -> Result<(), Fail> {
+    let alloc = rt.alloc();
+    // More than 1 MiB.
+    let datagrams = padded(alloc, datagrams(alloc, 300)?)?;
+    let expected = in_series(alloc, &datagrams)?;
+    assert!(rt; expected.0.len() > 300);
+    assert!(rt; are_same(&in_batches(&rt, alloc, &datagrams, 1)?, &expected));
     Ok(())
 }

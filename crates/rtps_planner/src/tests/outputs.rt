@@ -135,6 +135,8 @@ pub(super) fn is_of_both<A: Allocator>(outcome: Outcome<u8, A>) -> bool {
 #[test]
 fn two_outputs_are_put_together(rt: HostRuntime) -> Result<(), Fail> {
     assert!(rt; is_of_both(gather_all(rt.alloc(), &BOTH)?));
+    let [last, first] = BOTH;
+    assert!(rt; is_of_both(gather_all(rt.alloc(), &[first, last])?));
     Ok(())
 }
 

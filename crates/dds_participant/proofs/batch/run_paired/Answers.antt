@@ -1,5 +1,3 @@
-use Rattle.std.proofs.Common.{map}
-use Rattle.rtps_receiver.specs.Events.{view}
 use Rattle.dds_participant.proofs.Returned.{count_over, outputs_over, run_over}
 use Rattle.dds_participant.proofs.batch.run_paired.Goals as goal
 

@@ -1,9 +1,5 @@
-use Rattle.std.proofs.Common.{◌<◌, [], length, map, rules}
-use Rattle.rtps_receiver.specs.Events.{view}
-use Rattle.dds_participant.proofs.Decoding.{decoded_more}
+use Rattle.dds_participant.proofs.Pieces.{pieces_joined}
 use Rattle.dds_participant.proofs.decode.decoded.Goals as goal
 
-pub loop-at-preserved : goal.loop-at-preserved
-loop-at-preserved c =
-    let below : c.loop-at.at < length c.args.datagrams.now = search rules in
-    decoded_more c.args.own c.args.first c.loop-at.at c.args.datagrams.now (record { ref_ptr = (0, 0); now = [] }) (map view c.add_events.new.events.items) (map view c.loop-at.all.items) below c.in_ok-add_events.ensures.added c.loop-at.invariant
+pub returns : goal.returns
+returns g c = pieces_joined c.args.arrived.own c.args.arrived.first c.args.arrived.datagrams.now c.in_ok-decoded_apart.field-0.items c.joined.result c.in_ok-decoded_apart.ensures c.joined.ensures.ok c.joined.ensures.items

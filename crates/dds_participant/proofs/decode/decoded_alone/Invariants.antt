@@ -1,7 +1,7 @@
 use Rattle.std.proofs.Common.{◌≡◌, map, take}
 use Rattle.rtps_receiver.specs.Events.{view}
 use Rattle.rtps_serial.specs.Run.{events_from}
-use Rattle.dds_participant.proofs.decode.decoded.Given as goal
+use Rattle.dds_participant.proofs.decode.decoded_alone.Given as goal
 
 -- the events of the datagrams so far are there
 abbrev pub invariant-loop-at : goal.invariant-loop-at

@@ -1,0 +1,16 @@
+-- Datagrams that are decoded piece by piece, of 64 each.
+use Rattle.std.specs.Prelude.{◌≡◌, ℕ, ◌+◌, ◌*◌, List, IfOk, Result, drop, map, take}
+use Rattle.std.specs.Borrow.{Bor}
+use Rattle.std.specs.declared.alloc.Global.{Global}
+use Rattle.std.specs.declared.vec.Vec.{Vec}
+use Rattle.rtps_types.specs.declared.identity.GuidPrefix.{GuidPrefix}
+use Rattle.rtps_receiver.specs.declared.event.Event.{Event}
+use Rattle.rtps_receiver.specs.Events.{view}
+use Rattle.rtps_serial.specs.Run.{events_from}
+
+-- what is given of a piece are its events, if anything is given; the piece has this index among those
+-- of the datagrams
+abbrev pub IsPiece : {E : Type 0} → GuidPrefix → ℕ → List (Bor (List ℕ)) → ℕ
+    → Result (Vec Event Global) E → Type 0
+IsPiece own first datagrams index result = IfOk result (λ events. map view events.items
+    ≡ events_from own (first + index * 64) (map (λ d. d.now) (take 64 (drop (index * 64) datagrams))))

@@ -1,0 +1,56 @@
+//! Lists that are lent from one batch to the next.
+
+use super::{DATA, HEARTBEAT, LATER, config, fit};
+use crate::*;
+use dds_topic::{Shape, Shapes};
+use rtps_shards::NoGate;
+use rtps_types::Place;
+use std::alloc::Global;
+use std::test::Fail;
+use std::thread::Threads;
+
+/// Has a participant take a batch by two workers into lists that are lent; then how many notices
+/// and answers the two readers gave and sent.
+fn lend<R: Threads + Sync>(
+    rt: &R,
+    alloc: Global,
+    participant: &mut Participant<Shapes>,
+    datagrams: &[&[u8]],
+    given: &mut Given<Shape>,
+) -> Result<Vec<(usize, usize)>, Fail> {
+    if !fit(datagrams) {
+        return Err(Fail::new("the batch is too large"));
+    }
+    let workers = Workers {
+        count: 2,
+        gate: &NoGate,
+    };
+    participant.run_in_order(rt, alloc, &workers, datagrams, given)?;
+    let mut counts = Vec::new(alloc);
+    for output in &given.outputs {
+        counts.push((output.notices.len(), output.answers.len()))?;
+    }
+    Ok(counts)
+}
+
+/// The place of the one event of a datagram.
+fn place(datagram: u64) -> Place {
+    Place {
+        datagram,
+        submessage: 1,
+    }
+}
+
+#[test]
+fn lists_that_are_lent_again_hold_the_last_batch_alone(rt: HostRuntime) -> Result<(), Fail> {
+    let alloc = rt.alloc();
+    let mut participant = Participant::new(alloc, config(alloc)?, Shapes)?;
+    let mut given = Given::new(alloc);
+    let counts = lend(&rt, alloc, &mut participant, &[DATA, HEARTBEAT], &mut given)?;
+    assert!(rt; given.places.as_slice() == [place(0), place(1)].as_slice());
+    assert!(rt; counts.as_slice() == [(1, 1), (1, 1)].as_slice());
+    let counts = lend(&rt, alloc, &mut participant, &[LATER], &mut given)?;
+    assert!(rt; given.places.as_slice() == [place(2)].as_slice());
+    assert!(rt; counts.as_slice() == [(0, 0), (1, 1)].as_slice());
+    Ok(())
+}
