@@ -7,9 +7,10 @@ A row is a folder GROUP/NAME: `args` has the words, one a line, as octets; `inpu
 where `#` begins a comment; `stdout`, `stderr` and `status` what the run has to give. The word `{file}` is the name of a
 file that holds what is in `file.hex`. A row with too much for that has `long.py` in place of `input.hex` and `stdout`: its
 `records` and `lines` give the datagrams and the lines one by one. Where a row has the file `memory`, a run may take so many
-MiB of address space. Where the status is 2 and the row has no `stderr`, the text of standard error is the command line's
-own and free. A row of `replay` or `samples` is run with every batch size and worker count below, which change nothing. A
-row that fails names itself and shows the first difference. The last line is 'N passed, M failed', counted by runs.
+MiB of address space; it has one worker, since each thread takes some of its own. Where the status is 2 and the row has no
+`stderr`, the text of standard error is the command line's own and free. A row of `replay` or `samples` is run with every
+batch size and worker count below, which change nothing. A row that fails names itself and shows the first difference. The
+last line is 'N passed, M failed', counted by runs.
 """
 
 import itertools
@@ -51,12 +52,13 @@ def limited(command, row):
     return ["sh", "-c", f'ulimit -v {int(mib) * 1024} && exec "$0" "$@"', *command] if mib else command
 
 
-def runs_of(words):
+def runs_of(row):
     """The words of each run of a row."""
+    words = os.fsdecode((row / "args").read_bytes()).splitlines()
     if not words or words[0] not in ("replay", "samples"):
         return [words]
     batches = (None,) if "--batch" in words else BATCHES
-    workers = (None,) if "--workers" in words else WORKERS
+    workers = (None,) if "--workers" in words or (row / "memory").exists() else WORKERS
     return [
         words + (["--batch", batch] if batch else []) + (["--workers", count] if count else [])
         for batch, count in itertools.product(batches, workers)
@@ -102,7 +104,7 @@ def main():
         return 2
     program, groups = os.path.abspath(sys.argv[1]), sys.argv[2:]
     rows = sorted(path.parent for path in HERE.glob("*/*/args") if not groups or path.parent.parent.name in groups)
-    runs = [(row, words) for row in rows for words in runs_of(os.fsdecode((row / "args").read_bytes()).splitlines())]
+    runs = [(row, words) for row in rows for words in runs_of(row)]
     with ThreadPoolExecutor(os.cpu_count()) as pool:
         faults = list(pool.map(lambda run: fault_of(program, run[1], run[0]), runs))
     for (row, words), fault in zip(runs, faults):

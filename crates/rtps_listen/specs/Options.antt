@@ -1,9 +1,11 @@
 -- The options of `replay`, by what clap finds after it.
-use Rattle.std.specs.Prelude.{◌≡◌, ℕ, nat_le, List, Bool, false, ◌&&◌, if◌then◌else◌, codes, unwrap_or, option_map}
+use Rattle.std.specs.Prelude.{◌≡◌, ℕ, nat_le, nat_lt, List, length, Bool, false, ◌&&◌, if◌then◌else◌, codes, unwrap_or, option_map}
+use Rattle.std.specs.Char.{digit_value}
+use Rattle.std.specs.List.{list_all}
 use Rattle.std.specs.Option.{option_map_or}
 use Rattle.std.specs.Str.{bytes_eq}
+use Rattle.std.specs.Str.Parse.{digits_value, without_leading_plus}
 use Rattle.clap.specs.Words.{Row, Text, first_of, one_of}
-use Rattle.clap.specs.Walk.{byte_or_zero}
 use Rattle.rtps_listen.specs.declared.options.Options.{Options}
 use Rattle.rtps_listen.specs.Line.{own_text, topic_text}
 
@@ -15,18 +17,28 @@ text_or name other rows = unwrap_or (first_of name rows) other
 abbrev pub is_set : Text → List Row → Bool
 is_set name rows = option_map_or (λ text. bytes_eq text (codes "true")) (one_of name rows) false
 
+-- digits of a number below 65536
+abbrev pub are_digits : List ℕ → Bool
+are_digits digits = nat_lt 0 (length digits) && list_all (λ d. nat_lt (digit_value d) 10) digits && nat_lt (digits_value 10 digits) 65536
+
+-- the number that a text writes, or 0 where it writes none
+abbrev pub number_of : Text → ℕ
+number_of text = if are_digits (without_leading_plus text) then digits_value 10 (without_leading_plus text) else 0
+
 -- the number after this name, or 0
 abbrev pub number_in : Text → List Row → ℕ
-number_in name rows = option_map_or byte_or_zero (one_of name rows) 0
+number_in name rows = option_map_or number_of (one_of name rows) 0
 
--- how many readers there are; clap lets no other number than 1 to 8 through, which its definition of what was found doesn't repeat
-abbrev pub one_to_eight : ℕ → ℕ
-one_to_eight n = if nat_le 1 n && nat_le n 8 then n else 1
+-- a number from 1 to the greatest; clap lets no other through, which its definition of what was found doesn't repeat
+abbrev pub one_to : ℕ → ℕ → ℕ
+one_to most n = if nat_le 1 n && nat_le n most then n else 1
 
 -- the options are those that stand in these rows
 pub record AreOptions (options : Options) (rows : List Row) : Type 0 where
   pub file : options.file.now ≡ text_or (codes "file") (codes "-") rows
-  pub readers : options.readers ≡ one_to_eight (number_in (codes "readers") rows)
+  pub readers : options.readers ≡ one_to 8 (number_in (codes "readers") rows)
+  pub workers : options.workers ≡ one_to 64 (number_in (codes "workers") rows)
+  pub batch : options.batch ≡ one_to 4096 (number_in (codes "batch") rows)
   pub topic : options.topic.now ≡ text_or (codes "topic") topic_text rows
   pub own : options.own.now ≡ text_or (codes "own") own_text rows
   pub fixed : option_map (λ text. text.now) options.fixed ≡ first_of (codes "fixed") rows

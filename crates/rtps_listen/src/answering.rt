@@ -10,6 +10,7 @@ use crate::task::{Task, task_of};
 use rtps_records::RunFault;
 use std::alloc::Global;
 use std::io::{self, BufReader, Read, Write};
+use std::thread::Threads;
 
 /// The reader is asked for this many octets at a time.
 const READ_AHEAD: usize = 65_536;
@@ -29,7 +30,8 @@ pub trait RecordFiles {
 /// Does what is asked for, with these files, and writes what is printed of one.
 ///
 /// What is wrong with the words is refused before the file is opened.
-pub fn answer<F: RecordFiles, W: Write>(
+pub fn answer<F: RecordFiles, W: Write, T: Threads + Sync>(
+    rt: &T,
     alloc: Global,
     files: &F,
     asked: &Asked<'_>,
@@ -43,12 +45,13 @@ pub fn answer<F: RecordFiles, W: Write>(
     let Ok(file) = files.open(asked.file()) else {
         return Err(ListenFault::Run(RunFault::CannotRead));
     };
-    print_file(alloc, task, file, writer)
+    print_file(rt, alloc, task, file, writer)
 }
 
 /// Prints what a task makes of an opened file.
 #[tactic(auto, unfolding(crate::specs::Printed::PrintsBy))]
-fn print_file<R: Read + Drop, W: Write>(
+fn print_file<R: Read + Drop, W: Write, T: Threads + Sync>(
+    rt: &T,
     alloc: Global,
     task: Task,
     file: R,
@@ -60,7 +63,7 @@ fn print_file<R: Read + Drop, W: Write>(
     let Ok(mut reader) = BufReader::with_capacity(alloc, READ_AHEAD, file) else {
         return Err(ListenFault::Run(RunFault::NoMemory));
     };
-    match task.print(alloc, &mut reader, writer) {
+    match task.print(rt, alloc, &mut reader, writer) {
         Ok(()) => Ok(()),
         Err(fault) => Err(ListenFault::Run(fault)),
     }

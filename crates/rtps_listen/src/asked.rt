@@ -3,7 +3,7 @@
 ghost use Rattle.std.specs.Prelude.{◌≡◌, ◌≤◌, option_map};
 ghost use Rattle.clap.specs.Words.{found_of, rows_of};
 ghost use Rattle.rtps_listen.specs.Asked.{Asks};
-ghost use Rattle.rtps_listen.specs.Options.{AreOptions, is_set, number_in, one_to_eight, text_or};
+ghost use Rattle.rtps_listen.specs.Options.{AreOptions, is_set, number_in, one_to, text_or};
 
 use crate::options::Options;
 use clap::ArgMatches;
@@ -59,33 +59,38 @@ fn flag_in(matches: &ArgMatches<'_>, name: &str) -> bool
 }
 
 /// The number after this name, or 0.
-fn number_in(matches: &ArgMatches<'_>, name: &str) -> u8
+fn number_in(matches: &ArgMatches<'_>, name: &str) -> u16
     ensures { result ≡ number_in name.now (rows_of (found_of matches.now)) }
 {
-    matches.get_one::<u8>(name).unwrap_or(0)
+    matches.get_one::<u16>(name).unwrap_or(0)
 }
 
-/// How many readers there are, from the number after `--readers`. clap refuses a line with another
-/// number than 1 to 8, but what its contract says of a value that was found doesn't repeat that. So it
-/// is tested here, for all that is built on it; the arm of other numbers is never taken.
-fn one_to_eight(number: u8) -> u8
-    ensures value { result ≡ one_to_eight number }
+/// A number of readers, workers or datagrams, of which there are at most so many. clap refuses a
+/// line with another number than 1 to the greatest, but what its contract says of a value that was
+/// found doesn't repeat that. So it is tested here, for all that is built on it; the arm of other
+/// numbers is never taken.
+fn one_to(most: u16, number: u16) -> u16
+    requires { 1 ≤ most }
+    ensures value { result ≡ one_to most number }
     ensures some { 1 ≤ result }
-    ensures few { result ≤ 8 }
+    ensures few { result ≤ most }
 {
-    match number {
-        1..=8 => number,
-        _ => 1,
+    if 1 <= number && number <= most {
+        number
+    } else {
+        1
     }
 }
 
-/// The options after `replay`. `--workers` and `--batch` change nothing, so they aren't among them.
+/// The options after `replay`.
 fn options_in<'a>(matches: &ArgMatches<'a>) -> Options<'a>
     ensures { AreOptions result (rows_of (found_of matches.now)) }
 {
     Options {
         file: text_in(matches, "file", "-"),
-        readers: one_to_eight(number_in(matches, "readers")),
+        readers: one_to(8, number_in(matches, "readers")) as u8,
+        workers: one_to(64, number_in(matches, "workers")) as u8,
+        batch: one_to(4096, number_in(matches, "batch")),
         topic: text_in(matches, "topic", TOPIC),
         own: text_in(matches, "own", OWN),
         fixed: matches.get_str("fixed"),

@@ -24,6 +24,7 @@ use std::alloc::Global;
 use std::fs::File;
 use std::io::{self, Read, Stdin, Write};
 use std::process::ExitCode;
+use std::thread::Threads;
 use words::read_words;
 
 /// As many octets as no sample is likely to have.
@@ -31,7 +32,7 @@ const LARGE: usize = 16 << 20;
 
 fn main(rt: HostRuntime) -> ExitCode {
     keep_freed_memory(rt.alloc());
-    match run(&rt) {
+    match run(&rt, &rt) {
         Ok(()) => ExitCode::SUCCESS,
         Err(failure) => report(&rt, failure),
     }
@@ -52,7 +53,8 @@ enum Failure {
     Fault(ListenFault),
 }
 
-fn run(rt: &HostRuntime) -> Result<(), Failure> {
+/// Does what the words ask for; `threads` starts the workers.
+fn run<T: Threads + Sync>(rt: &HostRuntime, threads: &T) -> Result<(), Failure> {
     let alloc = rt.alloc();
     let words = match words_given(rt) {
         Ok(words) => words,
@@ -65,7 +67,7 @@ fn run(rt: &HostRuntime) -> Result<(), Failure> {
         }
         Err(error) => return Err(Failure::Line(error)),
     };
-    match answer(alloc, &HostFiles { rt }, &asked, &mut rt.stdout()) {
+    match answer(threads, alloc, &HostFiles { rt }, &asked, &mut rt.stdout()) {
         Ok(()) => Ok(()),
         Err(fault) => Err(Failure::Fault(fault)),
     }

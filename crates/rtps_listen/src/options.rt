@@ -9,6 +9,10 @@ pub struct Options<'a> {
     pub file: &'a str,
     /// How many readers there are, 1 to 8.
     pub readers: u8,
+    /// How many workers the run is shared among, 1 to 64.
+    pub workers: u8,
+    /// How many datagrams are taken at a time, 1 to 4096.
+    pub batch: u16,
     /// The topic of each reader.
     pub topic: &'a str,
     /// The prefix of this participant, in hex.
@@ -23,4 +27,8 @@ pub struct Options<'a> {
     pub summary: bool,
     ghost some: { 1 ≤ readers },
     ghost few: { readers ≤ 8 },
+    ghost worked: { 1 ≤ workers },
+    ghost shared: { workers ≤ 64 },
+    ghost begun: { 1 ≤ batch },
+    ghost batched: { batch ≤ 4096 },
 }

@@ -14,10 +14,11 @@ use crate::options::Options;
 use crate::prefix::prefix_of;
 use dds_topic::{Raw, Shapes};
 use rtps_records::RunFault;
-use rtps_text::{Setup, dump, replay};
+use rtps_text::{Pace, Setup, dump, replay};
 use rtps_types::GuidPrefix;
 use std::alloc::Global;
 use std::io::{Read, Write};
+use std::thread::Threads;
 
 /// What is to be done with a record file.
 #[derive(Drop)]
@@ -33,8 +34,9 @@ pub enum Task {
 impl Task {
     /// Reads a file to its end or its first fault, and writes its text.
     #[tactic(auto, unfolding(crate::specs::Printed::task_text))]
-    pub fn print<R: Read, W: Write>(
+    pub fn print<R: Read, W: Write, T: Threads + Sync>(
         self,
+        rt: &T,
         alloc: Global,
         reader: &mut R,
         writer: &mut W,
@@ -47,8 +49,8 @@ impl Task {
     {
         match self {
             Task::Dump(own) => dump(alloc, own, reader, writer),
-            Task::Replay(setup) => replay(alloc, setup, reader, writer),
-            Task::ReplayRaw(setup) => replay(alloc, setup, reader, writer),
+            Task::Replay(setup) => replay(rt, alloc, setup, reader, writer),
+            Task::ReplayRaw(setup) => replay(rt, alloc, setup, reader, writer),
         }
     }
 }
@@ -79,16 +81,22 @@ fn replay_of(alloc: Global, options: &Options<'_>) -> Result<Task, ListenFault>
 {
     let config = config_of(alloc, options)?;
     let summary = options.summary;
+    let pace = Pace {
+        batch: options.batch,
+        workers: options.workers,
+    };
     if options.raw {
         return Ok(Task::ReplayRaw(Setup {
             config,
             catalog: Raw,
             summary,
+            pace,
         }));
     }
     Ok(Task::Replay(Setup {
         config,
         catalog: Shapes,
         summary,
+        pace,
     }))
 }

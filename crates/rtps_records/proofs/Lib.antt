@@ -1,3 +1,5 @@
+pub mod Batching
+pub mod Cuts
 pub mod Filled
 pub mod NextRead
 pub mod OneReading

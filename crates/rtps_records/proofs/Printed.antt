@@ -19,7 +19,7 @@ texts_begin line records more said e =
 
 -- the text of a record is said after the texts of the records before it
 pub says_one_more : (line : ℕ → List ℕ → List ℕ) (n : ℕ) (octets old new : List ℕ) → new ≡ old ++ line n octets
-    → Says (λ records said. said ≡ text_of line records) (λ records said. said ≡ text_of line records) n octets old new
+    → Says (λ records said. said ≡ text_of line records) (λ records said. said ≡ text_of line records) n (octets ∷ []) old new
 unfolding Says
 says_one_more line n octets old new e = (
   line n octets,

@@ -10,7 +10,7 @@ use Rattle.rtps_records.specs.RecordFile.{magic, frame, Holds, EndsBy, IsRecord,
 use Rattle.rtps_records.specs.Text.{IsFront, Says, Ends, text_of}
 use Rattle.rtps_records.proofs.Printed.{ends_here}
 use Rattle.rtps_records.proofs.OneReading.{one_reading, records_first}
-use Rattle.rtps_records.specs.Runs.{WroteAll, WroteRead, WroteFront, WroteReadFront, PutsFront, Spills, Stops, Closes, ClosesNot}
+use Rattle.rtps_records.specs.Runs.{WroteAll, WroteRead, WroteFront, WroteReadFront, Moves, PutsFront, Spills, Stops, Closes, ClosesNot}
 
 -- n records were read; what is said of them was written or is kept back
 pub record Progress (said : List (List ℕ) → List ℕ → Type 0) (before now old new : Option (List ℕ)) (n : ℕ) (kept : List ℕ) : Type 0 where
@@ -41,26 +41,50 @@ started said before now old fresh p = record {
   says = fresh;
 }
 
-all_more : (P : List ℕ → Type 0) (xs : List (List ℕ)) (x : List ℕ) → AllByRecursion P xs → P x → AllByRecursion P (xs ++ x ∷ [])
+pub all_more : (P : List ℕ → Type 0) (xs : List (List ℕ)) (x : List ℕ) → AllByRecursion P xs → P x → AllByRecursion P (xs ++ x ∷ [])
 all_more P [] x all here = (here, tt)
 all_more P (y ∷ xs) x all here = (all.0, all_more P xs x all.1 here)
 
-frames_more : (xs : List (List ℕ)) (x : List ℕ) → flat_map frame xs ++ frame x ≡ flat_map frame (xs ++ x ∷ [])
+pub frames_more : (xs : List (List ℕ)) (x : List ℕ) → flat_map frame xs ++ frame x ≡ flat_map frame (xs ++ x ∷ [])
 frames_more xs x = ap (λ l. flat_map frame xs ++ l) (sym (append-nil (frame x))) ∙ sym (flat_map-append frame xs (x ∷ []))
+
+all_both : (P : List ℕ → Type 0) (xs ys : List (List ℕ)) → AllByRecursion P xs → AllByRecursion P ys → AllByRecursion P (xs ++ ys)
+all_both P [] ys all more = more
+all_both P (x ∷ xs) ys all more = (all.0, all_both P xs ys all.1 more)
+
+-- some records more were read, and their text was added
+pub many_more : (said then_said : List (List ℕ) → List ℕ → Type 0) (before now after old new : Option (List ℕ)) (n : ℕ) (kept out : List ℕ) (more : List (List ℕ))
+    → Progress said before now old new n kept → Consumes now after (flat_map frame more) → AllByRecursion IsRecord more → Says said then_said n more kept out
+    → Progress then_said before after old new (n + length more) out
+unfolding Says
+many_more said then_said before now after old new n kept out more p read small s = record {
+  records = p.records ++ more;
+  written = p.written;
+  count = length-append p.records more ∙ ap (λ k. k + length more) p.count;
+  each = all_both IsRecord p.records more p.each small;
+  read = subst (Consumes before after) (append_assoc magic (flat_map frame p.records) (flat_map frame more) ∙ ap (λ l. magic ++ l) (sym (flat_map-append frame p.records more))) (Consumes-trans _ _ _ _ _ p.read read);
+  wrote = p.wrote;
+  says = subst (then_said (p.records ++ more)) (append_assoc p.written kept s.0 ∙ ap (λ l. p.written ++ l) (sym s.1)) (s.2 p.records (p.written ++ kept) p.says p.count);
+}
 
 -- one record more was read, and its text was added
 pub one_more : (said then_said : List (List ℕ) → List ℕ → Type 0) (before now after old new : Option (List ℕ)) (n : ℕ) (kept out octets : List ℕ)
-    → Progress said before now old new n kept → Consumes now after (frame octets) → length octets ≤ 65507 → Says said then_said n octets kept out
+    → Progress said before now old new n kept → Consumes now after (frame octets) → length octets ≤ 65507 → Says said then_said n (octets ∷ []) kept out
     → Progress then_said before after old new (n + 1) out
-unfolding Says
-one_more said then_said before now after old new n kept out octets p read small s = record {
-  records = p.records ++ octets ∷ [];
-  written = p.written;
-  count = length-append p.records (octets ∷ []) ∙ ap (λ k. k + 1) p.count;
-  each = all_more IsRecord p.records octets p.each small;
-  read = subst (Consumes before after) (append_assoc magic (flat_map frame p.records) (frame octets) ∙ ap (λ l. magic ++ l) (frames_more p.records octets)) (Consumes-trans _ _ _ _ _ p.read read);
-  wrote = p.wrote;
-  says = subst (then_said (p.records ++ octets ∷ [])) (append_assoc p.written kept s.0 ∙ ap (λ l. p.written ++ l) (sym s.1)) (s.2 p.records (p.written ++ kept) p.says p.count);
+one_more said then_said before now after old new n kept out octets p read small s =
+    many_more said then_said before now after old new n kept out (octets ∷ []) p (subst (Consumes now after) (sym (append-nil (frame octets))) read) (small, tt) s
+
+-- what was kept back was written in part, and the rest is kept back
+pub moved : (said : List (List ℕ) → List ℕ → Type 0) (before now old mid new : Option (List ℕ)) (n : ℕ) (kept left : List ℕ)
+    → Progress said before now old mid n kept → Moves mid new kept left → Progress said before now old new n left
+moved said before now old mid new n kept left p m = record {
+  records = p.records;
+  written = p.written ++ m.0;
+  count = p.count;
+  each = p.each;
+  read = p.read;
+  wrote = Appends-trans _ _ _ _ _ p.wrote m.1;
+  says = subst (said p.records) (ap (λ l. p.written ++ l) m.2 ∙ sym (append_assoc p.written m.0 left)) p.says;
 }
 
 -- the text was written or is kept back
@@ -214,6 +238,14 @@ pub stops_writing : (said : List (List ℕ) → List ℕ → Type 0) (text whole
     → Stops whole fault before after old new
 unfolding Stops
 stops_writing said text whole before now after old mid new n kept fault few e p fronts same put = rw e (inl (put_front said text whole before now old mid new n kept few p fronts same put))
+
+pub stops_printing : (said : List (List ℕ) → List ℕ → Type 0) (text whole : List (List ℕ) → List ℕ) (before now after old mid new : Option (List ℕ)) (n : ℕ) (kept : List ℕ) (fault : RunFault)
+    → n ≤ 4294967295 → (fault ≡ CannotWrite) ⊎ (fault ≡ NoMemory) → PutsFront mid new kept → Progress said before now old mid n kept → SaidIsFront said text
+    → ((records : List (List ℕ)) → text records ≡ whole records) → Stops whole fault before after old new
+unfolding Stops
+stops_printing said text whole before now after old mid new n kept fault few cause put p fronts same =
+    let front = put_front said text whole before now old mid new n kept few p fronts same put in
+    elim cause [ inl cannot ↦ rw cannot (inl front) | inr none ↦ rw none front ]
 
 pub stops_without : (said : List (List ℕ) → List ℕ → Type 0) (text whole : List (List ℕ) → List ℕ) (before now after old new : Option (List ℕ)) (n : ℕ) (kept : List ℕ)
     → n ≤ 4294967295 → Progress said before now old new n kept → SaidIsFront said text → ((records : List (List ℕ)) → text records ≡ whole records) → Stops whole NoMemory before after old new

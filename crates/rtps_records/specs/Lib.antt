@@ -1,5 +1,8 @@
+pub mod Batches
+pub mod Cuts
 pub mod Faults
 pub mod Reading
 pub mod RecordFile
 pub mod Runs
+pub mod Steps
 pub mod Text

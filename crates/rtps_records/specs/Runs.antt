@@ -45,6 +45,10 @@ Stops text TooManyRecords before after old new = WroteAll text before old new (S
 abbrev pub PutsFront : Option (List ℕ) → Option (List ℕ) → List ℕ → Type 0
 PutsFront old new octets = (n : ℕ) × Appends old new (take n octets)
 
+-- a front of these octets was written, and the others are left
+abbrev pub Moves : Option (List ℕ) → Option (List ℕ) → List ℕ → List ℕ → Type 0
+Moves old new octets left = (put : List ℕ) × Appends old new put × (octets ≡ put ++ left)
+
 -- octets of 64 KiB or more were written and gave way to none; fewer are kept back
 abbrev pub Spills : Option (List ℕ) → Option (List ℕ) → List ℕ → List ℕ → Type 0
 Spills old new before after = ((65536 ≤ length before) × Appends old new before × (after ≡ [])) ⊎ ((length before < 65536) × Keeps old new × (after ≡ before))

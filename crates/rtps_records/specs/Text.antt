@@ -14,12 +14,14 @@ text_from line n (octets ∷ records) = line n octets ++ text_from line (n + 1) 
 abbrev pub text_of : (ℕ → List ℕ → List ℕ) → List (List ℕ) → List ℕ
 text_of line records = text_from line 0 records
 
--- What is added to a text for the record of this number. What was said of which records is told by
--- `before` and `after`: the text grows by what is said of one record more.
-unfoldable pub Says : (List (List ℕ) → List ℕ → Type 0) → (List (List ℕ) → List ℕ → Type 0) → ℕ → List ℕ → List ℕ → List ℕ → Type 0
-Says before after number octets old new =
+-- What is added to a text for these records, of which the first has this number. What was said of which
+-- records is told by `before` and `after`: the text grows by what is said of these records more.
+unfoldable pub Says : (List (List ℕ) → List ℕ → Type 0) → (List (List ℕ) → List ℕ → Type 0) → ℕ
+    → List (List ℕ) → List ℕ → List ℕ → Type 0
+Says before after number more old new =
     (added : List ℕ) × (new ≡ old ++ added)
-    × ((records : List (List ℕ)) (said : List ℕ) → before records said → length records ≡ number → after (records ++ octets ∷ []) (said ++ added))
+    × ((records : List (List ℕ)) (said : List ℕ) → before records said → length records ≡ number
+    → after (records ++ more) (said ++ added))
 
 -- what is added after the last record: the text grows by the rest of the whole text
 unfoldable pub Ends : (List (List ℕ) → List ℕ → Type 0) → (List (List ℕ) → List ℕ) → List ℕ → List ℕ → Type 0

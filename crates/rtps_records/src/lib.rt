@@ -1,6 +1,9 @@
 //! Record files, and the text that is printed from them.
 #![tactic(auto)]
 
+mod batch;
+mod batch_end;
+mod batched;
 mod buffer;
 mod fault;
 pub mod laws;
@@ -8,6 +11,8 @@ mod lines;
 mod records;
 mod transfer;
 
+pub use batch::Batch;
+pub use batch_end::BatchEnd;
 pub use buffer::{Buffer, MAX_LEN};
 pub use fault::RunFault;
 pub use lines::Lines;

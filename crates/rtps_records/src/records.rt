@@ -17,10 +17,10 @@ use std::io::Read;
 
 /// The records of a file, in order. `B` is where one of them is kept while it is lent: a [`Buffer`].
 pub struct Records<'a, R, B: Drop = Buffer> {
-    reader: &'a mut R,
-    buffer: B,
+    pub(crate) reader: &'a mut R,
+    pub(crate) buffer: B,
     /// How many records were read.
-    count: u32,
+    pub(crate) count: u32,
 }
 
 impl<R, B: Drop> Drop for Records<'_, R, B> {
@@ -35,24 +35,7 @@ impl<R, B: Drop> Drop for Records<'_, R, B> {
     }
 }
 
-impl<'a, R: Read, A: Allocator> Records<'a, R, Buffer<A>> {
-    ghost use Rattle.rtps_records.specs.contracts.buffer.Buffer.{the_row as buffer_row};
-    ghost use Rattle.rtps_records.specs.contracts.records.Records.{the_row};
-
-    /// The records that are to be read from a reader; first [`Records::open`] them.
-    pub fn new(alloc: A, reader: &'a mut R) -> Result<Records<'a, R, Buffer<A>>, AllocError>
-        ensures same_reader { IfOk result (λ records. records.reader.ghost_name ≡
-            reader.entry.ghost_name) }
-        ensures unread { IfOk result (λ records. records.reader.now ≡ reader.old) }
-        ensures count { IfOk result (λ records. records.count ≡ 0) }
-    {
-        Ok(Records {
-            reader,
-            buffer: Buffer::new(alloc)?,
-            count: 0,
-        })
-    }
-
+impl<R: Read, B: Drop> Records<'_, R, B> {
     /// Reads the four octets that a record file begins with.
     ///
     /// `NotRecordFile` where it begins otherwise or ends before them, `CannotRead` where a read fails
@@ -76,6 +59,32 @@ impl<'a, R: Read, A: Allocator> Records<'a, R, Buffer<A>> {
         Ok(())
     }
 
+    /// How many records were read.
+    pub fn count(&self) -> u32
+        ensures { result ≡ self.now.count }
+    {
+        self.count
+    }
+}
+
+impl<'a, R: Read, A: Allocator> Records<'a, R, Buffer<A>> {
+    ghost use Rattle.rtps_records.specs.contracts.buffer.Buffer.{the_row as buffer_row};
+    ghost use Rattle.rtps_records.specs.contracts.records.Records.{the_row};
+
+    /// The records that are to be read from a reader; first [`Records::open`] them.
+    pub fn new(alloc: A, reader: &'a mut R) -> Result<Records<'a, R, Buffer<A>>, AllocError>
+        ensures same_reader { IfOk result (λ records. records.reader.ghost_name ≡
+            reader.entry.ghost_name) }
+        ensures unread { IfOk result (λ records. records.reader.now ≡ reader.old) }
+        ensures count { IfOk result (λ records. records.count ≡ 0) }
+    {
+        Ok(Records {
+            reader,
+            buffer: Buffer::new(alloc)?,
+            count: 0,
+        })
+    }
+
     /// Reads the next record and lends its octets, or gives `None` where the file ends.
     ///
     /// `CutRecord` where the file ends inside the record, `RecordTooLong` for a length above 65,507
@@ -94,13 +103,6 @@ impl<'a, R: Read, A: Allocator> Records<'a, R, Buffer<A>> {
             Some(len) => Ok(Some(&self.buffer.octets[..len])),
             None => Ok(None),
         }
-    }
-
-    /// How many records were read.
-    pub fn count(&self) -> u32
-        ensures { result ≡ self.now.count }
-    {
-        self.count
     }
 
     /// Reads the next record into the front of the buffer, and gives its length in octets, or `None`
@@ -133,7 +135,7 @@ pub(crate) fn read_record<R: Read>(
     buffer: &mut [u8],
     number: u32,
 ) -> Result<Option<usize>, RunFault>
-    requires { length buffer.old ≡ 65507 }
+    requires { 65507 ≤ length buffer.old }
     ensures below { IfOk result (λ next. OnSome next (number < 4294967295)) }
     ensures fits { IfOk result (λ next. IfSome next (λ n. n ≤ 65507)) }
     ensures some { IfOk result (λ next. IfSome next (λ n.

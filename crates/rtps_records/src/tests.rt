@@ -8,6 +8,8 @@ use std::alloc::{Allocator, Global};
 use std::io::{self, Error, ErrorKind, Read, Write};
 use std::test::Fail;
 
+mod batches;
+
 /// Prints a line of each record's number and length.
 fn print_lengths<A: Allocator + Copy, R: Read, W: Write>(
     alloc: A,

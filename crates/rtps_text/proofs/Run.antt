@@ -1,47 +1,30 @@
 -- A run and its text, one record more.
-use Rattle.std.proofs.Common.{◌≡◌, ℕ, suc, ◌+◌, ◌<◌, nat_lt, arith, Option, None, Some, Result, Ok, Err, OnOk, IfErr, subst, List, [], ◌∷◌, ◌++◌, Bool, true, false, if◌then◌else◌, sym, ap, ◌∙◌, append-nil, append_assoc}
+use Rattle.std.proofs.Common.{◌≡◌, ℕ, suc, ◌+◌, ◌<◌, nat_lt, arith, Option, None, Some, Result, Ok, Err, OnErr, OnOk, IfErr, subst, List, [], ◌∷◌, ◌++◌, Bool, true, false, if◌then◌else◌, sym, ap, ◌∙◌, append-nil, append_assoc, inl, inr, length, refl, take, drop, take-append-drop}
 use Rattle.std.specs.List.{flat_map}
 use Rattle.std.proofs.lemmas.Grind.{flat_map-append}
 use Rattle.std.proofs.lemmas.List.{append_cancel_left}
 use Rattle.rtps_discovery.specs.declared.config.Config.{Config}
 use Rattle.dds_topic.specs.Decoding.{Decoding}
-use Rattle.rtps_records.specs.Runs.{Stops}
-use Rattle.rtps_records.specs.Text.{Ends, IsFront, Says}
+use Rattle.std.specs.Io.KnownBytes.{Appends}
+use Rattle.std.proofs.KnownBytes.{Appends-kept, Appends-nil, Appends-trans}
+use Rattle.std.proofs.Math.Seq.{take-append_seam}
+use Rattle.rtps_records.specs.Runs.{Moves, PutsFront, Spills, Stops}
+use Rattle.rtps_records.specs.Text.{Ends, IsFront}
 use Rattle.rtps_records.specs.declared.fault.RunFault.{RunFault}
+use Rattle.rtps_records.specs.declared.fault.RunFault.TheVariants.{NoMemory}
 use Rattle.std.proofs.lemmas.Bool.Decides.{nat_tests}
 use Rattle.rtps_reader.specs.declared.status.Status.{Status}
 use Rattle.rtps_serial.specs.Seen.{reader_count, status_at, status_seen}
 use Rattle.rtps_types.specs.declared.identity.GuidPrefix.{GuidPrefix}
 use Rattle.rtps_receiver.specs.Events.{Happening, events_of}
 use Rattle.rtps_serial.specs.World.{Put, World, discovery_puts, puts_below, world_after}
-use Rattle.rtps_serial.specs.Run.{events_from, first_world, run, world_run}
+use Rattle.rtps_serial.specs.Run.{events_from, first_world, world_run}
 use Rattle.rtps_serial.specs.Standing.{EngineKept, StandsAt, run_by}
-use Rattle.rtps_text.specs.Replayed.{HasSaid, put_line, put_lines, replay_text, status_lines, status_text, summary_text, text_by}
+use Rattle.rtps_text.specs.Replayed.{HasSaid, put_line, replay_text, status_lines, status_text, summary_text, text_by}
 
 -- a text that grows begins as before
 pub front_more : (a b c x : List ℕ) → IsFront a b → c ≡ b ++ x → IsFront a c
 front_more a b c x f e = (f.0 ++ x, e ∙ ap (λ l. l ++ x) f.1 ∙ append_assoc a f.0 x)
-
--- what a datagram gives is said after what was said before
-pub says_reports : {C M : Type 0} (text : C → M → List ℕ) (decoding : C → Decoding M) (before after : EngineKept C) (number : ℕ) (octets old new : List ℕ) (put : List (Put M))
-    → (after.catalog ≡ before.catalog) × (after.config ≡ before.config)
-    → ((records : List (List ℕ)) → StandsAt decoding records before → StandsAt decoding (records ++ octets ∷ []) after)
-    → ((records : List (List ℕ)) → StandsAt decoding records before → (run_by decoding before (records ++ octets ∷ [])).put ≡ (run_by decoding before records).put ++ put)
-    → new ≡ old ++ put_lines (text before.catalog) put
-    → Says (λ records said. HasSaid text decoding records said before) (λ records said. HasSaid text decoding records said after) number octets old new
-unfolding Says
-says_reports text decoding before after number octets old new put same stands puts e = (
-  put_lines (text before.catalog) put,
-  e,
-  λ records said h count. record {
-    stands = stands records h.stands;
-    lines = ap (λ l. l ++ put_lines (text before.catalog) put) h.lines
-        ∙ sym (flat_map-append (put_line (text before.catalog)) (run_by decoding before records).put put)
-        ∙ ap (put_lines (text before.catalog)) (sym (puts records h.stands))
-        ∙ ap (λ (config : Config). put_lines (text before.catalog) (run (decoding before.catalog) config (records ++ octets ∷ [])).put) (sym same.1)
-        ∙ ap (λ catalog. put_lines (text catalog) (run (decoding catalog) after.config (records ++ octets ∷ [])).put) (sym same.0);
-  },
-)
 
 -- without a summary nothing is left to say
 pub ends_plain : {C M : Type 0} (text : C → M → List ℕ) (decoding : C → Decoding M) (engine : EngineKept C) (summary : Bool) (old : List ℕ) → summary ≡ false
@@ -127,3 +110,63 @@ statuses_more w n status below e =
     let here : nat_lt n (reader_count w) ≡ true = grind (arith, nat_tests) in
     let seen : status ≡ Some (status_at w n) = e ∙ ap (λ b. if b then Some (status_at w n) else None) here in
     ap (λ s. status_lines w n ++ status_text n s) seen ∙ sym (ap (status_lines w) next)
+
+-- Of a text a part was written and a part is kept back; the rest is still to be added.
+pub record Printed (old new : Option (List ℕ)) (whole kept rest : List ℕ) : Type 0 where
+  pub written : List ℕ
+  pub wrote : Appends old new written
+  pub whole_is : whole ≡ written ++ (kept ++ rest)
+
+-- nothing was added yet
+pub printed_none : (old : Option (List ℕ)) (kept rest : List ℕ) → Printed old old (kept ++ rest) kept rest
+printed_none old kept rest = record { written = []; wrote = Appends-nil old; whole_is = refl }
+
+-- some lines are added
+pub printed_more : (old now : Option (List ℕ)) (whole kept added rest out : List ℕ) → Printed old now whole kept (added ++ rest) → out ≡ kept ++ added → Printed old now whole out rest
+printed_more old now whole kept added rest out p e = record {
+  written = p.written;
+  wrote = p.wrote;
+  whole_is = p.whole_is ∙ ap (λ l. p.written ++ l) (sym (append_assoc kept added rest) ∙ ap (λ l. l ++ rest) (sym e));
+}
+
+-- what is kept back is written where it is long
+pub printed_spilled : (old now new : Option (List ℕ)) (whole kept left rest : List ℕ) → Printed old now whole kept rest → Spills now new kept left → Printed old new whole left rest
+printed_spilled old now new whole kept left rest p s = elim s [
+  | inl out ↦ rw out.2 (record {
+    written = p.written ++ kept;
+    wrote = Appends-trans _ _ _ _ _ p.wrote out.1;
+    whole_is = p.whole_is ∙ sym (append_assoc p.written kept rest);
+  })
+  | inr same ↦ record {
+    written = p.written;
+    wrote = Appends-kept _ _ _ _ p.wrote same.1;
+    whole_is = rw same.2 p.whole_is;
+  }
+]
+
+-- nothing is left to be added
+pub printed_all : (old new : Option (List ℕ)) (whole kept : List ℕ) → Printed old new whole kept [] → Moves old new whole kept
+printed_all old new whole kept p = (p.written, p.wrote, p.whole_is ∙ ap (λ l. p.written ++ l) (append-nil kept))
+
+-- what was written is a front of the whole
+pub printed_front : (old now new : Option (List ℕ)) (whole kept rest : List ℕ) → Printed old now whole kept rest → PutsFront now new kept → PutsFront old new whole
+printed_front old now new whole kept rest p f =
+    let front = take f.0 kept in
+    let back = drop f.0 kept in
+    let all : whole ≡ (p.written ++ front) ++ (back ++ rest) =
+    p.whole_is ∙ ap (λ l. p.written ++ (l ++ rest)) (sym (take-append-drop f.0 kept)) ∙ ap (λ l. p.written ++ l) (append_assoc front back rest) ∙ sym (append_assoc p.written front (back ++ rest)) in (
+      length (p.written ++ front),
+      subst (Appends old new) (sym (ap (take (length (p.written ++ front))) all ∙ take-append_seam (p.written ++ front) (back ++ rest))) (Appends-trans _ _ _ _ _ p.wrote f.1),
+    )
+
+-- where nothing more is written too
+pub printed_stop : (old now : Option (List ℕ)) (whole kept rest : List ℕ) → Printed old now whole kept rest → PutsFront old now whole
+printed_stop old now whole kept rest p = printed_front old now now whole kept rest p (0, Appends-nil now)
+
+pub on_err : {T E P : Type 0} (r : Result T E) → P → OnErr r P
+on_err (Ok x) p = tt
+on_err (Err e) p = p
+
+-- a fault that there is no memory
+pub of_cause : (whole : List (List ℕ) → List ℕ) (fault : RunFault) (before after old new : Option (List ℕ)) → fault ≡ NoMemory → Stops whole NoMemory before after old new → Stops whole fault before after old new
+of_cause whole fault before after old new e stops = subst (λ f. Stops whole f before after old new) (sym e) stops

@@ -1,4 +1,6 @@
-pub mod Line
+pub mod Batched
 pub mod EventLines
-pub mod Told
+pub mod Line
 pub mod Replayed
+pub mod Slices
+pub mod Told

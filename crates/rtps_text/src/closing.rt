@@ -7,35 +7,35 @@ ghost use Rattle.rtps_serial.specs.Standing.{StandsAt, run_by};
 ghost use Rattle.rtps_text.specs.Replayed.{match_lines, status_lines, status_text, summary_text};
 
 use crate::summary::{push_match, push_status};
+use dds_participant::Participant;
 use dds_topic::Catalog;
 use rtps_reader::Status;
-use rtps_serial::SerialEngine;
 use rtps_types::Guid;
-use std::alloc::{AllocError, Allocator};
+use std::alloc::{AllocError, Allocator, Global};
 use std::collections::BTreeSet;
 
 /// Adds the lines of the matches and those of the statuses, both by rank.
-pub(crate) fn push_summary<C: Catalog, A: Allocator, B: Allocator + Copy>(
+pub(crate) fn push_summary<C: Catalog, A: Allocator>(
     out: &mut Vec<u8, A>,
-    alloc: B,
-    engine: &SerialEngine<C, B>,
+    alloc: Global,
+    participant: &Participant<C>,
 ) -> Result<(), AllocError>
     ensures grows { OnOk result (IsFront out.old.items out.new.items) }
-    ensures sums { (datagrams : List (List ℕ)) → StandsAt C.decoding datagrams engine.now
-        → OnOk result (out.new.items ≡ out.old.items ++
-        summary_text (run_by C.decoding engine.now datagrams)) }
+    ensures sums { (datagrams : List (List ℕ))
+        → StandsAt C.decoding datagrams participant.now.engine → OnOk result (out.new.items ≡ out.old.items ++
+        summary_text (run_by C.decoding participant.now.engine datagrams)) }
 {
-    let Ok(matches) = engine.matches(alloc) else {
+    let Ok(matches) = participant.matches(alloc) else {
         return Err(AllocError);
     };
     push_all_matches(out, &matches)?;
-    push_statuses(out, engine)
+    push_statuses(out, participant)
 }
 
 /// Adds the lines of matches.
-fn push_all_matches<A: Allocator, B: Allocator>(
+fn push_all_matches<A: Allocator>(
     out: &mut Vec<u8, A>,
-    matches: &BTreeSet<(u32, Guid), B>,
+    matches: &BTreeSet<(u32, Guid)>,
 ) -> Result<(), AllocError>
     ensures { OnOk result (out.new.items ≡ out.old.items ++ match_lines matches.now.keys) }
 {
@@ -46,18 +46,18 @@ fn push_all_matches<A: Allocator, B: Allocator>(
 }
 
 /// Adds the line of each reader's status.
-fn push_statuses<C: Catalog, A: Allocator, B: Allocator + Copy>(
+fn push_statuses<C: Catalog, A: Allocator>(
     out: &mut Vec<u8, A>,
-    engine: &SerialEngine<C, B>,
+    participant: &Participant<C>,
 ) -> Result<(), AllocError>
     ensures grows { OnOk result (IsFront out.old.items out.new.items) }
-    ensures tells { (datagrams : List (List ℕ)) → StandsAt C.decoding datagrams engine.now
-        → OnOk result (out.new.items ≡ out.old.items ++
-        status_lines (run_by C.decoding engine.now datagrams)
-        (reader_count (run_by C.decoding engine.now datagrams))) }
+    ensures lines { (datagrams : List (List ℕ))
+        → StandsAt C.decoding datagrams participant.now.engine → OnOk result (out.new.items ≡ out.old.items ++
+        status_lines (run_by C.decoding participant.now.engine datagrams)
+        (reader_count (run_by C.decoding participant.now.engine datagrams))) }
 {
-    for rank in 0..engine.readers() {
-        push_status_of(out, rank, engine.status(rank))?;
+    for rank in 0..participant.readers() {
+        push_status_of(out, rank, participant.status(rank))?;
     }
     Ok(())
 }

@@ -14,9 +14,13 @@ mod line;
 mod locators;
 mod notice;
 mod numbers;
+mod printing;
 mod replaying;
-mod reports;
+mod running;
 mod sample;
+mod setup;
+mod slices;
+mod spelling;
 mod summary;
 
 pub use answer::push_answer;
@@ -24,7 +28,8 @@ pub use dumping::{dump, dump_in};
 pub use last_line::LastLine;
 pub use line::push_line;
 pub use notice::push_notice;
-pub use replaying::{Setup, replay, replay_in};
+pub use replaying::replay;
+pub use setup::{Pace, Setup};
 pub use summary::{push_match, push_status};
 
 #[cfg(test)]

@@ -5,6 +5,7 @@ mod fragments;
 mod lines;
 mod matches;
 mod runs;
+mod starved;
 
 use crate::{dump, dump_in};
 use linked_list_allocator::LocalHeap;

@@ -32,6 +32,8 @@ fn flags(best_effort: bool, raw: bool, summary: bool) -> Options<'static> {
     Options {
         file: "-",
         readers: 1,
+        workers: 1,
+        batch: 256,
         topic: "Square",
         own: OURS,
         fixed: None,
@@ -46,6 +48,8 @@ fn texts(own: &'static str, fixed: Option<&'static str>) -> Options<'static> {
     Options {
         file: "-",
         readers: 1,
+        workers: 1,
+        batch: 256,
         topic: "Square",
         own,
         fixed,
@@ -73,9 +77,12 @@ fn lines_with_single_options(rt: HostRuntime) -> Result<(), Fail> {
         "--readers",
         "+1",
     ];
+    let mut sized = flags(false, false, false);
+    sized.workers = 64;
+    sized.batch = 4096;
     for (line, options) in [
         (["replay", "-"].as_slice(), flags(false, false, false)),
-        (sizes.as_slice(), flags(false, false, false)),
+        (sizes.as_slice(), sized),
         (
             ["replay", "--best-effort", "-"].as_slice(),
             flags(true, false, false),
@@ -106,12 +113,17 @@ fn a_line_with_all_options(rt: HostRuntime) -> Result<(), Fail> {
         "--topic=",
         "--readers",
         "8",
+        "--workers=7",
+        "--batch",
+        "1",
         "--summary",
         "--best-effort",
     ];
     let options = Options {
         file: "a b",
         readers: 8,
+        workers: 7,
+        batch: 1,
         topic: "",
         own: "x",
         fixed: Some("y"),
@@ -180,7 +192,10 @@ fn options_that_are_refused(rt: HostRuntime) {
         options.best_effort = best_effort;
         let mut out = Vec::new(rt.alloc());
         let asked = Asked::Replay(options);
-        assert_eq!(rt; answer(rt.alloc(), &NoFiles, &asked, &mut out), Err(fault));
+        assert_eq!(rt;
+            answer(&rt, rt.alloc(), &NoFiles, &asked, &mut out),
+            Err(fault)
+        );
         assert_eq!(rt; out.len(), 0);
     }
 }

@@ -1,6 +1,6 @@
 //! Runs of reliable readers over a record file that was written down by hand.
 
-use super::runs::{Given, refuses_and_prints};
+use super::runs::{Given, prints_and_refuses};
 use dds_qos::Reliability;
 use std::test::Fail;
 
@@ -23,8 +23,8 @@ const LINES: [&str; 4] = [
 ];
 
 #[test]
-fn prints_a_front_where_a_growth_for_an_answer_is_refused(rt: HostRuntime) -> Result<(), Fail> {
+fn prints_answers_however_the_run_is_cut(rt: HostRuntime) -> Result<(), Fail> {
     let given = Given::Fixed(Reliability::Reliable);
-    assert!(rt; refuses_and_prints(rt.alloc(), given, &FILE, &LINES)?);
+    assert!(rt; prints_and_refuses(&rt, rt.alloc(), (given, 2), &FILE, &LINES)?);
     Ok(())
 }

@@ -1,7 +1,7 @@
 //! Runs of a reliable reader that is matched while they go on, over record files that were written
 //! down by hand.
 
-use super::runs::{Given, refuses_and_prints};
+use super::runs::{Given, prints_and_refuses};
 use std::test::Fail;
 
 /// `RTPS` 2.5, no vendor, and the prefix of the participant.
@@ -62,9 +62,9 @@ const ROUTED_AT_LAST: [&str; 4] = [
 ];
 
 #[test]
-fn prints_a_front_where_a_growth_for_a_match_is_refused(rt: HostRuntime) -> Result<(), Fail> {
+fn prints_matches_that_begin_and_end_however_the_run_is_cut(rt: HostRuntime) -> Result<(), Fail> {
     let alloc = rt.alloc();
-    assert!(rt; refuses_and_prints(alloc, Given::Unmatched, &REMATCH, &REMATCHED)?);
-    assert!(rt; refuses_and_prints(alloc, Given::Unmatched, &ROUTED, &ROUTED_AT_LAST)?);
+    assert!(rt; prints_and_refuses(&rt, alloc, (Given::Unmatched, 0), &REMATCH, &REMATCHED)?);
+    assert!(rt; prints_and_refuses(&rt, alloc, (Given::Unmatched, 1), &ROUTED, &ROUTED_AT_LAST)?);
     Ok(())
 }

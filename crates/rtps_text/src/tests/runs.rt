@@ -3,24 +3,25 @@
 ghost use Rattle.std.specs.Prelude.{◌≡◌, IfOk, Ok};
 ghost use Rattle.rtps_discovery.specs.Config.{check_of};
 
+use super::starved::Starved;
 use super::{Failing, octets, text};
-use crate::{Setup, replay, replay_in};
+use crate::{Pace, Setup, replay};
 use dds_qos::{Reliability, Requested};
 use dds_topic::Shapes;
-use linked_list_allocator::LocalHeap;
 use rtps_discovery::{Config, FixedMatch, ReaderConfig, check};
 use rtps_records::RunFault;
 use rtps_types::{EntityId, Guid, GuidPrefix, Locators};
 use std::alloc::Global;
 use std::test::Fail;
+use std::thread::Threads;
 
 const WRITER: Guid = Guid {
     prefix: GuidPrefix([0x0a; 12]),
     entity: EntityId([0x00, 0x00, 0x01, 0x02]),
 };
 
-/// `RDG1`, and two datagrams of BLUE at 10, 20 of size 30: the changes 1 and 3 for every reader, and 4 for
-/// the second one.
+/// `RDG1`, and two datagrams of BLUE at 10, 20 of size 30: the changes 1 and 3 for every reader, and
+/// 4 for the second one.
 const FILE: [&str; 10] = [
     "52444731",
     "0000007c",
@@ -102,23 +103,55 @@ fn config_of(alloc: Global, given: Given) -> Result<Config, Fail>
     }
 }
 
-/// These readers, with values of shapes and without a summary.
-fn setup(config: Config) -> Setup<Shapes>
+/// How runs are cut and shared in these tests.
+const PACES: [Pace; 4] = [
+    Pace {
+        batch: 1,
+        workers: 1,
+    },
+    Pace {
+        batch: 2,
+        workers: 2,
+    },
+    Pace {
+        batch: 3,
+        workers: 7,
+    },
+    Pace {
+        batch: 4096,
+        workers: 64,
+    },
+];
+
+/// These readers, with values of shapes of which one finds no memory, and without a summary.
+fn setup(config: Config, refused: u64, pace: Pace) -> Setup<Starved<Shapes>>
     requires { check_of config ≡ Ok tt }
 {
     Setup {
         config,
-        catalog: Shapes,
+        catalog: Starved::new(Shapes, refused),
         summary: false,
+        pace,
     }
 }
 
 /// Whether these readers print this text of octets after which a read fails.
-fn prints_before(alloc: Global, given: Given, octets: &[u8], text: &str) -> Result<bool, Fail> {
-    let mut out = Vec::new(alloc);
-    let setup = setup(config_of(alloc, given)?);
-    let outcome = replay(alloc, setup, &mut Failing(octets), &mut out);
-    Ok(outcome == Err(RunFault::CannotRead) && out.as_slice() == text.as_bytes())
+fn prints_before<T: Threads + Sync>(
+    rt: &T,
+    alloc: Global,
+    given: Given,
+    octets: &[u8],
+    text: &str,
+) -> Result<bool, Fail> {
+    for pace in PACES {
+        let mut out = Vec::new(alloc);
+        let setup = setup(config_of(alloc, given)?, u64::MAX, pace);
+        let outcome = replay(rt, alloc, setup, &mut Failing(octets), &mut out);
+        if outcome != Err(RunFault::CannotRead) || out.as_slice() != text.as_bytes() {
+            return Ok(false);
+        }
+    }
+    Ok(true)
 }
 
 #[test]
@@ -130,6 +163,7 @@ fn prints_the_records_before_a_fault(rt: HostRuntime) -> Result<(), Fail> {
         let front = file.as_slice().get(..read).unwrap_or(&[]);
         assert!(rt;
             prints_before(
+                &rt,
                 alloc,
                 Given::Fixed(Reliability::BestEffort),
                 front,
@@ -141,46 +175,49 @@ fn prints_the_records_before_a_fault(rt: HostRuntime) -> Result<(), Fail> {
     Ok(())
 }
 
-/// Runs these readers over a file with this much memory, and gives whether all of the text was
-/// printed; else a growth was refused, and a front of it was printed.
-fn prints_all(
+/// Whether a run of a file, where one value finds no memory, gives the whole text, or else a front
+/// of it.
+fn prints_all<T: Threads + Sync>(
+    rt: &T,
     alloc: Global,
-    memory: usize,
-    given: Given,
+    setup: Setup<Starved<Shapes>>,
     file: &[u8],
     text: &str,
 ) -> Result<bool, Fail> {
-    let heap = LocalHeap::new(alloc, memory)?;
     let mut out = Vec::new(alloc);
-    let setup = setup(config_of(alloc, given)?);
     let mut reader = file;
-    match replay_in(&heap, alloc, setup, &mut reader, &mut out) {
+    match replay(rt, alloc, setup, &mut reader, &mut out) {
         Ok(()) if out.as_slice() == text.as_bytes() => Ok(true),
         Err(RunFault::NoMemory) if text.as_bytes().starts_with(out.as_slice()) => Ok(false),
         _ => Err(Fail::new("neither the text nor a front of it")),
     }
 }
 
-/// Whether these readers are refused a growth with the least memory, and print all with the most.
-pub(super) fn refuses_and_prints(
+/// Whether these readers print all of a file with so many values, however the run is cut and
+/// shared; and a front of it, and `NoMemory`, where one of the values finds no memory.
+pub(super) fn prints_and_refuses<T: Threads + Sync>(
+    rt: &T,
     alloc: Global,
-    given: Given,
+    (given, values): (Given, u64),
     parts: &[&str],
     lines: &[&str],
 ) -> Result<bool, Fail> {
     let file = octets(alloc, parts)?;
     let text = text(alloc, lines)?;
-    let mut printed = [true, false];
-    for step in 0..80 {
-        let memory = 65_400 + step * 256;
-        printed[usize::from(step > 0)] = prints_all(alloc, memory, given, &file, text.as_str())?;
+    for pace in PACES {
+        for refused in 0..values.saturating_add(1) {
+            let setup = setup(config_of(alloc, given)?, refused, pace);
+            if prints_all(rt, alloc, setup, &file, text.as_str())? != (refused == values) {
+                return Ok(false);
+            }
+        }
     }
-    Ok(printed == [false, true])
+    Ok(true)
 }
 
 #[test]
-fn prints_a_front_of_a_run_where_a_growth_is_refused(rt: HostRuntime) -> Result<(), Fail> {
+fn prints_a_run_however_it_is_cut_and_shared(rt: HostRuntime) -> Result<(), Fail> {
     let given = Given::Fixed(Reliability::BestEffort);
-    assert!(rt; refuses_and_prints(rt.alloc(), given, &FILE, &LINES)?);
+    assert!(rt; prints_and_refuses(&rt, rt.alloc(), (given, 5), &FILE, &LINES)?);
     Ok(())
 }

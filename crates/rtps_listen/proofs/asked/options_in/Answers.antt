@@ -1,13 +1,15 @@
 use Rattle.std.proofs.Common.{codes, ap, ◌∙◌}
 use Rattle.clap.specs.Words.{found_of}
 use Rattle.clap.proofs.WalkLemmas.{first_value-rows}
-use Rattle.rtps_listen.specs.Options.{one_to_eight}
+use Rattle.rtps_listen.specs.Options.{one_to}
 use Rattle.rtps_listen.proofs.asked.options_in.Goals as goal
 
 pub returns : goal.returns
 returns c = record {
   file = c.text_in.ensures;
-  readers = c.one_to_eight.ensures.value ∙ ap one_to_eight c.number_in.ensures;
+  readers = c.one_to.ensures.value ∙ ap (one_to 8) c.number_in.ensures;
+  workers = c.one_to-2.ensures.value ∙ ap (one_to 64) c.number_in-2.ensures;
+  batch = c.one_to-3.ensures.value ∙ ap (one_to 4096) c.number_in-3.ensures;
   topic = c.text_in-2.ensures;
   own = c.text_in-3.ensures;
   fixed = c.get_str.ensures ∙ first_value-rows (found_of c.args.matches.now) (codes "fixed");

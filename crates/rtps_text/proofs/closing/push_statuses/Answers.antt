@@ -10,20 +10,20 @@ pub loop-rank-preserved : goal.loop-rank-preserved
 loop-rank-preserved g c = record {
   grows = front_more _ c.loop-rank.out.items _ _ c.loop-rank.invariant.grows c.in_ok-push_status_of.ensures;
   tells = λ datagrams stands.
-      let engine = c.args.engine.now in
+      let engine = c.args.participant.now.engine in
       let world = run_by g.C.Catalog.decoding engine datagrams in
       let rank = c.loop-rank.rank in
-      let less : rank < length c.args.engine.now.readers = search rules in
-      let below : rank < reader_count world = omega (arith, less, stands.count, run_count (g.C.Catalog.decoding engine.catalog) engine.config datagrams) in
+      let less : rank < length c.args.participant.now.engine.statuses = search rules in
+      let below : rank < reader_count world = omega (arith, less, stands.shows.count, run_count (g.C.Catalog.decoding engine.catalog) engine.config datagrams) in
       c.in_ok-push_status_of.ensures ∙ ap (λ l. l ++ status_text rank c.status.result) (c.loop-rank.invariant.tells datagrams stands)
       ∙ append_assoc c.args.out.now.items (status_lines world rank) (status_text rank c.status.result)
       ∙ ap (λ l. c.args.out.now.items ++ l) (statuses_more world rank c.status.result below (c.status.ensures datagrams stands.shows));
 }
 
-pub returns-clause-tells : goal.returns-clause-tells
-returns-clause-tells g c datagrams stands =
-    let engine = c.args.engine.now in
+pub returns-clause-lines : goal.returns-clause-lines
+returns-clause-lines g c datagrams stands =
+    let engine = c.args.participant.now.engine in
     let world = run_by g.C.Catalog.decoding engine datagrams in
-    let ended : c.loop-rank.rank ≡ length c.args.engine.now.readers = search rules in
-    let whole : c.loop-rank.rank ≡ reader_count world = ended ∙ stands.count ∙ sym (run_count (g.C.Catalog.decoding engine.catalog) engine.config datagrams) in
+    let ended : c.loop-rank.rank ≡ length c.args.participant.now.engine.statuses = search rules in
+    let whole : c.loop-rank.rank ≡ reader_count world = ended ∙ stands.shows.count ∙ sym (run_count (g.C.Catalog.decoding engine.catalog) engine.config datagrams) in
     c.loop-rank.invariant.tells datagrams stands ∙ ap (λ n. c.args.out.now.items ++ status_lines world n) whole

@@ -8,6 +8,6 @@ use Rattle.rtps_text.proofs.closing.push_statuses.Given as goal
 abbrev pub invariant-loop-rank : goal.invariant-loop-rank
 invariant-loop-rank g l = record {
   grows : IsFront l.fn.out.items l.out.items;
-  tells : (datagrams : List (List ℕ)) → StandsAt g.C.Catalog.decoding datagrams l.engine
-      → l.out.items ≡ l.fn.out.items ++ status_lines (run_by g.C.Catalog.decoding l.engine datagrams) l.rank;
+  tells : (datagrams : List (List ℕ)) → StandsAt g.C.Catalog.decoding datagrams l.participant.engine
+      → l.out.items ≡ l.fn.out.items ++ status_lines (run_by g.C.Catalog.decoding l.participant.engine datagrams) l.rank;
 }

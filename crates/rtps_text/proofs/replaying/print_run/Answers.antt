@@ -1,111 +1,162 @@
-use Rattle.std.proofs.Common.{◌∙◌, arith, refl, rules, None, Some}
-use Rattle.rtps_records.proofs.NextRead.{at_fault, is_end, is_fault, is_record}
-use Rattle.rtps_records.proofs.Progress.{closed, ended, fails_closing, one_more, spilled, started, stops_closing, stops_first, stops_here, stops_without, stops_writing}
+use Rattle.std.proofs.Common.{◌∙◌, ap, arith, refl, rules, None, Some}
+use Rattle.rtps_records.proofs.NextRead.{at_fault}
+use Rattle.rtps_records.proofs.Progress.{closed, ended, fails_closing, started, stops_closing, stops_first, stops_here, stops_printing, stops_without}
 use Rattle.rtps_serial.proofs.Answered.{on_ok_then}
-use Rattle.rtps_text.proofs.Run.{fronts, same_text}
+use Rattle.rtps_serial.specs.Standing.{EngineKept}
+use Rattle.dds_participant.specs.Kept.{ParticipantKept}
+use Rattle.rtps_text.proofs.Batches.{after_end, after_fault, after_more, batch_by_place, batch_more, batch_printed}
+use Rattle.rtps_text.proofs.Run.{fronts, of_cause, same_text}
 use Rattle.rtps_text.proofs.replaying.print_run.Goals as goal
 
 pub returns-in_err-open-clause-fault : goal.returns-in_err-open-clause-fault
 returns-in_err-open-clause-fault g c = at_fault _ _ _ c.from_residual.ensures.1 (stops_first _ _ _ _ _ c.in_err-open.ensures.fault)
 
-pub loop-octets-init : goal.loop-octets-init
-loop-octets-init g c = record {
+pub loop-end-init : goal.loop-end-init
+loop-end-init g c = record {
   same_reader = search rules;
   same_writer = refl;
   few = search rules;
-  catalog = refl;
-  config = refl;
-  summary = refl;
+  same = record { catalog = refl; config = refl; summary = refl; pace = refl };
   so_far = rw (c.open.ensures.count ∙ c.requires.unread) (rw c.requires.empty (started _ _ _ _ c.requires.fresh c.in_ok-open.ensures.ok));
 }
 
-pub print-requires-after_bounds : goal.print-requires-after_bounds
-print-requires-after_bounds g c κs within =
-    (is_record _ _ _ _ _ _ _ c.next.follows.holds-at-none.1 c.in-Ok-Some.is c.in-Ok-Some.field-0-is).0
-
-pub returns-in_err-print-in-Ok-Some-clause-fault : goal.returns-in_err-print-in-Ok-Some-clause-fault
-returns-in_err-print-in-Ok-Some-clause-fault g c =
+pub returns-in_err-end-clause-fault : goal.returns-in_err-end-clause-fault
+returns-in_err-end-clause-fault g c =
     let run = c.args.run.now in
-    let now = c.loop-octets.run in
+    let now = c.loop-end.run in
     let text = g.C.Catalog.text_of in
     let decoding = g.C.Catalog.decoding in
-    let same = same_text text decoding now.engine run.engine now.summary run.summary c.loop-octets.invariant.catalog c.loop-octets.invariant.config c.loop-octets.invariant.summary in
-    at_fault _ _ _ c.from_residual-in_err-print-in-Ok-Some.ensures.1
-    (stops_without _ _ _ _ _ _ _ _ _ _ c.loop-octets.invariant.few c.loop-octets.invariant.so_far (fronts text decoding now.summary now.engine) same)
+    let same = same_text text decoding now.participant.engine run.participant.engine now.summary run.summary c.loop-end.invariant.same.catalog c.loop-end.invariant.same.config c.loop-end.invariant.same.summary in
+    at_fault _ _ _ c.from_residual-in_err-end.ensures.1
+    (of_cause _ _ _ _ _ _ c.in_err-end.ensures.fault (stops_without _ _ _ _ _ _ _ _ _ _ c.loop-end.invariant.few c.loop-end.invariant.so_far (fronts text decoding now.summary now.participant.engine) same))
 
-pub returns-in-Ok-None-clause-ok : goal.returns-in-Ok-None-clause-ok
-returns-in-Ok-None-clause-ok g c =
+pub returns-in_err-print-clause-fault : goal.returns-in_err-print-clause-fault
+returns-in_err-print-clause-fault g c =
     let run = c.args.run.now in
-    let now = c.loop-octets.run in
+    let old = c.loop-end.run in
+    let now = c.run_batch.new.run in
     let text = g.C.Catalog.text_of in
     let decoding = g.C.Catalog.decoding in
-    let same = same_text text decoding now.engine run.engine now.summary run.summary c.loop-octets.invariant.catalog c.loop-octets.invariant.config c.loop-octets.invariant.summary in
-    on_ok_then c.close.result
-    (λ put. ended _ _ _ _ _ _ c.loop-octets.invariant.few (closed _ _ _ _ _ _ _ _ _ _ c.loop-octets.invariant.so_far same put)
-    (is_end _ _ _ _ _ _ c.next.follows.holds-at-none.1 c.in-Ok-None.is c.in-Ok-None.field-0-is))
-    (c.close.ensures.ok)
+    let runs = c.in_ok-end.ensures.reads in
+    let same = c.in_ok-end.ensures.same in
+    let by = batch_by_place text g.C.Catalog.view decoding _ _ _ _ _ _ _ _ old.participant.engine now.participant.engine now.given _ c.loop-end.invariant.so_far runs in
+    let few = runs.reads.few c.loop-end.invariant.few in
+    let so_far = batch_more text g.C.Catalog.view decoding _ _ _ _ _ _ _ _ old.participant.engine now.participant.engine now.given _ (same.catalog, same.config) c.loop-end.invariant.so_far runs in
+    let same_run = same_text text decoding now.participant.engine run.participant.engine now.summary run.summary
+    (same.catalog ∙ c.loop-end.invariant.same.catalog) (same.config ∙ c.loop-end.invariant.same.config) (same.summary ∙ c.loop-end.invariant.same.summary) in
+    at_fault _ _ _ c.from_residual-in_err-print.ensures.1
+    (stops_printing _ _ _ _ _ _ _ _ _ _ _ _ few c.in_err-print.ensures.fault (c.in_err-print.ensures.front by) so_far (fronts text decoding now.summary now.participant.engine) same_run)
 
-pub returns-in-Ok-None-clause-fault : goal.returns-in-Ok-None-clause-fault
-returns-in-Ok-None-clause-fault g c =
+pub loop-end-preserved : goal.loop-end-preserved
+loop-end-preserved g c =
     let run = c.args.run.now in
-    let now = c.loop-octets.run in
-    let text = g.C.Catalog.text_of in
-    let decoding = g.C.Catalog.decoding in
-    let same = same_text text decoding now.engine run.engine now.summary run.summary c.loop-octets.invariant.catalog c.loop-octets.invariant.config c.loop-octets.invariant.summary in
-    let end = is_end _ _ _ _ _ _ c.next.follows.holds-at-none.1 c.in-Ok-None.is c.in-Ok-None.field-0-is in
-    fails_closing _ _ _ _ _ _ _ _ _ _ _ None c.close.result c.loop-octets.invariant.few (c.loop-octets.invariant.few, end) c.loop-octets.invariant.so_far (fronts text decoding now.summary now.engine) same
-    (c.close.ensures.fault)
-
-pub returns-in_err-close-in-Err-clause-fault : goal.returns-in_err-close-in-Err-clause-fault
-returns-in_err-close-in-Err-clause-fault g c =
-    let run = c.args.run.now in
-    let now = c.loop-octets.run in
-    let text = g.C.Catalog.text_of in
-    let decoding = g.C.Catalog.decoding in
-    let same = same_text text decoding now.engine run.engine now.summary run.summary c.loop-octets.invariant.catalog c.loop-octets.invariant.config c.loop-octets.invariant.summary in
-    at_fault _ _ _ c.from_residual-in_err-close-in-Err.ensures.1
-    (stops_closing _ _ _ _ _ _ _ _ _ _ _ (Some c.in-Err.fault) _ c.loop-octets.invariant.few (is_fault _ _ _ _ _ _ c.next.follows.holds-at-none.1 c.in-Err.is) c.loop-octets.invariant.so_far (fronts text decoding now.summary now.engine) same
-    (c.in_err-close-in-Err.ensures.fault))
-
-pub returns-in-Err-clause-fault : goal.returns-in-Err-clause-fault
-returns-in-Err-clause-fault g c =
-    let run = c.args.run.now in
-    let now = c.loop-octets.run in
-    let text = g.C.Catalog.text_of in
-    let decoding = g.C.Catalog.decoding in
-    let same = same_text text decoding now.engine run.engine now.summary run.summary c.loop-octets.invariant.catalog c.loop-octets.invariant.config c.loop-octets.invariant.summary in
-    stops_here _ _ _ _ _ _ _ _ (closed _ _ _ _ _ _ _ _ _ _ c.loop-octets.invariant.so_far same (c.in_ok-close-in-Err.ensures.ok))
-    (is_fault _ _ _ _ _ _ c.next.follows.holds-at-none.1 c.in-Err.is)
-
-pub loop-octets-smaller : goal.loop-octets-smaller
-loop-octets-smaller g c =
-    let next = is_record _ _ _ _ _ _ _ c.next.follows.holds-at-none.1 c.in-Ok-Some.is c.in-Ok-Some.field-0-is in
-    omega (arith, next.1, next.2)
-
-pub loop-octets-preserved : goal.loop-octets-preserved
-loop-octets-preserved g c =
-    let next = is_record _ _ _ _ _ _ _ c.next.follows.holds-at-none.1 c.in-Ok-Some.is c.in-Ok-Some.field-0-is in
-    let count = c.loop-octets.records.count in
-    record {
-      same_reader = c.next.follows.holds-at-none.0 ∙ c.loop-octets.invariant.same_reader;
-      same_writer = search rules;
-      few = omega (arith, next.1, next.2);
-      catalog = c.in_ok-print-in-Ok-Some.ensures.same.0 ∙ c.loop-octets.invariant.catalog;
-      config = c.in_ok-print-in-Ok-Some.ensures.same.1 ∙ c.loop-octets.invariant.config;
-      summary = c.in_ok-print-in-Ok-Some.ensures.same.2 ∙ c.loop-octets.invariant.summary;
-      so_far = rw next.2 (spilled _ _ _ _ _ _ _ _ _ (one_more _ _ _ _ _ _ _ _ _ _ _ c.loop-octets.invariant.so_far next.3 next.0 (c.in_ok-print-in-Ok-Some.ensures.says count)) c.in_ok-write_if_full.ensures.ok);
-    }
-
-pub returns-in_err-write_if_full-clause-fault : goal.returns-in_err-write_if_full-clause-fault
-returns-in_err-write_if_full-clause-fault g c =
-    let next = is_record _ _ _ _ _ _ _ c.next.follows.holds-at-none.1 c.in-Ok-Some.is c.in-Ok-Some.field-0-is in
-    let count = c.loop-octets.records.count in
-    let run = c.args.run.now in
+    let old = c.loop-end.run in
+    let next = c.run_batch.new.run in
     let now = c.print.new.self in
     let text = g.C.Catalog.text_of in
     let decoding = g.C.Catalog.decoding in
-    let same = same_text text decoding now.engine run.engine now.summary run.summary (c.in_ok-print-in-Ok-Some.ensures.same.0 ∙ c.loop-octets.invariant.catalog) (c.in_ok-print-in-Ok-Some.ensures.same.1 ∙ c.loop-octets.invariant.config) (c.in_ok-print-in-Ok-Some.ensures.same.2 ∙ c.loop-octets.invariant.summary) in
-    at_fault _ _ _ c.from_residual-in_err-write_if_full.ensures.1
-    (stops_writing _ _ _ _ _ _ _ _ _ _ _ _ (omega (arith, next.1)) c.in_err-write_if_full.ensures.fault
-    (one_more _ _ _ _ _ _ _ _ _ _ _ c.loop-octets.invariant.so_far next.3 next.0 (c.in_ok-print-in-Ok-Some.ensures.says count))
-    (fronts text decoding now.summary now.engine) same c.in_err-write_if_full.ensures.front)
+    let runs = c.in_ok-end.ensures.reads in
+    let same = c.in_ok-end.ensures.same in
+    let by = batch_by_place text g.C.Catalog.view decoding _ _ _ _ _ _ _ _ old.participant.engine next.participant.engine next.given _ c.loop-end.invariant.so_far runs in
+    let is = ap (λ (p : ParticipantKept _). p.engine) c.in_ok-print.ensures.same.0 in
+    let few = runs.reads.few c.loop-end.invariant.few in
+    let so_far = batch_printed text g.C.Catalog.view decoding _ _ _ _ _ _ _ _ _ old.participant.engine next.participant.engine now.participant.engine next.given _ _ (same.catalog, same.config) is c.loop-end.invariant.so_far runs (c.in_ok-print.ensures.ok by) in
+    let more = after_more _ _ _ _ _ _ runs.reads c.in-More.is in
+    record {
+      same_reader = search rules;
+      same_writer = search rules;
+      few = few;
+      same = record {
+        catalog = ap (λ (e : EngineKept _). e.catalog) is ∙ same.catalog ∙ c.loop-end.invariant.same.catalog;
+        config = ap (λ (e : EngineKept _). e.config) is ∙ same.config ∙ c.loop-end.invariant.same.config;
+        summary = c.in_ok-print.ensures.same.1 ∙ same.summary ∙ c.loop-end.invariant.same.summary;
+        pace = c.in_ok-print.ensures.same.2 ∙ same.pace ∙ c.loop-end.invariant.same.pace;
+      };
+      so_far = rw more.0 so_far;
+    }
+
+pub loop-end-smaller : goal.loop-end-smaller
+loop-end-smaller g c =
+    let runs = c.in_ok-end.ensures.reads in
+    let few = runs.reads.few c.loop-end.invariant.few in
+    let more = after_more _ _ _ _ _ _ runs.reads c.in-More.is in
+    omega (arith, few, more.1)
+
+pub returns-in-End-clause-ok : goal.returns-in-End-clause-ok
+returns-in-End-clause-ok g c =
+    let run = c.args.run.now in
+    let old = c.loop-end.run in
+    let next = c.run_batch.new.run in
+    let now = c.print.new.self in
+    let text = g.C.Catalog.text_of in
+    let decoding = g.C.Catalog.decoding in
+    let runs = c.in_ok-end.ensures.reads in
+    let same = c.in_ok-end.ensures.same in
+    let by = batch_by_place text g.C.Catalog.view decoding _ _ _ _ _ _ _ _ old.participant.engine next.participant.engine next.given _ c.loop-end.invariant.so_far runs in
+    let is = ap (λ (p : ParticipantKept _). p.engine) c.in_ok-print.ensures.same.0 in
+    let few = runs.reads.few c.loop-end.invariant.few in
+    let so_far = batch_printed text g.C.Catalog.view decoding _ _ _ _ _ _ _ _ _ old.participant.engine next.participant.engine now.participant.engine next.given _ _ (same.catalog, same.config) is c.loop-end.invariant.so_far runs (c.in_ok-print.ensures.ok by) in
+    let same_run = same_text text decoding now.participant.engine run.participant.engine now.summary run.summary
+    (ap (λ (e : EngineKept _). e.catalog) is ∙ same.catalog ∙ c.loop-end.invariant.same.catalog) (ap (λ (e : EngineKept _). e.config) is ∙ same.config ∙ c.loop-end.invariant.same.config) (c.in_ok-print.ensures.same.1 ∙ same.summary ∙ c.loop-end.invariant.same.summary) in
+    let begins = fronts text decoding now.summary now.participant.engine in
+    on_ok_then c.close.result
+    (λ put. ended _ _ _ _ _ _ few (closed _ _ _ _ _ _ _ _ _ _ so_far same_run put) (after_end _ _ _ _ _ _ runs.reads c.in-End.is))
+    (c.close.ensures.ok)
+
+pub returns-in-End-clause-fault : goal.returns-in-End-clause-fault
+returns-in-End-clause-fault g c =
+    let run = c.args.run.now in
+    let old = c.loop-end.run in
+    let next = c.run_batch.new.run in
+    let now = c.print.new.self in
+    let text = g.C.Catalog.text_of in
+    let decoding = g.C.Catalog.decoding in
+    let runs = c.in_ok-end.ensures.reads in
+    let same = c.in_ok-end.ensures.same in
+    let by = batch_by_place text g.C.Catalog.view decoding _ _ _ _ _ _ _ _ old.participant.engine next.participant.engine next.given _ c.loop-end.invariant.so_far runs in
+    let is = ap (λ (p : ParticipantKept _). p.engine) c.in_ok-print.ensures.same.0 in
+    let few = runs.reads.few c.loop-end.invariant.few in
+    let so_far = batch_printed text g.C.Catalog.view decoding _ _ _ _ _ _ _ _ _ old.participant.engine next.participant.engine now.participant.engine next.given _ _ (same.catalog, same.config) is c.loop-end.invariant.so_far runs (c.in_ok-print.ensures.ok by) in
+    let same_run = same_text text decoding now.participant.engine run.participant.engine now.summary run.summary
+    (ap (λ (e : EngineKept _). e.catalog) is ∙ same.catalog ∙ c.loop-end.invariant.same.catalog) (ap (λ (e : EngineKept _). e.config) is ∙ same.config ∙ c.loop-end.invariant.same.config) (c.in_ok-print.ensures.same.1 ∙ same.summary ∙ c.loop-end.invariant.same.summary) in
+    let begins = fronts text decoding now.summary now.participant.engine in
+    fails_closing _ _ _ _ _ _ _ _ _ _ _ None c.close.result few (few, after_end _ _ _ _ _ _ runs.reads c.in-End.is) so_far begins same_run (c.close.ensures.fault)
+
+pub returns-in_err-close-in-Fault-clause-fault : goal.returns-in_err-close-in-Fault-clause-fault
+returns-in_err-close-in-Fault-clause-fault g c =
+    let run = c.args.run.now in
+    let old = c.loop-end.run in
+    let next = c.run_batch.new.run in
+    let now = c.print.new.self in
+    let text = g.C.Catalog.text_of in
+    let decoding = g.C.Catalog.decoding in
+    let runs = c.in_ok-end.ensures.reads in
+    let same = c.in_ok-end.ensures.same in
+    let by = batch_by_place text g.C.Catalog.view decoding _ _ _ _ _ _ _ _ old.participant.engine next.participant.engine next.given _ c.loop-end.invariant.so_far runs in
+    let is = ap (λ (p : ParticipantKept _). p.engine) c.in_ok-print.ensures.same.0 in
+    let few = runs.reads.few c.loop-end.invariant.few in
+    let so_far = batch_printed text g.C.Catalog.view decoding _ _ _ _ _ _ _ _ _ old.participant.engine next.participant.engine now.participant.engine next.given _ _ (same.catalog, same.config) is c.loop-end.invariant.so_far runs (c.in_ok-print.ensures.ok by) in
+    let same_run = same_text text decoding now.participant.engine run.participant.engine now.summary run.summary
+    (ap (λ (e : EngineKept _). e.catalog) is ∙ same.catalog ∙ c.loop-end.invariant.same.catalog) (ap (λ (e : EngineKept _). e.config) is ∙ same.config ∙ c.loop-end.invariant.same.config) (c.in_ok-print.ensures.same.1 ∙ same.summary ∙ c.loop-end.invariant.same.summary) in
+    let begins = fronts text decoding now.summary now.participant.engine in
+    at_fault _ _ _ c.from_residual-in_err-close-in-Fault.ensures.1
+    (stops_closing _ _ _ _ _ _ _ _ _ _ _ (Some c.in-Fault.fault) _ few (after_fault _ _ _ _ _ _ _ runs.reads c.in-Fault.is) so_far begins same_run (c.in_err-close-in-Fault.ensures.fault))
+
+pub returns-in-Fault-clause-fault : goal.returns-in-Fault-clause-fault
+returns-in-Fault-clause-fault g c =
+    let run = c.args.run.now in
+    let old = c.loop-end.run in
+    let next = c.run_batch.new.run in
+    let now = c.print.new.self in
+    let text = g.C.Catalog.text_of in
+    let decoding = g.C.Catalog.decoding in
+    let runs = c.in_ok-end.ensures.reads in
+    let same = c.in_ok-end.ensures.same in
+    let by = batch_by_place text g.C.Catalog.view decoding _ _ _ _ _ _ _ _ old.participant.engine next.participant.engine next.given _ c.loop-end.invariant.so_far runs in
+    let is = ap (λ (p : ParticipantKept _). p.engine) c.in_ok-print.ensures.same.0 in
+    let few = runs.reads.few c.loop-end.invariant.few in
+    let so_far = batch_printed text g.C.Catalog.view decoding _ _ _ _ _ _ _ _ _ old.participant.engine next.participant.engine now.participant.engine next.given _ _ (same.catalog, same.config) is c.loop-end.invariant.so_far runs (c.in_ok-print.ensures.ok by) in
+    let same_run = same_text text decoding now.participant.engine run.participant.engine now.summary run.summary
+    (ap (λ (e : EngineKept _). e.catalog) is ∙ same.catalog ∙ c.loop-end.invariant.same.catalog) (ap (λ (e : EngineKept _). e.config) is ∙ same.config ∙ c.loop-end.invariant.same.config) (c.in_ok-print.ensures.same.1 ∙ same.summary ∙ c.loop-end.invariant.same.summary) in
+    let begins = fronts text decoding now.summary now.participant.engine in
+    stops_here _ _ _ _ _ _ _ _ (closed _ _ _ _ _ _ _ _ _ _ so_far same_run (c.in_ok-close-in-Fault.ensures.ok)) (after_fault _ _ _ _ _ _ _ runs.reads c.in-Fault.is)

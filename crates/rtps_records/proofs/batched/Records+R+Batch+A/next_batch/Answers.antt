@@ -1,0 +1,58 @@
+use Rattle.std.proofs.Common.{◌≤◌, ◌<◌, arith, rules, refl, length}
+use Rattle.rtps_records.specs.Batches.{records_in}
+use Rattle.rtps_records.proofs.Batching.{ends_here, fresh, full, more, some_used}
+use Rattle.rtps_records.proofs.Cuts.{length-cut}
+use Rattle.rtps_records.proofs.batched.Records+R+Batch+A.next_batch.Goals as goal
+
+pub loop-self-init : goal.loop-self-init
+loop-self-init g c =
+    let so_far = fresh _ _ c.clear.new.self c.clear.ensures in
+    record {
+      same_reader = refl;
+      few = omega (arith, so_far.count);
+      so_far = so_far;
+    }
+
+pub overflow_add-self : goal.overflow_add-self
+overflow_add-self g c =
+    let next = more _ _ _ _ _ _ (records_in c.read.new.self) _ c.loop-self.invariant.so_far c.in-More.is c.in_ok-end.ensures in
+    search (rules, next)
+
+pub loop-self-smaller : goal.loop-self-smaller
+loop-self-smaller g c =
+    let next = more _ _ _ _ _ _ (records_in c.read.new.self) _ c.loop-self.invariant.so_far c.in-More.is c.in_ok-end.ensures in
+    let old = length-cut c.loop-self.self.buffer.lengths.items c.loop-self.self.buffer.octets.items in
+    let new = length-cut c.read.new.self.lengths.items c.read.new.self.octets.items in
+    let room : length c.loop-self.self.buffer.lengths.items < c.args.most = search rules in
+    omega (arith, next.1, old, new, room)
+
+pub loop-self-preserved : goal.loop-self-preserved
+loop-self-preserved g c =
+    let next = more _ _ _ _ _ _ (records_in c.read.new.self) _ c.loop-self.invariant.so_far c.in-More.is c.in_ok-end.ensures in
+    let old = length-cut c.loop-self.self.buffer.lengths.items c.loop-self.self.buffer.octets.items in
+    let room : length c.loop-self.self.buffer.lengths.items < c.args.most = search rules in
+    record {
+      same_reader = search rules;
+      few = omega (arith, next.1, old, room);
+      so_far = next.2;
+    }
+
+pub returns-in_default : goal.returns-in_default
+returns-in_default g c =
+    let reads = ends_here _ _ _ _ _ _ (records_in c.read.new.self) _ c.loop-self.invariant.so_far c.in_ok-end.ensures c.in_default.not-More in
+    record {
+      same_reader = c.loop-self.invariant.same_reader;
+      reads = reads;
+      few = omega (arith, reads.count, c.loop-self.invariant.so_far.count, c.loop-self.invariant.few);
+      fault = tt;
+    }
+
+pub returns-else-has_room-clause-reads : goal.returns-else-has_room-clause-reads
+returns-else-has_room-clause-reads g c =
+    full _ _ _ _ _ c.loop-self.invariant.so_far (some_used c.loop-self.self.buffer (search rules))
+
+pub returns-after-loop-self-clause-reads : goal.returns-after-loop-self-clause-reads
+returns-after-loop-self-clause-reads g c =
+    let old = length-cut c.loop-self.self.buffer.lengths.items c.loop-self.self.buffer.octets.items in
+    let all : c.args.most ≤ length c.loop-self.self.buffer.lengths.items = search rules in
+    full _ _ _ _ _ c.loop-self.invariant.so_far (omega (arith, old, all, c.requires.some))

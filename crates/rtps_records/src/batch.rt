@@ -1,0 +1,133 @@
+//! The records of a batch, and room for them.
+
+ghost use Rattle.std.specs.Prelude.{◌≡◌, ◌+◌, ◌<◌, ◌≤◌, [], IfErr, IfOk, IfSome, None, OnSome, drop, false, length, map, sum, take, true, vec_len};
+ghost use Rattle.std.specs.Io.KnownBytes.{Consumes, IsAtEnd};
+ghost use Rattle.rtps_records.specs.RecordFile.{FaultHere, frame};
+ghost use Rattle.rtps_records.specs.Cuts.{cut};
+ghost use Rattle.rtps_records.specs.Steps.{ReadsOne};
+
+use crate::batch_end::BatchEnd;
+use crate::buffer::{MAX_LEN, zeros};
+use crate::fault::RunFault;
+use crate::records::read_record;
+use std::alloc::{AllocError, Allocator, Global};
+use std::io::Read;
+
+/// How many octets of records a batch has room for.
+const ROOM: usize = 1_048_576;
+
+/// Room for the records of a batch, 1 MiB of octets, and those that were read last.
+#[derive(Drop)]
+pub struct Batch<A: Allocator = Global> {
+    /// The records, one after the other, and then room.
+    pub(crate) octets: Vec<u8, A>,
+    /// The length of each record.
+    pub(crate) lengths: Vec<usize, A>,
+    /// How many octets the records have.
+    pub(crate) used: usize,
+    ghost room: { vec_len octets ≡ 1048576 },
+    ghost counted: { used ≡ sum lengths.items },
+    ghost within: { used ≤ 1048576 },
+}
+
+/// Reads the record after `number` others of a file into octets of which the first are used, and
+/// gives its length, or `None` where the file ends.
+fn read_after<R: Read>(
+    reader: &mut R,
+    octets: &mut [u8],
+    used: usize,
+    number: u32,
+) -> Result<Option<usize>, RunFault>
+    requires { used + 65507 ≤ length octets.old }
+    ensures length { length octets.new ≡ length octets.old }
+    ensures same { take used octets.new ≡ take used octets.old }
+    ensures below { IfOk result (λ next. OnSome next (number < 4294967295)) }
+    ensures fits { IfOk result (λ next. IfSome next (λ n. n ≤ 65507)) }
+    ensures some { IfOk result (λ next. IfSome next (λ n. Consumes (R.remaining reader.old)
+        (R.remaining reader.new) (frame (take n (drop used octets.new))))) }
+    ensures none { IfOk result (λ next. next ≡ None → IsAtEnd (R.remaining reader.old)) }
+    ensures fault { IfErr result (λ fault. FaultHere fault number
+        (R.remaining reader.old) (R.remaining reader.new)) }
+{
+    let (_, room) = octets.split_at_mut(used);
+    read_record(reader, room, number)
+}
+
+impl<A: Allocator + Copy> Batch<A> {
+    /// Room for records, and none of them.
+    pub(crate) fn new(alloc: A) -> Result<Batch<A>, AllocError>
+        ensures { IfOk result (λ b. b.lengths.items ≡ []) }
+    {
+        Ok(Batch {
+            octets: zeros(alloc, ROOM)?,
+            lengths: Vec::new(alloc),
+            used: 0,
+        })
+    }
+}
+
+impl<A: Allocator> Batch<A> {
+    /// Gives up the records.
+    pub(crate) fn clear(&mut self)
+        ensures { self.new.lengths.items ≡ [] }
+    {
+        self.lengths.clear();
+        self.used = 0;
+    }
+
+    /// How many records there are.
+    pub(crate) fn len(&self) -> usize
+        ensures { result ≡ length self.now.lengths.items }
+    {
+        self.lengths.len()
+    }
+
+    /// Whether there is room for a longest record after the others.
+    pub(crate) fn has_room(&self) -> bool
+        ensures yes { result ≡ true → self.now.used + 65507 ≤ 1048576 }
+        ensures no { result ≡ false → 1048576 < self.now.used + 65507 }
+    {
+        self.used + MAX_LEN <= ROOM
+    }
+
+    /// Reads the next record of a file, after `number` others, and adds it: [`BatchEnd::More`]. The
+    /// end of the file or a fault there adds nothing. An error is a refused growth.
+    #[tactic(auto, unfolding(crate::specs::Steps::ReadsOne))]
+    pub(crate) fn read<R: Read>(
+        &mut self,
+        reader: &mut R,
+        number: u32,
+    ) -> Result<BatchEnd, AllocError>
+        requires room { self.old.used + 65507 ≤ 1048576 }
+        ensures { IfOk result (λ end. ReadsOne end number
+            (R.remaining reader.old) (R.remaining reader.new)
+            (cut self.old.lengths.items self.old.octets.items)
+            (cut self.new.lengths.items self.new.octets.items)) }
+    {
+        match read_after(reader, self.octets.as_mut_slice(), self.used, number) {
+            Ok(Some(length)) => {
+                self.lengths.push(length)?;
+                self.used += length;
+                Ok(BatchEnd::More)
+            }
+            Ok(None) => Ok(BatchEnd::End),
+            Err(fault) => Ok(BatchEnd::Fault(fault)),
+        }
+    }
+
+    /// The records that were read last, in order.
+    pub(crate) fn records<B: Allocator>(&self, alloc: B) -> Result<Vec<&[u8], B>, AllocError>
+        ensures { IfOk result (λ records.
+            map (λ octets. octets.now) records.items ≡
+            cut self.now.lengths.items self.now.octets.items) }
+    {
+        let mut records = Vec::with_capacity(alloc, self.lengths.len())?;
+        let mut rest = self.octets.as_slice();
+        for length in &self.lengths {
+            let (octets, more) = rest.split_at(*length);
+            records.push(octets)?;
+            rest = more;
+        }
+        Ok(records)
+    }
+}

@@ -1,0 +1,84 @@
+//! Records in batches: the same records as one by one, in as many as are asked for and have room.
+
+ghost use Rattle.std.specs.Prelude.{◌≤◌};
+
+use super::{ENDS, FILE, push_length};
+use crate::{BatchEnd, MAX_LEN, Records, RunFault};
+use std::alloc::Global;
+use std::test::Fail;
+
+/// Adds a line of each record's number and length, and gives what the file ends by.
+fn print_batches(
+    alloc: Global,
+    mut file: &[u8],
+    most: u16,
+    text: &mut Vec<u8>,
+) -> Result<(), RunFault>
+    requires { 1 ≤ most }
+{
+    let mut records = Records::in_batches(alloc, &mut file)?;
+    records.open()?;
+    let mut number = 0_u64;
+    for _ in 0..u64::MAX {
+        let end = records.next_batch(most)?;
+        for octets in records.batch(alloc)? {
+            push_length(text, number, octets.len())?;
+            number = number.saturating_add(1);
+        }
+        match end {
+            BatchEnd::More => {}
+            BatchEnd::End => return Ok(()),
+            BatchEnd::Fault(fault) => return Err(fault),
+        }
+    }
+    Ok(())
+}
+
+#[test]
+fn batches_have_the_records_of_each_file(rt: HostRuntime) -> Result<(), Fail> {
+    for (file, text, outcome) in ENDS {
+        for most in [1, 2, 3, 4096] {
+            let mut out = Vec::new(rt.alloc());
+            assert_eq!(rt; print_batches(rt.alloc(), file, most, &mut out), outcome);
+            assert_eq!(rt; out.as_slice(), text);
+        }
+    }
+    Ok(())
+}
+
+#[test]
+fn a_batch_has_as_many_records_as_are_asked_for(rt: HostRuntime) -> Result<(), Fail> {
+    let mut file = FILE.as_slice();
+    let mut records = Records::in_batches(rt.alloc(), &mut file)?;
+    assert_eq!(rt; records.open(), Ok(()));
+    assert_eq!(rt; records.next_batch(2), Ok(BatchEnd::More));
+    let batch = records.batch(rt.alloc())?;
+    assert!(rt; batch.as_slice() == [b"hi".as_slice(), b""].as_slice());
+    drop(batch);
+    assert_eq!(rt; records.next_batch(2), Ok(BatchEnd::End));
+    let batch = records.batch(rt.alloc())?;
+    assert!(rt; batch.as_slice() == [b"abc".as_slice()].as_slice());
+    assert_eq!(rt; records.count(), 3);
+    Ok(())
+}
+
+/// The number of records of a first batch, where each of the file's seventeen is a longest one.
+fn longest(alloc: Global) -> Result<usize, Fail> {
+    let mut file = b"RDG1".to_vec(alloc)?;
+    let record = vec![in alloc; 0u8; MAX_LEN]?;
+    for _ in 0..17_u32 {
+        file.extend_from_slice(b"\0\0\xff\xe3")?;
+        file.extend_from_slice(&record)?;
+    }
+    let mut rest = file.as_slice();
+    let mut records = Records::in_batches(alloc, &mut rest)?;
+    records.open()?;
+    records.next_batch(4096)?;
+    Ok(records.batch(alloc)?.len())
+}
+
+#[test]
+fn a_batch_ends_where_no_longest_record_has_room(rt: HostRuntime) -> Result<(), Fail> {
+    assert_eq!(rt; longest(rt.alloc())?, 16);
+    Ok(())
+}

@@ -1,0 +1,163 @@
+-- A run and its text, one batch more.
+use Rattle.std.proofs.Common.{◌≡◌, ℕ, ◌<◌, ◌≤◌, List, [], ◌∷◌, ◌++◌, Option, arith, refl, subst, sym, ap, ◌∙◌, map, length, append-nil}
+use Rattle.std.proofs.lemmas.Grind.{flat_map-append}
+use Rattle.std.specs.Io.KnownBytes.{IsAtEnd}
+use Rattle.rtps_records.specs.Batches.{ReadsBatch}
+use Rattle.std.specs.Borrow.{Bor}
+use Rattle.std.specs.List.{All, AllByRecursion}
+use Rattle.std.proofs.lemmas.List.Elements.{All-from_recursion}
+use Rattle.rtps_records.specs.RecordFile.{FaultHere, IsRecord}
+use Rattle.rtps_records.specs.Text.{Says}
+use Rattle.rtps_records.specs.declared.batch_end.BatchEnd.{BatchEnd}
+use Rattle.rtps_records.specs.declared.batch_end.BatchEnd.TheVariants.{End, Fault, More}
+use Rattle.rtps_records.specs.declared.fault.RunFault.{RunFault}
+use Rattle.rtps_records.specs.Runs.{Moves}
+use Rattle.rtps_records.proofs.Progress.{Progress, many_more, moved}
+use Rattle.dds_topic.specs.Decoding.{Decoding}
+use Rattle.rtps_discovery.specs.declared.config.Config.{Config}
+use Rattle.rtps_serial.specs.Run.{run}
+use Rattle.rtps_serial.specs.Standing.{EngineKept, StandsAt, run_by}
+use Rattle.rtps_serial.proofs.Running.{run_count}
+use Rattle.rtps_planner.specs.Commuting.{merged}
+use Rattle.rtps_text.specs.Batched.{RunsBatch}
+use Rattle.rtps_planner.specs.Gather.{AreRising}
+use Rattle.rtps_serial.specs.World.{World}
+use Rattle.dds_participant.specs.Given.{AreAnswersAlong, AreNoticesAlong, IsGiven, parts_given, said_view, sent_in, told_in}
+use Rattle.rtps_text.specs.Replayed.{HasSaid, put_line, put_lines}
+use Rattle.rtps_text.specs.Slices.{AreByPlace, AreLeft, all_lines, merged_lines, places_lines, starts}
+use Rattle.dds_participant.specs.declared.given.Given.{Given}
+use Rattle.rtps_text.specs.declared.slices.Cursor.{Cursor}
+use Rattle.rtps_text.proofs.Along.{places_merged, start_left}
+
+-- printed from the start on
+pub start_lines : {C V M : Type 0} (text : C → M → List ℕ) (f : V → M) (given : Given V) (k catalog : C) (said : ℕ) (readers : List Cursor) (count all : ℕ)
+    → k ≡ catalog → said ≡ 0 → readers ≡ starts count → count ≡ all
+    → places_lines (text k) (parts_given f given) given.places.items said readers ≡ all_lines (text catalog) f given all
+start_lines text f given k catalog said readers count all same none start counted =
+    ap (λ k. places_lines (text k) (parts_given f given) given.places.items said readers) same
+    ∙ ap (λ n. places_lines (text catalog) (parts_given f given) given.places.items n readers) none
+    ∙ ap (places_lines (text catalog) (parts_given f given) given.places.items 0) (start ∙ ap starts counted)
+
+-- the lines of a batch are its parts, merged
+pub all_merged : {V M : Type 0} (text : M → List ℕ) (f : V → M) (given : Given V) (count : ℕ) → AreRising given.places.items
+    → AreAnswersAlong given.places.items (map said_view given.answers.items)
+    → ((rank : ℕ) → AreNoticesAlong given.places.items (told_in f given.outputs.items rank))
+    → ((rank : ℕ) → AreAnswersAlong given.places.items (sent_in given.outputs.items rank))
+    → all_lines text f given count ≡ put_lines text (merged (parts_given f given) count given.places.items)
+all_merged text f given count rising said notices answers =
+    let parts = parts_given f given in
+    let left = start_left parts count given.places.items said notices answers in
+    let whole = sym (append-nil given.places.items) in
+    places_merged text parts count given.places.items [] 0 (starts count) (subst AreRising whole rising)
+    (subst (λ ps. AreLeft parts count ps 0 (starts count)) whole left)
+
+-- what workers spelled are the lines of a batch
+pub shared_lines : {C V M : Type 0} (text : C → M → List ℕ) (f : V → M) (given : Given V) (k catalog : C) (readers count : ℕ) → k ≡ catalog → readers ≡ count → AreByPlace f given
+    → merged_lines (text k) f given readers given.places.items ≡ all_lines (text catalog) f given count
+shared_lines text f given k catalog readers count same counted by =
+    ap (λ k. merged_lines (text k) f given readers given.places.items) same
+    ∙ ap (λ n. merged_lines (text catalog) f given n given.places.items) counted
+    ∙ sym (all_merged (text catalog) f given count by.places by.said by.notices by.answers)
+
+-- what a batch gave is by place
+pub by_place : {V M : Type 0} (f : V → M) (before after : World M) (given : Given V) → IsGiven f before after given → AreByPlace f given
+by_place f before after given is = record { places = is.places; said = is.said; notices = is.notices; answers = is.answers }
+
+-- what a batch gave is what the run puts out more, so these are its lines
+given_lines : {V M : Type 0} (text : M → List ℕ) (f : V → M) (decoding : Decoding M) (config : Config) (records batch : List (List ℕ)) (given : Given V) (count : ℕ)
+    → count ≡ length config.readers.items → IsGiven f (run decoding config records) (run decoding config (records ++ batch)) given
+    → put_lines text (run decoding config records).put ++ all_lines text f given count ≡ put_lines text (run decoding config (records ++ batch)).put
+given_lines text f decoding config records batch given count counted is =
+    let parts = parts_given f given in
+    let outputs = length given.outputs.items in
+    let same : count ≡ outputs = counted ∙ sym (run_count decoding config (records ++ batch)) ∙ sym is.readers in
+    ap (λ n. put_lines text (run decoding config records).put ++ all_lines text f given n) same
+    ∙ ap (λ l. put_lines text (run decoding config records).put ++ l) (all_merged text f given outputs is.places is.said is.notices is.answers)
+    ∙ sym (flat_map-append (put_line text) (run decoding config records).put (merged parts outputs given.places.items))
+    ∙ ap (put_lines text) (sym is.put)
+
+-- the lines of a batch are said after what was said before
+says_given : {C V M : Type 0} (text : C → M → List ℕ) (f : V → M) (decoding : C → Decoding M) (before after : EngineKept C) (batch : List (List ℕ)) (given : Given V) (number : ℕ) (kept : List ℕ)
+    → (after.catalog ≡ before.catalog) × (after.config ≡ before.config)
+    → ((records : List (List ℕ)) → StandsAt decoding records before → StandsAt decoding (records ++ batch) after)
+    → ((records : List (List ℕ)) → StandsAt decoding records before → IsGiven f (run_by decoding before records) (run_by decoding before (records ++ batch)) given)
+    → Says (λ records said. HasSaid text decoding records said before) (λ records said. HasSaid text decoding records said after) number batch
+    kept (kept ++ all_lines (text after.catalog) f given (length after.statuses))
+unfolding Says
+says_given {C} text f decoding before after batch given number kept same stands gives = (
+  all_lines (text after.catalog) f given (length after.statuses),
+  refl,
+  λ records said h count.
+      let standing = stands records h.stands in
+      let is = gives records h.stands in
+      record {
+        stands = standing;
+        lines = ap (λ l. l ++ all_lines (text after.catalog) f given (length after.statuses)) h.lines
+            ∙ ap (λ (k : C). put_lines (text k) (run (decoding k) before.config records).put ++ all_lines (text after.catalog) f given (length after.statuses)) (sym same.0)
+            ∙ ap (λ (config : Config). put_lines (text after.catalog) (run (decoding after.catalog) config records).put ++ all_lines (text after.catalog) f given (length after.statuses)) (sym same.1)
+            ∙ given_lines (text after.catalog) f (decoding after.catalog) after.config records batch given (length after.statuses) standing.shows.count
+            (subst (λ (config : Config). IsGiven f (run (decoding after.catalog) config records) (run (decoding after.catalog) config (records ++ batch)) given) (sym same.1)
+            (subst (λ (k : C). IsGiven f (run (decoding k) before.config records) (run (decoding k) before.config (records ++ batch)) given) (sym same.0) is));
+      },
+)
+
+-- a batch more was read, and its lines are added
+pub batch_more : {C V M : Type 0} (text : C → M → List ℕ) (f : V → M) (decoding : C → Decoding M) (first now after old new : Option (List ℕ)) (n m : ℕ) (end : BatchEnd) (before next : EngineKept C) (given : Given V) (kept : List ℕ)
+    → (next.catalog ≡ before.catalog) × (next.config ≡ before.config)
+    → Progress (λ records said. HasSaid text decoding records said before) first now old new n kept → (r : RunsBatch f decoding now after n m end before next given)
+    → Progress (λ records said. HasSaid text decoding records said next) first r.reads.here old new m (kept ++ all_lines (text next.catalog) f given (length next.statuses))
+batch_more text f decoding first now after old new n m end before next given kept same p r =
+    let out = kept ++ all_lines (text next.catalog) f given (length next.statuses) in
+    let then_said : List (List ℕ) → List ℕ → Type 0 = λ records said. HasSaid text decoding records said next in
+    let more = many_more (λ records said. HasSaid text decoding records said before) then_said first now r.reads.here old new n kept out r.batch p r.reads.read r.reads.each (says_given text f decoding before next r.batch given n kept same r.stands r.gives) in
+    subst (λ k. Progress then_said first r.reads.here old new k out) (sym r.reads.count) more
+
+-- what the batch gave is by place
+pub batch_by_place : {C V M : Type 0} (text : C → M → List ℕ) (f : V → M) (decoding : C → Decoding M) (first now after old new : Option (List ℕ)) (n m : ℕ) (end : BatchEnd) (before next : EngineKept C) (given : Given V) (kept : List ℕ)
+    → Progress (λ records said. HasSaid text decoding records said before) first now old new n kept → RunsBatch f decoding now after n m end before next given → AreByPlace f given
+batch_by_place text f decoding first now after old new n m end before next given kept p r =
+    by_place f (run_by decoding before p.records) (run_by decoding before (p.records ++ r.batch)) given (r.gives p.records p.says.stands)
+
+-- and are on their way to the writer
+pub batch_printed : {C V M : Type 0} (text : C → M → List ℕ) (f : V → M) (decoding : C → Decoding M) (first now after old mid new : Option (List ℕ)) (n m : ℕ) (end : BatchEnd) (before next final : EngineKept C) (given : Given V) (kept left : List ℕ)
+    → (next.catalog ≡ before.catalog) × (next.config ≡ before.config) → final ≡ next
+    → Progress (λ records said. HasSaid text decoding records said before) first now old mid n kept → (r : RunsBatch f decoding now after n m end before next given)
+    → Moves mid new (kept ++ all_lines (text next.catalog) f given (length next.statuses)) left
+    → Progress (λ records said. HasSaid text decoding records said final) first r.reads.here old new m left
+batch_printed text f decoding first now after old mid new n m end before next final given kept left same is p r printed =
+    let out = kept ++ all_lines (text next.catalog) f given (length next.statuses) in
+    let more = moved (λ records said. HasSaid text decoding records said next) first r.reads.here old mid new m out left (batch_more text f decoding first now after old mid n m end before next given kept same p r) printed in
+    subst (λ e. Progress (λ records said. HasSaid text decoding records said e) first r.reads.here old new m left) (sym is) more
+
+-- how the batch ended
+pub after_more : (before after : Option (List ℕ)) (n m : ℕ) (batch : List (List ℕ)) (end : BatchEnd) (r : ReadsBatch before after n m batch end) → end ≡ More → (after ≡ r.here) × (n < m)
+after_more before after n m batch More r e = (r.ends.1, omega (arith, r.count, r.ends.0))
+after_more before after n m batch End r e = absurd (let bad : End ≡ More = e in cc)
+after_more before after n m batch (Fault fault) r e = absurd (let bad : Fault fault ≡ More = e in cc)
+
+pub after_end : (before after : Option (List ℕ)) (n m : ℕ) (batch : List (List ℕ)) (end : BatchEnd) (r : ReadsBatch before after n m batch end) → end ≡ End → IsAtEnd r.here
+after_end before after n m batch More r e = absurd (let bad : More ≡ End = e in cc)
+after_end before after n m batch End r e = r.ends
+after_end before after n m batch (Fault fault) r e = absurd (let bad : Fault fault ≡ End = e in cc)
+
+pub after_fault : (before after : Option (List ℕ)) (n m : ℕ) (batch : List (List ℕ)) (fault : RunFault) (end : BatchEnd) (r : ReadsBatch before after n m batch end) → end ≡ Fault fault → FaultHere fault m r.here after
+after_fault before after n m batch fault More r e = absurd (let bad : More ≡ Fault fault = e in cc)
+after_fault before after n m batch fault End r e = absurd (let bad : End ≡ Fault fault = e in cc)
+after_fault before after n m batch fault (Fault other) r e = subst (λ f. FaultHere f m r.here after) (same other fault e) r.ends
+  where
+    same : (a b : RunFault) → Fault a ≡ Fault b → a ≡ b
+    same a b e = ap (λ f. fault_or f a) e
+      where
+        fault_or : BatchEnd → RunFault → RunFault
+        fault_or (Fault f) d = f
+        fault_or More d = d
+        fault_or End d = d
+
+-- records have the length that a batch takes
+pub all_fit : (datagrams : List (Bor (List ℕ))) (records : List (List ℕ)) → map (λ (d : Bor (List ℕ)). d.now) datagrams ≡ records
+    → AllByRecursion IsRecord records → All (λ (d : Bor (List ℕ)). length d.now ≤ 65507) datagrams
+all_fit datagrams records e each = All-from_recursion (λ (d : Bor (List ℕ)). length d.now ≤ 65507) datagrams (fits datagrams (subst (AllByRecursion IsRecord) (sym e) each))
+  where
+    fits : (ds : List (Bor (List ℕ))) → AllByRecursion IsRecord (map (λ (d : Bor (List ℕ)). d.now) ds) → AllByRecursion (λ (d : Bor (List ℕ)). length d.now ≤ 65507) ds
+    fits [] h = tt
+    fits (d ∷ ds) h = (h.0, fits ds h.1)

@@ -1,0 +1,229 @@
+-- What is printed of a batch at one place after the other.
+use Rattle.std.proofs.Common.{◌≡◌, ℕ, zero, suc, ◌+◌, ◌<◌, ◌≤◌, List, [], ◌∷◌, ◌++◌, Bool, true, false, arith, refl, subst, sym, ap, ◌∙◌, map, length, drop, get_or, append_assoc, append-nil, add-zero, nat_lt, if◌then◌else◌, not, take, set}
+use Rattle.std.proofs.lemmas.Grind.{drop_more_same, flat_map-append}
+use Rattle.std.proofs.lemmas.List.{drop_more, drop-set-lt, length-set, map-append, take_more, take_more_set}
+use Rattle.std.proofs.lemmas.Bool.Decides.{nat_tests}
+use Rattle.rtps_types.specs.declared.place.Place.{Place}
+use Rattle.rtps_reader.specs.declared.notice.Notice.{Notice}
+use Rattle.std.specs.declared.alloc.Global.{Global}
+use Rattle.rtps_reader.specs.declared.notice.Output.{Output}
+use Rattle.rtps_reader.specs.Notices.{answer_view, notice_view}
+use Rattle.rtps_serial.specs.World.{Hears}
+use Rattle.rtps_planner.specs.Commuting.{Parts, same_place}
+use Rattle.rtps_text.specs.Replayed.{put_lines}
+use Rattle.rtps_proxy.specs.Replies.{Sent}
+use Rattle.rtps_serial.specs.declared.outcome.Answer.{Answer}
+use Rattle.dds_participant.specs.Given.{parts_given, said_view, sent_in, told_in}
+use Rattle.dds_participant.specs.declared.given.Given.{Given}
+use Rattle.rtps_text.specs.Slices.{answer_lines, cursor_after, first_answers, first_notices, lists_after, lists_lines, next_said, part_lines, parts_lines, places_lines}
+use Rattle.rtps_text.specs.declared.slices.Cursor.{Cursor}
+use Rattle.rtps_text.specs.Told.{heard_line}
+
+pub is_other : (b r : Bool) → r ≡ not b → r ≡ true → b ≡ false
+is_other true r e t = absurd (let bad : false ≡ true = sym e ∙ t in cc)
+is_other false r e t = refl
+
+pub is_same : (b r : Bool) → r ≡ not b → r ≡ false → b ≡ true
+is_same true r e f = refl
+is_same false r e f = absurd (let bad : true ≡ false = sym e ∙ f in cc)
+
+-- the next notice is at another place
+pub notices_stop : {V M : Type 0} (f : V → M) (place : Place) (ns : List (Notice V)) (i : ℕ) (n : Notice V) → i < length ns → n ≡ get_or ns i n
+    → same_place n.place place ≡ false → first_notices place (map (notice_view f) (drop i ns)) ≡ []
+notices_stop f place ns i n below here other =
+    ap (λ l. first_notices place (map (notice_view f) l)) (drop_more ns i n below ∙ ap (λ m. m ∷ drop (i + 1) ns) (sym here))
+    ∙ ap (λ b. if b then notice_view f n ∷ first_notices place (map (notice_view f) (drop (i + 1) ns)) else []) other
+
+-- it is at this one
+pub notices_more : {V M : Type 0} (f : V → M) (place : Place) (ns : List (Notice V)) (i : ℕ) (n : Notice V) → i < length ns → n ≡ get_or ns i n
+    → same_place n.place place ≡ true
+    → first_notices place (map (notice_view f) (drop i ns)) ≡ notice_view f n ∷ first_notices place (map (notice_view f) (drop (i + 1) ns))
+notices_more f place ns i n below here same =
+    ap (λ l. first_notices place (map (notice_view f) l)) (drop_more ns i n below ∙ ap (λ m. m ∷ drop (i + 1) ns) (sym here))
+    ∙ ap (λ b. if b then notice_view f n ∷ first_notices place (map (notice_view f) (drop (i + 1) ns)) else []) same
+
+-- one line more
+pub line_more : {M : Type 0} (text : M → List ℕ) (rank : ℕ) (n : Notice M) (first rest whole : List (Notice M)) (old now out : List ℕ)
+    → first ≡ n ∷ rest → out ≡ now ++ heard_line text rank n
+    → now ++ put_lines text (map (Hears rank) first) ≡ old ++ put_lines text (map (Hears rank) whole)
+    → out ++ put_lines text (map (Hears rank) rest) ≡ old ++ put_lines text (map (Hears rank) whole)
+line_more text rank n first rest whole old now out e put so_far =
+    ap (λ l. l ++ put_lines text (map (Hears rank) rest)) put
+    ∙ append_assoc now (heard_line text rank n) (put_lines text (map (Hears rank) rest))
+    ∙ ap (λ l. now ++ put_lines text (map (Hears rank) l)) (sym e) ∙ so_far
+
+-- no line is left
+pub lines_stop : {M : Type 0} (text : M → List ℕ) (rank : ℕ) (first whole : List (Notice M)) (old now : List ℕ)
+    → first ≡ [] → now ++ put_lines text (map (Hears rank) first) ≡ old ++ put_lines text (map (Hears rank) whole)
+    → now ≡ old ++ put_lines text (map (Hears rank) whole)
+lines_stop text rank first whole old now e so_far =
+    sym (append-nil now) ∙ ap (λ l. now ++ put_lines text (map (Hears rank) l)) (sym e) ∙ so_far
+
+drop-mapped : {X Y : Type 0} (f : X → Y) (n : ℕ) (xs : List X) → map f (drop n xs) ≡ drop n (map f xs)
+drop-mapped f zero xs = refl
+drop-mapped f (suc n) [] = refl
+drop-mapped f (suc n) (x ∷ xs) = drop-mapped f n xs
+
+-- the lines of one reader's notices, and then those of its answers
+pub both_lines : {V M X : Type 0} (f : V → M) (g : X → Place × Sent) (text : M → List ℕ) (c : Cursor) (place : Place) (ns left : List (Notice V)) (xs rest : List X) (old mid out : List ℕ)
+    → left ≡ drop c.notices ns → rest ≡ drop c.answers xs
+    → mid ≡ old ++ put_lines text (map (Hears c.rank) (first_notices place (map (notice_view f) left)))
+    → out ≡ mid ++ answer_lines (first_answers place (map g rest))
+    → out ≡ old ++ lists_lines text (map (notice_view f) ns) (map g xs) place c
+both_lines f g text c place ns left xs rest old mid out front more notices answers =
+    let told = put_lines text (map (Hears c.rank) (first_notices place (drop c.notices (map (notice_view f) ns)))) in
+    let sent = answer_lines (first_answers place (drop c.answers (map g xs))) in
+    answers ∙ ap (λ l. mid ++ answer_lines (first_answers place l)) (ap (map g) more ∙ drop-mapped g c.answers xs)
+    ∙ ap (λ l. l ++ sent) (notices ∙ ap (λ l. old ++ put_lines text (map (Hears c.rank) (first_notices place l))) (ap (map (notice_view f)) front ∙ drop-mapped (notice_view f) c.notices ns))
+    ∙ append_assoc old told sent
+
+pub both_after : {V M X : Type 0} (f : V → M) (g : X → Place × Sent) (c : Cursor) (place : Place) (ns left : List (Notice V)) (xs rest : List X) (m n : ℕ)
+    → left ≡ drop c.notices ns → rest ≡ drop c.answers xs
+    → m ≡ length (first_notices place (map (notice_view f) left))
+    → n ≡ length (first_answers place (map g rest))
+    → record { rank = c.rank; notices = c.notices + m; answers = c.answers + n } ≡ lists_after (map (notice_view f) ns) (map g xs) place c
+both_after f g c place ns left xs rest m n front more told sent =
+    let t = told ∙ ap (λ l. length (first_notices place l)) (ap (map (notice_view f)) front ∙ drop-mapped (notice_view f) c.notices ns) in
+    let s = sent ∙ ap (λ l. length (first_answers place l)) (ap (map g) more ∙ drop-mapped g c.answers xs) in
+    after c c.rank t s
+  where
+    after : (c : Cursor) (rank : ℕ) → {a b x y : ℕ} → a ≡ b → x ≡ y
+        → ◌≡◌ {A = Cursor} (record { rank = rank; notices = c.notices + a; answers = c.answers + x }) (record { rank = rank; notices = c.notices + b; answers = c.answers + y })
+    after c rank e h = rw e (rw h refl)
+
+-- ---- the reader of a rank
+
+pub told_some : {V M : Type 0} (f : V → M) (outputs : List (Output V Global)) (rank : ℕ) (o : Output V Global) → rank < length outputs → o ≡ get_or outputs rank o
+    → told_in f outputs rank ≡ map (notice_view f) o.notices.items
+told_some f [] rank o below e = absurd (omega (arith, below))
+told_some f (x ∷ outputs) zero o below e = ap (λ (p : Output _ Global). map (notice_view f) p.notices.items) (sym e)
+told_some f (x ∷ outputs) (suc rank) o below e = told_some f outputs rank o (omega (arith, below)) e
+
+pub sent_some : {V : Type 0} (outputs : List (Output V Global)) (rank : ℕ) (o : Output V Global) → rank < length outputs → o ≡ get_or outputs rank o
+    → sent_in outputs rank ≡ map answer_view o.answers.items
+sent_some [] rank o below e = absurd (omega (arith, below))
+sent_some (x ∷ outputs) zero o below e = ap (λ (p : Output _ Global). map answer_view p.answers.items) (sym e)
+sent_some (x ∷ outputs) (suc rank) o below e = sent_some outputs rank o (omega (arith, below)) e
+
+pub told_none : {V M : Type 0} (f : V → M) (outputs : List (Output V Global)) (rank : ℕ) → length outputs ≤ rank → told_in f outputs rank ≡ []
+told_none f [] rank past = refl
+told_none f (x ∷ outputs) zero past = absurd (omega (arith, past))
+told_none f (x ∷ outputs) (suc rank) past = told_none f outputs rank (omega (arith, past))
+
+pub sent_none : {V : Type 0} (outputs : List (Output V Global)) (rank : ℕ) → length outputs ≤ rank → sent_in outputs rank ≡ []
+sent_none [] rank past = refl
+sent_none (x ∷ outputs) zero past = absurd (omega (arith, past))
+sent_none (x ∷ outputs) (suc rank) past = sent_none outputs rank (omega (arith, past))
+
+-- its lines are those of its output
+pub part_some : {V M : Type 0} (f : V → M) (text : M → List ℕ) (given : Given V) (place : Place) (c : Cursor) (outputs : List (Output V Global)) (o : Output V Global)
+    → outputs ≡ given.outputs.items → true ≡ nat_lt c.rank (length outputs) → o ≡ get_or outputs c.rank o
+    → (lists_lines text (map (notice_view f) o.notices.items) (map answer_view o.answers.items) place c ≡ part_lines text (parts_given f given) place c)
+    × (lists_after (map (notice_view f) o.notices.items) (map answer_view o.answers.items) place c ≡ cursor_after (parts_given f given) place c)
+part_some f text given place c outputs o same test e =
+    let below : c.rank < length outputs = grind (arith, nat_tests) in
+    let told = sym (ap (λ l. told_in f l c.rank) (sym same) ∙ told_some f outputs c.rank o below e) in
+    let sent = sym (ap (λ l. sent_in l c.rank) (sym same) ∙ sent_some outputs c.rank o below e) in (
+      ap (λ l. lists_lines text l (map answer_view o.answers.items) place c) told ∙ ap (λ l. lists_lines text (told_in f given.outputs.items c.rank) l place c) sent,
+      ap (λ l. lists_after l (map answer_view o.answers.items) place c) told ∙ ap (λ l. lists_after (told_in f given.outputs.items c.rank) l place c) sent,
+    )
+
+abbrev nil : {X : Type 0} → List X
+nil = []
+
+drop-none : {X : Type 0} (n : ℕ) → drop n (nil {X = X}) ≡ []
+drop-none zero = refl
+drop-none (suc n) = refl
+
+nothing_left : {M : Type 0} (text : M → List ℕ) (place : Place) (c : Cursor) → (lists_lines text (nil {X = Notice M}) nil place c ≡ []) × (lists_after (nil {X = Notice M}) nil place c ≡ c)
+nothing_left {M} text place c =
+    let told : first_notices place (drop c.notices (nil {X = Notice M})) ≡ [] = ap (first_notices place) (drop-none c.notices) in
+    let sent : first_answers place (drop c.answers (nil {X = Place × Sent})) ≡ [] = ap (first_answers place) (drop-none c.answers) in (
+      ap (λ l. put_lines text (map (Hears c.rank) l) ++ answer_lines (first_answers place (drop c.answers (nil {X = Place × Sent})))) told ∙ ap answer_lines sent,
+      after c (ap (λ l. c.notices + length l) told ∙ add-zero c.notices) (ap (λ l. c.answers + length l) sent ∙ add-zero c.answers),
+    )
+  where
+    after : (c : Cursor) {a b : ℕ} → a ≡ c.notices → b ≡ c.answers → ◌≡◌ {A = Cursor} (record { rank = c.rank; notices = a; answers = b }) c
+    after c e h = rw e (rw h refl)
+
+-- where there is no such reader, nothing is printed
+pub part_none : {V M : Type 0} (f : V → M) (text : M → List ℕ) (given : Given V) (place : Place) (c : Cursor) (outputs : List (Output V Global)) (out : List ℕ)
+    → outputs ≡ given.outputs.items → false ≡ nat_lt c.rank (length outputs)
+    → (out ≡ out ++ part_lines text (parts_given f given) place c) × (c ≡ cursor_after (parts_given f given) place c)
+part_none {V} {M} f text given place c outputs out same test =
+    let past : length outputs ≤ c.rank = grind (arith, nat_tests) in
+    let told = sym (ap (λ l. told_in f l c.rank) (sym same) ∙ told_none f outputs c.rank past) in
+    let sent = sym (ap (λ l. sent_in l c.rank) (sym same) ∙ sent_none outputs c.rank past) in
+    let none = nothing_left text place c in (
+      sym (append-nil out) ∙ ap (λ l. out ++ l) (sym none.0 ∙ ap (λ l. lists_lines text l (nil {X = Place × Sent}) place c) told ∙ ap (λ l. lists_lines text (told_in f given.outputs.items c.rank) l place c) sent),
+      sym none.1 ∙ ap (λ l. lists_after l (nil {X = Place × Sent}) place c) told ∙ ap (λ l. lists_after (told_in f given.outputs.items c.rank) l place c) sent,
+    )
+
+-- ---- all readers
+
+-- the first so many cursors were moved, and the others are as they were
+pub record AreMoved {M : Type 0} (parts : Parts M) (place : Place) (whole cursors : List Cursor) (i : ℕ) : Type 0 where
+  pub count : length cursors ≡ length whole
+  pub front : take i cursors ≡ map (cursor_after parts place) (take i whole)
+  pub back : drop i cursors ≡ drop i whole
+
+same_head : {X : Type 0} {x y : X} {xs ys : List X} → x ∷ xs ≡ y ∷ ys → x ≡ y
+same_head {x = x} e = ap (λ l. get_or l 0 x) e
+
+-- one more is moved
+pub moved_more : {M : Type 0} (parts : Parts M) (place : Place) (whole cursors : List Cursor) (i : ℕ) (c after : Cursor)
+    → i < length cursors → c ≡ get_or cursors i c → after ≡ cursor_after parts place c → AreMoved parts place whole cursors i
+    → AreMoved parts place whole (set cursors i after) (i + 1)
+moved_more parts place whole cursors i c after below here moved so_far =
+    let within : i < length whole = subst (λ k. i < k) so_far.count below in
+    let heads : get_or cursors i c ≡ get_or whole i c = same_head (sym (drop_more cursors i c below) ∙ so_far.back ∙ drop_more whole i c within) in
+    let this : after ≡ cursor_after parts place (get_or whole i c) = moved ∙ ap (cursor_after parts place) (here ∙ heads) in
+    let past : i < i + 1 = omega arith in
+    record {
+      count = length-set cursors i after ∙ so_far.count;
+      front = take_more_set cursors i after below ∙ ap (λ l. l ++ after ∷ []) so_far.front
+          ∙ ap (λ d. map (cursor_after parts place) (take i whole) ++ d ∷ []) this
+          ∙ sym (map-append (cursor_after parts place) (take i whole) (get_or whole i c ∷ []))
+          ∙ ap (map (cursor_after parts place)) (sym (take_more whole i c within));
+      back = drop-set-lt (i + 1) cursors i after past ∙ drop_more_same cursors whole i so_far.back;
+    }
+
+-- and its lines were added
+pub parts_more : {M : Type 0} (text : M → List ℕ) (parts : Parts M) (place : Place) (whole cursors : List Cursor) (i : ℕ) (c : Cursor) (old said now out : List ℕ)
+    → i < length cursors → c ≡ get_or cursors i c → AreMoved parts place whole cursors i
+    → now ≡ old ++ (said ++ parts_lines text parts place (take i whole)) → out ≡ now ++ part_lines text parts place c
+    → out ≡ old ++ (said ++ parts_lines text parts place (take (i + 1) whole))
+parts_more text parts place whole cursors i c old said now out below here so_far lines more =
+    let within : i < length whole = subst (λ k. i < k) so_far.count below in
+    let heads : get_or cursors i c ≡ get_or whole i c = same_head (sym (drop_more cursors i c below) ∙ so_far.back ∙ drop_more whole i c within) in
+    let before = parts_lines text parts place (take i whole) in
+    let next = part_lines text parts place (get_or whole i c) in
+    more ∙ ap (λ l. l ++ part_lines text parts place c) lines ∙ ap (λ d. (old ++ (said ++ before)) ++ part_lines text parts place d) (here ∙ heads)
+    ∙ append_assoc old (said ++ before) next ∙ ap (λ l. old ++ l) (append_assoc said before next)
+    ∙ ap (λ l. old ++ (said ++ (before ++ l))) (sym (append-nil next))
+    ∙ ap (λ l. old ++ (said ++ l)) (sym (flat_map-append (part_lines text parts place) (take i whole) (get_or whole i c ∷ [])))
+    ∙ ap (λ l. old ++ (said ++ parts_lines text parts place l)) (sym (take_more whole i c within))
+
+-- discovery's answer comes first
+pub said_first : {M : Type 0} (text : M → List ℕ) (parts : Parts M) (place : Place) (said n : ℕ) (answers left : List (Answer Global)) (readers : List Cursor) (old out : List ℕ)
+    → map said_view answers ≡ parts.answers → left ≡ drop said answers → n ≡ length (first_answers place (map said_view left))
+    → out ≡ old ++ answer_lines (first_answers place (map said_view left))
+    → (said + n ≡ said + length (next_said parts place said)) × AreMoved parts place readers readers 0
+    × (out ≡ old ++ (answer_lines (next_said parts place said) ++ parts_lines text parts place (take 0 readers)))
+said_first text parts place said n answers left readers old out whole front count lines =
+    let next : first_answers place (map said_view left) ≡ next_said parts place said = ap (first_answers place) (ap (map said_view) front ∙ drop-mapped said_view said answers ∙ ap (drop said) whole) in (
+      ap (λ k. said + k) (count ∙ ap length next),
+      record { count = refl; front = refl; back = refl },
+      lines ∙ ap (λ l. old ++ answer_lines l) next ∙ ap (λ l. old ++ l) (sym (append-nil (answer_lines (next_said parts place said)))),
+    )
+
+-- the lines of one place more
+pub place_more : {M : Type 0} (text : M → List ℕ) (parts : Parts M) (places : List Place) (i : ℕ) (p : Place) (said said' : ℕ) (readers readers' : List Cursor)
+    → i < length places → p ≡ get_or places i p → said' ≡ said + length (next_said parts p said) → readers' ≡ map (cursor_after parts p) readers
+    → places_lines text parts (drop i places) said readers
+    ≡ (answer_lines (next_said parts p said) ++ parts_lines text parts p readers) ++ places_lines text parts (drop (i + 1) places) said' readers'
+place_more text parts places i p said said' readers readers' below here s r =
+    let lines = answer_lines (next_said parts p said) ++ parts_lines text parts p readers in
+    ap (λ l. places_lines text parts l said readers) (drop_more places i p below ∙ ap (λ q. q ∷ drop (i + 1) places) (sym here))
+    ∙ ap (λ k. lines ++ places_lines text parts (drop (i + 1) places) k (map (cursor_after parts p) readers)) (sym s)
+    ∙ ap (λ l. lines ++ places_lines text parts (drop (i + 1) places) said' l) (sym r)

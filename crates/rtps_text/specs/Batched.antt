@@ -1,0 +1,27 @@
+-- One batch of a run.
+use Rattle.std.specs.Prelude.{◌≡◌, ℕ, List, ◌++◌, Option}
+use Rattle.rtps_records.specs.Batches.{ReadsBatch}
+use Rattle.rtps_records.specs.declared.batch_end.BatchEnd.{BatchEnd}
+use Rattle.dds_topic.specs.Decoding.{Decoding}
+use Rattle.rtps_serial.specs.Standing.{EngineKept, StandsAt, run_by}
+use Rattle.dds_participant.specs.Given.{IsGiven}
+use Rattle.dds_participant.specs.declared.given.Given.{Given}
+use Rattle.rtps_text.specs.declared.running.RunLines.{RunLines}
+
+-- a run goes on with its catalog and configuration, and prints the same things
+pub record IsSameRun {C V U : Type 0} (old new : RunLines C V U) : Type 0 where
+  pub catalog : new.participant.engine.catalog ≡ old.participant.engine.catalog
+  pub config : new.participant.engine.config ≡ old.participant.engine.config
+  pub summary : new.summary ≡ old.summary
+  pub pace : new.pace ≡ old.pace
+
+-- after n records a batch of them was read, which makes them m, and this is what an engine gave of it
+pub record RunsBatch {C V M : Type 0} (f : V → M) (decoding : C → Decoding M)
+    (before after : Option (List ℕ)) (n m : ℕ) (end : BatchEnd) (old new : EngineKept C)
+    (given : Given V) : Type 0 where
+  pub batch : List (List ℕ)
+  pub reads : ReadsBatch before after n m batch end
+  pub stands : (records : List (List ℕ)) → StandsAt decoding records old
+      → StandsAt decoding (records ++ batch) new
+  pub gives : (records : List (List ℕ)) → StandsAt decoding records old
+      → IsGiven f (run_by decoding old records) (run_by decoding old (records ++ batch)) given

@@ -1,0 +1,73 @@
+//! The lines of a batch, on their way to a writer.
+
+ghost use Rattle.std.specs.Prelude.{◌≡◌, ◌⊎◌, ◌++◌, IfErr, List, OnErr, OnOk, ℕ};
+ghost use Rattle.rtps_records.specs.Runs.{Moves, PutsFront};
+ghost use Rattle.rtps_records.specs.declared.fault.RunFault.TheVariants.{CannotWrite, NoMemory};
+ghost use Rattle.dds_participant.specs.Given.{parts_given};
+ghost use Rattle.rtps_text.specs.Slices.{AreTexts, places_lines};
+
+use crate::last_line::LastLine;
+use crate::slices::Cursors;
+use dds_participant::Given;
+use dds_topic::TextCatalog;
+use rtps_records::{Lines, RunFault};
+use std::alloc::{AllocError, Allocator, Global};
+use std::io::Write;
+
+/// Adds the lines of what a batch gave, place by place, and writes them as they fill. The cursors
+/// say how much of it was printed before.
+///
+/// `CannotWrite` where a write fails, and `NoMemory`; a front of the lines may have been written
+/// then.
+pub(crate) fn print_places<C: TextCatalog, W: Write, B: Allocator + Copy>(
+    lines: &mut Lines<'_, W>,
+    last: &mut LastLine<B>,
+    catalog: &C,
+    given: &Given<C::Value>,
+    cursors: &mut Cursors,
+) -> Result<(), RunFault>
+    ensures same_writer { lines.new.writer.ghost_name ≡ lines.old.writer.ghost_name }
+    ensures ok { OnOk result (Moves
+        (W.contents lines.old.writer.now) (W.contents lines.new.writer.now)
+        (lines.old.text.items ++ places_lines (C.text_of catalog.now)
+        (parts_given C.view given.now) given.now.places.items
+        cursors.old.said cursors.old.readers.items)
+        lines.new.text.items) }
+    ensures fault { IfErr result (λ fault. (fault ≡ CannotWrite) ⊎ (fault ≡ NoMemory)) }
+    ensures front { OnErr result (PutsFront
+        (W.contents lines.old.writer.now) (W.contents lines.new.writer.now)
+        (lines.old.text.items ++ places_lines (C.text_of catalog.now)
+        (parts_given C.view given.now) given.now.places.items
+        cursors.old.said cursors.old.readers.items)) }
+{
+    for place in &given.places {
+        cursors.push_place(&mut lines.text, last, catalog, given, *place)?;
+        lines.write_if_full()?;
+    }
+    Ok(())
+}
+
+/// Adds texts, one after the other, and writes them as they fill.
+///
+/// `CannotWrite` where a write fails, and `NoMemory`, also where there was none for a text; a front
+/// of the texts may have been written then.
+pub(crate) fn print_texts<W: Write>(
+    lines: &mut Lines<'_, W>,
+    texts: Vec<Result<Vec<u8>, AllocError>>,
+) -> Result<(), RunFault>
+    ensures same_writer { lines.new.writer.ghost_name ≡ lines.old.writer.ghost_name }
+    ensures ok { (whole : List ℕ) → AreTexts texts.items whole → OnOk result (Moves
+        (W.contents lines.old.writer.now) (W.contents lines.new.writer.now)
+        (lines.old.text.items ++ whole) lines.new.text.items) }
+    ensures fault { IfErr result (λ fault. (fault ≡ CannotWrite) ⊎ (fault ≡ NoMemory)) }
+    ensures front { (whole : List ℕ) → AreTexts texts.items whole → OnErr result (PutsFront
+        (W.contents lines.old.writer.now) (W.contents lines.new.writer.now)
+        (lines.old.text.items ++ whole)) }
+{
+    for made in texts {
+        let mut text = made?;
+        lines.text.append(&mut text)?;
+        lines.write_if_full()?;
+    }
+    Ok(())
+}

@@ -1,0 +1,236 @@
+//! A run in batches, and the lines of what they give.
+
+ghost use Rattle.std.specs.Prelude.{◌≡◌, ◌≤◌, ◌⊎◌, ◌++◌, [], All, IfErr, IfOk, List, OnErr, OnOk, length, map, ℕ};
+ghost use Rattle.rtps_records.specs.Runs.{Closes, ClosesNot, Moves, PutsFront};
+ghost use Rattle.rtps_records.specs.Text.{Ends};
+ghost use Rattle.rtps_records.specs.declared.fault.RunFault.TheVariants.{CannotWrite, NoMemory};
+ghost use Rattle.rtps_serial.specs.Standing.{StandsAt, run_by};
+ghost use Rattle.dds_participant.specs.Given.{IsGiven};
+ghost use Rattle.rtps_text.specs.Replayed.{HasSaid, text_by};
+ghost use Rattle.rtps_text.specs.Slices.{AreByPlace, all_lines};
+
+use crate::closing::push_summary;
+use crate::last_line::LastLine;
+use crate::printing::{print_places, print_texts};
+use crate::setup::{Pace, Setup};
+use crate::slices::Cursors;
+use crate::spelling::Spelling;
+use dds_participant::{Given, Participant, Workers};
+use dds_topic::TextCatalog;
+use rtps_records::{Lines, RunFault};
+use rtps_shards::NoGate;
+use std::alloc::{AllocError, Allocator, Global};
+use std::io::Write;
+use std::thread::Threads;
+
+/// As many steps make one more worker worth its start, counting one for each datagram and reader.
+const STEPS: usize = 1_024;
+
+/// A participant whose run is printed.
+#[derive(Drop)]
+pub(crate) struct RunLines<C: TextCatalog> {
+    pub participant: Participant<C>,
+    /// What the last batch gave.
+    pub given: Given<C::Value>,
+    /// What the last line began with.
+    pub last: LastLine,
+    /// Where what a batch gives is kept while it is printed.
+    pub alloc: Global,
+    /// How the run is cut, and shared among workers.
+    pub pace: Pace,
+    /// Whether matches and statuses are printed after the last record.
+    pub summary: bool,
+}
+
+/// How many of these workers run or print so many datagrams or places for so many readers.
+fn workers_for(workers: u8, datagrams: usize, readers: u32) -> usize
+    requires { (1 ≤ workers) × (workers ≤ 64) }
+    ensures { (1 ≤ result) × (result ≤ 64) }
+{
+    let steps = datagrams.saturating_mul(readers as usize);
+    (steps / STEPS).min(workers as usize).max(1)
+}
+
+impl<C: TextCatalog> RunLines<C>
+where
+    C::Value: Sync,
+{
+    /// No datagram was taken, and nothing was printed.
+    pub(crate) fn new(alloc: Global, setup: Setup<C>) -> Result<RunLines<C>, AllocError>
+        ensures same { IfOk result (λ run. (run.participant.engine.catalog ≡ setup.catalog) ×
+            (run.participant.engine.config ≡ setup.config) × (run.summary ≡ setup.summary)) }
+        ensures fresh { IfOk result (λ run.
+            HasSaid C.text_of C.decoding [] [] run.participant.engine) }
+    {
+        let Setup {
+            config,
+            catalog,
+            summary,
+            pace,
+        } = setup;
+        let Ok(participant) = Participant::new(alloc, config, catalog) else {
+            return Err(AllocError);
+        };
+        Ok(RunLines {
+            participant,
+            given: Given::new(alloc),
+            last: LastLine::none(alloc),
+            alloc,
+            pace,
+            summary,
+        })
+    }
+
+    /// Gives the participant the datagrams of a batch.
+    pub(crate) fn take<T: Threads + Sync>(
+        &mut self,
+        rt: &T,
+        datagrams: &[&[u8]],
+    ) -> Result<(), AllocError>
+        requires few { length datagrams.now ≤ 4096 }
+        requires fit { All (λ d. length d.now ≤ 65507) datagrams.now }
+        ensures same { (self.new.participant.engine.catalog ≡ self.old.participant.engine.catalog)
+            × (self.new.participant.engine.config ≡ self.old.participant.engine.config)
+            × (self.new.summary ≡ self.old.summary) × (self.new.pace ≡ self.old.pace) }
+        ensures stands { (earlier : List (List ℕ))
+            → StandsAt C.decoding earlier self.old.participant.engine → OnOk result
+            (StandsAt C.decoding (earlier ++ map (λ d. d.now) datagrams.now)
+            self.new.participant.engine) }
+        ensures gives { (earlier : List (List ℕ))
+            → StandsAt C.decoding earlier self.old.participant.engine → OnOk result
+            (IsGiven C.view (run_by C.decoding self.old.participant.engine earlier)
+            (run_by C.decoding self.old.participant.engine
+            (earlier ++ map (λ d. d.now) datagrams.now)) self.new.given) }
+    {
+        let readers = self.participant.readers();
+        let workers = Workers {
+            count: workers_for(self.pace.workers, datagrams.len(), readers),
+            gate: &NoGate,
+        };
+        match self
+            .participant
+            .run_in_order(rt, self.alloc, &workers, datagrams, &mut self.given)
+        {
+            Ok(()) => Ok(()),
+            Err(_) => Err(AllocError),
+        }
+    }
+
+    /// Prints what the last batch gave.
+    pub(crate) fn print<W: Write, T: Threads + Sync>(
+        &mut self,
+        rt: &T,
+        lines: &mut Lines<'_, W>,
+    ) -> Result<(), RunFault>
+        ensures same { (self.new.participant ≡ self.old.participant)
+            × (self.new.summary ≡ self.old.summary) × (self.new.pace ≡ self.old.pace) }
+        ensures same_writer { lines.new.writer.ghost_name ≡ lines.old.writer.ghost_name }
+        ensures ok { AreByPlace C.view self.old.given → OnOk result (Moves
+            (W.contents lines.old.writer.now) (W.contents lines.new.writer.now)
+            (lines.old.text.items ++ all_lines (C.text_of self.old.participant.engine.catalog)
+            C.view self.old.given (length self.old.participant.engine.statuses))
+            lines.new.text.items) }
+        ensures fault { IfErr result (λ fault. (fault ≡ CannotWrite) ⊎ (fault ≡ NoMemory)) }
+        ensures front { AreByPlace C.view self.old.given → OnErr result (PutsFront
+            (W.contents lines.old.writer.now) (W.contents lines.new.writer.now)
+            (lines.old.text.items ++ all_lines (C.text_of self.old.participant.engine.catalog)
+            C.view self.old.given (length self.old.participant.engine.statuses))) }
+    {
+        let readers = self.participant.readers();
+        let workers = workers_for(self.pace.workers, self.given.places.len(), readers);
+        if workers > 1 {
+            self.print_shared(rt, workers, lines)
+        } else {
+            self.print_alone(lines)
+        }
+    }
+
+    /// Prints what the last batch gave, on this thread, and writes it as it fills.
+    fn print_alone<W: Write>(&mut self, lines: &mut Lines<'_, W>) -> Result<(), RunFault>
+        ensures same { (self.new.participant ≡ self.old.participant)
+            × (self.new.summary ≡ self.old.summary) × (self.new.pace ≡ self.old.pace) }
+        ensures same_writer { lines.new.writer.ghost_name ≡ lines.old.writer.ghost_name }
+        ensures ok { OnOk result (Moves
+            (W.contents lines.old.writer.now) (W.contents lines.new.writer.now)
+            (lines.old.text.items ++ all_lines (C.text_of self.old.participant.engine.catalog)
+            C.view self.old.given (length self.old.participant.engine.statuses))
+            lines.new.text.items) }
+        ensures fault { IfErr result (λ fault. (fault ≡ CannotWrite) ⊎ (fault ≡ NoMemory)) }
+        ensures front { OnErr result (PutsFront
+            (W.contents lines.old.writer.now) (W.contents lines.new.writer.now)
+            (lines.old.text.items ++ all_lines (C.text_of self.old.participant.engine.catalog)
+            C.view self.old.given (length self.old.participant.engine.statuses))) }
+    {
+        let mut cursors = Cursors::start(self.alloc, self.participant.readers())?;
+        print_places(
+            lines,
+            &mut self.last,
+            self.participant.catalog(),
+            &self.given,
+            &mut cursors,
+        )
+    }
+
+    /// Prints what the last batch gave, which workers spell.
+    fn print_shared<W: Write, T: Threads + Sync>(
+        &self,
+        rt: &T,
+        workers: usize,
+        lines: &mut Lines<'_, W>,
+    ) -> Result<(), RunFault>
+        requires { 1 ≤ workers }
+        ensures same_writer { lines.new.writer.ghost_name ≡ lines.old.writer.ghost_name }
+        ensures ok { AreByPlace C.view self.now.given → OnOk result (Moves
+            (W.contents lines.old.writer.now) (W.contents lines.new.writer.now)
+            (lines.old.text.items ++ all_lines (C.text_of self.now.participant.engine.catalog)
+            C.view self.now.given (length self.now.participant.engine.statuses))
+            lines.new.text.items) }
+        ensures fault { IfErr result (λ fault. (fault ≡ CannotWrite) ⊎ (fault ≡ NoMemory)) }
+        ensures front { AreByPlace C.view self.now.given → OnErr result (PutsFront
+            (W.contents lines.old.writer.now) (W.contents lines.new.writer.now)
+            (lines.old.text.items ++ all_lines (C.text_of self.now.participant.engine.catalog)
+            C.view self.now.given (length self.now.participant.engine.statuses))) }
+    {
+        let spelling = Spelling {
+            alloc: self.alloc,
+            catalog: self.participant.catalog(),
+            given: &self.given,
+            readers: self.participant.readers(),
+        };
+        print_texts(lines, spelling.texts(rt, workers)?)
+    }
+
+    /// Adds the summary where it is asked for.
+    fn finish<A: Allocator>(&self, out: &mut Vec<u8, A>) -> Result<(), AllocError>
+        ensures { OnOk result (Ends
+            (λ records said. HasSaid C.text_of C.decoding records said self.now.participant.engine)
+            (text_by C.text_of C.decoding self.now.participant.engine self.now.summary)
+            out.old.items out.new.items) }
+    {
+        if !self.summary {
+            return Ok(());
+        }
+        push_summary(out, self.alloc, &self.participant)
+    }
+
+    /// Adds the last lines, and closes the text.
+    pub(crate) fn close<A: Allocator, W: Write>(
+        &self,
+        lines: &mut Lines<'_, W, Vec<u8, A>>,
+    ) -> Result<(), RunFault>
+        ensures same_writer { lines.new.writer.ghost_name ≡ lines.old.writer.ghost_name }
+        ensures ok { OnOk result (Closes
+            (λ records said. HasSaid C.text_of C.decoding records said self.now.participant.engine)
+            (text_by C.text_of C.decoding self.now.participant.engine self.now.summary)
+            (W.contents lines.old.writer.now) (W.contents lines.new.writer.now)
+            lines.old.text.items) }
+        ensures fault { IfErr result (λ fault. ClosesNot fault
+            (λ records said. HasSaid C.text_of C.decoding records said self.now.participant.engine)
+            (text_by C.text_of C.decoding self.now.participant.engine self.now.summary)
+            (W.contents lines.old.writer.now) (W.contents lines.new.writer.now)
+            lines.old.text.items) }
+    {
+        self.finish(&mut lines.text)?;
+        lines.close()
+    }
+}

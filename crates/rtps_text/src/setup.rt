@@ -1,0 +1,32 @@
+//! What a run is set up with.
+
+ghost use Rattle.std.specs.Prelude.{◌≡◌, ◌≤◌, Ok};
+ghost use Rattle.rtps_discovery.specs.Config.{check_of};
+
+use rtps_discovery::Config;
+
+/// How a run is cut into batches, and how many workers share each. It changes how long the run
+/// takes, and nothing of its text.
+#[derive(Clone, Copy, Debug, PartialEq, Eq)]
+pub struct Pace {
+    /// The most datagrams of a batch, 1 to 4,096.
+    pub batch: u16,
+    /// The most workers, 1 to 64, of which the caller is one.
+    pub workers: u8,
+    ghost batched: { 1 ≤ batch },
+    ghost few: { batch ≤ 4096 },
+    ghost worked: { 1 ≤ workers },
+    ghost shared: { workers ≤ 64 },
+}
+
+/// Which readers a file is replayed to, and what is printed of them.
+#[derive(Drop)]
+pub struct Setup<C: Drop> {
+    pub config: Config,
+    pub catalog: C,
+    /// Whether matches and statuses are printed after the last record.
+    pub summary: bool,
+    /// How the run is cut and shared.
+    pub pace: Pace,
+    ghost checked: { check_of config ≡ Ok tt },
+}

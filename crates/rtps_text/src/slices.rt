@@ -1,0 +1,288 @@
+//! The lines of what a batch gave, place by place.
+
+ghost use Rattle.std.specs.Prelude.{◌≡◌, ◌+◌, ◌≤◌, ◌++◌, ◌∷◌, IfOk, List, OnOk, drop, filter, length, map, not};
+ghost use Rattle.std.specs.List.Sorted.{IsPartitionedBy};
+ghost use Rattle.rtps_reader.specs.Notices.{answer_view, notice_view};
+ghost use Rattle.rtps_serial.specs.World.{Hears};
+ghost use Rattle.dds_participant.specs.Given.{parts_given, said_view};
+ghost use Rattle.rtps_text.specs.Replayed.{put_lines};
+ghost use Rattle.rtps_text.specs.Slices.{AreByPlace, AreLeft, IsLeft, is_before, answer_lines, cursor_after, first_answers, first_notices, lists_after, lists_lines, next_said, part_lines, parts_lines, starts};
+
+use crate::answer::push_answer;
+use crate::last_line::LastLine;
+use crate::notice::push_notice;
+use dds_participant::Given;
+use dds_topic::TextCatalog;
+use rtps_reader::{Notice, Output};
+use rtps_serial::Answer;
+use rtps_types::{Place, Reply};
+use std::alloc::{AllocError, Allocator, Global};
+
+/// How much of what one reader gave is printed.
+#[derive(Clone, Copy)]
+pub(crate) struct Cursor {
+    /// The reader's rank.
+    pub rank: u32,
+    /// How many of its notices are printed.
+    pub notices: usize,
+    /// How many of its answers are printed.
+    pub answers: usize,
+}
+
+/// How much of what a batch gave is printed.
+#[derive(Drop)]
+pub(crate) struct Cursors {
+    /// How many of discovery's answers are printed.
+    pub said: usize,
+    /// Of each reader, by rank.
+    pub readers: Vec<Cursor>,
+}
+
+/// Adds the lines of the notices in front that the reader of a rank gives out at a place, and gives
+/// their number.
+fn push_notices<C: TextCatalog, A: Allocator, B: Allocator + Copy>(
+    out: &mut Vec<u8, A>,
+    last: &mut LastLine<B>,
+    catalog: &C,
+    spot: (u32, Place),
+    notices: &[Notice<C::Value>],
+) -> Result<usize, AllocError>
+    ensures within { IfOk result (λ n. n ≤ length notices.now) }
+    ensures count { IfOk result (λ n. n ≡
+        length (first_notices spot.1 (map (notice_view C.view) notices.now))) }
+    ensures lines { OnOk result (out.new.items ≡ out.old.items ++
+        put_lines (C.text_of catalog.now) (map (Hears spot.0)
+        (first_notices spot.1 (map (notice_view C.view) notices.now)))) }
+{
+    let (rank, place) = spot;
+    let mut count = 0;
+    for notice in notices {
+        if notice.place != place {
+            return Ok(count);
+        }
+        push_notice(out, last, catalog, rank, notice)?;
+        count += 1;
+    }
+    Ok(count)
+}
+
+/// Adds the lines of the answers in front that a reader sends at a place, and gives their number.
+fn push_replies<A: Allocator>(
+    out: &mut Vec<u8, A>,
+    place: Place,
+    replies: &[(Place, Reply)],
+) -> Result<usize, AllocError>
+    ensures within { IfOk result (λ n. n ≤ length replies.now) }
+    ensures count { IfOk result (λ n. n ≡
+        length (first_answers place (map answer_view replies.now))) }
+    ensures lines { OnOk result (out.new.items ≡ out.old.items ++
+        answer_lines (first_answers place (map answer_view replies.now))) }
+{
+    let mut count = 0;
+    for (at, reply) in replies {
+        if *at != place {
+            return Ok(count);
+        }
+        push_answer(out, place, reply.to.as_slice(), reply.octets.as_slice())?;
+        count += 1;
+    }
+    Ok(count)
+}
+
+/// Adds the lines of the answers in front that discovery sends at a place, and gives their number.
+fn push_said<A: Allocator>(
+    out: &mut Vec<u8, A>,
+    place: Place,
+    answers: &[Answer],
+) -> Result<usize, AllocError>
+    ensures within { IfOk result (λ n. n ≤ length answers.now) }
+    ensures count { IfOk result (λ n. n ≡
+        length (first_answers place (map said_view answers.now))) }
+    ensures lines { OnOk result (out.new.items ≡ out.old.items ++
+        answer_lines (first_answers place (map said_view answers.now))) }
+{
+    let mut count = 0;
+    for answer in answers {
+        if answer.place != place {
+            return Ok(count);
+        }
+        push_answer(out, place, answer.to.as_slice(), answer.octets.as_slice())?;
+        count += 1;
+    }
+    Ok(count)
+}
+
+/// Whether a place comes before another.
+fn is_before(a: Place, b: Place) -> bool
+    ensures { result ≡ is_before a b }
+{
+    a < b
+}
+
+/// How many notices come before a place, where they are by place.
+fn notices_before<V>(notices: &[Notice<V>], place: Place) -> usize
+    ensures { IsPartitionedBy (λ n. is_before n.place place) notices.now → drop result notices.now
+        ≡ filter (λ n. not (is_before n.place place)) notices.now }
+{
+    notices.partition_point(|notice| is_before(notice.place, place))
+}
+
+/// How many answers of a reader come before a place, where they are by place.
+fn replies_before(replies: &[(Place, Reply)], place: Place) -> usize
+    ensures { IsPartitionedBy (λ r. is_before r.0 place) replies.now → drop result replies.now
+        ≡ filter (λ r. not (is_before r.0 place)) replies.now }
+{
+    replies.partition_point(|reply| is_before(reply.0, place))
+}
+
+/// How many answers of discovery come before a place, where they are by place.
+fn said_before(answers: &[Answer], place: Place) -> usize
+    ensures { IsPartitionedBy (λ a. is_before a.place place) answers.now → drop result answers.now
+        ≡ filter (λ a. not (is_before a.place place)) answers.now }
+{
+    answers.partition_point(|answer| is_before(answer.place, place))
+}
+
+/// The items from one on.
+fn rest<T>(items: &[T], from: usize) -> &[T]
+    ensures { result.now ≡ drop from items.now }
+{
+    items.get(from..).unwrap_or(&[])
+}
+
+impl Cursor {
+    /// All that the reader of a rank gave before a place is printed.
+    fn at<C: TextCatalog>(rank: u32, given: &Given<C::Value>, place: Place) -> Cursor
+        ensures rank { result.rank ≡ rank }
+        ensures left { (before after : List Place) → given.now.places.items ≡ before ++ place ∷ after
+            → AreByPlace C.view given.now
+            → IsLeft (parts_given C.view given.now) (place ∷ after) result }
+    {
+        match given.outputs.get(rank as usize) {
+            Some(output) => Cursor {
+                rank,
+                notices: notices_before(&output.notices, place),
+                answers: replies_before(&output.answers, place),
+            },
+            None => Cursor {
+                rank,
+                notices: 0,
+                answers: 0,
+            },
+        }
+    }
+
+    /// Adds the lines of what a reader gave out and sent at a place: its notices, and then its
+    /// answer. Gives what is printed then.
+    fn push_output<C: TextCatalog, A: Allocator, B: Allocator + Copy>(
+        self,
+        out: &mut Vec<u8, A>,
+        last: &mut LastLine<B>,
+        catalog: &C,
+        output: &Output<C::Value>,
+        place: Place,
+    ) -> Result<Cursor, AllocError>
+        ensures lines { OnOk result (out.new.items ≡ out.old.items ++
+            lists_lines (C.text_of catalog.now) (map (notice_view C.view) output.now.notices.items)
+            (map answer_view output.now.answers.items) place self) }
+        ensures moves { IfOk result (λ c. c ≡
+            lists_after (map (notice_view C.view) output.now.notices.items)
+            (map answer_view output.now.answers.items) place self) }
+    {
+        let notices = rest(&output.notices, self.notices);
+        let told = push_notices(out, last, catalog, (self.rank, place), notices)?;
+        let sent = push_replies(out, place, rest(&output.answers, self.answers))?;
+        Ok(Cursor {
+            rank: self.rank,
+            notices: self.notices + told,
+            answers: self.answers + sent,
+        })
+    }
+
+    /// The same for the reader of its rank; a batch that has no such reader has nothing of it.
+    fn push_part<C: TextCatalog, A: Allocator, B: Allocator + Copy>(
+        self,
+        out: &mut Vec<u8, A>,
+        last: &mut LastLine<B>,
+        catalog: &C,
+        given: &Given<C::Value>,
+        place: Place,
+    ) -> Result<Cursor, AllocError>
+        ensures lines { OnOk result (out.new.items ≡ out.old.items ++
+            part_lines (C.text_of catalog.now) (parts_given C.view given.now) place self) }
+        ensures moves { IfOk result (λ c. c ≡
+            cursor_after (parts_given C.view given.now) place self) }
+    {
+        match given.outputs.get(self.rank as usize) {
+            Some(output) => self.push_output(out, last, catalog, output, place),
+            None => Ok(self),
+        }
+    }
+}
+
+impl Cursors {
+    /// Nothing is printed yet of what a batch gave that has this many readers.
+    pub(crate) fn start(alloc: Global, readers: u32) -> Result<Cursors, AllocError>
+        ensures { IfOk result (λ c. (c.said ≡ 0) × (c.readers.items ≡ starts readers)) }
+    {
+        let mut cursors = Vec::new(alloc);
+        for rank in 0..readers {
+            cursors.push(Cursor {
+                rank,
+                notices: 0,
+                answers: 0,
+            })?;
+        }
+        Ok(Cursors {
+            said: 0,
+            readers: cursors,
+        })
+    }
+
+    /// All that a batch gave before a place is printed.
+    pub(crate) fn at<C: TextCatalog>(
+        alloc: Global,
+        given: &Given<C::Value>,
+        readers: u32,
+        place: Place,
+    ) -> Result<Cursors, AllocError>
+        ensures { (before after : List Place) → given.now.places.items ≡ before ++ place ∷ after
+            → AreByPlace C.view given.now → IfOk result (λ c.
+            AreLeft (parts_given C.view given.now) readers (place ∷ after) c.said c.readers.items) }
+    {
+        let mut cursors = Vec::new(alloc);
+        for rank in 0..readers {
+            cursors.push(Cursor::at::<C>(rank, given, place))?;
+        }
+        Ok(Cursors {
+            said: said_before(&given.answers, place),
+            readers: cursors,
+        })
+    }
+
+    /// Adds the lines at a place: discovery's answer, and then those of each reader.
+    pub(crate) fn push_place<C: TextCatalog, A: Allocator, B: Allocator + Copy>(
+        &mut self,
+        out: &mut Vec<u8, A>,
+        last: &mut LastLine<B>,
+        catalog: &C,
+        given: &Given<C::Value>,
+        place: Place,
+    ) -> Result<(), AllocError>
+        ensures said { OnOk result (self.new.said ≡ self.old.said
+            + length (next_said (parts_given C.view given.now) place self.old.said)) }
+        ensures readers { OnOk result (self.new.readers.items
+            ≡ map (cursor_after (parts_given C.view given.now) place) self.old.readers.items) }
+        ensures lines { OnOk result (out.new.items ≡ out.old.items
+            ++ (answer_lines (next_said (parts_given C.view given.now) place self.old.said)
+            ++ parts_lines (C.text_of catalog.now) (parts_given C.view given.now) place
+            self.old.readers.items)) }
+    {
+        self.said += push_said(out, place, rest(&given.answers, self.said))?;
+        for at in 0..self.readers.len() {
+            let cursor = self.readers[at];
+            self.readers[at] = cursor.push_part(out, last, catalog, given, place)?;
+        }
+        Ok(())
+    }
+}
