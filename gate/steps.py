@@ -14,6 +14,8 @@ from gate.tasks import Done, Task, run
 
 LISTENER = "rtps_listen"
 """The program of the conformance rows, and of ./run."""
+SCRIPTS = (("conformance rows", "run.py"), ("one file by many cuts", "cuts.py"))
+"""What is run on it: its name, and its file in conformance/."""
 NOT_HERE = {"foreign", "hides", "partial", "may-abort", "may-serve", "bugs"}
 """Words of a check's last line that no crate of this repository may have."""
 
@@ -164,12 +166,12 @@ def is_built(gate, crate):
         return False
 
 
-def rows(crate):
-    """Runs the conformance rows on the program."""
-    ran = run(["python3", str(TOP / "conformance" / "run.py"), str(crate.out / crate.name)], TOP)
+def runs(crate, name, script):
+    """Runs a script of conformance/ on the program."""
+    ran = run(["python3", str(TOP / "conformance" / script), str(crate.out / crate.name)], TOP)
     counts = re.search(r"(\d+) passed, (\d+) failed\s*\Z", ran.text)
     if not counts or ran.status or int(counts[2]):
-        return failure("conformance rows", ran.text, ran.seconds)
+        return failure(name, ran.text, ran.seconds)
     return Done(int(counts[1]), says=f"{counts[1]} runs passed", seconds=ran.seconds)
 
 
@@ -261,6 +263,8 @@ def other_tasks(gate):
             waits = (crate.name, *([f"{crate.name}: tests"] if crate.has_tests() else []))
             yield Task(f"{crate.name}: program", call, waits, crate.lines() / 4)
         if crate.name == LISTENER:
-            yield Task("conformance rows", lambda jobs, crate=crate: rows(crate), (f"{crate.name}: program",), 100)
+            for name, script in SCRIPTS:
+                call = lambda jobs, crate=crate, name=name, script=script: runs(crate, name, script)
+                yield Task(name, call, (f"{crate.name}: program",), 100)
     names = tuple(crate.name for crate in gate.crates)
     yield Task("rt all check", lambda jobs: whole(gate), names, gate.crates[-1].lines() / 4)
