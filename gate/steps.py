@@ -9,13 +9,16 @@ from dataclasses import dataclass, field
 from pathlib import Path
 
 from gate import edits as editing
-from gate.crates import TOP, proof_sum, sum_of
+from gate.crates import PARTS, TOP, proof_sum, sum_of
+from gate.rooms import copied
 from gate.tasks import Done, Task, run
 
 LISTENER = "rtps_listen"
 """The program of the conformance rows, and of ./run."""
 SCRIPTS = (("conformance rows", "run.py"), ("one file by many cuts", "cuts.py"))
 """What is run on it: its name, and its file in conformance/."""
+FIRST = 1e9
+"""The work of a task that nothing is to come before."""
 NOT_HERE = {"foreign", "hides", "partial", "may-abort", "may-serve", "bugs"}
 """Words of a check's last line that no crate of this repository may have."""
 
@@ -63,14 +66,27 @@ def unmet(text):
     return None if found[2] == found[3] else f"only {found[2]} of {found[3]} contracts were tried"
 
 
-def layout_fault(inside):
-    """The first file that isn't in the layout of rt fmt, in a copy of a crate, which is laid out by this."""
-    before = {path: path.read_bytes() for path in inside.files()}
-    ran = run(["rt", "fmt"], inside.folder)
-    changed = [path for path, text in before.items() if path.read_bytes() != text]
-    if changed:
-        return f"{changed[0].relative_to(inside.folder)} is not in the layout of rt fmt"
-    return ran.text if ran.status else None
+def laid_out(crate, folder):
+    """The files of a crate, copied to a folder, which rt fmt lays out otherwise there, and what it says where it fails."""
+    copied(crate, folder / "crates" / crate.name, PARTS)
+    (folder / "crates.txt").write_text(f"{crate.line}\n", encoding="utf-8")
+    inside = folder / "crates" / crate.name
+    ran = run(["rt", "fmt"], inside)
+    files = [path.relative_to(crate.folder) for path in crate.files()]
+    other = [f"{crate.name}/{path}" for path in files if (inside / path).read_bytes() != (crate.folder / path).read_bytes()]
+    return other, (f"{crate.name}: {ran.text}" if ran.status else "")
+
+
+def layout(gate):
+    """Has rt fmt lay out a copy of each crate: none of its files may change."""
+    other, faults = [], ""
+    with tempfile.TemporaryDirectory() as room:
+        for crate in gate.crates:
+            found, said = laid_out(crate, Path(room) / crate.name)
+            other, faults = other + found, faults + said
+    if other or faults:
+        return failure("layout", faults + "".join(f"{name} is not in the layout of rt fmt\n" for name in other))
+    return Done(1, says="every file is as rt fmt lays it out")
 
 
 def failure(name, shows, seconds=0.0):
@@ -80,9 +96,6 @@ def failure(name, shows, seconds=0.0):
 def prove(gate, crate, jobs):
     """Proves a crate over the work that is kept, and builds its library for those above."""
     with gate.rooms.room(crate) as inside:
-        fault = layout_fault(inside)
-        if fault:
-            return failure(crate.name, f"{crate.name}: {fault}")
         words = [["rt", "check", "--empty-contracts"]] + [["rt", "lib"]] * (not crate.is_program)
         seconds = 0.0
         for each in words:
@@ -253,7 +266,8 @@ def proof_tasks(gate, crates):
 
 
 def other_tasks(gate):
-    """Tasks for the tests, the programs, the rows, and the repository as a whole."""
+    """Tasks for the layout, the tests, the programs, the rows, and the repository as a whole."""
+    yield Task("layout", lambda jobs: layout(gate), work=FIRST)
     for crate in gate.crates:
         if crate.has_tests():
             call = lambda jobs, crate=crate: test(gate, crate, jobs)

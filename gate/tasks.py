@@ -121,10 +121,10 @@ def chains(tasks):
 
 
 def run_all(tasks, say, count=None):
-    """Runs tasks and returns how much passed and the names of what failed."""
+    """Runs tasks and returns how much passed, by name what each failure printed, and the names of what wasn't tried."""
     count = count or lanes()
     left, running, ended, failed_tasks = list(tasks), {}, set(), set()
-    behind, passed, failed, number = chains(left), 0, [], 0
+    behind, passed, failed, untried, number = chains(left), 0, {}, [], 0
     for unknown in {name for task in tasks for name in task.waits} - {task.name for task in tasks}:
         failed_tasks.add(unknown)
     with ThreadPoolExecutor(count) as pool:
@@ -132,7 +132,7 @@ def run_all(tasks, say, count=None):
             for task in [task for task in left if failed_tasks & set(task.waits)]:
                 left.remove(task)
                 failed_tasks.add(task.name)
-                failed.append(task.name)
+                untried.append(task.name)
                 say(f"{task.name}: not tried, since {min(failed_tasks & set(task.waits))} failed")
             ready = [task for task in left if ended.issuperset(task.waits)]
             ready.sort(key=lambda task: -behind.get(task.name, task.work))
@@ -153,7 +153,7 @@ def run_all(tasks, say, count=None):
                 if done.failed:
                     failed_tasks.add(task.name)
                 passed, number = passed + done.passed, number + 1
-                failed += done.failed
+                failed.update(dict.fromkeys(done.failed, done.shows))
                 left += done.more
                 rest = len(left) + len(running)
                 clock = f"{time.time() - began:.0f} s, {done.seconds:.0f} s of processor time; {rest} left"
@@ -161,4 +161,4 @@ def run_all(tasks, say, count=None):
                 say(f"[{number} of {number + rest}] {task.name}: {says} ({clock})")
                 if done.shows:
                     say(done.shows)
-    return passed, failed
+    return passed, failed, untried

@@ -11,7 +11,7 @@ from gate import edits, tasks
 from gate.crates import crates_in, proof_sum
 from gate.kept import Kept, default_folder
 from gate.rooms import Rooms, only_run
-from gate.steps import beyond, edits_sum, unmet
+from gate.steps import beyond, edits_sum, laid_out, unmet
 from gate.tasks import Done, Task
 
 SOURCE = """\
@@ -86,6 +86,13 @@ class Crates(Repository):
         self.assertEqual(("low", "high"), (low.name, high.name))
         self.assertEqual((low,), high.below)
         self.assertTrue(high.is_program and not low.is_program)
+
+    def test_a_file_that_is_not_laid_out_is_named(self):
+        for text, other in (("fn main() {}\n", []), ("fn  main( ) {}\n", ["high/src/main.rt"])):
+            self.write("crates/high/src/main.rt", text)
+            with tempfile.TemporaryDirectory() as room:
+                self.assertEqual((other, ""), laid_out(self.crate("high"), Path(room)))
+            self.assertEqual(text, (self.top / "crates/high/src/main.rt").read_text())
 
     def test_a_proof_hangs_on_its_crate_on_those_below_and_on_the_toolchain(self):
         before = [proof_sum(self.crate(name), "kit 1") for name in ("low", "high")]
@@ -334,21 +341,21 @@ class Tasks(unittest.TestCase):
         order = []
         first = Task("first", lambda jobs: order.append("first") or Done(1))
         then = Task("then", lambda jobs: order.append("then") or Done(1), ("first",), 100)
-        self.assertEqual((2, []), self.run_all(then, first)[0])
+        self.assertEqual((2, {}, []), self.run_all(then, first)[0])
         self.assertEqual(["first", "then"], order)
 
     def test_what_waits_for_a_failure_fails(self):
-        first = Task("first", lambda jobs: Done(failed=["first"]))
+        first = Task("first", lambda jobs: Done(failed=["first"], shows="why"))
         then = Task("then", lambda jobs: Done(1), ("first",))
-        self.assertEqual((0, ["first", "then"]), self.run_all(first, then)[0])
+        self.assertEqual((0, {"first": "why"}, ["then"]), self.run_all(first, then)[0])
 
     def test_what_waits_for_no_task_fails(self):
         then = Task("then", lambda jobs: Done(1), ("nobody",))
-        self.assertEqual((0, ["then"]), self.run_all(then)[0])
+        self.assertEqual((0, {}, ["then"]), self.run_all(then)[0])
 
     def test_tasks_that_come_out_of_a_task_are_run(self):
         late = Task("late", lambda jobs: Done(1))
-        self.assertEqual((2, []), self.run_all(Task("first", lambda jobs: Done(1, more=[late])))[0])
+        self.assertEqual((2, {}, []), self.run_all(Task("first", lambda jobs: Done(1, more=[late])))[0])
 
     def test_a_verdict_has_only_words_that_are_allowed(self):
         self.assertIsNone(beyond("logic=proved functions=3 sum=1", set()))
