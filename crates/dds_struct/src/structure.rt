@@ -1,0 +1,65 @@
+//! A struct that is the data type of a topic.
+
+ghost use Rattle.std.specs.Prelude.{◌≡◌, ◌++◌, ℕ, List, true, OnOk};
+ghost use Rattle.dds_topic.specs.Answer.{Gives};
+ghost use Rattle.rtps_cdr.specs.Cdr.{CdrType, ValueOf};
+ghost use Rattle.rtps_cdr.specs.Writing.{Fits, appended};
+ghost use Rattle.dds_struct.specs.Value.{readable, value, is_plain};
+ghost use Rattle.dds_struct.specs.Key.{is_short};
+ghost use Rattle.dds_struct.specs.Decoded.{copied};
+
+use dds_topic::CatalogError;
+use rtps_cdr::{CdrReader, CdrWriter};
+use std::alloc::{AllocError, Allocator, Global};
+
+/// A struct that is the data type of a topic: its members, those of its key, by which its
+/// instances are told apart, and its text.
+pub trait Structure: Sized + Drop {
+    // How a value is represented, and how its key, as a struct of its own.
+    ghost cdr: { CdrType };
+
+    ghost key_cdr: { CdrType };
+
+    // What a value is, which part of it is its key, and what is printed of it.
+    ghost view: { Self → ValueOf cdr };
+
+    ghost key: { ValueOf cdr → ValueOf key_cdr };
+
+    ghost text: { ValueOf cdr → List ℕ };
+
+    /// Reads a value, member by member.
+    ///
+    /// `Unread::Malformed` says that no value of the type stands there.
+    fn read(alloc: Global, reader: &mut CdrReader<'_>) -> Result<Self, CatalogError>
+        ensures { Gives view result (readable (value cdr reader.old)) };
+
+    /// Whether the key's greatest size is at most 16 octets, so that they are its hash
+    /// (DDSI-RTPS 9.6.4.8).
+    fn key_is_short() -> bool
+        ensures { result ≡ is_short key_cdr };
+
+    /// Writes the value's key, member by member.
+    fn write_key<A: Allocator>(&self, writer: &mut CdrWriter<A>) -> Result<(), AllocError>
+        ensures { OnOk result (writer.new ≡ appended key_cdr (key (view self.now)) writer.old) };
+
+    /// Reads a key, and writes it; [`copy_member`](crate::copy_member) does so.
+    ///
+    /// `Unread::Malformed` says that no key stands there.
+    fn copy_key<A: Allocator>(
+        alloc: Global,
+        reader: &mut CdrReader<'_>,
+        writer: &mut CdrWriter<A>,
+    ) -> Result<(), CatalogError>
+        ensures { Gives (λ _. writer.new) result
+            (copied key_cdr (value key_cdr reader.old) writer.old) };
+
+    /// Adds what is printed of the value in a line, in ASCII and without a line end.
+    fn push_text<A: Allocator>(&self, out: &mut Vec<u8, A>) -> Result<(), AllocError>
+        ensures { OnOk result (out.new.items ≡ out.old.items ++ text (view self.now)) };
+
+    // Each number of the key takes octets.
+    ghost key_is_plain: { is_plain key_cdr ≡ true };
+
+    // A key can be written.
+    ghost key_fits: { (v : Self) → Fits key_cdr (key (view v)) };
+}

@@ -1,0 +1,49 @@
+//! A text that can be part of a key.
+
+ghost use Rattle.std.specs.Prelude.{◌≡◌, ◌<◌, ◌+◌, ◌^◌, length, true};
+ghost use Rattle.std.specs.Str.{is_utf8};
+ghost use Rattle.std.specs.String.{string_bytes};
+ghost use Rattle.rtps_cdr.specs.Cdr.{Text as TextType};
+
+use crate::Member;
+use dds_topic::CatalogError;
+use rtps_cdr::CdrReader;
+use std::alloc::Global;
+
+/// The length that no text reaches, since its representation counts it and its NUL in 32 bits.
+const TOO_LONG: usize = 0xffff_ffff;
+
+/// A text, of which it is known that it can be represented again, as a key has to be.
+#[derive(Debug, Drop)]
+pub struct Text {
+    text: String,
+    ghost short: { length (string_bytes text) + 1 < 2 ^ 32 },
+    ghost utf8: { is_utf8 (string_bytes text) ≡ true },
+}
+
+impl Text {
+    /// The text.
+    pub fn as_str(&self) -> &str
+        ensures { result.now ≡ string_bytes self.now.text }
+    {
+        self.text.as_str()
+    }
+}
+
+impl Member for Text {
+    ghost cdr = { TextType };
+
+    ghost view = { λ t. string_bytes t.text };
+
+    #[tactic(auto, using(crate::proofs::Texts::utf8_test))]
+    fn read(alloc: Global, reader: &mut CdrReader<'_>) -> Result<Text, CatalogError> {
+        let text = reader.read_string()?;
+        let _octets = text.as_bytes();
+        if text.len() >= TOO_LONG {
+            return Err(CatalogError::NoMemory);
+        }
+        Ok(Text {
+            text: String::from_str(alloc, text)?,
+        })
+    }
+}

@@ -1,0 +1,13 @@
+-- struct Reading { @key unsigned long station; unsigned long long taken; string place; sequence<short> levels; };
+use Rattle.std.specs.Prelude.{ℕ, List, ◌++◌, codes, length}
+use Rattle.std.specs.Int.{w16}
+use Rattle.std.specs.Fmt.{decimal}
+use Rattle.rtps_ascii.specs.Hex.{hex_text}
+use Rattle.rtps_cdr.specs.Cdr.{CdrType, Unsigned, Signed, Text, Both, Sequence, ValueOf}
+
+abbrev pub reading_cdr : CdrType
+reading_cdr = Both (Unsigned 4) (Both (Unsigned 8) (Both Text (Sequence (Signed w16))))
+
+-- the station, the time, the place in hex, and how many levels there are
+abbrev pub reading_text : ValueOf reading_cdr → List ℕ
+reading_text r = decimal r.0 ++ (codes " " ++ (decimal r.1.0 ++ (codes " " ++ (hex_text r.1.1.0 ++ (codes " " ++ decimal (length r.1.1.1))))))

@@ -1,0 +1,55 @@
+//! A data type of one's own: reads a record file on standard input, and prints what a reader of
+//! [`Reading`]s makes of it.
+#![tactic(auto)]
+
+mod reading;
+
+use dds_qos::{Reliability, Requested};
+use dds_struct::Structs;
+use reading::Reading;
+use rtps_discovery::{Config, ReaderConfig, check};
+use rtps_text::{Pace, Setup, replay};
+use rtps_types::{EntityId, GuidPrefix};
+use std::alloc::{AllocError, Global};
+use std::process::ExitCode;
+
+fn main(rt: HostRuntime) -> ExitCode {
+    let alloc = rt.alloc();
+    let Ok(config) = config(alloc) else {
+        return ExitCode::FAILURE;
+    };
+    if check(&config).is_err() {
+        return ExitCode::FAILURE;
+    }
+    let setup = Setup {
+        config,
+        catalog: Structs::<Reading>::new(),
+        summary: true,
+        pace: Pace {
+            batch: 256,
+            workers: 1,
+        },
+    };
+    match replay(&rt, alloc, setup, &mut rt.stdin(), &mut rt.stdout()) {
+        Ok(()) => ExitCode::SUCCESS,
+        Err(_) => ExitCode::FAILURE,
+    }
+}
+
+/// A participant with one reliable reader of the topic `Readings`.
+fn config(alloc: Global) -> Result<Config, AllocError> {
+    let mut requested = Requested::new(alloc);
+    requested.policies.reliability = Reliability::Reliable;
+    let mut readers = Vec::new(alloc);
+    readers.push(ReaderConfig {
+        entity: EntityId([0, 0, 1, 7]),
+        topic: String::from_str(alloc, "Readings")?,
+        type_name: String::from_str(alloc, "Reading")?,
+        requested,
+    })?;
+    Ok(Config {
+        own: GuidPrefix([0x0b; 12]),
+        readers,
+        fixed: Vec::new(alloc),
+    })
+}
