@@ -49,17 +49,17 @@ both s t c middle ahead (Err f) b first second = record {
 both s t c middle ahead (Ok x) (Err f) first second = record {
   found = refl;
   only = λ v after taken.
-    let parts = members_parted s t c after v taken in
-    let place = (first.only v.0 (parts.0) (parts.1)).1 in
-    absurd (cc (((second x refl).only v.1 after (rw place (parts.2))).0));
+      let parts = members_parted s t c after v taken in
+      let place = (first.only v.0 (parts.0) (parts.1)).1 in
+      absurd (cc (((second x refl).only v.1 after (rw place (parts.2))).0));
 }
 both s t c middle ahead (Ok x) (Ok y) first second = record {
   found = members_joined s t c middle ahead x y first.found ((second x refl).found);
   only = λ v after taken.
-    let parts = members_parted s t c after v taken in
-    let one = first.only v.0 (parts.0) (parts.1) in
-    let two = (second x refl).only v.1 after (rw (one.1) (parts.2)) in
-    (ok_pair x y v (Ok (x, y)) (Ok x) (Ok y) refl refl refl (one.0) (two.0), two.1);
+      let parts = members_parted s t c after v taken in
+      let one = first.only v.0 (parts.0) (parts.1) in
+      let two = (second x refl).only v.1 after (rw (one.1) (parts.2)) in
+      (ok_pair x y v (Ok (x, y)) (Ok x) (Ok y) refl refl refl (one.0) (two.0), two.1);
 }
 
 abbrev Gives : (t : CdrType) → Result (List (ValueOf t)) CdrFault → List (ValueOf t) → Type 0
@@ -75,6 +75,7 @@ none_left t c = record { found = λ vs same. empty vs (cc same); only = λ vs af
   empty : (vs : List (ValueOf t)) → [] ≡ vs → (length vs ≡ 0) × TakesAll t c c vs
   empty [] same = (refl, refl)
   empty (v ∷ vs) same = absurd (cc same)
+
   nothing : (vs : List (ValueOf t)) (after : Cursor) → length vs ≡ 0 → TakesAll t c after vs → Gives t (Ok []) vs × (c ≡ after)
   nothing [] after counted taken = (refl, sym taken)
   nothing (v ∷ vs) after counted taken = absurd (cc counted)
@@ -89,24 +90,25 @@ next_all t c middle ahead n (Ok x) (Err f) first others = record { found = λ vs
   nothing : (vs : List (ValueOf t)) (after : Cursor) → length vs ≡ suc n → TakesAll t c after vs → Gives t (Err f) vs × (ahead ≡ after)
   nothing [] after counted taken = absurd (cc counted)
   nothing (v ∷ vs) after counted taken =
-    let place = (first.only v (taken.0) (taken.1)).1 in
-    absurd (cc (((others x refl).only vs after (cc counted) (rw place (taken.2))).0))
+      let place = (first.only v (taken.0) (taken.1)).1 in
+      absurd (cc (((others x refl).only vs after (cc counted) (rw place (taken.2))).0))
 next_all t c middle ahead n (Ok x) (Ok xs) first others = record { found = λ vs same. some vs (cc same); only = λ vs after counted taken. only vs after counted taken } where
   some : (vs : List (ValueOf t)) → (x ∷ xs) ≡ vs → (length vs ≡ suc n) × TakesAll t c ahead vs
   some [] same = absurd (cc same)
   some (v ∷ vs) same =
-    let one : x ≡ v = cc same in
-    let more : xs ≡ vs = cc same in
-    let rest = (others x refl).found vs (ap Ok more) in
-    (ap suc (rest.0), (middle, rw one at (first.found), rest.1))
+      let one : x ≡ v = cc same in
+      let more : xs ≡ vs = cc same in
+      let rest = (others x refl).found vs (ap Ok more) in
+      (ap suc (rest.0), (middle, rw one at (first.found), rest.1))
+
   only : (vs : List (ValueOf t)) (after : Cursor) → length vs ≡ suc n → TakesAll t c after vs → Gives t (Ok (x ∷ xs)) vs × (ahead ≡ after)
   only [] after counted taken = absurd (cc counted)
   only (v ∷ vs) after counted taken =
-    let head = first.only v (taken.0) (taken.1) in
-    let rest = (others x refl).only vs after (cc counted) (rw (head.1) (taken.2)) in
-    let one : x ≡ v = cc (head.0) in
-    let more : xs ≡ vs = cc (rest.0) in
-    (ap Ok (rw (one, more) refl), rest.1)
+      let head = first.only v (taken.0) (taken.1) in
+      let rest = (others x refl).only vs after (cc counted) (rw (head.1) (taken.2)) in
+      let one : x ≡ v = cc (head.0) in
+      let more : xs ≡ vs = cc (rest.0) in
+      (ap Ok (rw (one, more) refl), rest.1)
 
 -- each by the same read
 pub all_items : (t : CdrType) (read : Cursor → Result (ValueOf t) CdrFault) (next : Cursor → Cursor) → ((c : Cursor) → Within c → Is t c (next c) (read c)) → (n : ℕ) (c : Cursor) → Within c →
@@ -121,18 +123,18 @@ items_are : (t : CdrType) (c middle ahead : Cursor) (n : ℕ) (b : Result (List 
 items_are t c middle ahead n (Ok vs) first all = record {
   found = let some = all.found vs refl in items_joined t c middle ahead vs (rw (some.0) (first.found)) (some.1);
   only = λ ws after taken.
-    let parts = items_parted t c after ws taken in
-    let one = first.only (length ws) (parts.0) (parts.1) in
-    let many : length ws ≡ n = sym (cc (one.0)) in
-    all.only ws after many (rw (one.1) (parts.2));
+      let parts = items_parted t c after ws taken in
+      let one = first.only (length ws) (parts.0) (parts.1) in
+      let many : length ws ≡ n = sym (cc (one.0)) in
+      all.only ws after many (rw (one.1) (parts.2));
 }
 items_are t c middle ahead n (Err f) first all = record {
   found = refl;
   only = λ ws after taken.
-    let parts = items_parted t c after ws taken in
-    let one = first.only (length ws) (parts.0) (parts.1) in
-    let many : length ws ≡ n = sym (cc (one.0)) in
-    absurd (cc ((all.only ws after many (rw (one.1) (parts.2))).0));
+      let parts = items_parted t c after ws taken in
+      let one = first.only (length ws) (parts.0) (parts.1) in
+      let many : length ws ≡ n = sym (cc (one.0)) in
+      absurd (cc ((all.only ws after many (rw (one.1) (parts.2))).0));
 }
 
 -- a sequence: a count, and as many items

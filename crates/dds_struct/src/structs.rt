@@ -79,7 +79,12 @@ impl<S: Structure + Send + Sync> Catalog for Structs<S> {
         Ok(writer.finish())
     }
 
-    fn key_of_payload(&self, alloc: Global, kind: u16, body: &[u8]) -> Result<KeyHash, CatalogError> {
+    fn key_of_payload(
+        &self,
+        alloc: Global,
+        kind: u16,
+        body: &[u8],
+    ) -> Result<KeyHash, CatalogError> {
         let endian = byte_order(kind)?;
         let mut writer = CdrWriter::new(alloc, Endian::Big);
         S::copy_key(alloc, &mut CdrReader::new(body, endian), &mut writer)?;

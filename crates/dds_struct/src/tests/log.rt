@@ -29,8 +29,19 @@ impl Structure for Log {
 
     ghost key_cdr = { log_key_cdr };
 
-    ghost view = { λ l. (l.open, (l.level, (l.shift, (l.count,
-        (l.at, (text_view l.name, (l.part, l.marks.items))))))) };
+    ghost view = { λ l. (
+      l.open,
+      (
+        l.level,
+        (
+          l.shift,
+          (
+            l.count,
+            (l.at, (text_view l.name, (l.part, l.marks.items))),
+          ),
+        ),
+      ),
+    ) };
 
     ghost key = { log_key };
 
@@ -38,8 +49,9 @@ impl Structure for Log {
 
     #[tactic(auto, using(crate::proofs::Texts::same_items))]
     fn read(alloc: Global, reader: &mut CdrReader<'_>) -> Result<Log, CatalogError> {
-        let (open, (level, (shift, (count, (at, (name, (part, marks))))))) =
-            Member::read(alloc, reader)?;
+        let (open, (level, (shift, (count, (at, (name, (part, marks))))))) = Member::read(
+            alloc, reader,
+        )?;
         Ok(Log {
             open,
             level,
