@@ -5,3 +5,6 @@ pub mod Spelled
 pub mod Nearest
 pub mod Naming
 pub mod Walks
+pub mod Texts
+pub mod Decimals
+pub mod Moments

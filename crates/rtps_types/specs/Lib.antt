@@ -9,3 +9,6 @@ pub mod Duration
 pub mod Nearest
 pub mod Numbers
 pub mod Named
+pub mod Text
+pub mod NumberText
+pub mod TimeText

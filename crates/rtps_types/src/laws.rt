@@ -4,8 +4,11 @@
 ghost use Rattle.std.specs.Prelude.{◌≡◌};
 ghost use Rattle.rtps_types.specs.Duration.{duration_order};
 ghost use Rattle.rtps_types.specs.Named.{NamesItsMembers};
+ghost use Rattle.rtps_types.specs.NumberText.{ShownNumbersAreRead, ShownPlacesAreRead};
 ghost use Rattle.rtps_types.specs.Order.{octet_order, guid_octets};
 ghost use Rattle.rtps_types.specs.Place.{place_order};
+ghost use Rattle.rtps_types.specs.Text.{ShownIdentitiesAreRead};
+ghost use Rattle.rtps_types.specs.TimeText.{ShownMomentsAreRead};
 
 use crate::{Duration, EntityId, Guid, GuidPrefix, KeyHash, Place};
 use std::cmp::Ordering;
@@ -68,4 +71,28 @@ pub fn order_of_durations(left: &Duration, right: &Duration) -> Ordering
 #[tactic(auto, using(crate::proofs::Naming::members_are))]
 pub fn a_set_names_its_members()
     ensures { NamesItsMembers }
+{}
+
+/// What is shown of an identity is read as the same one.
+#[tactic(auto, using(crate::proofs::Texts::identities_shown))]
+pub fn identities_are_read_again()
+    ensures { ShownIdentitiesAreRead }
+{}
+
+/// What is shown of a sequence number is read as the same one.
+#[tactic(auto, using(crate::proofs::Decimals::number_shown))]
+pub fn numbers_are_read_again()
+    ensures { ShownNumbersAreRead }
+{}
+
+/// What is shown of a place is read as the same one.
+#[tactic(auto, using(crate::proofs::Decimals::place_shown))]
+pub fn places_are_read_again()
+    ensures { ShownPlacesAreRead }
+{}
+
+/// What is shown of a moment is read as the same one.
+#[tactic(auto, using(crate::proofs::Moments::moment_shown))]
+pub fn moments_are_read_again()
+    ensures { ShownMomentsAreRead }
 {}

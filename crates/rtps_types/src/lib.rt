@@ -15,6 +15,7 @@ mod place;
 mod set;
 #[cfg(test)]
 mod tests;
+mod text;
 mod time;
 mod traffic;
 
@@ -28,5 +29,6 @@ pub use number::{MAX_NUMBER, Number};
 pub use octets::Octets;
 pub use place::Place;
 pub use set::{FragSet, Members, SnSet, set_bit};
+pub use text::TextFault;
 pub use time::{Duration, Timestamp};
 pub use traffic::{Reply, WriterFacts};
