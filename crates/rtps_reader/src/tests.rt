@@ -6,7 +6,7 @@ mod reliable;
 mod state;
 
 use crate::*;
-use dds_topic::{Decoder, Raw, Shapes, Unread};
+use dds_topic::{Decoder, Raw, RawValue, Shape, Shapes, Unread};
 use rtps_types::KeyHash;
 use rtps_wire::{ChangeInfo, Form};
 use std::alloc::Global;
@@ -33,26 +33,40 @@ fn info(form: Form, status: u8, hash: Option<KeyHash>) -> ChangeInfo {
     ChangeInfo { form, status, hash }
 }
 
+/// Whether a body is BLUE, with its hash.
+fn is_blue(body: Body<Shape>) -> bool {
+    match &body {
+        Body::Value(hash, shape) => {
+            *hash == BLUE_HASH
+                && shape.color.as_str() == "BLUE"
+                && (shape.x, shape.y, shape.size) == (10, 20, 30)
+        }
+        _ => false,
+    }
+}
+
+/// Whether a body is the octets of BLUE, which have no key.
+fn is_raw_blue(body: Body<RawValue>) -> bool {
+    match &body {
+        Body::Value(hash, raw) => *hash == KeyHash([0; 16]) && raw.body.len() == 24,
+        _ => false,
+    }
+}
+
 #[test]
 fn values(rt: HostRuntime) -> Result<(), Fail> {
     let mut shapes = Decoder::new(rt.alloc(), Shapes);
-    match body_of(&mut shapes, info(Form::Value, 0, Some(SENT)), &BLUE)? {
-        Body::Value(hash, shape) => {
-            assert_eq!(rt; hash, BLUE_HASH);
-            assert_eq!(rt; shape.color.as_str(), "BLUE");
-            assert_eq!(rt; (shape.x, shape.y, shape.size), (10, 20, 30));
-        }
-        _ => assert!(rt; false, "no value"),
-    }
-    // Other bits of the status say nothing.
+    let info = info(Form::Value, 0, Some(SENT));
+    assert!(rt; is_blue(body_of(&mut shapes, info, &BLUE)?));
+    Ok(())
+}
+
+#[test]
+fn raw_values(rt: HostRuntime) -> Result<(), Fail> {
     let mut raw = Decoder::new(rt.alloc(), Raw);
-    match body_of(&mut raw, info(Form::Value, 0xfc, None), &BLUE)? {
-        Body::Value(hash, raw) => {
-            assert_eq!(rt; hash, KeyHash([0; 16]));
-            assert_eq!(rt; raw.body.len(), 24);
-        }
-        _ => assert!(rt; false, "no value"),
-    }
+    // Other bits of the status say nothing.
+    let info = info(Form::Value, 0xfc, None);
+    assert!(rt; is_raw_blue(body_of(&mut raw, info, &BLUE)?));
     Ok(())
 }
 

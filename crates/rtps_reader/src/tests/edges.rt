@@ -101,15 +101,25 @@ fn names_all(alloc: Global, reader: &ReaderState) -> Result<bool, Fail> {
     )
 }
 
+/// Whether a reader is who it has to be, and presents the greatest change.
+fn takes_the_most(alloc: Global, reader: &mut ReaderState, payload: &[u8]) -> Result<bool, Fail> {
+    Ok(
+        reader.rank() == u32::MAX
+            && reader.entity() == READER
+            && names_all(alloc, reader)?
+            && presents(alloc, reader, &greatest(payload)?)?,
+    )
+}
+
+/// The same of a new reader.
+fn takes_the_most_from_new(alloc: Global) -> Result<bool, Fail> {
+    let payload = longest(alloc)?;
+    let mut reader = reader(alloc)?;
+    takes_the_most(alloc, &mut reader, &payload)
+}
+
 #[test]
 fn the_most_is_taken(rt: HostRuntime) -> Result<(), Fail> {
-    let alloc = rt.alloc();
-    let mut reader = reader(alloc)?;
-    assert_eq!(rt; reader.rank(), u32::MAX);
-    assert_eq!(rt; reader.entity(), READER);
-    assert!(rt; names_all(alloc, &reader)?);
-    let payload = longest(alloc)?;
-    let event = greatest(&payload)?;
-    assert!(rt; presents(alloc, &mut reader, &event)?);
+    assert!(rt; takes_the_most_from_new(rt.alloc())?);
     Ok(())
 }

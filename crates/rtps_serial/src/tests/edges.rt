@@ -28,8 +28,8 @@ fn longest(alloc: Global) -> Result<Vec<u8>, Fail>
     Ok(octets)
 }
 
-/// Whether an engine reports this of a datagram.
-fn reports(
+/// Whether an engine reports these lines of a datagram, dealt out and put in order again.
+pub(super) fn reports(
     alloc: Global,
     engine: &mut SerialEngine<Shapes>,
     octets: &[u8],

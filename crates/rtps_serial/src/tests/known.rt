@@ -1,7 +1,7 @@
 //! What engines know of a peer, and what discovery answers it.
 
 use super::announced::{Offer, Says, WRITERS, datagram_of};
-use super::matching::{Row, Unlike, meets, two_unlike};
+use super::matching::{Row, Unlike, meets, meets_from_new, status, two_unlike};
 use super::{SENDER, Said};
 use crate::*;
 use dds_topic::Shapes;
@@ -27,54 +27,84 @@ fn are_writers(known: &Discovery, expected: &[(u8, &str)]) -> bool {
         })
 }
 
-/// Whether an engine meets these rows, and then knows these participants and these writers.
-fn knows(
-    alloc: Global,
-    engine: &mut SerialEngine<Shapes>,
-    rows: &[Row],
-    participants: &[u8],
-    writers: &[(u8, &str)],
-) -> Result<bool, Fail> {
-    if !meets(alloc, engine, rows)? {
+/// Datagrams that an engine takes, and the participants and the writers that it knows after them.
+struct Known {
+    rows: &'static [Row],
+    participants: &'static [u8],
+    writers: &'static [(u8, &'static str)],
+}
+
+/// Whether an engine meets the rows, and then knows what it has to.
+fn knows(alloc: Global, engine: &mut SerialEngine<Shapes>, expected: &Known) -> Result<bool, Fail> {
+    if !meets(alloc, engine, expected.rows)? {
         return Ok(false);
     }
     let known = engine.discovery();
-    Ok(are_participants(known, participants) && are_writers(known, writers))
+    Ok(are_participants(known, expected.participants) && are_writers(known, expected.writers))
 }
 
-/// The peer with two writers.
-const ANNOUNCED: [Row; 1] = [(
-    &[
-        Says::Comes,
-        Says::Offers(1, 1, Offer::Square),
-        Says::Offers(2, 2, Offer::Circle),
-    ],
-    &[
-        (Some(0), 0, 2, Said::Matched(1)),
-        (Some(1), 0, 3, Said::Matched(2)),
-    ],
-    &[(0, 1), (1, 2)],
-)];
+/// Nothing; the peer with two writers; the end of the first one; and the end of the peer.
+const KNOWN: [Known; 4] = [
+    Known {
+        rows: &[],
+        participants: &[],
+        writers: &[],
+    },
+    Known {
+        rows: &[(
+            &[
+                Says::Comes,
+                Says::Offers(1, 1, Offer::Square),
+                Says::Offers(2, 2, Offer::Circle),
+            ],
+            &[
+                (Some(0), 0, 2, Said::Matched(1)),
+                (Some(1), 0, 3, Said::Matched(2)),
+            ],
+            &[(0, 1), (1, 2)],
+        )],
+        participants: &[SENDER],
+        writers: &[(1, "Square"), (2, "Circle")],
+    },
+    Known {
+        rows: &[(
+            &[Says::Withdraws(3, 1)],
+            &[(Some(0), 1, 1, Said::Unmatched(1))],
+            &[(1, 2)],
+        )],
+        participants: &[SENDER],
+        writers: &[(2, "Circle")],
+    },
+    Known {
+        rows: &[(&[Says::Leaves], &[(Some(1), 2, 1, Said::Unmatched(2))], &[])],
+        participants: &[],
+        writers: &[],
+    },
+];
 
-/// The end of the first writer.
-const WITHDRAWN: [Row; 1] = [(
-    &[Says::Withdraws(3, 1)],
-    &[(Some(0), 1, 1, Said::Unmatched(1))],
-    &[(1, 2)],
-)];
+/// The place of the first of these after which an engine doesn't know what it has to.
+fn first_unknown(
+    alloc: Global,
+    engine: &mut SerialEngine<Shapes>,
+    expected: &[Known],
+) -> Result<Option<usize>, Fail> {
+    for (at, known) in expected.iter().enumerate() {
+        if !knows(alloc, engine, known)? {
+            return Ok(Some(at));
+        }
+    }
+    Ok(None)
+}
 
-/// The end of the peer.
-const GONE: [Row; 1] = [(&[Says::Leaves], &[(Some(1), 2, 1, Said::Unmatched(2))], &[])];
+/// The same of a new engine.
+fn first_unknown_from_new(alloc: Global, expected: &[Known]) -> Result<Option<usize>, Fail> {
+    let mut engine = SerialEngine::new(alloc, two_unlike(alloc, Unlike::Topics)?, Shapes)?;
+    first_unknown(alloc, &mut engine, expected)
+}
 
 #[test]
 fn what_is_known_is_lent(rt: HostRuntime) -> Result<(), Fail> {
-    let alloc = rt.alloc();
-    let mut engine = SerialEngine::new(alloc, two_unlike(alloc, Unlike::Topics)?, Shapes)?;
-    assert!(rt; knows(alloc, &mut engine, &[], &[], &[])?);
-    let both = [(1, "Square"), (2, "Circle")];
-    assert!(rt; knows(alloc, &mut engine, &ANNOUNCED, &[SENDER], &both)?);
-    assert!(rt; knows(alloc, &mut engine, &WITHDRAWN, &[SENDER], &both[1..])?);
-    assert!(rt; knows(alloc, &mut engine, &GONE, &[], &[])?);
+    assert_eq!(rt; first_unknown_from_new(rt.alloc(), &KNOWN)?, None);
     Ok(())
 }
 
@@ -106,40 +136,47 @@ const ACKNACK: &[u8] = b"RTPS\x02\x05\x00\x00\
     \x06\x01\x1c\x00\x00\x00\x03\xc7\x00\x00\x03\xc2\x00\x00\x00\x00\x01\x00\x00\x00\
     \x01\x00\x00\x00\x00\x00\x00\x80\x01\x00\x00\x00";
 
-/// The one answer to a datagram of these submessages.
-fn only_answer(
+/// The answer to the peer's announcer of writers, which goes to its metatraffic.
+fn is_acknack(answer: &Answer) -> bool {
+    let metatraffic = Locator {
+        port: 7412,
+        address: [127, 0, 0, 1],
+    };
+    answer.rank.is_none()
+        && answer.to.as_slice() == [metatraffic].as_slice()
+        && answer.octets.as_slice() == ACKNACK
+}
+
+/// Whether the one answer to a datagram of these submessages is that one.
+fn answers_to_metatraffic(
     alloc: Global,
     engine: &mut SerialEngine<Shapes>,
     parts: &[Says],
-) -> Result<Answer, Fail> {
+) -> Result<bool, Fail> {
     let octets = datagram_of(alloc, parts)?;
-    let mut answers = engine.take(alloc, octets.as_slice())?.answers;
-    match (answers.pop(), answers.is_empty()) {
-        (Some(answer), true) => Ok(answer),
-        _ => Err(Fail::new("not one answer")),
-    }
+    let outcome = engine.take(alloc, octets.as_slice())?;
+    Ok(match outcome.answers.as_slice() {
+        [answer] => is_acknack(answer),
+        _ => false,
+    })
+}
+
+/// Whether a new engine answers so.
+fn answers_from_new(alloc: Global, parts: &[Says]) -> Result<bool, Fail> {
+    let mut engine = SerialEngine::new(alloc, two_unlike(alloc, Unlike::Topics)?, Shapes)?;
+    answers_to_metatraffic(alloc, &mut engine, parts)
 }
 
 #[test]
 fn discovery_answers_first(rt: HostRuntime) -> Result<(), Fail> {
-    let alloc = rt.alloc();
-    let mut engine = SerialEngine::new(alloc, two_unlike(alloc, Unlike::Topics)?, Shapes)?;
-    assert!(rt; meets(alloc, &mut engine, &ANSWERED)?);
+    let statuses = [status(1, 1, 0), status(0, 0, 0)];
+    assert!(rt; meets_from_new(rt.alloc(), Unlike::Topics, &ANSWERED, statuses)?);
     Ok(())
 }
 
 #[test]
 fn discovery_answers_to_metatraffic(rt: HostRuntime) -> Result<(), Fail> {
-    let alloc = rt.alloc();
-    let mut engine = SerialEngine::new(alloc, two_unlike(alloc, Unlike::Topics)?, Shapes)?;
     let parts = [Says::Comes, Says::Heartbeat(WRITERS, [1, 1, 1])];
-    let answer = only_answer(alloc, &mut engine, &parts)?;
-    let metatraffic = Locator {
-        port: 7412,
-        address: [127, 0, 0, 1],
-    };
-    assert_eq!(rt; answer.rank, None);
-    assert_eq!(rt; answer.to.as_slice(), [metatraffic].as_slice());
-    assert_eq!(rt; answer.octets.as_slice(), ACKNACK);
+    assert!(rt; answers_from_new(rt.alloc(), &parts)?);
     Ok(())
 }

@@ -91,7 +91,7 @@ pub(super) fn meets(
 
 /// How a reader stands that had so many matches, has so many of them now, and presented so many
 /// samples.
-fn status(matched_total: u32, matched_now: u64, samples: u32) -> Option<Status> {
+pub(super) fn status(matched_total: u32, matched_now: u64, samples: u32) -> Option<Status> {
     Some(Status {
         matched_total,
         matched_now,
@@ -102,19 +102,29 @@ fn status(matched_total: u32, matched_now: u64, samples: u32) -> Option<Status> 
     })
 }
 
-/// Whether a new engine meets these rows, with the statuses of its two readers after them.
-fn meets_from_new(
+/// Whether an engine meets these rows, with the statuses of its two readers after them.
+fn meets_with(
+    alloc: Global,
+    engine: &mut SerialEngine<Shapes>,
+    rows: &[Row],
+    statuses: [Option<Status>; 2],
+) -> Result<bool, Fail> {
+    Ok(
+        meets(alloc, engine, rows)?
+            && engine.status(0) == statuses[0]
+            && engine.status(1) == statuses[1],
+    )
+}
+
+/// The same of a new engine.
+pub(super) fn meets_from_new(
     alloc: Global,
     what: Unlike,
     rows: &[Row],
     statuses: [Option<Status>; 2],
 ) -> Result<bool, Fail> {
     let mut engine = SerialEngine::new(alloc, two_unlike(alloc, what)?, Shapes)?;
-    Ok(
-        meets(alloc, &mut engine, rows)?
-            && engine.status(0) == statuses[0]
-            && engine.status(1) == statuses[1],
-    )
+    meets_with(alloc, &mut engine, rows, statuses)
 }
 
 /// A writer of squares and one of circles.
@@ -175,62 +185,79 @@ fn a_partition_in_common_matches(rt: HostRuntime) -> Result<(), Fail> {
     Ok(())
 }
 
-/// The peer, its writer 1, and a sample; then the end of the writer.
-const COMES_AND_GOES: [Row; 3] = [
+/// What an engine takes, and its first reader's matches in all, those of now, and its samples after
+/// it.
+type Counted = (&'static [Row], (u32, u64, u32));
+
+/// Nothing; the peer and its writer 1, a sample, and the end of the writer; then the writer again,
+/// with numbers from 1.
+const COMES_AGAIN: [Counted; 6] = [
+    (&[], (0, 0, 0)),
     (
-        &[Says::Comes, Says::Offers(1, 1, Offer::Square)],
-        &[(Some(0), 0, 2, Said::Matched(1))],
-        &[(0, 1)],
+        &[(
+            &[Says::Comes, Says::Offers(1, 1, Offer::Square)],
+            &[(Some(0), 0, 2, Said::Matched(1))],
+            &[(0, 1)],
+        )],
+        (1, 1, 0),
     ),
     (
-        &[Says::Blue(1, 1)],
-        &[(Some(0), 1, 1, Said::Blue(1))],
-        &[(0, 1)],
+        &[(
+            &[Says::Blue(1, 1)],
+            &[(Some(0), 1, 1, Said::Blue(1))],
+            &[(0, 1)],
+        )],
+        (1, 1, 1),
     ),
     (
-        &[Says::Withdraws(2, 1), Says::Blue(1, 2)],
-        &[(Some(0), 2, 1, Said::Unmatched(1))],
-        &[],
+        &[(
+            &[Says::Withdraws(2, 1), Says::Blue(1, 2)],
+            &[(Some(0), 2, 1, Said::Unmatched(1))],
+            &[],
+        )],
+        (1, 0, 1),
+    ),
+    (
+        &[(
+            &[Says::Offers(3, 1, Offer::Square)],
+            &[(Some(0), 3, 1, Said::Matched(1))],
+            &[(0, 1)],
+        )],
+        (2, 1, 1),
+    ),
+    (
+        &[(
+            &[Says::Blue(1, 1), Says::Blue(1, 1)],
+            &[(Some(0), 4, 1, Said::Blue(1))],
+            &[(0, 1)],
+        )],
+        (2, 1, 2),
     ),
 ];
 
-/// The writer again, with numbers from 1.
-const COMES_AGAIN: [Row; 2] = [
-    (
-        &[Says::Offers(3, 1, Offer::Square)],
-        &[(Some(0), 3, 1, Said::Matched(1))],
-        &[(0, 1)],
-    ),
-    (
-        &[Says::Blue(1, 1), Says::Blue(1, 1)],
-        &[(Some(0), 4, 1, Said::Blue(1))],
-        &[(0, 1)],
-    ),
-];
-
-/// Whether an engine meets these rows and its first reader stands so after them.
-fn meets_and_shows(
+/// The place of the first of these that an engine doesn't meet.
+fn first_unmet(
     alloc: Global,
     engine: &mut SerialEngine<Shapes>,
-    rows: &[Row],
-    expected: Option<Status>,
-) -> Result<bool, Fail> {
-    Ok(meets(alloc, engine, rows)? && engine.status(0) == expected)
+    steps: &[Counted],
+) -> Result<Option<usize>, Fail> {
+    for (at, (rows, (total, now, samples))) in steps.iter().enumerate() {
+        if !meets(alloc, engine, rows)? || engine.status(0) != status(*total, *now, *samples) {
+            return Ok(Some(at));
+        }
+    }
+    Ok(None)
+}
+
+/// The same of a new engine.
+fn first_unmet_from_new(alloc: Global, steps: &[Counted]) -> Result<Option<usize>, Fail> {
+    let mut engine = SerialEngine::new(alloc, two_unlike(alloc, Unlike::Topics)?, Shapes)?;
+    first_unmet(alloc, &mut engine, steps)
 }
 
 #[test]
 fn a_writer_comes_again_with_numbers_of_its_own(rt: HostRuntime) -> Result<(), Fail> {
-    let alloc = rt.alloc();
-    let config = two_unlike(alloc, Unlike::Topics)?;
-    let mut engine = SerialEngine::new(alloc, config, Shapes)?;
-    assert_eq!(rt; engine.status(0), status(0, 0, 0));
-    let [announced, presented, ended] = COMES_AND_GOES;
-    assert!(rt; meets_and_shows(alloc, &mut engine, &[announced], status(1, 1, 0))?);
-    assert!(rt; meets_and_shows(alloc, &mut engine, &[presented], status(1, 1, 1))?);
-    assert!(rt; meets_and_shows(alloc, &mut engine, &[ended], status(1, 0, 1))?);
-    let [announced, presented] = COMES_AGAIN;
-    assert!(rt; meets_and_shows(alloc, &mut engine, &[announced], status(2, 1, 1))?);
-    assert!(rt; meets_and_shows(alloc, &mut engine, &[presented], status(2, 1, 2))?);
+    assert_eq!(rt; first_unmet_from_new(rt.alloc(), &COMES_AGAIN)?, None);
     Ok(())
 }
 

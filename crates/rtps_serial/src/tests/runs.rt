@@ -2,6 +2,7 @@
 
 ghost use Rattle.std.specs.Prelude.{◌≤◌, length};
 
+use super::edges::reports;
 use super::{Line, SENDER, Said, Sent, are_lines, config, datagram, two, writer};
 use crate::*;
 use dds_qos::Reliability;
@@ -14,24 +15,22 @@ use std::test::Fail;
 /// The submessages of a datagram, and what is reported of it, in order.
 type Row = (&'static [Sent], &'static [Line]);
 
-/// What an engine reports of a datagram, in order: at once, or dealt out and put in order again.
-fn reported(
+/// Whether an engine reports these lines of a datagram, put in order at once.
+fn reports_at_once(
     alloc: Global,
     engine: &mut SerialEngine<Shapes>,
     octets: &[u8],
-    dealt: bool,
-) -> Result<Vec<Report<Shape>>, Fail>
+    lines: &[Line],
+) -> Result<bool, Fail>
     requires { length octets.now ≤ 65507 }
 {
-    if dealt {
-        return Ok(engine.take(alloc, octets)?.in_order(alloc)?);
-    }
     let mut reports = Vec::new(alloc);
     engine.take_in_order(alloc, octets, &mut reports)?;
-    Ok(reports)
+    Ok(are_lines(&reports, lines))
 }
 
-/// Whether an engine meets each row, one after another.
+/// Whether an engine meets each row, one after another: at once, or dealt out and put in order
+/// again.
 fn meets_all(
     alloc: Global,
     engine: &mut SerialEngine<Shapes>,
@@ -40,8 +39,12 @@ fn meets_all(
 ) -> Result<bool, Fail> {
     for (parts, lines) in rows {
         let octets = datagram(alloc, parts)?;
-        let reports = reported(alloc, engine, octets.as_slice(), dealt)?;
-        if !are_lines(&reports, lines) {
+        let is_met = if dealt {
+            reports(alloc, engine, octets.as_slice(), lines)?
+        } else {
+            reports_at_once(alloc, engine, octets.as_slice(), lines)?
+        };
+        if !is_met {
             return Ok(false);
         }
     }
@@ -118,24 +121,46 @@ fn status(lost_total: u32, samples: u32) -> Option<Status> {
     })
 }
 
-/// Whether a new engine meets these rows, with the statuses of its two readers after them.
+/// Whether an engine meets these rows, with the statuses of its two readers after them.
+fn meets_with(
+    alloc: Global,
+    engine: &mut SerialEngine<Shapes>,
+    rows: &[Row],
+    dealt: bool,
+    statuses: [Option<Status>; 2],
+) -> Result<bool, Fail> {
+    Ok(
+        meets_all(alloc, engine, rows, dealt)?
+            && engine.status(0) == statuses[0]
+            && engine.status(1) == statuses[1]
+            && engine.status(2).is_none(),
+    )
+}
+
+/// The same of a new engine.
+fn meets_from_new(
+    alloc: Global,
+    reliability: Reliability,
+    rows: &[Row],
+    dealt: bool,
+    statuses: [Option<Status>; 2],
+) -> Result<bool, Fail> {
+    let mut engine = SerialEngine::new(alloc, two(alloc, reliability)?, Shapes)?;
+    meets_with(alloc, &mut engine, rows, dealt, statuses)
+}
+
+/// The same of two new engines, of which one puts its reports in order at once, and the other deals
+/// them out.
 fn meets(
     alloc: Global,
     reliability: Reliability,
     rows: &[Row],
     statuses: [Option<Status>; 2],
 ) -> Result<bool, Fail> {
-    for dealt in [false, true] {
-        let mut engine = SerialEngine::new(alloc, two(alloc, reliability)?, Shapes)?;
-        if !meets_all(alloc, &mut engine, rows, dealt)?
-            || engine.status(0) != statuses[0]
-            || engine.status(1) != statuses[1]
-            || engine.status(2).is_some()
-        {
-            return Ok(false);
-        }
-    }
-    Ok(true)
+    Ok(
+        meets_from_new(alloc, reliability, rows, false, statuses)?
+            && meets_from_new(alloc, reliability, rows, true, statuses)?,
+    )
 }
 
 /// Whether an engine of three readers with these fixed matches lists these matches.
