@@ -6,7 +6,7 @@ use Rattle.rtps_cdr.specs.Cdr.{CdrType, Unsigned, Signed, Boolean, Text, Octets,
 use Rattle.rtps_cdr.specs.Reading.{Cursor, Read, Reads, value_of, moved, number_in, signed_in, bool_in, text_in, octets_in}
 use Rattle.rtps_cdr.proofs.Related.{unsigned_law, signed_law, bool_law, octets_law}
 use Rattle.rtps_cdr.proofs.Counted.{text_law}
-use Rattle.dds_struct.specs.Value.{ValuesAreCdr, is_plain, value, behind, settled, items, behind_items, behind_counted}
+use Rattle.dds_struct.specs.Value.{is_plain, value, behind, settled, items, behind_items, behind_counted}
 use Rattle.dds_struct.specs.ReadParts.{Is, Within, All, both, all_items, counted, still_within, found_in}
 
 one_read : (t : CdrType) (c : Cursor) (r : Read (ValueOf t)) → Reads t c (moved c r) (value_of r) → Is t c (moved c r) (value_of r)
@@ -25,7 +25,7 @@ right_of : (a b : Bool) → (a && b) ≡ true → b ≡ true
 right_of true b same = same
 right_of false b same = absurd (cc same)
 
-pub lawful : ValuesAreCdr
+pub lawful : (t : CdrType) → is_plain t ≡ true → (c : Cursor) → Within c → Is t c (behind t c) (value t c)
 lawful (Unsigned size) plain c within = one_read (Unsigned size) c (number_in size c) (unsigned_law size c (positive size plain))
 lawful (Signed w) plain c within = one_read (Signed w) c (signed_in w c) (signed_law w c (positive (byte_len w) plain))
 lawful Boolean plain c within = one_read Boolean c (bool_in c) (bool_law c)
