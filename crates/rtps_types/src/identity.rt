@@ -11,7 +11,7 @@ use crate::order::{order_of_four, order_of_sixteen, order_of_twelve};
 use std::cmp::Ordering;
 
 /// The participant's part of a [`Guid`] (DDSI-RTPS 8.2.4.2, 9.3.1.1).
-#[derive(Clone, Copy, Debug, PartialEq, Eq, Hash)]
+#[derive(Clone, Copy, PartialEq, Eq, Hash)]
 pub struct GuidPrefix(pub [u8; 12]);
 
 impl PartialOrd for GuidPrefix {
@@ -40,7 +40,7 @@ impl Ord for GuidPrefix {
 }
 
 /// An endpoint within its participant: three octets of key, then one of kind (DDSI-RTPS 9.3.1.2).
-#[derive(Clone, Copy, Debug, PartialEq, Eq, Hash)]
+#[derive(Clone, Copy, PartialEq, Eq, Hash)]
 pub struct EntityId(pub [u8; 4]);
 
 impl PartialOrd for EntityId {
@@ -69,7 +69,7 @@ impl Ord for EntityId {
 }
 
 /// An endpoint in the whole domain (DDSI-RTPS 8.2.4.1, 9.3.1).
-#[derive(Clone, Copy, Debug, PartialEq, Eq, Hash)]
+#[derive(Clone, Copy, PartialEq, Eq, Hash)]
 pub struct Guid {
     pub prefix: GuidPrefix,
     pub entity: EntityId,
@@ -106,5 +106,5 @@ impl Ord for Guid {
 }
 
 /// The hash that names an instance of a topic (DDSI-RTPS 9.6.4.8).
-#[derive(Clone, Copy, Debug, PartialEq, Eq, PartialOrd, Ord, Hash)]
+#[derive(Clone, Copy, PartialEq, Eq, PartialOrd, Ord, Hash)]
 pub struct KeyHash(pub [u8; 16]);

@@ -6,7 +6,7 @@ use std::alloc::{AllocError, Allocator, Global};
 use std::marker::Model;
 
 /// A UDP address over IPv4 (DDSI-RTPS 9.3.2.4, `LOCATOR_KIND_UDPv4`).
-#[derive(Clone, Copy, Debug, PartialEq, Eq, Hash)]
+#[derive(Clone, Copy, PartialEq, Eq, Hash)]
 pub struct Locator {
     pub port: u16,
     /// The four octets of the address, as they are written with dots.

@@ -8,7 +8,7 @@ ghost use Rattle.rtps_types.specs.SequenceNumber.{number_of, IsNumber};
 pub const MAX_NUMBER: u64 = 4_611_686_018_427_387_904;
 
 /// The sequence number of a change, from 1 to [`MAX_NUMBER`].
-#[derive(Clone, Copy, Debug, PartialEq, Eq, PartialOrd, Ord, Hash)]
+#[derive(Clone, Copy, PartialEq, Eq, PartialOrd, Ord, Hash)]
 pub struct Number {
     value: u64,
     ghost bounds: { IsNumber value },

@@ -1,7 +1,7 @@
 //! Where a submessage stands in the run.
 
 /// The place of a submessage, ordered by datagram and then by submessage.
-#[derive(Clone, Copy, Debug, PartialEq, Eq, PartialOrd, Ord, Hash)]
+#[derive(Clone, Copy, PartialEq, Eq, PartialOrd, Ord, Hash)]
 pub struct Place {
     /// The datagram, counted over the whole run from 0.
     pub datagram: u64,

@@ -18,19 +18,19 @@ mod numbers;
 mod tests;
 mod times;
 
-/// Why a text isn't read as a value: the first cause in this order.
+/// Why a text isn't read as a value. Of two parts the first one is read first.
 #[derive(Clone, Copy, Debug, PartialEq, Eq, Error)]
 pub enum TextFault {
-    /// A character that stands between two parts isn't there.
+    /// The character that stands between two parts isn't there.
     #[error("the separator is missing")]
     Separator,
     /// An identity or a part of a moment hasn't two digits for each of its octets.
     #[error("the number of hex digits is wrong")]
     Length,
-    /// A character isn't a hex digit.
+    /// There are as many characters, and one of them isn't a hex digit.
     #[error("a character isn't a hex digit")]
     Digit,
-    /// There is no decimal number, or it is out of its range.
+    /// There is no number in decimal digits alone, or it is out of its range.
     #[error("not a decimal number of its range")]
     Number,
 }

@@ -37,3 +37,10 @@ impl fmt::Display for Locator {
         fmt::Display::fmt(&SocketAddrV4::from(*self), f)
     }
 }
+
+/// As it is displayed.
+impl fmt::Debug for Locator {
+    fn fmt<W: fmt::Write>(&self, f: &mut fmt::Formatter<W>) -> fmt::Result {
+        fmt::Display::fmt(self, f)
+    }
+}

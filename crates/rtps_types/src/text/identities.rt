@@ -19,6 +19,13 @@ impl fmt::Display for GuidPrefix {
     }
 }
 
+/// As it is displayed.
+impl fmt::Debug for GuidPrefix {
+    fn fmt<W: fmt::Write>(&self, f: &mut fmt::Formatter<W>) -> fmt::Result {
+        fmt::Display::fmt(self, f)
+    }
+}
+
 /// 24 digits, in either case.
 impl FromStr for GuidPrefix {
     type Err = TextFault;
@@ -36,6 +43,13 @@ impl fmt::Display for EntityId {
 
     fn fmt<W: fmt::Write>(&self, f: &mut fmt::Formatter<W>) -> fmt::Result {
         show_octets(&self.0, f)
+    }
+}
+
+/// As it is displayed.
+impl fmt::Debug for EntityId {
+    fn fmt<W: fmt::Write>(&self, f: &mut fmt::Formatter<W>) -> fmt::Result {
+        fmt::Display::fmt(self, f)
     }
 }
 
@@ -76,6 +90,13 @@ impl fmt::Display for Guid {
     }
 }
 
+/// As it is displayed.
+impl fmt::Debug for Guid {
+    fn fmt<W: fmt::Write>(&self, f: &mut fmt::Formatter<W>) -> fmt::Result {
+        fmt::Display::fmt(self, f)
+    }
+}
+
 /// 32 digits, in either case.
 impl FromStr for Guid {
     type Err = TextFault;
@@ -93,6 +114,13 @@ impl fmt::Display for KeyHash {
 
     fn fmt<W: fmt::Write>(&self, f: &mut fmt::Formatter<W>) -> fmt::Result {
         show_octets(&self.0, f)
+    }
+}
+
+/// As it is displayed.
+impl fmt::Debug for KeyHash {
+    fn fmt<W: fmt::Write>(&self, f: &mut fmt::Formatter<W>) -> fmt::Result {
+        fmt::Display::fmt(self, f)
     }
 }
 

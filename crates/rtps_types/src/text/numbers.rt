@@ -45,6 +45,13 @@ impl fmt::Display for Number {
     }
 }
 
+/// As it is displayed.
+impl fmt::Debug for Number {
+    fn fmt<W: fmt::Write>(&self, f: &mut fmt::Formatter<W>) -> fmt::Result {
+        fmt::Display::fmt(self, f)
+    }
+}
+
 /// A number from 1 to [`MAX_NUMBER`] in digits alone, without a sign.
 impl FromStr for Number {
     type Err = TextFault;
@@ -66,6 +73,13 @@ impl fmt::Display for Place {
             submessage,
         } = *self;
         write!(f, "{datagram}:{submessage}")
+    }
+}
+
+/// As it is displayed.
+impl fmt::Debug for Place {
+    fn fmt<W: fmt::Write>(&self, f: &mut fmt::Formatter<W>) -> fmt::Result {
+        fmt::Display::fmt(self, f)
     }
 }
 

@@ -17,20 +17,14 @@ const GUID_TEXT: &str = "0123456789abcdef10fe0aa0001234c2";
 
 #[test]
 fn identities_are_shown(rt: HostRuntime) -> Result<(), Fail> {
-    let alloc = rt.alloc();
-    assert_eq!(rt; GUID.to_string(alloc)?.as_str(), GUID_TEXT);
-    assert_eq!(rt;
-        GUID.prefix.to_string(alloc)?.as_str(),
-        "0123456789abcdef10fe0aa0"
-    );
-    assert_eq!(rt; GUID.entity.to_string(alloc)?.as_str(), "001234c2");
+    let Guid { prefix, entity } = GUID;
     let hash = KeyHash([0xf9; 16]);
+    let text = format!(in rt.alloc(); "{GUID} {prefix} {entity:>10} {hash:?}")?;
     assert_eq!(rt;
-        hash.to_string(alloc)?.as_str(),
-        "f9f9f9f9f9f9f9f9f9f9f9f9f9f9f9f9"
+        text.as_str(),
+        "0123456789abcdef10fe0aa0001234c2 0123456789abcdef10fe0aa0   001234c2 \
+         f9f9f9f9f9f9f9f9f9f9f9f9f9f9f9f9"
     );
-    let padded = format!(in alloc; "{:>10}|", GUID.entity)?;
-    assert_eq!(rt; padded.as_str(), "  001234c2|");
     Ok(())
 }
 
@@ -65,34 +59,34 @@ fn other_texts_are_no_identities(rt: HostRuntime) {
 
 #[test]
 fn numbers_and_places(rt: HostRuntime) -> Result<(), Fail> {
-    let alloc = rt.alloc();
-    let greatest = Number::new(MAX_NUMBER);
-    assert_eq!(rt; "4611686018427387904".parse().ok(), greatest);
-    if let Some(number) = greatest {
-        assert_eq!(rt; number.to_string(alloc)?.as_str(), "4611686018427387904");
-    }
-    assert_eq!(rt; "007".parse().ok(), Number::new(7));
-    for text in [
-        "",
-        "0",
-        "4611686018427387905",
-        "18446744073709551616",
-        "+7",
-        "7 ",
-        "-1",
-    ] {
-        assert_eq!(rt; text.parse::<Number>(), Err(TextFault::Number));
-    }
+    let number: Number = "4611686018427387904".parse()?;
     let place = Place {
         datagram: u64::MAX,
         submessage: u32::MAX,
     };
-    assert_eq!(rt;
-        place.to_string(alloc)?.as_str(),
-        "18446744073709551615:4294967295"
-    );
+    assert_eq!(rt; number.get(), MAX_NUMBER);
     assert_eq!(rt; "18446744073709551615:4294967295".parse(), Ok(place));
+    let text = format!(in rt.alloc(); "{number} {place}")?;
+    assert_eq!(rt;
+        text.as_str(),
+        "4611686018427387904 18446744073709551615:4294967295"
+    );
     Ok(())
+}
+
+#[test]
+fn texts_of_other_numbers(rt: HostRuntime) {
+    for (text, value) in [
+        ("007", Some(7)),
+        ("", None),
+        ("0", None),
+        ("4611686018427387905", None),
+        ("18446744073709551616", None),
+        ("+7", None),
+        ("7 ", None),
+    ] {
+        assert_eq!(rt; text.parse::<Number>().ok().map(Number::get), value);
+    }
 }
 
 #[test]
@@ -155,7 +149,10 @@ fn locators(rt: HostRuntime) -> Result<(), Fail> {
     };
     assert_eq!(rt; locator.to_string(rt.alloc())?.as_str(), "127.0.0.1:7412");
     let address = SocketAddrV4::from(locator);
-    assert_eq!(rt; Ok(address), "127.0.0.1:7412".parse());
+    assert_eq!(rt;
+        (address.ip().octets(), address.port()),
+        ([127, 0, 0, 1], 7412)
+    );
     assert_eq!(rt; Locator::from(address), locator);
     Ok(())
 }
@@ -170,12 +167,5 @@ fn identities_are_keys(rt: HostRuntime) -> Result<(), Fail> {
         ..GUID
     };
     assert_eq!(rt; counts.get(&other), None);
-    Ok(())
-}
-
-#[test]
-fn faults_say_why(rt: HostRuntime) -> Result<(), Fail> {
-    let text = TextFault::Length.to_string(rt.alloc())?;
-    assert_eq!(rt; text.as_str(), "the number of hex digits is wrong");
     Ok(())
 }

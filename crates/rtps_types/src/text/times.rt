@@ -23,6 +23,13 @@ impl fmt::Display for Timestamp {
     }
 }
 
+/// As it is displayed.
+impl fmt::Debug for Timestamp {
+    fn fmt<W: fmt::Write>(&self, f: &mut fmt::Formatter<W>) -> fmt::Result {
+        fmt::Display::fmt(self, f)
+    }
+}
+
 /// Spells a number in eight digits.
 fn spell_word(number: u32, digits: &mut [u8])
     requires { length digits.old ≡ 8 }
@@ -75,6 +82,13 @@ impl fmt::Display for Duration {
             return show_nanoseconds(whole - added, f);
         }
         show_nanoseconds(whole + added, f)
+    }
+}
+
+/// As it is displayed.
+impl fmt::Debug for Duration {
+    fn fmt<W: fmt::Write>(&self, f: &mut fmt::Formatter<W>) -> fmt::Result {
+        fmt::Display::fmt(self, f)
     }
 }
 
