@@ -1,11 +1,13 @@
 """Must-fail edits: wrong bodies that the checker has to refuse.
 
-Edits of functions that do not reach each other are tried in one check of a copy of the crate, which looks at these
-functions and at what they call. There an edit counts as refused only where the checker says of the very function that
-holds it that a goal of its own is not proved. Edits whose functions wait for others that were edited are tried again,
-without those that were refused. What leaves a doubt is tried alone, by a check of the whole crate: an edit outside a
-function's body, one in several functions, and one that was not refused among others. An edit of a function that
-another's proof names is never among others.
+Edits of several functions are tried in one check of a copy of the crate, which looks at these functions and at what
+they call. There an edit counts as refused only where the checker says of the very function that holds it that a goal
+of its own is not proved. A function that calls one that is not proved is judged only where answers to its goals are
+written: a body changes no contract, so the goals of its callers stay what they were, and the checker still tries the
+answers against them. Without answers a function waits for those that it calls, so they are not tried together. Edits
+whose functions wait for others that were edited are tried again, without those that were refused. What leaves a doubt
+is tried alone, by a check of the whole crate: an edit outside a function's body, one in several functions, and one that
+was not refused among others. An edit of a function that another's proof names is never among others.
 """
 
 import re
@@ -156,6 +158,12 @@ def is_named_elsewhere(function, folder):
     return any(not own.match(name) and word.search(path.read_text(encoding="utf-8")) for name, path in proofs)
 
 
+def is_answered(function, folder):
+    """Whether answers to a function's goals are written."""
+    own = re.compile(function.folder() + r"/(Answers|Invariants)\.antt")
+    return any(own.fullmatch(path.relative_to(folder).as_posix()) for path in (folder / "proofs").rglob("*.antt"))
+
+
 def reach_of(folder):
     """By function of a crate, the functions that its body reaches, as far as the text of its calls tells: a name before
     a parenthesis is a free function, a name after a dot or a type's name is a method of that name."""
@@ -184,9 +192,10 @@ def reach_of(folder):
 
 
 def groups_of(edits, folder):
-    """Edits in groups to be tried in one check each, and those that are tried alone by a check of the whole crate. No
-    function of a group reaches another one, so that none waits for another."""
+    """Edits in groups to be tried in one check each, and those that are tried alone by a check of the whole crate. A
+    function of a group reaches another one only where answers to its own goals are written."""
     own, groups, whole, reach = [], [], [], reach_of(folder)
+    waits = {function: found for function, found in reach.items() if not is_answered(function, folder)}
     for edit in edits:
         edit.function = function_of(edit, folder)
         if edit.function is None:
@@ -194,7 +203,7 @@ def groups_of(edits, folder):
         elif is_named_elsewhere(edit.function, folder):
             own.append([edit])
         else:
-            group = next((group for group in groups if is_apart(edit, group, reach)), None)
+            group = next((group for group in groups if is_apart(edit, group, waits)), None)
             if group is None:
                 groups.append([edit])
             else:
@@ -202,26 +211,29 @@ def groups_of(edits, folder):
     return groups + own, whole
 
 
-def is_apart(edit, group, reach):
-    """Whether there is room for an edit in a group, and its function and those of the group don't reach each other."""
+def is_apart(edit, group, waits):
+    """Whether there is room for an edit in a group, and its function and those of the group don't wait for each other,
+    where some functions wait for those that they reach."""
     this, others = edit.function, [other.function for other in group]
-    meets = (this == other or this in reach[other] or other in reach[this] for other in others)
+    meets = (this == other or this in waits.get(other, ()) or other in waits.get(this, ()) for other in others)
     return len(group) < MOST_AT_ONCE and not any(meets)
 
 
 def said_in_group(edit, crate, lines):
     """What the checker says of an edit among others: `refused` where a goal of the edited function's own is not proved,
-    whatever others do; `waits` where the function waits for another; else `doubt`."""
+    whatever others do, or where its answer to a goal no longer fits; `waits` where the function waits for another; else
+    `doubt`."""
     pattern = re.compile(rf"fn {edit.function.path(crate)}: (.*)")
     said = [found[1] for found in map(pattern.fullmatch, lines) if found]
     if len(said) != 1 or not said[0].startswith(("no proof", "not proved")):
         return "doubt"
-    if re.search(r"which (is|are) not proved|rests on|waits for", said[0]):
-        return "waits"
     proof = re.compile(rf"(\./)?{edit.function.folder()}/\w+\.antt:\d+:\d+: error: (.*)")
     faults = [found[2] for found in map(proof.match, lines) if found]
-    is_own = "did not prove" in said[0] or any(not PROOF_NAMES.search(fault) for fault in faults)
-    return "refused" if is_own else "doubt"
+    own = [fault for fault in faults if not PROOF_NAMES.search(fault)]
+    if re.search(r"which (is|are) not proved|rests on|waits for", said[0]):
+        is_own = said[0].startswith("not proved") and any(re.match("`[^`]+`: ", fault) for fault in own)
+        return "refused" if is_own else "waits"
+    return "refused" if "did not prove" in said[0] or own else "doubt"
 
 
 def after_group(group, crate, lines):

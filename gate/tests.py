@@ -257,11 +257,19 @@ class Edits(Repository):
     def groups(self):
         return [[edit.name for edit in group] for group in edits.groups_of(self.three(), self.crate("low").folder)[0]]
 
-    def test_edits_of_functions_that_reach_each_other_are_apart(self):
+    def test_edits_of_functions_that_wait_for_each_other_are_apart(self):
         self.assertEqual([["first", "next"], ["one"]], self.groups())
         twice = [*self.three(), edits.Edit("again", [("src/lib.rt", "octet + STEP", "1")])]
         names = [[edit.name for edit in group] for group in edits.groups_of(twice, self.crate("low").folder)[0]]
         self.assertEqual([["first", "next"], ["one"], ["again"]], names)
+
+    def test_a_function_with_answers_is_tried_with_those_that_it_reaches(self):
+        self.write("crates/low/proofs/Header/first/Lemmas.antt", "a lemma")
+        self.assertEqual([["first", "next"], ["one"]], self.groups())
+        self.write("crates/low/proofs/one/Answers.antt", "an answer")
+        self.assertEqual([["first", "next"], ["one"]], self.groups())
+        self.write("crates/low/proofs/Header/first/Answers.antt", "an answer")
+        self.assertEqual([["first", "next", "one"]], self.groups())
 
     def test_a_function_that_another_proof_names_is_alone(self):
         self.write("crates/low/proofs/HeaderIterator/next/Answers.antt", "use Rattle.low.proofs.HeaderIterator.next.Goals")
@@ -273,6 +281,24 @@ class Edits(Repository):
         self.assertEqual("refused", edits.said_in_group(first, "low", LINES))
         self.assertEqual("waits", edits.said_in_group(follows, "low", LINES))
         self.assertEqual("refused", edits.said_in_group(one, "low", LINES))
+
+    def test_above_a_function_that_is_not_proved_an_answer_that_does_not_fit_refuses(self):
+        first, _, _ = edits_in(self)
+        calls = "it calls `low::one`, which is not proved"
+        other = "./proofs/one/Answers.antt:3:4: error: `returns`: the two types differ"
+        own = "./proofs/Header/first/Answers.antt:3:4: error: `returns`: the two types differ"
+        named = "./proofs/Header/first/Answers.antt:3:4: error: `returns`: `one` was not admitted"
+        rests = "./proofs/Header/first/Answers.antt:3:4: error: it cites what was rejected"
+        for said, fault, expected in (
+            (f"not proved; {calls}", own, "refused"),
+            (f"no proof: {calls}", own, "waits"),
+            (f"not proved; {calls}", named, "waits"),
+            (f"not proved; {calls}", rests, "waits"),
+            (f"not proved; {calls}", other, "waits"),
+            (f"no proof: {calls}", "", "waits"),
+        ):
+            lines = [f"fn low::Header::first: {said}", fault]
+            self.assertEqual(expected, edits.said_in_group(first, "low", lines))
 
     def test_not_refused_in_a_group_is_what_is_proved_or_unnamed(self):
         first, _, one = edits_in(self)
