@@ -26,6 +26,7 @@ shown e sample view instance = record {
   writer = e.writer;
   number = e.number;
   time = e.time;
+  key = e.key;
   body = e.body;
   sample = sample;
   view = view;

@@ -23,6 +23,7 @@ lent_sample s = record {
   writer = s.writer;
   number = s.number;
   time = s.time;
+  key = s.key;
   body = lent_content s.body;
   sample = s.sample;
   view = s.view;

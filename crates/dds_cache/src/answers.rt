@@ -30,6 +30,7 @@ impl<V> Entry<V> {
             writer: self.writer,
             number: self.number,
             time: self.time,
+            key: self.key,
             body: match &self.body {
                 Content::Value(value) => Content::Value(value),
                 Content::Disposed => Content::Disposed,

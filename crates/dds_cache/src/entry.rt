@@ -34,6 +34,8 @@ pub struct Sample<T> {
     pub writer: Guid,
     pub number: Number,
     pub time: Option<Timestamp>,
+    /// The instance, by the hash of its key (DDS 1.4, 2.2.2.5.5, `instance_handle`).
+    pub key: KeyHash,
     pub body: Content<T>,
     pub sample: SampleState,
     pub view: ViewState,

@@ -1,6 +1,6 @@
 //! A reader's cache.
 
-ghost use Rattle.std.specs.Prelude.{◌≡◌, ◌∷◌, [], IfErr, IfOk, List, OnErr, OnOk, Some, length, map, option_to_list};
+ghost use Rattle.std.specs.Prelude.{◌≡◌, ◌↔◌, ◌∷◌, [], IfErr, IfOk, IsTrue, List, OnErr, OnOk, Some, length, map, option_to_list};
 ghost use Rattle.dds_cache.specs.Answered.{answered, unread};
 ghost use Rattle.dds_cache.specs.Cache.{IsHistory, entry_by};
 ghost use Rattle.dds_cache.specs.Calls.{Accepted, Done, WasTaken};
@@ -57,6 +57,20 @@ impl<V: Drop, A: Allocator + Copy> DataReader<V, A> {
                 answered: Vec::new(alloc),
             },
         }
+    }
+
+    /// How many entries there are.
+    pub fn len(&self) -> usize
+        ensures { result ≡ length self.now.entries }
+    {
+        self.shelf.entries.len()
+    }
+
+    /// Whether there is none.
+    pub fn is_empty(&self) -> bool
+        ensures { IsTrue result ↔ (length self.now.entries ≡ 0) }
+    {
+        self.shelf.entries.is_empty()
     }
 
     /// Accepts a notice. A value and a disposal are put after all other entries; where the last so

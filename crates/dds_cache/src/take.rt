@@ -28,6 +28,7 @@ impl<V> Entry<V> {
             writer: self.writer,
             number: self.number,
             time: self.time,
+            key: self.key,
             body: self.body,
             sample: chosen.sample,
             view: chosen.view,

@@ -1,6 +1,9 @@
 pub mod Along
 pub mod Batches
+pub mod Caching
 pub mod Fronts
 pub mod Rows
 pub mod Run
+pub mod Sampled
 pub mod Sliced
+pub mod Viewing

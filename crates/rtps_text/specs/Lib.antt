@@ -1,4 +1,6 @@
 pub mod Batched
+pub mod Caches
+pub mod Entries
 pub mod EventLines
 pub mod Line
 pub mod Replayed

@@ -4,9 +4,11 @@
 
 mod answer;
 mod body;
+mod caches;
 mod closing;
 mod context;
 mod dumping;
+mod entry;
 mod event_lines;
 mod guid;
 mod last_line;
@@ -18,6 +20,7 @@ mod printing;
 mod replaying;
 mod running;
 mod sample;
+mod sampling;
 mod setup;
 mod slices;
 mod spelling;
@@ -25,11 +28,13 @@ mod summary;
 
 pub use answer::push_answer;
 pub use dumping::{dump, dump_in};
+pub use entry::push_entry;
 pub use last_line::LastLine;
 pub use line::push_line;
 pub use notice::push_notice;
 pub use replaying::replay;
-pub use setup::{Pace, Setup};
+pub use sampling::samples;
+pub use setup::{CacheSetup, Pace, Setup};
 pub use summary::{push_match, push_status};
 
 #[cfg(test)]

@@ -68,7 +68,7 @@ where
 }
 
 /// Reads the next batch of records, and runs it.
-fn run_batch<C: TextCatalog, R: Read, T: Threads + Sync>(
+pub(crate) fn run_batch<C: TextCatalog, R: Read, T: Threads + Sync>(
     rt: &T,
     run: &mut RunLines<C>,
     records: &mut Records<'_, R, Batch>,

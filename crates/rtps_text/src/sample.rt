@@ -31,7 +31,7 @@ pub(crate) fn push_presented<C: TextCatalog, A: Allocator>(
     }
 }
 
-fn push_value<C: TextCatalog, A: Allocator>(
+pub(crate) fn push_value<C: TextCatalog, A: Allocator>(
     out: &mut Vec<u8, A>,
     catalog: &C,
     value: &C::Value,
@@ -44,7 +44,7 @@ fn push_value<C: TextCatalog, A: Allocator>(
 }
 
 /// Adds how an instance ended, and the hash of its key.
-fn push_ended<A: Allocator>(
+pub(crate) fn push_ended<A: Allocator>(
     out: &mut Vec<u8, A>,
     word: &str,
     hash: KeyHash,

@@ -2,7 +2,10 @@
 
 ghost use Rattle.std.specs.Prelude.{◌≡◌, ◌≤◌, Ok};
 ghost use Rattle.rtps_discovery.specs.Config.{check_of};
+ghost use Rattle.dds_cache.specs.Cache.{IsHistory};
+ghost use Rattle.rtps_text.specs.Entries.{IsHistory-prop};
 
+use dds_cache::History;
 use rtps_discovery::Config;
 
 /// How a run is cut into batches, and how many workers share each. It changes how long the run
@@ -29,4 +32,14 @@ pub struct Setup<C: Drop> {
     /// How the run is cut and shared.
     pub pace: Pace,
     ghost checked: { check_of config ≡ Ok tt },
+}
+
+/// Which readers keep a run over a file, and how much.
+#[derive(Drop)]
+pub struct CacheSetup<C: Drop> {
+    /// The run. A summary comes after the entries.
+    pub run: Setup<C>,
+    /// How many entries each reader keeps of an instance.
+    pub keep: History,
+    ghost kept: { IsHistory keep } by { IsHistory-prop keep },
 }
