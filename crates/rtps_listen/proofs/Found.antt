@@ -80,10 +80,10 @@ digits_from (d ∷ digits) e =
     (ltb-true _ _ parts.0, digits_from digits parts.1)
 
 -- what std reads in a text is the number that it writes
-number_parsed : {E : Type 0} (text : Text) (r : Result ℕ E) → ParsesUnsigned 16 10 text r → result_unwrap_or r 0 ≡ number_of text
+number_parsed : {E : Type 0} (text : Text) (r : Result ℕ E) → ParsesUnsigned 32 10 text r → result_unwrap_or r 0 ≡ number_of text
 number_parsed text (Ok n) h =
     let digits = without_leading_plus text in
-    rw (lt-ltb 0 (length digits) h.0.0.0, digits_pass digits h.0.0.1, lt-ltb (digits_value 10 digits) 65536 h.0.1) h.1
+    rw (lt-ltb 0 (length digits) h.0.0.0, digits_pass digits h.0.0.1, lt-ltb (digits_value 10 digits) 4294967296 h.0.1) h.1
 number_parsed text (Err e) h = go (are_digits (without_leading_plus text)) refl
   where
     go : (b : Bool) → are_digits (without_leading_plus text) ≡ b → 0 ≡ number_of text
@@ -93,13 +93,13 @@ number_parsed text (Err e) h = go (are_digits (without_leading_plus text)) refl
         let inner = both _ _ outer.0 in
         absurd (h ((ltb-true _ _ inner.0, digits_from (without_leading_plus text) inner.1), ltb-true _ _ outer.1))
 
-number_text : (E : Type 0) (G : Text → Result ℕ E → Type 0) → ((t : Text) (r : Result ℕ E) → G t r → ParsesUnsigned 16 10 t r)
+number_text : (E : Type 0) (G : Text → Result ℕ E → Type 0) → ((t : Text) (r : Result ℕ E) → G t r → ParsesUnsigned 32 10 t r)
     → (t : Text) (o : Option ℕ) → ReadsOne G t o → unwrap_or o 0 ≡ number_of t
 number_text E G only t (Some n) h = number_parsed {E = E} t (Ok n) (only t (Ok n) h)
 number_text E G only t None h = number_parsed {E = E} t (Err h.0) (only t (Err h.0) h.1)
 
 -- what `get_one` reads of a number
-pub number_read : (E : Type 0) (G : Text → Result ℕ E → Type 0) → ((t : Text) (r : Result ℕ E) → G t r → ParsesUnsigned 16 10 t r)
+pub number_read : (E : Type 0) (G : Text → Result ℕ E → Type 0) → ((t : Text) (r : Result ℕ E) → G t r → ParsesUnsigned 32 10 t r)
     → (f : Found) (id : Text) (o : Option ℕ) → (one_text f id ≡ None → o ≡ None) → ((t : Text) → one_text f id ≡ Some t → ReadsOne G t o)
     → unwrap_or o 0 ≡ number_in id (rows_of f)
 number_read E G only f id o none value = go (one_text f id) none value ∙ ap (λ x. option_map_or number_of x 0) (one_text-rows f id)

@@ -5,9 +5,9 @@ use Rattle.std.proofs.KnownBytes.{Keeps-refl}
 use Rattle.rtps_records.specs.declared.fault.RunFault.TheVariants.{NoMemory}
 use Rattle.rtps_listen.specs.Asked.{IsDumpCause, RefusesFirst}
 use Rattle.rtps_listen.specs.Configs.{IsReplayCause}
-use Rattle.rtps_listen.specs.Printed.{IsBefore, IsFirst, IsTaskOf, Prints, PrintsBy, task_text}
+use Rattle.rtps_listen.specs.Printed.{IsBefore, IsFirst, IsTaskOf, Prints, PrintsBy}
 use Rattle.rtps_listen.specs.declared.asked.Asked.{Asked}
-use Rattle.rtps_listen.specs.declared.asked.Asked.TheVariants.{Dump, Replay, Other}
+use Rattle.rtps_listen.specs.declared.asked.Asked.TheVariants.{Dump, Replay, Samples, Other}
 use Rattle.rtps_listen.specs.declared.options.Options.{Options}
 use Rattle.rtps_listen.specs.declared.task.Task.{Task}
 use Rattle.rtps_listen.specs.declared.fault.ListenFault.{ListenFault}
@@ -57,6 +57,14 @@ nothing_refused (Replay options) t s h k = (
   },
   replay_cause options s k,
 )
+nothing_refused (Samples samples) t s h k = (
+  record {
+    prefix = λ bad. not_err t BadPrefix (h.0.prefix bad);
+    fixed = λ good bad. not_err t BadWriter (h.0.fixed good bad);
+    writer = λ good bad. elim (h.0.writer good bad) [ inl e ↦ not_err t BadWriter e | inr e ↦ not_err t (Run NoMemory) e ];
+  },
+  replay_cause samples.options s k,
+)
 nothing_refused Other t s h k = not_err t NotBuilt h
 
 again : {T U E : Type 0} (r : Result T E) (s : Result U E) (f e : E) → r ≡ Err f → s ≡ Err f → r ≡ Err e → s ≡ Err e
@@ -77,6 +85,14 @@ same_err (Replay options) r s fault e k h = (
   },
   rw k (rw e at h.1),
 )
+same_err (Samples samples) r s fault e k h = (
+  record {
+    prefix = λ bad. again r s fault BadPrefix e k (h.0.prefix bad);
+    fixed = λ good bad. again r s fault BadWriter e k (h.0.fixed good bad);
+    writer = λ good bad. elim (h.0.writer good bad) [ inl w ↦ inl (again r s fault BadWriter e k w) | inr w ↦ inr (again r s fault (Run NoMemory) e k w) ];
+  },
+  rw k (rw e at h.1),
+)
 same_err Other r s fault e k h = again r s fault NotBuilt e k h
 
 -- what was refused is passed on
@@ -90,16 +106,16 @@ prints_before a file old (Ok u) fault is h = absurd is
 prints_before a file old (Err other) fault is h = inl (refl, rw is h, Keeps-refl old)
 
 -- what a task prints is printed
-pub prints_task : (a : Asked) (t : Task) (file all old new : Option (List ℕ)) (s : Result (Unit {0}) ListenFault) → IsTaskOf a t → file ≡ all → PrintsBy (task_text t) file old new s → Prints a all old new s
+pub prints_task : (a : Asked) (t : Task) (file all old new : Option (List ℕ)) (s : Result (Unit {0}) ListenFault) → IsTaskOf a t → file ≡ all → PrintsBy t file old new s → Prints a all old new s
 unfolding Prints
-prints_task a t file all old new s h e p = inr (t, h, subst (λ f. PrintsBy (task_text t) f old new s) e p)
+prints_task a t file all old new s h e p = inr (t, h, subst (λ f. PrintsBy t f old new s) e p)
 
 -- and its faults are those of a run
-pub is_run : (text : List (List ℕ) → List ℕ) (file old new : Option (List ℕ)) (s : Result (Unit {0}) ListenFault) → PrintsBy text file old new s → IfErr s IsRun
+pub is_run : (t : Task) (file old new : Option (List ℕ)) (s : Result (Unit {0}) ListenFault) → PrintsBy t file old new s → IfErr s IsRun
 unfolding PrintsBy
-is_run text file old new (Ok u) p = tt
-is_run text file old new (Err (Run fault)) p = tt
-is_run text file old new (Err NoText) p = absurd p
-is_run text file old new (Err NotBuilt) p = absurd p
-is_run text file old new (Err BadPrefix) p = absurd p
-is_run text file old new (Err BadWriter) p = absurd p
+is_run t file old new (Ok u) p = tt
+is_run t file old new (Err (Run fault)) p = tt
+is_run t file old new (Err NoText) p = absurd p
+is_run t file old new (Err NotBuilt) p = absurd p
+is_run t file old new (Err BadPrefix) p = absurd p
+is_run t file old new (Err BadWriter) p = absurd p

@@ -2,13 +2,13 @@
 use Rattle.std.specs.Prelude.{◌≡◌, List, [], Option, Some, None, codes, Result, Err, IfErr}
 use Rattle.clap.specs.Words.{Row, Text}
 use Rattle.rtps_listen.specs.declared.asked.Asked.{Asked}
-use Rattle.rtps_listen.specs.declared.asked.Asked.TheVariants.{Dump, Replay, Other}
+use Rattle.rtps_listen.specs.declared.asked.Asked.TheVariants.{Dump, Replay, Samples, Other}
 use Rattle.rtps_listen.specs.declared.fault.ListenFault.{ListenFault}
 use Rattle.rtps_listen.specs.declared.fault.ListenFault.TheVariants.{BadPrefix, NotBuilt, Run}
 use Rattle.rtps_listen.specs.Configs.{IsReplayCause, Refuses}
 use Rattle.rtps_listen.specs.Identities.{IsPrefixText}
 use Rattle.rtps_listen.specs.Line.{own_text}
-use Rattle.rtps_listen.specs.Options.{AreOptions, text_or}
+use Rattle.rtps_listen.specs.Options.{AreOptions, AreSamplesOptions, text_or}
 
 -- no words are `dump -`
 abbrev pub IsDump : Option (Text × List Row) → Type 0
@@ -19,6 +19,10 @@ abbrev pub IsReplay : Option (Text × List Row) → Type 0
 IsReplay None = ⊥
 IsReplay (Some found) = found.0 ≡ codes "replay"
 
+abbrev pub IsSamples : Option (Text × List Row) → Type 0
+IsSamples None = ⊥
+IsSamples (Some found) = found.0 ≡ codes "samples"
+
 -- what was found after the subcommand
 abbrev pub rows_behind : Option (Text × List Row) → List Row
 rows_behind None = []
@@ -28,7 +32,8 @@ unfoldable pub Asks : Asked → Option (Text × List Row) → Type 0
 Asks (Dump file own) found =
     IsDump found × (file.now ≡ text_or (codes "file") (codes "-") (rows_behind found)) × (own.now ≡ text_or (codes "own") own_text (rows_behind found))
 Asks (Replay options) found = IsReplay found × AreOptions options (rows_behind found)
-Asks Other found = ¬ IsDump found × ¬ IsReplay found
+Asks (Samples samples) found = IsSamples found × AreSamplesOptions samples (rows_behind found)
+Asks Other found = ¬ IsDump found × ¬ IsReplay found × ¬ IsSamples found
 
 -- what is wrong where `dump` ends with this fault: with its prefix, or with its run
 abbrev pub IsDumpCause : Text → ListenFault → Type 0
@@ -40,4 +45,5 @@ IsDumpCause own _ = ⊥
 unfoldable pub RefusesFirst : {T : Type 0} → Asked → Result T ListenFault → Type 0
 RefusesFirst (Dump file own) result = (¬ IsPrefixText own.now → result ≡ Err BadPrefix) × IfErr result (IsDumpCause own.now)
 RefusesFirst (Replay options) result = Refuses options result × IfErr result (IsReplayCause options)
+RefusesFirst (Samples samples) result = Refuses samples.options result × IfErr result (IsReplayCause samples.options)
 RefusesFirst Other result = result ≡ Err NotBuilt

@@ -31,6 +31,10 @@ batch_rule = record (new_rule (codes "batch")) { value_names = 1; long = Some (c
 abbrev pub readers_rule : Rule
 readers_rule = record (new_rule (codes "readers")) { value_names = 1; long = Some (codes "readers"); parser = Some (Signed (pos 1) (pos 8)); defaults = codes "1" ∷ [] }
 
+-- `--keep` 0 to 65536
+abbrev pub keep_rule : Rule
+keep_rule = record (new_rule (codes "keep")) { value_names = 1; long = Some (codes "keep"); parser = Some (Signed (pos 0) (pos 65536)); defaults = codes "0" ∷ [] }
+
 -- the topic where none is given
 abbrev pub topic_text : List ℕ
 topic_text = codes "Square"
@@ -95,9 +99,9 @@ dump_app = with_rule (with_rule (new_app (codes "dump")) file_rule) own_rule
 unfoldable pub replay_app : App
 replay_app = with_options (with_rule (new_app (codes "replay")) file_rule)
 
--- `samples FILE` and the options
+-- `samples FILE [--keep N]` and the options
 unfoldable pub samples_app : App
-samples_app = with_options (with_rule (new_app (codes "samples")) file_rule)
+samples_app = with_options (with_rule (with_rule (new_app (codes "samples")) file_rule) keep_rule)
 
 -- `listen --domain D --count N [--turns T]` and the options
 unfoldable pub live_app : App

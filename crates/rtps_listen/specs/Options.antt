@@ -1,4 +1,4 @@
--- The options of `replay`, by what clap finds after it.
+-- The options of `replay` and `samples`, by what clap finds after it.
 use Rattle.std.specs.Prelude.{◌≡◌, ℕ, nat_le, nat_lt, List, length, Bool, false, ◌&&◌, if◌then◌else◌, codes, unwrap_or, option_map}
 use Rattle.std.specs.Char.{digit_value}
 use Rattle.std.specs.List.{list_all}
@@ -7,6 +7,7 @@ use Rattle.std.specs.Str.{bytes_eq}
 use Rattle.std.specs.Str.Parse.{digits_value, without_leading_plus}
 use Rattle.clap.specs.Words.{Row, Text, first_of, one_of}
 use Rattle.rtps_listen.specs.declared.options.Options.{Options}
+use Rattle.rtps_listen.specs.declared.options.SamplesOptions.{SamplesOptions}
 use Rattle.rtps_listen.specs.Line.{own_text, topic_text}
 
 -- the text after this name, or else this one
@@ -17,9 +18,9 @@ text_or name other rows = unwrap_or (first_of name rows) other
 abbrev pub is_set : Text → List Row → Bool
 is_set name rows = option_map_or (λ text. bytes_eq text (codes "true")) (one_of name rows) false
 
--- digits of a number below 65536
+-- digits of a number below 2^32
 abbrev pub are_digits : List ℕ → Bool
-are_digits digits = nat_lt 0 (length digits) && list_all (λ d. nat_lt (digit_value d) 10) digits && nat_lt (digits_value 10 digits) 65536
+are_digits digits = nat_lt 0 (length digits) && list_all (λ d. nat_lt (digit_value d) 10) digits && nat_lt (digits_value 10 digits) 4294967296
 
 -- the number that a text writes, or 0 where it writes none
 abbrev pub number_of : Text → ℕ
@@ -33,6 +34,10 @@ number_in name rows = option_map_or number_of (one_of name rows) 0
 abbrev pub one_to : ℕ → ℕ → ℕ
 one_to most n = if nat_le 1 n && nat_le n most then n else 1
 
+-- a number up to the greatest, in the same way
+abbrev pub up_to : ℕ → ℕ → ℕ
+up_to most n = if nat_le n most then n else 0
+
 -- the options are those that stand in these rows
 pub record AreOptions (options : Options) (rows : List Row) : Type 0 where
   pub file : options.file.now ≡ text_or (codes "file") (codes "-") rows
@@ -45,3 +50,8 @@ pub record AreOptions (options : Options) (rows : List Row) : Type 0 where
   pub best_effort : options.best_effort ≡ is_set (codes "best-effort") rows
   pub raw : options.raw ≡ is_set (codes "raw") rows
   pub summary : options.summary ≡ is_set (codes "summary") rows
+
+-- the same for `samples`
+pub record AreSamplesOptions (s : SamplesOptions) (rows : List Row) : Type 0 where
+  pub options : AreOptions s.options rows
+  pub keep : s.keep ≡ up_to 65536 (number_in (codes "keep") rows)

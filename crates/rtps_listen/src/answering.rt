@@ -2,7 +2,7 @@
 
 ghost use Rattle.std.specs.Prelude.{◌≡◌, ℕ, IfOk, List, Option};
 ghost use Rattle.rtps_listen.specs.Asked.{RefusesFirst};
-ghost use Rattle.rtps_listen.specs.Printed.{Prints, PrintsBy, file_of, task_text};
+ghost use Rattle.rtps_listen.specs.Printed.{Prints, PrintsBy, file_of};
 
 use crate::asked::Asked;
 use crate::fault::ListenFault;
@@ -57,7 +57,7 @@ fn print_file<R: Read + Drop, W: Write, T: Threads + Sync>(
     file: R,
     writer: &mut W,
 ) -> Result<(), ListenFault>
-    ensures { PrintsBy (task_text task) (R.remaining file)
+    ensures { PrintsBy task (R.remaining file)
         (W.contents writer.old) (W.contents writer.new) result }
 {
     let Ok(mut reader) = BufReader::with_capacity(alloc, READ_AHEAD, file) else {

@@ -3,9 +3,9 @@
 ghost use Rattle.std.specs.Prelude.{◌≡◌, ◌≤◌, option_map};
 ghost use Rattle.clap.specs.Words.{found_of, rows_of};
 ghost use Rattle.rtps_listen.specs.Asked.{Asks};
-ghost use Rattle.rtps_listen.specs.Options.{AreOptions, is_set, number_in, one_to, text_or};
+ghost use Rattle.rtps_listen.specs.Options.{AreOptions, AreSamplesOptions, is_set, number_in, one_to, text_or, up_to};
 
-use crate::options::Options;
+use crate::options::{Options, SamplesOptions};
 use clap::ArgMatches;
 
 /// The prefix where `--own` gives none, in hex.
@@ -21,6 +21,8 @@ pub enum Asked<'a> {
     Dump { file: &'a str, own: &'a str },
     /// What readers answer to a file.
     Replay(Options<'a>),
+    /// What readers keep of a file.
+    Samples(SamplesOptions<'a>),
     /// What is not there yet.
     Other,
 }
@@ -35,6 +37,7 @@ impl Asked<'_> {
         match self {
             Asked::Dump { file, .. } => file,
             Asked::Replay(options) => options.file,
+            Asked::Samples(samples) => samples.options.file,
             Asked::Other => "",
         }
     }
@@ -59,17 +62,17 @@ fn flag_in(matches: &ArgMatches<'_>, name: &str) -> bool
 }
 
 /// The number after this name, or 0.
-fn number_in(matches: &ArgMatches<'_>, name: &str) -> u16
+fn number_in(matches: &ArgMatches<'_>, name: &str) -> u32
     ensures { result ≡ number_in name.now (rows_of (found_of matches.now)) }
 {
-    matches.get_one::<u16>(name).unwrap_or(0)
+    matches.get_one::<u32>(name).unwrap_or(0)
 }
 
 /// A number of readers, workers or datagrams, of which there are at most so many. clap refuses a
 /// line with another number than 1 to the greatest, but what its contract says of a value that was
 /// found doesn't repeat that. So it is tested here, for all that is built on it; the arm of other
 /// numbers is never taken.
-fn one_to(most: u16, number: u16) -> u16
+fn one_to(most: u32, number: u32) -> u32
     requires { 1 ≤ most }
     ensures value { result ≡ one_to most number }
     ensures some { 1 ≤ result }
@@ -82,7 +85,15 @@ fn one_to(most: u16, number: u16) -> u16
     }
 }
 
-/// The options after `replay`.
+/// A number up to the greatest, which is tested in the same way.
+fn up_to(most: u32, number: u32) -> u32
+    ensures value { result ≡ up_to most number }
+    ensures few { result ≤ most }
+{
+    if number <= most { number } else { 0 }
+}
+
+/// The options after `replay` or `samples`.
 fn options_in<'a>(matches: &ArgMatches<'a>) -> Options<'a>
     ensures { AreOptions result (rows_of (found_of matches.now)) }
 {
@@ -90,13 +101,23 @@ fn options_in<'a>(matches: &ArgMatches<'a>) -> Options<'a>
         file: text_in(matches, "file", "-"),
         readers: one_to(8, number_in(matches, "readers")) as u8,
         workers: one_to(64, number_in(matches, "workers")) as u8,
-        batch: one_to(4096, number_in(matches, "batch")),
+        batch: one_to(4096, number_in(matches, "batch")) as u16,
         topic: text_in(matches, "topic", TOPIC),
         own: text_in(matches, "own", OWN),
         fixed: matches.get_str("fixed"),
         best_effort: flag_in(matches, "best-effort"),
         raw: flag_in(matches, "raw"),
         summary: flag_in(matches, "summary"),
+    }
+}
+
+/// All options after `samples`.
+fn samples_options_in<'a>(matches: &ArgMatches<'a>) -> SamplesOptions<'a>
+    ensures { AreSamplesOptions result (rows_of (found_of matches.now)) }
+{
+    SamplesOptions {
+        options: options_in(matches),
+        keep: up_to(65_536, number_in(matches, "keep")),
     }
 }
 
@@ -118,6 +139,8 @@ pub fn asked_by<'a>(found: Option<(&'a str, &ArgMatches<'a>)>) -> Asked<'a>
                 }
             } else if name == "replay" {
                 Asked::Replay(options_in(matches))
+            } else if name == "samples" {
+                Asked::Samples(samples_options_in(matches))
             } else {
                 Asked::Other
             }

@@ -1,8 +1,8 @@
-//! What `replay` is asked to do.
+//! What `replay` and `samples` are asked to do.
 
 ghost use Rattle.std.specs.Prelude.{◌≤◌};
 
-/// The options of `replay`.
+/// The options of `replay`, and of `samples` but for one.
 #[derive(Clone, Copy, Debug, PartialEq, Eq)]
 pub struct Options<'a> {
     /// The name of the record file, or `-`.
@@ -31,4 +31,13 @@ pub struct Options<'a> {
     ghost shared: { workers ≤ 64 },
     ghost begun: { 1 ≤ batch },
     ghost batched: { batch ≤ 4096 },
+}
+
+/// The options of `samples`.
+#[derive(Clone, Copy, Debug, PartialEq, Eq)]
+pub struct SamplesOptions<'a> {
+    pub options: Options<'a>,
+    /// How many entries are kept of an instance, 1 to 65,536, or 0 for all.
+    pub keep: u32,
+    ghost bounded: { keep ≤ 65536 },
 }

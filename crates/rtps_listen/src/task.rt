@@ -1,20 +1,22 @@
 //! What is to be done with a record file, once its options are found to be good.
 
-ghost use Rattle.std.specs.Prelude.{◌≡◌, IfErr, IfOk, None, OnOk};
-ghost use Rattle.rtps_records.specs.Runs.{Stops, WroteAll};
+ghost use Rattle.std.specs.Prelude.{◌≡◌, ◌≤◌, IfErr, IfOk, None, OnOk};
+ghost use Rattle.rtps_records.specs.Runs.{WroteAll};
+ghost use Rattle.dds_cache.specs.Cache.{IsHistory};
 ghost use Rattle.rtps_listen.specs.Asked.{RefusesFirst};
 ghost use Rattle.rtps_listen.specs.Configs.{IsCause, Refuses};
-ghost use Rattle.rtps_listen.specs.Printed.{IsBefore, IsTaskOf, task_text};
-ghost use Rattle.rtps_listen.specs.declared.asked.Asked.TheVariants.{Replay};
+ghost use Rattle.rtps_listen.specs.Printed.{IsBefore, IsRunOf, IsTaskOf, TaskStops, history_of, task_text};
+ghost use Rattle.rtps_listen.specs.declared.asked.Asked.TheVariants.{Replay, Samples};
 
 use crate::asked::Asked;
 use crate::config::config_of;
 use crate::fault::ListenFault;
-use crate::options::Options;
+use crate::options::{Options, SamplesOptions};
 use crate::prefix::prefix_of;
+use dds_cache::History;
 use dds_topic::{Raw, Shapes};
 use rtps_records::RunFault;
-use rtps_text::{Pace, Setup, dump, replay};
+use rtps_text::{CacheSetup, Pace, Setup, dump, replay, samples};
 use rtps_types::GuidPrefix;
 use std::alloc::Global;
 use std::io::{Read, Write};
@@ -29,11 +31,15 @@ pub enum Task {
     Replay(Setup<Shapes>),
     /// It is replayed to readers of octets.
     ReplayRaw(Setup<Raw>),
+    /// Readers of the Shapes demo keep what they report of it.
+    Samples(CacheSetup<Shapes>),
+    /// Readers of octets keep what they report of it.
+    SamplesRaw(CacheSetup<Raw>),
 }
 
 impl Task {
     /// Reads a file to its end or its first fault, and writes its text.
-    #[tactic(auto, unfolding(crate::specs::Printed::task_text))]
+    #[tactic(auto, unfolding(crate::specs::Printed::task_text, crate::specs::Printed::TaskStops))]
     pub fn print<R: Read, W: Write, T: Threads + Sync>(
         self,
         rt: &T,
@@ -43,7 +49,7 @@ impl Task {
     ) -> Result<(), RunFault>
         ensures ok { OnOk result (WroteAll (task_text self) (R.remaining reader.old)
             (W.contents writer.old) (W.contents writer.new) None) }
-        ensures fault { IfErr result (λ fault. Stops (task_text self) fault
+        ensures fault { IfErr result (λ fault. TaskStops self fault
             (R.remaining reader.old) (R.remaining reader.new)
             (W.contents writer.old) (W.contents writer.new)) }
     {
@@ -51,6 +57,8 @@ impl Task {
             Task::Dump(own) => dump(alloc, own, reader, writer),
             Task::Replay(setup) => replay(rt, alloc, setup, reader, writer),
             Task::ReplayRaw(setup) => replay(rt, alloc, setup, reader, writer),
+            Task::Samples(setup) => samples(rt, alloc, setup, reader, writer),
+            Task::SamplesRaw(setup) => samples(rt, alloc, setup, reader, writer),
         }
     }
 }
@@ -68,35 +76,71 @@ pub fn task_of(alloc: Global, asked: &Asked<'_>) -> Result<Task, ListenFault>
             None => Err(ListenFault::BadPrefix),
         },
         Asked::Replay(options) => replay_of(alloc, options),
+        Asked::Samples(samples) => samples_of(alloc, samples),
         Asked::Other => Err(ListenFault::NotBuilt),
     }
 }
 
-/// The run that options ask for.
+/// The run that options ask for, with this catalog.
+fn run_of<C: Drop>(
+    alloc: Global,
+    options: &Options<'_>,
+    catalog: C,
+) -> Result<Setup<C>, ListenFault>
+    ensures refused { Refuses options.now result }
+    ensures cause { IfErr result (IsCause options.now) }
+    ensures run { IfOk result (IsRunOf options.now) }
+{
+    Ok(Setup {
+        config: config_of(alloc, options)?,
+        catalog,
+        summary: options.summary,
+        pace: Pace {
+            batch: options.batch,
+            workers: options.workers,
+        },
+    })
+}
+
+/// The run that is to be printed.
 #[tactic(auto, unfolding(crate::specs::Printed::IsTaskOf))]
 fn replay_of(alloc: Global, options: &Options<'_>) -> Result<Task, ListenFault>
     ensures refused { Refuses options.now result }
     ensures cause { IfErr result (IsCause options.now) }
     ensures task { IfOk result (IsTaskOf (Replay options.now)) }
 {
-    let config = config_of(alloc, options)?;
-    let summary = options.summary;
-    let pace = Pace {
-        batch: options.batch,
-        workers: options.workers,
-    };
     if options.raw {
-        return Ok(Task::ReplayRaw(Setup {
-            config,
-            catalog: Raw,
-            summary,
-            pace,
-        }));
+        return Ok(Task::ReplayRaw(run_of(alloc, options, Raw)?));
     }
-    Ok(Task::Replay(Setup {
-        config,
-        catalog: Shapes,
-        summary,
-        pace,
-    }))
+    Ok(Task::Replay(run_of(alloc, options, Shapes)?))
+}
+
+/// How many entries are kept of an instance, where 0 stands for all.
+fn history_of(keep: u32) -> History
+    requires { keep ≤ 65536 }
+    ensures value { result ≡ history_of keep }
+    ensures is { IsHistory result }
+{
+    if keep == 0 {
+        History::KeepAll
+    } else {
+        History::KeepLast(keep)
+    }
+}
+
+/// The run whose entries are to be printed.
+#[tactic(auto, unfolding(crate::specs::Printed::IsTaskOf))]
+fn samples_of(alloc: Global, samples: &SamplesOptions<'_>) -> Result<Task, ListenFault>
+    ensures refused { Refuses samples.now.options result }
+    ensures cause { IfErr result (IsCause samples.now.options) }
+    ensures task { IfOk result (IsTaskOf (Samples samples.now)) }
+{
+    let options = &samples.options;
+    let keep = history_of(samples.keep);
+    if options.raw {
+        let run = run_of(alloc, options, Raw)?;
+        return Ok(Task::SamplesRaw(CacheSetup { run, keep }));
+    }
+    let run = run_of(alloc, options, Shapes)?;
+    Ok(Task::Samples(CacheSetup { run, keep }))
 }

@@ -42,8 +42,7 @@ fn lines_of_dump(rt: HostRuntime) -> Result<(), Fail> {
 }
 
 /// Good lines of what is not built.
-const OTHERS: [&[&str]; 3] = [
-    &["samples", "-", "--best-effort", "--summary", "--fixed", "x"],
+const OTHERS: [&[&str]; 2] = [
     &["listen", "--domain", "0", "--count", "1"],
     &[
         "listen", "--count", "65536", "--turns", "100000", "--domain", "232",
@@ -60,7 +59,7 @@ fn lines_of_other_commands(rt: HostRuntime) -> Result<(), Fail> {
 }
 
 /// Bad lines, and what is bad of each.
-const BAD: [(&[&str], ErrorKind); 19] = [
+const BAD: [(&[&str], ErrorKind); 21] = [
     (&["dump"], ErrorKind::MissingRequiredArgument),
     (&["dump", "-", "-"], ErrorKind::UnknownArgument),
     (&["dump", "-", "--raw"], ErrorKind::UnknownArgument),
@@ -91,6 +90,11 @@ const BAD: [(&[&str], ErrorKind); 19] = [
         &["samples", "-", "--readers", "9"],
         ErrorKind::ValueValidation,
     ),
+    (
+        &["samples", "-", "--keep", "65537"],
+        ErrorKind::ValueValidation,
+    ),
+    (&["replay", "-", "--keep", "1"], ErrorKind::UnknownArgument),
     (
         &["samples", "-", "--raw", "--raw"],
         ErrorKind::ArgumentConflict,

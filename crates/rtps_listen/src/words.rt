@@ -61,7 +61,8 @@ fn samples_command<'a>(alloc: Global) -> Result<Command<'a>, AllocError>
         alloc,
         Command::new(alloc, "samples")
             .about("Runs readers over a record file, and prints what they keep")
-            .arg(file(alloc))?,
+            .arg(file(alloc))?
+            .arg(keep(alloc))?,
     )
 }
 
@@ -147,7 +148,7 @@ fn workers<'a>(alloc: Global) -> Arg<'a>
         .value_name("COUNT")
         .help("How many threads run readers")
         .long("workers")
-        .value_parser(value_parser!(u16).range(1..65))
+        .value_parser(value_parser!(u32).range(1..65))
         .default_value("1")
 }
 
@@ -158,7 +159,7 @@ fn batch<'a>(alloc: Global) -> Arg<'a>
         .value_name("COUNT")
         .help("How many datagrams are taken at a time")
         .long("batch")
-        .value_parser(value_parser!(u16).range(1..4097))
+        .value_parser(value_parser!(u32).range(1..4097))
         .default_value("256")
 }
 
@@ -169,8 +170,19 @@ fn readers<'a>(alloc: Global) -> Arg<'a>
         .value_name("COUNT")
         .help("How many readers there are")
         .long("readers")
-        .value_parser(value_parser!(u16).range(1..9))
+        .value_parser(value_parser!(u32).range(1..9))
         .default_value("1")
+}
+
+fn keep<'a>(alloc: Global) -> Arg<'a>
+    ensures { IsPlainRule result line.keep_rule }
+{
+    Arg::new(alloc, "keep")
+        .value_name("COUNT")
+        .help("How many entries are kept of an instance, 0 for all")
+        .long("keep")
+        .value_parser(value_parser!(u32).range(0..65_537))
+        .default_value("0")
 }
 
 fn topic<'a>(alloc: Global) -> Arg<'a>

@@ -1,4 +1,4 @@
-//! Lines of `replay`, and the configurations that their options ask for.
+//! Lines of `replay` and `samples`, and the configurations that their options ask for.
 
 ghost use Rattle.std.specs.Prelude.{None};
 
@@ -7,7 +7,7 @@ use crate::answering::{RecordFiles, answer};
 use crate::asked::Asked;
 use crate::config::config_of;
 use crate::fault::ListenFault;
-use crate::options::Options;
+use crate::options::{Options, SamplesOptions};
 use crate::prefix::writer_of;
 use crate::words::read_words;
 use dds_qos::{Durability, Ownership, Reliability};
@@ -136,6 +136,26 @@ fn a_line_with_all_options(rt: HostRuntime) -> Result<(), Fail> {
 }
 
 #[test]
+fn lines_of_samples(rt: HostRuntime) -> Result<(), Fail> {
+    for (line, keep) in [
+        (["samples", "-"].as_slice(), 0),
+        (["samples", "-", "--keep", "0"].as_slice(), 0),
+        (["samples", "--keep", "1", "-"].as_slice(), 1),
+        (["samples", "-", "--keep=65536"].as_slice(), 65_536),
+    ] {
+        let words = words(rt.alloc(), line)?;
+        let options = flags(false, false, false);
+        let samples = SamplesOptions { options, keep };
+        assert_eq!(rt;
+            read_words(rt.alloc(), words.as_slice())?,
+            Asked::Samples(samples),
+            "{line:?}"
+        );
+    }
+    Ok(())
+}
+
+#[test]
 fn writers(rt: HostRuntime) {
     assert_eq!(rt; writer_of(THEIRS), Some(WRITER));
     assert_eq!(rt; writer_of("0102030405060708090A0BAC00AB0102"), Some(WRITER));
@@ -190,13 +210,15 @@ fn options_that_are_refused(rt: HostRuntime) {
     for (best_effort, own, fixed, fault) in REFUSED {
         let mut options = texts(own, fixed);
         options.best_effort = best_effort;
-        let mut out = Vec::new(rt.alloc());
-        let asked = Asked::Replay(options);
-        assert_eq!(rt;
-            answer(&rt, rt.alloc(), &NoFiles, &asked, &mut out),
-            Err(fault)
-        );
-        assert_eq!(rt; out.len(), 0);
+        let samples = SamplesOptions { options, keep: 0 };
+        for asked in [Asked::Replay(options), Asked::Samples(samples)] {
+            let mut out = Vec::new(rt.alloc());
+            assert_eq!(rt;
+                answer(&rt, rt.alloc(), &NoFiles, &asked, &mut out),
+                Err(fault)
+            );
+            assert_eq!(rt; out.len(), 0);
+        }
     }
 }
 
