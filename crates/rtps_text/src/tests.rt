@@ -1,6 +1,7 @@
 //! Lines against a record file that was written down by hand.
 
 mod answers;
+mod entries;
 mod fragments;
 mod lines;
 mod matches;

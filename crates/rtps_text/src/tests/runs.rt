@@ -22,7 +22,7 @@ const WRITER: Guid = Guid {
 
 /// `RDG1`, and two datagrams of BLUE at 10, 20 of size 30: the changes 1 and 3 for every reader, and
 /// 4 for the second one.
-const FILE: [&str; 10] = [
+pub(super) const FILE: [&str; 10] = [
     "52444731",
     "0000007c",
     "52545053020500000a0a0a0a0a0a0a0a0a0a0a0a",
@@ -36,7 +36,7 @@ const FILE: [&str; 10] = [
 ];
 
 /// How many octets the magic and the first record take.
-const FIRST: usize = 132;
+pub(super) const FIRST: usize = 132;
 
 const LINES: [&str; 7] = [
     "0:1 reader 0 sample 0a0a0a0a0a0a0a0a0a0a0a0a00000102 1 - value 424c5545 10 20 30",
@@ -70,7 +70,7 @@ fn reader_config(alloc: Global, reliability: Reliability, rank: u8) -> Result<Re
 }
 
 /// A configuration of these readers.
-fn config_of(alloc: Global, given: Given) -> Result<Config, Fail>
+pub(super) fn config_of(alloc: Global, given: Given) -> Result<Config, Fail>
     ensures { IfOk result (λ config. check_of config ≡ Ok tt) }
 {
     let mut config = Config {
@@ -104,7 +104,7 @@ fn config_of(alloc: Global, given: Given) -> Result<Config, Fail>
 }
 
 /// How runs are cut and shared in these tests.
-const PACES: [Pace; 4] = [
+pub(super) const PACES: [Pace; 4] = [
     Pace {
         batch: 1,
         workers: 1,
@@ -124,7 +124,7 @@ const PACES: [Pace; 4] = [
 ];
 
 /// These readers, with values of shapes of which one finds no memory, and without a summary.
-fn setup(config: Config, refused: u64, pace: Pace) -> Setup<Starved<Shapes>>
+pub(super) fn setup(config: Config, refused: u64, pace: Pace) -> Setup<Starved<Shapes>>
     requires { check_of config ≡ Ok tt }
 {
     Setup {
