@@ -4,3 +4,4 @@ pub mod Offering
 pub mod Seen
 pub mod Settings
 pub mod Values
+pub mod PolicyNames

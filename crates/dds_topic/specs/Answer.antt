@@ -1,5 +1,5 @@
 -- What a catalog answers, unless memory runs out.
-use Rattle.std.specs.Prelude.{◌≡◌, ℕ, Result, Ok, Err}
+use Rattle.std.specs.Prelude.{◌≡◌, ℕ, List, codes, Result, Ok, Err}
 use Rattle.dds_topic.specs.declared.unread.Unread.{Unread as UnreadCode}
 use Rattle.dds_topic.specs.declared.unread.Unread.TheVariants.{Encapsulation, Malformed, NonStandard, NoKey}
 use Rattle.dds_topic.specs.declared.unread.CatalogError.{CatalogError}
@@ -11,6 +11,13 @@ code_of Encapsulation = 1
 code_of Malformed = 2
 code_of NonStandard = 3
 code_of NoKey = 4
+
+-- and their names
+abbrev pub name_of : UnreadCode → List ℕ
+name_of Encapsulation = codes "Encapsulation"
+name_of Malformed = codes "Malformed"
+name_of NonStandard = codes "NonStandard"
+name_of NoKey = codes "NoKey"
 
 -- want of memory may come whatever is meant; another cause is the one that is meant
 abbrev pub Fails : {M : Type 0} → CatalogError → Result M UnreadCode → Type 0

@@ -234,15 +234,15 @@ fn a_key_of_two_members(rt: HostRuntime) -> Result<(), Fail> {
 }
 
 #[test]
-fn causes_have_numbers(rt: HostRuntime) {
+fn causes_have_numbers_and_names(rt: HostRuntime) {
     let causes = [
-        (Unread::Encapsulation, 1),
-        (Unread::Malformed, 2),
-        (Unread::NonStandard, 3),
-        (Unread::NoKey, 4),
+        (Unread::Encapsulation, 1, "Encapsulation"),
+        (Unread::Malformed, 2, "Malformed"),
+        (Unread::NonStandard, 3, "NonStandard"),
+        (Unread::NoKey, 4, "NoKey"),
     ];
-    for (cause, code) in causes {
-        assert_eq!(rt; cause.code(), code);
+    for (cause, code, name) in causes {
+        assert_eq!(rt; (cause.code(), cause.name()), (code, name));
     }
 }
 

@@ -26,7 +26,7 @@ pub enum Unread {
 }
 
 impl Unread {
-    ghost use Rattle.dds_topic.specs.Answer.{code_of};
+    ghost use Rattle.dds_topic.specs.Answer.{code_of, name_of};
 
     /// The number that stands for it in printed lines, from 1 to 4 in the order above.
     pub fn code(self) -> u32
@@ -37,6 +37,18 @@ impl Unread {
             Unread::Malformed => 2,
             Unread::NonStandard => 3,
             Unread::NoKey => 4,
+        }
+    }
+
+    /// Its name, for what a person reads. No memory is taken.
+    pub fn name(self) -> &'static str
+        ensures { result.now ≡ name_of self }
+    {
+        match self {
+            Unread::Encapsulation => "Encapsulation",
+            Unread::Malformed => "Malformed",
+            Unread::NonStandard => "NonStandard",
+            Unread::NoKey => "NoKey",
         }
     }
 }

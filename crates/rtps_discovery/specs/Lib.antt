@@ -15,3 +15,5 @@ pub mod Leaving
 pub mod Effects
 pub mod Ranked
 pub mod Pairs
+pub mod Asking
+pub mod FaultNames

@@ -25,6 +25,21 @@ pub enum ConfigFault {
     BadFixed,
 }
 
+impl ConfigFault {
+    ghost use Rattle.rtps_discovery.specs.FaultNames.{name_of};
+
+    /// Its name, for what a person reads. No memory is taken.
+    pub fn name(self) -> &'static str
+        ensures { result.now ≡ name_of self }
+    {
+        match self {
+            ConfigFault::Readers => "Readers",
+            ConfigFault::BadReader => "BadReader",
+            ConfigFault::BadFixed => "BadFixed",
+        }
+    }
+}
+
 /// The most readers of a configuration.
 pub(crate) const READER_LIMIT: usize = 256;
 

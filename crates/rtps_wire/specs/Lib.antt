@@ -16,3 +16,4 @@ pub mod Bounds
 pub mod OneReading
 pub mod Answering
 pub mod Cuts
+pub mod StatusNames

@@ -32,6 +32,24 @@ pub struct ChangeInfo {
     pub hash: Option<KeyHash>,
 }
 
+impl ChangeInfo {
+    ghost use Rattle.rtps_wire.specs.StatusNames.{status_name};
+
+    /// What the status info says of the instance, by its bits for disposed and unregistered
+    /// (DDSI-RTPS 9.6.4.9): `alive` where neither is set. The other bits say nothing. No memory is
+    /// taken.
+    pub fn status_name(&self) -> &'static str
+        ensures { result.now ≡ status_name self.now.status }
+    {
+        match self.status % 4 {
+            0 => "alive",
+            1 => "disposed",
+            2 => "unregistered",
+            _ => "disposed and unregistered",
+        }
+    }
+}
+
 /// The fields of a DATA.
 #[derive(Clone, Copy, Debug)]
 pub struct Data<'a> {

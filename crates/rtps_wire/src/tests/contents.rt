@@ -255,3 +255,21 @@ fn inline_qos_is_good_or_the_change_is_invalid(rt: HostRuntime) -> Result<(), Fa
     }
     Ok(())
 }
+
+#[test]
+fn statuses_have_names(rt: HostRuntime) {
+    for (status, name) in [
+        (0, "alive"),
+        (1, "disposed"),
+        (2, "unregistered"),
+        (3, "disposed and unregistered"),
+        (0xfd, "disposed"),
+    ] {
+        let info = ChangeInfo {
+            form: Form::Nothing,
+            status,
+            hash: None,
+        };
+        assert_eq!(rt; info.status_name(), name);
+    }
+}

@@ -1,0 +1,9 @@
+-- What the last octet of a status info says of an instance (DDSI-RTPS 9.6.4.9): bit 1 is for disposed, bit 2 for unregistered.
+use Rattle.std.specs.Prelude.{ℕ, ◌%◌, ◌==◌, List, codes, if◌then◌else◌}
+
+abbrev pub status_name : ℕ → List ℕ
+status_name status =
+    if status % 4 == 0 then codes "alive"
+    else if status % 4 == 1 then codes "disposed"
+    else if status % 4 == 2 then codes "unregistered"
+    else codes "disposed and unregistered"
