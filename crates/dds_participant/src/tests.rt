@@ -129,6 +129,14 @@ fn line(report: &Report<Shape>) -> Line {
     (turn.rank, turn.place.datagram, said)
 }
 
+/// Puts the lines of reports after those that are there.
+fn push_lines(reports: &[Report<Shape>], lines: &mut Vec<Line>) -> Result<(), AllocError> {
+    for report in reports {
+        lines.push(line(report))?;
+    }
+    Ok(())
+}
+
 /// Has a participant take a batch, and puts what it gives after the lines, in order.
 fn take<C: Catalog<Value = Shape>, G: Gate, R: Threads + Sync>(
     rt: &R,
@@ -145,10 +153,8 @@ fn take<C: Catalog<Value = Shape>, G: Gate, R: Threads + Sync>(
         return Err(Fail::new("the batch is too large"));
     }
     let outcome = participant.run_batch(rt, alloc, gate, datagrams, workers)?;
-    for report in &outcome.in_order(alloc)? {
-        lines.push(line(report))?;
-    }
-    Ok(())
+    let reports = outcome.in_order(alloc)?;
+    Ok(push_lines(&reports, lines)?)
 }
 
 /// What the readers give of the three datagrams. Only the second one is told of the lost number 2.
@@ -185,58 +191,87 @@ fn stands(alloc: Global, participant: &Participant<Shapes>, batches: usize) -> R
     )
 }
 
-/// Has a participant take datagrams in batches of these lengths, and gives what it gives, in order.
+/// Datagrams, the lengths of the batches in which they are taken, and how many workers take each.
+#[derive(Clone, Copy)]
+struct Cut<'a> {
+    datagrams: &'a [&'a [u8]],
+    lengths: &'a [usize],
+    workers: usize,
+}
+
+/// Has a participant take datagrams in batches, and puts what it gives after the lines, in order.
 fn take_all<R: Threads + Sync>(
     rt: &R,
     alloc: Global,
     participant: &mut Participant<Shapes>,
-    datagrams: &[&[u8]],
-    sizes: (&[usize], usize),
-) -> Result<Vec<Line>, Fail>
-    requires { (1 ≤ sizes.1) × (sizes.1 ≤ 64) }
+    cut: Cut<'_>,
+    lines: &mut Vec<Line>,
+) -> Result<(), Fail>
+    requires { (1 ≤ cut.workers) × (cut.workers ≤ 64) }
 {
-    let (cut, workers) = sizes;
-    let mut lines = Vec::new(alloc);
     let mut at = 0_usize;
-    for length in cut {
+    for length in cut.lengths {
         let end = at.saturating_add(*length);
-        let Some(batch) = datagrams.get(at..end) else {
+        let Some(batch) = cut.datagrams.get(at..end) else {
             return Err(Fail::new("the cut is too long"));
         };
-        take(
-            rt,
-            alloc,
-            &NoGate,
-            participant,
-            (batch, workers),
-            &mut lines,
-        )?;
+        take(rt, alloc, &NoGate, participant, (batch, cut.workers), lines)?;
         at = end;
     }
-    Ok(lines)
+    Ok(())
 }
 
-/// Whether the three datagrams give what they have to, in batches of these lengths.
+/// Whether a participant gives these lines of datagrams that it takes in batches.
+fn gives<R: Threads + Sync>(
+    rt: &R,
+    alloc: Global,
+    participant: &mut Participant<Shapes>,
+    cut: Cut<'_>,
+    expected: &[Line],
+) -> Result<bool, Fail>
+    requires { (1 ≤ cut.workers) × (cut.workers ≤ 64) }
+{
+    let mut lines = Vec::new(alloc);
+    take_all(rt, alloc, participant, cut, &mut lines)?;
+    Ok(lines.as_slice() == expected)
+}
+
+/// Whether a participant gives what it has to of the three datagrams, and stands as it has to after
+/// them.
 fn gives_all<R: Threads + Sync>(
     rt: &R,
     alloc: Global,
-    cut: &[usize],
-    workers: usize,
+    participant: &mut Participant<Shapes>,
+    cut: Cut<'_>,
 ) -> Result<bool, Fail>
-    requires { (1 ≤ workers) × (workers ≤ 64) }
+    requires { (1 ≤ cut.workers) × (cut.workers ≤ 64) }
+{
+    Ok(
+        gives(rt, alloc, participant, cut, &EXPECTED)?
+            && stands(alloc, participant, cut.lengths.len())?,
+    )
+}
+
+/// The same of a new participant.
+fn gives_all_from_new<R: Threads + Sync>(rt: &R, alloc: Global, cut: Cut<'_>) -> Result<bool, Fail>
+    requires { (1 ≤ cut.workers) × (cut.workers ≤ 64) }
 {
     let mut participant = Participant::new(alloc, config(alloc)?, Shapes)?;
-    let lines = take_all(rt, alloc, &mut participant, &ALL, (cut, workers))?;
-    Ok(lines.as_slice() == EXPECTED.as_slice() && stands(alloc, &participant, cut.len())?)
+    gives_all(rt, alloc, &mut participant, cut)
 }
 
 #[test]
 fn any_cut_and_any_workers_give_the_same(rt: HostRuntime) -> Result<(), Fail> {
     let alloc = rt.alloc();
     let cuts: [&[usize]; 4] = [&[3], &[1, 1, 1], &[0, 2, 0, 1, 0], &[1, 2]];
-    for cut in cuts {
+    for lengths in cuts {
         for workers in [1, 2, 64] {
-            assert!(rt; gives_all(&rt, alloc, cut, workers)?);
+            let cut = Cut {
+                datagrams: &ALL,
+                lengths,
+                workers,
+            };
+            assert!(rt; gives_all_from_new(&rt, alloc, cut)?);
         }
     }
     Ok(())
@@ -280,23 +315,36 @@ impl Counting {
     }
 }
 
+/// Has a participant take a sample, and a heartbeat for the second reader alone.
+fn take_both<R: Threads + Sync>(
+    rt: &R,
+    alloc: Global,
+    gate: &Counting,
+    participant: &mut Participant<Shapes>,
+    lines: &mut Vec<Line>,
+) -> Result<(), Fail> {
+    for datagram in [DATA, LATER] {
+        take(rt, alloc, gate, participant, (&[datagram], 2), lines)?;
+    }
+    Ok(())
+}
+
+/// How often jobs of the first reader and of the second one began and ended then.
+fn counted<R: Threads + Sync>(
+    rt: &R,
+    alloc: Global,
+    participant: &mut Participant<Shapes>,
+) -> Result<(u64, u64), Fail> {
+    let gate = Counting::new();
+    let mut lines = Vec::new(alloc);
+    take_both(rt, alloc, &gate, participant, &mut lines)?;
+    Ok(gate.counts())
+}
+
 #[test]
 fn a_reader_without_a_step_has_no_job(rt: HostRuntime) -> Result<(), Fail> {
     let alloc = rt.alloc();
-    let gate = Counting::new();
     let mut participant = Participant::new(alloc, config(alloc)?, Shapes)?;
-    let mut lines = Vec::new(alloc);
-    // The heartbeat is for the second reader alone.
-    for datagram in [DATA, LATER] {
-        take(
-            &rt,
-            alloc,
-            &gate,
-            &mut participant,
-            (&[datagram], 2),
-            &mut lines,
-        )?;
-    }
-    assert_eq!(rt; gate.counts(), (101, 202));
+    assert_eq!(rt; counted(&rt, alloc, &mut participant)?, (101, 202));
     Ok(())
 }

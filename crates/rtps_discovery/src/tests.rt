@@ -7,7 +7,7 @@ mod memory;
 mod start;
 
 use crate::*;
-use dds_qos::{Ownership, Reliability, Requested};
+use dds_qos::{Ownership, Reliability};
 use rtps_types::{EntityId, Guid, GuidPrefix, Locators};
 use std::alloc::Global;
 use std::test::Fail;
@@ -48,26 +48,15 @@ fn add_reader(
     ownership: Ownership,
     reliability: Reliability,
 ) -> Result<(), Fail> {
-    let mut requested = Requested::new(alloc);
-    requested.policies.ownership = ownership;
-    requested.policies.reliability = reliability;
-    let topic = String::from_str(alloc, "Square")?;
-    let type_name = String::from_str(alloc, "ShapeType")?;
-    config.readers.push(ReaderConfig {
-        entity: EntityId(entity),
-        topic,
-        type_name,
-        requested,
-    })?;
+    let mut reader = ReaderConfig::new(alloc, EntityId(entity), "Square", "ShapeType")?;
+    reader.requested.policies.ownership = ownership;
+    reader.requested.policies.reliability = reliability;
+    config.add_reader(reader)?;
     Ok(())
 }
 
 fn empty(alloc: Global) -> Config {
-    Config {
-        own: OURS,
-        readers: Vec::new(alloc),
-        fixed: Vec::new(alloc),
-    }
+    Config::new(alloc, OURS)
 }
 
 /// Readers with these entities and policies, and fixed matches.
@@ -93,11 +82,7 @@ fn config_of(alloc: Global, row: Row<'_>) -> Result<Config, Fail> {
         add_reader(alloc, &mut config, *entity, row.ownership, row.reliability)?;
     }
     for (rank, writer) in row.fixed {
-        config.fixed.push(FixedMatch {
-            rank: *rank,
-            writer: *writer,
-            locators: Locators::new(Vec::new(alloc)),
-        })?;
+        config.add_fixed(*rank, *writer, Locators::new(Vec::new(alloc)))?;
     }
     Ok(config)
 }
@@ -215,5 +200,16 @@ fn zeros_are_for_every_reader(rt: HostRuntime) {
         (WITH_KEY, [0x00; 4], false),
     ] {
         assert_eq!(rt; is_for(EntityId(reader), EntityId(entity)), expected);
+    }
+}
+
+#[test]
+fn faults_have_names(rt: HostRuntime) {
+    for (fault, name) in [
+        (ConfigFault::Readers, "Readers"),
+        (ConfigFault::BadReader, "BadReader"),
+        (ConfigFault::BadFixed, "BadFixed"),
+    ] {
+        assert_eq!(rt; fault.name(), name);
     }
 }

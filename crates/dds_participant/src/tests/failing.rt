@@ -88,6 +88,35 @@ fn refusal<R: Threads + Sync>(
     )
 }
 
+/// How many samples the first reader presented, if there is one.
+fn samples(participant: &Participant<Starved<Shapes>>) -> Option<u32> {
+    match participant.status(0) {
+        Some(Status { samples, .. }) => Some(samples),
+        None => None,
+    }
+}
+
+/// Whether a participant takes the batch twice, or fails for good.
+fn takes_or_fails<R: Threads + Sync>(
+    rt: &R,
+    alloc: Global,
+    participant: &mut Participant<Starved<Shapes>>,
+    is_refused: bool,
+) -> Result<bool, Fail> {
+    let first = refusal(rt, alloc, participant)?;
+    let second = refusal(rt, alloc, participant)?;
+    if !is_refused {
+        return Ok(first.is_none() && second.is_none() && samples(participant) == Some(1));
+    }
+    Ok(
+        first == Some(EngineError::NoMemory)
+            && second == Some(EngineError::Failed)
+            && samples(participant) == Some(0)
+            && participant.batches() == 0
+            && participant.matches(alloc).err() == Some(EngineError::Failed),
+    )
+}
+
 /// Whether a participant whose batch has two values takes it, or else fails for good, where this
 /// value finds no memory.
 fn fails_at<R: Threads + Sync>(rt: &R, alloc: Global, refused: u64) -> Result<bool, Fail> {
@@ -97,22 +126,7 @@ fn fails_at<R: Threads + Sync>(rt: &R, alloc: Global, refused: u64) -> Result<bo
         decoded: AtomicU64::new(0),
     };
     let mut participant = Participant::new(alloc, config(alloc)?, catalog)?;
-    let first = refusal(rt, alloc, &mut participant)?;
-    let second = refusal(rt, alloc, &mut participant)?;
-    let samples = match participant.status(0) {
-        Some(Status { samples, .. }) => samples,
-        None => return Ok(false),
-    };
-    if refused >= 2 {
-        return Ok(first.is_none() && second.is_none() && samples == 1);
-    }
-    Ok(
-        first == Some(EngineError::NoMemory)
-            && second == Some(EngineError::Failed)
-            && samples == 0
-            && participant.batches() == 0
-            && participant.matches(alloc).err() == Some(EngineError::Failed),
-    )
+    takes_or_fails(rt, alloc, &mut participant, refused < 2)
 }
 
 #[test]

@@ -2,7 +2,7 @@
 
 ghost use Rattle.std.specs.Prelude.{◌≤◌};
 
-use super::{Counting, Line, Said, take, take_all, unmatched};
+use super::{Counting, Cut, Line, Said, gives, take, unmatched};
 use crate::*;
 use dds_topic::Shapes;
 use std::alloc::Global;
@@ -79,28 +79,33 @@ const TWO: [Line; 8] = [
     (Some(1), 1, Said::Blue(1)),
 ];
 
-/// Whether one reader, and two, give what they have to, in batches of these lengths.
+/// Whether so many readers give these lines of datagrams that are taken in batches.
 fn are_routed<R: Threads + Sync>(
     rt: &R,
     alloc: Global,
-    cut: &[usize],
-    workers: usize,
+    readers: u8,
+    cut: Cut<'_>,
+    expected: &[Line],
 ) -> Result<bool, Fail>
-    requires { (1 ≤ workers) × (workers ≤ 64) }
+    requires { (1 ≤ cut.workers) × (cut.workers ≤ 64) }
 {
-    let mut one = Participant::new(alloc, unmatched(alloc, 1)?, Shapes)?;
-    let alone = take_all(rt, alloc, &mut one, &BOTH, (cut, workers))?;
-    let mut two = Participant::new(alloc, unmatched(alloc, 2)?, Shapes)?;
-    let lines = take_all(rt, alloc, &mut two, &BOTH, (cut, workers))?;
-    Ok(alone.as_slice() == ONE.as_slice() && lines.as_slice() == TWO.as_slice())
+    let mut participant = Participant::new(alloc, unmatched(alloc, readers)?, Shapes)?;
+    gives(rt, alloc, &mut participant, cut, expected)
 }
 
 #[test]
 fn routed_by_the_matches_of_the_moment(rt: HostRuntime) -> Result<(), Fail> {
+    let alloc = rt.alloc();
     let cuts: [&[usize]; 4] = [&[2], &[1, 1], &[0, 2], &[1, 0, 1, 0]];
-    for cut in cuts {
+    for lengths in cuts {
         for workers in [1, 2, 7] {
-            assert!(rt; are_routed(&rt, rt.alloc(), cut, workers)?);
+            let cut = Cut {
+                datagrams: &BOTH,
+                lengths,
+                workers,
+            };
+            assert!(rt; are_routed(&rt, alloc, 1, cut, &ONE)?);
+            assert!(rt; are_routed(&rt, alloc, 2, cut, &TWO)?);
         }
     }
     Ok(())
@@ -108,27 +113,32 @@ fn routed_by_the_matches_of_the_moment(rt: HostRuntime) -> Result<(), Fail> {
 
 /// How often jobs of the first reader and of the second began, and a hundred times how often they
 /// ended, where both datagrams are one batch.
-fn told<R: Threads + Sync>(rt: &R, alloc: Global, workers: usize) -> Result<(u64, u64), Fail>
+fn told<R: Threads + Sync>(
+    rt: &R,
+    alloc: Global,
+    participant: &mut Participant<Shapes>,
+    workers: usize,
+) -> Result<(u64, u64), Fail>
     requires { (1 ≤ workers) × (workers ≤ 64) }
 {
     let gate = Counting::new();
-    let mut participant = Participant::new(alloc, unmatched(alloc, 2)?, Shapes)?;
     let mut lines = Vec::new(alloc);
-    take(
-        rt,
-        alloc,
-        &gate,
-        &mut participant,
-        (&BOTH, workers),
-        &mut lines,
-    )?;
+    take(rt, alloc, &gate, participant, (&BOTH, workers), &mut lines)?;
     Ok(gate.counts())
+}
+
+/// The same of a new participant with two readers.
+fn told_by_new<R: Threads + Sync>(rt: &R, alloc: Global, workers: usize) -> Result<(u64, u64), Fail>
+    requires { (1 ≤ workers) × (workers ≤ 64) }
+{
+    let mut participant = Participant::new(alloc, unmatched(alloc, 2)?, Shapes)?;
+    told(rt, alloc, &mut participant, workers)
 }
 
 #[test]
 fn announcements_and_changes_are_one_job(rt: HostRuntime) -> Result<(), Fail> {
     for workers in [1, 2, 7] {
-        assert_eq!(rt; told(&rt, rt.alloc(), workers)?, (101, 101));
+        assert_eq!(rt; told_by_new(&rt, rt.alloc(), workers)?, (101, 101));
     }
     Ok(())
 }

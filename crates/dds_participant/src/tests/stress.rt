@@ -134,20 +134,47 @@ fn trace(report: &Report<Shape>) -> Trace {
 /// What comes of a run: what was put out, in order, how each reader stands, and the matches.
 type Run = (Vec<Trace>, [Option<Status>; 3], BTreeSet<(u32, Guid)>);
 
-/// The run of one thread.
-fn in_series(alloc: Global, datagrams: &[Vec<u8>]) -> Result<Run, Fail> {
-    let mut engine = SerialEngine::new(alloc, config(alloc)?, Shapes)?;
-    let mut traces = Vec::new(alloc);
+/// Puts the traces of reports after those that are there.
+fn push_traces(reports: &[Report<Shape>], traces: &mut Vec<Trace>) -> Result<(), AllocError> {
+    for report in reports {
+        traces.push(trace(report))?;
+    }
+    Ok(())
+}
+
+/// Has an engine take datagrams, and puts what it gives after the traces.
+fn take_in_series(
+    alloc: Global,
+    engine: &mut SerialEngine<Shapes>,
+    datagrams: &[Vec<u8>],
+    traces: &mut Vec<Trace>,
+) -> Result<(), Fail> {
     for octets in datagrams {
         if octets.len() > 65_507 {
             return Err(Fail::new("a datagram is too long"));
         }
-        for report in &engine.take(alloc, octets)?.in_order(alloc)? {
-            traces.push(trace(report))?;
-        }
+        let reports = engine.take(alloc, octets)?.in_order(alloc)?;
+        push_traces(&reports, traces)?;
     }
+    Ok(())
+}
+
+/// What comes of a run of an engine.
+fn run_of_engine(
+    alloc: Global,
+    engine: &mut SerialEngine<Shapes>,
+    datagrams: &[Vec<u8>],
+) -> Result<Run, Fail> {
+    let mut traces = Vec::new(alloc);
+    take_in_series(alloc, engine, datagrams, &mut traces)?;
     let statuses = [engine.status(0), engine.status(1), engine.status(2)];
     Ok((traces, statuses, engine.matches(alloc)?))
+}
+
+/// The run of one thread.
+fn in_series(alloc: Global, datagrams: &[Vec<u8>]) -> Result<Run, Fail> {
+    let mut engine = SerialEngine::new(alloc, config(alloc)?, Shapes)?;
+    run_of_engine(alloc, &mut engine, datagrams)
 }
 
 /// Has a participant take these datagrams in one batch, and puts what it gives after the traces.
@@ -167,11 +194,10 @@ fn take<R: Threads + Sync>(
     if !fit(&slices) {
         return Err(Fail::new("the batch is too large"));
     }
-    let outcome = participant.run_batch(rt, alloc, &NoGate, &slices, batch.1)?;
-    for report in &outcome.in_order(alloc)? {
-        traces.push(trace(report))?;
-    }
-    Ok(())
+    let reports = participant
+        .run_batch(rt, alloc, &NoGate, &slices, batch.1)?
+        .in_order(alloc)?;
+    Ok(push_traces(&reports, traces)?)
 }
 
 /// How many datagrams the next batch takes, where so many are left.
@@ -199,18 +225,19 @@ fn workers(dice: &mut Dice) -> usize
     }
 }
 
-/// The run of a participant in the batches of a cut, by workers whose number changes.
-fn in_batches<R: Threads + Sync>(
+/// Has a participant take datagrams in the batches of a cut, by workers whose number changes, and
+/// puts what it gives after the traces.
+fn take_in_batches<R: Threads + Sync>(
     rt: &R,
     alloc: Global,
-    datagrams: &[Vec<u8>],
-    cut: u32,
-) -> Result<Run, Fail> {
+    participant: &mut Participant<Shapes>,
+    given: (&[Vec<u8>], u32),
+    traces: &mut Vec<Trace>,
+) -> Result<(), Fail> {
+    let (datagrams, cut) = given;
     let mut dice = Dice {
         state: u64::from(cut),
     };
-    let mut participant = Participant::new(alloc, config(alloc)?, Shapes)?;
-    let mut traces = Vec::new(alloc);
     let mut rest = datagrams;
     for _batch in 0..100_000 {
         if rest.is_empty() {
@@ -218,9 +245,21 @@ fn in_batches<R: Threads + Sync>(
         }
         let (batch, after) = rest.split_at(length(cut, &mut dice, rest.len()).min(rest.len()));
         let workers = workers(&mut dice);
-        take(rt, alloc, &mut participant, (batch, workers), &mut traces)?;
+        take(rt, alloc, participant, (batch, workers), traces)?;
         rest = after;
     }
+    Ok(())
+}
+
+/// What comes of a run of a participant in the batches of a cut.
+fn run_of_participant<R: Threads + Sync>(
+    rt: &R,
+    alloc: Global,
+    participant: &mut Participant<Shapes>,
+    given: (&[Vec<u8>], u32),
+) -> Result<Run, Fail> {
+    let mut traces = Vec::new(alloc);
+    take_in_batches(rt, alloc, participant, given, &mut traces)?;
     let statuses = [
         participant.status(0),
         participant.status(1),
@@ -229,19 +268,48 @@ fn in_batches<R: Threads + Sync>(
     Ok((traces, statuses, participant.matches(alloc)?))
 }
 
+/// The run of a new participant in the batches of a cut.
+fn in_batches<R: Threads + Sync>(
+    rt: &R,
+    alloc: Global,
+    datagrams: &[Vec<u8>],
+    cut: u32,
+) -> Result<Run, Fail> {
+    let mut participant = Participant::new(alloc, config(alloc)?, Shapes)?;
+    run_of_participant(rt, alloc, &mut participant, (datagrams, cut))
+}
+
 fn are_same(a: &Run, b: &Run) -> bool {
     a.0.as_slice() == b.0.as_slice() && a.1 == b.1 && a.2 == b.2
 }
 
+/// Whether a participant gives in the batches of each cut what one thread gives, which is more than
+/// a report for each datagram.
+fn give_the_same<R: Threads + Sync>(
+    rt: &R,
+    alloc: Global,
+    datagrams: &[Vec<u8>],
+    cuts: &[u32],
+) -> Result<bool, Fail> {
+    let expected = in_series(alloc, datagrams)?;
+    for cut in cuts {
+        if !are_same(&in_batches(rt, alloc, datagrams, *cut)?, &expected) {
+            return Ok(false);
+        }
+    }
+    Ok(expected.0.len() > datagrams.len())
+}
+
+/// Each way to cut, and ever longer batches.
+const CUTS: [u32; 40] = [
+    0, 1, 2, 3, 4, 5, 6, 7, 8, 9, 10, 11, 12, 13, 14, 15, 16, 17, 18, 19, 20, 21, 22, 23, 24, 25,
+    26, 27, 28, 29, 30, 31, 32, 33, 34, 35, 36, 37, 38, 39,
+];
+
 #[test]
 fn batches_give_what_one_thread_gives(rt: HostRuntime) -> Result<(), Fail> {
-    let alloc = rt.alloc();
-    let datagrams = datagrams(alloc, 2000)?;
-    let expected = in_series(alloc, &datagrams)?;
-    assert!(rt; expected.0.len() > 2000);
-    for cut in 0..40 {
-        assert!(rt; are_same(&in_batches(&rt, alloc, &datagrams, cut)?, &expected));
-    }
+    let datagrams = datagrams(rt.alloc(), 2000)?;
+    assert!(rt; give_the_same(&rt, rt.alloc(), &datagrams, &CUTS)?);
     Ok(())
 }
 
@@ -258,11 +326,8 @@ fn padded(alloc: Global, datagrams: Vec<Vec<u8>>) -> Result<Vec<Vec<u8>>, AllocE
 
 #[test]
 fn large_batches_are_decoded_apart(rt: HostRuntime) -> Result<(), Fail> {
-    let alloc = rt.alloc();
     // More than 1 MiB.
-    let datagrams = padded(alloc, datagrams(alloc, 300)?)?;
-    let expected = in_series(alloc, &datagrams)?;
-    assert!(rt; expected.0.len() > 300);
-    assert!(rt; are_same(&in_batches(&rt, alloc, &datagrams, 1)?, &expected));
+    let datagrams = padded(rt.alloc(), datagrams(rt.alloc(), 300)?)?;
+    assert!(rt; give_the_same(&rt, rt.alloc(), &datagrams, &[1])?);
     Ok(())
 }

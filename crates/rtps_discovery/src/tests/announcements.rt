@@ -298,42 +298,47 @@ const VALUE: ChangeInfo = ChangeInfo {
     hash: None,
 };
 
+fn local(port: u16) -> Locator {
+    Locator {
+        port,
+        address: [127, 0, 0, 1],
+    }
+}
+
+/// Whether it is announced that their participant comes, with all that its record has.
+fn is_participant(announced: Option<Announcement<'_>>) -> bool {
+    let Some(Announcement::Comes(prefix, mut facts)) = announced else {
+        return false;
+    };
+    let lease = Duration {
+        seconds: 100,
+        fraction: 0,
+    };
+    prefix == THEIRS
+        && facts.lease == lease
+        && facts.announces_writers
+        && facts.announces_readers
+        && facts.metatraffic.next() == Some(local(7412))
+        && facts.locators.next() == Some(local(7413))
+        && facts.locators.next().is_none()
+}
+
+/// What their participant announces by a record, where it comes to a participant with this prefix.
+fn comes(own: GuidPrefix, payload: &[u8]) -> Option<Announcement<'_>> {
+    participant_said(
+        own,
+        THEIRS,
+        None,
+        said_in(PARTICIPANT_GUID, VALUE, payload)?,
+    )
+}
+
 #[test]
 fn what_a_participant_says_of_itself(rt: HostRuntime) -> Result<(), Fail> {
     let octets = octets_of(rt.alloc(), PARTICIPANT)?;
-    let said = said_in(PARTICIPANT_GUID, VALUE, octets.as_slice()).ok_or("nothing said")?;
-    let Some(Announcement::Comes(prefix, mut facts)) = participant_said(OURS, THEIRS, None, said)
-    else {
-        return Err(Fail::new("no participant"));
-    };
-    assert_eq!(rt; prefix, THEIRS);
-    assert_eq!(rt;
-        facts.lease,
-        Duration {
-            seconds: 100,
-            fraction: 0
-        }
-    );
-    assert!(rt; facts.announces_writers && facts.announces_readers);
-    let address = [127, 0, 0, 1];
-    assert_eq!(rt;
-        facts.metatraffic.next(),
-        Some(Locator {
-            port: 7412,
-            address
-        })
-    );
-    assert_eq!(rt;
-        facts.locators.next(),
-        Some(Locator {
-            port: 7413,
-            address
-        })
-    );
-    assert_eq!(rt; facts.locators.next(), None);
+    assert!(rt; is_participant(comes(OURS, octets.as_slice())));
     // Nobody speaks for us.
-    let said = said_in(PARTICIPANT_GUID, VALUE, octets.as_slice()).ok_or("nothing said")?;
-    assert!(rt; participant_said(THEIRS, THEIRS, None, said).is_none());
+    assert!(rt; comes(THEIRS, octets.as_slice()).is_none());
     Ok(())
 }
 
@@ -356,47 +361,51 @@ const ONE_ANNOUNCER: [(&str, bool, bool); 3] = [
     ),
 ];
 
+/// Which announcers a participant names that comes with a lease of zero.
+fn announcers(announced: Option<Announcement<'_>>) -> Option<(bool, bool)> {
+    let zero = Duration {
+        seconds: 0,
+        fraction: 0,
+    };
+    match announced {
+        Some(Announcement::Comes(_, facts)) if facts.lease == zero => {
+            Some((facts.announces_writers, facts.announces_readers))
+        }
+        _ => None,
+    }
+}
+
 #[test]
 fn announcers_that_a_set_names(rt: HostRuntime) -> Result<(), Fail> {
     for &(payload, writers, readers) in &ONE_ANNOUNCER {
         let octets = octets_of(rt.alloc(), payload)?;
-        let said = said_in(PARTICIPANT_GUID, VALUE, octets.as_slice()).ok_or("nothing said")?;
-        let Some(Announcement::Comes(_, facts)) = participant_said(OURS, THEIRS, None, said) else {
-            return Err(Fail::new("no participant"));
-        };
-        assert_eq!(rt;
-            (facts.announces_writers, facts.announces_readers),
-            (writers, readers)
-        );
-        assert_eq!(rt;
-            facts.lease,
-            Duration {
-                seconds: 0,
-                fraction: 0
-            }
-        );
+        let found = announcers(comes(OURS, octets.as_slice()));
+        assert_eq!(rt; found, Some((writers, readers)));
     }
     Ok(())
+}
+
+/// Whether it is announced that their writer offers all that its record has.
+fn is_writer(announced: Option<Announcement<'_>>) -> bool {
+    let Some(Announcement::Offers(writer, mut offer)) = announced else {
+        return false;
+    };
+    let expected = Guid {
+        prefix: THEIRS,
+        entity: EntityId([0, 0, 1, 2]),
+    };
+    writer == expected
+        && offer.topic == "Square"
+        && offer.type_name == "ShapeType"
+        && offer.policies.reliability == dds_qos::Reliability::Reliable
+        && offer.partitions.is_none()
+        && offer.locators.next().is_none()
 }
 
 #[test]
 fn what_a_writer_offers(rt: HostRuntime) -> Result<(), Fail> {
     let octets = octets_of(rt.alloc(), WRITER)?;
     let said = said_in(ENDPOINT_GUID, VALUE, octets.as_slice()).ok_or("nothing said")?;
-    let Some(Announcement::Offers(writer, mut offer)) = writer_said(THEIRS, None, said) else {
-        return Err(Fail::new("no writer"));
-    };
-    assert_eq!(rt;
-        writer,
-        Guid {
-            prefix: THEIRS,
-            entity: EntityId([0, 0, 1, 2])
-        }
-    );
-    assert_eq!(rt; offer.topic, "Square");
-    assert_eq!(rt; offer.type_name, "ShapeType");
-    assert_eq!(rt; offer.policies.reliability, dds_qos::Reliability::Reliable);
-    assert!(rt; offer.partitions.is_none());
-    assert_eq!(rt; offer.locators.next(), None);
+    assert!(rt; is_writer(writer_said(THEIRS, None, said)));
     Ok(())
 }

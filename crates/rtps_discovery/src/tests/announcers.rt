@@ -54,14 +54,22 @@ fn knows_readers(discovery: &Discovery) -> bool {
     }
 }
 
+/// Whether the participant, its writer and its reader are known, with the one match.
+fn knows_all(alloc: Global, discovery: &Discovery) -> Result<bool, Fail> {
+    let matches = discovery.matches(alloc)?;
+    Ok(
+        matches.len() == 1
+            && matches.contains(&(0, SQUARES))
+            && knows_participant(discovery)
+            && knows_writer(discovery)
+            && knows_readers(discovery),
+    )
+}
+
 #[test]
 fn what_is_known(rt: HostRuntime) -> Result<(), Fail> {
     let discovery = after(rt.alloc(), &[COMES, OFFERS, ASKS])?;
-    assert!(rt; knows_participant(&discovery));
-    assert!(rt; knows_writer(&discovery));
-    assert!(rt; knows_readers(&discovery));
-    let matches = discovery.matches(rt.alloc())?;
-    assert!(rt; matches.len() == 1 && matches.contains(&(0, SQUARES)));
+    assert!(rt; knows_all(rt.alloc(), &discovery)?);
     Ok(())
 }
 

@@ -6,8 +6,8 @@ use crate::addressed::{
     ENTITYID_SEDP_BUILTIN_SUBSCRIPTIONS_ANNOUNCER, ENTITYID_SPDP_BUILTIN_PARTICIPANT_ANNOUNCER,
     ENTITYID_UNKNOWN,
 };
-use crate::{Becomes, Config, Discovery, FixedMatch, MatchChange, ReaderConfig, check};
-use dds_qos::{Durability, Reliability, Requested};
+use crate::{Becomes, Config, Discovery, MatchChange, ReaderConfig, check};
+use dds_qos::Durability;
 use rtps_receiver::{Body, Event, Whole};
 use rtps_types::{EntityId, Guid, KeyHash, Locators, Number, Place};
 use rtps_wire::{ChangeInfo, Form};
@@ -20,43 +20,16 @@ pub(super) const SQUARES: Guid = Guid {
     entity: EntityId([0, 0, 1, 2]),
 };
 
-/// What a reader asks for that gives these two policies.
-fn asks(alloc: Global, reliability: Reliability, durability: Durability) -> Requested<Global> {
-    let mut requested = Requested::new(alloc);
-    requested.policies.reliability = reliability;
-    requested.policies.durability = durability;
-    requested
-}
-
-/// Puts a reader of shapes after the others of a configuration.
-fn add_reader(
-    alloc: Global,
-    config: &mut Config,
-    key: u8,
-    topic: &str,
-    requested: Requested<Global>,
-) -> Result<(), Fail> {
-    config.readers.push(ReaderConfig {
-        entity: EntityId([0, 0, key, 7]),
-        topic: String::from_str(alloc, topic)?,
-        type_name: String::from_str(alloc, "ShapeType")?,
-        requested,
-    })?;
-    Ok(())
-}
-
 /// A participant of ours with a reader of squares, reliable and transient local, and one of
 /// circles, which asks for nothing.
 pub(super) fn two_readers(alloc: Global) -> Result<Config, Fail> {
-    let mut config = Config {
-        own: OURS,
-        readers: Vec::new(alloc),
-        fixed: Vec::new(alloc),
-    };
-    let squares = asks(alloc, Reliability::Reliable, Durability::TransientLocal);
-    add_reader(alloc, &mut config, 1, "Square", squares)?;
-    let circles = asks(alloc, Reliability::BestEffort, Durability::Volatile);
-    add_reader(alloc, &mut config, 2, "Circle", circles)?;
+    let mut config = Config::new(alloc, OURS);
+    let squares = ReaderConfig::new(alloc, EntityId([0, 0, 1, 7]), "Square", "ShapeType")?;
+    let mut squares = squares.reliable();
+    squares.requested.policies.durability = Durability::TransientLocal;
+    config.add_reader(squares)?;
+    let circles = ReaderConfig::new(alloc, EntityId([0, 0, 2, 7]), "Circle", "ShapeType")?;
+    config.add_reader(circles)?;
     Ok(config)
 }
 
@@ -208,11 +181,7 @@ pub(super) fn event_of(said: Said, payload: &[u8]) -> Result<Event<'_>, Fail> {
 fn started(alloc: Global, fixed: &[Guid]) -> Result<Discovery, Fail> {
     let mut config = two_readers(alloc)?;
     for writer in fixed {
-        config.fixed.push(FixedMatch {
-            rank: 0,
-            writer: *writer,
-            locators: Locators::new(Vec::new(alloc)),
-        })?;
+        config.add_fixed(0, *writer, Locators::new(Vec::new(alloc)))?;
     }
     check(&config)?;
     Ok(Discovery::new(alloc, &config)?)
@@ -243,14 +212,27 @@ pub(super) fn after(alloc: Global, said: &[Said]) -> Result<Discovery, Fail> {
 type Steps<'a> = &'a [(Said, &'a [Heard])];
 
 /// The place of the first of these changes of which our readers hear something else.
-fn first_unheard(alloc: Global, fixed: &[Guid], steps: Steps<'_>) -> Result<Option<usize>, Fail> {
-    let mut discovery = started(alloc, fixed)?;
+fn first_unheard(
+    alloc: Global,
+    discovery: &mut Discovery,
+    steps: Steps<'_>,
+) -> Result<Option<usize>, Fail> {
     for (at, (said, expected)) in steps.iter().enumerate() {
-        if hear(alloc, &mut discovery, *said)?.as_slice() != *expected {
+        if hear(alloc, discovery, *said)?.as_slice() != *expected {
             return Ok(Some(at));
         }
     }
     Ok(None)
+}
+
+/// The same of discovery that starts with these fixed matches.
+fn first_unheard_from_start(
+    alloc: Global,
+    fixed: &[Guid],
+    steps: Steps<'_>,
+) -> Result<Option<usize>, Fail> {
+    let mut discovery = started(alloc, fixed)?;
+    first_unheard(alloc, &mut discovery, steps)
 }
 
 /// What becomes of one writer, record by record.
@@ -548,7 +530,7 @@ const RUNS: [(&[Guid], Steps<'static>); 5] = [
 #[test]
 fn what_our_readers_hear(rt: HostRuntime) -> Result<(), Fail> {
     for &(fixed, steps) in &RUNS {
-        assert_eq!(rt; first_unheard(rt.alloc(), fixed, steps)?, None);
+        assert_eq!(rt; first_unheard_from_start(rt.alloc(), fixed, steps)?, None);
     }
     Ok(())
 }

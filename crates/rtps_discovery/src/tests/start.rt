@@ -3,19 +3,30 @@
 use super::{GOOD, OUR_WRITER, WRITER, WRITER_WITHOUT_KEY, config_of};
 use crate::{Discovery, check};
 use linked_list_allocator::LocalHeap;
+use std::alloc::Global;
 use std::test::Fail;
+
+/// Whether the fixed matches are known, and nothing else.
+fn is_at_start(discovery: &Discovery) -> bool {
+    discovery.matched(WRITER) == [0, 1].as_slice()
+        && discovery.matched(WRITER_WITHOUT_KEY) == [1].as_slice()
+        && discovery.matched(OUR_WRITER).is_empty()
+        && discovery.participants().next().is_none()
+        && discovery.writers().next().is_none()
+        && discovery.remote_readers().next().is_none()
+}
+
+/// Whether discovery of a good configuration starts so.
+fn starts(alloc: Global) -> Result<bool, Fail> {
+    let config = config_of(alloc, GOOD)?;
+    check(&config)?;
+    let discovery = Discovery::new(alloc, &config)?;
+    Ok(is_at_start(&discovery))
+}
 
 #[test]
 fn fixed_matches_are_there_from_the_start(rt: HostRuntime) -> Result<(), Fail> {
-    let config = config_of(rt.alloc(), GOOD)?;
-    check(&config)?;
-    let discovery = Discovery::new(rt.alloc(), &config)?;
-    assert_eq!(rt; discovery.matched(WRITER), [0, 1].as_slice());
-    assert_eq!(rt; discovery.matched(WRITER_WITHOUT_KEY), [1].as_slice());
-    assert!(rt; discovery.matched(OUR_WRITER).is_empty());
-    assert!(rt; discovery.participants().next().is_none());
-    assert!(rt; discovery.writers().next().is_none());
-    assert!(rt; discovery.remote_readers().next().is_none());
+    assert!(rt; starts(rt.alloc())?);
     Ok(())
 }
 

@@ -1,8 +1,5 @@
 //! Plans of events that were written down by hand.
 
-ghost use Rattle.std.specs.Prelude.{◌≡◌, Ok};
-ghost use Rattle.rtps_discovery.specs.Config.{check_of};
-
 use super::place;
 use crate::*;
 use dds_qos::Requested;
@@ -112,26 +109,23 @@ fn is_of_none(plan: Plan) -> bool {
     plan.jobs.is_empty() && plan.rest.readers == 2 && plan.rest.ranks.is_empty()
 }
 
-fn plan_of(alloc: Global, config: &Config, events: &[Event<'_>]) -> Result<Plan, AllocError>
-    requires { check_of config.now ≡ Ok tt }
-{
-    let mut discovery = Discovery::new(alloc, config)?;
-    plan(alloc, events, &mut discovery)
+/// The plan of two readers.
+fn plan_of(alloc: Global, events: &[Event<'_>]) -> Result<Plan, Fail> {
+    let config = two_readers(alloc)?;
+    check(&config)?;
+    let mut discovery = Discovery::new(alloc, &config)?;
+    Ok(plan(alloc, events, &mut discovery)?)
 }
 
 #[test]
 fn every_third_event_is_for_the_second_reader(rt: HostRuntime) -> Result<(), Fail> {
-    let config = two_readers(rt.alloc())?;
-    check(&config)?;
     let events = six_events(rt.alloc())?;
-    assert!(rt; is_of_six(plan_of(rt.alloc(), &config, &events)?));
+    assert!(rt; is_of_six(plan_of(rt.alloc(), &events)?));
     Ok(())
 }
 
 #[test]
 fn no_event_gives_no_job(rt: HostRuntime) -> Result<(), Fail> {
-    let config = two_readers(rt.alloc())?;
-    check(&config)?;
-    assert!(rt; is_of_none(plan_of(rt.alloc(), &config, &[])?));
+    assert!(rt; is_of_none(plan_of(rt.alloc(), &[])?));
     Ok(())
 }

@@ -68,8 +68,8 @@ impl Counting {
 fn each_job_enters_and_leaves_once(rt: HostRuntime) -> Result<(), Fail> {
     for workers in [1, 2, 64] {
         let gate = Counting::new();
-        let results = run(&rt, rt.alloc(), &Shapes, &gate, (5, workers))?;
-        assert_eq!(rt; results.len(), 5);
+        let results = run(&rt, rt.alloc(), &Shapes, &gate, (5, workers))?.len();
+        assert_eq!(rt; results, 5);
         assert!(rt; gate.saw_each_once(5));
     }
     Ok(())
@@ -108,8 +108,8 @@ fn as_many_jobs_run_at_once_as_there_are_workers(rt: HostRuntime) -> Result<(), 
             entered: AtomicU64::new(0),
             gave_up: AtomicBool::new(false),
         };
-        let results = run(&rt, rt.alloc(), &Shapes, &gate, (ranks, workers))?;
-        assert_eq!(rt; results.len(), workers);
+        let results = run(&rt, rt.alloc(), &Shapes, &gate, (ranks, workers))?.len();
+        assert_eq!(rt; results, workers);
         assert!(rt; !gate.gave_up.load(Ordering::SeqCst));
     }
     Ok(())

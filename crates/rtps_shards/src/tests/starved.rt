@@ -1,5 +1,7 @@
 //! Jobs that are out of memory.
 
+ghost use Rattle.std.specs.Prelude.{◌≤◌};
+
 use super::gates::Counting;
 use super::run;
 use dds_topic::{Catalog, CatalogError, Shapes};
@@ -7,6 +9,7 @@ use rtps_types::KeyHash;
 use std::alloc::{AllocError, Global};
 use std::sync::atomic::{AtomicU64, Ordering};
 use std::test::Fail;
+use std::thread::Threads;
 
 /// A catalog that finds no memory for one value, counted from 0 in the order in which they come.
 #[derive(Drop)]
@@ -67,19 +70,32 @@ impl<C: Catalog> Catalog for Starved<C> {
     ghost key_again = { λ s v. C.key_again s.catalog v };
 }
 
+/// Whether the jobs of three readers give their results, where this value finds no memory.
+fn give_results<R: Threads + Sync>(
+    rt: &R,
+    alloc: Global,
+    gate: &Counting,
+    refused: u64,
+    workers: usize,
+) -> bool
+    requires { (1 ≤ workers) × (workers ≤ 64) }
+{
+    let catalog = Starved {
+        catalog: Shapes,
+        refused,
+        decoded: AtomicU64::new(0),
+    };
+    run(rt, alloc, &catalog, gate, (3, workers)).is_ok()
+}
+
 #[test]
 fn a_job_out_of_memory_fails_the_batch(rt: HostRuntime) -> Result<(), Fail> {
     // Three readers present eight values.
     for refused in 0..9 {
         for workers in [1, 3] {
-            let catalog = Starved {
-                catalog: Shapes,
-                refused,
-                decoded: AtomicU64::new(0),
-            };
             let gate = Counting::new();
-            let results = run(&rt, rt.alloc(), &catalog, &gate, (3, workers));
-            assert_eq!(rt; results.is_ok(), refused == 8);
+            let is_given = give_results(&rt, rt.alloc(), &gate, refused, workers);
+            assert_eq!(rt; is_given, refused == 8);
             // On three workers each job is run whatever comes of the others.
             assert!(rt; workers == 1 || gate.saw_each_once(3));
         }
