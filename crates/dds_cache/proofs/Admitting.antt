@@ -13,7 +13,7 @@ use Rattle.dds_cache.specs.Cache.{cached, entry_by, with_entry}
 use Rattle.dds_cache.specs.Calls.{Done, Accepted}
 use Rattle.dds_cache.specs.Coming.{IsPut, came, dropped, is_value_of, joined_by, joins, made, numbered, or_fresh}
 use Rattle.dds_cache.specs.Effects.{ChangesAt, IsSame}
-use Rattle.dds_cache.specs.Standing.{Known, Pair, Parts, StandsBy, count_in, is_key, is_pair, not_yet, pair_order, writers_in}
+use Rattle.dds_cache.specs.Standing.{InstanceView, Pair, Parts, StandsBy, count_in, is_key, is_pair, not_yet, pair_order, writers_in}
 use Rattle.dds_cache.proofs.Answering.{same_parts, stands_same}
 use Rattle.dds_cache.proofs.Dropping.{dropping}
 use Rattle.dds_cache.proofs.Entering.{below_numbers, entered_parts, makes, put_stands}
@@ -28,7 +28,7 @@ few f (x ∷ xs) = by_test (f x) (few f xs)
     by_test true h = omega (arith, h)
     by_test false h = omega (arith, h)
 
-made_count : (keep : History) (n : ℕ) (o : Option Known) → count_in (made (numbered keep n) o) ≡ count_in o
+made_count : (keep : History) (n : ℕ) (o : Option InstanceView) → count_in (made (numbered keep n) o) ≡ count_in o
 made_count (KeepLast most) n None = refl
 made_count (KeepLast most) n (Some i) = refl
 made_count KeepAll n None = refl

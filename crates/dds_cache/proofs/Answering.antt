@@ -16,7 +16,7 @@ use Rattle.dds_cache.specs.Cache.{cached, first_by, is_of, left_by, meets}
 use Rattle.dds_cache.specs.Calls.{Done, WasTaken}
 use Rattle.dds_cache.specs.Effects.{HandsOver, IsSame, drop_each, take_each, take_shown, chosen_by, each, passes, shown_as, spend_each}
 use Rattle.dds_cache.specs.Instances.{is_disposed, state_by}
-use Rattle.dds_cache.specs.Standing.{Known, Pair, Parts, StandsBy, alive_in, count_in, disposed_in, is_key, new_in, not_yet, numbers, numbers_in, numbers_kept, of_key}
+use Rattle.dds_cache.specs.Standing.{InstanceView, Pair, Parts, StandsBy, alive_in, count_in, disposed_in, is_key, new_in, not_yet, numbers, numbers_in, numbers_kept, of_key}
 use Rattle.dds_cache.proofs.Keys.{key_tie}
 use Rattle.dds_cache.proofs.Lists.{all_left, any_first, any_left, any_map, first_map, left_map, rising_left}
 use Rattle.dds_cache.proofs.Living.{alive_is, has_live_is}
@@ -24,7 +24,7 @@ use Rattle.dds_cache.proofs.Taking.{chosen, each_keeps, each_new, each_none, dro
 
 -- ---- the same parts
 
-abbrev pub parts_from : {M : Type 0} → History → ℕ → List (ℕ × Entry M) → List ℕ → (KeyHash → Option Known) → List Pair → Parts M
+abbrev pub parts_from : {M : Type 0} → History → ℕ → List (ℕ × Entry M) → List ℕ → (KeyHash → Option InstanceView) → List Pair → Parts M
 parts_from keep accepted entries not_read find live = record { keep = keep; accepted = accepted; entries = entries; not_read = not_read; find = find; live = live }
 
 pub same_parts : {M : Type 0} (p q : Parts M) → IsSame p q → q ≡ p
@@ -43,15 +43,15 @@ map_map : {A B C : Type 0} (g : A → B) (f : B → C) (l : List A) → map f (m
 map_map g f [] = refl
 map_map g f (x ∷ xs) = ap (λ l. f (g x) ∷ l) (map_map g f xs)
 
-keeps_some : (c : Chosen) (o : Option Known) → is_some (option_map (spend_each c) o) ≡ is_some o
+keeps_some : (c : Chosen) (o : Option InstanceView) → is_some (option_map (spend_each c) o) ≡ is_some o
 keeps_some c None = refl
 keeps_some c (Some i) = refl
 
-keeps_disposed : (c : Chosen) (o : Option Known) → disposed_in (option_map (spend_each c) o) ≡ disposed_in o
+keeps_disposed : (c : Chosen) (o : Option InstanceView) → disposed_in (option_map (spend_each c) o) ≡ disposed_in o
 keeps_disposed c None = refl
 keeps_disposed c (Some i) = refl
 
-keeps_count : (c : Chosen) (o : Option Known) → count_in (option_map (spend_each c) o) ≡ count_in o
+keeps_count : (c : Chosen) (o : Option InstanceView) → count_in (option_map (spend_each c) o) ≡ count_in o
 keeps_count c None = refl
 keeps_count c (Some i) = refl
 
@@ -100,7 +100,7 @@ module _ {M : Type 0} (past : List (Done M)) (p : Parts M) (s : StandsBy past p)
   any_answered max k = any_picked max k ∙ sym (any_map (λ (e : ℕ × Entry M). e.1) (is_of k) (first_by (passes p.find flags) max p.entries)) ∙ ap (list_any (is_of k)) (firsts max)
 
   -- an instance isn't new any more once an entry of it was answered
-  pub new_after : (f : Chosen → Known → Known) → ((c : Chosen) (i : Known) → (f c i).is_new ≡ false) → (max : ℕ) (k : KeyHash)
+  pub new_after : (f : Chosen → InstanceView → InstanceView) → ((c : Chosen) (i : InstanceView) → (f c i).is_new ≡ false) → (max : ℕ) (k : KeyHash)
       → new_in (each f (picked max) k (p.find k)) ≡ ((cached p.keep past).is_new k && not (list_any (is_of k) (first_by meet max (cached p.keep past).entries)))
   new_after f old max k = by_find (p.find k) refl
     where
@@ -111,7 +111,7 @@ module _ {M : Type 0} (past : List (Done M)) (p : Parts M) (s : StandsBy past p)
           by_any true e = let some : is_some (p.find k) ≡ true = s.there k (any_first (of_key k) (passes p.find flags) max p.entries (sym (any_picked max k) ∙ e)) in absurd (cc (some, none))
           by_any false e = refl
 
-      by_find : (o : Option Known) → p.find k ≡ o → new_in (each f (picked max) k (p.find k)) ≡ ((cached p.keep past).is_new k && not (list_any (is_of k) (first_by meet max (cached p.keep past).entries)))
+      by_find : (o : Option InstanceView) → p.find k ≡ o → new_in (each f (picked max) k (p.find k)) ≡ ((cached p.keep past).is_new k && not (list_any (is_of k) (first_by meet max (cached p.keep past).entries)))
       by_find None e =
           ap (λ o. new_in (each f (picked max) k o)) e ∙ ap new_in (each_none f (picked max) k)
           ∙ ap (λ b. true && not b) (sym (not_any e)) ∙ ap (λ b. b && not (list_any (λ (c : Chosen). is_key c.key k) (picked max))) (ap new_in (sym e) ∙ s.new k)
@@ -126,7 +126,7 @@ module _ {M : Type 0} (past : List (Done M)) (p : Parts M) (s : StandsBy past p)
   abbrev pub without : ℕ → Parts M
   without max = parts_from p.keep p.accepted (left_by (passes p.find flags) max p.entries) (numbers (filter not_yet (left_by (passes p.find flags) max p.entries))) (λ k. each spend_each (picked max) k (p.find k)) p.live
 
-  numbers_left : (max : ℕ) (k : KeyHash) (keep : History) (o : Option Known) → numbers_in o ≡ numbers_kept keep k p.entries
+  numbers_left : (max : ℕ) (k : KeyHash) (keep : History) (o : Option InstanceView) → numbers_in o ≡ numbers_kept keep k p.entries
       → numbers_in (each spend_each (picked max) k o) ≡ numbers_kept keep k (left_by (passes p.find flags) max p.entries)
   numbers_left max k (KeepLast n) o is = spends p.find k (passes p.find flags) max 0 p.entries [] o tt s.rising is
   numbers_left max k KeepAll o is = none_spent k (picked max) o is

@@ -9,7 +9,7 @@ use Rattle.dds_cache.specs.declared.condition.Condition.{Condition}
 use Rattle.dds_cache.specs.declared.entry.Entry.{Entry}
 use Rattle.dds_cache.specs.Cache.{first_by}
 use Rattle.dds_cache.specs.Effects.{looked, passes, with_found}
-use Rattle.dds_cache.specs.Standing.{Known, Rising, alive_in, is_number, new_in, not_yet, numbers}
+use Rattle.dds_cache.specs.Standing.{InstanceView, Rising, alive_in, is_number, new_in, not_yet, numbers}
 
 pub first_zero : {E : Type 0} (p : E → Bool) (es : List E) → first_by p 0 es ≡ []
 first_zero p [] = refl
@@ -87,7 +87,7 @@ looked_all q low (e ∷ es) up = by_test (q e) (looked_all q (suc e.0) es up.1)
         ∙ ap (λ l. e ∷ l) (rest more)
     by_test false more = rest more
 
-asks_for : {M : Type 0} (find : KeyHash → Option Known) (flags : Condition) → flags.not_read ≡ true → (e : ℕ × Entry M) → passes find flags e ≡ true → not_yet e ≡ true
+asks_for : {M : Type 0} (find : KeyHash → Option InstanceView) (flags : Condition) → flags.not_read ≡ true → (e : ℕ × Entry M) → passes find flags e ≡ true → not_yet e ≡ true
 asks_for find flags set e h = by_tests flags.not_read e.1.is_read ((not flags.new || new_in (find e.1.key)) && (not flags.alive || alive_in (find e.1.key))) set h
   where
     by_tests : (a b r : Bool) → a ≡ true → ((not a || not b) && r) ≡ true → not b ≡ true
@@ -96,7 +96,7 @@ asks_for find flags set e h = by_tests flags.not_read e.1.is_read ((not flags.ne
     by_tests false b r s h = absurd cc
 
 -- where only those are asked for that no call answered, their numbers are enough
-pub from_numbers : {M : Type 0} (find : KeyHash → Option Known) (flags : Condition) (max : ℕ) (es : List (ℕ × Entry M)) (ns : List ℕ) → flags.not_read ≡ true → ns ≡ numbers (filter not_yet es) → Rising 0 es
+pub from_numbers : {M : Type 0} (find : KeyHash → Option InstanceView) (flags : Condition) (max : ℕ) (es : List (ℕ × Entry M)) (ns : List ℕ) → flags.not_read ≡ true → ns ≡ numbers (filter not_yet es) → Rising 0 es
     → first_by (passes find flags) max (looked es ns) ≡ first_by (passes find flags) max es
 from_numbers find flags max es ns set is up =
     ap (λ l. first_by (passes find flags) max (looked es l)) is

@@ -15,7 +15,7 @@ use Rattle.dds_cache.specs.Cache.{cached, first_by, is_of, kept_by, left_by, wit
 use Rattle.dds_cache.specs.Calls.{Done}
 use Rattle.dds_cache.specs.Coming.{dropped, without_first}
 use Rattle.dds_cache.specs.Effects.{chosen_by, drop_each, each, spend_each, spent, take_each, with_numbers}
-use Rattle.dds_cache.specs.Standing.{Known, Pair, Rising, StandsBy, count_in, disposed_in, is_key, is_number, new_in, not_yet, numbers, numbers_in, of_key}
+use Rattle.dds_cache.specs.Standing.{InstanceView, Pair, Rising, StandsBy, count_in, disposed_in, is_key, is_number, new_in, not_yet, numbers, numbers_in, of_key}
 use Rattle.dds_cache.proofs.Answering.{parts_from}
 use Rattle.dds_cache.proofs.Choosing.{first_zero, number_itself}
 use Rattle.dds_cache.proofs.Entering.{Stood, stands_from}
@@ -27,23 +27,23 @@ pub left_none : {E : Type 0} (p : E → Bool) (es : List E) → left_by p 0 es �
 left_none p [] = refl
 left_none p (e ∷ es) = refl
 
-some_still : (ns : List ℕ) (o : Option Known) → is_some (option_map (with_numbers ns) o) ≡ is_some o
+some_still : (ns : List ℕ) (o : Option InstanceView) → is_some (option_map (with_numbers ns) o) ≡ is_some o
 some_still ns None = refl
 some_still ns (Some i) = refl
 
-new_still : (ns : List ℕ) (o : Option Known) → new_in (option_map (with_numbers ns) o) ≡ new_in o
+new_still : (ns : List ℕ) (o : Option InstanceView) → new_in (option_map (with_numbers ns) o) ≡ new_in o
 new_still ns None = refl
 new_still ns (Some i) = refl
 
-disposed_still : (ns : List ℕ) (o : Option Known) → disposed_in (option_map (with_numbers ns) o) ≡ disposed_in o
+disposed_still : (ns : List ℕ) (o : Option InstanceView) → disposed_in (option_map (with_numbers ns) o) ≡ disposed_in o
 disposed_still ns None = refl
 disposed_still ns (Some i) = refl
 
-count_still : (ns : List ℕ) (o : Option Known) → count_in (option_map (with_numbers ns) o) ≡ count_in o
+count_still : (ns : List ℕ) (o : Option InstanceView) → count_in (option_map (with_numbers ns) o) ≡ count_in o
 count_still ns None = refl
 count_still ns (Some i) = refl
 
-same_cut : (n : ℕ) (ns : List ℕ) (o : Option Known) → numbers_in o ≡ n ∷ ns → numbers_in (option_map (with_numbers ns) o) ≡ numbers_in (option_map (spent n) o)
+same_cut : (n : ℕ) (ns : List ℕ) (o : Option InstanceView) → numbers_in o ≡ n ∷ ns → numbers_in (option_map (with_numbers ns) o) ≡ numbers_in (option_map (spent n) o)
 same_cut n ns None is = absurd cc
 same_cut n ns (Some i) is = sym (ap (remove_key (is_number n)) is ∙ ap (λ b. cond b ns (n ∷ remove_key (is_number n) ns)) (number_itself n))
 
@@ -87,7 +87,7 @@ module _ {M : Type 0} where
           let f = more is in
           record { entry = f.entry; number = f.number; key = f.key; first = ap (λ b. if b then e ∷ first_by (of_key k) 0 es else first_by (of_key k) 1 es) h ∙ f.first }
 
-  module _ (past : List (Done M)) (l : List (Entry M)) (key : KeyHash) (most accepted : ℕ) (es : List (ℕ × Entry M)) (ns : List ℕ) (find : KeyHash → Option Known) (live : List Pair) (s : Stood past l (parts_from (KeepLast most) accepted es ns find live)) (n : ℕ) (rest : List ℕ) (is : numbers_in (find key) ≡ n ∷ rest) where
+  module _ (past : List (Done M)) (l : List (Entry M)) (key : KeyHash) (most accepted : ℕ) (es : List (ℕ × Entry M)) (ns : List ℕ) (find : KeyHash → Option InstanceView) (live : List Pair) (s : Stood past l (parts_from (KeepLast most) accepted es ns find live)) (n : ℕ) (rest : List ℕ) (is : numbers_in (find key) ≡ n ∷ rest) where
     f : First key n es
     f = first_of key n rest es (sym (s.numbers key) ∙ is)
 
@@ -107,10 +107,10 @@ module _ {M : Type 0} where
         ap (remove_key (is_number n)) s.not_read ∙ ap (λ m. remove_key (is_number m) (unread es)) (sym f.number)
         ∙ sym (ap (λ x. drop_each (map (chosen_by find) x) (unread es)) f.first) ∙ drops find (of_key key) 1 0 es s.rising
 
-    abbrev found : KeyHash → Option Known
+    abbrev found : KeyHash → Option InstanceView
     found k = if is_key key k then option_map (with_numbers rest) (find k) else find k
 
-    still : {X : Type 0} (g : Option Known → X) → ((o : Option Known) → g (option_map (with_numbers rest) o) ≡ g o) → (k : KeyHash) → g (found k) ≡ g (find k)
+    still : {X : Type 0} (g : Option InstanceView → X) → ((o : Option InstanceView) → g (option_map (with_numbers rest) o) ≡ g o) → (k : KeyHash) → g (found k) ≡ g (find k)
     still g same k = by_key (is_key key k)
       where
         by_key : (b : Bool) → g (if b then option_map (with_numbers rest) (find k) else find k) ≡ g (find k)
@@ -146,7 +146,7 @@ module _ {M : Type 0} where
       sized = s.sized;
     }
 
-  pub dropping : (past : List (Done M)) (l : List (Entry M)) (key : KeyHash) (keep : History) (accepted : ℕ) (es : List (ℕ × Entry M)) (ns : List ℕ) (find : KeyHash → Option Known) (live : List Pair)
+  pub dropping : (past : List (Done M)) (l : List (Entry M)) (key : KeyHash) (keep : History) (accepted : ℕ) (es : List (ℕ × Entry M)) (ns : List ℕ) (find : KeyHash → Option InstanceView) (live : List Pair)
       → Stood past l (parts_from keep accepted es ns find live) → kept_by keep key l ≡ (cached keep past).entries → StandsBy past (dropped key keep (parts_from keep accepted es ns find live))
   dropping past l key KeepAll accepted es ns find live s is = stands_from past l (parts_from KeepAll accepted es ns find live) s is
   dropping past l key (KeepLast most) accepted es ns find live s is = by_test (nat_lt most (length (numbers_in (find key)))) refl

@@ -22,7 +22,7 @@ use Rattle.dds_cache.specs.Cache.{cached, entry_by, is_new_behind}
 use Rattle.dds_cache.specs.Calls.{Done, Accepted, same_key}
 use Rattle.dds_cache.specs.Coming.{came, is_value_of, joined_by, joins, numbered, or_fresh}
 use Rattle.dds_cache.specs.Instances.{About, AValue, ADisposal, about_key, disposed_by, is_alive, is_disposed, is_end, is_live, is_value, live_by, told_about}
-use Rattle.dds_cache.specs.Standing.{AreSized, Known, Pair, Parts, Rising, StandsBy, alive_in, count_in, disposed_in, is_key, is_pair, new_in, not_yet, numbers, numbers_in, numbers_kept, of_key, pair_order, writers_in}
+use Rattle.dds_cache.specs.Standing.{AreSized, InstanceView, Pair, Parts, Rising, StandsBy, alive_in, count_in, disposed_in, is_key, is_pair, new_in, not_yet, numbers, numbers_in, numbers_kept, of_key, pair_order, writers_in}
 use Rattle.dds_cache.proofs.Answering.{parts_from}
 use Rattle.dds_cache.proofs.Keys.{and_left, and_right, guid_is, key_is, key_tie, key_turned, pair_tie, pair_total, same_turned}
 use Rattle.dds_cache.proofs.Living.{alive_is}
@@ -96,22 +96,22 @@ makes n e is =
 
 -- ---- what is known of its instance
 
-abbrev pub entered : Bool → Bool → History → ℕ → Option Known → Option Known
+abbrev pub entered : Bool → Bool → History → ℕ → Option InstanceView → Option InstanceView
 entered v j keep n o = Some (came v j (numbered keep n (or_fresh o)))
 
-new_value : (j : Bool) (keep : History) (n : ℕ) (o : Option Known) → new_in (entered true j keep n o) ≡ (new_in o || not (alive_in o))
+new_value : (j : Bool) (keep : History) (n : ℕ) (o : Option InstanceView) → new_in (entered true j keep n o) ≡ (new_in o || not (alive_in o))
 new_value j (KeepLast most) n None = refl
 new_value j (KeepLast most) n (Some i) = refl
 new_value j KeepAll n None = refl
 new_value j KeepAll n (Some i) = refl
 
-new_disposal : (j : Bool) (keep : History) (n : ℕ) (o : Option Known) → new_in (entered false j keep n o) ≡ new_in o
+new_disposal : (j : Bool) (keep : History) (n : ℕ) (o : Option InstanceView) → new_in (entered false j keep n o) ≡ new_in o
 new_disposal j (KeepLast most) n None = refl
 new_disposal j (KeepLast most) n (Some i) = refl
 new_disposal j KeepAll n None = refl
 new_disposal j KeepAll n (Some i) = refl
 
-count_same : (v : Bool) (keep : History) (n : ℕ) (o : Option Known) → count_in (entered v false keep n o) ≡ count_in o
+count_same : (v : Bool) (keep : History) (n : ℕ) (o : Option InstanceView) → count_in (entered v false keep n o) ≡ count_in o
 count_same true (KeepLast most) n None = refl
 count_same true (KeepLast most) n (Some i) = refl
 count_same true KeepAll n None = refl
@@ -121,25 +121,25 @@ count_same false (KeepLast most) n (Some i) = refl
 count_same false KeepAll n None = refl
 count_same false KeepAll n (Some i) = refl
 
-count_more : (keep : History) (n : ℕ) (o : Option Known) → count_in (entered true true keep n o) ≡ count_in o + 1
+count_more : (keep : History) (n : ℕ) (o : Option InstanceView) → count_in (entered true true keep n o) ≡ count_in o + 1
 count_more (KeepLast most) n None = refl
 count_more (KeepLast most) n (Some i) = refl
 count_more KeepAll n None = refl
 count_more KeepAll n (Some i) = refl
 
-numbers_more : (v j : Bool) (most n : ℕ) (o : Option Known) → numbers_in (entered v j (KeepLast most) n o) ≡ insert_key nat_cmp (numbers_in o) n
+numbers_more : (v j : Bool) (most n : ℕ) (o : Option InstanceView) → numbers_in (entered v j (KeepLast most) n o) ≡ insert_key nat_cmp (numbers_in o) n
 numbers_more true j most n None = refl
 numbers_more true j most n (Some i) = refl
 numbers_more false j most n None = refl
 numbers_more false j most n (Some i) = refl
 
-numbers_same : (v j : Bool) (n : ℕ) (o : Option Known) → numbers_in (entered v j KeepAll n o) ≡ numbers_in o
+numbers_same : (v j : Bool) (n : ℕ) (o : Option InstanceView) → numbers_in (entered v j KeepAll n o) ≡ numbers_in o
 numbers_same true j n None = refl
 numbers_same true j n (Some i) = refl
 numbers_same false j n None = refl
 numbers_same false j n (Some i) = refl
 
-disposed_then : (v j : Bool) (keep : History) (n : ℕ) (o : Option Known) (before : Bool) → disposed_in (entered v j keep n o) ≡ disposed_by (about_of v) before
+disposed_then : (v j : Bool) (keep : History) (n : ℕ) (o : Option InstanceView) (before : Bool) → disposed_in (entered v j keep n o) ≡ disposed_by (about_of v) before
 disposed_then true j keep n o before = refl
 disposed_then false j keep n o before = refl
 
@@ -187,7 +187,7 @@ module _ {M : Type 0} (past : List (Done M)) (p : Parts M) (s : StandsBy past p)
   abbrev j : Bool
   j = joins v pair p.live
 
-  abbrev found : KeyHash → Option Known
+  abbrev found : KeyHash → Option InstanceView
   found k = if is_key e.key k then entered v j p.keep p.accepted (p.find k) else p.find k
 
   abbrev last : ℕ × Entry M

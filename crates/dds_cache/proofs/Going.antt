@@ -19,7 +19,7 @@ use Rattle.dds_cache.specs.Calls.{Done, Accepted, same_key}
 use Rattle.dds_cache.specs.Departing.{AreCounted, Departs, Ends, KeepsRest, is_by, uncounted}
 use Rattle.dds_cache.specs.Effects.{ChangesAt, IsSame, left}
 use Rattle.dds_cache.specs.Instances.{AnUnregistration, about_key, disposed_by, is_alive, is_disposed, is_end, is_live, is_value, live_by, told_about}
-use Rattle.dds_cache.specs.Standing.{AreSized, Known, Pair, Parts, StandsBy, count_in, disposed_in, is_key, is_pair, known_at, new_in, numbers_in, pair_order, parts, writers_in}
+use Rattle.dds_cache.specs.Standing.{AreSized, InstanceView, Pair, Parts, StandsBy, count_in, disposed_in, is_key, is_pair, known_at, new_in, numbers_in, pair_order, parts, writers_in}
 use Rattle.dds_cache.proofs.Answering.{parts_from, stands_same}
 use Rattle.dds_cache.proofs.Entering.{key_back, or_nothing, pair_back}
 use Rattle.dds_cache.proofs.Keys.{guid_is, pair_tie, pair_total}
@@ -27,31 +27,31 @@ use Rattle.dds_cache.proofs.Placing.{all_taken}
 
 -- ---- what is known besides the count of live writers
 
-some_rest : (o : Option Known) → is_some (uncounted o) ≡ is_some o
+some_rest : (o : Option InstanceView) → is_some (uncounted o) ≡ is_some o
 some_rest None = refl
 some_rest (Some i) = refl
 
-new_rest : (o : Option Known) → new_in (uncounted o) ≡ new_in o
+new_rest : (o : Option InstanceView) → new_in (uncounted o) ≡ new_in o
 new_rest None = refl
 new_rest (Some i) = refl
 
-disposed_rest : (o : Option Known) → disposed_in (uncounted o) ≡ disposed_in o
+disposed_rest : (o : Option InstanceView) → disposed_in (uncounted o) ≡ disposed_in o
 disposed_rest None = refl
 disposed_rest (Some i) = refl
 
-numbers_rest : (o : Option Known) → numbers_in (uncounted o) ≡ numbers_in o
+numbers_rest : (o : Option InstanceView) → numbers_in (uncounted o) ≡ numbers_in o
 numbers_rest None = refl
 numbers_rest (Some i) = refl
 
 module _ {A M : Type 0} (past : List (Done M)) (n : Notice M) (leaves : Pair → Bool) (e : Ends n leaves) (old new : Index A) (es : List (ℕ × Entry M)) where
-  abbrev found : KeyHash → Option Known
+  abbrev found : KeyHash → Option InstanceView
   found = known_at new.instances.entries
 
   abbrev left_parts : Parts M
   left_parts = parts_from old.keep old.accepted es old.not_read.keys found new.live.keys
 
   module _ (d : Departs leaves old new) where
-    rest : {X : Type 0} (g : Option Known → X) → ((o : Option Known) → g (uncounted o) ≡ g o) → (k : KeyHash) → g (found k) ≡ g (known_at old.instances.entries k)
+    rest : {X : Type 0} (g : Option InstanceView → X) → ((o : Option InstanceView) → g (uncounted o) ≡ g o) → (k : KeyHash) → g (found k) ≡ g (known_at old.instances.entries k)
     rest g keeps k = sym (keeps (found k)) ∙ ap g (d.rest k) ∙ keeps (known_at old.instances.entries k)
 
     pub departed : StandsBy past (parts old es) → StandsBy (Accepted n ∷ past) (parts new es)
@@ -113,7 +113,7 @@ module _ {A : Type 0} (old new : Index A) (w : Guid) (key : KeyHash) where
     sized = λ h. subst AreSized (sym taken) (all_taken pair_order pair_total (λ (x : Pair). length x.1.0 ≡ 16) (is_pair pair) old.live.keys h);
   }
     where
-      rest_by : (b : Bool) (o : Option Known) → uncounted (if b then option_map left o else o) ≡ uncounted o
+      rest_by : (b : Bool) (o : Option InstanceView) → uncounted (if b then option_map left o else o) ≡ uncounted o
       rest_by true None = refl
       rest_by true (Some i) = refl
       rest_by false o = refl
@@ -122,7 +122,7 @@ module _ {A : Type 0} (old new : Index A) (w : Guid) (key : KeyHash) where
       live_by_pair true r = refl
       live_by_pair false r = refl
 
-      fewer : (o : Option Known) → count_in (option_map left o) ≡ count_in o - 1
+      fewer : (o : Option InstanceView) → count_in (option_map left o) ≡ count_in o - 1
       fewer None = omega arith
       fewer (Some i) = refl
 

@@ -16,7 +16,7 @@ use Rattle.dds_cache.specs.declared.entry.Entry.{Entry}
 use Rattle.dds_cache.specs.declared.instance.Instance.{Instance}
 use Rattle.dds_cache.specs.Coming.{IsPut, made}
 use Rattle.dds_cache.specs.Effects.{ChangesAt, FindsSame, fresh, with_number, without_number}
-use Rattle.dds_cache.specs.Standing.{Known, Pair, Parts, is_key, is_number, known, known_at, numbers_in}
+use Rattle.dds_cache.specs.Standing.{InstanceView, Pair, Parts, is_key, is_number, known, known_at, numbers_in}
 use Rattle.dds_cache.proofs.Keys.{key_is}
 use Rattle.dds_cache.proofs.Placing.{taken_back}
 
@@ -33,13 +33,13 @@ undone R o k old mid new added is was put taken =
 
 -- ---- the number of an entry
 
-pub number_undone : (key : KeyHash) (n : ℕ) (old mid new : KeyHash → Option Known) (added : Bool) → added ≡ true → added ≡ not (list_any (is_number n) (numbers_in (old key)))
+pub number_undone : (key : KeyHash) (n : ℕ) (old mid new : KeyHash → Option InstanceView) (added : Bool) → added ≡ true → added ≡ not (list_any (is_number n) (numbers_in (old key)))
     → ChangesAt key (option_map (with_number n)) old mid → ChangesAt key (option_map (without_number n)) mid new → FindsSame old new
 number_undone key n old mid new added is was put taken = λ k. by_key k (is_key key k) refl
   where
-    back : (o : Option Known) → list_any (is_number n) (numbers_in o) ≡ false → option_map (without_number n) (option_map (with_number n) o) ≡ o
+    back : (o : Option InstanceView) → list_any (is_number n) (numbers_in o) ≡ false → option_map (without_number n) (option_map (with_number n) o) ≡ o
     back None none = refl
-    back (Some i) none = ap (λ ns. let j : Known = record i { numbers = ns } in Some j) (taken_back nat_cmp nat_cmp_total n i.numbers none)
+    back (Some i) none = ap (λ ns. let j : InstanceView = record i { numbers = ns } in Some j) (taken_back nat_cmp nat_cmp_total n i.numbers none)
 
     by_key : (k : KeyHash) (b : Bool) → is_key key k ≡ b → new k ≡ old k
     by_key k true h =
@@ -70,12 +70,12 @@ module _ {A : Type 0} (es mid : List (KeyHash × Instance A)) (key : KeyHash) (i
       by_key true h = sym (ap (option_map known) (subst (λ q. lookup (is_key q) es ≡ None) (key_is key k h) none))
       by_key false h = same k ∙ ap (option_map known) (updates k ∙ ap (λ b. cond b (Some i) (lookup (is_key k) es)) h)
 
-module _ {M : Type 0} (e : Entry M) (f : Known → Known) (after : List Pair) where
+module _ {M : Type 0} (e : Entry M) (f : InstanceView → InstanceView) (after : List Pair) where
   -- the instance was known
   pub put_known : (old new : Parts M) → is_some (old.find e.key) ≡ true → IsPut e (option_map f) after old new → IsPut e (made f) after old new
   put_known old new some put = record { keep = put.keep; accepted = put.accepted; entries = put.entries; not_read = put.not_read; find = λ k. put.find k ∙ by_key k (is_key e.key k) refl; live = put.live }
     where
-      same : (o : Option Known) → is_some o ≡ true → option_map f o ≡ made f o
+      same : (o : Option InstanceView) → is_some o ≡ true → option_map f o ≡ made f o
       same None h = absurd cc
       same (Some i) h = refl
 

@@ -15,7 +15,7 @@ use Rattle.dds_cache.specs.Cache.{cached, first_by, left_by, marked, marked_by, 
 use Rattle.dds_cache.specs.Calls.{Done, WasRead}
 use Rattle.dds_cache.specs.Effects.{IsSame, Reads, chosen_by, drop_each, each, mark_each, mark_one, passes, read_each, shown_as}
 use Rattle.dds_cache.specs.Lent.{answer_at}
-use Rattle.dds_cache.specs.Standing.{Known, Parts, Rising, StandsBy, count_in, disposed_in, is_number, not_yet, numbers, numbers_in, numbers_kept, of_key}
+use Rattle.dds_cache.specs.Standing.{InstanceView, Parts, Rising, StandsBy, count_in, disposed_in, is_number, not_yet, numbers, numbers_in, numbers_kept, of_key}
 use Rattle.dds_cache.proofs.Answering.{answers, new_after, parts_from, picked, stands_same, test}
 use Rattle.dds_cache.proofs.Choosing.{number_apart, number_itself}
 use Rattle.dds_cache.proofs.Taking.{After, chosen, chosen_after, drops, each_keeps}
@@ -98,7 +98,7 @@ module _ {M : Type 0} where
   mark_past [] e es all = refl
   mark_past (c ∷ cs) e es all = ap (λ b. mark_each cs (if b then (e.0, marked e.1) ∷ es else e ∷ mark_one c.number es)) (number_apart e.0 c.number all.0) ∙ mark_past cs e (mark_one c.number es) all.1
 
-  pub marks_each : (find : KeyHash → Option Known) (p : ℕ × Entry M → Bool) (m low : ℕ) (es : List (ℕ × Entry M)) → Rising low es → mark_each (chosen find p m es) es ≡ marks p m es
+  pub marks_each : (find : KeyHash → Option InstanceView) (p : ℕ × Entry M → Bool) (m low : ℕ) (es : List (ℕ × Entry M)) → Rising low es → mark_each (chosen find p m es) es ≡ marks p m es
   marks_each find p m low [] up = refl
   marks_each find p zero low (e ∷ es) up = refl
   marks_each find p (suc m) low (e ∷ es) up = by_test (p e) (marks_each find p m (suc e.0) es up.1) (marks_each find p (suc m) (suc e.0) es up.1)
@@ -143,7 +143,7 @@ module _ {M : Type 0} where
       ap (λ b. option_map (λ x. shown_as x c) (cond b (Some e.1) (lookup (is_number c.number) es)) ∷ map (answer_at (e ∷ es)) cs) (number_apart e.0 c.number all.0)
       ∙ ap (λ l. answer_at es c ∷ l) (answers_past cs e es all.1)
 
-  pub found_answers : (find : KeyHash → Option Known) (p : ℕ × Entry M → Bool) (m low : ℕ) (es : List (ℕ × Entry M)) → Rising low es
+  pub found_answers : (find : KeyHash → Option InstanceView) (p : ℕ × Entry M → Bool) (m low : ℕ) (es : List (ℕ × Entry M)) → Rising low es
       → map (answer_at es) (chosen find p m es) ≡ map (λ s. Some s) (map (λ e. shown_as e.1 (chosen_by find e)) (first_by p m es))
   found_answers find p m low [] up = refl
   found_answers find p zero low (e ∷ es) up = refl
@@ -158,19 +158,19 @@ module _ {M : Type 0} where
           ∙ ap (λ l. Some (shown_as e.1 (chosen_by find e)) ∷ l) (answers_past (chosen find p m es) e es (chosen_after find p m e.0 (suc e.0) es (omega arith) up.1) ∙ one)
       by_test false one rest = answers_past (chosen find p (suc m) es) e es (chosen_after find p (suc m) e.0 (suc e.0) es (omega arith) up.1) ∙ rest
 
-seen_some : (c : Chosen) (o : Option Known) → is_some (option_map (read_each c) o) ≡ is_some o
+seen_some : (c : Chosen) (o : Option InstanceView) → is_some (option_map (read_each c) o) ≡ is_some o
 seen_some c None = refl
 seen_some c (Some i) = refl
 
-seen_disposed : (c : Chosen) (o : Option Known) → disposed_in (option_map (read_each c) o) ≡ disposed_in o
+seen_disposed : (c : Chosen) (o : Option InstanceView) → disposed_in (option_map (read_each c) o) ≡ disposed_in o
 seen_disposed c None = refl
 seen_disposed c (Some i) = refl
 
-seen_count : (c : Chosen) (o : Option Known) → count_in (option_map (read_each c) o) ≡ count_in o
+seen_count : (c : Chosen) (o : Option InstanceView) → count_in (option_map (read_each c) o) ≡ count_in o
 seen_count c None = refl
 seen_count c (Some i) = refl
 
-seen_numbers : (c : Chosen) (o : Option Known) → numbers_in (option_map (read_each c) o) ≡ numbers_in o
+seen_numbers : (c : Chosen) (o : Option InstanceView) → numbers_in (option_map (read_each c) o) ≡ numbers_in o
 seen_numbers c None = refl
 seen_numbers c (Some i) = refl
 

@@ -11,7 +11,7 @@ use Rattle.dds_cache.specs.declared.entry.Entry.{Entry}
 use Rattle.dds_cache.specs.declared.entry.Sample.{Sample}
 use Rattle.dds_cache.specs.Cache.{first_by, left_by}
 use Rattle.dds_cache.specs.Effects.{chosen_by, drop_each, each, shown_as, spend_each, spent, take_each, take_shown, with_shown}
-use Rattle.dds_cache.specs.Standing.{Known, Rising, is_key, is_number, new_in, not_yet, numbers, numbers_in, of_key}
+use Rattle.dds_cache.specs.Standing.{InstanceView, Rising, is_key, is_number, new_in, not_yet, numbers, numbers_in, of_key}
 use Rattle.dds_cache.proofs.Choosing.{above, number_apart, number_before, number_itself}
 use Rattle.dds_cache.proofs.Keys.{key_tie}
 
@@ -27,7 +27,7 @@ not_among : (n : ℕ) (ns : List ℕ) → AllByRecursion (λ m. n < m) ns → re
 not_among n [] all = refl
 not_among n (m ∷ ms) all = ap (λ b. cond b ms (m ∷ remove_key (is_number n) ms)) (number_before n m all.0) ∙ ap (λ l. m ∷ l) (not_among n ms all.1)
 
-module _ {M : Type 0} (find : KeyHash → Option Known) where
+module _ {M : Type 0} (find : KeyHash → Option InstanceView) where
   abbrev pub chosen : (ℕ × Entry M → Bool) → ℕ → List (ℕ × Entry M) → List Chosen
   chosen p m es = map (chosen_by find) (first_by p m es)
 
@@ -99,7 +99,7 @@ module _ {M : Type 0} (find : KeyHash → Option Known) where
 
 -- ---- what is known of an instance
 
-module _ (f : Chosen → Known → Known) where
+module _ (f : Chosen → InstanceView → InstanceView) where
   pub each_none : (cs : List Chosen) (k : KeyHash) → each f cs k None ≡ None
   each_none [] k = refl
   each_none (c ∷ cs) k = by_test (is_key c.key k) (each_none cs k)
@@ -109,7 +109,7 @@ module _ (f : Chosen → Known → Known) where
       by_test false more = more
 
   -- what no answer changes
-  pub each_keeps : {X : Type 0} (g : Option Known → X) → ((c : Chosen) (o : Option Known) → g (option_map (f c) o) ≡ g o) → (cs : List Chosen) (k : KeyHash) (o : Option Known) → g (each f cs k o) ≡ g o
+  pub each_keeps : {X : Type 0} (g : Option InstanceView → X) → ((c : Chosen) (o : Option InstanceView) → g (option_map (f c) o) ≡ g o) → (cs : List Chosen) (k : KeyHash) (o : Option InstanceView) → g (each f cs k o) ≡ g o
   each_keeps g keeps [] k o = refl
   each_keeps g keeps (c ∷ cs) k o = by_test (is_key c.key k) (each_keeps g keeps cs k (option_map (f c) o)) (each_keeps g keeps cs k o)
     where
@@ -118,7 +118,7 @@ module _ (f : Chosen → Known → Known) where
       by_test false one rest = rest
 
   -- an instance isn't new once an entry of it was answered
-  pub each_new : ((c : Chosen) (i : Known) → (f c i).is_new ≡ false) → (cs : List Chosen) (k : KeyHash) (i : Known) → new_in (each f cs k (Some i)) ≡ (i.is_new && not (list_any (λ c. is_key c.key k) cs))
+  pub each_new : ((c : Chosen) (i : InstanceView) → (f c i).is_new ≡ false) → (cs : List Chosen) (k : KeyHash) (i : InstanceView) → new_in (each f cs k (Some i)) ≡ (i.is_new && not (list_any (λ c. is_key c.key k) cs))
   each_new old [] k i = and_true i.is_new
     where
       and_true : (b : Bool) → b ≡ (b && true)
@@ -137,7 +137,7 @@ module _ (f : Chosen → Known → Known) where
 
 -- ---- the numbers of an instance's entries
 
-spent_numbers : (n : ℕ) (o : Option Known) → numbers_in (option_map (spent n) o) ≡ remove_key (is_number n) (numbers_in o)
+spent_numbers : (n : ℕ) (o : Option InstanceView) → numbers_in (option_map (spent n) o) ≡ remove_key (is_number n) (numbers_in o)
 spent_numbers n None = refl
 spent_numbers n (Some i) = refl
 
@@ -153,7 +153,7 @@ below_and : (n : ℕ) (pre : List ℕ) → AllByRecursion (λ m. m < n) pre → 
 below_and n [] all = (omega arith, tt)
 below_and n (m ∷ pre) all = (omega (arith, all.0), below_and n pre all.1)
 
-pub none_spent : (k : KeyHash) (cs : List Chosen) (o : Option Known) → numbers_in o ≡ [] → numbers_in (each spend_each cs k o) ≡ []
+pub none_spent : (k : KeyHash) (cs : List Chosen) (o : Option InstanceView) → numbers_in o ≡ [] → numbers_in (each spend_each cs k o) ≡ []
 none_spent k [] o none = none
 none_spent k (c ∷ cs) o none = by_test (is_key c.key k) (none_spent k cs (option_map (spent c.number) o) (spent_numbers c.number o ∙ ap (remove_key (is_number c.number)) none)) (none_spent k cs o none)
   where
@@ -161,14 +161,14 @@ none_spent k (c ∷ cs) o none = by_test (is_key c.key k) (none_spent k cs (opti
     by_test true one rest = one
     by_test false one rest = rest
 
-module _ {M : Type 0} (find : KeyHash → Option Known) (k : KeyHash) where
+module _ {M : Type 0} (find : KeyHash → Option InstanceView) (k : KeyHash) where
   abbrev mine : List (ℕ × Entry M) → List ℕ
   mine es = numbers (filter (of_key k) es)
 
   abbrev Spends : (ℕ × Entry M → Bool) → ℕ → List (ℕ × Entry M) → ℕ → Type 0
-  Spends p low es m = (pre : List ℕ) (o : Option Known) → AllByRecursion (λ n. n < low) pre → Rising low es → numbers_in o ≡ pre ++ mine es → numbers_in (each spend_each (chosen find p m es) k o) ≡ pre ++ mine (left_by p m es)
+  Spends p low es m = (pre : List ℕ) (o : Option InstanceView) → AllByRecursion (λ n. n < low) pre → Rising low es → numbers_in o ≡ pre ++ mine es → numbers_in (each spend_each (chosen find p m es) k o) ≡ pre ++ mine (left_by p m es)
 
-  pub spends : (p : ℕ × Entry M → Bool) (m low : ℕ) (es : List (ℕ × Entry M)) (pre : List ℕ) (o : Option Known) → AllByRecursion (λ n. n < low) pre → Rising low es → numbers_in o ≡ pre ++ mine es
+  pub spends : (p : ℕ × Entry M → Bool) (m low : ℕ) (es : List (ℕ × Entry M)) (pre : List ℕ) (o : Option InstanceView) → AllByRecursion (λ n. n < low) pre → Rising low es → numbers_in o ≡ pre ++ mine es
       → numbers_in (each spend_each (chosen find p m es) k o) ≡ pre ++ mine (left_by p m es)
   spends p m low [] pre o all up is = is
   spends p zero low (e ∷ es) pre o all up is = is

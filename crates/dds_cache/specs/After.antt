@@ -7,14 +7,14 @@ use Rattle.std.specs.declared.alloc.Allocator as alloc
 use Rattle.dds_cache.specs.declared.condition.Condition.{Condition}
 use Rattle.dds_cache.specs.contracts.reader.DataReader.{the_row}
 use Rattle.dds_cache.specs.Calls.{Done, WasRead}
-use Rattle.dds_cache.specs.Standing.{Kept, StandsAt}
+use Rattle.dds_cache.specs.Standing.{CacheView, StandsAt}
 
 -- the read moved it on, or was refused
-abbrev pub WasReadFrom : {M T E : Type 0} → Kept M → ℕ → Condition → Result T E → Kept M → Type 0
+abbrev pub WasReadFrom : {M T E : Type 0} → CacheView M → ℕ → Condition → Result T E → CacheView M → Type 0
 WasReadFrom {M} old max flags r new =
     (new.keep ≡ old.keep)
     × ((past : List (Done M)) → StandsAt past old → OnOk r (StandsAt (WasRead max flags ∷ past) new))
     × ((past : List (Done M)) → StandsAt past old → OnErr r (StandsAt past new))
 
-abbrev pub ends_read : (V A : RattleType) (a : alloc.Ghosts A.Denot) → MutBor (Kept V.Denot) → (Kept V.Denot → Type 0) → Fml
+abbrev pub ends_read : (V A : RattleType) (a : alloc.Ghosts A.Denot) → MutBor (CacheView V.Denot) → (CacheView V.Denot → Type 0) → Fml
 ends_read V A a s P = follows_so (the_row V A a) (the_row V A a) s.ghost_name none (λ _ _. ⊤) P

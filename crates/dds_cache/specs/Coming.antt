@@ -26,7 +26,7 @@ use Rattle.dds_cache.specs.declared.history.History.TheVariants.{KeepLast, KeepA
 use Rattle.dds_cache.specs.Cache.{entry_by}
 use Rattle.dds_cache.specs.Departing.{Ends, is_by}
 use Rattle.dds_cache.specs.Effects.{ChangesAt, disposed, fresh, valued, with_number, with_numbers}
-use Rattle.dds_cache.specs.Standing.{Known, Pair, Parts, is_key, is_number, is_pair, numbers_in, pair_order}
+use Rattle.dds_cache.specs.Standing.{InstanceView, Pair, Parts, is_key, is_number, is_pair, numbers_in, pair_order}
 
 abbrev pub sample_notice : {M : Type 0} → Place → Guid → Number → Option Timestamp → Body M → Notice M
 sample_notice place w number time b = record {
@@ -66,27 +66,27 @@ joined_by is_value p live = if joins is_value p live then insert_key pair_order 
 -- ---- what is known of the instance
 
 -- the number of the entry, where the last so many are kept
-abbrev pub numbered : History → ℕ → Known → Known
+abbrev pub numbered : History → ℕ → InstanceView → InstanceView
 numbered (KeepLast most) n i = with_number n i
 numbered KeepAll n i = i
 
 -- an instance that isn't known is made
-abbrev pub or_fresh : Option Known → Known
+abbrev pub or_fresh : Option InstanceView → InstanceView
 or_fresh None = fresh
 or_fresh (Some i) = i
 
-abbrev pub made : (Known → Known) → Option Known → Option Known
+abbrev pub made : (InstanceView → InstanceView) → Option InstanceView → Option InstanceView
 made f o = Some (f (or_fresh o))
 
 -- a value came, or a disposal
-abbrev pub came : Bool → Bool → Known → Known
+abbrev pub came : Bool → Bool → InstanceView → InstanceView
 came true joined i = valued joined i
 came false joined i = disposed i
 
 -- ---- the entry
 
 -- an entry is put, and what is known of its instance changes
-pub record IsPut {M : Type 0} (e : Entry M) (f : Option Known → Option Known) (after : List Pair) (old new : Parts M) : Type 0 where
+pub record IsPut {M : Type 0} (e : Entry M) (f : Option InstanceView → Option InstanceView) (after : List Pair) (old new : Parts M) : Type 0 where
   pub keep : new.keep ≡ old.keep
   pub accepted : new.accepted ≡ old.accepted
   pub entries : new.entries ≡ insert_entry nat_cmp old.entries old.accepted e

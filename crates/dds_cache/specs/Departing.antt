@@ -9,7 +9,7 @@ use Rattle.rtps_reader.specs.declared.notice.Notice.{Notice}
 use Rattle.dds_cache.specs.Cache.{entry_by}
 use Rattle.dds_cache.specs.Instances.{disposed_by, is_end, is_value, live_by, told_about}
 use Rattle.dds_cache.specs.declared.index.Index.{Index}
-use Rattle.dds_cache.specs.Standing.{AreSized, Known, Pair, count_in, is_pair, known_at, writers_in}
+use Rattle.dds_cache.specs.Standing.{AreSized, InstanceView, Pair, count_in, is_pair, known_at, writers_in}
 
 -- a notice makes no entry, is no value and no disposal, and such pairs are not live after it
 pub record Ends {M : Type 0} (n : Notice M) (leaves : Pair → Bool) : Type 0 where
@@ -19,13 +19,13 @@ pub record Ends {M : Type 0} (n : Notice M) (leaves : Pair → Bool) : Type 0 wh
   pub live : (k : KeyHash) (w : Guid) (b : Bool) → live_by (told_about k n.what) (same_guid n.writer w) (is_end n.what) b ≡ (not (leaves (w, k)) && b)
 
 -- what is known of an instance, but for the count of its live writers
-abbrev pub uncounted : Option Known → Option Known
-uncounted o = option_map (λ (i : Known). let j : Known = record i { live = 0 } in j) o
+abbrev pub uncounted : Option InstanceView → Option InstanceView
+uncounted o = option_map (λ (i : InstanceView). let j : InstanceView = record i { live = 0 } in j) o
 
-abbrev pub KeepsRest : (KeyHash → Option Known) → (KeyHash → Option Known) → Type 0
+abbrev pub KeepsRest : (KeyHash → Option InstanceView) → (KeyHash → Option InstanceView) → Type 0
 KeepsRest old new = (k : KeyHash) → uncounted (new k) ≡ uncounted (old k)
 
-abbrev pub AreCounted : (KeyHash → Option Known) → List Pair → Type 0
+abbrev pub AreCounted : (KeyHash → Option InstanceView) → List Pair → Type 0
 AreCounted find live = (k : KeyHash) → count_in (find k) ≡ writers_in k live
 
 -- the pairs of one writer

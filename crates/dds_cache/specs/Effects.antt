@@ -13,15 +13,15 @@ use Rattle.dds_cache.specs.declared.entry.Sample.{Sample}
 use Rattle.dds_cache.specs.Answered.{sample_state, shown, view_state}
 use Rattle.dds_cache.specs.Cache.{marked}
 use Rattle.dds_cache.specs.Instances.{alive_by, state_by}
-use Rattle.dds_cache.specs.Standing.{Known, Parts, alive_in, count_in, disposed_in, is_key, is_number, new_in, numbers_in}
+use Rattle.dds_cache.specs.Standing.{InstanceView, Parts, alive_in, count_in, disposed_in, is_key, is_number, new_in, numbers_in}
 
 -- ---- what becomes of an instance
 
-abbrev pub fresh : Known
+abbrev pub fresh : InstanceView
 fresh = record { is_disposed = false; is_new = true; live = 0; numbers = [] }
 
 -- a value came, of a writer that wasn't live before, or of one that was
-abbrev pub valued : Bool → Known → Known
+abbrev pub valued : Bool → InstanceView → InstanceView
 valued joined i = record {
   is_disposed = false;
   is_new = i.is_new || not (alive_by i.is_disposed (nat_lt 0 i.live));
@@ -29,27 +29,27 @@ valued joined i = record {
   numbers = i.numbers;
 }
 
-abbrev pub disposed : Known → Known
+abbrev pub disposed : InstanceView → InstanceView
 disposed i = record i { is_disposed = true }
 
 -- a writer isn't live any more
-abbrev pub left : Known → Known
+abbrev pub left : InstanceView → InstanceView
 left i = record i { live = i.live - 1 }
 
-abbrev pub with_number : ℕ → Known → Known
+abbrev pub with_number : ℕ → InstanceView → InstanceView
 with_number n i = record i { numbers = insert_key nat_cmp i.numbers n }
 
-abbrev pub with_numbers : List ℕ → Known → Known
+abbrev pub with_numbers : List ℕ → InstanceView → InstanceView
 with_numbers ns i = record i { numbers = ns }
 
-abbrev pub without_number : ℕ → Known → Known
+abbrev pub without_number : ℕ → InstanceView → InstanceView
 without_number n i = record i { numbers = remove_key (is_number n) i.numbers }
 
 -- an entry of it was read, and stays; it was taken
-abbrev pub seen : Known → Known
+abbrev pub seen : InstanceView → InstanceView
 seen i = record i { is_new = false }
 
-abbrev pub spent : ℕ → Known → Known
+abbrev pub spent : ℕ → InstanceView → InstanceView
 spent n i = record {
   is_disposed = i.is_disposed;
   is_new = false;
@@ -58,11 +58,11 @@ spent n i = record {
 }
 
 -- what is known of one instance changes
-abbrev pub ChangesAt : KeyHash → (Option Known → Option Known) → (KeyHash → Option Known) → (KeyHash → Option Known) → Type 0
+abbrev pub ChangesAt : KeyHash → (Option InstanceView → Option InstanceView) → (KeyHash → Option InstanceView) → (KeyHash → Option InstanceView) → Type 0
 ChangesAt key f old new = (k : KeyHash) → new k ≡ (if is_key key k then f (old k) else old k)
 
 -- the same is found
-abbrev pub FindsSame : (KeyHash → Option Known) → (KeyHash → Option Known) → Type 0
+abbrev pub FindsSame : (KeyHash → Option InstanceView) → (KeyHash → Option InstanceView) → Type 0
 FindsSame old new = (k : KeyHash) → new k ≡ old k
 
 -- nothing is changed
@@ -76,12 +76,12 @@ pub record IsSame {M : Type 0} (old new : Parts M) : Type 0 where
 
 -- ---- what a call answers
 
-abbrev pub passes : {M : Type 0} → (KeyHash → Option Known) → Condition → ℕ × Entry M → Bool
+abbrev pub passes : {M : Type 0} → (KeyHash → Option InstanceView) → Condition → ℕ × Entry M → Bool
 passes find flags e =
     (not flags.not_read || not e.1.is_read)
     && ((not flags.new || new_in (find e.1.key)) && (not flags.alive || alive_in (find e.1.key)))
 
-abbrev pub chosen_by : {M : Type 0} → (KeyHash → Option Known) → ℕ × Entry M → Chosen
+abbrev pub chosen_by : {M : Type 0} → (KeyHash → Option InstanceView) → ℕ × Entry M → Chosen
 chosen_by find e = record {
   number = e.0;
   key = e.1.key;
@@ -100,12 +100,12 @@ mark_one n [] = []
 mark_one n (e ∷ es) = if is_number n e.0 then (e.0, marked e.1) ∷ es else e ∷ mark_one n es
 
 -- what is known of an instance once these entries were answered
-abbrev pub each : (Chosen → Known → Known) → List Chosen → KeyHash → Option Known → Option Known
+abbrev pub each : (Chosen → InstanceView → InstanceView) → List Chosen → KeyHash → Option InstanceView → Option InstanceView
 each f [] k o = o
 each f (c ∷ cs) k o = each f cs k (if is_key c.key k then option_map (f c) o else o)
 
 -- the number of the oldest entry of an instance is given up, where it has more than so many
-abbrev pub PopsOldest : KeyHash → ℕ → Option ℕ → (KeyHash → Option Known) → (KeyHash → Option Known) → Type 0
+abbrev pub PopsOldest : KeyHash → ℕ → Option ℕ → (KeyHash → Option InstanceView) → (KeyHash → Option InstanceView) → Type 0
 PopsOldest key most None old new = (length (numbers_in (old key)) ≤ most) × FindsSame old new
 PopsOldest key most (Some n) old new =
     (most < length (numbers_in (old key))) × (numbers_in (old key) ≡ n ∷ numbers_in (new key))
@@ -146,10 +146,10 @@ take_shown [] es = []
 take_shown (c ∷ cs) es =
     with_shown c (lookup (is_number c.number) es) (take_shown cs (remove_entry (is_number c.number) es))
 
-abbrev pub read_each : Chosen → Known → Known
+abbrev pub read_each : Chosen → InstanceView → InstanceView
 read_each c = seen
 
-abbrev pub spend_each : Chosen → Known → Known
+abbrev pub spend_each : Chosen → InstanceView → InstanceView
 spend_each c = spent c.number
 
 -- these entries left

@@ -38,7 +38,7 @@ abbrev pub is_number : ℕ → ℕ → Bool
 is_number n m = is_eq (nat_cmp n m)
 
 -- what is known of an instance
-pub record Known : Type 0 where
+pub record InstanceView : Type 0 where
   pub is_disposed : Bool
   pub is_new : Bool
   -- how many writers are live in it
@@ -46,7 +46,7 @@ pub record Known : Type 0 where
   -- the numbers of its entries, where the last so many are kept
   pub numbers : List ℕ
 
-abbrev pub known : {A : Type 0} → Instance A → Known
+abbrev pub known : {A : Type 0} → Instance A → InstanceView
 known i = record {
   is_disposed = i.is_disposed;
   is_new = i.is_new;
@@ -54,18 +54,18 @@ known i = record {
   numbers = i.numbers.keys;
 }
 
-abbrev pub known_at : {A : Type 0} → List (KeyHash × Instance A) → KeyHash → Option Known
+abbrev pub known_at : {A : Type 0} → List (KeyHash × Instance A) → KeyHash → Option InstanceView
 known_at is k = option_map known (lookup (is_key k) is)
 
 -- what is kept, as contracts see it
-pub record Kept (M : Type 0) : Type 0 where
+pub record CacheView (M : Type 0) : Type 0 where
   pub keep : History
   -- how many entries were made; each has the count before it as its number
   pub accepted : ℕ
   pub entries : List (ℕ × Entry M)
   -- the numbers of those that no call answered
   pub not_read : List ℕ
-  pub instances : List (KeyHash × Known)
+  pub instances : List (KeyHash × InstanceView)
   pub live : List Pair
 
 -- the same, with a function that finds an instance
@@ -74,10 +74,10 @@ pub record Parts (M : Type 0) : Type 0 where
   pub accepted : ℕ
   pub entries : List (ℕ × Entry M)
   pub not_read : List ℕ
-  pub find : KeyHash → Option Known
+  pub find : KeyHash → Option InstanceView
   pub live : List Pair
 
-abbrev pub parts_in : {M : Type 0} → Kept M → Parts M
+abbrev pub parts_in : {M : Type 0} → CacheView M → Parts M
 parts_in kept = record {
   keep = kept.keep;
   accepted = kept.accepted;
@@ -97,7 +97,7 @@ parts index entries = record {
   live = index.live.keys;
 }
 
-abbrev pub kept : {A M : Type 0} → Index A → List (ℕ × Entry M) → Kept M
+abbrev pub kept : {A M : Type 0} → Index A → List (ℕ × Entry M) → CacheView M
 kept index entries = record {
   keep = index.keep;
   accepted = index.accepted;
@@ -109,23 +109,23 @@ kept index entries = record {
 
 -- ---- what is known of an instance, and of one that isn't known
 
-abbrev pub disposed_in : Option Known → Bool
+abbrev pub disposed_in : Option InstanceView → Bool
 disposed_in None = false
 disposed_in (Some i) = i.is_disposed
 
-abbrev pub new_in : Option Known → Bool
+abbrev pub new_in : Option InstanceView → Bool
 new_in None = true
 new_in (Some i) = i.is_new
 
-abbrev pub count_in : Option Known → ℕ
+abbrev pub count_in : Option InstanceView → ℕ
 count_in None = 0
 count_in (Some i) = i.live
 
-abbrev pub numbers_in : Option Known → List ℕ
+abbrev pub numbers_in : Option InstanceView → List ℕ
 numbers_in None = []
 numbers_in (Some i) = i.numbers
 
-abbrev pub alive_in : Option Known → Bool
+abbrev pub alive_in : Option InstanceView → Bool
 alive_in o = alive_by (disposed_in o) (nat_lt 0 (count_in o))
 
 -- ---- a cache keeps what follows from all that was done with it, the newest first
@@ -169,5 +169,5 @@ pub record StandsBy {M : Type 0} (past : List (Done M)) (p : Parts M) : Type 0 w
   pub live : (k : KeyHash) (w : Guid) → list_any (is_pair (w, k)) p.live ≡ is_live past k w
   pub sized : AreSized p.live
 
-abbrev pub StandsAt : {M : Type 0} → List (Done M) → Kept M → Type 0
+abbrev pub StandsAt : {M : Type 0} → List (Done M) → CacheView M → Type 0
 StandsAt past kept = StandsBy past (parts_in kept)

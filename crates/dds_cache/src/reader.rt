@@ -34,9 +34,9 @@ pub struct DataReader<V, A: Allocator = Global> {
 impl<V, A: Allocator> Model for DataReader<V, A> {
     ghost use Rattle.dds_cache.specs.Lent.{answers_in};
     ghost use Rattle.std.specs.Borrow.{sem};
-    ghost use Rattle.dds_cache.specs.Standing.{Kept, kept};
+    ghost use Rattle.dds_cache.specs.Standing.{CacheView, kept};
 
-    ghost Value = { Kept V };
+    ghost Value = { CacheView V };
 
     ghost view = { λ r. kept r.index r.shelf.entries.entries };
 }

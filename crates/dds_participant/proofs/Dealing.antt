@@ -5,7 +5,7 @@ use Rattle.std.specs.declared.vec.Vec.{Vec}
 use Rattle.std.proofs.lemmas.Bool.{eq-eqb, eqb-false, eqb-true, ne_eqb, or_from, or_left, or_right}
 use Rattle.std.proofs.lemmas.List.Elements.{All-from_recursion}
 use Rattle.rtps_types.specs.declared.place.Place.{Place}
-use Rattle.rtps_proxy.specs.Replies.{Sent}
+use Rattle.rtps_proxy.specs.Replies.{ReplyView}
 use Rattle.rtps_reader.specs.declared.notice.Notice.{Notice}
 use Rattle.rtps_reader.specs.declared.notice.Output.{Output}
 use Rattle.rtps_reader.specs.Notices as reader
@@ -111,7 +111,7 @@ module _ {V : Type 0} where
 
 -- ---- what is by place is at places that there are
 
-at_place : (p : Place) (ss : List (Place × Sent)) → AllByRecursion (λ s. same_place s.0 p ≡ true) (answers_at p ss)
+at_place : (p : Place) (ss : List (Place × ReplyView)) → AllByRecursion (λ s. same_place s.0 p ≡ true) (answers_at p ss)
 at_place p [] = tt
 at_place p (s ∷ ss) = by_test (same_place s.0 p) refl (at_place p ss)
   where
@@ -119,17 +119,17 @@ at_place p (s ∷ ss) = by_test (same_place s.0 p) refl (at_place p ss)
     by_test true e rest = (e, rest)
     by_test false e rest = rest
 
-at_some : (ss : List (Place × Sent)) (places : List Place) → AllByRecursion (λ s. list_any (same_place s.0) places ≡ true) (flat_map (λ p. answers_at p ss) places)
+at_some : (ss : List (Place × ReplyView)) (places : List Place) → AllByRecursion (λ s. list_any (same_place s.0) places ≡ true) (flat_map (λ p. answers_at p ss) places)
 at_some ss [] = tt
 at_some ss (p ∷ ps) =
     all_append (λ s. list_any (same_place s.0) (p ∷ ps) ≡ true) (answers_at p ss) (flat_map (λ p. answers_at p ss) ps)
     (all_weaker (λ s. same_place s.0 p ≡ true) (λ s. list_any (same_place s.0) (p ∷ ps) ≡ true) (answers_at p ss) (λ s e. or_left (same_place s.0 p) (list_any (same_place s.0) ps) e) (at_place p ss))
     (all_weaker (λ s. list_any (same_place s.0) ps ≡ true) (λ s. list_any (same_place s.0) (p ∷ ps) ≡ true) (flat_map (λ p. answers_at p ss) ps) (λ s e. or_right (same_place s.0 p) (list_any (same_place s.0) ps) e) (at_some ss ps))
 
-stand_among : (places : List Place) (ss : List (Place × Sent)) → AreAnswersAlong places ss → StandAmong places ss
+stand_among : (places : List Place) (ss : List (Place × ReplyView)) → AreAnswersAlong places ss → StandAmong places ss
 stand_among places ss along =
-    All-from_recursion (λ (s : Place × Sent). list_any (same_place s.0) places ≡ true) ss
-    (subst (AllByRecursion (λ (s : Place × Sent). list_any (same_place s.0) places ≡ true)) along (at_some ss places))
+    All-from_recursion (λ (s : Place × ReplyView). list_any (same_place s.0) places ≡ true) ss
+    (subst (AllByRecursion (λ (s : Place × ReplyView). list_any (same_place s.0) places ≡ true)) along (at_some ss places))
 
 -- ---- the outcome
 
@@ -145,7 +145,7 @@ module _ {V M : Type 0} (f : V → M) (before after : World M) (given : Given V)
   abbrev places : List Place
   places = given.places.items
 
-  abbrev answers : List (Place × Sent)
+  abbrev answers : List (Place × ReplyView)
   answers = map said_view given.answers.items
 
   own : (rank : ℕ) → sent_by pairs rank ≡ sent_in outputs rank

@@ -3,14 +3,14 @@ use Rattle.std.proofs.Common.{◌≡◌, ℕ, ◌+◌, ◌<◌, List, [], ◌∷
 use Rattle.std.proofs.Math.ListN.{get_or-map}
 use Rattle.std.proofs.lemmas.List.{length-map, take_more}
 use Rattle.rtps_types.specs.declared.identity.GuidPrefix.{GuidPrefix}
-use Rattle.rtps_receiver.specs.Events.{Happening, events_of}
+use Rattle.rtps_receiver.specs.Events.{EventView, events_of}
 use Rattle.rtps_serial.specs.Run.{events_from}
 use Rattle.rtps_serial.proofs.Running.{events_more}
 
 abbrev pub lent : List (Bor (List ℕ)) → List (List ℕ)
 lent ds = map (λ d. d.now) ds
 
-pub decoded_more : (own : GuidPrefix) (first at : ℕ) (ds : List (Bor (List ℕ))) (d : Bor (List ℕ)) (new old : List Happening) → at < length ds
+pub decoded_more : (own : GuidPrefix) (first at : ℕ) (ds : List (Bor (List ℕ))) (d : Bor (List ℕ)) (new old : List EventView) → at < length ds
     → new ≡ old ++ events_of own (first + at) (get_or ds at d).now → old ≡ events_from own first (take at (lent ds)) → new ≡ events_from own first (take (at + 1) (lent ds))
 decoded_more own first at ds d new old below added before =
     let x : List ℕ = (get_or ds at d).now in

@@ -3,19 +3,19 @@ use Rattle.std.proofs.Common.{◌≡◌, ℕ, zero, suc, ◌<◌, ◌≤◌, Lis
 use Rattle.std.proofs.lemmas.Bool.{cases_lt}
 use Rattle.rtps_types.specs.declared.identity.GuidPrefix.{GuidPrefix}
 use Rattle.rtps_types.specs.declared.place.Place.{Place}
-use Rattle.rtps_receiver.specs.Events.{Happening}
-use Rattle.rtps_discovery.specs.Kept.{Kept}
+use Rattle.rtps_receiver.specs.Events.{EventView}
+use Rattle.rtps_discovery.specs.Kept.{HeldView}
 use Rattle.dds_topic.specs.Decoding.{Decoding}
-use Rattle.rtps_proxy.specs.Replies.{Sent}
+use Rattle.rtps_proxy.specs.Replies.{ReplyView}
 use Rattle.rtps_reader.specs.declared.notice.Output.{Output}
 use Rattle.rtps_reader.specs.Notices as reader
-use Rattle.rtps_reader.specs.Standing.{ReaderKept}
+use Rattle.rtps_reader.specs.Standing.{ReaderView}
 use Rattle.rtps_serial.specs.declared.outcome.Answer.{Answer}
 use Rattle.rtps_serial.specs.Outcome.{answer_view}
 use Rattle.rtps_serial.specs.Run.{events_from, world_run}
 use Rattle.rtps_serial.specs.Seen.{notices_by, reader_count}
 use Rattle.rtps_serial.specs.World as world
-use Rattle.rtps_serial.specs.World.{Hears, Sending, World}
+use Rattle.rtps_serial.specs.World.{NoticeOf, AnswerView, World}
 use Rattle.rtps_serial.proofs.Places.{PlacesRise, rise_from}
 use Rattle.rtps_serial.proofs.Running.{count_stays}
 use Rattle.rtps_planner.specs.declared.jobs.Plan.{Plan}
@@ -71,9 +71,9 @@ module _ {M : Type 0} (a b : Parts M) where
   below_same p zero same = refl
   below_same p (suc n) same =
       let here = same n (omega arith) in
-      ap (λ l. l ++ (map (Hears n) (notices_at p (a.told n)) ++ map (world.sent_by n) (answers_at p (a.sent n)))) (below_same p n (λ rank less. same rank (omega (arith, less))))
-      ∙ ap (λ l. merged_below p b n ++ (map (Hears n) (notices_at p l) ++ map (world.sent_by n) (answers_at p (a.sent n)))) here.0
-      ∙ ap (λ l. merged_below p b n ++ (map (Hears n) (notices_at p (b.told n)) ++ map (world.sent_by n) (answers_at p l))) here.1
+      ap (λ l. l ++ (map (NoticeOf n) (notices_at p (a.told n)) ++ map (world.sent_by n) (answers_at p (a.sent n)))) (below_same p n (λ rank less. same rank (omega (arith, less))))
+      ∙ ap (λ l. merged_below p b n ++ (map (NoticeOf n) (notices_at p l) ++ map (world.sent_by n) (answers_at p (a.sent n)))) here.0
+      ∙ ap (λ l. merged_below p b n ++ (map (NoticeOf n) (notices_at p (b.told n)) ++ map (world.sent_by n) (answers_at p l))) here.1
 
   pub merged_same : (n : ℕ) (places : List Place) → a.answers ≡ b.answers → AreSameBelow n → merged a n places ≡ merged b n places
   merged_same n [] said same = refl
@@ -84,18 +84,18 @@ module _ {M : Type 0} (a b : Parts M) where
 
 -- ---- discovery's answers
 
-abbrev unranked_view : Sending → Place × Sent
+abbrev unranked_view : AnswerView → Place × ReplyView
 unranked_view s = (s.place, record { to = s.to; octets = s.octets })
 
 said_of_view : (xs : List (Answer Global)) → map said_view xs ≡ map unranked_view (map answer_view xs)
 said_of_view [] = refl
 said_of_view (a ∷ xs) = ap (λ l. said_view a ∷ l) (said_of_view xs)
 
-view_of_said : (ss : List (Place × Sent)) → map unranked_view (map discovery_sending ss) ≡ ss
+view_of_said : (ss : List (Place × ReplyView)) → map unranked_view (map discovery_sending ss) ≡ ss
 view_of_said [] = refl
 view_of_said (s ∷ ss) = ap (λ l. s ∷ l) (view_of_said ss)
 
-said_is : (xs : List (Answer Global)) (ss : List (Place × Sent)) → map answer_view xs ≡ map discovery_sending ss → map said_view xs ≡ ss
+said_is : (xs : List (Answer Global)) (ss : List (Place × ReplyView)) → map answer_view xs ≡ map discovery_sending ss → map said_view xs ≡ ss
 said_is xs ss is = said_of_view xs ∙ ap (map unranked_view) is ∙ view_of_said ss
 
 -- ---- what isn't there is by place
@@ -110,11 +110,11 @@ no_answers (p ∷ ps) = no_answers ps
 
 -- ---- what the jobs of a batch give
 
-module _ {V M : Type 0} (f : V → M) (decoding : Decoding M) (w : World M) (es : List Happening) (up : PlacesRise es) (plan : Plan Global) (kept : Kept) (old : List ReaderKept) (p : Parted V) (given : Given V)
+module _ {V M : Type 0} (f : V → M) (decoding : Decoding M) (w : World M) (es : List EventView) (up : PlacesRise es) (plan : Plan Global) (kept : HeldView) (old : List ReaderView) (p : Parted V) (given : Given V)
     (planned : IsPlan w.known es plan kept) (ran : AreRun f decoding (shares_in w es) old p) (total : length given.outputs.items ≡ reader_count w)
-    (placed : given.places.items ≡ map (λ (e : Happening). e.place) es) (said : given.answers.items ≡ plan.rest.answers.items) (put : given.outputs.items ≡ p.outputs.items) where
+    (placed : given.places.items ≡ map (λ (e : EventView). e.place) es) (said : given.answers.items ≡ plan.rest.answers.items) (put : given.outputs.items ≡ p.outputs.items) where
   abbrev places : List Place
-  places = map (λ (e : Happening). e.place) es
+  places = map (λ (e : EventView). e.place) es
 
   abbrev outputs : List (Output V Global)
   outputs = given.outputs.items
@@ -169,9 +169,9 @@ module _ {V M : Type 0} (f : V → M) (decoding : Decoding M) (w : World M) (es 
     unranked = view_is ∙ ap (map discovery_sending) (sym answers_are);
   }
 
-pub run_gives : {V M : Type 0} (f : V → M) (decoding : Decoding M) (w : World M) (es : List Happening) (own : GuidPrefix) (index : ℕ) (datagrams : List (List ℕ)) (plan : Plan Global) (kept : Kept) (old : List ReaderKept) (p : Parted V) (given : Given V)
+pub run_gives : {V M : Type 0} (f : V → M) (decoding : Decoding M) (w : World M) (es : List EventView) (own : GuidPrefix) (index : ℕ) (datagrams : List (List ℕ)) (plan : Plan Global) (kept : HeldView) (old : List ReaderView) (p : Parted V) (given : Given V)
     → es ≡ events_from own index datagrams → IsPlan w.known es plan kept → AreRun f decoding (shares_in w es) old p → length given.outputs.items ≡ reader_count w
-    → given.places.items ≡ map (λ (e : Happening). e.place) es → given.answers.items ≡ plan.rest.answers.items → given.outputs.items ≡ p.outputs.items
+    → given.places.items ≡ map (λ (e : EventView). e.place) es → given.answers.items ≡ plan.rest.answers.items → given.outputs.items ≡ p.outputs.items
     → IsGiven f w (world_run decoding w (events_from own index datagrams)) given
 run_gives f decoding w es own index datagrams plan kept old p given read planned ran total placed said put =
     subst (λ l. IsGiven f w (world_run decoding w l) given) read

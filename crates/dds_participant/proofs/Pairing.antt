@@ -6,10 +6,10 @@ use Rattle.std.proofs.lemmas.Bool.{eq-eqb}
 use Rattle.std.proofs.lemmas.List.{append_cancel_right, get_or-map, get_or_append_left, length-map, map_push}
 use Rattle.std.proofs.lemmas.List.Elements.{All-append, All-cons, All-nil}
 use Rattle.std.proofs.lemmas.List.Sorted.{IsPermutation-append_right, IsPermutation-middle, IsPermutation-sym, IsPermutation-to_front, IsPermutation-trans}
-use Rattle.rtps_receiver.specs.Events.{Happening}
+use Rattle.rtps_receiver.specs.Events.{EventView}
 use Rattle.dds_topic.specs.Decoding.{Decoding}
 use Rattle.rtps_reader.specs.Notices.{answer_view, notice_view}
-use Rattle.rtps_reader.specs.Standing.{ReaderKept}
+use Rattle.rtps_reader.specs.Standing.{ReaderView}
 use Rattle.rtps_serial.specs.Standing.{StandsFor}
 use Rattle.rtps_planner.specs.declared.jobs.Job as plan_job
 use Rattle.rtps_planner.specs.Job.{Job, job_sent, job_told}
@@ -51,11 +51,11 @@ pub all_last : {X : Type 0} (P : X → Type 0) (xs : List X) (x : X) → All P (
 all_last P xs x all = subst P (get_or-append_seam xs x [] x) (all (length xs) x (omega (arith, length-append xs (x ∷ []))))
 
 -- the last job is that of the last rank
-pub record IsLastJob {A : Type 0} (es : List Happening) (asked : ℕ → Job) (n : ℕ) (front : List (plan_job.Job A)) (job : plan_job.Job A) : Type 0 where
+pub record IsLastJob {A : Type 0} (es : List EventView) (asked : ℕ → Job) (n : ℕ) (front : List (plan_job.Job A)) (job : plan_job.Job A) : Type 0 where
   pub rest : map (job_seen es) front ≡ jobs_by asked n
   pub steps : steps_seen es job.steps.items ≡ asked n
 
-pub job_last : {A : Type 0} (es : List Happening) (asked : ℕ → Job) (n : ℕ) (jobs front : List (plan_job.Job A)) (job : plan_job.Job A) → jobs ≡ front ++ job ∷ [] → job.rank ≡ n
+pub job_last : {A : Type 0} (es : List EventView) (asked : ℕ → Job) (n : ℕ) (jobs front : List (plan_job.Job A)) (job : plan_job.Job A) → jobs ≡ front ++ job ∷ [] → job.rank ≡ n
     → map (job_seen es) jobs ≡ jobs_by asked (suc n) → IsLastJob es asked n front job
 job_last {A} es asked n jobs front job is ranked planned = by_asked (asked n) refl
   where
@@ -75,11 +75,11 @@ job_last {A} es asked n jobs front job is ranked planned = by_asked (asked n) re
         }
 
 -- the last rank has none
-pub record IsNoJob {A : Type 0} (es : List Happening) (asked : ℕ → Job) (n : ℕ) (jobs : List (plan_job.Job A)) : Type 0 where
+pub record IsNoJob {A : Type 0} (es : List EventView) (asked : ℕ → Job) (n : ℕ) (jobs : List (plan_job.Job A)) : Type 0 where
   pub rest : map (job_seen es) jobs ≡ jobs_by asked n
   pub none : asked n ≡ []
 
-pub job_none : {A : Type 0} (es : List Happening) (asked : ℕ → Job) (n : ℕ) (jobs : List (plan_job.Job A))
+pub job_none : {A : Type 0} (es : List EventView) (asked : ℕ → Job) (n : ℕ) (jobs : List (plan_job.Job A))
     → ((other : plan_job.Job A) → 0 < length jobs → ((get_or jobs (length jobs - 1) other).rank == n) ≡ false) → map (job_seen es) jobs ≡ jobs_by asked (suc n) → IsNoJob es asked n jobs
 job_none {A} es asked n jobs last planned = by_asked (asked n) refl
   where
@@ -105,21 +105,21 @@ job_none {A} es asked n jobs last planned = by_asked (asked n) refl
 
 -- ---- states by rank
 
-pub share_last : {M : Type 0} (shares : ℕ → Share M) (states front : List ReaderKept) (s : ReaderKept) → states ≡ front ++ s ∷ [] → AllShare shares states
+pub share_last : {M : Type 0} (shares : ℕ → Share M) (states front : List ReaderView) (s : ReaderView) → states ≡ front ++ s ∷ [] → AllShare shares states
     → StandsFor (shares (length front)).reader (shares (length front)).given (length front) s
 share_last shares states front s is all =
     subst (StandsFor (shares (length front)).reader (shares (length front)).given (length front))
     (ap (λ l. get_or l (length front) s) is ∙ get_or-append_seam front s [] s)
     (all (length front) s (omega (arith, ap length is, length-append front (s ∷ []))))
 
-pub share_front : {M : Type 0} (shares : ℕ → Share M) (states front : List ReaderKept) (s : ReaderKept) → states ≡ front ++ s ∷ [] → AllShare shares states → AllShare shares front
+pub share_front : {M : Type 0} (shares : ℕ → Share M) (states front : List ReaderView) (s : ReaderView) → states ≡ front ++ s ∷ [] → AllShare shares states → AllShare shares front
 share_front shares states front s is all rank other below =
     subst (StandsFor (shares rank).reader (shares rank).given rank)
     (ap (λ l. get_or l rank other) is ∙ get_or_append_left front (s ∷ []) other rank below)
     (all rank other (omega (arith, below, ap length is, length-append front (s ∷ []))))
 
 -- a reader without a job is as one whose job is done
-pub idle_done : {V M : Type 0} (f : V → M) (decoding : Decoding M) (shares : ℕ → Share M) (rank : ℕ) (s : ReaderKept) (x : JobResult V) → (shares rank).job ≡ [] → StandsFor (shares rank).reader (shares rank).given rank s
+pub idle_done : {V M : Type 0} (f : V → M) (decoding : Decoding M) (shares : ℕ → Share M) (rank : ℕ) (s : ReaderView) (x : JobResult V) → (shares rank).job ≡ [] → StandsFor (shares rank).reader (shares rank).given rank s
     → x.rank ≡ s.rank → x.state ≡ s → x.output.notices.items ≡ [] → x.output.answers.items ≡ [] → IsDone f decoding shares x
 idle_done {V} {M} f decoding shares rank s x none stands ranked is told sent =
     let here : x.rank ≡ rank = ranked ∙ stands.ranked in
@@ -154,7 +154,7 @@ pub all_but_last : {X : Type 0} (P : X → Type 0) (xs : List X) (x : X) → All
 all_but_last P xs x all k d below = subst P (get_or_append_left xs (x ∷ []) d k below) (all k d (omega (arith, below, length-append xs (x ∷ []))))
 
 -- a job with the state of its reader
-pub ready : {V M : Type 0} (es : List Happening) (shares : ℕ → Share M) (n : ℕ) (w : ReaderJob V) (job : plan_job.Job Global) (state : ReaderKept) → w.job ≡ job → w.state ≡ state → job.rank ≡ n
+pub ready : {V M : Type 0} (es : List EventView) (shares : ℕ → Share M) (n : ℕ) (w : ReaderJob V) (job : plan_job.Job Global) (state : ReaderView) → w.job ≡ job → w.state ≡ state → job.rank ≡ n
     → steps_seen es job.steps.items ≡ (shares n).job → StandsFor (shares n).reader (shares n).given n state → IsReady es shares w
 ready {V} {M} es shares n w job state is_job is_state ranked steps stands =
     let here : w.job.rank ≡ n = ap (λ (j : plan_job.Job Global). j.rank) is_job ∙ ranked in

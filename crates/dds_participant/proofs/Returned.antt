@@ -8,7 +8,7 @@ use Rattle.std.proofs.lemmas.List.Elements.{All-append}
 use Rattle.std.proofs.lemmas.List.Sorted.{All-permutation, IsPermutation-append_comm, IsPermutation-append_left, IsPermutation-map, IsPermutation-trans, length_permutation}
 use Rattle.dds_topic.specs.Decoding.{Decoding}
 use Rattle.rtps_reader.specs.declared.notice.Output.{Output}
-use Rattle.rtps_reader.specs.Standing.{ReaderKept}
+use Rattle.rtps_reader.specs.Standing.{ReaderView}
 use Rattle.rtps_serial.specs.Standing.{StandsFor}
 use Rattle.rtps_shards.specs.declared.jobs.JobResult.{JobResult}
 use Rattle.rtps_shards.specs.declared.jobs.ReaderJob.{ReaderJob}
@@ -18,7 +18,7 @@ use Rattle.dds_participant.specs.Sharing.{AllShare, AreParted, AreRun, AreSplit,
 use Rattle.dds_participant.proofs.Numbers.{comes_before, one_list}
 
 -- states by rank are in order
-rank_at : {M : Type 0} (shares : ℕ → Share M) (states : List ReaderKept) → AllShare shares states → (k : ℕ) (d : ℕ) → k < length states → get_or (map state_rank states) k d ≡ k
+rank_at : {M : Type 0} (shares : ℕ → Share M) (states : List ReaderView) → AllShare shares states → (k : ℕ) (d : ℕ) → k < length states → get_or (map state_rank states) k d ≡ k
 rank_at shares [] all k d below = absurd (omega (arith, below))
 rank_at shares (s ∷ ss) all k d below = get_or-map state_rank (s ∷ ss) k s d below ∙ (all k s below).ranked
 
@@ -28,7 +28,7 @@ not_before k = by_test (nat_cmp (k + 1) k) refl
     by_test : (o : _) → nat_cmp (k + 1) k ≡ o → comes_before (k + 1) k ≡ false
     by_test o e = grind (arith, nat_tests)
 
-by_rank : {M : Type 0} (shares : ℕ → Share M) (states : List ReaderKept) → AllShare shares states → IsSortedBy comes_before (map state_rank states)
+by_rank : {M : Type 0} (shares : ℕ → Share M) (states : List ReaderView) → AllShare shares states → IsSortedBy comes_before (map state_rank states)
 by_rank shares states all k d low high =
     let inside : k + 1 < length states = omega (arith, high, length-map states state_rank) in
     ap (λ n. comes_before n (get_or (map state_rank states) k d)) (rank_at shares states all (k + 1) d inside)
@@ -55,7 +55,7 @@ some_of [] rank below = absurd (omega (arith, below))
 some_of (x ∷ xs) rank below = x
 
 -- all of a batch's readers, after their jobs
-module _ {V M : Type 0} (f : V → M) (decoding : Decoding M) (shares : ℕ → Share M) (old : List ReaderKept) (work : List (ReaderJob V)) (idle results : List (JobResult V)) (stand : AllShare shares old)
+module _ {V M : Type 0} (f : V → M) (decoding : Decoding M) (shares : ℕ → Share M) (old : List ReaderView) (work : List (ReaderJob V)) (idle results : List (JobResult V)) (stand : AllShare shares old)
     (dealt : IsPermutation (map state_rank old) (map rank_in work ++ map rank_of idle)) (ran : IsPermutation (map rank_in work) (map rank_of results))
     (without : All (IsDone f decoding shares) idle) (done : All (IsDone f decoding shares) results) (p : Parted V) (parted : AreParted idle results p) where
   abbrev all : List (JobResult V)
@@ -81,7 +81,7 @@ module _ {V M : Type 0} (f : V → M) (decoding : Decoding M) (shares : ℕ → 
   ranked rank x below =
       sym (get_or-map rank_of all rank x 0 below) ∙ ap (λ l. get_or l rank 0) ranks ∙ rank_at shares old stand rank 0 (omega (arith, below, count))
 
-  stated : (rank : ℕ) (other : ReaderKept) → rank < length p.states.items → StandsFor (reader_done (shares rank)) (given_done decoding (shares rank)) rank (get_or p.states.items rank other)
+  stated : (rank : ℕ) (other : ReaderView) → rank < length p.states.items → StandsFor (reader_done (shares rank)) (given_done decoding (shares rank)) rank (get_or p.states.items rank other)
   stated rank other less =
       let below : rank < length all = omega (arith, less, ap length parted.split.states, length-map all state_of) in
       let x = some_of all rank below in
@@ -105,7 +105,7 @@ module _ {V M : Type 0} (f : V → M) (decoding : Decoding M) (shares : ℕ → 
     outputs = put_out;
   }
 
-pub run_over : {V E M : Type 0} (f : V → M) (decoding : Decoding M) (shares : ℕ → Share M) (old : List ReaderKept) (work : List (ReaderJob V)) (idle results : List (JobResult V)) (r : Result (Parted V) E) → AllShare shares old
+pub run_over : {V E M : Type 0} (f : V → M) (decoding : Decoding M) (shares : ℕ → Share M) (old : List ReaderView) (work : List (ReaderJob V)) (idle results : List (JobResult V)) (r : Result (Parted V) E) → AllShare shares old
     → IsPermutation (map state_rank old) (map rank_in work ++ map rank_of idle) → IsPermutation (map rank_in work) (map rank_of results)
     → All (IsDone f decoding shares) idle → All (IsDone f decoding shares) results → IfOk r (AreParted idle results) → IfOk r (AreRun f decoding shares old)
 run_over f decoding shares old work idle results (Ok p) stand dealt ran without done parted = are_run f decoding shares old work idle results stand dealt ran without done p parted
@@ -129,7 +129,7 @@ outputs_over work idle results (Ok p) ran parted = ap length parted.split.output
 outputs_over work idle results (Err e) ran parted = tt
 
 -- the readers are those with a job and those without one
-pub pair_count : {V : Type 0} (old : List ReaderKept) (work : List (ReaderJob V)) (idle : List (JobResult V)) → IsPermutation (map state_rank old) (map rank_in work ++ map rank_of idle) → length work + length idle ≡ length old
+pub pair_count : {V : Type 0} (old : List ReaderView) (work : List (ReaderJob V)) (idle : List (JobResult V)) → IsPermutation (map state_rank old) (map rank_in work ++ map rank_of idle) → length work + length idle ≡ length old
 pair_count old work idle dealt =
     let all = length_permutation (map state_rank old) (map rank_in work ++ map rank_of idle) dealt in
     omega (arith, all, length-append (map rank_in work) (map rank_of idle), length-map old state_rank, length-map work rank_in, length-map idle rank_of)

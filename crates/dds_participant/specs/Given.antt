@@ -3,7 +3,7 @@ use Rattle.std.specs.Prelude.{◌≡◌, ℕ, zero, suc, ◌<◌, List, [], ◌�
 use Rattle.std.specs.List.{flat_map}
 use Rattle.std.specs.declared.alloc.Global.{Global}
 use Rattle.rtps_types.specs.declared.place.Place.{Place}
-use Rattle.rtps_proxy.specs.Replies.{Sent}
+use Rattle.rtps_proxy.specs.Replies.{ReplyView}
 use Rattle.rtps_reader.specs.declared.notice.Notice.{Notice}
 use Rattle.rtps_reader.specs.declared.notice.Output.{Output}
 use Rattle.rtps_reader.specs.Notices as reader
@@ -24,13 +24,13 @@ told_in f [] rank = []
 told_in f (o ∷ os) zero = map (reader.notice_view f) o.notices.items
 told_in f (o ∷ os) (suc rank) = told_in f os rank
 
-abbrev pub sent_in : {V : Type 0} → List (Output V Global) → ℕ → List (Place × Sent)
+abbrev pub sent_in : {V : Type 0} → List (Output V Global) → ℕ → List (Place × ReplyView)
 sent_in [] rank = []
 sent_in (o ∷ os) zero = map reader.answer_view o.answers.items
 sent_in (o ∷ os) (suc rank) = sent_in os rank
 
 -- an answer of discovery, with its place
-abbrev pub said_view : Answer Global → Place × Sent
+abbrev pub said_view : Answer Global → Place × ReplyView
 said_view a = (a.place, record { to = a.to; octets = a.octets })
 
 -- the parts of a batch: what discovery answers, and what each reader gives out and sends
@@ -45,7 +45,7 @@ parts_given f given = record {
 abbrev pub AreNoticesAlong : {M : Type 0} → List Place → List (Notice M) → Type 0
 AreNoticesAlong places notices = flat_map (λ p. notices_at p notices) places ≡ notices
 
-abbrev pub AreAnswersAlong : List Place → List (Place × Sent) → Type 0
+abbrev pub AreAnswersAlong : List Place → List (Place × ReplyView) → Type 0
 AreAnswersAlong places answers = flat_map (λ p. answers_at p answers) places ≡ answers
 
 -- A batch gave what one world put out more than another: its parts, merged by its places; and by

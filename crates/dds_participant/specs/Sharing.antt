@@ -3,11 +3,11 @@ use Rattle.std.specs.Prelude.{◌≡◌, ◌<◌, ℕ, List, ◌++◌, All, leng
 use Rattle.std.specs.List.Sorted.{IsPermutation, IsSortedByKey}
 use Rattle.std.specs.Ordering.{nat_cmp}
 use Rattle.std.specs.declared.alloc.Global.{Global}
-use Rattle.rtps_receiver.specs.Events.{Happening}
+use Rattle.rtps_receiver.specs.Events.{EventView}
 use Rattle.dds_topic.specs.Decoding.{Decoding}
 use Rattle.rtps_reader.specs.declared.notice.Output.{Output}
 use Rattle.rtps_reader.specs.Notices.{answer_view, notice_view}
-use Rattle.rtps_reader.specs.Standing.{ReaderKept}
+use Rattle.rtps_reader.specs.Standing.{ReaderView}
 use Rattle.rtps_serial.specs.Standing.{AllStandBy}
 use Rattle.rtps_planner.specs.Job.{job_sent, job_told}
 use Rattle.rtps_planner.specs.Plan.{job_seen, jobs_by}
@@ -17,32 +17,32 @@ use Rattle.rtps_shards.specs.Results.{IsDone, IsReady, Share, given_done, rank_o
 use Rattle.dds_participant.specs.declared.readers.Paired.{Paired}
 use Rattle.dds_participant.specs.declared.readers.Parted.{Parted}
 
-abbrev pub state_rank : ReaderKept → ℕ
+abbrev pub state_rank : ReaderView → ℕ
 state_rank s = s.rank
 
 -- each state keeps the reader of its rank, with the notices that it gave out
-abbrev pub AllShare : {M : Type 0} → (ℕ → Share M) → List ReaderKept → Type 0
+abbrev pub AllShare : {M : Type 0} → (ℕ → Share M) → List ReaderView → Type 0
 AllShare shares states =
     AllStandBy (λ rank. (shares rank).reader) (λ rank. (shares rank).given) states
 
 -- the same once all jobs are done
-abbrev pub AllAfter : {M : Type 0} → Decoding M → (ℕ → Share M) → List ReaderKept → Type 0
+abbrev pub AllAfter : {M : Type 0} → Decoding M → (ℕ → Share M) → List ReaderView → Type 0
 AllAfter decoding shares states =
     AllStandBy (λ rank. reader_done (shares rank)) (λ rank. given_done decoding (shares rank))
     states
 
 -- the jobs are those of the shares that have one, for so many readers
-abbrev pub AreJobs : {A M : Type 0} → List Happening → (ℕ → Share M) → List (plan_job.Job A) → ℕ
+abbrev pub AreJobs : {A M : Type 0} → List EventView → (ℕ → Share M) → List (plan_job.Job A) → ℕ
     → Type 0
 AreJobs es shares jobs count = map (job_seen es) jobs ≡ jobs_by (λ rank. (shares rank).job) count
 
 -- each job has the state of its reader; a reader without a job is one whose job is done
-pub record ArePaired {V M : Type 0} (f : V → M) (es : List Happening) (decoding : Decoding M)
+pub record ArePaired {V M : Type 0} (f : V → M) (es : List EventView) (decoding : Decoding M)
     (shares : ℕ → Share M) (p : Paired V) : Type 0 where
   pub work : All (IsReady es shares) p.work.items
   pub idle : All (IsDone f decoding shares) p.idle.items
 
-abbrev pub state_of : {V : Type 0} → JobResult V → ReaderKept
+abbrev pub state_of : {V : Type 0} → JobResult V → ReaderView
 state_of x = x.state
 
 abbrev pub output_of : {V : Type 0} → JobResult V → Output V Global
@@ -68,7 +68,7 @@ pub record IsOutput {V M A : Type 0} (f : V → M) (decoding : Decoding M) (s : 
 
 -- the readers after their jobs, and what came of these, by rank
 pub record AreRun {V M : Type 0} (f : V → M) (decoding : Decoding M) (shares : ℕ → Share M)
-    (old : List ReaderKept) (p : Parted V) : Type 0 where
+    (old : List ReaderView) (p : Parted V) : Type 0 where
   pub count : length p.states.items ≡ length old
   pub states : AllAfter decoding shares p.states.items
   pub outputs : (rank : ℕ) (other : Output V Global) → rank < length p.outputs.items

@@ -7,7 +7,7 @@ ghost use Rattle.rtps_serial.specs.Outcome.{Adds};
 ghost use Rattle.rtps_serial.specs.Run.{events_from, world_run};
 ghost use Rattle.rtps_serial.specs.Standing.{ShowsAt, StandsAt, datagram_limit, run_by};
 ghost use Rattle.rtps_serial.specs.World.{World};
-ghost use Rattle.rtps_reader.specs.Standing.{ReaderKept};
+ghost use Rattle.rtps_reader.specs.Standing.{ReaderView};
 ghost use Rattle.rtps_shards.specs.Results.{Share, rank_in, rank_of};
 ghost use Rattle.dds_participant.specs.Batch.{IsFinishedBy, Keeps, OnlyRuns, failing};
 ghost use Rattle.dds_participant.specs.Given.{IsGiven, LeavesLists};
@@ -52,7 +52,7 @@ fn run_paired<C: Catalog, G: Gate, R: Threads + Sync>(
         ≡ length paired.work.items + length paired.idle.items) }
     ensures outputs { IfOk result (λ p. length p.outputs.items
         ≡ length paired.work.items + length paired.idle.items) }
-    ensures run { (shares : ℕ → Share C.Meaning) (old : List ReaderKept) → AllShare shares old
+    ensures run { (shares : ℕ → Share C.Meaning) (old : List ReaderView) → AllShare shares old
         → IsPermutation (map state_rank old)
         (map rank_in paired.work.items ++ map rank_of paired.idle.items)
         → ArePaired C.view (map view batch.now.events.now) (C.decoding batch.now.catalog.now) shares

@@ -41,9 +41,9 @@ pub struct Participant<C: Catalog> {
 
 impl<C: Catalog> Model for Participant<C> {
     ghost use Rattle.std.specs.Prelude.{◌≡◌, ◌≤◌, false, length};
-    ghost use Rattle.dds_participant.specs.Kept.{ParticipantKept};
+    ghost use Rattle.dds_participant.specs.Kept.{ParticipantView};
 
-    ghost Value = { ParticipantKept C };
+    ghost Value = { ParticipantView C };
 
     ghost view = { λ p. record {
       engine = record {

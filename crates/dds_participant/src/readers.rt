@@ -3,7 +3,7 @@
 ghost use Rattle.std.specs.Prelude.{◌≡◌, ◌+◌, ◌++◌, ◌==◌, ◌-◌, ◌<◌, [], ◌∷◌, ℕ, List, IfOk, MatchOption, false, length, map, option_to_list, slice_index_or};
 ghost use Rattle.std.specs.List.Sorted.{IsPermutation};
 ghost use Rattle.dds_topic.specs.Decoding.{Decoding};
-ghost use Rattle.rtps_receiver.specs.Events.{Happening};
+ghost use Rattle.rtps_receiver.specs.Events.{EventView};
 ghost use Rattle.rtps_planner.specs.declared.jobs.Job as plan_job;
 ghost use Rattle.rtps_shards.specs.Results.{Share, rank_in, rank_of};
 ghost use Rattle.dds_participant.specs.Sharing.{AllShare, AreJobs, ArePaired, AreParted, AreSplit, state_rank};
@@ -69,7 +69,7 @@ pub(crate) fn pair<C: Catalog>(
     mut states: Vec<ReaderState>,
     mut lent: Vec<Output<C::Value>>,
 ) -> Result<Paired<C::Value>, AllocError>
-    ensures paired { (es : List Happening) (decoding : Decoding C.Meaning)
+    ensures paired { (es : List EventView) (decoding : Decoding C.Meaning)
         (shares : ℕ → Share C.Meaning) → AllShare shares states.items
         → AreJobs es shares jobs.items (length states.items)
         → IfOk result (ArePaired C.view es decoding shares) }

@@ -14,7 +14,7 @@ use Rattle.rtps_proxy.specs.Matches.{AllStand, Match, begun}
 use Rattle.rtps_discovery.specs.Announcement.{Comes, Facts}
 use Rattle.rtps_discovery.specs.Changes.{ChangeAt}
 use Rattle.rtps_discovery.specs.Known.{Known, Participant, announcer, known_after, participant_at, prefix_order, publications_reader, publications_writer, subscriptions_reader, subscriptions_writer, where_announced, with_announcers}
-use Rattle.rtps_discovery.specs.Kept.{Applies, Kept, is_announcer, participant_in}
+use Rattle.rtps_discovery.specs.Kept.{Applies, HeldView, is_announcer, participant_in}
 use Rattle.rtps_discovery.proofs.Unheard.{quiet}
 
 abbrev Announce : List Match → Type 0
@@ -22,7 +22,7 @@ Announce ms = AllByRecursion (λ m. is_announcer m ≡ true) ms
 
 begun_announces : (m : Match) (ms : List Match) → is_announcer m ≡ true → Announce ms → Announce (begun m ms)
 begun_announces m [] is all = (is, tt)
-begun_announces m (n ∷ ms) is (first, rest) = by_order (guid_order m.whom.writer n.whom.writer) (begun_announces m ms is rest)
+begun_announces m (n ∷ ms) is (first, rest) = by_order (guid_order m.pairing.writer n.pairing.writer) (begun_announces m ms is rest)
   where
     by_order : (o : Ordering) → Announce (begun m ms) → Announce (match_ordering o (m ∷ n ∷ ms) (m ∷ ms) (n ∷ begun m ms))
     by_order Less more = (is, (first, rest))
@@ -41,7 +41,7 @@ with_announces own p f ms all =
 abbrev told_of : Facts → Participant
 told_of f = record { locators = f.locators; lease = f.lease }
 
-pub comes : (d : Kept) (p : GuidPrefix) (f : Facts) (ps : List (GuidPrefix × Participant)) (proxies : List (Guid × proxy.Kept)) (earlier : List ChangeAt)
+pub comes : (d : HeldView) (p : GuidPrefix) (f : Facts) (ps : List (GuidPrefix × Participant)) (proxies : List (Guid × proxy.ProxyView)) (earlier : List ChangeAt)
     → ps ≡ insert_entry prefix_order d.participants p (told_of f)
     → ((ms : List Match) → AllStand ms d.announcers → AllStand (if is_some (participant_in p d.participants) then ms else with_announcers d.own p f ms) proxies)
     → Applies (Comes p f) d (record d { participants = ps; announcers = proxies }) earlier earlier

@@ -6,33 +6,33 @@ use Rattle.std.specs.Str.{bytes_eq}
 use Rattle.std.proofs.lemmas.Slice.Eq.{bytes_eq-Decides}
 use Rattle.rtps_types.specs.declared.identity.EntityId.{EntityId}
 use Rattle.rtps_types.specs.declared.identity.Guid.{Guid}
-use Rattle.rtps_receiver.specs.Events.{Happening}
-use Rattle.rtps_proxy.specs.History.{Came}
+use Rattle.rtps_receiver.specs.Events.{EventView}
+use Rattle.rtps_proxy.specs.History.{MatchEvent, match_event_of}
 use Rattle.rtps_proxy.specs.Effects.{AreEffects}
 use Rattle.rtps_proxy.specs.Kept as proxy
-use Rattle.rtps_proxy.specs.Replies.{Sent}
+use Rattle.rtps_proxy.specs.Replies.{ReplyView}
 use Rattle.rtps_proxy.specs.declared.effects.Effects.{Effects}
 use Rattle.rtps_proxy.specs.Matches.{AllStand, AreTaken, Match, extended, match_with, same_guid}
 use Rattle.rtps_discovery.specs.Addressed.{is_for, writer_of}
 use Rattle.rtps_discovery.specs.Effects.{extends, match_of}
 use Rattle.rtps_discovery.specs.Known.{Known, publications_reader, publications_writer, spdp_writer, subscriptions_reader, subscriptions_writer}
-use Rattle.rtps_discovery.specs.Kept.{IsKnown, Kept, is_announcer}
-use Rattle.rtps_discovery.specs.Records.{announcer_of, answer_by, answered, came_of, changes_by, detector_of, known_by, named_match, participants_in, ready_records}
+use Rattle.rtps_discovery.specs.Kept.{IsKnown, HeldView, is_announcer}
+use Rattle.rtps_discovery.specs.Records.{announcer_of, answer_by, answered, changes_by, detector_of, known_by, named_match, participants_in, ready_records}
 use Rattle.rtps_discovery.specs.Changes.{ChangeAt, changes_run, known_run}
 
 abbrev Announce : List Match → Type 0
 Announce ms = AllByRecursion (λ m. is_announcer m ≡ true) ms
 
-extended_announce : (w : Guid) (e : Came) (ms : List Match) → Announce ms → Announce (extended w e ms)
+extended_announce : (w : Guid) (e : MatchEvent) (ms : List Match) → Announce ms → Announce (extended w e ms)
 extended_announce w e [] all = tt
-extended_announce w e (m ∷ ms) (is, all) = by_test (same_guid m.whom.writer w) (extended_announce w e ms all)
+extended_announce w e (m ∷ ms) (is, all) = by_test (same_guid m.pairing.writer w) (extended_announce w e ms all)
   where
-    by_test : (t : Bool) → Announce (extended w e ms) → Announce (if t then record { whom = m.whom; past = e ∷ m.past } ∷ ms else m ∷ extended w e ms)
+    by_test : (t : Bool) → Announce (extended w e ms) → Announce (if t then record { pairing = m.pairing; past = e ∷ m.past } ∷ ms else m ∷ extended w e ms)
     by_test true more = (is, all)
     by_test false more = (is, more)
 
 -- an event came for a match
-pub came_for : (k : Known) (d : Kept) (e : Happening) (proxies : List (Guid × proxy.Kept)) → IsKnown k d → AllStand (extended (writer_of e) (came_of e) k.announcers) proxies → IsKnown (extends k e) (record d { announcers = proxies })
+pub came_for : (k : Known) (d : HeldView) (e : EventView) (proxies : List (Guid × proxy.ProxyView)) → IsKnown k d → AllStand (extended (writer_of e) (match_event_of e) k.announcers) proxies → IsKnown (extends k e) (record d { announcers = proxies })
 came_for k d e proxies is stand = record {
   own = is.own;
   readers = is.readers;
@@ -40,31 +40,31 @@ came_for k d e proxies is stand = record {
   started = is.started;
   participants = is.participants;
   announcers = stand;
-  announce = extended_announce (writer_of e) (came_of e) k.announcers is.announce;
+  announce = extended_announce (writer_of e) (match_event_of e) k.announcers is.announce;
   writers = is.writers;
   ordered = is.ordered;
   remote_readers = is.remote_readers;
   ranks = is.ranks;
 }
 
-extended_none : (w : Guid) (e : Came) (ms : List Match) → match_with w ms ≡ None → extended w e ms ≡ ms
+extended_none : (w : Guid) (e : MatchEvent) (ms : List Match) → match_with w ms ≡ None → extended w e ms ≡ ms
 extended_none w e [] none = refl
-extended_none w e (m ∷ ms) none = by_test (same_guid m.whom.writer w) none (extended_none w e ms)
+extended_none w e (m ∷ ms) none = by_test (same_guid m.pairing.writer w) none (extended_none w e ms)
   where
-    by_test : (t : Bool) → (if t then Some m else match_with w ms) ≡ None → (match_with w ms ≡ None → extended w e ms ≡ ms) → (if t then record { whom = m.whom; past = e ∷ m.past } ∷ ms else m ∷ extended w e ms) ≡ m ∷ ms
+    by_test : (t : Bool) → (if t then Some m else match_with w ms) ≡ None → (match_with w ms ≡ None → extended w e ms ≡ ms) → (if t then record { pairing = m.pairing; past = e ∷ m.past } ∷ ms else m ∷ extended w e ms) ≡ m ∷ ms
     by_test true bad more = absurd cc
     by_test false left more = ap (λ (l : List Match). m ∷ l) (more left)
 
 -- what is found is there
 pub record IsFound (w : Guid) (m : Match) : Type 0 where
   pub announces : is_announcer m ≡ true
-  pub writer : same_guid m.whom.writer w ≡ true
+  pub writer : same_guid m.pairing.writer w ≡ true
 
 found : (w : Guid) (ms : List Match) (m : Match) → Announce ms → match_with w ms ≡ Some m → IsFound w m
 found w [] m all is = absurd cc
-found w (n ∷ ms) m (here, all) is = by_test (same_guid n.whom.writer w) refl is (found w ms m all)
+found w (n ∷ ms) m (here, all) is = by_test (same_guid n.pairing.writer w) refl is (found w ms m all)
   where
-    by_test : (t : Bool) → same_guid n.whom.writer w ≡ t → (if t then Some n else match_with w ms) ≡ Some m → (match_with w ms ≡ Some m → IsFound w m) → IsFound w m
+    by_test : (t : Bool) → same_guid n.pairing.writer w ≡ t → (if t then Some n else match_with w ms) ≡ Some m → (match_with w ms ≡ Some m → IsFound w m) → IsFound w m
     by_test true same is more = let one : n ≡ m = cc in subst (IsFound w) one (record { announces = here; writer = same })
     by_test false same is more = more is
 
@@ -92,15 +92,15 @@ entity_is : (a b : EntityId) → bytes_eq a.0 b.0 ≡ true → a ≡ b
 entity_is a b h = let one : a.0 ≡ b.0 = (bytes_eq-Decides a.0 b.0).0 h in let f : List _ → EntityId = λ l. record { 0 = l } in ap f one
 
 -- the reader of a match that is found
-detected : (w : Guid) (m : Match) → IsFound w m → detector_of w.entity ≡ Some m.whom.reader
+detected : (w : Guid) (m : Match) → IsFound w m → detector_of w.entity ≡ Some m.pairing.reader
 detected w m is =
-    let entity = m.whom.writer.entity in
-    let same : entity.0 ≡ w.entity.0 = (bytes_eq-Decides entity.0 w.entity.0).0 (and_second (bytes_eq m.whom.writer.prefix.0 w.prefix.0) (bytes_eq entity.0 w.entity.0) is.writer) in
-    let named = named_by w.entity.0 m.whom.reader.0 entity.0 same is.announces in
-    by_tests (bytes_eq w.entity.0 publications_writer.0) (bytes_eq w.entity.0 subscriptions_writer.0) (λ t. entity_is m.whom.reader publications_reader (named.0 t)) (λ t. entity_is m.whom.reader subscriptions_reader (named.1.0 t)) named.1.1
+    let entity = m.pairing.writer.entity in
+    let same : entity.0 ≡ w.entity.0 = (bytes_eq-Decides entity.0 w.entity.0).0 (and_second (bytes_eq m.pairing.writer.prefix.0 w.prefix.0) (bytes_eq entity.0 w.entity.0) is.writer) in
+    let named = named_by w.entity.0 m.pairing.reader.0 entity.0 same is.announces in
+    by_tests (bytes_eq w.entity.0 publications_writer.0) (bytes_eq w.entity.0 subscriptions_writer.0) (λ t. entity_is m.pairing.reader publications_reader (named.0 t)) (λ t. entity_is m.pairing.reader subscriptions_reader (named.1.0 t)) named.1.1
   where
-    by_tests : (a b : Bool) → (a ≡ true → m.whom.reader ≡ publications_reader) → (b ≡ true → m.whom.reader ≡ subscriptions_reader) → (a || b) ≡ true
-        → (if a then Some publications_reader else (if b then Some subscriptions_reader else None)) ≡ Some m.whom.reader
+    by_tests : (a b : Bool) → (a ≡ true → m.pairing.reader ≡ publications_reader) → (b ≡ true → m.pairing.reader ≡ subscriptions_reader) → (a || b) ≡ true
+        → (if a then Some publications_reader else (if b then Some subscriptions_reader else None)) ≡ Some m.pairing.reader
     by_tests true b p s h = ap (λ r. Some r) (sym (p refl))
     by_tests false true p s h = ap (λ r. Some r) (sym (s refl))
     by_tests false false p s h = absurd cc
@@ -111,7 +111,7 @@ undetected w ms all none = by_found (match_with w ms) refl
   where
     by_found : (o : Option Match) → match_with w ms ≡ o → o ≡ None
     by_found None e = refl
-    by_found (Some m) e = let bad : None ≡ Some m.whom.reader = sym none ∙ detected w m (found w ms m all e) in absurd cc
+    by_found (Some m) e = let bad : None ≡ Some m.pairing.reader = sym none ∙ detected w m (found w ms m all e) in absurd cc
 
 pub spdp_undetected : (w : EntityId) → bytes_eq w.0 spdp_writer.0 ≡ true → detector_of w ≡ None
 spdp_undetected w h = ap detector_of (entity_is w spdp_writer h)
@@ -120,32 +120,32 @@ none_if : (t : Bool) (o : Option Match) → o ≡ None → o ≡ (if t then o el
 none_if true o none = refl
 none_if false o none = none
 
-pub named_if : (k : Known) (e : Happening) (r : EntityId) → Announce k.announcers → detector_of e.writer ≡ Some r → announcer_of k e ≡ (if is_for e.reader r then match_of k e else None)
+pub named_if : (k : Known) (e : EventView) (r : EntityId) → Announce k.announcers → detector_of e.writer ≡ Some r → announcer_of k e ≡ (if is_for e.reader r then match_of k e else None)
 named_if k e r all is = by_found (match_of k e) refl
   where
     by_found : (o : Option Match) → match_of k e ≡ o → named_match e o ≡ (if is_for e.reader r then o else None)
     by_found None f = none_if (is_for e.reader r) None refl
     by_found (Some m) f =
-        let some : Some r ≡ Some m.whom.reader = sym is ∙ detected (writer_of e) m (found (writer_of e) k.announcers m all f) in
-        let one : r ≡ m.whom.reader = cc in
+        let some : Some r ≡ Some m.pairing.reader = sym is ∙ detected (writer_of e) m (found (writer_of e) k.announcers m all f) in
+        let one : r ≡ m.pairing.reader = cc in
         ap (λ x. if is_for e.reader x then Some m else None) (sym one)
 
 -- what an event makes of what is known, and what it gives
-pub record Gives (k : Known) (e : Happening) (after : Known) (heard : List ChangeAt) (said : Option Sent) : Type 0 where
+pub record Gives (k : Known) (e : EventView) (after : Known) (heard : List ChangeAt) (said : Option ReplyView) : Type 0 where
   pub known : after ≡ known_by k e
   pub changes : heard ≡ changes_by k e
   pub answer : said ≡ answered k e
 
 -- an event that nobody of ours is for
-pub unheard_of : (k : Known) (e : Happening) → bytes_eq e.writer.0 spdp_writer.0 ≡ false → announcer_of k e ≡ None → Gives k e k [] None
+pub unheard_of : (k : Known) (e : EventView) → bytes_eq e.writer.0 spdp_writer.0 ≡ false → announcer_of k e ≡ None → Gives k e k [] None
 unheard_of k e spdp none = record { known = rw (none, spdp) refl; changes = rw (none, spdp) refl; answer = rw none refl }
 
 -- an event of the participants' announcer
-pub of_participants : (k : Known) (e : Happening) → bytes_eq e.writer.0 spdp_writer.0 ≡ true → announcer_of k e ≡ None → Gives k e (known_run k (participants_in k.own e)) (changes_run k (participants_in k.own e)) None
+pub of_participants : (k : Known) (e : EventView) → bytes_eq e.writer.0 spdp_writer.0 ≡ true → announcer_of k e ≡ None → Gives k e (known_run k (participants_in k.own e)) (changes_run k (participants_in k.own e)) None
 of_participants k e spdp none = record { known = rw (none, spdp) refl; changes = rw (none, spdp) refl; answer = rw none refl }
 
 -- an event of an announcer of endpoints
-pub of_endpoints : (k : Known) (e : Happening) → bytes_eq e.writer.0 spdp_writer.0 ≡ false → announcer_of k e ≡ match_of k e
+pub of_endpoints : (k : Known) (e : EventView) → bytes_eq e.writer.0 spdp_writer.0 ≡ false → announcer_of k e ≡ match_of k e
     → Gives k e (known_run (extends k e) (ready_records e (match_of k e))) (changes_run (extends k e) (ready_records e (match_of k e))) (answer_by e (match_of k e))
 of_endpoints k e spdp named = record {
   known = rw (named, spdp) (ap (λ x. known_run x (ready_records e (match_of k e))) same);
@@ -157,18 +157,18 @@ of_endpoints k e spdp named = record {
     same = by_found (match_of k e) refl
       where
         by_found : (o : Option Match) → match_of k e ≡ o → extends k e ≡ (if is_some o then extends k e else k)
-        by_found None f = ap (λ (ms : List Match). record k { announcers = ms }) (extended_none (writer_of e) (came_of e) k.announcers f)
+        by_found None f = ap (λ (ms : List Match). record k { announcers = ms }) (extended_none (writer_of e) (match_event_of e) k.announcers f)
         by_found (Some m) f = refl
 
-pub none_taken : (A : Type 0) (o : Option Match) (came : Came) → AreTaken {A = A} o came None → o ≡ None
+pub none_taken : (A : Type 0) (o : Option Match) (came : MatchEvent) → AreTaken {A = A} o came None → o ≡ None
 none_taken A None came taken = refl
 none_taken A (Some m) came taken = absurd taken
 
-pub record Took {A : Type 0} (o : Option Match) (came : Came) (gave : Effects A) : Type 0 where
+pub record Took {A : Type 0} (o : Option Match) (came : MatchEvent) (gave : Effects A) : Type 0 where
   pub match : Match
   pub is : o ≡ Some match
-  pub effects : AreEffects match.whom match.past came gave
+  pub effects : AreEffects match.pairing match.past came gave
 
-pub some_taken : {A : Type 0} (o : Option Match) (came : Came) (effects : Effects A) → AreTaken o came (Some effects) → Took o came effects
+pub some_taken : {A : Type 0} (o : Option Match) (came : MatchEvent) (effects : Effects A) → AreTaken o came (Some effects) → Took o came effects
 some_taken None came effects taken = absurd taken
 some_taken (Some m) came effects taken = record { match = m; is = refl; effects = taken }

@@ -16,7 +16,7 @@ use Rattle.rtps_proxy.specs.Matches.{AllStand, Match, ended, is_at, same_guid}
 use Rattle.rtps_discovery.specs.Announcement.{Leave, Offer}
 use Rattle.rtps_discovery.specs.Changes.{ChangeAt, at_pair, both, changes, row, rows}
 use Rattle.rtps_discovery.specs.Known.{Known, Participant, Wish, is_fixed, is_of, known_after, locators_at, prefix_order, publications_reader, publications_writer, standing, subscriptions_reader, subscriptions_writer, writer_at}
-use Rattle.rtps_discovery.specs.Kept.{Applies, IsKnown, Kept, is_announcer, matched_ranks, ranks_at}
+use Rattle.rtps_discovery.specs.Kept.{Applies, IsKnown, HeldView, is_announcer, matched_ranks, ranks_at}
 use Rattle.rtps_discovery.specs.Leaving.{ending, endings, endpoint, gone_of, reranked}
 use Rattle.rtps_discovery.specs.OneWriter.{has_rank, matched_from}
 use Rattle.rtps_discovery.specs.declared.gone.Gone.{Gone}
@@ -136,13 +136,13 @@ same_filter f h same (x ∷ xs) = rw (same x, same_filter f h same xs) refl
 -- what is gone of the announcers
 module _ (p : GuidPrefix) where
   abbrev stays_match : Match → Bool
-  stays_match m = not (is_of (p ∷ []) m.whom.writer.prefix)
+  stays_match m = not (is_of (p ∷ []) m.pairing.writer.prefix)
 
   abbrev ends_pub : Match → Bool
-  ends_pub m = not (same_guid m.whom.writer (endpoint p publications_writer))
+  ends_pub m = not (same_guid m.pairing.writer (endpoint p publications_writer))
 
   abbrev ends_sub : Match → Bool
-  ends_sub m = not (same_guid m.whom.writer (endpoint p subscriptions_writer))
+  ends_sub m = not (same_guid m.pairing.writer (endpoint p subscriptions_writer))
 
   same_ends : (prefix pubs subs : Bool) → (pubs || subs) ≡ true → (not (prefix && pubs) && not (prefix && subs)) ≡ not prefix
   same_ends true true s h = refl
@@ -157,10 +157,10 @@ module _ (p : GuidPrefix) where
 
   ends_both : (m : Match) → is_announcer m ≡ true → (ends_pub m && ends_sub m) ≡ stays_match m
   ends_both m is =
-      let own = m.whom.writer.prefix.0 in
-      let e = m.whom.writer.entity.0 in
+      let own = m.pairing.writer.prefix.0 in
+      let e = m.pairing.writer.entity.0 in
       same_ends (bytes_eq own p.0) (bytes_eq e publications_writer.0) (bytes_eq e subscriptions_writer.0)
-      (named (bytes_eq e publications_writer.0) (bytes_eq m.whom.reader.0 publications_reader.0) (bytes_eq e subscriptions_writer.0) (bytes_eq m.whom.reader.0 subscriptions_reader.0) is)
+      (named (bytes_eq e publications_writer.0) (bytes_eq m.pairing.reader.0 publications_reader.0) (bytes_eq e subscriptions_writer.0) (bytes_eq m.pairing.reader.0 subscriptions_reader.0) is)
       ∙ ap not (turned own p.0 ∙ sym (or_false (bytes_eq p.0 own)))
 
   both_end : (ms : List Match) → AllByRecursion (λ m. is_announcer m ≡ true) ms → ended (endpoint p subscriptions_writer) (ended (endpoint p publications_writer) ms) ≡ filter stays_match ms
@@ -193,7 +193,7 @@ module _ (p : GuidPrefix) where
       by_test false more = more
 
 -- what is kept of the ranks
-module _ {A : Type 0} (d : Kept) (p : GuidPrefix) (q : Guid) where
+module _ {A : Type 0} (d : HeldView) (p : GuidPrefix) (q : Guid) where
   abbrev Fixed : List (Gone A) → Type 0
   Fixed gone = map (λ (n : Gone A). n.fixed) gone ≡ map (λ (n : Gone A). ranks_at n.writer d.fixed) gone
 
@@ -247,7 +247,7 @@ all_mine p (e ∷ es) = by_test (of p e.0) refl (all_mine p es)
     by_test false is more = more
 
 -- what the parts of what is kept are once a participant left
-pub record Leaves {A : Type 0} (d : Kept) (p : GuidPrefix) (ps : List (GuidPrefix × Participant)) (proxies : List (Guid × proxy.Kept)) (ws : List (Guid × Offer)) (rs : List (Guid × List ℕ)) (ns : List (Gone A)) : Type 0 where
+pub record Leaves {A : Type 0} (d : HeldView) (p : GuidPrefix) (ps : List (GuidPrefix × Participant)) (proxies : List (Guid × proxy.ProxyView)) (ws : List (Guid × Offer)) (rs : List (Guid × List ℕ)) (ns : List (Gone A)) : Type 0 where
   pub participants : ps ≡ remove_entry (λ q. is_eq (prefix_order p q)) d.participants
   pub none : lookup (λ q. is_eq (prefix_order p q)) ps ≡ None
   pub announcers : (ms : List Match) → AllStand ms d.announcers → AllStand (ended (endpoint p subscriptions_writer) (ended (endpoint p publications_writer) ms)) proxies
@@ -256,14 +256,14 @@ pub record Leaves {A : Type 0} (d : Kept) (p : GuidPrefix) (ps : List (GuidPrefi
   pub left : ws ≡ filter (others p) d.writers
   pub ranks : (q : Guid) → ranks_at q rs ≡ reranked ns q (ranks_at q d.ranks)
 
-are_fixed : {A : Type 0} (k : Known) (d : Kept) (p : GuidPrefix) (sorted : InOrder (keys_of k.writers)) → IsKnown k d → (gone : List (Gone A)) → map (λ (n : Gone A). n.fixed) gone ≡ map (λ (n : Gone A). ranks_at n.writer d.fixed) gone → AreFixed k p sorted gone
+are_fixed : {A : Type 0} (k : Known) (d : HeldView) (p : GuidPrefix) (sorted : InOrder (keys_of k.writers)) → IsKnown k d → (gone : List (Gone A)) → map (λ (n : Gone A). n.fixed) gone ≡ map (λ (n : Gone A). ranks_at n.writer d.fixed) gone → AreFixed k p sorted gone
 are_fixed k d p sorted is [] same = tt
 are_fixed k d p sorted is (n ∷ ns) same =
     let here : n.fixed ≡ ranks_at n.writer d.fixed = cc in
     let rest : map (λ (n : Gone _). n.fixed) ns ≡ map (λ (n : Gone _). ranks_at n.writer d.fixed) ns = cc in
     (λ rank. ap (λ l. has_rank l rank) here ∙ is.fixed n.writer rank, are_fixed k d p sorted is ns rest)
 
-module _ {A : Type 0} (d : Kept) (p : GuidPrefix) (ps : List (GuidPrefix × Participant)) (proxies : List (Guid × proxy.Kept)) (ws : List (Guid × Offer)) (rs : List (Guid × List ℕ)) (ns : List (Gone A)) (l : Leaves d p ps proxies ws rs ns) where
+module _ {A : Type 0} (d : HeldView) (p : GuidPrefix) (ps : List (GuidPrefix × Participant)) (proxies : List (Guid × proxy.ProxyView)) (ws : List (Guid × Offer)) (rs : List (Guid × List ℕ)) (ns : List (Gone A)) (l : Leaves d p ps proxies ws rs ns) where
   abbrev start : Known → Guid → Option Offer → List ℕ
   start k q o = matched_from (λ rank. is_fixed k.fixed rank q) o 0 k.readers
 

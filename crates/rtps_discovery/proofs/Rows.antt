@@ -4,8 +4,8 @@ use Rattle.std.specs.Map.{keys_of}
 use Rattle.rtps_types.specs.declared.identity.Guid.{Guid}
 use Rattle.rtps_types.specs.declared.identity.EntityId.{EntityId}
 use Rattle.rtps_types.specs.declared.locator.Locator.{Locator}
-use Rattle.rtps_receiver.specs.Brought.{Brought, Whole}
-use Rattle.rtps_receiver.specs.Events.{Happening}
+use Rattle.rtps_receiver.specs.EventBody.{EventBody, Whole}
+use Rattle.rtps_receiver.specs.Events.{EventView}
 use Rattle.rtps_wire.specs.declared.data.ChangeInfo.{ChangeInfo}
 use Rattle.rtps_wire.specs.declared.data.Form.TheVariants as form
 use Rattle.dds_qos.specs.Compatible.{first_fault}
@@ -114,7 +114,7 @@ abbrev disposed : List ℕ → ChangeInfo
 disposed octets = record { form = form.Nothing; status = 1; hash = Some (record { 0 = theirs ++ octets }) }
 
 -- an event of their writer for our reader
-abbrev sends : EntityId → EntityId → Brought → Happening
+abbrev sends : EntityId → EntityId → EventBody → EventView
 sends writer reader body = record {
   place = record { datagram = 0; submessage = 1 };
   source = record { 0 = theirs };
@@ -124,46 +124,46 @@ sends writer reader body = record {
   body = body;
 }
 
-abbrev whole : ℕ → ChangeInfo → List ℕ → Brought
+abbrev whole : ℕ → ChangeInfo → List ℕ → EventBody
 whole number info payload = Whole (record { number = number; info = info; payload = payload })
 
-abbrev of_participants : ℕ → ChangeInfo → List ℕ → Happening
+abbrev of_participants : ℕ → ChangeInfo → List ℕ → EventView
 of_participants number info payload = sends (entity 1 0 0xc2) (entity 1 0 0xc7) (whole number info payload)
 
-abbrev of_writers : ℕ → ChangeInfo → List ℕ → Happening
+abbrev of_writers : ℕ → ChangeInfo → List ℕ → EventView
 of_writers number info payload = sends (entity 0 3 0xc2) (entity 0 3 0xc7) (whole number info payload)
 
 -- the participant, and its writer as record 1
-abbrev comes : Happening
+abbrev comes : EventView
 comes = of_participants 1 value participant_record
 
-abbrev offers : ℕ → Happening
+abbrev offers : ℕ → EventView
 offers number = of_writers number value (writer_record 0x65 2 [])
 
 -- the same writer with best effort, with another topic, and with a durability that there isn't
-abbrev offers_less : ℕ → Happening
+abbrev offers_less : ℕ → EventView
 offers_less number = of_writers number value (writer_record 0x65 1 [])
 
-abbrev offers_another : ℕ → Happening
+abbrev offers_another : ℕ → EventView
 offers_another number = of_writers number value (writer_record 0x66 2 [])
 
-abbrev says_badly : ℕ → Happening
+abbrev says_badly : ℕ → EventView
 says_badly number = of_writers number value (writer_record 0x66 2 (0x1d ∷ 0 ∷ 4 ∷ 0 ∷ 4 ∷ 0 ∷ 0 ∷ 0 ∷ []))
 
-abbrev goes : ℕ → Happening
+abbrev goes : ℕ → EventView
 goes number = of_writers number (disposed (0 ∷ 0 ∷ 1 ∷ 2 ∷ [])) []
 
 -- disposed and unregistered, by a key payload
-abbrev goes_by_key : ℕ → Happening
+abbrev goes_by_key : ℕ → EventView
 goes_by_key number =
     of_writers number (record { form = form.Key; status = 3; hash = None }) (little ++ endpoint_octets ++ ends)
 
-abbrev leaves : Happening
+abbrev leaves : EventView
 leaves = of_participants 2 (disposed (0 ∷ 0 ∷ 1 ∷ 0xc1 ∷ [])) []
 
 -- ---- what comes of it
 
-abbrev known_with : List Happening → Known
+abbrev known_with : List EventView → Known
 known_with [] = start
 known_with (e ∷ past) = known_by (known_with past) e
 
@@ -173,12 +173,12 @@ unfolding params.reading_behind is_sound_by settings_of said_in duration_in loca
 participant_is_known = refl
 
 announcers_are_known :
-    map (λ m. m.whom.writer.entity) (known_with (comes ∷ [])).announcers ≡ entity 0 3 0xc2 ∷ entity 0 4 0xc2 ∷ []
+    map (λ m. m.pairing.writer.entity) (known_with (comes ∷ [])).announcers ≡ entity 0 3 0xc2 ∷ entity 0 4 0xc2 ∷ []
 unfolding params.reading_behind is_sound_by settings_of said_in duration_in locator_in guid_in
 announcers_are_known = refl
 
 answers_go_to_announcers :
-    map (λ m. m.whom.locators) (known_with (comes ∷ [])).announcers ≡ (at_port 7412 ∷ []) ∷ (at_port 7412 ∷ []) ∷ []
+    map (λ m. m.pairing.locators) (known_with (comes ∷ [])).announcers ≡ (at_port 7412 ∷ []) ∷ (at_port 7412 ∷ []) ∷ []
 unfolding params.reading_behind is_sound_by settings_of said_in duration_in locator_in guid_in
 answers_go_to_announcers = refl
 

@@ -1,10 +1,10 @@
--- Whom an event is for: discovery alone, or the readers that are matched with its writer (DDSI-RTPS 8.3.4, 8.5).
+-- Pairing an event is for: discovery alone, or the readers that are matched with its writer (DDSI-RTPS 8.3.4, 8.5).
 use Rattle.std.specs.Prelude.{List, [], ◌∷◌, Bool, not, ◌&&◌, ◌||◌, ◌↔◌, IsTrue, IsFalse}
 use Rattle.std.specs.List.{list_any}
 use Rattle.std.specs.Str.{bytes_eq}
 use Rattle.rtps_types.specs.declared.identity.EntityId.{EntityId}
 use Rattle.rtps_types.specs.declared.identity.Guid.{Guid}
-use Rattle.rtps_receiver.specs.Events.{Happening}
+use Rattle.rtps_receiver.specs.Events.{EventView}
 
 -- ENTITYID_UNKNOWN (DDSI-RTPS 9.3.1.2)
 abbrev pub unknown_entity : EntityId
@@ -26,19 +26,19 @@ abbrev pub is_for : EntityId → EntityId → Bool
 is_for reader entity = bytes_eq reader.0 unknown_entity.0 || bytes_eq reader.0 entity.0
 
 -- the writer that an event comes from
-abbrev pub writer_of : Happening → Guid
+abbrev pub writer_of : EventView → Guid
 writer_of e = record { prefix = e.source; entity = e.writer }
 
 -- An event goes to a reader where it isn't discovery's alone, where the reader is matched at that moment with its writer, and
 -- where its reader id is for the reader.
-pub record Addressed (is_matched : Guid → Bool) (entity : EntityId) (e : Happening) : Type 0 where
+pub record IsAddressed (is_matched : Guid → Bool) (entity : EntityId) (e : EventView) : Type 0 where
   pub others : IsFalse (is_discovery e.writer)
   pub matched : IsTrue (is_matched (writer_of e))
   pub meant : IsTrue (is_for e.reader entity)
 
 -- the test of it
-abbrev pub is_addressed : (Guid → Bool) → EntityId → Happening → Bool
+abbrev pub is_addressed : (Guid → Bool) → EntityId → EventView → Bool
 is_addressed is_matched entity e = not (is_discovery e.writer) && (is_matched (writer_of e) && is_for e.reader entity)
 
 abbrev pub AddressedIsTested : Type 0
-AddressedIsTested = (is_matched : Guid → Bool) (entity : EntityId) (e : Happening) → IsTrue (is_addressed is_matched entity e) ↔ Addressed is_matched entity e
+AddressedIsTested = (is_matched : Guid → Bool) (entity : EntityId) (e : EventView) → IsTrue (is_addressed is_matched entity e) ↔ IsAddressed is_matched entity e

@@ -1,25 +1,25 @@
 -- What an event gives to discovery.
 use Rattle.std.specs.Prelude.{◌≡◌, List, Option, map}
 use Rattle.std.specs.Option.{option_map}
-use Rattle.rtps_receiver.specs.Events.{Happening}
+use Rattle.rtps_receiver.specs.Events.{EventView}
 use Rattle.rtps_proxy.specs.Matches.{Match, extended, match_with}
-use Rattle.rtps_proxy.specs.Replies.{Sent, reply_view}
+use Rattle.rtps_proxy.specs.Replies.{ReplyView, reply_view}
 use Rattle.rtps_discovery.specs.Addressed.{writer_of}
 use Rattle.rtps_discovery.specs.Changes.{ChangeAt}
 use Rattle.rtps_discovery.specs.Known.{Known}
-use Rattle.rtps_discovery.specs.Records.{came_of}
+use Rattle.rtps_proxy.specs.History.{match_event_of}
 use Rattle.rtps_discovery.specs.Seen.{change_seen}
 use Rattle.rtps_discovery.specs.declared.effects.DiscoveryEffects.{DiscoveryEffects}
 
 -- the match of ours with the writer of an event, whomever the event names
-abbrev pub match_of : Known → Happening → Option Match
+abbrev pub match_of : Known → EventView → Option Match
 match_of k e = match_with (writer_of e) k.announcers
 
 -- the event comes for that match
-abbrev pub extends : Known → Happening → Known
-extends k e = record k { announcers = extended (writer_of e) (came_of e) k.announcers }
+abbrev pub extends : Known → EventView → Known
+extends k e = record k { announcers = extended (writer_of e) (match_event_of e) k.announcers }
 
 -- these changes, and this answer
-pub record AreHeard {A : Type 0} (changes : List ChangeAt) (answer : Option Sent) (effects : DiscoveryEffects A) : Type 0 where
+pub record AreHeard {A : Type 0} (changes : List ChangeAt) (answer : Option ReplyView) (effects : DiscoveryEffects A) : Type 0 where
   pub heard : map change_seen effects.changes.items ≡ changes
   pub said : option_map reply_view effects.answer ≡ answer

@@ -20,17 +20,17 @@ use Rattle.rtps_discovery.specs.declared.held.Held as held
 
 -- Lists by their keys, in order: what is known; and by writers the ranks of the readers that are matched with them from the
 -- start, and of those that are matched with them now.
-pub record Kept : Type 0 where
+pub record HeldView : Type 0 where
   pub own : GuidPrefix
   pub readers : List (Option Wish)
   pub fixed : List (Guid × List ℕ)
   pub participants : List (GuidPrefix × Participant)
-  pub announcers : List (Guid × proxy.Kept)
+  pub announcers : List (Guid × proxy.ProxyView)
   pub writers : List (Guid × Offer)
   pub remote_readers : List Guid
   pub ranks : List (Guid × List ℕ)
 
-abbrev pub kept : {A : Type 0} → held.Held A → Kept
+abbrev pub kept : {A : Type 0} → held.Held A → HeldView
 kept h = record {
   own = h.own;
   readers = h.readers.items;
@@ -50,32 +50,32 @@ abbrev pub participant_in : GuidPrefix → List (GuidPrefix × Participant) → 
 participant_in p participants = lookup (λ q. is_eq (prefix_order p q)) participants
 
 -- where answers go to a writer that offers this
-abbrev pub locators_by : Kept → GuidPrefix → Option Offer → List Locator
+abbrev pub locators_by : HeldView → GuidPrefix → Option Offer → List Locator
 locators_by d prefix None = []
 locators_by d prefix (Some w) = own_or w.locators (participant_in prefix d.participants)
 
-abbrev pub fixed_at : Kept → Guid → ℕ → Bool
+abbrev pub fixed_at : HeldView → Guid → ℕ → Bool
 fixed_at d g = has_rank (ranks_at g d.fixed)
 
 -- what the readers hear where a writer offers this now, or nothing any more; and the ranks of those that are matched with it then
-abbrev pub heard_of : Kept → Guid → Option Offer → List ChangeAt
+abbrev pub heard_of : HeldView → Guid → Option Offer → List ChangeAt
 heard_of d g after = column (fixed_at d g) g (locators_by d g.prefix after) (lookup (is_at g) d.writers) after 0 d.readers
 
-abbrev pub ranks_of : Kept → Guid → Option Offer → List ℕ
+abbrev pub ranks_of : HeldView → Guid → Option Offer → List ℕ
 ranks_of d g after = matched_from (fixed_at d g) after 0 d.readers
 
 -- a match of ours with an announcer: which reader it is of follows from the writer
 abbrev pub is_announcer : Match → Bool
 is_announcer m =
-    (bytes_eq m.whom.writer.entity.0 publications_writer.0 && bytes_eq m.whom.reader.0 publications_reader.0)
-    || (bytes_eq m.whom.writer.entity.0 subscriptions_writer.0 && bytes_eq m.whom.reader.0 subscriptions_reader.0)
+    (bytes_eq m.pairing.writer.entity.0 publications_writer.0 && bytes_eq m.pairing.reader.0 publications_reader.0)
+    || (bytes_eq m.pairing.writer.entity.0 subscriptions_writer.0 && bytes_eq m.pairing.reader.0 subscriptions_reader.0)
 
 -- the ranks of the readers that are matched with a writer, rising
 abbrev pub matched_ranks : Known → Guid → List ℕ
 matched_ranks k g = matched_from (λ rank. is_fixed k.fixed rank g) (writer_at k g) 0 k.readers
 
 -- this is what is known
-pub record IsKnown (k : Known) (d : Kept) : Type 0 where
+pub record IsKnown (k : Known) (d : HeldView) : Type 0 where
   pub own : d.own ≡ k.own
   pub readers : d.readers ≡ k.readers
   pub fixed : (g : Guid) (rank : ℕ) → fixed_at d g rank ≡ is_fixed k.fixed rank g
@@ -89,16 +89,16 @@ pub record IsKnown (k : Known) (d : Kept) : Type 0 where
   pub ranks : (g : Guid) → ranks_at g d.ranks ≡ matched_ranks k g
 
 -- An announcement is applied: what is kept then is what is known after it, and what it changes comes after the earlier changes.
-pub record Applies (a : Announcement) (old new : Kept) (earlier all : List ChangeAt) : Type 0 where
+pub record Applies (a : Announcement) (old new : HeldView) (earlier all : List ChangeAt) : Type 0 where
   pub known : (k : Known) → IsKnown k old → IsKnown (known_after k a) new
   pub changes : (k : Known) → IsKnown k old → all ≡ earlier ++ changes k (known_after k a)
 
 -- The same of announcements one after the other.
-pub record AppliesAll (said : List Announcement) (old new : Kept) (earlier all : List ChangeAt) : Type 0 where
+pub record AppliesAll (said : List Announcement) (old new : HeldView) (earlier all : List ChangeAt) : Type 0 where
   pub known : (k : Known) → IsKnown k old → IsKnown (known_run k said) new
   pub changes : (k : Known) → IsKnown k old → all ≡ earlier ++ changes_run k said
 
 -- the same of what may have been refused memory
-pub record DiscoveryKept : Type 0 where
+pub record DiscoveryView : Type 0 where
   pub spent : Bool
-  pub kept : Kept
+  pub kept : HeldView

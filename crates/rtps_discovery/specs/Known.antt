@@ -133,7 +133,7 @@ subscriptions_reader = record { 0 = 0x00 ∷ 0x00 ∷ 0x04 ∷ 0xc7 ∷ [] }
 -- a builtin reader of ours is matched with the writer of a participant that announces to it, and it is reliable
 abbrev pub announcer : GuidPrefix → GuidPrefix → EntityId → EntityId → List Locator → Match
 announcer own p writer reader locators = record {
-  whom = record {
+  pairing = record {
     own = own;
     writer = record { prefix = p; entity = writer };
     reader = reader;
@@ -163,7 +163,7 @@ known_after k (Comes p f) = record k {
 }
 known_after k (Leave gone) = record k {
   participants = filter (λ e. not (is_of gone e.0)) k.participants;
-  announcers = filter (λ m. not (is_of gone m.whom.writer.prefix)) k.announcers;
+  announcers = filter (λ m. not (is_of gone m.pairing.writer.prefix)) k.announcers;
   writers = filter (λ e. not (is_of gone e.0.prefix)) k.writers;
   remote_readers = filter (λ g. not (is_of gone g.prefix)) k.remote_readers;
 }

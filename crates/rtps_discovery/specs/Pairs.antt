@@ -6,7 +6,7 @@ use Rattle.std.specs.Ordering.{nat_cmp, ordering_then}
 use Rattle.std.specs.declared.cmp.Ordering.{Ordering}
 use Rattle.rtps_types.specs.declared.identity.Guid.{Guid}
 use Rattle.rtps_types.specs.Order.{guid_order}
-use Rattle.rtps_discovery.specs.Kept.{Kept, ranks_at}
+use Rattle.rtps_discovery.specs.Kept.{HeldView, ranks_at}
 use Rattle.rtps_discovery.specs.Known.{Known, is_matched}
 
 -- by rank; of one rank by the octets of the writer's guid
@@ -19,7 +19,7 @@ pub record ArePairs (k : Known) (pairs : List (ℕ × Guid)) : Type 0 where
   pub ordered : IsStrictlySortedBy pair_order pairs
 
 -- the same of what is kept, whether or not it is what is known
-pub record AreKeptPairs (d : Kept) (pairs : List (ℕ × Guid)) : Type 0 where
+pub record AreKeptPairs (d : HeldView) (pairs : List (ℕ × Guid)) : Type 0 where
   pub exact : (rank : ℕ) (g : Guid) → Contains pairs (rank, g) ↔ Contains (ranks_at g d.ranks) rank
   pub ordered : IsStrictlySortedBy pair_order pairs
 

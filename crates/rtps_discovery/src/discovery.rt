@@ -33,9 +33,9 @@ pub struct Discovery<A: Allocator = Global> {
 }
 
 impl<A: Allocator> Model for Discovery<A> {
-    ghost use Rattle.rtps_discovery.specs.Kept.{DiscoveryKept, kept};
+    ghost use Rattle.rtps_discovery.specs.Kept.{DiscoveryView, kept};
 
-    ghost Value = { DiscoveryKept };
+    ghost Value = { DiscoveryView };
 
     ghost view = { λ d. record { spent = d.spent; kept = kept d.held } };
 }

@@ -27,10 +27,10 @@ pub struct Assembly<A: Allocator = Global> {
 }
 
 impl<A: Allocator> Model for Assembly<A> {
-    ghost use Rattle.rtps_frags.specs.Kept.{Kept};
+    ghost use Rattle.rtps_frags.specs.Kept.{AssemblyView};
     ghost use Rattle.rtps_frags.specs.Parts.{IsKept, there_in};
 
-    ghost Value = { Kept };
+    ghost Value = { AssemblyView };
 
     ghost view = { λ a. record { sizes = a.sizes; there = there_in a.sizes a.parts; spent = a.spent } };
 

@@ -6,11 +6,11 @@ use Rattle.std.proofs.lemmas.Bool.{cases_lt, eq-eqb, eqb-false, eqb-true, ltb-fa
 use Rattle.std.proofs.lemmas.List.{map-append}
 use Rattle.std.proofs.lemmas.List.Elements.{All-contains, All-from_recursion, recursion_from_All}
 use Rattle.rtps_types.specs.declared.place.Place.{Place}
-use Rattle.rtps_receiver.specs.Events.{Happening}
-use Rattle.rtps_discovery.specs.Kept.{Kept}
+use Rattle.rtps_receiver.specs.Events.{EventView}
+use Rattle.rtps_discovery.specs.Kept.{HeldView}
 use Rattle.rtps_discovery.specs.Known.{Known}
 use Rattle.dds_topic.specs.Decoding.{Decoding}
-use Rattle.rtps_proxy.specs.Replies.{Sent}
+use Rattle.rtps_proxy.specs.Replies.{ReplyView}
 use Rattle.rtps_reader.specs.declared.notice.Notice.{Notice}
 use Rattle.rtps_reader.specs.declared.notice.Output.{Output}
 use Rattle.rtps_reader.specs.Notices as reader
@@ -37,30 +37,30 @@ use Rattle.rtps_planner.proofs.Merged.{answer_here, by_places, same_self, sent_h
 
 -- ---- places of the events, and of what comes of them
 
-pub rising : (es : List Happening) → PlacesRise es → AreRising (map (λ (e : Happening). e.place) es)
+pub rising : (es : List EventView) → PlacesRise es → AreRising (map (λ (e : EventView). e.place) es)
 rising [] up = tt
-rising (e ∷ es) up = (all_map (λ q. not_after q e.place ≡ false) (λ (d : Happening). d.place) es up.0, rising es up.1)
+rising (e ∷ es) up = (all_map (λ q. not_after q e.place ≡ false) (λ (d : EventView). d.place) es up.0, rising es up.1)
 
-abbrev StandBy : List Place → List (Place × Sent) → Type 0
+abbrev StandBy : List Place → List (Place × ReplyView) → Type 0
 StandBy places ss = AllByRecursion (λ s. list_any (same_place s.0) places ≡ true) ss
 
-stand_more : (p : Place) (places : List Place) (xs ys : List (Place × Sent)) → AllByRecursion (λ s. s.0 ≡ p) xs → StandBy places ys → StandBy (p ∷ places) (xs ++ ys)
+stand_more : (p : Place) (places : List Place) (xs ys : List (Place × ReplyView)) → AllByRecursion (λ s. s.0 ≡ p) xs → StandBy places ys → StandBy (p ∷ places) (xs ++ ys)
 stand_more p places xs ys at rest =
     all_append (λ s. list_any (same_place s.0) (p ∷ places) ≡ true) xs ys
     (all_weaker (λ s. s.0 ≡ p) (λ s. list_any (same_place s.0) (p ∷ places) ≡ true) xs (λ s e. or_left (same_place s.0 p) (list_any (same_place s.0) places) (ap (λ q. same_place q p) e ∙ same_self p)) at)
     (all_weaker (λ s. list_any (same_place s.0) places ≡ true) (λ s. list_any (same_place s.0) (p ∷ places) ≡ true) ys (λ s e. or_right (same_place s.0 p) (list_any (same_place s.0) places) e) rest)
 
-sent_stand : (rank : ℕ) (k : Known) (r : Reader) (es : List Happening) → StandBy (map (λ (e : Happening). e.place) es) (job_sent r (job_of rank k es))
+sent_stand : (rank : ℕ) (k : Known) (r : Reader) (es : List EventView) → StandBy (map (λ (e : EventView). e.place) es) (job_sent r (job_of rank k es))
 sent_stand rank k r [] = tt
 sent_stand rank k r (e ∷ es) =
     let after = known_after_event k e in
     let ds = doings k rank e in
-    subst (StandBy (map (λ (e : Happening). e.place) (e ∷ es))) (sym (sent_front e.place r ds (job_of rank after es)))
-    (stand_more e.place (map (λ (e : Happening). e.place) es) (sent_run e.place r ds) (job_sent (reader_run r ds) (job_of rank after es)) (sent_here e.place r ds) (sent_stand rank after (reader_run r ds) es))
+    subst (StandBy (map (λ (e : EventView). e.place) (e ∷ es))) (sym (sent_front e.place r ds (job_of rank after es)))
+    (stand_more e.place (map (λ (e : EventView). e.place) es) (sent_run e.place r ds) (job_sent (reader_run r ds) (job_of rank after es)) (sent_here e.place r ds) (sent_stand rank after (reader_run r ds) es))
 
-answers_stand : (k : Known) (es : List Happening) → StandBy (map (λ (e : Happening). e.place) es) (discovery_answers k es)
+answers_stand : (k : Known) (es : List EventView) → StandBy (map (λ (e : EventView). e.place) es) (discovery_answers k es)
 answers_stand k [] = tt
-answers_stand k (e ∷ es) = stand_more e.place (map (λ (e : Happening). e.place) es) (discovery_answer k e) (discovery_answers (known_after_event k e) es) (answer_here k e) (answers_stand (known_after_event k e) es)
+answers_stand k (e ∷ es) = stand_more e.place (map (λ (e : EventView). e.place) es) (discovery_answer k e) (discovery_answers (known_after_event k e) es) (answer_here k e) (answers_stand (known_after_event k e) es)
 
 -- ---- ranks of the jobs
 
@@ -104,7 +104,7 @@ module _ (asked : ℕ → Job) where
           ap asked (sym same) ∙ none_asked n (asked n) (ap (is_among (map (λ j. j.0) (job_at n (asked n)))) same ∙ parts.1)
       by_test false e rest = let differ = eqb-false n rank e in rest (omega (arith, less, differ))
 
-ranks_seen : {A : Type 0} (es : List Happening) (jobs : List (plan_job.Job A)) → map (λ j. j.0) (map (job_seen es) jobs) ≡ map (λ job. job.rank) jobs
+ranks_seen : {A : Type 0} (es : List EventView) (jobs : List (plan_job.Job A)) → map (λ j. j.0) (map (job_seen es) jobs) ≡ map (λ job. job.rank) jobs
 ranks_seen es [] = refl
 ranks_seen es (j ∷ js) = ap (λ l. j.rank ∷ l) (ranks_seen es js)
 
@@ -123,7 +123,7 @@ module _ {V A : Type 0} where
       by_test false e some rest = let at = rest some in (at.0, (suc at.1.0, omega (arith, at.1.1), at.1.2), at.2)
 
   -- what it sends, where it is alone of its rank
-  one_sent : (sent : ℕ → List (Place × Sent)) (outputs : List (ℕ × Output V A)) → AllByRecursion (λ o. map reader.answer_view o.1.answers.items ≡ sent o.0) outputs
+  one_sent : (sent : ℕ → List (Place × ReplyView)) (outputs : List (ℕ × Output V A)) → AllByRecursion (λ o. map reader.answer_view o.1.answers.items ≡ sent o.0) outputs
       → (rank : ℕ) → (times rank (ranks_of outputs) == 0) ≡ false → nat_lt 1 (times rank (ranks_of outputs)) ≡ false → sent_by outputs rank ≡ sent rank
   one_sent sent [] all rank some once = absurd (true≢false some)
   one_sent sent (o ∷ os) all rank some once = by_test (o.0 == rank) refl some once (λ more most. one_sent sent os all.1 rank more most)
@@ -143,13 +143,13 @@ module _ {V A : Type 0} where
       by_test false e some once rest = rest some once
 
 -- only the ranks below the count are merged
-below_same : (said : List (Place × Sent)) (xs ys : ℕ → List (Place × Sent)) (p : Place) (n : ℕ) → ((rank : ℕ) → rank < n → xs rank ≡ ys rank) → below said xs p n ≡ below said ys p n
+below_same : (said : List (Place × ReplyView)) (xs ys : ℕ → List (Place × ReplyView)) (p : Place) (n : ℕ) → ((rank : ℕ) → rank < n → xs rank ≡ ys rank) → below said xs p n ≡ below said ys p n
 below_same said xs ys p zero same = refl
 below_same said xs ys p (suc n) same =
     ap (λ l. l ++ map (sending_by n) (answers_at p (xs n))) (below_same said xs ys p n (λ rank less. same rank (omega (arith, less))))
     ∙ ap (λ ss. below said ys p n ++ map (sending_by n) (answers_at p ss)) (same n (omega arith))
 
-pub along_same : (said : List (Place × Sent)) (xs ys : ℕ → List (Place × Sent)) (n : ℕ) (ps : List Place) → ((rank : ℕ) → rank < n → xs rank ≡ ys rank) → along said xs n ps ≡ along said ys n ps
+pub along_same : (said : List (Place × ReplyView)) (xs ys : ℕ → List (Place × ReplyView)) (n : ℕ) (ps : List Place) → ((rank : ℕ) → rank < n → xs rank ≡ ys rank) → along said xs n ps ≡ along said ys n ps
 along_same said xs ys n [] same = refl
 along_same said xs ys n (p ∷ ps) same =
     ap (λ l. (map discovery_sending (answers_at p said) ++ l) ++ along said xs n ps) (below_same said xs ys p n same)
@@ -157,18 +157,18 @@ along_same said xs ys n (p ∷ ps) same =
 
 -- ---- the outcome
 
-module _ {V M A : Type 0} (f : V → M) (decoding : Decoding M) (w : World M) (es : List Happening) (up : PlacesRise es) (plan : Plan A) (kept : Kept) (outputs : List (ℕ × Output V A)) (outcome : Outcome V A)
+module _ {V M A : Type 0} (f : V → M) (decoding : Decoding M) (w : World M) (es : List EventView) (up : PlacesRise es) (plan : Plan A) (kept : HeldView) (outputs : List (ℕ × Output V A)) (outcome : Outcome V A)
     (planned : IsPlan w.known es plan kept) (fine : IsRight plan.rest.ranks.items (ranks_of outputs)) (of : All (IsOutputOf f decoding w es) outputs) (has : IsGathered plan.rest outputs outcome) where
   abbrev count : ℕ
   count = reader_count w
 
   abbrev places : List Place
-  places = map (λ (e : Happening). e.place) es
+  places = map (λ (e : EventView). e.place) es
 
-  abbrev sent : ℕ → List (Place × Sent)
+  abbrev sent : ℕ → List (Place × ReplyView)
   sent rank = job_sent (w.readers rank) (job_of rank w.known es)
 
-  abbrev said : List (Place × Sent)
+  abbrev said : List (Place × ReplyView)
   said = discovery_answers w.known es
 
   ranks_are : plan.rest.ranks.items ≡ by_count (λ rank. job_of rank w.known es) count
@@ -206,9 +206,9 @@ module _ {V M A : Type 0} (f : V → M) (decoding : Decoding M) (w : World M) (e
 
   stands : (rank : ℕ) → StandAmong places (sent_by outputs rank)
   stands rank = elim (cases_lt rank count) [
-    | inl less ↦ All-from_recursion (λ (s : Place × Sent). list_any (same_place s.0) places ≡ true) (sent_by outputs rank)
+    | inl less ↦ All-from_recursion (λ (s : Place × ReplyView). list_any (same_place s.0) places ≡ true) (sent_by outputs rank)
         (subst (StandBy places) (sym (sent_is rank less)) (sent_stand rank w.known (w.readers rank) es))
-    | inr past ↦ All-from_recursion (λ (s : Place × Sent). list_any (same_place s.0) places ≡ true) (sent_by outputs rank)
+    | inr past ↦ All-from_recursion (λ (s : Place × ReplyView). list_any (same_place s.0) places ≡ true) (sent_by outputs rank)
         (subst (StandBy places) (sym (none_sent outputs rank (no_output rank (not_past plan.rest.ranks.items rank ranks_below past)))) tt)
   ]
 
@@ -216,7 +216,7 @@ module _ {V M A : Type 0} (f : V → M) (decoding : Decoding M) (w : World M) (e
   answers_are =
       has.answers said places planned.answers
       (All-from_recursion (λ rank. rank < plan.rest.readers) plan.rest.ranks.items (subst (λ n. AllByRecursion (λ rank. rank < n) plan.rest.ranks.items) (sym planned.readers) ranks_below))
-      (rising es up) (All-from_recursion (λ (s : Place × Sent). list_any (same_place s.0) places ≡ true) said (answers_stand w.known es)) stands
+      (rising es up) (All-from_recursion (λ (s : Place × ReplyView). list_any (same_place s.0) places ≡ true) said (answers_stand w.known es)) stands
       ∙ ap (λ n. answers_in (merged (parts_in said outputs) n places)) planned.readers
       ∙ merged_seen (parts_in said outputs) count places
       ∙ along_same said (sent_by outputs) sent count places sent_is

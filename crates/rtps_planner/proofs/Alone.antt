@@ -3,46 +3,46 @@ use Rattle.std.proofs.Common.{◌≡◌, ℕ, zero, suc, ◌<◌, ◌==◌, List
 use Rattle.std.proofs.lemmas.Bool.{eq-eqb}
 use Rattle.std.proofs.lemmas.Bool.Decides.{eqb_tells, nat_tests}
 use Rattle.rtps_types.specs.declared.place.Place.{Place}
-use Rattle.rtps_receiver.specs.Events.{Happening}
+use Rattle.rtps_receiver.specs.Events.{EventView}
 use Rattle.rtps_discovery.specs.Addressed.{is_discovery}
 use Rattle.rtps_discovery.specs.Known.{Known, Wish}
 use Rattle.rtps_discovery.specs.Records.{answered}
 use Rattle.dds_topic.specs.Decoding.{Decoding}
-use Rattle.rtps_proxy.specs.Replies.{Sent}
+use Rattle.rtps_proxy.specs.Replies.{ReplyView}
 use Rattle.rtps_reader.specs.declared.notice.Notice.{Notice}
 use Rattle.rtps_reader.specs.Reader.{Reader, placed, reader_after, reader_run, sends, tells}
-use Rattle.rtps_reader.specs.Steps.{Doing}
+use Rattle.rtps_reader.specs.Steps.{StepView}
 use Rattle.rtps_serial.specs.Run.{world_run}
 use Rattle.rtps_serial.specs.Seen.{notices_by, reader_count}
 use Rattle.rtps_serial.specs.World as world
-use Rattle.rtps_serial.specs.World.{Put, Hears, Sends, World, answer_put, discovery_puts, doings, puts_at, puts_below, puts_run, world_after}
+use Rattle.rtps_serial.specs.World.{ReportView, NoticeOf, AnswerOf, World, answer_put, discovery_puts, doings, puts_at, puts_below, puts_run, world_after}
 use Rattle.rtps_serial.proofs.Routed.{readers_stay}
 use Rattle.rtps_serial.proofs.Matched.{told_more, told_run}
 use Rattle.rtps_planner.specs.Commuting.{IsDiscovered, IsPart, answers_by, is_of}
 use Rattle.rtps_planner.specs.Job.{Job, discovery_answer, discovery_answers, job_of, known_after_events, job_run, job_sent, job_told}
 
 -- what a reader sends at one place at one step after the other
-abbrev pub sent_run : Place → Reader → List Doing → List (Place × Sent)
+abbrev pub sent_run : Place → Reader → List StepView → List (Place × ReplyView)
 sent_run place r [] = []
 sent_run place r (d ∷ ds) = sends r place d ++ sent_run place (reader_after r d) ds
 
 -- ---- a job that begins with what is asked at one place
 
-abbrev pub asked_at : Place → List Doing → Job
+abbrev pub asked_at : Place → List StepView → Job
 asked_at place ds = map (λ what. (place, what)) ds
 
-reader_front : (place : Place) (r : Reader) (ds : List Doing) (job : Job) → job_run r (asked_at place ds ++ job) ≡ job_run (reader_run r ds) job
+reader_front : (place : Place) (r : Reader) (ds : List StepView) (job : Job) → job_run r (asked_at place ds ++ job) ≡ job_run (reader_run r ds) job
 reader_front place r [] job = refl
 reader_front place r (d ∷ ds) job = reader_front place (reader_after r d) ds job
 
-pub told_front : {M : Type 0} (decoding : Decoding M) (place : Place) (r : Reader) (ds : List Doing) (job : Job)
+pub told_front : {M : Type 0} (decoding : Decoding M) (place : Place) (r : Reader) (ds : List StepView) (job : Job)
     → job_told decoding r (asked_at place ds ++ job) ≡ told_run decoding place r ds ++ job_told decoding (reader_run r ds) job
 told_front decoding place r [] job = refl
 told_front decoding place r (d ∷ ds) job =
     ap (λ l. tells decoding r place d ++ l) (told_front decoding place (reader_after r d) ds job)
     ∙ sym (append_assoc (tells decoding r place d) (told_run decoding place (reader_after r d) ds) (job_told decoding (reader_run (reader_after r d) ds) job))
 
-pub sent_front : (place : Place) (r : Reader) (ds : List Doing) (job : Job) → job_sent r (asked_at place ds ++ job) ≡ sent_run place r ds ++ job_sent (reader_run r ds) job
+pub sent_front : (place : Place) (r : Reader) (ds : List StepView) (job : Job) → job_sent r (asked_at place ds ++ job) ≡ sent_run place r ds ++ job_sent (reader_run r ds) job
 sent_front place r [] job = refl
 sent_front place r (d ∷ ds) job =
     ap (λ l. sends r place d ++ l) (sent_front place (reader_after r d) ds job)
@@ -54,51 +54,51 @@ one_more : {X : Type 0} (b : Bool) (x : X) (xs ys : List X) → (if b then x ∷
 one_more true x xs ys = refl
 one_more false x xs ys = refl
 
-answers_by-append : {M : Type 0} (by : Option ℕ) (xs ys : List (Put M)) → answers_by by (xs ++ ys) ≡ answers_by by xs ++ answers_by by ys
+answers_by-append : {M : Type 0} (by : Option ℕ) (xs ys : List (ReportView M)) → answers_by by (xs ++ ys) ≡ answers_by by xs ++ answers_by by ys
 answers_by-append by [] ys = refl
-answers_by-append by (Hears rank n ∷ xs) ys = answers_by-append by xs ys
-answers_by-append by (Sends s ∷ xs) ys = rw (answers_by-append by xs ys) (one_more (is_of s.rank by) (s.place, record { to = s.to; octets = s.octets }) (answers_by by xs) (answers_by by ys))
+answers_by-append by (NoticeOf rank n ∷ xs) ys = answers_by-append by xs ys
+answers_by-append by (AnswerOf s ∷ xs) ys = rw (answers_by-append by xs ys) (one_more (is_of s.rank by) (s.place, record { to = s.to; octets = s.octets }) (answers_by by xs) (answers_by by ys))
 
 module _ {M : Type 0} (decoding : Decoding M) (by : Option ℕ) where
-  none_heard : (k : ℕ) (ns : List (Notice M)) → answers_by by (map (Hears k) ns) ≡ []
+  none_heard : (k : ℕ) (ns : List (Notice M)) → answers_by by (map (NoticeOf k) ns) ≡ []
   none_heard k [] = refl
   none_heard k (n ∷ ns) = none_heard k ns
 
-  own_answers : (k : ℕ) (ss : List (Place × Sent)) → is_of (Some k) by ≡ true → answers_by {M = M} by (map (world.sent_by k) ss) ≡ ss
+  own_answers : (k : ℕ) (ss : List (Place × ReplyView)) → is_of (Some k) by ≡ true → answers_by {M = M} by (map (world.sent_by k) ss) ≡ ss
   own_answers k [] is = refl
   own_answers k (s ∷ ss) is = rw is (ap (λ l. s ∷ l) (own_answers k ss is))
 
-  others_answers : (k : ℕ) (ss : List (Place × Sent)) → is_of (Some k) by ≡ false → answers_by {M = M} by (map (world.sent_by k) ss) ≡ []
+  others_answers : (k : ℕ) (ss : List (Place × ReplyView)) → is_of (Some k) by ≡ false → answers_by {M = M} by (map (world.sent_by k) ss) ≡ []
   others_answers k [] is = refl
   others_answers k (s ∷ ss) is = rw is (others_answers k ss is)
 
-  step_answers : (place : Place) (k : ℕ) (r : Reader) (d : Doing) → answers_by by (puts_at decoding place k r d) ≡ answers_by {M = M} by (map (world.sent_by k) (sends r place d))
+  step_answers : (place : Place) (k : ℕ) (r : Reader) (d : StepView) → answers_by by (puts_at decoding place k r d) ≡ answers_by {M = M} by (map (world.sent_by k) (sends r place d))
   step_answers place k r d =
-      answers_by-append by (map (Hears k) (tells decoding r place d)) (map (world.sent_by k) (sends r place d))
+      answers_by-append by (map (NoticeOf k) (tells decoding r place d)) (map (world.sent_by k) (sends r place d))
       ∙ ap (λ l. l ++ answers_by {M = M} by (map (world.sent_by k) (sends r place d))) (none_heard k (tells decoding r place d))
 
-  own_run : (place : Place) (k : ℕ) (r : Reader) (ds : List Doing) → is_of (Some k) by ≡ true → answers_by by (puts_run decoding place k r ds) ≡ sent_run place r ds
+  own_run : (place : Place) (k : ℕ) (r : Reader) (ds : List StepView) → is_of (Some k) by ≡ true → answers_by by (puts_run decoding place k r ds) ≡ sent_run place r ds
   own_run place k r [] is = refl
   own_run place k r (d ∷ ds) is =
       answers_by-append by (puts_at decoding place k r d) (puts_run decoding place k (reader_after r d) ds)
       ∙ ap (λ l. l ++ answers_by by (puts_run decoding place k (reader_after r d) ds)) (step_answers place k r d ∙ own_answers k (sends r place d) is)
       ∙ ap (λ l. sends r place d ++ l) (own_run place k (reader_after r d) ds is)
 
-  others_run : (place : Place) (k : ℕ) (r : Reader) (ds : List Doing) → is_of (Some k) by ≡ false → answers_by by (puts_run decoding place k r ds) ≡ []
+  others_run : (place : Place) (k : ℕ) (r : Reader) (ds : List StepView) → is_of (Some k) by ≡ false → answers_by by (puts_run decoding place k r ds) ≡ []
   others_run place k r [] is = refl
   others_run place k r (d ∷ ds) is =
       answers_by-append by (puts_at decoding place k r d) (puts_run decoding place k (reader_after r d) ds)
       ∙ ap (λ l. l ++ answers_by by (puts_run decoding place k (reader_after r d) ds)) (step_answers place k r d ∙ others_answers k (sends r place d) is)
       ∙ others_run place k (reader_after r d) ds is
 
-  others_below : (k : Known) (e : Happening) (readers : ℕ → Reader) (n : ℕ) → ((rank : ℕ) → rank < n → is_of (Some rank) by ≡ false) → answers_by by (puts_below decoding k e readers n) ≡ []
+  others_below : (k : Known) (e : EventView) (readers : ℕ → Reader) (n : ℕ) → ((rank : ℕ) → rank < n → is_of (Some rank) by ≡ false) → answers_by by (puts_below decoding k e readers n) ≡ []
   others_below k e readers zero other = refl
   others_below k e readers (suc n) other =
       answers_by-append by (puts_below decoding k e readers n) (puts_run decoding e.place n (readers n) (doings k n e))
       ∙ ap (λ l. l ++ answers_by by (puts_run decoding e.place n (readers n) (doings k n e))) (others_below k e readers n (λ rank less. other rank (omega arith)))
       ∙ others_run e.place n (readers n) (doings k n e) (other n (omega arith))
 
-sent_below : {M : Type 0} (decoding : Decoding M) (k : Known) (e : Happening) (readers : ℕ → Reader) (rank n : ℕ) → rank < n
+sent_below : {M : Type 0} (decoding : Decoding M) (k : Known) (e : EventView) (readers : ℕ → Reader) (rank n : ℕ) → rank < n
     → answers_by (Some rank) (puts_below decoding k e readers n) ≡ sent_run e.place (readers rank) (doings k rank e)
 sent_below decoding k e readers rank zero below = absurd (omega arith)
 sent_below decoding k e readers rank (suc n) below =
@@ -123,10 +123,10 @@ sent_below decoding k e readers rank (suc n) below =
 
 -- ---- discovery's answers
 
-reader_unanswered : (M : Type 0) (rank : ℕ) (k : Known) (e : Happening) → answers_by {M = M} (Some rank) (discovery_puts k e) ≡ []
+reader_unanswered : (M : Type 0) (rank : ℕ) (k : Known) (e : EventView) → answers_by {M = M} (Some rank) (discovery_puts k e) ≡ []
 reader_unanswered M rank k e = by_test (is_discovery e.writer)
   where
-    by_answer : (o : Option Sent) → answers_by {M = M} (Some rank) (answer_put e.place o) ≡ []
+    by_answer : (o : Option ReplyView) → answers_by {M = M} (Some rank) (answer_put e.place o) ≡ []
     by_answer None = refl
     by_answer (Some s) = refl
 
@@ -134,10 +134,10 @@ reader_unanswered M rank k e = by_test (is_discovery e.writer)
     by_test true = by_answer (answered k e)
     by_test false = refl
 
-discovery_answered : (M : Type 0) (k : Known) (e : Happening) → answers_by {M = M} None (discovery_puts k e) ≡ discovery_answer k e
+discovery_answered : (M : Type 0) (k : Known) (e : EventView) → answers_by {M = M} None (discovery_puts k e) ≡ discovery_answer k e
 discovery_answered M k e = by_test (is_discovery e.writer)
   where
-    by_answer : (o : Option Sent) → answers_by {M = M} None (answer_put e.place o) ≡ placed e.place o
+    by_answer : (o : Option ReplyView) → answers_by {M = M} None (answer_put e.place o) ≡ placed e.place o
     by_answer None = refl
     by_answer (Some s) = refl
 
@@ -147,7 +147,7 @@ discovery_answered M k e = by_test (is_discovery e.writer)
 
 -- ---- one event more
 
-module _ {M : Type 0} (decoding : Decoding M) (w : World M) (e : Happening) where
+module _ {M : Type 0} (decoding : Decoding M) (w : World M) (e : EventView) where
   answers_more : (by : Option ℕ)
       → answers_by by (world_after decoding w e).put ≡ answers_by by w.put ++ (answers_by {M = M} by (discovery_puts w.known e) ++ answers_by by (puts_below decoding w.known e w.readers (reader_count w)))
   answers_more by =
@@ -168,17 +168,17 @@ module _ {M : Type 0} (decoding : Decoding M) (w : World M) (e : Happening) wher
 
 -- ---- the run
 
-reader_of : {M : Type 0} (decoding : Decoding M) (w : World M) (es : List Happening) (rank : ℕ) → (world_run decoding w es).readers rank ≡ job_run (w.readers rank) (job_of rank w.known es)
+reader_of : {M : Type 0} (decoding : Decoding M) (w : World M) (es : List EventView) (rank : ℕ) → (world_run decoding w es).readers rank ≡ job_run (w.readers rank) (job_of rank w.known es)
 reader_of decoding w [] rank = refl
 reader_of decoding w (e ∷ es) rank =
     let after = world_after decoding w e in
     reader_of decoding after es rank
     ∙ sym (reader_front e.place (w.readers rank) (doings w.known rank e) (job_of rank after.known es))
 
-below_after : {M : Type 0} (decoding : Decoding M) (w : World M) (e : Happening) (rank : ℕ) → rank < reader_count w → rank < reader_count (world_after decoding w e)
+below_after : {M : Type 0} (decoding : Decoding M) (w : World M) (e : EventView) (rank : ℕ) → rank < reader_count w → rank < reader_count (world_after decoding w e)
 below_after decoding w e rank below = subst (λ (rs : List (Option Wish)). rank < length rs) (sym (readers_stay w.known e)) below
 
-told_of : {M : Type 0} (decoding : Decoding M) (w : World M) (es : List Happening) (rank : ℕ) → rank < reader_count w
+told_of : {M : Type 0} (decoding : Decoding M) (w : World M) (es : List EventView) (rank : ℕ) → rank < reader_count w
     → notices_by rank (world_run decoding w es).put ≡ notices_by rank w.put ++ job_told decoding (w.readers rank) (job_of rank w.known es)
 told_of decoding w [] rank below = sym (append-nil (notices_by rank w.put))
 told_of decoding w (e ∷ es) rank below =
@@ -190,7 +190,7 @@ told_of decoding w (e ∷ es) rank below =
     ∙ append_assoc (notices_by rank w.put) here rest
     ∙ ap (λ l. notices_by rank w.put ++ l) (sym (told_front decoding e.place (w.readers rank) (doings w.known rank e) (job_of rank after.known es)))
 
-sent_of : {M : Type 0} (decoding : Decoding M) (w : World M) (es : List Happening) (rank : ℕ) → rank < reader_count w
+sent_of : {M : Type 0} (decoding : Decoding M) (w : World M) (es : List EventView) (rank : ℕ) → rank < reader_count w
     → answers_by (Some rank) (world_run decoding w es).put ≡ answers_by (Some rank) w.put ++ job_sent (w.readers rank) (job_of rank w.known es)
 sent_of decoding w [] rank below = sym (append-nil (answers_by (Some rank) w.put))
 sent_of decoding w (e ∷ es) rank below =
@@ -202,18 +202,18 @@ sent_of decoding w (e ∷ es) rank below =
     ∙ append_assoc (answers_by (Some rank) w.put) here rest
     ∙ ap (λ l. answers_by (Some rank) w.put ++ l) (sym (sent_front e.place (w.readers rank) (doings w.known rank e) (job_of rank after.known es)))
 
-pub parts : {M : Type 0} (decoding : Decoding M) (w : World M) (es : List Happening) (rank : ℕ) → IsPart decoding w es rank
+pub parts : {M : Type 0} (decoding : Decoding M) (w : World M) (es : List EventView) (rank : ℕ) → IsPart decoding w es rank
 parts decoding w es rank = record {
   reader = reader_of decoding w es rank;
   told = λ below. told_of decoding w es rank below;
   sent = λ below. sent_of decoding w es rank below;
 }
 
-known_of : {M : Type 0} (decoding : Decoding M) (w : World M) (es : List Happening) → (world_run decoding w es).known ≡ known_after_events w.known es
+known_of : {M : Type 0} (decoding : Decoding M) (w : World M) (es : List EventView) → (world_run decoding w es).known ≡ known_after_events w.known es
 known_of decoding w [] = refl
 known_of decoding w (e ∷ es) = known_of decoding (world_after decoding w e) es
 
-answers_run : {M : Type 0} (decoding : Decoding M) (w : World M) (es : List Happening) → answers_by None (world_run decoding w es).put ≡ answers_by None w.put ++ discovery_answers w.known es
+answers_run : {M : Type 0} (decoding : Decoding M) (w : World M) (es : List EventView) → answers_by None (world_run decoding w es).put ≡ answers_by None w.put ++ discovery_answers w.known es
 answers_run decoding w [] = sym (append-nil (answers_by None w.put))
 answers_run decoding w (e ∷ es) =
     let after = world_after decoding w e in
@@ -221,5 +221,5 @@ answers_run decoding w (e ∷ es) =
     ∙ ap (λ l. l ++ discovery_answers after.known es) (discovery_more decoding w e)
     ∙ append_assoc (answers_by None w.put) (discovery_answer w.known e) (discovery_answers after.known es)
 
-pub discovered : {M : Type 0} (decoding : Decoding M) (w : World M) (es : List Happening) → IsDiscovered decoding w es
+pub discovered : {M : Type 0} (decoding : Decoding M) (w : World M) (es : List EventView) → IsDiscovered decoding w es
 discovered decoding w es = record { known = known_of decoding w es; answers = answers_run decoding w es }

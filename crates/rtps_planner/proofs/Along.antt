@@ -3,7 +3,7 @@ use Rattle.std.proofs.Common.{◌≡◌, ℕ, List, [], ◌∷◌, ◌++◌, map
 use Rattle.std.specs.Prelude.{filter}
 use Rattle.std.specs.List.{AllByRecursion, flat_map}
 use Rattle.rtps_types.specs.declared.place.Place.{Place}
-use Rattle.rtps_receiver.specs.Events.{Happening}
+use Rattle.rtps_receiver.specs.Events.{EventView}
 use Rattle.rtps_discovery.specs.Known.{Known}
 use Rattle.dds_topic.specs.Decoding.{Decoding}
 use Rattle.rtps_reader.specs.Reader.{Reader, reader_run}
@@ -35,10 +35,10 @@ module _ {X : Type 0} (place : X → Place) where
       ap (λ l. l ++ flat_map (there (xs ++ ys)) ps) (front_here place p xs ys here after)
       ∙ ap (λ l. xs ++ l) (along_later p xs ys ps here later ∙ rest)
 
-abbrev places_of : List Happening → List Place
-places_of es = map (λ (e : Happening). e.place) es
+abbrev places_of : List EventView → List Place
+places_of es = map (λ (e : EventView). e.place) es
 
-pub told_along : {M : Type 0} (decoding : Decoding M) (rank : ℕ) (k : Known) (r : Reader) (es : List Happening) → PlacesRise es
+pub told_along : {M : Type 0} (decoding : Decoding M) (rank : ℕ) (k : Known) (r : Reader) (es : List EventView) → PlacesRise es
     → flat_map (λ p. notices_at p (job_told decoding r (job_of rank k es))) (places_of es) ≡ job_told decoding r (job_of rank k es)
 told_along decoding rank k r [] up = refl
 told_along {M} decoding rank k r (e ∷ es) up =
@@ -47,10 +47,10 @@ told_along {M} decoding rank k r (e ∷ es) up =
     let next = reader_run r ds in
     subst (λ l. flat_map (λ p. notices_at p l) (places_of (e ∷ es)) ≡ l) (sym (told_front decoding e.place r ds (job_of rank after es)))
     (along_more (notice_place {M = M}) e.place (told_run decoding e.place r ds) (job_told decoding next (job_of rank after es)) (places_of es)
-    (told_here decoding e.place r ds) (told_after decoding e.place rank after next es up.0) (all_map (λ q. not_after q e.place ≡ false) (λ (d : Happening). d.place) es up.0)
+    (told_here decoding e.place r ds) (told_after decoding e.place rank after next es up.0) (all_map (λ q. not_after q e.place ≡ false) (λ (d : EventView). d.place) es up.0)
     (told_along decoding rank after next es up.1))
 
-pub sent_along : (rank : ℕ) (k : Known) (r : Reader) (es : List Happening) → PlacesRise es → flat_map (λ p. answers_at p (job_sent r (job_of rank k es))) (places_of es) ≡ job_sent r (job_of rank k es)
+pub sent_along : (rank : ℕ) (k : Known) (r : Reader) (es : List EventView) → PlacesRise es → flat_map (λ p. answers_at p (job_sent r (job_of rank k es))) (places_of es) ≡ job_sent r (job_of rank k es)
 sent_along rank k r [] up = refl
 sent_along rank k r (e ∷ es) up =
     let after = known_after_event k e in
@@ -58,13 +58,13 @@ sent_along rank k r (e ∷ es) up =
     let next = reader_run r ds in
     subst (λ l. flat_map (λ p. answers_at p l) (places_of (e ∷ es)) ≡ l) (sym (sent_front e.place r ds (job_of rank after es)))
     (along_more sent_place e.place (sent_run e.place r ds) (job_sent next (job_of rank after es)) (places_of es)
-    (sent_here e.place r ds) (sent_after e.place rank after next es up.0) (all_map (λ q. not_after q e.place ≡ false) (λ (d : Happening). d.place) es up.0)
+    (sent_here e.place r ds) (sent_after e.place rank after next es up.0) (all_map (λ q. not_after q e.place ≡ false) (λ (d : EventView). d.place) es up.0)
     (sent_along rank after next es up.1))
 
-pub answers_along : (k : Known) (es : List Happening) → PlacesRise es → flat_map (λ p. answers_at p (discovery_answers k es)) (places_of es) ≡ discovery_answers k es
+pub answers_along : (k : Known) (es : List EventView) → PlacesRise es → flat_map (λ p. answers_at p (discovery_answers k es)) (places_of es) ≡ discovery_answers k es
 answers_along k [] up = refl
 answers_along k (e ∷ es) up =
     let after = known_after_event k e in
     along_more sent_place e.place (discovery_answer k e) (discovery_answers after es) (places_of es)
-    (answer_here k e) (answers_after e.place after es up.0) (all_map (λ q. not_after q e.place ≡ false) (λ (d : Happening). d.place) es up.0)
+    (answer_here k e) (answers_after e.place after es up.0) (all_map (λ q. not_after q e.place ≡ false) (λ (d : EventView). d.place) es up.0)
     (answers_along after es up.1)

@@ -13,7 +13,7 @@ use Rattle.std.proofs.lemmas.List.Sorted.{ranks_by}
 use Rattle.std.proofs.lemmas.Map.Lookups.{exact_unsigned}
 use Rattle.rtps_types.specs.declared.place.Place.{Place}
 use Rattle.rtps_types.specs.Place.{place_order}
-use Rattle.rtps_proxy.specs.Replies.{Sent}
+use Rattle.rtps_proxy.specs.Replies.{ReplyView}
 use Rattle.rtps_reader.specs.declared.notice.Notice.{Notice}
 use Rattle.rtps_reader.specs.declared.notice.Output.{Output}
 use Rattle.rtps_reader.specs.Notices as reader
@@ -25,7 +25,7 @@ use Rattle.rtps_serial.specs.Presentation.{not_after}
 use Rattle.rtps_serial.specs.Seen.{answers_in}
 use Rattle.rtps_serial.specs.Turn.{turn_order}
 use Rattle.rtps_serial.specs.World as world
-use Rattle.rtps_serial.specs.World.{Put, Hears, Sending}
+use Rattle.rtps_serial.specs.World.{ReportView, NoticeOf, AnswerView}
 use Rattle.rtps_serial.proofs.Dealt.{answers_in-append}
 use Rattle.rtps_serial.proofs.OneOrder.{Rises, filter-map, filter_none, one_order, rises_map, rises_sorted, rises_then, stable_by}
 use Rattle.rtps_serial.proofs.Places.{all_append, all_weaker}
@@ -37,36 +37,36 @@ use Rattle.rtps_planner.proofs.Merged.{not_later, same_self}
 
 -- ---- the answers of the parts
 
-module _ (said : List (Place × Sent)) (sent : ℕ → List (Place × Sent)) where
+module _ (said : List (Place × ReplyView)) (sent : ℕ → List (Place × ReplyView)) where
   -- at one place of the ranks below a count
-  abbrev pub below : Place → ℕ → List Sending
+  abbrev pub below : Place → ℕ → List AnswerView
   below p zero = []
   below p (suc n) = below p n ++ map (sending_by n) (answers_at p (sent n))
 
-  abbrev pub here : Place → ℕ → List Sending
+  abbrev pub here : Place → ℕ → List AnswerView
   here p n = map discovery_sending (answers_at p said) ++ below p n
 
-  abbrev pub along : ℕ → List Place → List Sending
+  abbrev pub along : ℕ → List Place → List AnswerView
   along n [] = []
   along n (p ∷ ps) = here p n ++ along n ps
 
-heard_unseen : {M : Type 0} (rank : ℕ) (ns : List (Notice M)) → answers_in (map (Hears rank) ns) ≡ []
+heard_unseen : {M : Type 0} (rank : ℕ) (ns : List (Notice M)) → answers_in (map (NoticeOf rank) ns) ≡ []
 heard_unseen rank [] = refl
 heard_unseen rank (n ∷ ns) = heard_unseen rank ns
 
-sent_seen : (M : Type 0) (rank : ℕ) (ss : List (Place × Sent)) → answers_in {M = M} (map (world.sent_by rank) ss) ≡ map (sending_by rank) ss
+sent_seen : (M : Type 0) (rank : ℕ) (ss : List (Place × ReplyView)) → answers_in {M = M} (map (world.sent_by rank) ss) ≡ map (sending_by rank) ss
 sent_seen M rank [] = refl
 sent_seen M rank (s ∷ ss) = ap (λ l. sending_by rank s ∷ l) (sent_seen M rank ss)
 
-said_seen : (M : Type 0) (ss : List (Place × Sent)) → answers_in {M = M} (map discovery_sends ss) ≡ map discovery_sending ss
+said_seen : (M : Type 0) (ss : List (Place × ReplyView)) → answers_in {M = M} (map discovery_sends ss) ≡ map discovery_sending ss
 said_seen M [] = refl
 said_seen M (s ∷ ss) = ap (λ l. discovery_sending s ∷ l) (said_seen M ss)
 
 below_seen : {M : Type 0} (p : Place) (parts : Parts M) (n : ℕ) → answers_in (merged_below p parts n) ≡ below parts.answers parts.sent p n
 below_seen p parts zero = refl
 below_seen {M} p parts (suc n) =
-    let told : List (Put M) = map (Hears n) (notices_at p (parts.told n)) in
-    let sent : List (Put M) = map (world.sent_by n) (answers_at p (parts.sent n)) in
+    let told : List (ReportView M) = map (NoticeOf n) (notices_at p (parts.told n)) in
+    let sent : List (ReportView M) = map (world.sent_by n) (answers_at p (parts.sent n)) in
     answers_in-append (merged_below p parts n) (told ++ sent)
     ∙ ap (λ l. answers_in (merged_below p parts n) ++ l)
     (answers_in-append told sent ∙ ap (λ l. l ++ answers_in sent) (heard_unseen n (notices_at p (parts.told n))) ∙ sent_seen M n (answers_at p (parts.sent n)))
@@ -75,7 +75,7 @@ below_seen {M} p parts (suc n) =
 pub merged_seen : {M : Type 0} (parts : Parts M) (n : ℕ) (places : List Place) → answers_in (merged parts n places) ≡ along parts.answers parts.sent n places
 merged_seen parts n [] = refl
 merged_seen {M} parts n (p ∷ ps) =
-    let said : List (Put M) = map discovery_sends (answers_at p parts.answers) in
+    let said : List (ReportView M) = map discovery_sends (answers_at p parts.answers) in
     answers_in-append (said ++ merged_below p parts n) (merged parts n ps)
     ∙ ap (λ l. l ++ answers_in (merged parts n ps)) (answers_in-append said (merged_below p parts n))
     ∙ ap (λ l. (l ++ answers_in (merged_below p parts n)) ++ answers_in (merged parts n ps)) (said_seen M (answers_at p parts.answers))
@@ -84,16 +84,16 @@ merged_seen {M} parts n (p ∷ ps) =
 
 -- ---- they come by turn
 
-abbrev ahead : Sending → Sending → Bool
+abbrev ahead : AnswerView → AnswerView → Bool
 ahead a b = is_lt (turn_order (answer_turn a) (answer_turn b))
 
 ahead_weak : IsStrictWeakOrder ahead
 ahead_weak = ranks_by turns_total answer_turn
 
-abbrev HaveTurn : Turn → List Sending → Type 0
+abbrev HaveTurn : Turn → List AnswerView → Type 0
 HaveTurn t xs = AllByRecursion (λ s. answer_turn s ≡ t) xs
 
-level_rises : (t : Turn) (xs : List Sending) → HaveTurn t xs → Rises ahead xs
+level_rises : (t : Turn) (xs : List AnswerView) → HaveTurn t xs → Rises ahead xs
 level_rises t [] h = tt
 level_rises t (x ∷ xs) h = (
   all_weaker (λ s. answer_turn s ≡ t) (λ y. ahead y x ≡ false) xs (λ y e. level (answer_turn y) (answer_turn x) t e h.0) h.1,
@@ -111,7 +111,7 @@ same_back : (a b : Place) → same_place a b ≡ false → same_place b a ≡ fa
 same_back a b h = let g : same_place a b ≡ false = h in grind (arith, nat_tests, g)
 
 -- what is at a place of a list
-at_place : (p : Place) (ss : List (Place × Sent)) → AllByRecursion (λ s. s.0 ≡ p) (answers_at p ss)
+at_place : (p : Place) (ss : List (Place × ReplyView)) → AllByRecursion (λ s. s.0 ≡ p) (answers_at p ss)
 at_place p [] = tt
 at_place p (s ∷ ss) = by_test (same_place s.0 p) refl (at_place p ss)
   where
@@ -119,25 +119,25 @@ at_place p (s ∷ ss) = by_test (same_place s.0 p) refl (at_place p ss)
     by_test true is rest = (place_is s.0 p is, rest)
     by_test false is rest = rest
 
-said_turn : (p : Place) (ss : List (Place × Sent)) → AllByRecursion (λ s. s.0 ≡ p) ss → HaveTurn (discovery_turn p) (map discovery_sending ss)
+said_turn : (p : Place) (ss : List (Place × ReplyView)) → AllByRecursion (λ s. s.0 ≡ p) ss → HaveTurn (discovery_turn p) (map discovery_sending ss)
 said_turn p [] h = tt
 said_turn p (s ∷ ss) h = (ap discovery_turn h.0, said_turn p ss h.1)
 
-sent_turn : (p : Place) (rank : ℕ) (ss : List (Place × Sent)) → AllByRecursion (λ s. s.0 ≡ p) ss → HaveTurn (turn_at p rank kind.Answer) (map (sending_by rank) ss)
+sent_turn : (p : Place) (rank : ℕ) (ss : List (Place × ReplyView)) → AllByRecursion (λ s. s.0 ≡ p) ss → HaveTurn (turn_at p rank kind.Answer) (map (sending_by rank) ss)
 sent_turn p rank [] h = tt
 sent_turn p rank (s ∷ ss) h = (ap (λ q. turn_at q rank kind.Answer) h.0, sent_turn p rank ss h.1)
 
 -- an answer of the ranks below a count, at a place
-record IsRanked (p : Place) (n : ℕ) (s : Sending) : Type 0 where
+record IsRanked (p : Place) (n : ℕ) (s : AnswerView) : Type 0 where
   place : s.place ≡ p
   rank : ℕ
   is : s.rank ≡ Some rank
   below : rank < n
 
-of_turn : (p : Place) (rank n : ℕ) → rank < n → (s : Sending) → answer_turn s ≡ turn_at p rank kind.Answer → IsRanked p n s
+of_turn : (p : Place) (rank n : ℕ) → rank < n → (s : AnswerView) → answer_turn s ≡ turn_at p rank kind.Answer → IsRanked p n s
 of_turn p rank n less s e = record { place = ap (λ (t : Turn). t.place) e; rank = rank; is = ap (λ (t : Turn). t.rank) e; below = less }
 
-module _ (said : List (Place × Sent)) (sent : ℕ → List (Place × Sent)) where
+module _ (said : List (Place × ReplyView)) (sent : ℕ → List (Place × ReplyView)) where
   ranked : (p : Place) (n : ℕ) → AllByRecursion (IsRanked p n) (below said sent p n)
   ranked p zero = tt
   ranked p (suc n) =
@@ -160,31 +160,31 @@ module _ (said : List (Place × Sent)) (sent : ℕ → List (Place × Sent)) whe
       rises_then ahead (λ s. answer_turn s ≡ discovery_turn p) (IsRanked p n) (λ x y t r. discovery_first (answer_turn x) (answer_turn y) p r.rank t r.place r.is)
       first (below said sent p n) turns (ranked p n) (level_rises (discovery_turn p) first turns) (below_rises p n)
 
-  here_at : (p : Place) (n : ℕ) → AllByRecursion (λ (s : Sending). s.place ≡ p) (here said sent p n)
+  here_at : (p : Place) (n : ℕ) → AllByRecursion (λ (s : AnswerView). s.place ≡ p) (here said sent p n)
   here_at p n =
-      all_append (λ (s : Sending). s.place ≡ p) (map discovery_sending (answers_at p said)) (below said sent p n)
+      all_append (λ (s : AnswerView). s.place ≡ p) (map discovery_sending (answers_at p said)) (below said sent p n)
       (all_weaker (λ s. answer_turn s ≡ discovery_turn p) (λ s. s.place ≡ p) (map discovery_sending (answers_at p said)) (λ s e. ap (λ (t : Turn). t.place) e) (said_turn p (answers_at p said) (at_place p said)))
       (all_weaker (IsRanked p n) (λ s. s.place ≡ p) (below said sent p n) (λ s r. r.place) (ranked p n))
 
-  along_later : (n : ℕ) (p : Place) (ps : List Place) → AllByRecursion (λ q. not_after q p ≡ false) ps → AllByRecursion (λ (s : Sending). not_after s.place p ≡ false) (along said sent n ps)
+  along_later : (n : ℕ) (p : Place) (ps : List Place) → AllByRecursion (λ q. not_after q p ≡ false) ps → AllByRecursion (λ (s : AnswerView). not_after s.place p ≡ false) (along said sent n ps)
   along_later n p [] h = tt
   along_later n p (q ∷ qs) h =
-      all_append (λ (s : Sending). not_after s.place p ≡ false) (here said sent q n) (along said sent n qs)
-      (all_weaker (λ (s : Sending). s.place ≡ q) (λ s. not_after s.place p ≡ false) (here said sent q n) (λ s e. ap (λ r. not_after r p) e ∙ h.0) (here_at q n))
+      all_append (λ (s : AnswerView). not_after s.place p ≡ false) (here said sent q n) (along said sent n qs)
+      (all_weaker (λ (s : AnswerView). s.place ≡ q) (λ s. not_after s.place p ≡ false) (here said sent q n) (λ s e. ap (λ r. not_after r p) e ∙ h.0) (here_at q n))
       (along_later n p qs h.1)
 
   along_rises : (n : ℕ) (ps : List Place) → AreRising ps → Rises ahead (along said sent n ps)
   along_rises n [] up = tt
   along_rises n (p ∷ ps) up =
-      rises_then ahead (λ (s : Sending). s.place ≡ p) (λ s. not_after s.place p ≡ false) (λ x y e l. later x y p e l)
+      rises_then ahead (λ (s : AnswerView). s.place ≡ p) (λ s. not_after s.place p ≡ false) (λ x y e l. later x y p e l)
       (here said sent p n) (along said sent n ps) (here_at p n) (along_later n p ps up.0) (here_rises p n) (along_rises n ps up.1)
     where
-      later : (x y : Sending) (q : Place) → x.place ≡ q → not_after y.place q ≡ false → ahead y x ≡ false
+      later : (x y : AnswerView) (q : Place) → x.place ≡ q → not_after y.place q ≡ false → ahead y x ≡ false
       later x y q is h = rw (later_place x.place y.place (ap (not_after y.place) is ∙ h)) refl
 
 -- ---- what comes at one turn
 
-abbrev passes : Place → Option ℕ → Sending → Bool
+abbrev passes : Place → Option ℕ → AnswerView → Bool
 passes p by s = same_place s.place p && is_of s.rank by
 
 same_of : (a b : Bool) → (a ≡ true → b ≡ true) → (b ≡ true → a ≡ true) → a ≡ b
@@ -209,7 +209,7 @@ order_place a b h =
     ap (λ d. record { datagram = d; submessage = a.submessage }) e ∙ ap (λ s. record { datagram = b.datagram; submessage = s }) f
 
 -- two answers tie where they are of one place and of one rank
-tie_passes : (z s : Sending) → ties ahead z s ≡ passes z.place z.rank s
+tie_passes : (z s : AnswerView) → ties ahead z s ≡ passes z.place z.rank s
 tie_passes z s = same_of (ties ahead z s) (passes z.place z.rank s) forth back
   where
     forth : ties ahead z s ≡ true → passes z.place z.rank s ≡ true
@@ -231,38 +231,38 @@ and_yes : (a : Bool) → (a && true) ≡ a
 and_yes true = refl
 and_yes false = refl
 
-none_passes : {X : Type 0} (g : X → Sending) (p : Place) (by : Option ℕ) (xs : List X) → ((x : X) → is_of (g x).rank by ≡ false) → filter (passes p by) (map g xs) ≡ []
+none_passes : {X : Type 0} (g : X → AnswerView) (p : Place) (by : Option ℕ) (xs : List X) → ((x : X) → is_of (g x).rank by ≡ false) → filter (passes p by) (map g xs) ≡ []
 none_passes g p by [] none = refl
 none_passes g p by (x ∷ xs) none = rw (and_right (same_place (g x).place p) (is_of (g x).rank by) (none x)) (none_passes g p by xs none)
 
-said_pass : (p : Place) (ss : List (Place × Sent)) → filter (passes p None) (map discovery_sending ss) ≡ map discovery_sending (answers_at p ss)
+said_pass : (p : Place) (ss : List (Place × ReplyView)) → filter (passes p None) (map discovery_sending ss) ≡ map discovery_sending (answers_at p ss)
 said_pass p ss =
     filter-map (passes p None) discovery_sending ss
     ∙ ap (map discovery_sending) (filter_agree (λ s. passes p None (discovery_sending s)) (λ s. same_place s.0 p) (λ s. and_yes (same_place s.0 p)) ss)
 
-said_fail : (p : Place) (r : ℕ) (ss : List (Place × Sent)) → filter (passes p (Some r)) (map discovery_sending ss) ≡ []
+said_fail : (p : Place) (r : ℕ) (ss : List (Place × ReplyView)) → filter (passes p (Some r)) (map discovery_sending ss) ≡ []
 said_fail p r ss = none_passes discovery_sending p (Some r) ss (λ s. refl)
 
-sent_pass : (p : Place) (r : ℕ) (ss : List (Place × Sent)) → filter (passes p (Some r)) (map (sending_by r) ss) ≡ map (sending_by r) (answers_at p ss)
+sent_pass : (p : Place) (r : ℕ) (ss : List (Place × ReplyView)) → filter (passes p (Some r)) (map (sending_by r) ss) ≡ map (sending_by r) (answers_at p ss)
 sent_pass p r ss =
     filter-map (passes p (Some r)) (sending_by r) ss
     ∙ ap (map (sending_by r)) (filter_agree (λ s. passes p (Some r) (sending_by r s)) (λ s. same_place s.0 p) (λ s. ap (λ b. same_place s.0 p && b) (eq-eqb r r refl) ∙ and_yes (same_place s.0 p)) ss)
 
-sent_fail : (p : Place) (k r : ℕ) (ss : List (Place × Sent)) → (k == r) ≡ false → filter (passes p (Some r)) (map (sending_by k) ss) ≡ []
+sent_fail : (p : Place) (k r : ℕ) (ss : List (Place × ReplyView)) → (k == r) ≡ false → filter (passes p (Some r)) (map (sending_by k) ss) ≡ []
 sent_fail p k r ss differ = none_passes (sending_by k) p (Some r) ss (λ s. differ)
 
 -- what discovery, or the reader of a rank, sends at a place
-abbrev part : List (Place × Sent) → (ℕ → List (Place × Sent)) → Place → Option ℕ → List Sending
+abbrev part : List (Place × ReplyView) → (ℕ → List (Place × ReplyView)) → Place → Option ℕ → List AnswerView
 part said sent p None = map discovery_sending (answers_at p said)
 part said sent p (Some r) = map (sending_by r) (answers_at p (sent r))
 
 -- ---- of the outputs, one after the other
 
-module _ {V A : Type 0} (said : List (Place × Sent)) (p : Place) where
+module _ {V A : Type 0} (said : List (Place × ReplyView)) (p : Place) where
   outputs_fail : (outputs : List (ℕ × Output V A)) → filter (passes p None) (sends_of outputs) ≡ []
   outputs_fail [] = refl
   outputs_fail (o ∷ os) =
-      let first : List (Place × Sent) = map reader.answer_view o.1.answers.items in
+      let first : List (Place × ReplyView) = map reader.answer_view o.1.answers.items in
       filter-append (passes p None) (map (sending_by o.0) first) (sends_of os)
       ∙ ap (λ l. l ++ filter (passes p None) (sends_of os)) (none_passes (sending_by o.0) p None first (λ s. refl))
       ∙ outputs_fail os
@@ -274,16 +274,16 @@ module _ {V A : Type 0} (said : List (Place × Sent)) (p : Place) where
       ∙ ap (λ l. filter (passes p (Some r)) (map (sending_by o.0) first) ++ l) (outputs_pass os r)
       ∙ by_test (o.0 == r) refl
     where
-      first : List (Place × Sent)
+      first : List (Place × ReplyView)
       first = map reader.answer_view o.1.answers.items
 
-      rest : List Sending
+      rest : List AnswerView
       rest = map (sending_by r) (answers_at p (sent_by os r))
 
       by_test : (b : Bool) → (o.0 == r) ≡ b → filter (passes p (Some r)) (map (sending_by o.0) (map reader.answer_view o.1.answers.items)) ++ map (sending_by r) (answers_at p (sent_by os r))
           ≡ map (sending_by r) (answers_at p (if b then map reader.answer_view o.1.answers.items ++ sent_by os r else sent_by os r))
       by_test true e =
-          let xs : List (Place × Sent) = map reader.answer_view o.1.answers.items in
+          let xs : List (Place × ReplyView) = map reader.answer_view o.1.answers.items in
           let same : o.0 ≡ r = eqb-true o.0 r e in
           ap (λ k. filter (passes p (Some r)) (map (sending_by k) xs) ++ map (sending_by r) (answers_at p (sent_by os r))) same
           ∙ ap (λ l. l ++ map (sending_by r) (answers_at p (sent_by os r))) (sent_pass p r xs)
@@ -305,7 +305,7 @@ module _ {V A : Type 0} (said : List (Place × Sent)) (p : Place) where
 
 -- ---- of the parts, place by place
 
-module _ (said : List (Place × Sent)) (sent : ℕ → List (Place × Sent)) (p : Place) where
+module _ (said : List (Place × ReplyView)) (sent : ℕ → List (Place × ReplyView)) (p : Place) where
   below_fail : (n : ℕ) → filter (passes p None) (below said sent p n) ≡ []
   below_fail zero = refl
   below_fail (suc n) =
@@ -313,7 +313,7 @@ module _ (said : List (Place × Sent)) (sent : ℕ → List (Place × Sent)) (p 
       ∙ ap (λ l. l ++ filter (passes p None) (map (sending_by n) (answers_at p (sent n)))) (below_fail n)
       ∙ none_passes (sending_by n) p None (answers_at p (sent n)) (λ s. refl)
 
-  at_twice : (ss : List (Place × Sent)) → AllByRecursion (λ s. s.0 ≡ p) ss → answers_at p ss ≡ ss
+  at_twice : (ss : List (Place × ReplyView)) → AllByRecursion (λ s. s.0 ≡ p) ss → answers_at p ss ≡ ss
   at_twice [] h = refl
   at_twice (s ∷ ss) h =
       let here : same_place s.0 p ≡ true = ap (λ q. same_place q p) h.0 ∙ same_self p in
@@ -330,7 +330,7 @@ module _ (said : List (Place × Sent)) (sent : ℕ → List (Place × Sent)) (p 
   below_pass zero r less = absurd (omega (arith, less))
   below_pass (suc n) r less = filter-append (passes p (Some r)) (below said sent p n) (map (sending_by n) (answers_at p (sent n))) ∙ by_test (n == r) refl (λ fewer. below_pass n r fewer)
     where
-      last : List Sending
+      last : List AnswerView
       last = map (sending_by n) (answers_at p (sent n))
 
       by_test : (b : Bool) → (n == r) ≡ b → (r < n → filter (passes p (Some r)) (below said sent p n) ≡ map (sending_by r) (answers_at p (sent r)))
@@ -370,7 +370,7 @@ module _ (said : List (Place × Sent)) (sent : ℕ → List (Place × Sent)) (p 
   here_fail : (q : Place) (n : ℕ) (by : Option ℕ) → same_place q p ≡ false → filter (passes p by) (here said sent q n) ≡ []
   here_fail q n by other =
       filter_none (passes p by) (here said sent q n)
-      (all_weaker (λ (s : Sending). s.place ≡ q) (λ s. passes p by s ≡ false) (here said sent q n)
+      (all_weaker (λ (s : AnswerView). s.place ≡ q) (λ s. passes p by s ≡ false) (here said sent q n)
       (λ s e. ap (λ b. b && is_of s.rank by) (ap (λ r. same_place r p) e ∙ other)) (here_at said sent q n))
 
   along_fail : (n : ℕ) (by : Option ℕ) (ps : List Place) → list_any (same_place p) ps ≡ false → filter (passes p by) (along said sent n ps) ≡ []
@@ -395,7 +395,7 @@ module _ (said : List (Place × Sent)) (sent : ℕ → List (Place × Sent)) (p 
           ap (λ r. filter (passes p by) (here said sent r n) ++ filter (passes p by) (along said sent n qs)) (sym same)
           ∙ ap (λ l. filter (passes p by) (here said sent p n) ++ l)
           (filter_none (passes p by) (along said sent n qs)
-          (all_weaker (λ (s : Sending). not_after s.place q ≡ false) (λ s. passes p by s ≡ false) (along said sent n qs)
+          (all_weaker (λ (s : AnswerView). not_after s.place q ≡ false) (λ s. passes p by s ≡ false) (along said sent n qs)
           (λ s l. ap (λ b. b && is_of s.rank by) (not_later p s.place (ap (not_after s.place) same ∙ l))) (along_later said sent n q qs up.0)))
           ∙ append-nil (filter (passes p by) (here said sent p n))
       by_test false e some rest = ap (λ l. l ++ filter (passes p by) (along said sent n qs)) (here_fail q n by (same_back p q e)) ∙ rest some
@@ -403,7 +403,7 @@ module _ (said : List (Place × Sent)) (sent : ℕ → List (Place × Sent)) (p 
 -- ---- answers in order
 
 -- what isn't at a place among these isn't there
-not_there : (p : Place) (places : List Place) (ss : List (Place × Sent)) → AllByRecursion (λ s. list_any (same_place s.0) places ≡ true) ss → list_any (same_place p) places ≡ false → answers_at p ss ≡ []
+not_there : (p : Place) (places : List Place) (ss : List (Place × ReplyView)) → AllByRecursion (λ s. list_any (same_place s.0) places ≡ true) ss → list_any (same_place p) places ≡ false → answers_at p ss ≡ []
 not_there p places [] stand none = refl
 not_there p places (s ∷ ss) stand none = by_test (same_place s.0 p) refl (not_there p places ss stand.1 none)
   where
@@ -412,7 +412,7 @@ not_there p places (s ∷ ss) stand none = by_test (same_place s.0 p) refl (not_
     by_test false e rest = rest
 
 -- answers that were sorted by turn, out of discovery's and those of outputs, are those of the parts, merged
-pub sorted_merged : {V A : Type 0} (said : List (Place × Sent)) (outputs : List (ℕ × Output V A)) (n : ℕ) (places : List Place) (old new : List (Answer A))
+pub sorted_merged : {V A : Type 0} (said : List (Place × ReplyView)) (outputs : List (ℕ × Output V A)) (n : ℕ) (places : List Place) (old new : List (Answer A))
     → map answer_view old ≡ map discovery_sending said ++ sends_of outputs → IsSortedByKey turn_of turn_order new → IsStableByKey turn_of turn_order old new
     → ((r : ℕ) → n ≤ r → sent_by outputs r ≡ []) → AreRising places → StandAmong places said → ((rank : ℕ) → StandAmong places (sent_by outputs rank))
     → map answer_view new ≡ along said (sent_by outputs) n places
@@ -432,7 +432,7 @@ sorted_merged {V} {A} said outputs n places old new from sorted stable past up s
     merged_at p by true some = along_pass said (sent_by outputs) p n by places up some ∙ here_pass said (sent_by outputs) p n past by
     merged_at p by false none = along_fail said (sent_by outputs) p n by places none ∙ sym (absent p by none)
 
-    same : (z : Sending) → filter (ties ahead z) (map answer_view new) ≡ filter (ties ahead z) (along said (sent_by outputs) n places)
+    same : (z : AnswerView) → filter (ties ahead z) (map answer_view new) ≡ filter (ties ahead z) (along said (sent_by outputs) n places)
     same z =
         filter-map (ties ahead z) answer_view new
         ∙ ap (map answer_view) (stable_by by_turn old new stable (λ a. ties ahead z (answer_view a))

@@ -5,7 +5,7 @@ use Rattle.std.specs.List.Sorted.{IsSortedByKey, IsStableByKey}
 use Rattle.std.specs.declared.vec.Vec.{Vec}
 use Rattle.std.proofs.lemmas.Bool.{ne_eqb, or_from}
 use Rattle.rtps_types.specs.declared.place.Place.{Place}
-use Rattle.rtps_proxy.specs.Replies.{Sent}
+use Rattle.rtps_proxy.specs.Replies.{ReplyView}
 use Rattle.rtps_reader.specs.declared.notice.Notice.{Notice}
 use Rattle.rtps_reader.specs.declared.notice.Output.{Output}
 use Rattle.rtps_serial.specs.declared.outcome.Answer.{Answer}
@@ -50,7 +50,7 @@ module _ {V A : Type 0} (rest : Rest A) (outputs : List (ℕ × Output V A)) (fi
       ∙ ap (λ (v : Vec (Notice V) A). v.items) (untouched first outputs rank other (unplanned rest.ranks.items outputs is_right.known rank none))
       ∙ empty rank other inside
 
-  answers : (given : List (Place × Sent)) (places : List Place) → map answer_view said ≡ map discovery_sending given → All (λ rank. rank < rest.readers) rest.ranks.items
+  answers : (given : List (Place × ReplyView)) (places : List Place) → map answer_view said ≡ map discovery_sending given → All (λ rank. rank < rest.readers) rest.ranks.items
       → AreRising places → StandAmong places given → ((rank : ℕ) → StandAmong places (sent_by outputs rank))
       → map answer_view sorted ≡ answers_in (merged (parts_in given outputs) rest.readers places)
   answers given places are below up stand stands =

@@ -6,20 +6,20 @@ use Rattle.std.proofs.lemmas.Bool.Decides.{nat_tests}
 use Rattle.std.proofs.lemmas.List.{map-append}
 use Rattle.std.proofs.lemmas.List.Elements.{filter-append}
 use Rattle.rtps_types.specs.declared.place.Place.{Place}
-use Rattle.rtps_receiver.specs.Events.{Happening}
+use Rattle.rtps_receiver.specs.Events.{EventView}
 use Rattle.rtps_discovery.specs.Addressed.{is_addressed, is_discovery}
 use Rattle.rtps_discovery.specs.Changes.{ChangeAt}
 use Rattle.rtps_discovery.specs.Known.{Known, Wish, is_matched, reader_at}
 use Rattle.rtps_discovery.specs.Records.{answered, changes_by}
 use Rattle.dds_topic.specs.Decoding.{Decoding}
-use Rattle.rtps_proxy.specs.Replies.{Sent}
+use Rattle.rtps_proxy.specs.Replies.{ReplyView}
 use Rattle.rtps_reader.specs.declared.notice.Notice.{Notice}
 use Rattle.rtps_reader.specs.Reader.{Reader, placed, reader_after, reader_run, sends, tells}
-use Rattle.rtps_reader.specs.Steps.{Doing, asks_of}
+use Rattle.rtps_reader.specs.Steps.{StepView, asks_of}
 use Rattle.rtps_serial.specs.Presentation.{not_after}
 use Rattle.rtps_serial.specs.Seen.{reader_count}
 use Rattle.rtps_serial.specs.World as world
-use Rattle.rtps_serial.specs.World.{Put, Hears, World, addressed_to, answer_put, changes_for, discovery_puts, doing_of, doings, known_after_event, puts_at, puts_below, puts_run, world_after}
+use Rattle.rtps_serial.specs.World.{ReportView, NoticeOf, World, addressed_to, answer_put, changes_for, discovery_puts, doing_of, doings, known_after_event, puts_at, puts_below, puts_run, world_after}
 use Rattle.rtps_serial.proofs.Routed.{readers_stay}
 use Rattle.rtps_serial.proofs.Matched.{told_run}
 use Rattle.rtps_serial.proofs.OneOrder.{filter_none}
@@ -79,23 +79,23 @@ module _ {X : Type 0} (place : X → Place) where
 abbrev pub notice_place : {M : Type 0} → Notice M → Place
 notice_place n = n.place
 
-abbrev pub sent_place : Place × Sent → Place
+abbrev pub sent_place : Place × ReplyView → Place
 sent_place s = s.0
 
 -- ---- what an event brings is at its place
 
-pub told_here : {M : Type 0} (decoding : Decoding M) (place : Place) (r : Reader) (ds : List Doing) → AreAt (notice_place {M = M}) place (told_run decoding place r ds)
+pub told_here : {M : Type 0} (decoding : Decoding M) (place : Place) (r : Reader) (ds : List StepView) → AreAt (notice_place {M = M}) place (told_run decoding place r ds)
 told_here decoding place r [] = tt
 told_here decoding place r (d ∷ ds) = all_append (λ n. n.place ≡ place) (tells decoding r place d) (told_run decoding place (reader_after r d) ds) (tells_at decoding r place d) (told_here decoding place (reader_after r d) ds)
 
-pub sent_here : (place : Place) (r : Reader) (ds : List Doing) → AreAt sent_place place (sent_run place r ds)
+pub sent_here : (place : Place) (r : Reader) (ds : List StepView) → AreAt sent_place place (sent_run place r ds)
 sent_here place r [] = tt
-sent_here place r (d ∷ ds) = all_append (λ (s : Place × Sent). s.0 ≡ place) (sends r place d) (sent_run place (reader_after r d) ds) (sends_at r place d) (sent_here place (reader_after r d) ds)
+sent_here place r (d ∷ ds) = all_append (λ (s : Place × ReplyView). s.0 ≡ place) (sends r place d) (sent_run place (reader_after r d) ds) (sends_at r place d) (sent_here place (reader_after r d) ds)
 
-pub answer_here : (k : Known) (e : Happening) → AreAt sent_place e.place (discovery_answer k e)
+pub answer_here : (k : Known) (e : EventView) → AreAt sent_place e.place (discovery_answer k e)
 answer_here k e = by_test (is_discovery e.writer)
   where
-    by_answer : (o : Option Sent) → AreAt sent_place e.place (placed e.place o)
+    by_answer : (o : Option ReplyView) → AreAt sent_place e.place (placed e.place o)
     by_answer None = tt
     by_answer (Some s) = (refl, tt)
 
@@ -103,12 +103,12 @@ answer_here k e = by_test (is_discovery e.writer)
     by_test true = by_answer (answered k e)
     by_test false = tt
 
-abbrev EventsAfter : Place → List Happening → Type 0
-EventsAfter p es = AllByRecursion (λ (d : Happening). not_after d.place p ≡ false) es
+abbrev EventsAfter : Place → List EventView → Type 0
+EventsAfter p es = AllByRecursion (λ (d : EventView). not_after d.place p ≡ false) es
 
 -- ---- what later events bring is after it
 
-pub told_after : {M : Type 0} (decoding : Decoding M) (p : Place) (rank : ℕ) (k : Known) (r : Reader) (es : List Happening) → EventsAfter p es → AreAfter (notice_place {M = M}) p (job_told decoding r (job_of rank k es))
+pub told_after : {M : Type 0} (decoding : Decoding M) (p : Place) (rank : ℕ) (k : Known) (r : Reader) (es : List EventView) → EventsAfter p es → AreAfter (notice_place {M = M}) p (job_told decoding r (job_of rank k es))
 told_after decoding p rank k r [] h = tt
 told_after {M} decoding p rank k r (e ∷ es) h =
     let after = known_after_event k e in
@@ -117,7 +117,7 @@ told_after {M} decoding p rank k r (e ∷ es) h =
     (front_after (notice_place {M = M}) e.place p (told_run decoding e.place r ds) (job_told decoding (reader_run r ds) (job_of rank after es)) (told_here decoding e.place r ds) h.0
     (told_after decoding p rank after (reader_run r ds) es h.1))
 
-pub sent_after : (p : Place) (rank : ℕ) (k : Known) (r : Reader) (es : List Happening) → EventsAfter p es → AreAfter sent_place p (job_sent r (job_of rank k es))
+pub sent_after : (p : Place) (rank : ℕ) (k : Known) (r : Reader) (es : List EventView) → EventsAfter p es → AreAfter sent_place p (job_sent r (job_of rank k es))
 sent_after p rank k r [] h = tt
 sent_after p rank k r (e ∷ es) h =
     let after = known_after_event k e in
@@ -126,15 +126,15 @@ sent_after p rank k r (e ∷ es) h =
     (front_after sent_place e.place p (sent_run e.place r ds) (job_sent (reader_run r ds) (job_of rank after es)) (sent_here e.place r ds) h.0
     (sent_after p rank after (reader_run r ds) es h.1))
 
-pub answers_after : (p : Place) (k : Known) (es : List Happening) → EventsAfter p es → AreAfter sent_place p (discovery_answers k es)
+pub answers_after : (p : Place) (k : Known) (es : List EventView) → EventsAfter p es → AreAfter sent_place p (discovery_answers k es)
 answers_after p k [] h = tt
 answers_after p k (e ∷ es) h = front_after sent_place e.place p (discovery_answer k e) (discovery_answers (known_after_event k e) es) (answer_here k e) h.0 (answers_after p (known_after_event k e) es h.1)
 
 -- ---- what a reader puts out at an event: its notices, and then its answer
 
 module _ {M : Type 0} (decoding : Decoding M) (place : Place) (rank : ℕ) where
-  abbrev IsSplit : Reader → List Doing → Type 0
-  IsSplit r ds = puts_run decoding place rank r ds ≡ map (Hears rank) (told_run decoding place r ds) ++ map (world.sent_by rank) (sent_run place r ds)
+  abbrev IsSplit : Reader → List StepView → Type 0
+  IsSplit r ds = puts_run decoding place rank r ds ≡ map (NoticeOf rank) (told_run decoding place r ds) ++ map (world.sent_by rank) (sent_run place r ds)
 
   -- a change of what is known is not answered
   unanswered : (r : Reader) (cs : List ChangeAt) → sent_run place r (map (λ (c : ChangeAt). doing_of c.what) cs) ≡ []
@@ -142,30 +142,30 @@ module _ {M : Type 0} (decoding : Decoding M) (place : Place) (rank : ℕ) where
   unanswered r (c ∷ cs) = ap (λ l. l ++ sent_run place (reader_after r (doing_of c.what)) (map (λ (c : ChangeAt). doing_of c.what) cs)) (no_answer decoding place rank r c.what) ∙ unanswered (reader_after r (doing_of c.what)) cs
 
   heard_alone : (r : Reader) (cs : List ChangeAt)
-      → puts_run decoding place rank r (map (λ (c : ChangeAt). doing_of c.what) cs) ≡ map (Hears rank) (told_run decoding place r (map (λ (c : ChangeAt). doing_of c.what) cs))
+      → puts_run decoding place rank r (map (λ (c : ChangeAt). doing_of c.what) cs) ≡ map (NoticeOf rank) (told_run decoding place r (map (λ (c : ChangeAt). doing_of c.what) cs))
   heard_alone r [] = refl
   heard_alone r (c ∷ cs) =
       let d = doing_of c.what in
       let rest = map (λ (c : ChangeAt). doing_of c.what) cs in
       let told = tells decoding r place d in
-      ap (λ ss. (map (Hears rank) told ++ map (world.sent_by rank) ss) ++ puts_run decoding place rank (reader_after r d) rest) (no_answer decoding place rank r c.what)
-      ∙ ap (λ l. l ++ puts_run decoding place rank (reader_after r d) rest) (append-nil (map (Hears rank) told))
-      ∙ ap (λ l. map (Hears rank) told ++ l) (heard_alone (reader_after r d) cs)
-      ∙ sym (map-append (Hears rank) told (told_run decoding place (reader_after r d) rest))
+      ap (λ ss. (map (NoticeOf rank) told ++ map (world.sent_by rank) ss) ++ puts_run decoding place rank (reader_after r d) rest) (no_answer decoding place rank r c.what)
+      ∙ ap (λ l. l ++ puts_run decoding place rank (reader_after r d) rest) (append-nil (map (NoticeOf rank) told))
+      ∙ ap (λ l. map (NoticeOf rank) told ++ l) (heard_alone (reader_after r d) cs)
+      ∙ sym (map-append (NoticeOf rank) told (told_run decoding place (reader_after r d) rest))
 
   changes_split : (r : Reader) (cs : List ChangeAt) → IsSplit r (map (λ (c : ChangeAt). doing_of c.what) cs)
   changes_split r cs =
       heard_alone r cs
-      ∙ sym (append-nil (map (Hears rank) (told_run decoding place r (map (λ (c : ChangeAt). doing_of c.what) cs))))
-      ∙ ap (λ ss. map (Hears rank) (told_run decoding place r (map (λ (c : ChangeAt). doing_of c.what) cs)) ++ map (world.sent_by rank) ss) (sym (unanswered r cs))
+      ∙ sym (append-nil (map (NoticeOf rank) (told_run decoding place r (map (λ (c : ChangeAt). doing_of c.what) cs))))
+      ∙ ap (λ ss. map (NoticeOf rank) (told_run decoding place r (map (λ (c : ChangeAt). doing_of c.what) cs)) ++ map (world.sent_by rank) ss) (sym (unanswered r cs))
 
-  one_split : (r : Reader) (d : Doing) → IsSplit r (d ∷ [])
+  one_split : (r : Reader) (d : StepView) → IsSplit r (d ∷ [])
   one_split r d =
       append-nil (puts_at decoding place rank r d)
-      ∙ ap (λ l. map (Hears rank) l ++ map (world.sent_by rank) (sends r place d)) (sym (append-nil (tells decoding r place d)))
-      ∙ ap (λ l. map (Hears rank) (told_run decoding place r (d ∷ [])) ++ map (world.sent_by rank) l) (sym (append-nil (sends r place d)))
+      ∙ ap (λ l. map (NoticeOf rank) l ++ map (world.sent_by rank) (sends r place d)) (sym (append-nil (tells decoding r place d)))
+      ∙ ap (λ l. map (NoticeOf rank) (told_run decoding place r (d ∷ [])) ++ map (world.sent_by rank) l) (sym (append-nil (sends r place d)))
 
-event_split : {M : Type 0} (decoding : Decoding M) (k : Known) (rank : ℕ) (r : Reader) (e : Happening) → IsSplit decoding e.place rank r (doings k rank e)
+event_split : {M : Type 0} (decoding : Decoding M) (k : Known) (rank : ℕ) (r : Reader) (e : EventView) → IsSplit decoding e.place rank r (doings k rank e)
 event_split {M} decoding k rank r e = by_kind (is_discovery e.writer)
   where
     by_test : (b : Bool) → IsSplit decoding e.place rank r (if b then asks_of e ∷ [] else [])
@@ -181,10 +181,10 @@ event_split {M} decoding k rank r e = by_kind (is_discovery e.writer)
     by_kind false = by_wish (reader_at k.readers rank)
 
 -- and discovery's answer
-answer_puts : (M : Type 0) (k : Known) (e : Happening) → map (discovery_sends {M = M}) (discovery_answer k e) ≡ discovery_puts k e
+answer_puts : (M : Type 0) (k : Known) (e : EventView) → map (discovery_sends {M = M}) (discovery_answer k e) ≡ discovery_puts k e
 answer_puts M k e = by_test (is_discovery e.writer)
   where
-    by_answer : (o : Option Sent) → map (discovery_sends {M = M}) (placed e.place o) ≡ answer_put e.place o
+    by_answer : (o : Option ReplyView) → map (discovery_sends {M = M}) (placed e.place o) ≡ answer_put e.place o
     by_answer None = refl
     by_answer (Some s) = refl
 
@@ -194,7 +194,7 @@ answer_puts M k e = by_test (is_discovery e.writer)
 
 -- ---- the parts of a run that begins with an event
 
-module _ {M : Type 0} (decoding : Decoding M) (k : Known) (readers : ℕ → Reader) (e : Happening) (es : List Happening) where
+module _ {M : Type 0} (decoding : Decoding M) (k : Known) (readers : ℕ → Reader) (e : EventView) (es : List EventView) where
   abbrev after : Known
   after = known_after_event k e
 
@@ -220,10 +220,10 @@ module _ {M : Type 0} (decoding : Decoding M) (k : Known) (readers : ℕ → Rea
       let ds = doings k n e in
       let told = told_run decoding e.place (readers n) ds in
       let sent = sent_run e.place (readers n) ds in
-      ap (λ l. l ++ (map (Hears n) (notices_at e.place (all.told n)) ++ map (world.sent_by n) (answers_at e.place (all.sent n)))) (below_here n h)
-      ∙ ap (λ l. puts_below decoding k e readers n ++ (map (Hears n) l ++ map (world.sent_by n) (answers_at e.place (all.sent n))))
+      ap (λ l. l ++ (map (NoticeOf n) (notices_at e.place (all.told n)) ++ map (world.sent_by n) (answers_at e.place (all.sent n)))) (below_here n h)
+      ∙ ap (λ l. puts_below decoding k e readers n ++ (map (NoticeOf n) l ++ map (world.sent_by n) (answers_at e.place (all.sent n))))
       (ap (notices_at e.place) (told_all n) ∙ front_here (notice_place {M = M}) e.place told (rest.told n) (told_here decoding e.place (readers n) ds) (told_after decoding e.place n after (stepped n) es h))
-      ∙ ap (λ l. puts_below decoding k e readers n ++ (map (Hears n) told ++ map (world.sent_by n) l))
+      ∙ ap (λ l. puts_below decoding k e readers n ++ (map (NoticeOf n) told ++ map (world.sent_by n) l))
       (ap (answers_at e.place) (sent_all n) ∙ front_here sent_place e.place sent (rest.sent n) (sent_here e.place (readers n) ds) (sent_after e.place n after (stepped n) es h))
       ∙ ap (λ l. puts_below decoding k e readers n ++ l) (sym (event_split decoding k n (readers n) e))
 
@@ -235,34 +235,34 @@ module _ {M : Type 0} (decoding : Decoding M) (k : Known) (readers : ℕ → Rea
   below_there p zero h = refl
   below_there p (suc n) h =
       let ds = doings k n e in
-      ap (λ l. l ++ (map (Hears n) (notices_at p (all.told n)) ++ map (world.sent_by n) (answers_at p (all.sent n)))) (below_there p n h)
-      ∙ ap (λ l. merged_below p rest n ++ (map (Hears n) l ++ map (world.sent_by n) (answers_at p (all.sent n))))
+      ap (λ l. l ++ (map (NoticeOf n) (notices_at p (all.told n)) ++ map (world.sent_by n) (answers_at p (all.sent n)))) (below_there p n h)
+      ∙ ap (λ l. merged_below p rest n ++ (map (NoticeOf n) l ++ map (world.sent_by n) (answers_at p (all.sent n))))
       (ap (notices_at p) (told_all n) ∙ front_there (notice_place {M = M}) e.place p (told_run decoding e.place (readers n) ds) (rest.told n) (told_here decoding e.place (readers n) ds) h)
-      ∙ ap (λ l. merged_below p rest n ++ (map (Hears n) (notices_at p (rest.told n)) ++ map (world.sent_by n) l))
+      ∙ ap (λ l. merged_below p rest n ++ (map (NoticeOf n) (notices_at p (rest.told n)) ++ map (world.sent_by n) l))
       (ap (answers_at p) (sent_all n) ∙ front_there sent_place e.place p (sent_run e.place (readers n) ds) (rest.sent n) (sent_here e.place (readers n) ds) h)
 
-  merged_there : (count : ℕ) (ds : List Happening) → EventsAfter e.place ds → merged all count (map (λ (d : Happening). d.place) ds) ≡ merged rest count (map (λ (d : Happening). d.place) ds)
+  merged_there : (count : ℕ) (ds : List EventView) → EventsAfter e.place ds → merged all count (map (λ (d : EventView). d.place) ds) ≡ merged rest count (map (λ (d : EventView). d.place) ds)
   merged_there count [] h = refl
   merged_there count (d ∷ ds) h =
-      let places = map (λ (d : Happening). d.place) ds in
+      let places = map (λ (d : EventView). d.place) ds in
       ap (λ l. (map discovery_sends l ++ merged_below d.place all count) ++ merged all count places) (front_there sent_place e.place d.place (discovery_answer k e) (discovery_answers after es) (answer_here k e) h.0)
       ∙ ap (λ l. (map discovery_sends (answers_at d.place rest.answers) ++ l) ++ merged all count places) (below_there d.place count h.0)
       ∙ ap (λ l. (map discovery_sends (answers_at d.place rest.answers) ++ merged_below d.place rest count) ++ l) (merged_there count ds h.1)
 
   merged_first : (count : ℕ) → EventsAfter e.place es
-      → merged all count (map (λ (d : Happening). d.place) (e ∷ es)) ≡ (discovery_puts k e ++ puts_below decoding k e readers count) ++ merged rest count (map (λ (d : Happening). d.place) es)
+      → merged all count (map (λ (d : EventView). d.place) (e ∷ es)) ≡ (discovery_puts k e ++ puts_below decoding k e readers count) ++ merged rest count (map (λ (d : EventView). d.place) es)
   merged_first count h =
-      let places = map (λ (d : Happening). d.place) es in
+      let places = map (λ (d : EventView). d.place) es in
       ap (λ l. (l ++ merged_below e.place all count) ++ merged all count places) (answer_first h)
       ∙ ap (λ l. (discovery_puts k e ++ l) ++ merged all count places) (below_here count h)
       ∙ ap (λ l. (discovery_puts k e ++ puts_below decoding k e readers count) ++ l) (merged_there count es h)
 
-pub by_places : {M : Type 0} (decoding : Decoding M) (w : World M) (es : List Happening) → PlacesRise es → IsByPlace decoding w es
+pub by_places : {M : Type 0} (decoding : Decoding M) (w : World M) (es : List EventView) → PlacesRise es → IsByPlace decoding w es
 by_places decoding w [] h = sym (append-nil w.put)
 by_places decoding w (e ∷ es) h =
     let next = world_after decoding w e in
     let count = reader_count w in
-    let places = map (λ (d : Happening). d.place) es in
+    let places = map (λ (d : EventView). d.place) es in
     let here = discovery_puts w.known e ++ puts_below decoding w.known e w.readers count in
     let more = parts_of decoding next.known next.readers es in
     by_places decoding next es h.1

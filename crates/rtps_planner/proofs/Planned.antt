@@ -9,7 +9,7 @@ use Rattle.std.proofs.lemmas.List.{get_or-replicate, length-replicate, map-appen
 use Rattle.std.proofs.lemmas.List.Elements.{filter-append}
 use Rattle.std.proofs.lemmas.Option.{slice_get-get_or}
 use Rattle.rtps_types.specs.declared.place.Place.{Place}
-use Rattle.rtps_receiver.specs.Events.{Happening}
+use Rattle.rtps_receiver.specs.Events.{EventView}
 use Rattle.rtps_discovery.specs.declared.changes.MatchChange.{MatchChange}
 use Rattle.rtps_discovery.specs.Changes.{ChangeAt}
 use Rattle.rtps_discovery.specs.Seen.{change_seen}
@@ -18,7 +18,7 @@ use Rattle.rtps_discovery.specs.Kept.{matched_ranks}
 use Rattle.rtps_discovery.specs.Known.{Known, Wish, is_fixed, is_matched, reader_at, writer_at}
 use Rattle.rtps_discovery.specs.Records.{answered, changes_by}
 use Rattle.rtps_reader.specs.Reader.{placed}
-use Rattle.rtps_reader.specs.Steps.{Doing, asks_of}
+use Rattle.rtps_reader.specs.Steps.{StepView, asks_of}
 use Rattle.rtps_serial.specs.Steps.{ReaderStep, step_by}
 use Rattle.rtps_serial.proofs.Hearing.{announced_doings, asked_from}
 use Rattle.rtps_serial.specs.World.{addressed_to, changes_for, doing_of, doings}
@@ -27,12 +27,12 @@ use Rattle.rtps_planner.specs.Job.{Job, discovery_answer}
 use Rattle.rtps_planner.specs.Plan.{Grow, asked_of, is_named, step_seen, steps_seen, taken_at}
 
 -- one step more, where the test says that it is of the rank
-pub step_more : {A : Type 0} (es : List Happening) (b : Bool) (old new : List (PlannedStep A)) (s : PlannedStep A) → new ≡ (if b then old ++ s ∷ [] else old)
+pub step_more : {A : Type 0} (es : List EventView) (b : Bool) (old new : List (PlannedStep A)) (s : PlannedStep A) → new ≡ (if b then old ++ s ∷ [] else old)
     → steps_seen es new ≡ steps_seen es old ++ (if b then step_seen es s else [])
 step_more es true old new s e = ap (steps_seen es) e ∙ flat_map-append (step_seen es) old (s ∷ []) ∙ ap (λ l. steps_seen es old ++ l) (append-nil (step_seen es s))
 step_more es false old new s e = ap (steps_seen es) e ∙ sym (append-nil (steps_seen es old))
 
-pub grow_by_step : {A : Type 0} (es : List Happening) (old new : List (Vec (PlannedStep A) A)) (rank : ℕ) (s : PlannedStep A) → length new ≡ length old
+pub grow_by_step : {A : Type 0} (es : List EventView) (old new : List (Vec (PlannedStep A) A)) (rank : ℕ) (s : PlannedStep A) → length new ≡ length old
     → ((at : ℕ) (other : Vec (PlannedStep A) A) → at < length old → (get_or new at other).items ≡ (if rank == at then (get_or old at other).items ++ s ∷ [] else (get_or old at other).items))
     → Grow es old new (λ at. if rank == at then step_seen es s else [])
 grow_by_step es old new rank s count pushed = record {
@@ -41,13 +41,13 @@ grow_by_step es old new rank s count pushed = record {
 }
 
 -- nothing is added, and more is
-pub grow_not : {A : Type 0} (es : List Happening) (old : List (Vec (PlannedStep A) A)) (added : ℕ → Job) → ((rank : ℕ) → added rank ≡ []) → Grow es old old added
+pub grow_not : {A : Type 0} (es : List EventView) (old : List (Vec (PlannedStep A) A)) (added : ℕ → Job) → ((rank : ℕ) → added rank ≡ []) → Grow es old old added
 grow_not es old added none = record {
   count = refl;
   steps = λ rank other below. sym (ap (λ l. steps_seen es (get_or old rank other).items ++ l) (none rank) ∙ append-nil (steps_seen es (get_or old rank other).items));
 }
 
-pub grow_more : {A : Type 0} (es : List Happening) (old mid new : List (Vec (PlannedStep A) A)) (first more all : ℕ → Job) → ((rank : ℕ) → first rank ++ more rank ≡ all rank)
+pub grow_more : {A : Type 0} (es : List EventView) (old mid new : List (Vec (PlannedStep A) A)) (first more all : ℕ → Job) → ((rank : ℕ) → first rank ++ more rank ≡ all rank)
     → Grow es old mid first → Grow es mid new more → Grow es old new all
 grow_more es old mid new first more all same one two = record {
   count = two.count ∙ one.count;
@@ -68,7 +68,7 @@ front place rank b d xs =
     (if b then change_seen d ∷ filter (λ (c : ChangeAt). c.rank == rank) (map change_seen xs) else filter (λ (c : ChangeAt). c.rank == rank) (map change_seen xs)))
 
 -- one change more
-pub change_more : {A : Type 0} (es : List Happening) (e : Happening) (event : ℕ) (changes : List (MatchChange A)) (c : MatchChange A) (s : PlannedStep A) (rank : ℕ)
+pub change_more : {A : Type 0} (es : List EventView) (e : EventView) (event : ℕ) (changes : List (MatchChange A)) (c : MatchChange A) (s : PlannedStep A) (rank : ℕ)
     → step_seen es s ≡ (e.place, doing_of (change_seen c).what) ∷ []
     → changes_asked_at e.place changes rank ++ (if c.rank == rank then step_seen es s else []) ≡ changes_asked_at e.place (changes ++ c ∷ []) rank
 change_more {A} es e event [] c s rank is = by_test (c.rank == rank)
@@ -83,26 +83,26 @@ change_more {A} es e event (d ∷ ds) c s rank is = by_test (d.rank == rank) (ch
     by_test false rest = rest
 
 -- a step, by its event
-abbrev one_step : {A : Type 0} → PlannedStep A → Option Happening → Job
+abbrev one_step : {A : Type 0} → PlannedStep A → Option EventView → Job
 one_step s o = option_to_list (option_map (λ e. (e.place, asked_of e s.change)) o)
 
-pub step_at : {A : Type 0} (es : List Happening) (e : Happening) (s : PlannedStep A) → slice_get es s.event ≡ Some e → step_seen es s ≡ (e.place, asked_of e s.change) ∷ []
+pub step_at : {A : Type 0} (es : List EventView) (e : EventView) (s : PlannedStep A) → slice_get es s.event ≡ Some e → step_seen es s ≡ (e.place, asked_of e s.change) ∷ []
 step_at es e s is = ap (one_step s) is
 
 -- ---- an event, for the readers of some ranks
 
-abbrev pub taken : Happening → Place × Doing
+abbrev pub taken : EventView → Place × StepView
 taken e = (e.place, asks_of e)
 
 -- one rank more
-pub rank_more : (e : Happening) (readers : List (Option Wish)) (ranks : List ℕ) (r : ℕ) (rank : ℕ)
+pub rank_more : (e : EventView) (readers : List (Option Wish)) (ranks : List ℕ) (r : ℕ) (rank : ℕ)
     → taken_at e readers ranks rank ++ taken_at e readers (r ∷ []) rank ≡ taken_at e readers (ranks ++ r ∷ []) rank
 rank_more e readers ranks r rank =
     let p : ℕ → Bool = λ r. is_named e.reader (reader_at readers r) in
     let step : ℕ → ReaderStep = λ r. step_by r (asks_of e) in
     let own : ReaderStep → Bool = λ s. s.rank == rank in
-    let what : ReaderStep → Doing = λ s. s.what in
-    let at : Doing → Place × Doing = λ what. (e.place, what) in
+    let what : ReaderStep → StepView = λ s. s.what in
+    let at : StepView → Place × StepView = λ what. (e.place, what) in
     sym (
     ap (λ l. map at (map what (filter own (map step l)))) (filter-append p ranks (r ∷ []))
     ∙ ap (λ l. map at (map what (filter own l))) (map-append step (filter p ranks) (filter p (r ∷ [])))
@@ -112,7 +112,7 @@ rank_more e readers ranks r rank =
     )
 
 -- a rank that is named, and one that isn't
-pub rank_named : (e : Happening) (readers : List (Option Wish)) (r : ℕ) (rank : ℕ) → is_named e.reader (reader_at readers r) ≡ true
+pub rank_named : (e : EventView) (readers : List (Option Wish)) (r : ℕ) (rank : ℕ) → is_named e.reader (reader_at readers r) ≡ true
     → (if r == rank then taken e ∷ [] else []) ≡ taken_at e readers (r ∷ []) rank
 rank_named e readers r rank is = rw is (by_test (r == rank))
   where
@@ -120,7 +120,7 @@ rank_named e readers r rank is = rw is (by_test (r == rank))
     by_test true = refl
     by_test false = refl
 
-pub rank_unnamed : (e : Happening) (readers : List (Option Wish)) (r : ℕ) (rank : ℕ) → is_named e.reader (reader_at readers r) ≡ false → taken_at e readers (r ∷ []) rank ≡ []
+pub rank_unnamed : (e : EventView) (readers : List (Option Wish)) (r : ℕ) (rank : ℕ) → is_named e.reader (reader_at readers r) ≡ false → taken_at e readers (r ∷ []) rank ≡ []
 rank_unnamed e readers r rank is = rw is refl
 
 -- a reader that is looked up, and none
@@ -136,7 +136,7 @@ reader_past (r ∷ rs) (suc rank) past = reader_past rs rank (omega (arith, past
 
 -- ---- what discovery asks of the reader of a rank
 
-if_matched : (k : Known) (rank : ℕ) (e : Happening) (o : Option Wish) → is_discovery e.writer ≡ false
+if_matched : (k : Known) (rank : ℕ) (e : EventView) (o : Option Wish) → is_discovery e.writer ≡ false
     → (if is_matched k rank (writer_of e) && is_named e.reader o then asks_of e ∷ [] else []) ≡ addressed_to k rank e o
 if_matched k rank e None others = by_test (is_matched k rank (writer_of e))
   where
@@ -146,7 +146,7 @@ if_matched k rank e None others = by_test (is_matched k rank (writer_of e))
 if_matched k rank e (Some r) others = rw others refl
 
 -- an event is taken by the readers that are matched with its writer and named by it
-pub event_asked : (k : Known) (e : Happening) (rank : ℕ) → is_discovery e.writer ≡ false → rank < length k.readers
+pub event_asked : (k : Known) (e : EventView) (rank : ℕ) → is_discovery e.writer ≡ false → rank < length k.readers
     → taken_at e k.readers (matched_ranks k (writer_of e)) rank ≡ map (λ what. (e.place, what)) (doings k rank e)
 event_asked k e rank others below =
     ap (map (λ what. (e.place, what)))
@@ -158,27 +158,27 @@ event_asked k e rank others below =
     by_event h = rw h refl
 
 -- and an announcement by those that hear of a change
-pub changes_asked : {A : Type 0} (k : Known) (e : Happening) (changes : List (MatchChange A)) (rank : ℕ) → is_discovery e.writer ≡ true → map change_seen changes ≡ changes_by k e
+pub changes_asked : {A : Type 0} (k : Known) (e : EventView) (changes : List (MatchChange A)) (rank : ℕ) → is_discovery e.writer ≡ true → map change_seen changes ≡ changes_by k e
     → changes_asked_at e.place changes rank ≡ map (λ what. (e.place, what)) (doings k rank e)
 changes_asked k e changes rank is heard = ap (map (λ what. (e.place, what))) (ap (changes_for rank) heard ∙ sym (announced_doings k rank e is))
 
 -- the same is added, by each rank that there is
-pub grow_same : {A : Type 0} (es : List Happening) (old new : List (Vec (PlannedStep A) A)) (added other : ℕ → Job) → ((rank : ℕ) → rank < length old → added rank ≡ other rank) → Grow es old new added → Grow es old new other
+pub grow_same : {A : Type 0} (es : List EventView) (old new : List (Vec (PlannedStep A) A)) (added other : ℕ → Job) → ((rank : ℕ) → rank < length old → added rank ≡ other rank) → Grow es old new added → Grow es old new other
 grow_same es old new added other same grows = record {
   count = grows.count;
   steps = λ rank o below. grows.steps rank o below ∙ ap (λ l. steps_seen es (get_or old rank o).items ++ l) (same rank below);
 }
 
 -- what discovery answers to an announcement, and to no other event
-pub announced_answer : (k : Known) (e : Happening) → is_discovery e.writer ≡ true → discovery_answer k e ≡ placed e.place (answered k e)
+pub announced_answer : (k : Known) (e : EventView) → is_discovery e.writer ≡ true → discovery_answer k e ≡ placed e.place (answered k e)
 announced_answer k e is = rw is refl
 
-pub no_answer : (k : Known) (e : Happening) → is_discovery e.writer ≡ false → discovery_answer k e ≡ []
+pub no_answer : (k : Known) (e : EventView) → is_discovery e.writer ≡ false → discovery_answer k e ≡ []
 no_answer k e others = rw others refl
 
 -- a list that has an event at an index
-abbrev pub list_to : ℕ → Happening → List Happening
+abbrev pub list_to : ℕ → EventView → List EventView
 list_to i e = replicate (i + 1) e
 
-pub there_is : (i : ℕ) (e : Happening) → slice_get (list_to i e) i ≡ Some e
+pub there_is : (i : ℕ) (e : EventView) → slice_get (list_to i e) i ≡ Some e
 there_is i e = slice_get-get_or (list_to i e) i e (omega (arith, length-replicate (i + 1) e)) ∙ ap Some (get_or-replicate (i + 1) i e e (omega arith))

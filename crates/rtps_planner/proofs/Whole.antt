@@ -6,8 +6,8 @@ use Rattle.std.specs.declared.vec.Vec.{Vec}
 use Rattle.std.proofs.Math.Seq.{get_or-append_seam}
 use Rattle.std.proofs.lemmas.List.{get_or_append_left, length-append, length-map, length-replicate, map-append, map_push, nil_from_length}
 use Rattle.std.proofs.lemmas.Option.{slice_get-get_or}
-use Rattle.rtps_receiver.specs.Events.{Happening}
-use Rattle.rtps_discovery.specs.Kept.{IsKnown, Kept}
+use Rattle.rtps_receiver.specs.Events.{EventView}
+use Rattle.rtps_discovery.specs.Kept.{IsKnown, HeldView}
 use Rattle.rtps_discovery.specs.Known.{Known}
 use Rattle.rtps_serial.specs.World.{doings, known_after_event}
 use Rattle.rtps_serial.proofs.Routed.{readers_stay}
@@ -20,11 +20,11 @@ use Rattle.rtps_planner.proofs.Planned.{step_at}
 
 -- ---- one event more
 
-pub known_more : (k : Known) (es : List Happening) (e : Happening) → known_after_events k (es ++ e ∷ []) ≡ known_after_event (known_after_events k es) e
+pub known_more : (k : Known) (es : List EventView) (e : EventView) → known_after_events k (es ++ e ∷ []) ≡ known_after_event (known_after_events k es) e
 known_more k [] e = refl
 known_more k (d ∷ es) e = known_more (known_after_event k d) es e
 
-pub job_more : (rank : ℕ) (k : Known) (es : List Happening) (e : Happening)
+pub job_more : (rank : ℕ) (k : Known) (es : List EventView) (e : EventView)
     → job_of rank k (es ++ e ∷ []) ≡ job_of rank k es ++ map (λ what. (e.place, what)) (doings (known_after_events k es) rank e)
 job_more rank k [] e = append-nil (map (λ what. (e.place, what)) (doings k rank e))
 job_more rank k (d ∷ es) e =
@@ -33,26 +33,26 @@ job_more rank k (d ∷ es) e =
     ap (λ l. here ++ l) (job_more rank after es e)
     ∙ sym (append_assoc here (job_of rank after es) (map (λ what. (e.place, what)) (doings (known_after_events after es) rank e)))
 
-pub answers_more : (k : Known) (es : List Happening) (e : Happening) → discovery_answers k (es ++ e ∷ []) ≡ discovery_answers k es ++ discovery_answer (known_after_events k es) e
+pub answers_more : (k : Known) (es : List EventView) (e : EventView) → discovery_answers k (es ++ e ∷ []) ≡ discovery_answers k es ++ discovery_answer (known_after_events k es) e
 answers_more k [] e = append-nil (discovery_answer k e)
 answers_more k (d ∷ es) e =
     let after = known_after_event k d in
     ap (λ l. discovery_answer k d ++ l) (answers_more after es e)
     ∙ sym (append_assoc (discovery_answer k d) (discovery_answers after es) (discovery_answer (known_after_events after es) e))
 
-pub readers_stay_all : (k : Known) (es : List Happening) → (known_after_events k es).readers ≡ k.readers
+pub readers_stay_all : (k : Known) (es : List EventView) → (known_after_events k es).readers ≡ k.readers
 readers_stay_all k [] = refl
 readers_stay_all k (e ∷ es) = readers_stay_all (known_after_event k e) es ∙ readers_stay k e
 
 -- ---- steps
 
 -- there are no steps where nothing is seen of them, whatever events there are besides
-no_steps : {A : Type 0} (all : List Happening) (i : ℕ) (e : Happening) → i < length all → get_or all i e ≡ e → (steps : List (PlannedStep A))
-    → ((es : List Happening) → slice_get es i ≡ Some e → steps_seen es steps ≡ []) → steps ≡ []
+no_steps : {A : Type 0} (all : List EventView) (i : ℕ) (e : EventView) → i < length all → get_or all i e ≡ e → (steps : List (PlannedStep A))
+    → ((es : List EventView) → slice_get es i ≡ Some e → steps_seen es steps ≡ []) → steps ≡ []
 no_steps all i e below is [] none = refl
 no_steps all i e below is (s ∷ ss) none =
-    let more : List Happening = replicate (s.event + 1) e in
-    let es : List Happening = all ++ more in
+    let more : List EventView = replicate (s.event + 1) e in
+    let es : List EventView = all ++ more in
     let long : s.event < length es = omega (arith, length-append all more, length-replicate (s.event + 1) e) in
     let fits : i < length es = omega (arith, length-append all more, below) in
     let at : slice_get es i ≡ Some e = slice_get-get_or es i e fits ∙ ap Some (get_or_append_left all more e i below ∙ is) in
@@ -66,15 +66,15 @@ back_nil : {X : Type 0} (xs ys : List X) → xs ++ ys ≡ [] → ys ≡ []
 back_nil xs ys e = nil_from_length ys (omega (arith, length-append xs ys, ap length e))
 
 -- one event more is planned
-pub planned_more : {A : Type 0} (k : Known) (all es : List Happening) (i : ℕ) (e : Happening) (old new : Planning A) (before kept : Kept)
+pub planned_more : {A : Type 0} (k : Known) (all es : List EventView) (i : ℕ) (e : EventView) (old new : Planning A) (before kept : HeldView)
     → i < length all → get_or all i e ≡ e → AreAllPlanned k all es old before
-    → ((hs : List Happening) → slice_get hs i ≡ Some e → IsPlanned hs (known_after_events k es) e old new kept) → AreAllPlanned k all (es ++ e ∷ []) new kept
+    → ((hs : List EventView) → slice_get hs i ≡ Some e → IsPlanned hs (known_after_events k es) e old new kept) → AreAllPlanned k all (es ++ e ∷ []) new kept
 planned_more {A} k all es i e old new before kept below is was planned =
     let k' : Known = known_after_events k es in
     let asked : ℕ → Job = λ rank. map (λ what. (e.place, what)) (doings k' rank e) in
     let at : slice_get all i ≡ Some e = slice_get-get_or all i e below ∙ ap Some is in
     let count : length old.lists.items ≡ length k'.readers = was.count ∙ ap length (sym (readers_stay_all k es)) in
-    let grows : (hs : List Happening) → slice_get hs i ≡ Some e → Grow hs old.lists.items new.lists.items asked = λ hs h. (planned hs h).steps count in
+    let grows : (hs : List EventView) → slice_get hs i ≡ Some e → Grow hs old.lists.items new.lists.items asked = λ hs h. (planned hs h).steps count in
     let fewer : (rank : ℕ) → rank < length new.lists.items → rank < length old.lists.items = λ rank less. subst (λ n. rank < n) (grows all at).count less in
     record {
       known = subst (λ w. IsKnown w kept) (sym (known_more k es e)) (planned all at).known;
@@ -105,7 +105,7 @@ some_left [] e = absurd (true≢false e)
 some_left (x ∷ xs) e = omega arith
 
 -- the list after those that were taken is that of the next rank
-module _ {A : Type 0} (es : List Happening) (lists : List (Vec (PlannedStep A) A)) (asked : ℕ → Job) (done : List (ℕ × Vec (PlannedStep A) A)) (v : Vec (PlannedStep A) A) (rest : List (Vec (PlannedStep A) A))
+module _ {A : Type 0} (es : List EventView) (lists : List (Vec (PlannedStep A) A)) (asked : ℕ → Job) (done : List (ℕ × Vec (PlannedStep A) A)) (v : Vec (PlannedStep A) A) (rest : List (Vec (PlannedStep A) A))
     (steps : AreSteps es lists asked) (left : lists ≡ map (λ s. s.1) done ++ v ∷ rest) where
   abbrev done_lists : List (Vec (PlannedStep A) A)
   done_lists = map (λ s. s.1) done

@@ -1,16 +1,16 @@
 -- What a run comes to, reader by reader, and the order in which it puts things out.
 use Rattle.std.specs.Prelude.{◌≡◌, ℕ, zero, suc, ◌<◌, ◌==◌, ◌&&◌, List, [], ◌∷◌, ◌++◌, map, filter, Bool, true, false, Option, Some, None, if◌then◌else◌}
 use Rattle.rtps_types.specs.declared.place.Place.{Place}
-use Rattle.rtps_receiver.specs.Events.{Happening}
+use Rattle.rtps_receiver.specs.Events.{EventView}
 use Rattle.rtps_discovery.specs.Known.{Known}
 use Rattle.dds_topic.specs.Decoding.{Decoding}
-use Rattle.rtps_proxy.specs.Replies.{Sent}
+use Rattle.rtps_proxy.specs.Replies.{ReplyView}
 use Rattle.rtps_reader.specs.declared.notice.Notice.{Notice}
 use Rattle.rtps_reader.specs.Reader.{Reader}
 use Rattle.rtps_serial.specs.Run.{world_run}
 use Rattle.rtps_serial.specs.Seen.{notices_by, reader_count}
 use Rattle.rtps_serial.specs.World as world
-use Rattle.rtps_serial.specs.World.{Put, Hears, Sends, Sending, World}
+use Rattle.rtps_serial.specs.World.{ReportView, NoticeOf, AnswerOf, AnswerView, World}
 use Rattle.rtps_planner.specs.Job.{discovery_answers, job_of, known_after_events, job_run, job_sent, job_told}
 
 -- ---- each reader by itself
@@ -23,16 +23,16 @@ is_of None (Some b) = false
 is_of (Some a) None = false
 
 -- the answers of one rank, or of discovery, with their places, in order
-abbrev pub answers_by : {M : Type 0} → Option ℕ → List (Put M) → List (Place × Sent)
+abbrev pub answers_by : {M : Type 0} → Option ℕ → List (ReportView M) → List (Place × ReplyView)
 answers_by by [] = []
-answers_by by (Hears rank notice ∷ put) = answers_by by put
-answers_by by (Sends s ∷ put) =
+answers_by by (NoticeOf rank notice ∷ put) = answers_by by put
+answers_by by (AnswerOf s ∷ put) =
     if is_of s.rank by
     then (s.place, record { to = s.to; octets = s.octets }) ∷ answers_by by put
     else answers_by by put
 
 -- the reader of a rank, and what it puts out, depend on its own job alone
-pub record IsPart {M : Type 0} (decoding : Decoding M) (w : World M) (es : List Happening)
+pub record IsPart {M : Type 0} (decoding : Decoding M) (w : World M) (es : List EventView)
     (rank : ℕ) : Type 0 where
   pub reader : (world_run decoding w es).readers rank
       ≡ job_run (w.readers rank) (job_of rank w.known es)
@@ -42,7 +42,7 @@ pub record IsPart {M : Type 0} (decoding : Decoding M) (w : World M) (es : List 
       ≡ answers_by (Some rank) w.put ++ job_sent (w.readers rank) (job_of rank w.known es)
 
 -- what is known, and what discovery answers, depend on no reader
-pub record IsDiscovered {M : Type 0} (decoding : Decoding M) (w : World M) (es : List Happening)
+pub record IsDiscovered {M : Type 0} (decoding : Decoding M) (w : World M) (es : List EventView)
     : Type 0 where
   pub known : (world_run decoding w es).known ≡ known_after_events w.known es
   pub answers : answers_by None (world_run decoding w es).put
@@ -52,40 +52,40 @@ pub record IsDiscovered {M : Type 0} (decoding : Decoding M) (w : World M) (es :
 
 -- what discovery answers, and what each reader by its rank gives out and sends
 pub record Parts (M : Type 0) : Type 0 where
-  pub answers : List (Place × Sent)
+  pub answers : List (Place × ReplyView)
   pub told : ℕ → List (Notice M)
-  pub sent : ℕ → List (Place × Sent)
+  pub sent : ℕ → List (Place × ReplyView)
 
 abbrev pub same_place : Place → Place → Bool
 same_place a b = a.datagram == b.datagram && a.submessage == b.submessage
 
-abbrev pub answers_at : Place → List (Place × Sent) → List (Place × Sent)
+abbrev pub answers_at : Place → List (Place × ReplyView) → List (Place × ReplyView)
 answers_at place answers = filter (λ s. same_place s.0 place) answers
 
 abbrev pub notices_at : {M : Type 0} → Place → List (Notice M) → List (Notice M)
 notices_at place notices = filter (λ n. same_place n.place place) notices
 
 -- an answer of discovery
-abbrev pub discovery_sends : {M : Type 0} → Place × Sent → Put M
-discovery_sends s = Sends (record { place = s.0; rank = None; to = s.1.to; octets = s.1.octets })
+abbrev pub discovery_sends : {M : Type 0} → Place × ReplyView → ReportView M
+discovery_sends s = AnswerOf (record { place = s.0; rank = None; to = s.1.to; octets = s.1.octets })
 
 -- at one place the ranks below a count by rising rank, of each its notices and then its answer
-abbrev pub merged_below : {M : Type 0} → Place → Parts M → ℕ → List (Put M)
+abbrev pub merged_below : {M : Type 0} → Place → Parts M → ℕ → List (ReportView M)
 merged_below place parts zero = []
 merged_below place parts (suc rank) =
     merged_below place parts rank
-    ++ (map (Hears rank) (notices_at place (parts.told rank))
+    ++ (map (NoticeOf rank) (notices_at place (parts.told rank))
     ++ map (world.sent_by rank) (answers_at place (parts.sent rank)))
 
 -- place by place: discovery's answer, and then the readers by rank
-abbrev pub merged : {M : Type 0} → Parts M → ℕ → List Place → List (Put M)
+abbrev pub merged : {M : Type 0} → Parts M → ℕ → List Place → List (ReportView M)
 merged parts count [] = []
 merged parts count (place ∷ places) =
     (map discovery_sends (answers_at place parts.answers) ++ merged_below place parts count)
     ++ merged parts count places
 
 -- what discovery answers over a list of events, and what each reader makes of its job
-abbrev pub parts_of : {M : Type 0} → Decoding M → Known → (ℕ → Reader) → List Happening → Parts M
+abbrev pub parts_of : {M : Type 0} → Decoding M → Known → (ℕ → Reader) → List EventView → Parts M
 parts_of decoding k readers es = record {
   answers = discovery_answers k es;
   told = λ rank. job_told decoding (readers rank) (job_of rank k es);
@@ -93,7 +93,7 @@ parts_of decoding k readers es = record {
 }
 
 -- a run puts out these parts, by the events' places
-abbrev pub IsByPlace : {M : Type 0} → Decoding M → World M → List Happening → Type 0
+abbrev pub IsByPlace : {M : Type 0} → Decoding M → World M → List EventView → Type 0
 IsByPlace decoding w es =
     (world_run decoding w es).put
     ≡ w.put ++ merged (parts_of decoding w.known w.readers es) (reader_count w)

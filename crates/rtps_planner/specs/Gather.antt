@@ -5,9 +5,9 @@ use Rattle.std.specs.List.{All, AllByRecursion, Contains, list_any}
 use Rattle.std.specs.List.Sorted.{IsSortedByKey, IsStableByKey}
 use Rattle.std.specs.declared.vec.Vec.{Vec}
 use Rattle.rtps_types.specs.declared.place.Place.{Place}
-use Rattle.rtps_receiver.specs.Events.{Happening}
+use Rattle.rtps_receiver.specs.Events.{EventView}
 use Rattle.dds_topic.specs.Decoding.{Decoding}
-use Rattle.rtps_proxy.specs.Replies.{Sent}
+use Rattle.rtps_proxy.specs.Replies.{ReplyView}
 use Rattle.rtps_reader.specs.declared.notice.Notice.{Notice}
 use Rattle.rtps_reader.specs.declared.notice.Output.{Output}
 use Rattle.rtps_reader.specs.Notices as reader
@@ -19,7 +19,7 @@ use Rattle.rtps_serial.specs.Outcome.{answer_view}
 use Rattle.rtps_serial.specs.Presentation.{not_after}
 use Rattle.rtps_serial.specs.Seen.{answers_in}
 use Rattle.rtps_serial.specs.Turn.{turn_order}
-use Rattle.rtps_serial.specs.World.{Sending, World}
+use Rattle.rtps_serial.specs.World.{AnswerView, World}
 use Rattle.rtps_planner.specs.declared.jobs.Rest.{Rest}
 use Rattle.rtps_planner.specs.declared.outputs.GatherFault.{GatherFault}
 use Rattle.rtps_planner.specs.declared.outputs.GatherFault.TheVariants as fault
@@ -63,17 +63,17 @@ lists_with lists [] = lists
 lists_with lists (o ∷ os) = lists_with (set lists o.0 o.1.notices) os
 
 -- an answer of the reader of a rank
-abbrev pub sending_by : ℕ → Place × Sent → Sending
+abbrev pub sending_by : ℕ → Place × ReplyView → AnswerView
 sending_by rank s = record { place = s.0; rank = Some rank; to = s.1.to; octets = s.1.octets }
 
 -- the answers of outputs, one output after the other
-abbrev pub sends_of : {V A : Type 0} → List (ℕ × Output V A) → List Sending
+abbrev pub sends_of : {V A : Type 0} → List (ℕ × Output V A) → List AnswerView
 sends_of [] = []
 sends_of (o ∷ os) =
     map (sending_by o.0) (map reader.answer_view o.1.answers.items) ++ sends_of os
 
 -- when an answer comes
-abbrev pub answer_turn : Sending → Turn
+abbrev pub answer_turn : AnswerView → Turn
 answer_turn s = record { place = s.place; rank = s.rank; kind = kind.Answer }
 
 abbrev pub turn_of : {A : Type 0} → Answer A → Turn
@@ -90,7 +90,7 @@ told_by [] rank = []
 told_by (o ∷ os) rank =
     if o.0 == rank then o.1.notices.items ++ told_by os rank else told_by os rank
 
-abbrev pub sent_by : {V A : Type 0} → List (ℕ × Output V A) → ℕ → List (Place × Sent)
+abbrev pub sent_by : {V A : Type 0} → List (ℕ × Output V A) → ℕ → List (Place × ReplyView)
 sent_by [] rank = []
 sent_by (o ∷ os) rank =
     if o.0 == rank
@@ -98,7 +98,7 @@ sent_by (o ∷ os) rank =
     else sent_by os rank
 
 -- the parts of a batch: what discovery answers, and these outputs
-abbrev pub parts_in : {V A : Type 0} → List (Place × Sent) → List (ℕ × Output V A) → Parts V
+abbrev pub parts_in : {V A : Type 0} → List (Place × ReplyView) → List (ℕ × Output V A) → Parts V
 parts_in answers outputs = record {
   answers = answers;
   told = told_by outputs;
@@ -111,7 +111,7 @@ AreRising [] = Unit {0}
 AreRising (p ∷ ps) = AllByRecursion (λ q. not_after q p ≡ false) ps × AreRising ps
 
 -- the place of each of these answers is among these places
-abbrev pub StandAmong : List Place → List (Place × Sent) → Type 0
+abbrev pub StandAmong : List Place → List (Place × ReplyView) → Type 0
 StandAmong places answers = All (λ s. list_any (same_place s.0) places ≡ true) answers
 
 -- An outcome has the outputs of a batch: the notices of each output stand as they are in the place of
@@ -126,7 +126,7 @@ pub record IsGathered {V A : Type 0} (rest : Rest A) (outputs : List (ℕ × Out
   pub others : (rank : ℕ) (other : Vec (Notice V) A) → rank < rest.readers
       → is_among rest.ranks.items rank ≡ false
       → (slice_index_or outcome.notices.items rank other).items ≡ []
-  pub answers : (answers : List (Place × Sent)) (places : List Place)
+  pub answers : (answers : List (Place × ReplyView)) (places : List Place)
       → map answer_view rest.answers.items ≡ map discovery_sending answers
       → All (λ rank. rank < rest.readers) rest.ranks.items
       → AreRising places → StandAmong places answers
@@ -136,7 +136,7 @@ pub record IsGathered {V A : Type 0} (rest : Rest A) (outputs : List (ℕ × Out
 
 -- an output has what comes of its reader's job over these events
 pub record IsOutputOf {V M A : Type 0} (f : V → M) (decoding : Decoding M) (w : World M)
-    (es : List Happening) (o : ℕ × Output V A) : Type 0 where
+    (es : List EventView) (o : ℕ × Output V A) : Type 0 where
   pub told : map (reader.notice_view f) o.1.notices.items
       ≡ job_told decoding (w.readers o.0) (job_of o.0 w.known es)
   pub sent : map reader.answer_view o.1.answers.items

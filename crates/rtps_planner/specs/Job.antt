@@ -2,23 +2,23 @@
 -- makes of that, whatever the other readers do.
 use Rattle.std.specs.Prelude.{ℕ, List, [], ◌∷◌, ◌++◌, map, if◌then◌else◌}
 use Rattle.rtps_types.specs.declared.place.Place.{Place}
-use Rattle.rtps_receiver.specs.Events.{Happening}
+use Rattle.rtps_receiver.specs.Events.{EventView}
 use Rattle.rtps_discovery.specs.Addressed.{is_discovery}
 use Rattle.rtps_discovery.specs.Known.{Known}
 use Rattle.rtps_discovery.specs.Records.{answered}
 use Rattle.dds_topic.specs.Decoding.{Decoding}
-use Rattle.rtps_proxy.specs.Replies.{Sent}
+use Rattle.rtps_proxy.specs.Replies.{ReplyView}
 use Rattle.rtps_reader.specs.declared.notice.Notice.{Notice}
 use Rattle.rtps_reader.specs.Reader.{Reader, placed, reader_after, reader_run, sends, tells}
-use Rattle.rtps_reader.specs.Steps.{Doing}
+use Rattle.rtps_reader.specs.Steps.{StepView}
 use Rattle.rtps_serial.specs.World.{doings, known_after_event}
 
 -- what is asked of a reader, each with the place of the event that asks it
 abbrev pub Job : Type 0
-Job = List (Place × Doing)
+Job = List (Place × StepView)
 
 -- what discovery asks of the reader of a rank over a list of events
-abbrev pub job_of : ℕ → Known → List Happening → Job
+abbrev pub job_of : ℕ → Known → List EventView → Job
 job_of rank k [] = []
 job_of rank k (e ∷ es) =
     map (λ what. (e.place, what)) (doings k rank e) ++ job_of rank (known_after_event k e) es
@@ -33,19 +33,19 @@ job_told decoding r [] = []
 job_told decoding r (s ∷ ss) = tells decoding r s.0 s.1 ++ job_told decoding (reader_after r s.1) ss
 
 -- and the answers that it sends, each with the place of the event that it answers
-abbrev pub job_sent : Reader → Job → List (Place × Sent)
+abbrev pub job_sent : Reader → Job → List (Place × ReplyView)
 job_sent r [] = []
 job_sent r (s ∷ ss) = sends r s.0 s.1 ++ job_sent (reader_after r s.1) ss
 
 -- what is known after a list of events
-abbrev pub known_after_events : Known → List Happening → Known
+abbrev pub known_after_events : Known → List EventView → Known
 known_after_events k [] = k
 known_after_events k (e ∷ es) = known_after_events (known_after_event k e) es
 
 -- discovery's answer to an event, and those to a list of events
-abbrev pub discovery_answer : Known → Happening → List (Place × Sent)
+abbrev pub discovery_answer : Known → EventView → List (Place × ReplyView)
 discovery_answer k e = if is_discovery e.writer then placed e.place (answered k e) else []
 
-abbrev pub discovery_answers : Known → List Happening → List (Place × Sent)
+abbrev pub discovery_answers : Known → List EventView → List (Place × ReplyView)
 discovery_answers k [] = []
 discovery_answers k (e ∷ es) = discovery_answer k e ++ discovery_answers (known_after_event k e) es

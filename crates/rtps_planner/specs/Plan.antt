@@ -4,18 +4,18 @@ use Rattle.std.specs.List.{flat_map, slice_get}
 use Rattle.std.specs.Option.{option_map}
 use Rattle.std.specs.declared.vec.Vec.{Vec}
 use Rattle.rtps_types.specs.declared.identity.EntityId.{EntityId}
-use Rattle.rtps_receiver.specs.Events.{Happening}
+use Rattle.rtps_receiver.specs.Events.{EventView}
 use Rattle.rtps_discovery.specs.Addressed.{is_for}
 use Rattle.rtps_discovery.specs.Known.{Known, Wish, reader_at}
 use Rattle.rtps_discovery.specs.declared.changes.Becomes.{Becomes}
 use Rattle.rtps_discovery.specs.Seen.{becomes_seen}
-use Rattle.rtps_reader.specs.Steps.{Doing, asks_of}
+use Rattle.rtps_reader.specs.Steps.{StepView, asks_of}
 use Rattle.rtps_serial.specs.Steps.{step_by}
-use Rattle.rtps_serial.specs.World.{Sending, doing_of, doings, known_after_event}
+use Rattle.rtps_serial.specs.World.{AnswerView, doing_of, doings, known_after_event}
 use Rattle.rtps_serial.specs.Outcome.{answer_view}
-use Rattle.rtps_proxy.specs.Replies.{Sent}
+use Rattle.rtps_proxy.specs.Replies.{ReplyView}
 use Rattle.rtps_types.specs.declared.place.Place.{Place}
-use Rattle.rtps_discovery.specs.Kept.{IsKnown, Kept}
+use Rattle.rtps_discovery.specs.Kept.{IsKnown, HeldView}
 use Rattle.rtps_planner.specs.declared.steps.Planning.{Planning}
 use Rattle.rtps_planner.specs.declared.steps.PlannedStep.{PlannedStep}
 use Rattle.rtps_planner.specs.declared.jobs.Job as plan_job
@@ -23,16 +23,16 @@ use Rattle.rtps_planner.specs.declared.jobs.Plan.{Plan}
 use Rattle.rtps_planner.specs.Job.{Job, discovery_answer, discovery_answers, job_of, known_after_events}
 
 -- what a step asks at its event: what becomes of a match, or to take the event in
-abbrev pub asked_of : {A : Type 0} → Happening → Option (Box (Becomes A) A) → Doing
+abbrev pub asked_of : {A : Type 0} → EventView → Option (Box (Becomes A) A) → StepView
 asked_of e None = asks_of e
 asked_of e (Some change) = doing_of (becomes_seen (box_value change))
 
 -- a step, by the events that it points into; nothing where there is no such event
-abbrev pub step_seen : {A : Type 0} → List Happening → PlannedStep A → Job
+abbrev pub step_seen : {A : Type 0} → List EventView → PlannedStep A → Job
 step_seen es s =
     option_to_list (option_map (λ e. (e.place, asked_of e s.change)) (slice_get es s.event))
 
-abbrev pub steps_seen : {A : Type 0} → List Happening → List (PlannedStep A) → Job
+abbrev pub steps_seen : {A : Type 0} → List EventView → List (PlannedStep A) → Job
 steps_seen es steps = flat_map (step_seen es) steps
 
 -- there is such a reader, and a reader id is for it
@@ -41,7 +41,7 @@ is_named reader None = false
 is_named reader (Some r) = is_for reader r.entity
 
 -- to the steps of each rank these are added
-pub record Grow {A : Type 0} (es : List Happening) (old new : List (Vec (PlannedStep A) A))
+pub record Grow {A : Type 0} (es : List EventView) (old new : List (Vec (PlannedStep A) A))
     (added : ℕ → Job) : Type 0 where
   pub count : length new ≡ length old
   pub steps : (rank : ℕ) (other : Vec (PlannedStep A) A) → rank < length old
@@ -49,20 +49,20 @@ pub record Grow {A : Type 0} (es : List Happening) (old new : List (Vec (Planned
       ≡ steps_seen es (slice_index_or old rank other).items ++ added rank
 
 -- what an event asks of the reader of a rank, where that is among these and the event names it
-abbrev pub taken_at : Happening → List (Option Wish) → List ℕ → ℕ → Job
+abbrev pub taken_at : EventView → List (Option Wish) → List ℕ → ℕ → Job
 taken_at e readers ranks rank =
     map (λ what. (e.place, what)) (map (λ s. s.what) (filter (λ s. s.rank == rank)
     (map (λ r. step_by r (asks_of e))
     (filter (λ r. is_named e.reader (reader_at readers r)) ranks))))
 
 -- an answer of discovery
-abbrev pub discovery_sending : Place × Sent → Sending
+abbrev pub discovery_sending : Place × ReplyView → AnswerView
 discovery_sending s = record { place = s.0; rank = None; to = s.1.to; octets = s.1.octets }
 
 -- what an event asks of each reader and what discovery answers to it are added, and discovery keeps
 -- what is known after it
-pub record IsPlanned {A : Type 0} (es : List Happening) (k : Known) (e : Happening)
-    (old new : Planning A) (kept : Kept) : Type 0 where
+pub record IsPlanned {A : Type 0} (es : List EventView) (k : Known) (e : EventView)
+    (old new : Planning A) (kept : HeldView) : Type 0 where
   pub known : IsKnown (known_after_event k e) kept
   pub steps : length old.lists.items ≡ length k.readers → Grow es old.lists.items new.lists.items
       (λ rank. map (λ what. (e.place, what)) (doings k rank e))
@@ -70,7 +70,7 @@ pub record IsPlanned {A : Type 0} (es : List Happening) (k : Known) (e : Happeni
       ≡ map answer_view old.answers.items ++ map discovery_sending (discovery_answer k e)
 
 -- the steps of each rank are what is asked of it, and there are none where nothing is asked
-pub record AreSteps {A : Type 0} (es : List Happening) (lists : List (Vec (PlannedStep A) A))
+pub record AreSteps {A : Type 0} (es : List EventView) (lists : List (Vec (PlannedStep A) A))
     (asked : ℕ → Job) : Type 0 where
   pub steps : (rank : ℕ) (other : Vec (PlannedStep A) A) → rank < length lists
       → steps_seen es (slice_index_or lists rank other).items ≡ asked rank
@@ -79,8 +79,8 @@ pub record AreSteps {A : Type 0} (es : List Happening) (lists : List (Vec (Plann
 
 -- what these events ask of each reader and what discovery answers to them is there, and discovery
 -- keeps what is known after them; steps point into all events of the batch
-pub record AreAllPlanned {A : Type 0} (k : Known) (all es : List Happening) (new : Planning A)
-    (kept : Kept) : Type 0 where
+pub record AreAllPlanned {A : Type 0} (k : Known) (all es : List EventView) (new : Planning A)
+    (kept : HeldView) : Type 0 where
   pub known : IsKnown (known_after_events k es) kept
   pub count : length new.lists.items ≡ length k.readers
   pub steps : AreSteps all new.lists.items (λ rank. job_of rank k es)
@@ -88,7 +88,7 @@ pub record AreAllPlanned {A : Type 0} (k : Known) (all es : List Happening) (new
       ≡ map discovery_sending (discovery_answers k es)
 
 -- a job, by the events that its steps point into
-abbrev pub job_seen : {A : Type 0} → List Happening → plan_job.Job A → ℕ × Job
+abbrev pub job_seen : {A : Type 0} → List EventView → plan_job.Job A → ℕ × Job
 job_seen es job = (job.rank, steps_seen es job.steps.items)
 
 -- the job of a rank, where something is asked of it
@@ -103,7 +103,7 @@ jobs_by asked (suc n) = jobs_by asked n ++ job_at n (asked n)
 
 -- a plan has a job for each reader of whom discovery asks something over the events, and
 -- discovery's answers; and discovery keeps what is known after the events
-pub record IsPlan {A : Type 0} (k : Known) (es : List Happening) (plan : Plan A) (kept : Kept)
+pub record IsPlan {A : Type 0} (k : Known) (es : List EventView) (plan : Plan A) (kept : HeldView)
     : Type 0 where
   pub known : IsKnown (known_after_events k es) kept
   pub jobs : map (job_seen es) plan.jobs.items

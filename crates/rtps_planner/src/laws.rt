@@ -3,8 +3,8 @@
 ghost use Rattle.std.specs.Prelude.{◌≡◌, ℕ, List, None};
 ghost use Rattle.std.specs.List.{All};
 ghost use Rattle.rtps_types.specs.declared.identity.GuidPrefix.{GuidPrefix};
-ghost use Rattle.rtps_receiver.specs.Events.{Happening};
-ghost use Rattle.rtps_discovery.specs.Kept.{Kept};
+ghost use Rattle.rtps_receiver.specs.Events.{EventView};
+ghost use Rattle.rtps_discovery.specs.Kept.{HeldView};
 ghost use Rattle.dds_topic.specs.Decoding.{Decoding};
 ghost use Rattle.rtps_reader.specs.declared.notice.Output.{Output};
 ghost use Rattle.rtps_serial.specs.declared.outcome.Outcome.{Outcome};
@@ -22,9 +22,9 @@ use std::alloc::Allocator;
 /// Whatever events come: what comes of each reader, and what it gives out and sends, depends on its
 /// own job alone, which is what discovery asks of it; and discovery depends on no reader.
 pub fn commuting<M>()
-    ensures readers { (decoding : Decoding M) (w : World M) (es : List Happening) (rank : ℕ)
+    ensures readers { (decoding : Decoding M) (w : World M) (es : List EventView) (rank : ℕ)
         → IsPart decoding w es rank }
-    ensures discovery { (decoding : Decoding M) (w : World M) (es : List Happening)
+    ensures discovery { (decoding : Decoding M) (w : World M) (es : List EventView)
         → IsDiscovered decoding w es }
 {}
 
@@ -44,7 +44,8 @@ pub fn every_cut<M>()
 /// gathered that has what the run puts out more.
 pub fn gathered<V, M, A: Allocator>()
     ensures { (view : V → M) (decoding : Decoding M) (w : World M) (own : GuidPrefix) (index : ℕ)
-        (datagrams : List (List ℕ)) (plan : Plan A) (kept : Kept) (outputs : List (ℕ × Output V A))
+        (datagrams : List (List ℕ)) (plan : Plan A) (kept : HeldView)
+        (outputs : List (ℕ × Output V A))
         (outcome : Outcome V A) → IsPlan w.known (events_from own index datagrams) plan kept
         → fault_of plan.rest.ranks.items (ranks_of outputs) ≡ None
         → All (IsOutputOf view decoding w (events_from own index datagrams)) outputs

@@ -3,7 +3,7 @@
 ghost use Rattle.std.specs.Prelude.{◌≡◌, ◌≤◌, ℕ, IfOk, List, length, map};
 ghost use Rattle.rtps_discovery.specs.Kept.{IsKnown};
 ghost use Rattle.rtps_discovery.specs.Known.{Known};
-ghost use Rattle.rtps_receiver.specs.Events.{Happening, view};
+ghost use Rattle.rtps_receiver.specs.Events.{EventView, view};
 ghost use Rattle.rtps_planner.specs.Plan.{AreAllPlanned, AreSteps, IsPlan, job_seen, jobs_by};
 
 use crate::jobs::{Job, Plan, Rest};
@@ -40,7 +40,7 @@ fn jobs_of<A: Allocator + Copy>(
     lists: Vec<Vec<PlannedStep<A>, A>, A>,
 ) -> Result<Vec<Job<A>, A>, AllocError>
     requires { length lists.items ≤ 256 }
-    ensures { (es : List Happening) (asked : ℕ → _) → AreSteps es lists.items asked
+    ensures { (es : List EventView) (asked : ℕ → _) → AreSteps es lists.items asked
         → IfOk result (λ jobs. map (job_seen es) jobs.items ≡ jobs_by asked (length lists.items)) }
 {
     let mut jobs = Vec::new(alloc);

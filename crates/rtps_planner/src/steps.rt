@@ -7,7 +7,7 @@ ghost use Rattle.rtps_discovery.specs.Addressed as addressed;
 ghost use Rattle.rtps_discovery.specs.Kept.{IsKnown};
 ghost use Rattle.rtps_discovery.specs.Known.{Known, reader_at};
 ghost use Rattle.rtps_discovery.specs.Seen.{change_seen};
-ghost use Rattle.rtps_receiver.specs.Events.{Happening, view};
+ghost use Rattle.rtps_receiver.specs.Events.{EventView, view};
 ghost use Rattle.rtps_proxy.specs.Replies.{reply_view};
 ghost use Rattle.rtps_reader.specs.Reader.{placed};
 ghost use Rattle.rtps_serial.specs.Outcome.{answer_view};
@@ -36,7 +36,7 @@ pub(crate) fn add_step<A: Allocator>(
     rank: u32,
     step: PlannedStep<A>,
 ) -> Result<(), AllocError>
-    ensures { (es : List Happening) → OnOk result (Grow es lists.old.items lists.new.items
+    ensures { (es : List EventView) → OnOk result (Grow es lists.old.items lists.new.items
         (λ at. if rank == at then step_seen es step else [])) }
 {
     push_by(lists, rank, step)
@@ -49,7 +49,7 @@ pub(crate) fn add_changes<A: Allocator + Copy>(
     event: usize,
     changes: Vec<MatchChange<A>, A>,
 ) -> Result<(), AllocError>
-    ensures { (es : List Happening) (e : Happening) → slice_get es event ≡ Some e
+    ensures { (es : List EventView) (e : EventView) → slice_get es event ≡ Some e
         → OnOk result (Grow es lists.old.items lists.new.items (λ rank.
         map (λ what. (e.place, what)) (changes_for rank (map change_seen changes.items)))) }
 {
@@ -82,7 +82,7 @@ pub(crate) fn add_event<A: Allocator>(
     event: usize,
     reader: EntityId,
 ) -> Result<(), AllocError>
-    ensures { (es : List Happening) (e : Happening) → slice_get es event ≡ Some e
+    ensures { (es : List EventView) (e : EventView) → slice_get es event ≡ Some e
         → e.reader ≡ reader → OnOk result (Grow es lists.old.items lists.new.items
         (taken_at e readers.now ranks.now)) }
 {
@@ -138,7 +138,7 @@ fn plan_announcement<A: Allocator + Copy>(
 ) -> Result<(), AllocError>
     ensures count { OnOk result (length planning.new.lists.items
         ≡ length planning.old.lists.items) }
-    ensures planned { (k : Known) (es : List Happening) → IsKnown k discovery.old.kept
+    ensures planned { (k : Known) (es : List EventView) → IsKnown k discovery.old.kept
         → slice_get es index ≡ Some (view event.now)
         → addressed.is_discovery event.now.writer ≡ true
         → OnOk result (IsPlanned es k (view event.now) planning.old planning.new
@@ -160,7 +160,7 @@ pub(crate) fn plan_event<A: Allocator + Copy>(
 ) -> Result<(), AllocError>
     ensures count { OnOk result (length planning.new.lists.items
         ≡ length planning.old.lists.items) }
-    ensures planned { (k : Known) (es : List Happening) → IsKnown k discovery.old.kept
+    ensures planned { (k : Known) (es : List EventView) → IsKnown k discovery.old.kept
         → slice_get es index ≡ Some (view event.now)
         → OnOk result (IsPlanned es k (view event.now) planning.old planning.new
         discovery.new.kept) }

@@ -8,19 +8,19 @@ use Rattle.std.proofs.lemmas.Int.{ints}
 use Rattle.std.proofs.Math.Nat.{add-mod, mod-mod}
 use mathlib.Core.Path.{fun_ext}
 use Rattle.rtps_types.specs.declared.time.Timestamp.{Timestamp}
-use Rattle.rtps_receiver.specs.Brought.{Announced, Heartbeat}
+use Rattle.rtps_receiver.specs.EventBody.{HeartbeatView, Heartbeat}
 use Rattle.rtps_types.specs.Numbers.{lacks, count_failing}
 use Rattle.rtps_proxy.specs.Runs.{AreApart, Run, marks}
 use Rattle.rtps_proxy.specs.Answer.{Acknack, acknack_by, answer, answers, is_answered, is_incomplete}
 use Rattle.rtps_proxy.specs.Effects.{exceeds}
-use Rattle.rtps_proxy.specs.History.{Came, announced_of, first_of, is_irrelevant, is_new}
-use Rattle.rtps_proxy.specs.Kept.{Whom}
+use Rattle.rtps_proxy.specs.History.{MatchEvent, announced_of, first_of, is_irrelevant, is_new}
+use Rattle.rtps_proxy.specs.Kept.{Pairing}
 use Rattle.rtps_proxy.specs.Received.{frontier_of, is_settled, received}
 use Rattle.rtps_proxy.specs.Replies.{reply_of}
 use Rattle.rtps_proxy.proofs.Frontier.{frontier_is}
 use Rattle.rtps_proxy.proofs.Standing.{Shows, count_none, covered_is, frontier_rises, lacks_is, or_true}
 
-abbrev pub beat_at : Option Timestamp → Announced → Came
+abbrev pub beat_at : Option Timestamp → HeartbeatView → MatchEvent
 beat_at time h = record { time = time; body = Heartbeat h }
 
 -- a count that is accepted takes the place of the greatest
@@ -40,7 +40,7 @@ or_beat first true named got = refl
 or_beat first false named got = refl
 
 -- a heartbeat that isn't accepted does nothing
-module _ (past : List Came) (time : Option Timestamp) (h : Announced) (refused : is_new past h.count ≡ false) where
+module _ (past : List MatchEvent) (time : Option Timestamp) (h : HeartbeatView) (refused : is_new past h.count ≡ false) where
   pub refused_first : first_of (beat_at time h ∷ past) ≡ first_of past
   refused_first = rw refused refl
 
@@ -83,7 +83,7 @@ count_agree p q h (suc n) = let rest : count_failing p n ≡ count_failing q n =
 pub one_more : (a m : ℕ) → (a % m + 1) % m ≡ (a + 1) % m
 one_more a m = add-mod (a % m) 1 m ∙ ap (λ x. (x + 1 % m) % m) (mod-mod a m) ∙ sym (add-mod a 1 m)
 
-module _ (past : List Came) (time : Option Timestamp) (h : Announced) (accepted : is_new past h.count ≡ true) where
+module _ (past : List MatchEvent) (time : Option Timestamp) (h : HeartbeatView) (accepted : is_new past h.count ≡ true) where
   first_is : first_of (beat_at time h ∷ past) ≡ max (first_of past) h.first
   first_is = rw accepted refl
 
@@ -120,11 +120,11 @@ module _ (past : List Came) (time : Option Timestamp) (h : Announced) (accepted 
       ap (λ b. b && (not h.final_flag || (not h.liveliness && is_incomplete (beat_at time h ∷ past)))) accepted
       ∙ ap (λ b. not h.final_flag || (not h.liveliness && b)) (incomplete_is f rs shows ∙ ap (leb f) (sym same) ∙ sym (lacks_is f rs shows.apart announced))
 
-pub count_is : (past : List Came) (event : Came) (due : Bool) (earlier : ℕ) → is_answered past event ≡ due → earlier ≡ answers past % 2 ^ 32 → cond due ((earlier + 1) % 2 ^ 32) earlier ≡ answers (event ∷ past) % 2 ^ 32
+pub count_is : (past : List MatchEvent) (event : MatchEvent) (due : Bool) (earlier : ℕ) → is_answered past event ≡ due → earlier ≡ answers past % 2 ^ 32 → cond due ((earlier + 1) % 2 ^ 32) earlier ≡ answers (event ∷ past) % 2 ^ 32
 count_is past event true earlier is same = rw (is, same) (one_more (answers past) (2 ^ 32))
 count_is past event false earlier is same = rw (is, same) refl
 
-pub answer_is : (past : List Came) (event : Came) (due : Bool) (f announced earlier : ℕ) (rs : List Run) → Shows (event ∷ past) f rs → is_answered past event ≡ due → announced ≡ announced_of (event ∷ past) → earlier ≡ answers past % 2 ^ 32 → cond due (Some (acknack_by (marks f rs) f announced earlier)) None ≡ answer past event
+pub answer_is : (past : List MatchEvent) (event : MatchEvent) (due : Bool) (f announced earlier : ℕ) (rs : List Run) → Shows (event ∷ past) f rs → is_answered past event ≡ due → announced ≡ announced_of (event ∷ past) → earlier ≡ answers past % 2 ^ 32 → cond due (Some (acknack_by (marks f rs) f announced earlier)) None ≡ answer past event
 answer_is past event true f announced earlier rs shows is same counted =
     let settled : is_settled (event ∷ past) ≡ marks f rs = fun_ext shows.settled in
     let base : frontier_of (event ∷ past) ≡ f = frontier_is (event ∷ past) f rs shows in
@@ -137,10 +137,10 @@ answer_is past event true f announced earlier rs shows is same counted =
     ∙ ap (λ (n : ℕ). Some (record (acknack_by all (frontier_of (event ∷ past)) (announced_of (event ∷ past)) (answers past)) { count = n })) counts)
 answer_is past event false f announced earlier rs shows is same counted = rw is refl
 
-map_due : (w : Whom) (due : Bool) (a : Acknack) → option_map (reply_of w) (cond due (Some a) None) ≡ cond due (Some (reply_of w a)) None
+map_due : (w : Pairing) (due : Bool) (a : Acknack) → option_map (reply_of w) (cond due (Some a) None) ≡ cond due (Some (reply_of w a)) None
 map_due w true a = refl
 map_due w false a = refl
 
-pub reply_is : (w : Whom) (past : List Came) (event : Came) (due : Bool) (f announced earlier : ℕ) (rs : List Run) → Shows (event ∷ past) f rs → is_answered past event ≡ due → announced ≡ announced_of (event ∷ past) → earlier ≡ answers past % 2 ^ 32 → cond due (Some (reply_of w (acknack_by (marks f rs) f announced earlier))) None ≡ option_map (reply_of w) (answer past event)
+pub reply_is : (w : Pairing) (past : List MatchEvent) (event : MatchEvent) (due : Bool) (f announced earlier : ℕ) (rs : List Run) → Shows (event ∷ past) f rs → is_answered past event ≡ due → announced ≡ announced_of (event ∷ past) → earlier ≡ answers past % 2 ^ 32 → cond due (Some (reply_of w (acknack_by (marks f rs) f announced earlier))) None ≡ option_map (reply_of w) (answer past event)
 reply_is w past event due f announced earlier rs shows is same counted =
     sym (map_due w due (acknack_by (marks f rs) f announced earlier)) ∙ ap (option_map (reply_of w)) (answer_is past event due f announced earlier rs shows is same counted)

@@ -3,19 +3,19 @@ use Rattle.std.proofs.Common.{◌≡◌, ℕ, ◌≤◌, arith, ltb, Bool, true,
 use Rattle.std.specs.List.{list_any}
 use Rattle.std.proofs.lemmas.Bool.Decides.{nat_tests}
 use Rattle.rtps_proxy.specs.Effects.{ReliableStandsAt, StateStandsAt}
-use Rattle.rtps_proxy.specs.History.{Came}
-use Rattle.rtps_proxy.specs.Kept.{Awaited, Reliable}
+use Rattle.rtps_proxy.specs.History.{MatchEvent}
+use Rattle.rtps_proxy.specs.Kept.{ReliableView, Reliable}
 use Rattle.rtps_proxy.specs.Received.{frontier_of}
 use Rattle.rtps_proxy.specs.Runs.{AreApart, AreRuns, marks, within}
 use Rattle.rtps_proxy.proofs.Frontier.{frontier_is}
 
 -- a reliable state stands for a reliable reader
-pub reliable_only : (past : List Came) (b : Bool) (r : Awaited) → StateStandsAt past b (Reliable r) → (b ≡ true) × ReliableStandsAt past r
+pub reliable_only : (past : List MatchEvent) (b : Bool) (r : ReliableView) → StateStandsAt past b (Reliable r) → (b ≡ true) × ReliableStandsAt past r
 reliable_only past true r h = (refl, h)
 reliable_only past false r h = absurd h
 
 -- the runs behind the frontier are the greatest ones of settled numbers
-pub runs_are : (past : List Came) (b : Bool) (r : Awaited) → StateStandsAt past b (Reliable r) → AreApart r.frontier r.runs → AreRuns past r.runs
+pub runs_are : (past : List MatchEvent) (b : Bool) (r : ReliableView) → StateStandsAt past b (Reliable r) → AreApart r.frontier r.runs → AreRuns past r.runs
 runs_are past b r at apart =
     let both = reliable_only past b r at in
     let frontier : frontier_of past ≡ r.frontier = frontier_is past r.frontier r.runs (record { settled = both.1.settled; apart = apart }) in

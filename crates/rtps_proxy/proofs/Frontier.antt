@@ -4,10 +4,10 @@ use Rattle.std.proofs.Common.{add-zero, add-suc, ◌≡◌, ℕ, zero, suc, ◌+
 use Rattle.std.specs.List.{list_any}
 use Rattle.std.proofs.lemmas.Bool.Decides.{eqb_tells, nat_tests, leb_tells}
 use Rattle.rtps_types.specs.NumberSet.{members}
-use Rattle.rtps_receiver.specs.Brought.{Brought, Change, Fragments, Whole, Fragment, Heartbeat, Gap, HeartbeatFrag}
+use Rattle.rtps_receiver.specs.EventBody.{EventBody, WholeView, FragmentView, Whole, Fragment, Heartbeat, Gap, HeartbeatFrag}
 use Rattle.rtps_proxy.specs.Runs.{Run}
 use Rattle.rtps_types.specs.Numbers.{first_failing}
-use Rattle.rtps_proxy.specs.History.{Came, first_after, first_of, is_irrelevant, is_new, names, sample_of}
+use Rattle.rtps_proxy.specs.History.{MatchEvent, first_after, first_of, is_irrelevant, is_new, names, change_of}
 use Rattle.rtps_proxy.specs.Received.{frontier_of, greatest_in, greatest_named, is_settled, max_of, received, taken, taken_after, takes_fragments, with_begun}
 use Rattle.rtps_proxy.specs.Fragments.{with_fragments_of}
 use Rattle.rtps_proxy.specs.Settled.{has_room_by, is_settled_by}
@@ -18,11 +18,11 @@ or_cases : (a b : Bool) → (a || b) ≡ true → (a ≡ true) ⊎ (b ≡ true)
 or_cases true b h = inl refl
 or_cases false b h = inr h
 
-first_bound : (past : List Came) → first_of past ≤ greatest_named past + 1
+first_bound : (past : List MatchEvent) → first_of past ≤ greatest_named past + 1
 first_bound [] = omega arith
 first_bound (e ∷ past) = by_body e.body (first_bound past)
   where
-    by_body : (b : Brought) → first_of past ≤ greatest_named past + 1 → first_after past (first_of past) b ≤ max (greatest_in b) (greatest_named past) + 1
+    by_body : (b : EventBody) → first_of past ≤ greatest_named past + 1 → first_after past (first_of past) b ≤ max (greatest_in b) (greatest_named past) + 1
     by_body (Whole c) rest = omega arith
     by_body (Fragment f) rest = omega arith
     by_body (Heartbeat h) rest =
@@ -38,7 +38,7 @@ member_bound (m ∷ ns) n h =
       | inr e ↦ (let rest : n ≤ max_of ns = member_bound ns n e in omega arith)
     ]
 
-named_bound : (b : Brought) (n : ℕ) → names b n ≡ true → n ≤ greatest_in b
+named_bound : (b : EventBody) (n : ℕ) → names b n ≡ true → n ≤ greatest_in b
 named_bound (Whole c) n h = absurd cc
 named_bound (Fragment f) n h = absurd cc
 named_bound (Heartbeat b) n h = absurd cc
@@ -49,7 +49,7 @@ named_bound (Gap g) n h =
     ]
 named_bound (HeartbeatFrag b) n h = absurd cc
 
-irrelevant_bound : (past : List Came) (n : ℕ) → is_irrelevant past n ≡ true → n ≤ greatest_named past
+irrelevant_bound : (past : List MatchEvent) (n : ℕ) → is_irrelevant past n ≡ true → n ≤ greatest_named past
 irrelevant_bound [] n h = absurd cc
 irrelevant_bound (e ∷ past) n h =
     elim (or_cases (names e.body n) (is_irrelevant past n) h) [
@@ -57,25 +57,25 @@ irrelevant_bound (e ∷ past) n h =
       | inr d ↦ (let rest : n ≤ greatest_named past = irrelevant_bound past n d in omega arith)
     ]
 
-received_bound : (past : List Came) (n : ℕ) → list_any (λ s. eqb s.number n) (received past) ≡ true → n ≤ greatest_named past
+received_bound : (past : List MatchEvent) (n : ℕ) → list_any (λ s. eqb s.number n) (received past) ≡ true → n ≤ greatest_named past
 received_bound [] n h = absurd cc
 received_bound (e ∷ past) n h = by_body e.body (received_bound past n) h
   where
-    by_test : (c : Change) (b : Bool) → (list_any (λ s. eqb s.number n) (received past) ≡ true → n ≤ greatest_named past) → list_any (λ s. eqb s.number n) (cond b (sample_of e.time c ∷ received past) (received past)) ≡ true → n ≤ max c.number (greatest_named past)
+    by_test : (c : WholeView) (b : Bool) → (list_any (λ s. eqb s.number n) (received past) ≡ true → n ≤ greatest_named past) → list_any (λ s. eqb s.number n) (cond b (change_of e.time c ∷ received past) (received past)) ≡ true → n ≤ max c.number (greatest_named past)
     by_test c true rest h = elim (or_cases (eqb c.number n) (list_any (λ s. eqb s.number n) (received past)) h) [
       | inl e ↦ (let same : c.number ≡ n = grind (arith, nat_tests) in omega arith)
       | inr e ↦ (let le : n ≤ greatest_named past = rest e in omega arith)
     ]
     by_test c false rest h = let le : n ≤ greatest_named past = rest h in omega arith
 
-    by_fragments : (f : Fragments) (b : Bool) → (list_any (λ s. eqb s.number n) (received past) ≡ true → n ≤ greatest_named past) → list_any (λ s. eqb s.number n) (cond b (with_begun (taken past) (with_fragments_of e.time f (taken past).begun) f.number) (taken past)).changes ≡ true → n ≤ max f.number (greatest_named past)
+    by_fragments : (f : FragmentView) (b : Bool) → (list_any (λ s. eqb s.number n) (received past) ≡ true → n ≤ greatest_named past) → list_any (λ s. eqb s.number n) (cond b (with_begun (taken past) (with_fragments_of e.time f (taken past).begun) f.number) (taken past)).changes ≡ true → n ≤ max f.number (greatest_named past)
     by_fragments f true rest h = elim (any_whole f.number n (with_fragments_of e.time f (taken past).begun) (received past) h) [
       | inl e ↦ omega (arith, e)
       | inr e ↦ (let le : n ≤ greatest_named past = rest e in omega arith)
     ]
     by_fragments f false rest h = let le : n ≤ greatest_named past = rest h in omega arith
 
-    by_body : (b : Brought) → (list_any (λ s. eqb s.number n) (received past) ≡ true → n ≤ greatest_named past) → list_any (λ s. eqb s.number n) (taken_after (taken past) past (record { time = e.time; body = b })).changes ≡ true → n ≤ max (greatest_in b) (greatest_named past)
+    by_body : (b : EventBody) → (list_any (λ s. eqb s.number n) (received past) ≡ true → n ≤ greatest_named past) → list_any (λ s. eqb s.number n) (taken_after (taken past) past (record { time = e.time; body = b })).changes ≡ true → n ≤ max (greatest_in b) (greatest_named past)
     by_body (Whole c) rest h = by_test c (not (is_settled_by (received past) past c.number) && has_room_by (received past) past c.number) rest h
     by_body (Fragment f) rest h = by_fragments f (takes_fragments (taken past) past f) rest h
     by_body (Heartbeat b) rest h = let le : n ≤ greatest_named past = rest h in omega arith
@@ -83,7 +83,7 @@ received_bound (e ∷ past) n h = by_body e.body (received_bound past n) h
     by_body (HeartbeatFrag b) rest h = let le : n ≤ greatest_named past = rest h in omega arith
 
 -- nothing above what was named is settled
-pub settled_bound : (past : List Came) (n : ℕ) → is_settled past n ≡ true → n ≤ greatest_named past
+pub settled_bound : (past : List MatchEvent) (n : ℕ) → is_settled past n ≡ true → n ≤ greatest_named past
 settled_bound past n h =
     elim (or_cases (ltb n (first_of past) || is_irrelevant past n) (list_any (λ s. eqb s.number n) (received past)) h) [
       | inl e ↦ elim (or_cases (ltb n (first_of past)) (is_irrelevant past n) e) [
@@ -108,7 +108,7 @@ found_first p f below at (suc k) n low high =
           )
     ]
 
-pub frontier_is : (past : List Came) (f : ℕ) (rs : List Run) → Shows past f rs → frontier_of past ≡ f
+pub frontier_is : (past : List MatchEvent) (f : ℕ) (rs : List Run) → Shows past f rs → frontier_of past ≡ f
 unfolding frontier_of
 frontier_is past f rs shows =
     found_first (is_settled past) f (λ n l. shows.settled n ∙ marks_below f rs n l) (shows.settled f ∙ marks_at f rs shows.apart) (greatest_named past + 1) 0 (omega arith)
@@ -128,7 +128,7 @@ least_first p (suc k) n fails below = by_test (p n) refl (λ here. least_first p
     by_test true e rest = rw e (rest e)
     by_test false e rest = rw e (below, e)
 
-unsettled_end : (past : List Came) → is_settled past (0 + (greatest_named past + 1)) ≡ false
+unsettled_end : (past : List MatchEvent) → is_settled past (0 + (greatest_named past + 1)) ≡ false
 unsettled_end past = by_test (is_settled past (0 + (greatest_named past + 1))) refl
   where
     by_test : (b : Bool) → is_settled past (0 + (greatest_named past + 1)) ≡ b → b ≡ false
@@ -136,6 +136,6 @@ unsettled_end past = by_test (is_settled past (0 + (greatest_named past + 1))) r
     by_test false e = refl
 
 -- the frontier is the least number that isn't settled, whatever came
-pub frontier_least : (past : List Came) → ((n : ℕ) → n < frontier_of past → is_settled past n ≡ true) × (is_settled past (frontier_of past) ≡ false)
+pub frontier_least : (past : List MatchEvent) → ((n : ℕ) → n < frontier_of past → is_settled past n ≡ true) × (is_settled past (frontier_of past) ≡ false)
 unfolding frontier_of
 frontier_least past = least_first (is_settled past) (greatest_named past + 1) 0 (unsettled_end past) (λ j l. absurd (omega arith))

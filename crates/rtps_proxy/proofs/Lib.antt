@@ -14,6 +14,6 @@ pub mod Naming
 pub mod ByKind
 pub mod Beginning
 pub mod Members
-pub mod Brought
+pub mod EventBody
 pub mod Presenting
 pub mod Matching

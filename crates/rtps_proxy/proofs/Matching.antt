@@ -10,8 +10,8 @@ use Rattle.std.proofs.lemmas.Map.Text.{is_eq-slice_cmp}
 use Rattle.std.proofs.lemmas.Slice.Eq.{bytes_eq-Decides}
 use Rattle.rtps_types.specs.declared.identity.Guid.{Guid}
 use Rattle.rtps_types.specs.Order.{guid_order, octet_order}
-use Rattle.rtps_proxy.specs.History.{Came}
-use Rattle.rtps_proxy.specs.Kept.{Kept}
+use Rattle.rtps_proxy.specs.History.{MatchEvent}
+use Rattle.rtps_proxy.specs.Kept.{ProxyView}
 use Rattle.rtps_proxy.specs.Effects as proxy
 use Rattle.rtps_proxy.specs.Matches.{AllStand, Match, Stands, begun, ended, extended, match_with, same_guid}
 
@@ -36,10 +36,10 @@ tie w g =
     ∙ ap (λ b. b && is_eq (octet_order w.entity.0 g.entity.0)) (is_eq-slice_cmp w.prefix.0 g.prefix.0 ∙ turned w.prefix.0 g.prefix.0)
     ∙ ap (λ b. bytes_eq g.prefix.0 w.prefix.0 && b) (is_eq-slice_cmp w.entity.0 g.entity.0 ∙ turned w.entity.0 g.entity.0)
 
-at_head : (w : Guid) (m : Match) (s : Guid × Kept) (b : Bool) → Stands m s → is_eq (guid_order w s.0) ≡ b → same_guid m.whom.writer w ≡ b
+at_head : (w : Guid) (m : Match) (s : Guid × ProxyView) (b : Bool) → Stands m s → is_eq (guid_order w s.0) ≡ b → same_guid m.pairing.writer w ≡ b
 at_head w m s b one e = ap (λ g. same_guid g w) one.writer ∙ sym (tie w s.0) ∙ e
 
-pub not_matched : (w : Guid) (e : Came) (ms : List Match) (ss : List (Guid × Kept)) → AllStand ms ss → lookup (λ k. is_eq (guid_order w k)) ss ≡ None
+pub not_matched : (w : Guid) (e : MatchEvent) (ms : List Match) (ss : List (Guid × ProxyView)) → AllStand ms ss → lookup (λ k. is_eq (guid_order w k)) ss ≡ None
     → (extended w e ms ≡ ms) × (match_with w ms ≡ None)
 not_matched w e [] [] all none = (refl, refl)
 not_matched w e [] (s ∷ ss) all none = absurd all
@@ -54,14 +54,14 @@ not_matched w e (m ∷ ms) (s ∷ ss) all none = by_test (is_eq (guid_order w s.
         rw (at_head w m s false all.0 is) (ap (λ (l : List Match). m ∷ l) (rest left).0, (rest left).1)
 
 -- what stands of the match with a writer, and what stands once an event came for it
-pub record Found (w : Guid) (e : Came) (ms : List Match) (ss : List (Guid × Kept)) (p : Kept) : Type 0 where
+pub record Found (w : Guid) (e : MatchEvent) (ms : List Match) (ss : List (Guid × ProxyView)) (p : ProxyView) : Type 0 where
   pub match : Match
   pub is : match_with w ms ≡ Some match
-  pub whom : match.whom ≡ p.whom
+  pub pairing : match.pairing ≡ p.pairing
   pub stands : proxy.StandsAt match.past p
-  pub after : (new : Kept) → new.whom ≡ p.whom → proxy.StandsAt (e ∷ match.past) new → AllStand (extended w e ms) (set_value (λ k. is_eq (guid_order w k)) ss new)
+  pub after : (new : ProxyView) → new.pairing ≡ p.pairing → proxy.StandsAt (e ∷ match.past) new → AllStand (extended w e ms) (set_value (λ k. is_eq (guid_order w k)) ss new)
 
-pub matched : (w : Guid) (e : Came) (ms : List Match) (ss : List (Guid × Kept)) (p : Kept) → AllStand ms ss → lookup (λ k. is_eq (guid_order w k)) ss ≡ Some p → Found w e ms ss p
+pub matched : (w : Guid) (e : MatchEvent) (ms : List Match) (ss : List (Guid × ProxyView)) (p : ProxyView) → AllStand ms ss → lookup (λ k. is_eq (guid_order w k)) ss ≡ Some p → Found w e ms ss p
 matched w e [] [] p all found = absurd cc
 matched w e [] (s ∷ ss) p all found = absurd all
 matched w e (m ∷ ms) [] p all found = absurd all
@@ -75,9 +75,9 @@ matched w e (m ∷ ms) (s ∷ ss) p all found = by_test (is_eq (guid_order w s.0
         record {
           match = m;
           is = rw here refl;
-          whom = all.0.whom ∙ ap (λ (k : Kept). k.whom) same;
-          stands = subst (λ (k : Kept). proxy.StandsAt m.past k) same all.0.stands;
-          after = λ new whom stands. rw (here, is) (record { writer = all.0.writer; whom = all.0.whom ∙ ap (λ (k : Kept). k.whom) same ∙ sym whom; stands = stands }, all.1);
+          pairing = all.0.pairing ∙ ap (λ (k : ProxyView). k.pairing) same;
+          stands = subst (λ (k : ProxyView). proxy.StandsAt m.past k) same all.0.stands;
+          after = λ new pairing stands. rw (here, is) (record { writer = all.0.writer; pairing = all.0.pairing ∙ ap (λ (k : ProxyView). k.pairing) same ∙ sym pairing; stands = stands }, all.1);
         }
     by_test false is rest =
         let left : lookup (λ k. is_eq (guid_order w k)) ss ≡ Some p = rw is at found in
@@ -86,9 +86,9 @@ matched w e (m ∷ ms) (s ∷ ss) p all found = by_test (is_eq (guid_order w s.0
         record {
           match = more.match;
           is = rw here more.is;
-          whom = more.whom;
+          pairing = more.pairing;
           stands = more.stands;
-          after = λ new whom stands. rw (here, is) (all.0, more.after new whom stands);
+          after = λ new pairing stands. rw (here, is) (all.0, more.after new pairing stands);
         }
 
 and_first : (a b : Bool) → (a && b) ≡ true → a ≡ true
@@ -112,23 +112,23 @@ pub exact : (w g : Guid) → guid_order w g ≡ Equal → g ≡ w
 exact w g e = same_is g w (sym (tie w g) ∙ ap is_eq e)
 
 -- a match that begins stands where its writer has its place
-pub begun_stands : (m : Match) (g : Guid) (p : Kept) (ms : List Match) (ss : List (Guid × Kept)) → Stands m (g, p) → AllStand ms ss → AllStand (begun m ms) (insert_entry guid_order ss g p)
+pub begun_stands : (m : Match) (g : Guid) (p : ProxyView) (ms : List Match) (ss : List (Guid × ProxyView)) → Stands m (g, p) → AllStand ms ss → AllStand (begun m ms) (insert_entry guid_order ss g p)
 begun_stands m g p [] [] one all = (one, tt)
 begun_stands m g p [] (s ∷ ss) one all = absurd all
 begun_stands m g p (n ∷ ms) [] one all = absurd all
-begun_stands m g p (n ∷ ms) (s ∷ ss) one all = by_order (guid_order m.whom.writer n.whom.writer) refl (begun_stands m g p ms ss one all.1)
+begun_stands m g p (n ∷ ms) (s ∷ ss) one all = by_order (guid_order m.pairing.writer n.pairing.writer) refl (begun_stands m g p ms ss one all.1)
   where
-    same : guid_order g s.0 ≡ guid_order m.whom.writer n.whom.writer
-    same = ap (λ h. guid_order h s.0) (sym one.writer) ∙ ap (guid_order m.whom.writer) (sym all.0.writer)
+    same : guid_order g s.0 ≡ guid_order m.pairing.writer n.pairing.writer
+    same = ap (λ h. guid_order h s.0) (sym one.writer) ∙ ap (guid_order m.pairing.writer) (sym all.0.writer)
 
-    by_order : (o : Ordering) → guid_order m.whom.writer n.whom.writer ≡ o → AllStand (begun m ms) (insert_entry guid_order ss g p)
+    by_order : (o : Ordering) → guid_order m.pairing.writer n.pairing.writer ≡ o → AllStand (begun m ms) (insert_entry guid_order ss g p)
         → AllStand (begun m (n ∷ ms)) (insert_entry guid_order (s ∷ ss) g p)
     by_order Less e rest = rw (e, same ∙ e) (one, all)
-    by_order Equal e rest = rw (e, same ∙ e) (record { writer = one.writer ∙ sym (exact g s.0 (same ∙ e)); whom = one.whom; stands = one.stands }, all.1)
+    by_order Equal e rest = rw (e, same ∙ e) (record { writer = one.writer ∙ sym (exact g s.0 (same ∙ e)); pairing = one.pairing; stands = one.stands }, all.1)
     by_order Greater e rest = rw (e, same ∙ e) (all.0, rest)
 
 -- where nothing is at a writer, its end changes nothing
-none_ends : (w : Guid) (ms : List Match) (ss : List (Guid × Kept)) → AllStand ms ss → lookup (λ k. is_eq (guid_order w k)) ss ≡ None → ended w ms ≡ ms
+none_ends : (w : Guid) (ms : List Match) (ss : List (Guid × ProxyView)) → AllStand ms ss → lookup (λ k. is_eq (guid_order w k)) ss ≡ None → ended w ms ≡ ms
 none_ends w [] [] all none = refl
 none_ends w [] (s ∷ ss) all none = absurd all
 none_ends w (m ∷ ms) [] all none = absurd all
@@ -141,7 +141,7 @@ none_ends w (m ∷ ms) (s ∷ ss) all none = by_test (is_eq (guid_order w s.0)) 
         rw (at_head w m s false all.0 is) (ap (λ (l : List Match). m ∷ l) (rest left))
 
 -- the match with a writer ends, where no other entry is at it
-pub ended_stands : (w : Guid) (ms : List Match) (ss : List (Guid × Kept)) → AllStand ms ss → lookup (λ k. is_eq (guid_order w k)) (remove_entry (λ k. is_eq (guid_order w k)) ss) ≡ None
+pub ended_stands : (w : Guid) (ms : List Match) (ss : List (Guid × ProxyView)) → AllStand ms ss → lookup (λ k. is_eq (guid_order w k)) (remove_entry (λ k. is_eq (guid_order w k)) ss) ≡ None
     → AllStand (ended w ms) (remove_entry (λ k. is_eq (guid_order w k)) ss)
 ended_stands w [] [] all none = tt
 ended_stands w [] (s ∷ ss) all none = absurd all

@@ -12,7 +12,7 @@ use Rattle.rtps_types.specs.declared.set.FragSet.{FragSet}
 use Rattle.rtps_types.specs.Number.{value_of}
 use Rattle.rtps_wire.specs.Answering.{acknack_octets, nack_frag_octets}
 use Rattle.rtps_proxy.specs.Answer.{Acknack}
-use Rattle.rtps_proxy.specs.Kept.{Whom}
+use Rattle.rtps_proxy.specs.Kept.{Pairing}
 use Rattle.rtps_proxy.specs.NackFrag.{Nack, nack_by}
 use Rattle.rtps_proxy.specs.Replies.{nack_of, reply_of, set_of}
 use Rattle.rtps_proxy.specs.Runs.{AreApart, Run, marks}
@@ -42,7 +42,7 @@ final_is f rs apart announced =
     no_bits (marks f rs) f announced (marks_at f rs apart) ∙ tests ∙ ap not (sym (lacks_is f rs apart announced))
 
 -- the octets that are written say the answer
-pub octets_are : (w : Whom) (a : Acknack) (missing : SnSet) → sn_view missing ≡ set_of a → eqb a.bits 0 ≡ a.final → acknack_octets (record { reader = record { prefix = w.own; entity = w.reader }; writer = w.writer; missing = missing; count = a.count }) ≡ (reply_of w a).octets
+pub octets_are : (w : Pairing) (a : Acknack) (missing : SnSet) → sn_view missing ≡ set_of a → eqb a.bits 0 ≡ a.final → acknack_octets (record { reader = record { prefix = w.own; entity = w.reader }; writer = w.writer; missing = missing; count = a.count }) ≡ (reply_of w a).octets
 unfolding acknack_octets reply_of
 octets_are w a missing is final =
     let base : missing.base ≡ a.base = ap (λ (s : NumberSet). s.base) is in
@@ -50,15 +50,15 @@ octets_are w a missing is final =
     let words : missing.words ≡ with_bits a.base (replicate 8 0) a.members = ap (λ (s : NumberSet). s.words) is in
     rw (base, bits, words, final) refl
 
-pub sent_is : (w : Whom) (a : Acknack) (to : List Locator) (octets : List ℕ) → to ≡ w.locators → octets ≡ (reply_of w a).octets → record { to = to; octets = octets } ≡ reply_of w a
+pub sent_is : (w : Pairing) (a : Acknack) (to : List Locator) (octets : List ℕ) → to ≡ w.locators → octets ≡ (reply_of w a).octets → record { to = to; octets = octets } ≡ reply_of w a
 unfolding reply_of
 sent_is w a to octets where_to what = rw (where_to, what) refl
 
-pub nack_octets_are : (w : Whom) (number : Number) (earlier count : ℕ) (missing : FragSet) → count ≡ (earlier + 1) % 2 ^ 32
+pub nack_octets_are : (w : Pairing) (number : Number) (earlier count : ℕ) (missing : FragSet) → count ≡ (earlier + 1) % 2 ^ 32
     → nack_frag_octets (record { reader = record { prefix = w.own; entity = w.reader }; writer = w.writer; number = number; missing = missing; count = count }) ≡ (nack_of w (nack_by (value_of number) earlier (frag_view missing))).octets
 unfolding nack_frag_octets nack_of
 nack_octets_are w number earlier count missing is = rw is refl
 
-pub nack_is : (w : Whom) (a : Nack) (to : List Locator) (octets : List ℕ) → to ≡ w.locators → octets ≡ (nack_of w a).octets → record { to = to; octets = octets } ≡ nack_of w a
+pub nack_is : (w : Pairing) (a : Nack) (to : List Locator) (octets : List ℕ) → to ≡ w.locators → octets ≡ (nack_of w a).octets → record { to = to; octets = octets } ≡ nack_of w a
 unfolding nack_of
 nack_is w a to octets where_to what = rw (where_to, what) refl

@@ -4,13 +4,13 @@ use Rattle.std.specs.Prelude.{is_some, IfOk, OnOk}
 use Rattle.std.specs.List.{filter, AllByRecursion}
 use Rattle.std.proofs.lemmas.Bool.Decides.{nat_tests, leb_tells, eqb_tells}
 use Rattle.rtps_types.specs.declared.time.Timestamp.{Timestamp}
-use Rattle.rtps_receiver.specs.Brought.{Brought, Fragments, Whole, Fragment, Heartbeat, Gap, HeartbeatFrag}
+use Rattle.rtps_receiver.specs.EventBody.{EventBody, FragmentView, Whole, Fragment, Heartbeat, Gap, HeartbeatFrag}
 use Rattle.rtps_proxy.specs.BestEffort.{Taken, above, begun_by, greatest, is_among, ready, ready_by, skipped, standing, taken, takes_fragments, top_of, with_ready}
 use Rattle.rtps_proxy.specs.Changes.{change_view}
 use Rattle.rtps_proxy.specs.Effects.{BestEffortStandsAt}
 use Rattle.rtps_proxy.specs.Fragments.{Begun, begun_at, fits, fits_in, grown, is_faulty, opened, whole_at, with_fragments_of}
-use Rattle.rtps_proxy.specs.History.{Came, Sample}
-use Rattle.rtps_proxy.specs.Kept.{Latest, takes_above}
+use Rattle.rtps_proxy.specs.History.{MatchEvent, ChangeView}
+use Rattle.rtps_proxy.specs.Kept.{BestEffortView, takes_above}
 use Rattle.rtps_proxy.specs.Pending.{fits_found, found_at, last_64, place_in, whole_found}
 use Rattle.rtps_proxy.specs.Steps.{BestEffortStep}
 use Rattle.rtps_proxy.specs.declared.effects.Effects.{Effects}
@@ -116,7 +116,7 @@ greatest_is (b ∷ bs) rising short = elim (leb_tells (suc 64) (suc (length bs))
 ]
 
 -- fragments of a number add none above it
-pub above_put : (time : Option Timestamp) (f : Fragments) (bs : List Begun) → above f.number (with_fragments_of time f bs) ≡ above f.number bs
+pub above_put : (time : Option Timestamp) (f : FragmentView) (bs : List Begun) → above f.number (with_fragments_of time f bs) ≡ above f.number bs
 above_put time f [] = let itself : ltb f.number f.number ≡ false = grind (arith, nat_tests) in rw itself refl
 above_put time f (b ∷ bs) =
     let rest : above f.number (with_fragments_of time f bs) ≡ above f.number bs = above_put time f bs in
@@ -151,7 +151,7 @@ above_greatest n bs among = filter_both (λ b. ltb n b.number) (λ b. is_among b
       | inr w ↦ w.0
     ]
 
-put_length : (time : Option Timestamp) (f : Fragments) (bs : List Begun) → length (with_fragments_of time f bs) ≤ suc (length bs)
+put_length : (time : Option Timestamp) (f : FragmentView) (bs : List Begun) → length (with_fragments_of time f bs) ≤ suc (length bs)
 put_length time f [] = omega arith
 put_length time f (b ∷ bs) = by_tests (ltb b.number f.number) (eqb b.number f.number) (put_length time f bs)
   where
@@ -175,7 +175,7 @@ last_few : (bs : List Begun) → length bs ≤ 65 → length (last_64 bs) ≤ 64
 last_few [] short = omega arith
 last_few (b ∷ bs) short = elim (leb_tells (suc 64) (suc (length bs))) [ inl w ↦ rw w.0 (omega arith) | inr w ↦ (let le = w.1 in rw w.0 (omega arith)) ]
 
-in_order_put : (time : Option Timestamp) (f : Fragments) (bs : List Begun) → InOrder bs → InOrder (greatest (with_fragments_of time f bs))
+in_order_put : (time : Option Timestamp) (f : FragmentView) (bs : List Begun) → InOrder bs → InOrder (greatest (with_fragments_of time f bs))
 in_order_put time f bs h =
     let rising : Rising (with_fragments_of time f bs) = rising_put time f bs h.rising in
     let more : length (with_fragments_of time f bs) ≤ suc (length bs) = put_length time f bs in
@@ -186,19 +186,19 @@ in_order_put time f bs h =
       few = rw (greatest_is (with_fragments_of time f bs) rising short) (last_few (with_fragments_of time f bs) short);
     }
 
-pub in_order : (past : List Came) → InOrder (standing past)
+pub in_order : (past : List MatchEvent) → InOrder (standing past)
 in_order [] = record { rising = tt; few = omega arith }
 in_order (e ∷ past) = with_it (begun_by (taken past) e.time e.body) (ready_by (taken past) e.time e.body) (by_body e.body (in_order past))
   where
-    with_it : (bs : List Begun) (ss : List Sample) → InOrder bs → InOrder (with_ready bs (top_of past) ss).begun
+    with_it : (bs : List Begun) (ss : List ChangeView) → InOrder bs → InOrder (with_ready bs (top_of past) ss).begun
     with_it bs [] h = h
     with_it bs (s ∷ ss) h = in_order_above s.number bs h
 
-    by_test : (t : Bool) (f : Fragments) → InOrder (standing past) → InOrder (cond t (greatest (with_fragments_of e.time f (standing past))) (standing past))
+    by_test : (t : Bool) (f : FragmentView) → InOrder (standing past) → InOrder (cond t (greatest (with_fragments_of e.time f (standing past))) (standing past))
     by_test true f h = in_order_put e.time f (standing past) h
     by_test false f h = h
 
-    by_body : (b : Brought) → InOrder (standing past) → InOrder (begun_by (taken past) e.time b)
+    by_body : (b : EventBody) → InOrder (standing past) → InOrder (begun_by (taken past) e.time b)
     by_body (Whole c) h = h
     by_body (Fragment f) h = by_test (takes_fragments (taken past) f) f h
     by_body (Heartbeat b) h = h
@@ -244,7 +244,7 @@ among_is n (b ∷ bs) h =
     or_false false = refl
 
 -- whether fragments are taken, by what is kept
-pub takes_is : (past : List Came) (f : Fragments) → (ltb (top_of past) f.number && ((ltb 0 (place_in f.number (standing past)) || (ltb (length (standing past)) 64 || is_some (found_at f.number (standing past)))) && fits_found (standing past) f)) ≡ takes_fragments (taken past) f
+pub takes_is : (past : List MatchEvent) (f : FragmentView) → (ltb (top_of past) f.number && ((ltb 0 (place_in f.number (standing past)) || (ltb (length (standing past)) 64 || is_some (found_at f.number (standing past)))) && fits_found (standing past) f)) ≡ takes_fragments (taken past) f
 takes_is past f =
     let bs = standing past in
     let h = in_order past in
@@ -263,22 +263,22 @@ takes_is past f =
     last_first false false true = refl
     last_first false false false = refl
 
-pub takes_then : (past : List Came) (f : Fragments) (r : Latest) → BestEffortStandsAt past r → takes_above r f ≡ takes_fragments (taken past) f
+pub takes_then : (past : List MatchEvent) (f : FragmentView) (r : BestEffortView) → BestEffortStandsAt past r → takes_above r f ≡ takes_fragments (taken past) f
 takes_then past f r at = rw (at.top, at.pending) (takes_is past f)
 
 -- the sample that fragments make whole, by what is kept
-pub whole_is : (past : List Came) (time : Option Timestamp) (f : Fragments) → whole_at f.number (with_fragments_of time f (standing past)) ≡ listed (whole_found (found_at f.number (with_fragments_of time f (standing past))))
+pub whole_is : (past : List MatchEvent) (time : Option Timestamp) (f : FragmentView) → whole_at f.number (with_fragments_of time f (standing past)) ≡ listed (whole_found (found_at f.number (with_fragments_of time f (standing past))))
 whole_is past time f =
     whole_listed (begun_at f.number (with_fragments_of time f (standing past)))
     ∙ ap (λ o. listed (whole_found o)) (sym (found_is f.number (with_fragments_of time f (standing past)) (rising_put time f (standing past) (in_order past).rising)))
 
 -- what an event leaves and gives by which a change is received, or by which none is
-abbrev pub brings : List Came → Came → List Begun
+abbrev pub brings : List MatchEvent → MatchEvent → List Begun
 brings past event = begun_by (taken past) event.time event.body
 
-module _ {A : Type 0} (past : List Came) (event : Came) where
-  pub receives : {E : Type 0} (s : Sample) → ready past event ≡ s ∷ [] → (old : ℕ) (bs : List Begun) → old ≡ top_of past → above s.number bs ≡ above s.number (brings past event)
-      → (new : Latest) (result : Result (Effects A) E)
+module _ {A : Type 0} (past : List MatchEvent) (event : MatchEvent) where
+  pub receives : {E : Type 0} (s : ChangeView) → ready past event ≡ s ∷ [] → (old : ℕ) (bs : List Begun) → old ≡ top_of past → above s.number bs ≡ above s.number (brings past event)
+      → (new : BestEffortView) (result : Result (Effects A) E)
       → OnOk result (new.top ≡ s.number) → OnOk result (new.begun ≡ above s.number bs) → OnOk result (new.sound ≡ true)
       → IfOk result (λ effects. effects.lost ≡ skipped old (s ∷ [])) → IfOk result (λ effects. map change_view effects.ready.items ≡ s ∷ []) → IfOk result (λ effects. effects.answer ≡ None)
       → IfOk result (BestEffortStep past event new)
@@ -292,7 +292,7 @@ module _ {A : Type 0} (past : List Came) (event : Came) where
       }
   receives s is old bs was same new (Err e) top begun sound lost ready answer = tt
 
-  pub receives_none : ready past event ≡ [] → (new : Latest) (effects : Effects A) → new.top ≡ top_of past → new.begun ≡ brings past event → new.sound ≡ true
+  pub receives_none : ready past event ≡ [] → (new : BestEffortView) (effects : Effects A) → new.top ≡ top_of past → new.begun ≡ brings past event → new.sound ≡ true
       → effects.lost ≡ 0 → effects.ready.items ≡ [] → effects.answer ≡ None → BestEffortStep past event new effects
   receives_none is new effects top begun sound lost ready answer =
       let after : taken (event ∷ past) ≡ with_ready (brings past event) (top_of past) [] = ap (with_ready (brings past event) (top_of past)) is in
@@ -304,7 +304,7 @@ module _ {A : Type 0} (past : List Came) (event : Came) where
       }
 
 -- fragments that aren't taken do nothing; those that are bring their samples, and what they make whole is ready
-module _ (past : List Came) (time : Option Timestamp) (f : Fragments) where
+module _ (past : List MatchEvent) (time : Option Timestamp) (f : FragmentView) where
   abbrev pub Grown : List Begun
   Grown = with_fragments_of time f (standing past)
 

@@ -5,7 +5,7 @@ use Rattle.std.specs.List.{filter}
 use Rattle.std.proofs.lemmas.Bool.Decides.{nat_tests, leb_tells, eqb_tells}
 use Rattle.rtps_types.specs.declared.time.Timestamp.{Timestamp}
 use Rattle.rtps_types.specs.Number.{value_of}
-use Rattle.rtps_receiver.specs.Brought.{Fragments}
+use Rattle.rtps_receiver.specs.EventBody.{FragmentView}
 use Rattle.rtps_proxy.specs.declared.pending.Pending.{Pending}
 use Rattle.rtps_proxy.specs.Fragments.{Begun, grown, opened, with_fragments_of}
 use Rattle.rtps_proxy.specs.Pending.{are_sound, found_at, pending_view, pending_views, place_in}
@@ -52,7 +52,7 @@ module _ {A : Type 0} (n : ℕ) where
         | inr w ↦ w.1
       ]
 
-module _ {A : Type 0} (time : Option Timestamp) (f : Fragments) (q : Pending A) where
+module _ {A : Type 0} (time : Option Timestamp) (f : FragmentView) (q : Pending A) where
   -- fragments of a sample that is there
   pub put_there : (ps : List (Pending A)) (d : Pending A) → is_some (found_at f.number (pending_views ps)) ≡ true → pending_view q ≡ grown (pending_view (get_or ps (place_in f.number (pending_views ps)) d)) f
       → pending_views (set ps (place_in f.number (pending_views ps)) q) ≡ with_fragments_of time f (pending_views ps)
@@ -92,7 +92,7 @@ module _ {A : Type 0} (time : Option Timestamp) (f : Fragments) (q : Pending A) 
       by_test false rest none = by_same (eqb (value_of p.number) f.number) none
 
 -- the place stays, and the sample is there then
-module _ (time : Option Timestamp) (f : Fragments) where
+module _ (time : Option Timestamp) (f : FragmentView) where
   pub place_stays : (bs : List Begun) → place_in f.number (with_fragments_of time f bs) ≡ place_in f.number bs
   place_stays [] = let e : ltb f.number f.number ≡ false = grind (arith, nat_tests) in rw e refl
   place_stays (b ∷ bs) =

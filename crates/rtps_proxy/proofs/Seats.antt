@@ -6,10 +6,10 @@ use Rattle.std.proofs.lemmas.Bool.Decides.{nat_tests, leb_tells, eqb_tells}
 use Rattle.std.proofs.lemmas.List.Elements.{filter_agree}
 use Rattle.rtps_types.specs.declared.time.Timestamp.{Timestamp}
 use Rattle.rtps_types.specs.Numbers.{all_below}
-use Rattle.rtps_receiver.specs.Brought.{Brought, Fragments, Whole, Fragment, Heartbeat, Gap, HeartbeatFrag}
+use Rattle.rtps_receiver.specs.EventBody.{EventBody, FragmentView, Whole, Fragment, Heartbeat, Gap, HeartbeatFrag}
 use Rattle.rtps_frags.specs.Fragments.{is_whole}
 use Rattle.rtps_proxy.specs.Fragments.{Begun, begun_at, fits, fits_in, grown, is_begun, is_faulty, opened, sample_in, whole_at, whole_of, with_fragments_of}
-use Rattle.rtps_proxy.specs.History.{Came, Sample}
+use Rattle.rtps_proxy.specs.History.{MatchEvent, ChangeView}
 use Rattle.rtps_proxy.specs.Pending.{fits_found, found_at, whole_found}
 use Rattle.rtps_proxy.specs.Received.{Taken, has_seat_by, held, in_order, is_settled, received, standing, taken, taken_after, takes_fragments, with_begun}
 use Rattle.rtps_proxy.specs.Runs.{Run, marks}
@@ -23,7 +23,7 @@ abbrev pub Rising : List Begun → Type 0
 Rising [] = Unit {0}
 Rising (b ∷ bs) = AllByRecursion (λ c. b.number < c.number) bs × Rising bs
 
-all_put : (n : ℕ) (time : Option Timestamp) (f : Fragments) (bs : List Begun) → n < f.number → AllByRecursion (λ c. n < c.number) bs → AllByRecursion (λ c. n < c.number) (with_fragments_of time f bs)
+all_put : (n : ℕ) (time : Option Timestamp) (f : FragmentView) (bs : List Begun) → n < f.number → AllByRecursion (λ c. n < c.number) bs → AllByRecursion (λ c. n < c.number) (with_fragments_of time f bs)
 all_put n time f [] l all = (l, tt)
 all_put n time f (b ∷ bs) l all =
     let rest : AllByRecursion (λ c. n < c.number) (with_fragments_of time f bs) = all_put n time f bs l all.1 in
@@ -36,7 +36,7 @@ all_more : (m n : ℕ) (bs : List Begun) → m < n → AllByRecursion (λ c. n <
 all_more m n [] l all = tt
 all_more m n (b ∷ bs) l all = let here : n < b.number = all.0 in (omega (arith, here, l), all_more m n bs l all.1)
 
-pub rising_put : (time : Option Timestamp) (f : Fragments) (bs : List Begun) → Rising bs → Rising (with_fragments_of time f bs)
+pub rising_put : (time : Option Timestamp) (f : FragmentView) (bs : List Begun) → Rising bs → Rising (with_fragments_of time f bs)
 rising_put time f [] h = (tt, tt)
 rising_put time f (b ∷ bs) h =
     let rest : Rising (with_fragments_of time f bs) = rising_put time f bs h.1 in
@@ -52,15 +52,15 @@ rising_put time f (b ∷ bs) h =
       ]
     ]
 
-pub rising_begun : (past : List Came) → Rising (taken past).begun
+pub rising_begun : (past : List MatchEvent) → Rising (taken past).begun
 rising_begun [] = tt
 rising_begun (e ∷ past) = by_body e.body (rising_begun past)
   where
-    by_test : (f : Fragments) (b : Bool) → Rising (taken past).begun → Rising (cond b (with_begun (taken past) (with_fragments_of e.time f (taken past).begun) f.number) (taken past)).begun
+    by_test : (f : FragmentView) (b : Bool) → Rising (taken past).begun → Rising (cond b (with_begun (taken past) (with_fragments_of e.time f (taken past).begun) f.number) (taken past)).begun
     by_test f true rest = rising_put e.time f (taken past).begun rest
     by_test f false rest = rest
 
-    by_body : (b : Brought) → Rising (taken past).begun → Rising (taken_after (taken past) past (record { time = e.time; body = b })).begun
+    by_body : (b : EventBody) → Rising (taken past).begun → Rising (taken_after (taken past) past (record { time = e.time; body = b })).begun
     by_body (Whole c) rest = rest
     by_body (Fragment f) rest = by_test f (takes_fragments (taken past) past f) rest
     by_body (Heartbeat h) rest = rest
@@ -88,7 +88,7 @@ module _ (p : ℕ → Bool) where
       by_test false rest = rest
 
   -- above all of them
-  put_before : (time : Option Timestamp) (f : Fragments) (bs : List Begun) → AllByRecursion (λ c. f.number < c.number) bs → with_fragments_of time f bs ≡ grown (opened time f) f ∷ bs
+  put_before : (time : Option Timestamp) (f : FragmentView) (bs : List Begun) → AllByRecursion (λ c. f.number < c.number) bs → with_fragments_of time f bs ≡ grown (opened time f) f ∷ bs
   put_before time f [] all = refl
   put_before time f (b ∷ bs) all =
       let above : f.number < b.number = all.0 in
@@ -97,7 +97,7 @@ module _ (p : ℕ → Bool) where
       rw (not_less, not_same) refl
 
   -- a filter that lets the number pass
-  pub put_passing : (time : Option Timestamp) (f : Fragments) (bs : List Begun) → Rising bs → p f.number ≡ true → passing (with_fragments_of time f bs) ≡ with_fragments_of time f (passing bs)
+  pub put_passing : (time : Option Timestamp) (f : FragmentView) (bs : List Begun) → Rising bs → p f.number ≡ true → passing (with_fragments_of time f bs) ≡ with_fragments_of time f (passing bs)
   put_passing time f [] h ok = rw ok refl
   put_passing time f (b ∷ bs) h ok =
       let rest : passing (with_fragments_of time f bs) ≡ with_fragments_of time f (passing bs) = put_passing time f bs h.1 ok in
@@ -182,7 +182,7 @@ filter_both p q less (b ∷ bs) = by_test (q b) refl (filter_both p q less bs)
     by_test false e rest = rest ∙ sym (rw (less b e) refl)
 
 -- where no sample begins at an event, those of numbers that are settled then leave
-pub standing_then : (past : List Came) (e : Came) (f f' : ℕ) (rs rs' : List Run) → Shows past f rs → Shows (e ∷ past) f' rs' → (taken (e ∷ past)).begun ≡ (taken past).begun → ((n : ℕ) → marks f rs n ≡ true → marks f' rs' n ≡ true)
+pub standing_then : (past : List MatchEvent) (e : MatchEvent) (f f' : ℕ) (rs rs' : List Run) → Shows past f rs → Shows (e ∷ past) f' rs' → (taken (e ∷ past)).begun ≡ (taken past).begun → ((n : ℕ) → marks f rs n ≡ true → marks f' rs' n ≡ true)
     → filter (λ b. not (marks f' rs' b.number)) (standing past) ≡ standing (e ∷ past)
 standing_then past e f f' rs rs' shows shows' same keeps =
     filter_both (λ b. not (marks f' rs' b.number)) (λ b. not (is_settled past b.number)) less (taken past).begun
@@ -197,13 +197,13 @@ standing_then past e f f' rs rs' shows shows' same keeps =
     less b h = ap not (keeps b.number (sym (shows.settled b.number) ∙ not_false (is_settled past b.number) h))
 
 -- and where no number is settled, the same stand
-pub standing_same : (past : List Came) (e : Came) → (taken (e ∷ past)).begun ≡ (taken past).begun → ((n : ℕ) → is_settled (e ∷ past) n ≡ is_settled past n) → standing (e ∷ past) ≡ standing past
+pub standing_same : (past : List MatchEvent) (e : MatchEvent) → (taken (e ∷ past)).begun ≡ (taken past).begun → ((n : ℕ) → is_settled (e ∷ past) n ≡ is_settled past n) → standing (e ∷ past) ≡ standing past
 standing_same past e same settled =
     ap (filter (λ b. not (is_settled (e ∷ past) b.number))) same
     ∙ filter_agree (λ (b : Begun). not (is_settled (e ∷ past) b.number)) (λ b. not (is_settled past b.number)) (λ b. ap not (settled b.number)) (taken past).begun
 
 -- the same where a sample begins or grows
-pub standing_from : (past : List Came) (e : Came) (f f' : ℕ) (rs rs' : List Run) (bs : List Begun) → Shows past f rs → Shows (e ∷ past) f' rs' → (taken (e ∷ past)).begun ≡ bs → ((n : ℕ) → marks f rs n ≡ true → marks f' rs' n ≡ true)
+pub standing_from : (past : List MatchEvent) (e : MatchEvent) (f f' : ℕ) (rs rs' : List Run) (bs : List Begun) → Shows past f rs → Shows (e ∷ past) f' rs' → (taken (e ∷ past)).begun ≡ bs → ((n : ℕ) → marks f rs n ≡ true → marks f' rs' n ≡ true)
     → filter (λ b. not (marks f' rs' b.number)) (filter (λ b. not (is_settled past b.number)) bs) ≡ standing (e ∷ past)
 standing_from past e f f' rs rs' bs shows shows' same keeps =
     filter_both (λ b. not (marks f' rs' b.number)) (λ b. not (is_settled past b.number)) less bs
@@ -226,14 +226,14 @@ and_assoc true b c = refl
 and_assoc false b c = refl
 
 -- the sample of an unsettled number is found among those that stand
-pub found_standing : (past : List Came) (n : ℕ) → is_settled past n ≡ false → found_at n (standing past) ≡ begun_at n (taken past).begun
+pub found_standing : (past : List MatchEvent) (n : ℕ) → is_settled past n ≡ false → found_at n (standing past) ≡ begun_at n (taken past).begun
 found_standing past n unsettled =
     let passes : not (is_settled past n) ≡ true = ap not unsettled in
     found_is n (standing past) (rising_passing (λ k. not (is_settled past k)) (taken past).begun (rising_begun past))
     ∙ at_passing (λ k. not (is_settled past k)) n (taken past).begun passes
 
 -- whether fragments are taken, by what the proxy keeps
-pub fragments_taken_is : (past : List Came) (f : Fragments) (front : ℕ) (rs : List Run) (waiting : List Sample) (bs : List Begun) → Shows past front rs → waiting ≡ in_order (held past) → bs ≡ standing past
+pub fragments_taken_is : (past : List MatchEvent) (f : FragmentView) (front : ℕ) (rs : List Run) (waiting : List ChangeView) (bs : List Begun) → Shows past front rs → waiting ≡ in_order (held past) → bs ≡ standing past
     → (fits_found bs f && ((not (marks front rs f.number) && (leb f.number front || ltb (length waiting) 65536)) && (is_some (found_at f.number bs) || (leb f.number front || ltb (length bs) 64)))) ≡ takes_fragments (taken past) past f
 fragments_taken_is past f front rs waiting bs shows waits is = by_settled (is_settled past f.number) refl
   where
@@ -259,7 +259,7 @@ fragments_taken_is past f front rs waiting bs shows waits is = by_settled (is_se
         ∙ ap (λ a. fits (taken past).begun f && ((not (is_settled past f.number) && has_room_by (received past) past f.number) && a)) seat
         ∙ ap (λ a. fits (taken past).begun f && a) (and_assoc (not (is_settled past f.number)) (has_room_by (received past) past f.number) (has_seat_by (taken past) past f.number))
 
-abbrev pub listed : Option Sample → List Sample
+abbrev pub listed : Option ChangeView → List ChangeView
 listed None = []
 listed (Some s) = s ∷ []
 
@@ -272,7 +272,7 @@ whole_listed (Some b) = by_test (is_whole b.sizes b.there)
     by_test false = refl
 
 -- fragments that are taken
-module _ (past : List Came) (time : Option Timestamp) (f : Fragments) (unsettled : is_settled past f.number ≡ false) where
+module _ (past : List MatchEvent) (time : Option Timestamp) (f : FragmentView) (unsettled : is_settled past f.number ≡ false) where
   passes : not (is_settled past f.number) ≡ true
   passes = ap not unsettled
 
@@ -299,10 +299,10 @@ module _ (past : List Came) (time : Option Timestamp) (f : Fragments) (unsettled
     -- where it isn't whole, it stands
     module _ (none : whole_at f.number Grown ≡ []) where
       pub same_received : received (frags_at time f ∷ past) ≡ received past
-      same_received = ap (λ (t : Taken). t.changes) (frags_taken past time f takes_it) ∙ ap (λ (xs : List Sample). xs ++ received past) none
+      same_received = ap (λ (t : Taken). t.changes) (frags_taken past time f takes_it) ∙ ap (λ (xs : List ChangeView). xs ++ received past) none
 
       pub same_settled : (m : ℕ) → is_settled (frags_at time f ∷ past) m ≡ is_settled past m
-      same_settled m = ap (λ (got : List Sample). is_settled_by got past m) same_received
+      same_settled m = ap (λ (got : List ChangeView). is_settled_by got past m) same_received
 
       pub standing_more : with_fragments_of time f (standing past) ≡ standing (frags_at time f ∷ past)
       standing_more =
@@ -311,5 +311,5 @@ module _ (past : List Came) (time : Option Timestamp) (f : Fragments) (unsettled
           ∙ ap (filter (λ b. not (is_settled (frags_at time f ∷ past) b.number))) (sym begun_then)
 
 -- fragments that aren't taken do nothing
-pub left_same : (past : List Came) (time : Option Timestamp) (f : Fragments) → takes_fragments (taken past) past f ≡ false → (m : ℕ) → is_settled (frags_at time f ∷ past) m ≡ is_settled past m
+pub left_same : (past : List MatchEvent) (time : Option Timestamp) (f : FragmentView) → takes_fragments (taken past) past f ≡ false → (m : ℕ) → is_settled (frags_at time f ∷ past) m ≡ is_settled past m
 left_same past time f h m = ap (λ (t : Taken). is_settled_by t.changes past m) (frags_left past time f h)

@@ -3,35 +3,35 @@ use Rattle.std.proofs.Common.{◌≡◌, ℕ, suc, ◌+◌, ◌<◌, ◌≤◌, 
 use Rattle.std.specs.List.{filter, list_any}
 use Rattle.std.proofs.lemmas.Bool.Decides.{nat_tests, leb_tells, eqb_tells}
 use Rattle.rtps_types.specs.declared.time.Timestamp.{Timestamp}
-use Rattle.rtps_receiver.specs.Brought.{Change, Whole}
+use Rattle.rtps_receiver.specs.EventBody.{WholeView, Whole}
 use Rattle.rtps_types.specs.Numbers.{all_below}
 use Rattle.rtps_proxy.specs.Runs.{AreApart, Run, marks}
-use Rattle.rtps_proxy.specs.History.{Came, Sample, first_of, is_irrelevant, sample_of}
+use Rattle.rtps_proxy.specs.History.{MatchEvent, ChangeView, first_of, is_irrelevant, change_of}
 use Rattle.rtps_proxy.specs.Settled.{has_room_by}
 use Rattle.rtps_proxy.specs.Received.{held, in_order, is_covered, is_settled, put, ready, received}
 use Rattle.rtps_proxy.specs.Held.{behind_front, front_below, is_below, not_below}
 use Rattle.rtps_proxy.proofs.Ordering.{AtLeast, all_behind, behind_is, front_is, in_order_rises, none_below, put_at_least, put_front}
 use Rattle.rtps_proxy.proofs.Standing.{Shows, all_below_is, covered_is, frontier_rises, marks_at, marks_below, or_true, settle_held, settle_ready}
 
-abbrev pub change_at : Option Timestamp → Change → Came
+abbrev pub change_at : Option Timestamp → WholeView → MatchEvent
 change_at time c = record { time = time; body = Whole c }
 
 -- the change is taken
-abbrev pub takes : List Came → ℕ → Bool
+abbrev pub takes : List MatchEvent → ℕ → Bool
 takes past n = not (is_settled past n) && has_room_by (received past) past n
 
-length_put : (s : Sample) (ts : List Sample) → length (put s ts) ≡ suc (length ts)
+length_put : (s : ChangeView) (ts : List ChangeView) → length (put s ts) ≡ suc (length ts)
 length_put s [] = refl
 length_put s (t ∷ ts) =
     let rest : length (put s ts) ≡ suc (length ts) = length_put s ts in
     elim (leb_tells (suc t.number) s.number) [ inl w ↦ rw w.0 (ap suc rest) | inr w ↦ rw w.0 refl ]
 
-length-in_order : (ss : List Sample) → length (in_order ss) ≡ length ss
+length-in_order : (ss : List ChangeView) → length (in_order ss) ≡ length ss
 length-in_order [] = refl
 length-in_order (s ∷ ss) = length_put s (in_order ss) ∙ ap suc (length-in_order ss)
 
 -- whether a change is taken, by what the proxy keeps
-pub takes_is : (past : List Came) (n f : ℕ) (rs : List Run) (count : ℕ) (waiting : List Sample) → Shows past f rs → waiting ≡ in_order (held past) → count ≡ length waiting → takes past n ≡ (not (marks f rs n) && (leb n f || ltb count 65536))
+pub takes_is : (past : List MatchEvent) (n f : ℕ) (rs : List Run) (count : ℕ) (waiting : List ChangeView) → Shows past f rs → waiting ≡ in_order (held past) → count ≡ length waiting → takes past n ≡ (not (marks f rs n) && (leb n f || ltb count 65536))
 takes_is past n f rs count waiting shows is counted =
     let few : count ≡ length (held past) = counted ∙ ap length is ∙ length-in_order (held past) in
     ap (λ b. not b && (all_below (is_settled past) n || ltb (length (held past)) 65536)) (shows.settled n)
@@ -39,14 +39,14 @@ takes_is past n f rs count waiting shows is counted =
     ∙ ap (λ k. not (marks f rs n) && (leb n f || ltb k 65536)) (sym few)
 
 -- a change that isn't taken does nothing
-pub left_received : (past : List Came) (time : Option Timestamp) (c : Change) → takes past c.number ≡ false → received (change_at time c ∷ past) ≡ received past
+pub left_received : (past : List MatchEvent) (time : Option Timestamp) (c : WholeView) → takes past c.number ≡ false → received (change_at time c ∷ past) ≡ received past
 left_received past time c h = rw h refl
 
-pub left_settled : (past : List Came) (time : Option Timestamp) (c : Change) → takes past c.number ≡ false → (m : ℕ) → is_settled (change_at time c ∷ past) m ≡ is_settled past m
+pub left_settled : (past : List MatchEvent) (time : Option Timestamp) (c : WholeView) → takes past c.number ≡ false → (m : ℕ) → is_settled (change_at time c ∷ past) m ≡ is_settled past m
 left_settled past time c h m = rw h refl
 
 -- one that is taken is received
-pub taken_received : (past : List Came) (time : Option Timestamp) (c : Change) → takes past c.number ≡ true → received (change_at time c ∷ past) ≡ sample_of time c ∷ received past
+pub taken_received : (past : List MatchEvent) (time : Option Timestamp) (c : WholeView) → takes past c.number ≡ true → received (change_at time c ∷ past) ≡ change_of time c ∷ received past
 taken_received past time c h = rw h refl
 
 one_number : (m n : ℕ) → (leb m n && ltb n (m + 1)) ≡ eqb m n
@@ -60,7 +60,7 @@ or_taken false true false got = refl
 or_taken false false here got = refl
 
 -- what a proxy keeps before and behind a change that is taken
-pub record Takes (past : List Came) (event : Came) (s : Sample) (f f' : ℕ) (rs rs' : List Run) (waiting : List Sample) : Type 0 where
+pub record Takes (past : List MatchEvent) (event : MatchEvent) (s : ChangeView) (f f' : ℕ) (rs rs' : List Run) (waiting : List ChangeView) : Type 0 where
   pub before : Shows past f rs
   pub got : received (event ∷ past) ≡ s ∷ received past
   pub first : first_of (event ∷ past) ≡ first_of past
@@ -74,7 +74,7 @@ pub not_and : (a b : Bool) → (not a && b) ≡ true → a ≡ false
 not_and true b h = absurd cc
 not_and false b h = refl
 
-module _ (past : List Came) (event : Came) (s : Sample) (f f' : ℕ) (rs rs' : List Run) (waiting : List Sample) (t : Takes past event s f f' rs rs' waiting) where
+module _ (past : List MatchEvent) (event : MatchEvent) (s : ChangeView) (f f' : ℕ) (rs rs' : List Run) (waiting : List ChangeView) (t : Takes past event s f f' rs rs' waiting) where
   pub taken_shows : Shows (event ∷ past) f' rs'
   taken_shows = record {
     settled = λ m.
@@ -102,7 +102,7 @@ module _ (past : List Came) (event : Came) (s : Sample) (f f' : ℕ) (rs rs' : L
       let waits : is_covered past s.number ≡ false = covered_is past f rs t.before s.number ∙ behind in
       rw (t.got, waits) (ap (put s) t.waits)
 
-  behind_all : (ss : List Sample) → AtLeast f (filter (λ s. not (is_covered past s.number)) ss)
+  behind_all : (ss : List ChangeView) → AtLeast f (filter (λ s. not (is_covered past s.number)) ss)
   behind_all [] = tt
   behind_all (s ∷ ss) = by_test (is_covered past s.number) refl (behind_all ss)
     where
@@ -113,7 +113,7 @@ module _ (past : List Came) (event : Came) (s : Sample) (f f' : ℕ) (rs rs' : L
           let le : f ≤ s.number = grind (arith, nat_tests) in
           rw e (le, rest)
 
-  in_order_behind : (ss : List Sample) → AtLeast f ss → AtLeast f (in_order ss)
+  in_order_behind : (ss : List ChangeView) → AtLeast f ss → AtLeast f (in_order ss)
   in_order_behind [] h = tt
   in_order_behind (s ∷ ss) h = put_at_least f s (in_order ss) h.0 (in_order_behind ss h.1)
 

@@ -8,7 +8,7 @@ use Rattle.rtps_types.specs.Number.{value_of}
 use Rattle.rtps_proxy.specs.Changes.{change_view}
 use Rattle.rtps_proxy.specs.declared.change.Change.{Change}
 use Rattle.rtps_proxy.specs.Held.{IsPlace, IsRising}
-use Rattle.rtps_proxy.specs.History.{Sample}
+use Rattle.rtps_proxy.specs.History.{ChangeView}
 use Rattle.rtps_proxy.specs.Received.{put}
 
 module _ {A : Type 0} where
@@ -74,4 +74,4 @@ module _ {A : Type 0} where
       let lesser : value_of t.number < value_of c.number = place.0.0 in
       let passes : ltb (value_of t.number) (value_of c.number) ≡ true = grind (arith, nat_tests) in
       let rest : map change_view (take at ts ++ c ∷ drop at ts) ≡ put (change_view c) (map change_view ts) = put_at ts c at (place.0.1, place.1) in
-      rw passes (ap (λ (us : List Sample). change_view t ∷ us) rest)
+      rw passes (ap (λ (us : List ChangeView). change_view t ∷ us) rest)

@@ -2,12 +2,12 @@
 use Rattle.std.specs.Prelude.{ℕ, ◌+◌, ◌-◌, ◌%◌, ◌^◌, min, Bool, false, not, ◌&&◌, ◌||◌, List, [], ◌∷◌, if◌then◌else◌, Option, Some, None}
 use Rattle.rtps_types.specs.Named.{bits_of}
 use Rattle.rtps_types.specs.Numbers.{failing_from, lacks}
-use Rattle.rtps_receiver.specs.Brought.{Announced, Brought, Whole, Fragment, Heartbeat, Gap, HeartbeatFrag}
-use Rattle.rtps_proxy.specs.History.{Came, announced_of, is_new}
+use Rattle.rtps_receiver.specs.EventBody.{HeartbeatView, EventBody, Whole, Fragment, Heartbeat, Gap, HeartbeatFrag}
+use Rattle.rtps_proxy.specs.History.{MatchEvent, announced_of, is_new}
 use Rattle.rtps_proxy.specs.Received.{frontier_of, is_settled}
 
 -- a change of the match is missing
-abbrev pub is_incomplete : List Came → Bool
+abbrev pub is_incomplete : List MatchEvent → Bool
 is_incomplete past = lacks (is_settled past) (announced_of past)
 
 -- what asks for missing numbers: a base, those of the 256 numbers from it on that are missing, how many bits reach the greatest, and whether none is
@@ -25,24 +25,24 @@ acknack_by settled base announced earlier =
     in record { base = base; members = members; bits = bits_of base members; final = not (lacks settled announced); count = (earlier + 1) % 2 ^ 32 }
 
 -- an accepted heartbeat is answered where it isn't final, or isn't about liveliness and something is missing
-abbrev pub asks : List Came → Came → Announced → Bool
+abbrev pub asks : List MatchEvent → MatchEvent → HeartbeatView → Bool
 asks past e h = is_new past h.count && (not h.final_flag || (not h.liveliness && is_incomplete (e ∷ past)))
 
-abbrev pub is_answered_by : List Came → Came → Brought → Bool
+abbrev pub is_answered_by : List MatchEvent → MatchEvent → EventBody → Bool
 is_answered_by past e (Whole c) = false
 is_answered_by past e (Fragment f) = false
 is_answered_by past e (Heartbeat h) = asks past e h
 is_answered_by past e (Gap g) = false
 is_answered_by past e (HeartbeatFrag h) = false
 
-abbrev pub is_answered : List Came → Came → Bool
+abbrev pub is_answered : List MatchEvent → MatchEvent → Bool
 is_answered past e = is_answered_by past e e.body
 
 -- how many events were answered
-abbrev pub answers : List Came → ℕ
+abbrev pub answers : List MatchEvent → ℕ
 answers [] = 0
 answers (e ∷ past) = if is_answered past e then answers past + 1 else answers past
 
-abbrev pub answer : List Came → Came → Option Acknack
+abbrev pub answer : List MatchEvent → MatchEvent → Option Acknack
 answer past e =
     if is_answered past e then Some (acknack_by (is_settled (e ∷ past)) (frontier_of (e ∷ past)) (announced_of (e ∷ past)) (answers past)) else None

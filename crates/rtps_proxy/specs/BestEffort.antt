@@ -1,9 +1,9 @@
 -- What a best-effort reader takes and presents of a match (DDSI-RTPS 8.4.11, 8.4.14.1).
 use Rattle.std.specs.Prelude.{ℕ, ◌-◌, Bool, ◌&&◌, ◌==◌, nat_lt, List, [], ◌∷◌, length, filter, Option, if◌then◌else◌}
 use Rattle.rtps_types.specs.declared.time.Timestamp.{Timestamp}
-use Rattle.rtps_receiver.specs.Brought.{Brought, Fragments, Whole, Fragment, Heartbeat, Gap, HeartbeatFrag}
+use Rattle.rtps_receiver.specs.EventBody.{EventBody, FragmentView, Whole, Fragment, Heartbeat, Gap, HeartbeatFrag}
 use Rattle.rtps_proxy.specs.Fragments.{Begun, fits, whole_at, with_fragments_of}
-use Rattle.rtps_proxy.specs.History.{Came, Sample, sample_of}
+use Rattle.rtps_proxy.specs.History.{MatchEvent, ChangeView, change_of}
 
 -- what was taken of a match: the greatest number of a change that was received, 0 before the first,
 -- and by number the samples above it of which fragments were taken: these stand
@@ -24,11 +24,11 @@ abbrev pub above : ℕ → List Begun → List Begun
 above n bs = filter (λ b. nat_lt n b.number) bs
 
 -- a DATA_FRAG is taken where it fits, its number is above the top, and fewer than 64 greater stand
-abbrev pub takes_fragments : Taken → Fragments → Bool
+abbrev pub takes_fragments : Taken → FragmentView → Bool
 takes_fragments t f = fits t.begun f && (nat_lt t.top f.number && is_among t.begun f.number)
 
 -- the samples of which fragments are there, once this was brought
-abbrev pub begun_by : Taken → Option Timestamp → Brought → List Begun
+abbrev pub begun_by : Taken → Option Timestamp → EventBody → List Begun
 begun_by t time (Whole c) = t.begun
 begun_by t time (Fragment f) = if takes_fragments t f then greatest (with_fragments_of time f t.begun) else t.begun
 begun_by t time (Heartbeat h) = t.begun
@@ -36,40 +36,40 @@ begun_by t time (Gap g) = t.begun
 begun_by t time (HeartbeatFrag h) = t.begun
 
 -- what is received and ready then: a change above the top, or the sample that fragments make whole
-abbrev pub ready_by : Taken → Option Timestamp → Brought → List Sample
-ready_by t time (Whole c) = if nat_lt t.top c.number then sample_of time c ∷ [] else []
+abbrev pub ready_by : Taken → Option Timestamp → EventBody → List ChangeView
+ready_by t time (Whole c) = if nat_lt t.top c.number then change_of time c ∷ [] else []
 ready_by t time (Fragment f) = if takes_fragments t f then whole_at f.number (with_fragments_of time f t.begun) else []
 ready_by t time (Heartbeat h) = []
 ready_by t time (Gap g) = []
 ready_by t time (HeartbeatFrag h) = []
 
 -- its number is the top then, and the fragments of all numbers up to it are given up
-abbrev pub with_ready : List Begun → ℕ → List Sample → Taken
+abbrev pub with_ready : List Begun → ℕ → List ChangeView → Taken
 with_ready bs top [] = record { top = top; begun = bs }
 with_ready bs top (s ∷ ss) = record { top = s.number; begun = above s.number bs }
 
-abbrev pub taken_after : Taken → Came → Taken
+abbrev pub taken_after : Taken → MatchEvent → Taken
 taken_after t e = with_ready (begun_by t e.time e.body) t.top (ready_by t e.time e.body)
 
-abbrev pub taken : List Came → Taken
+abbrev pub taken : List MatchEvent → Taken
 taken [] = record { top = 0; begun = [] }
 taken (e ∷ past) = taken_after (taken past) e
 
 -- the greatest number of a change that was received, 0 before the first
-abbrev pub top_of : List Came → ℕ
+abbrev pub top_of : List MatchEvent → ℕ
 top_of past = (taken past).top
 
 -- the samples whose fragments are awaited
-abbrev pub standing : List Came → List Begun
+abbrev pub standing : List MatchEvent → List Begun
 standing past = (taken past).begun
 
-abbrev pub ready : List Came → Came → List Sample
+abbrev pub ready : List MatchEvent → MatchEvent → List ChangeView
 ready past e = ready_by (taken past) e.time e.body
 
 -- the numbers that a change skips are lost, none before a match's first sample
-abbrev pub skipped : ℕ → List Sample → ℕ
+abbrev pub skipped : ℕ → List ChangeView → ℕ
 skipped top [] = 0
 skipped top (s ∷ ss) = if top == 0 then 0 else s.number - top - 1
 
-abbrev pub lost : List Came → Came → ℕ
+abbrev pub lost : List MatchEvent → MatchEvent → ℕ
 lost past e = skipped (top_of past) (ready past e)

@@ -4,14 +4,14 @@ use Rattle.rtps_types.specs.Number.{value_of}
 use Rattle.rtps_proxy.specs.declared.change.Change.{Change}
 use Rattle.rtps_proxy.specs.declared.change.Payload.{Payload}
 use Rattle.rtps_proxy.specs.declared.change.Payload.TheVariants as payload
-use Rattle.rtps_proxy.specs.History.{Sample}
+use Rattle.rtps_proxy.specs.History.{ChangeView}
 
 abbrev pub octets_of : {A : Type 0} → Payload A → List ℕ
 octets_of (payload.Lent octets) = octets.now
 octets_of (payload.Kept octets) = octets
 
-abbrev pub change_view : {A : Type 0} → Change A → Sample
+abbrev pub change_view : {A : Type 0} → Change A → ChangeView
 change_view c = record { number = value_of c.number; time = c.time; info = c.info; payload = octets_of c.payload }
 
-abbrev pub change_views : {A : Type 0} → List (Change A) → List Sample
+abbrev pub change_views : {A : Type 0} → List (Change A) → List ChangeView
 change_views = map change_view

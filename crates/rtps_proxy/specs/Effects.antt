@@ -8,17 +8,17 @@ use Rattle.rtps_proxy.specs.declared.effects.Effects.{Effects}
 use Rattle.rtps_proxy.specs.Answer.{answers}
 use Rattle.rtps_proxy.specs.BestEffort as best
 use Rattle.rtps_proxy.specs.Changes.{change_view}
-use Rattle.rtps_proxy.specs.History.{Came, Sample, announced_of, has_heartbeat, is_new, is_new_frag}
+use Rattle.rtps_proxy.specs.History.{MatchEvent, ChangeView, announced_of, has_heartbeat, is_new, is_new_frag}
 use Rattle.rtps_proxy.specs.NackFrag.{nacks}
-use Rattle.rtps_proxy.specs.Kept.{Awaited, BestEffort, Kept, Latest, Reliable, Standing, Whom}
+use Rattle.rtps_proxy.specs.Kept.{ReliableView, BestEffort, ProxyView, BestEffortView, Reliable, StateView, Pairing}
 use Rattle.rtps_proxy.specs.Received as reliable
 use Rattle.rtps_proxy.specs.Received.{held, in_order, is_settled, standing}
-use Rattle.rtps_proxy.specs.Replies.{Sent, reply, reply_view}
+use Rattle.rtps_proxy.specs.Replies.{ReplyView, reply, reply_view}
 use Rattle.rtps_proxy.specs.Runs.{marks}
 
 -- what an event brings, as it comes for a match
-abbrev pub came : Option Timestamp → Body → Came
-came time b = record { time = time; body = body_view b }
+abbrev pub match_event : Option Timestamp → Body → MatchEvent
+match_event time b = record { time = time; body = body_view b }
 
 -- the count is above the greatest so far
 abbrev pub exceeds : Option ℤ → ℤ → Bool
@@ -26,7 +26,7 @@ exceeds None count = true
 exceeds (Some greatest) count = int_lt greatest count
 
 -- what is kept for a reliable reader of these events, the newest first
-pub record ReliableStandsAt (past : List Came) (proxy : Awaited) : Type 0 where
+pub record ReliableStandsAt (past : List MatchEvent) (proxy : ReliableView) : Type 0 where
   pub counts : (count : ℤ) → is_new past count ≡ exceeds proxy.accepted count
   pub begun : has_heartbeat past ≡ is_some proxy.accepted
   pub announced : proxy.announced ≡ announced_of past
@@ -39,47 +39,47 @@ pub record ReliableStandsAt (past : List Came) (proxy : Awaited) : Type 0 where
   pub nacks : proxy.nacks ≡ nacks past % 2 ^ 32
 
 -- what is kept for a best-effort reader
-pub record BestEffortStandsAt (past : List Came) (proxy : Latest) : Type 0 where
+pub record BestEffortStandsAt (past : List MatchEvent) (proxy : BestEffortView) : Type 0 where
   pub top : proxy.top ≡ best.top_of past
   pub pending : proxy.begun ≡ best.standing past
   pub sound : proxy.sound ≡ true
 
 -- and what is kept for a reader, by whether it is reliable
-abbrev pub StateStandsAt : List Came → Bool → Standing → Type 0
+abbrev pub StateStandsAt : List MatchEvent → Bool → StateView → Type 0
 StateStandsAt past false (BestEffort r) = BestEffortStandsAt past r
 StateStandsAt past true (Reliable r) = ReliableStandsAt past r
 StateStandsAt past false (Reliable r) = ⊥
 StateStandsAt past true (BestEffort r) = ⊥
 
 -- a proxy keeps what follows from these events, the newest first
-pub record StandsAt (past : List Came) (proxy : Kept) : Type 0 where
+pub record StandsAt (past : List MatchEvent) (proxy : ProxyView) : Type 0 where
   pub sound : proxy.spent ≡ false
-  pub state : StateStandsAt past proxy.whom.reliable proxy.state
+  pub state : StateStandsAt past proxy.pairing.reliable proxy.state
 
 -- how many numbers are given up at an event, by whether the reader is reliable
-abbrev pub lost_of : Bool → List Came → Came → ℕ
+abbrev pub lost_of : Bool → List MatchEvent → MatchEvent → ℕ
 lost_of is_reliable past e = if is_reliable then reliable.lost past e else best.lost past e
 
 -- the changes that are ready at an event
-abbrev pub ready_of : Bool → List Came → Came → List Sample
+abbrev pub ready_of : Bool → List MatchEvent → MatchEvent → List ChangeView
 ready_of is_reliable past e = if is_reliable then reliable.ready past e else best.ready past e
 
 -- what is said to the writer at an event: a best-effort reader says nothing
-abbrev pub answer_of : Whom → List Came → Came → Option Sent
+abbrev pub answer_of : Pairing → List MatchEvent → MatchEvent → Option ReplyView
 answer_of w past e = if w.reliable then reply w past e else None
 
 -- what an event gives
-pub record AreEffects {A : Type 0} (whom : Whom) (past : List Came) (event : Came) (effects : Effects A) : Type 0 where
-  pub lost : effects.lost ≡ lost_of whom.reliable past event
-  pub ready : map change_view effects.ready.items ≡ ready_of whom.reliable past event
-  pub answer : option_map reply_view effects.answer ≡ answer_of whom past event
+pub record AreEffects {A : Type 0} (pairing : Pairing) (past : List MatchEvent) (event : MatchEvent) (effects : Effects A) : Type 0 where
+  pub lost : effects.lost ≡ lost_of pairing.reliable past event
+  pub ready : map change_view effects.ready.items ≡ ready_of pairing.reliable past event
+  pub answer : option_map reply_view effects.answer ≡ answer_of pairing past event
 
 -- How an event is taken in: what is kept then follows from it too, and it gives what it must; a refused growth leaves the proxy
 -- spent. One that is spent refuses each event, and nothing changes.
-pub record TakesIn {A E : Type 0} (old new : Kept) (event : Came) (result : Result (Effects A) E) : Type 0 where
-  pub stands : (past : List Came) → StandsAt past old → OnOk result (StandsAt (event ∷ past) new)
-  pub effects : (past : List Came) → StandsAt past old → IfOk result (AreEffects old.whom past event)
-  pub whom : new.whom ≡ old.whom
+pub record TakesIn {A E : Type 0} (old new : ProxyView) (event : MatchEvent) (result : Result (Effects A) E) : Type 0 where
+  pub stands : (past : List MatchEvent) → StandsAt past old → OnOk result (StandsAt (event ∷ past) new)
+  pub effects : (past : List MatchEvent) → StandsAt past old → IfOk result (AreEffects old.pairing past event)
+  pub pairing : new.pairing ≡ old.pairing
   pub err : OnErr result (new.spent ≡ true)
   pub spent : old.spent ≡ true → IsErr result
   pub still : old.spent ≡ true → new ≡ old

@@ -3,10 +3,10 @@ use Rattle.std.specs.Prelude.{ℕ, Bool, true, not, ◌&&◌, ◌==◌, nat_lt, 
 use Rattle.std.specs.List.{list_any}
 use Rattle.rtps_types.specs.declared.time.Timestamp.{Timestamp}
 use Rattle.rtps_wire.specs.declared.data.ChangeInfo.{ChangeInfo}
-use Rattle.rtps_receiver.specs.Brought.{Fragments}
+use Rattle.rtps_receiver.specs.EventBody.{FragmentView}
 use Rattle.rtps_frags.specs.declared.sizes.Sizes.{Sizes}
 use Rattle.rtps_frags.specs.Fragments.{There, fault_of, is_whole, payload_of, with_fragments}
-use Rattle.rtps_proxy.specs.History.{Sample}
+use Rattle.rtps_proxy.specs.History.{ChangeView}
 
 -- a sample of which fragments were taken: what the first DATA_FRAG of it that was taken said, and the fragments that are there
 pub record Begun : Type 0 where
@@ -16,18 +16,18 @@ pub record Begun : Type 0 where
   pub sizes : Sizes
   pub there : There
 
-abbrev pub sizes_of : Fragments → Sizes
+abbrev pub sizes_of : FragmentView → Sizes
 sizes_of f = record { sample = f.sample; fragment = f.size }
 
-abbrev pub is_faulty : Fragments → Bool
+abbrev pub is_faulty : FragmentView → Bool
 is_faulty f = is_some (fault_of (sizes_of f) f.start f.count (length f.payload))
 
 -- with the fragments that a DATA_FRAG brings: those that are there stay
-abbrev pub grown : Begun → Fragments → Begun
+abbrev pub grown : Begun → FragmentView → Begun
 grown b f = record { number = b.number; time = b.time; info = b.info; sizes = b.sizes; there = with_fragments b.sizes f.start f.payload b.there f.start f.count }
 
 -- a sample of which nothing came yet, as a DATA_FRAG begins it
-abbrev pub opened : Option Timestamp → Fragments → Begun
+abbrev pub opened : Option Timestamp → FragmentView → Begun
 opened time f = record { number = f.number; time = time; info = f.info; sizes = sizes_of f; there = [] }
 
 -- the sample of a number
@@ -39,7 +39,7 @@ abbrev pub is_begun : List Begun → ℕ → Bool
 is_begun bs n = list_any (λ b. b.number == n) bs
 
 -- by rising number, with what a DATA_FRAG brings
-abbrev pub with_fragments_of : Option Timestamp → Fragments → List Begun → List Begun
+abbrev pub with_fragments_of : Option Timestamp → FragmentView → List Begun → List Begun
 with_fragments_of time f [] = grown (opened time f) f ∷ []
 with_fragments_of time f (b ∷ bs) =
     if nat_lt b.number f.number then b ∷ with_fragments_of time f bs
@@ -50,21 +50,21 @@ with_fragments_of time f (b ∷ bs) =
 abbrev pub is_cut_so : Sizes → Sizes → Bool
 is_cut_so y z = y.sample == z.sample && y.fragment == z.fragment
 
-abbrev pub fits_in : Option Begun → Fragments → Bool
+abbrev pub fits_in : Option Begun → FragmentView → Bool
 fits_in None f = true
 fits_in (Some b) f = is_cut_so b.sizes (sizes_of f)
 
 -- a DATA_FRAG fits where it has no fault and the sizes that were given before
-abbrev pub fits : List Begun → Fragments → Bool
+abbrev pub fits : List Begun → FragmentView → Bool
 fits bs f = not (is_faulty f) && fits_in (begun_at f.number bs) f
 
-abbrev pub sample_in : Begun → Sample
+abbrev pub sample_in : Begun → ChangeView
 sample_in b = record { number = b.number; time = b.time; info = b.info; payload = payload_of b.there }
 
 -- the sample of a number, where each of its fragments is there
-abbrev pub whole_of : Option Begun → List Sample
+abbrev pub whole_of : Option Begun → List ChangeView
 whole_of None = []
 whole_of (Some b) = if is_whole b.sizes b.there then sample_in b ∷ [] else []
 
-abbrev pub whole_at : ℕ → List Begun → List Sample
+abbrev pub whole_at : ℕ → List Begun → List ChangeView
 whole_at n bs = whole_of (begun_at n bs)

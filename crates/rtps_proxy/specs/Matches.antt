@@ -8,17 +8,17 @@ use Rattle.rtps_types.specs.Order.{guid_order}
 use Rattle.rtps_proxy.specs.declared.effects.Effects.{Effects}
 use Rattle.rtps_proxy.specs.Effects as proxy
 use Rattle.rtps_proxy.specs.Effects.{AreEffects}
-use Rattle.rtps_proxy.specs.History.{Came}
-use Rattle.rtps_proxy.specs.Kept.{Kept, Whom}
+use Rattle.rtps_proxy.specs.History.{MatchEvent}
+use Rattle.rtps_proxy.specs.Kept.{ProxyView, Pairing}
 
 -- a match: between whom it is, and what came for it since it began, the newest first
 pub record Match : Type 0 where
-  pub whom : Whom
-  pub past : List Came
+  pub pairing : Pairing
+  pub past : List MatchEvent
 
 -- a match to which nothing came yet
-abbrev pub fresh : Whom → Match
-fresh w = record { whom = w; past = [] }
+abbrev pub fresh : Pairing → Match
+fresh w = record { pairing = w; past = [] }
 
 abbrev pub same_guid : Guid → Guid → Bool
 same_guid a b = bytes_eq a.prefix.0 b.prefix.0 && bytes_eq a.entity.0 b.entity.0
@@ -26,54 +26,54 @@ same_guid a b = bytes_eq a.prefix.0 b.prefix.0 && bytes_eq a.entity.0 b.entity.0
 -- the match with a writer
 abbrev pub match_with : Guid → List Match → Option Match
 match_with w [] = None
-match_with w (m ∷ ms) = if same_guid m.whom.writer w then Some m else match_with w ms
+match_with w (m ∷ ms) = if same_guid m.pairing.writer w then Some m else match_with w ms
 
 -- an event comes for the match with its writer
-abbrev pub extended : Guid → Came → List Match → List Match
+abbrev pub extended : Guid → MatchEvent → List Match → List Match
 extended w e [] = []
 extended w e (m ∷ ms) =
-    if same_guid m.whom.writer w then record { whom = m.whom; past = e ∷ m.past } ∷ ms else m ∷ extended w e ms
+    if same_guid m.pairing.writer w then record { pairing = m.pairing; past = e ∷ m.past } ∷ ms else m ∷ extended w e ms
 
 -- a match begins, in the place of one that was there with its writer; matches are in the order of their writers
 abbrev pub begun : Match → List Match → List Match
 begun m [] = m ∷ []
 begun m (n ∷ ms) =
-    match_ordering (guid_order m.whom.writer n.whom.writer) (m ∷ n ∷ ms) (m ∷ ms) (n ∷ begun m ms)
+    match_ordering (guid_order m.pairing.writer n.pairing.writer) (m ∷ n ∷ ms) (m ∷ ms) (n ∷ begun m ms)
 
 -- the match with a writer ends
 abbrev pub ended : Guid → List Match → List Match
-ended w ms = filter (λ m. not (same_guid m.whom.writer w)) ms
+ended w ms = filter (λ m. not (same_guid m.pairing.writer w)) ms
 
 -- ---- what is kept of them, by the writer
 
 -- a match is kept
-pub record Stands (m : Match) (entry : Guid × Kept) : Type 0 where
-  pub writer : m.whom.writer ≡ entry.0
-  pub whom : m.whom ≡ entry.1.whom
+pub record Stands (m : Match) (entry : Guid × ProxyView) : Type 0 where
+  pub writer : m.pairing.writer ≡ entry.0
+  pub pairing : m.pairing ≡ entry.1.pairing
   pub stands : proxy.StandsAt m.past entry.1
 
 -- each match is kept, in order
-abbrev pub AllStand : List Match → List (Guid × Kept) → Type 0
+abbrev pub AllStand : List Match → List (Guid × ProxyView) → Type 0
 AllStand [] [] = Unit {0}
 AllStand [] (k ∷ ks) = ⊥
 AllStand (m ∷ ms) [] = ⊥
 AllStand (m ∷ ms) (k ∷ ks) = Stands m k × AllStand ms ks
 
 -- what the match with a writer gave at an event, if there is one
-abbrev pub AreTaken : {A : Type 0} → Option Match → Came → Option (Effects A) → Type 0
+abbrev pub AreTaken : {A : Type 0} → Option Match → MatchEvent → Option (Effects A) → Type 0
 AreTaken None e None = Unit {0}
 AreTaken None e (Some effects) = ⊥
 AreTaken (Some m) e None = ⊥
-AreTaken (Some m) e (Some effects) = AreEffects m.whom m.past e effects
+AreTaken (Some m) e (Some effects) = AreEffects m.pairing m.past e effects
 
 abbrev pub is_at : Guid → Guid → Bool
 is_at w g = is_eq (guid_order w g)
 
 -- the proxy of one writer was refused memory, and is spent; the others are as they were
-pub record IsSpentAt (w : Guid) (old new : List (Guid × Kept)) : Type 0 where
-  pub was : Kept
-  pub kept : Kept
+pub record IsSpentAt (w : Guid) (old new : List (Guid × ProxyView)) : Type 0 where
+  pub was : ProxyView
+  pub kept : ProxyView
   pub found : lookup (is_at w) old ≡ Some was
-  pub whom : kept.whom ≡ was.whom
+  pub pairing : kept.pairing ≡ was.pairing
   pub spent : kept.spent ≡ true
   pub others : new ≡ set_value (is_at w) old kept

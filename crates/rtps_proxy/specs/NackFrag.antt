@@ -2,10 +2,10 @@
 use Rattle.std.specs.Prelude.{ℕ, ◌+◌, ◌%◌, ◌^◌, Bool, false, not, ◌&&◌, List, [], ◌∷◌, if◌then◌else◌, Option, Some, None, is_some}
 use Rattle.std.specs.Option.{option_map}
 use Rattle.rtps_types.specs.NumberSet.{NumberSet}
-use Rattle.rtps_receiver.specs.Brought.{AnnouncedFragments, Brought, Whole, Fragment, Heartbeat, Gap, HeartbeatFrag}
+use Rattle.rtps_receiver.specs.EventBody.{HeartbeatFragView, EventBody, Whole, Fragment, Heartbeat, Gap, HeartbeatFrag}
 use Rattle.rtps_frags.specs.Missing.{missing, missing_by}
 use Rattle.rtps_proxy.specs.Fragments.{Begun, begun_at}
-use Rattle.rtps_proxy.specs.History.{Came, is_new_frag}
+use Rattle.rtps_proxy.specs.History.{MatchEvent, is_new_frag}
 use Rattle.rtps_proxy.specs.Received.{is_settled, taken}
 
 -- the fragments of a sample that are missing, up to one; up to its last one too, where a DATA_FRAG gave its sizes
@@ -14,11 +14,11 @@ missing_at None last = missing_by (λ k. false) last
 missing_at (Some b) last = missing b.sizes b.there last
 
 -- an accepted one asks for them where its number isn't settled
-abbrev pub asked_frags : List Came → AnnouncedFragments → Option NumberSet
+abbrev pub asked_frags : List MatchEvent → HeartbeatFragView → Option NumberSet
 asked_frags past h = if is_new_frag past h.count && not (is_settled past h.number) then missing_at (begun_at h.number (taken past).begun) h.last else None
 
 -- it is answered where any is missing
-abbrev pub is_nacked_by : List Came → Brought → Bool
+abbrev pub is_nacked_by : List MatchEvent → EventBody → Bool
 is_nacked_by past (Whole c) = false
 is_nacked_by past (Fragment f) = false
 is_nacked_by past (Heartbeat h) = false
@@ -26,7 +26,7 @@ is_nacked_by past (Gap g) = false
 is_nacked_by past (HeartbeatFrag h) = is_some (asked_frags past h)
 
 -- how many were answered
-abbrev pub nacks : List Came → ℕ
+abbrev pub nacks : List MatchEvent → ℕ
 nacks [] = 0
 nacks (e ∷ past) = if is_nacked_by past e.body then nacks past + 1 else nacks past
 
@@ -40,5 +40,5 @@ pub record Nack : Type 0 where
 abbrev pub nack_by : ℕ → ℕ → NumberSet → Nack
 nack_by number earlier missing = record { number = number; missing = missing; count = (earlier + 1) % 2 ^ 32 }
 
-abbrev pub nack : List Came → AnnouncedFragments → Option Nack
+abbrev pub nack : List MatchEvent → HeartbeatFragView → Option Nack
 nack past h = option_map (nack_by h.number (nacks past)) (asked_frags past h)

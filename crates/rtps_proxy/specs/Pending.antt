@@ -2,11 +2,11 @@
 use Rattle.std.specs.Prelude.{ℕ, suc, Bool, not, ◌&&◌, ◌==◌, nat_lt, List, [], ◌∷◌, drop, length, map, Option, Some, None, if◌then◌else◌}
 use Rattle.std.specs.List.{list_all}
 use Rattle.rtps_types.specs.Number.{value_of}
-use Rattle.rtps_receiver.specs.Brought.{Fragments}
+use Rattle.rtps_receiver.specs.EventBody.{FragmentView}
 use Rattle.rtps_frags.specs.Fragments.{is_whole}
 use Rattle.rtps_proxy.specs.declared.pending.Pending.{Pending}
 use Rattle.rtps_proxy.specs.Fragments.{Begun, fits_in, is_faulty, sample_in}
-use Rattle.rtps_proxy.specs.History.{Sample}
+use Rattle.rtps_proxy.specs.History.{ChangeView}
 
 abbrev pub pending_view : {A : Type 0} → Pending A → Begun
 pending_view p = record { number = value_of p.number; time = p.time; info = p.info; sizes = p.sample.sizes; there = p.sample.there }
@@ -28,11 +28,11 @@ abbrev pub found_at : ℕ → List Begun → Option Begun
 found_at n [] = None
 found_at n (b ∷ bs) = if nat_lt b.number n then found_at n bs else if b.number == n then Some b else None
 
-abbrev pub fits_found : List Begun → Fragments → Bool
+abbrev pub fits_found : List Begun → FragmentView → Bool
 fits_found bs f = not (is_faulty f) && fits_in (found_at f.number bs) f
 
 -- its sample, where it is whole
-abbrev pub whole_found : Option Begun → Option Sample
+abbrev pub whole_found : Option Begun → Option ChangeView
 whole_found None = None
 whole_found (Some b) = if is_whole b.sizes b.there then Some (sample_in b) else None
 

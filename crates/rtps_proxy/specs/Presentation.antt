@@ -2,15 +2,15 @@
 use Rattle.std.specs.Prelude.{◌≡◌, ℕ, ◌+◌, ◌<◌, ◌≤◌, ◌⊎◌, ◌==◌, List, [], ◌∷◌, ◌++◌, length, Option, IsTrue}
 use Rattle.std.specs.List.{list_any, AllByRecursion}
 use Rattle.rtps_types.specs.declared.time.Timestamp.{Timestamp}
-use Rattle.rtps_receiver.specs.Brought.{Brought, Whole, Fragment, Heartbeat, Gap, HeartbeatFrag}
+use Rattle.rtps_receiver.specs.EventBody.{EventBody, Whole, Fragment, Heartbeat, Gap, HeartbeatFrag}
 use Rattle.rtps_frags.specs.declared.sizes.Sizes.{Sizes}
 use Rattle.rtps_frags.specs.Fragments.{fragment_in, last_of}
 use Rattle.rtps_proxy.specs.Fragments.{sizes_of}
-use Rattle.rtps_proxy.specs.History.{Came, Sample, is_new, names, sample_of}
+use Rattle.rtps_proxy.specs.History.{MatchEvent, ChangeView, is_new, names, change_of}
 use Rattle.rtps_proxy.specs.Received.{ready}
 
 -- all samples that were presented, in order
-abbrev pub presented : List Came → List Sample
+abbrev pub presented : List MatchEvent → List ChangeView
 presented [] = []
 presented (e ∷ past) = presented past ++ ready past e
 
@@ -20,56 +20,56 @@ RisesStrictly [] = Unit {0}
 RisesStrictly (n ∷ ns) = AllByRecursion (λ m. n < m) ns × RisesStrictly ns
 
 -- a DATA is the sample: its number, its time and all that it carries
-abbrev pub IsSample : Option Timestamp → Brought → Sample → Type 0
-IsSample time (Whole c) s = sample_of time c ≡ s
+abbrev pub IsSample : Option Timestamp → EventBody → ChangeView → Type 0
+IsSample time (Whole c) s = change_of time c ≡ s
 IsSample time (Fragment f) s = ⊥
 IsSample time (Heartbeat h) s = ⊥
 IsSample time (Gap g) s = ⊥
 IsSample time (HeartbeatFrag h) s = ⊥
 
 -- a DATA of the match brought the sample
-abbrev pub CameWhole : List Came → Sample → Type 0
+abbrev pub CameWhole : List MatchEvent → ChangeView → Type 0
 CameWhole [] s = ⊥
 CameWhole (e ∷ past) s = IsSample e.time e.body s ⊎ CameWhole past s
 
 -- a DATA_FRAG of a number, cut so, brought these octets as fragment k
-abbrev pub IsFragment : ℕ → Sizes → ℕ → List ℕ → Brought → Type 0
+abbrev pub IsFragment : ℕ → Sizes → ℕ → List ℕ → EventBody → Type 0
 IsFragment n z k octets (Whole c) = ⊥
 IsFragment n z k octets (Fragment f) = (f.number ≡ n) × (sizes_of f ≡ z) × (f.start ≤ k) × (k < f.start + f.count) × (fragment_in z f.start f.payload k ≡ octets)
 IsFragment n z k octets (Heartbeat h) = ⊥
 IsFragment n z k octets (Gap g) = ⊥
 IsFragment n z k octets (HeartbeatFrag h) = ⊥
 
-abbrev pub BringsFragment : List Came → ℕ → Sizes → ℕ → List ℕ → Type 0
+abbrev pub BringsFragment : List MatchEvent → ℕ → Sizes → ℕ → List ℕ → Type 0
 BringsFragment [] n z k octets = ⊥
 BringsFragment (e ∷ past) n z k octets = IsFragment n z k octets e.body ⊎ BringsFragment past n z k octets
 
 -- a DATA_FRAG, cut so, says of the sample all but its payload
-abbrev pub IsToldBy : Sizes → Sample → Option Timestamp → Brought → Type 0
+abbrev pub IsToldBy : Sizes → ChangeView → Option Timestamp → EventBody → Type 0
 IsToldBy z s time (Whole c) = ⊥
 IsToldBy z s time (Fragment f) = (f.number ≡ s.number) × (sizes_of f ≡ z) × (time ≡ s.time) × (f.info ≡ s.info)
 IsToldBy z s time (Heartbeat h) = ⊥
 IsToldBy z s time (Gap g) = ⊥
 IsToldBy z s time (HeartbeatFrag h) = ⊥
 
-abbrev pub IsTold : List Came → Sizes → Sample → Type 0
+abbrev pub IsTold : List MatchEvent → Sizes → ChangeView → Type 0
 IsTold [] z s = ⊥
 IsTold (e ∷ past) z s = IsToldBy z s e.time e.body ⊎ IsTold past z s
 
 -- DATA_FRAGs of the match, all cut alike, brought the sample: one says all but its payload, and each fragment of the payload
 -- was brought by one, octet for octet
-pub record IsPutTogether (past : List Came) (s : Sample) : Type 0 where
+pub record IsPutTogether (past : List MatchEvent) (s : ChangeView) : Type 0 where
   pub sizes : Sizes
   pub whole : length s.payload ≡ sizes.sample
   pub told : IsTold past sizes s
   pub each : (k : ℕ) → 1 ≤ k → k ≤ last_of sizes → BringsFragment past s.number sizes k (fragment_in sizes 1 s.payload k)
 
 -- a DATA of the match brought the sample, or its DATA_FRAGs did
-abbrev pub Brings : List Came → Sample → Type 0
+abbrev pub Brings : List MatchEvent → ChangeView → Type 0
 Brings past s = CameWhole past s ⊎ IsPutTogether past s
 
 -- a GAP names the sequence number, or a HEARTBEAT that is accepted says that the first number available is above it
-abbrev pub GivesUp : List Came → Brought → ℕ → Type 0
+abbrev pub GivesUp : List MatchEvent → EventBody → ℕ → Type 0
 GivesUp past (Whole c) k = ⊥
 GivesUp past (Fragment f) k = ⊥
 GivesUp past (Heartbeat h) k = IsTrue (is_new past h.count) × (k < h.first)
@@ -77,14 +77,14 @@ GivesUp past (Gap g) k = IsTrue (names (Gap g) k)
 GivesUp past (HeartbeatFrag h) k = ⊥
 
 -- a GAP or a HEARTBEAT of the match gave the sequence number up
-abbrev pub IsGivenUp : List Came → ℕ → Type 0
+abbrev pub IsGivenUp : List MatchEvent → ℕ → Type 0
 IsGivenUp [] k = ⊥
 IsGivenUp (e ∷ past) k = GivesUp past e.body k ⊎ IsGivenUp past k
 
 -- the sample of a sequence number was presented
-abbrev pub IsPresented : List Came → ℕ → Type 0
+abbrev pub IsPresented : List MatchEvent → ℕ → Type 0
 IsPresented past k = IsTrue (list_any (λ s. s.number == k) (presented past))
 
 -- each sequence number below that of the sample was given up by then, or presented
-abbrev pub PassesOverOnly : List Came → Sample → Type 0
+abbrev pub PassesOverOnly : List MatchEvent → ChangeView → Type 0
 PassesOverOnly past s = (k : ℕ) → 1 ≤ k → k < s.number → IsGivenUp past k ⊎ IsPresented past k

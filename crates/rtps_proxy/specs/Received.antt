@@ -1,32 +1,32 @@
 -- What a reliable reader receives and presents of a match (DDSI-RTPS 8.4.12.3, 8.4.14.1).
 use Rattle.std.specs.Prelude.{ℕ, ◌+◌, max, Bool, not, ◌&&◌, ◌||◌, nat_lt, List, [], ◌∷◌, ◌++◌, length, filter, if◌then◌else◌}
 use Rattle.rtps_types.specs.NumberSet.{members}
-use Rattle.rtps_receiver.specs.Brought.{Brought, Fragments, Whole, Fragment, Heartbeat, Gap, HeartbeatFrag}
-use Rattle.rtps_proxy.specs.History.{Came, Sample, first_of, has_heartbeat, sample_of}
+use Rattle.rtps_receiver.specs.EventBody.{EventBody, FragmentView, Whole, Fragment, Heartbeat, Gap, HeartbeatFrag}
+use Rattle.rtps_proxy.specs.History.{MatchEvent, ChangeView, first_of, has_heartbeat, change_of}
 use Rattle.rtps_types.specs.Numbers.{all_below, count_failing, first_failing}
 use Rattle.rtps_proxy.specs.Fragments.{Begun, fits, is_begun, whole_at, with_fragments_of}
 use Rattle.rtps_proxy.specs.Settled.{has_room_by, held_by, is_covered_by, is_settled_by}
 
 -- a change is taken where its number isn't settled and there is room for it
-abbrev pub taken_by : List Sample → List Came → Sample → List Sample
+abbrev pub taken_by : List ChangeView → List MatchEvent → ChangeView → List ChangeView
 taken_by got past s = if not (is_settled_by got past s.number) && has_room_by got past s.number then s ∷ got else got
 
 -- what was taken of a match: the changes that were received, the newest first, and by number the samples of which fragments
 -- were; none leaves
 pub record Taken : Type 0 where
-  pub changes : List Sample
+  pub changes : List ChangeView
   pub begun : List Begun
 
 -- of those whose numbers aren't settled, fragments are awaited: they stand
-abbrev pub standing_by : Taken → List Came → List Begun
+abbrev pub standing_by : Taken → List MatchEvent → List Begun
 standing_by t past = filter (λ b. not (is_settled_by t.changes past b.number)) t.begun
 
 -- there is a seat for the fragments of a number that stands, or is the least one not settled, or where fewer than 64 stand
-abbrev pub has_seat_by : Taken → List Came → ℕ → Bool
+abbrev pub has_seat_by : Taken → List MatchEvent → ℕ → Bool
 has_seat_by t past n = is_begun t.begun n || (all_below (is_settled_by t.changes past) n || nat_lt (length (standing_by t past)) 64)
 
 -- a DATA_FRAG is taken where it fits, its number isn't settled, and there is room for the change and a seat for its fragments
-abbrev pub takes_fragments : Taken → List Came → Fragments → Bool
+abbrev pub takes_fragments : Taken → List MatchEvent → FragmentView → Bool
 takes_fragments t past f =
     fits t.begun f && (not (is_settled_by t.changes past f.number) && (has_room_by t.changes past f.number && has_seat_by t past f.number))
 
@@ -34,58 +34,58 @@ takes_fragments t past f =
 abbrev pub with_begun : Taken → List Begun → ℕ → Taken
 with_begun t bs n = record { changes = whole_at n bs ++ t.changes; begun = bs }
 
-abbrev pub taken_after : Taken → List Came → Came → Taken
+abbrev pub taken_after : Taken → List MatchEvent → MatchEvent → Taken
 taken_after t past e = by_body e.body
   where
-    by_body : Brought → Taken
-    by_body (Whole c) = record { changes = taken_by t.changes past (sample_of e.time c); begun = t.begun }
+    by_body : EventBody → Taken
+    by_body (Whole c) = record { changes = taken_by t.changes past (change_of e.time c); begun = t.begun }
     by_body (Fragment f) = if takes_fragments t past f then with_begun t (with_fragments_of e.time f t.begun) f.number else t
     by_body (Heartbeat h) = t
     by_body (Gap g) = t
     by_body (HeartbeatFrag h) = t
 
-abbrev pub taken : List Came → Taken
+abbrev pub taken : List MatchEvent → Taken
 taken [] = record { changes = []; begun = [] }
 taken (e ∷ past) = taken_after (taken past) past e
 
 -- the changes that were received, the newest first; none leaves
-abbrev pub received : List Came → List Sample
+abbrev pub received : List MatchEvent → List ChangeView
 received past = (taken past).changes
 
-abbrev pub standing : List Came → List Begun
+abbrev pub standing : List MatchEvent → List Begun
 standing past = standing_by (taken past) past
 
-abbrev pub is_settled : List Came → ℕ → Bool
+abbrev pub is_settled : List MatchEvent → ℕ → Bool
 is_settled past = is_settled_by (received past) past
 
-abbrev pub is_covered : List Came → ℕ → Bool
+abbrev pub is_covered : List MatchEvent → ℕ → Bool
 is_covered past = is_covered_by (received past) past
 
-abbrev pub held : List Came → List Sample
+abbrev pub held : List MatchEvent → List ChangeView
 held past = held_by (received past) past
 
 -- how many numbers weren't settled before an event and are now below the first number; the first heartbeat of a match counts none
-abbrev pub lost : List Came → Came → ℕ
+abbrev pub lost : List MatchEvent → MatchEvent → ℕ
 lost past e = if has_heartbeat past then count_failing (is_settled past) (first_of (e ∷ past)) else 0
 
 -- by rising number
-abbrev pub put : Sample → List Sample → List Sample
+abbrev pub put : ChangeView → List ChangeView → List ChangeView
 put s [] = s ∷ []
 put s (t ∷ ts) = if nat_lt t.number s.number then t ∷ put s ts else s ∷ t ∷ ts
 
-abbrev pub in_order : List Sample → List Sample
+abbrev pub in_order : List ChangeView → List ChangeView
 in_order [] = []
 in_order (s ∷ ss) = put s (in_order ss)
 
 -- ready at an event are the received changes up to whose numbers all are settled now and were not before, in order
-abbrev pub ready : List Came → Came → List Sample
+abbrev pub ready : List MatchEvent → MatchEvent → List ChangeView
 ready past e = in_order (filter (λ s. is_covered (e ∷ past) s.number && not (is_covered past s.number)) (received (e ∷ past)))
 
 abbrev pub max_of : List ℕ → ℕ
 max_of [] = 0
 max_of (n ∷ ns) = max n (max_of ns)
 
-abbrev pub greatest_in : Brought → ℕ
+abbrev pub greatest_in : EventBody → ℕ
 greatest_in (Whole c) = c.number
 greatest_in (Fragment f) = f.number
 greatest_in (Heartbeat h) = h.first
@@ -93,10 +93,10 @@ greatest_in (Gap g) = max g.list.base (max_of (members g.list))
 greatest_in (HeartbeatFrag h) = 0
 
 -- no number above this is settled
-abbrev pub greatest_named : List Came → ℕ
+abbrev pub greatest_named : List MatchEvent → ℕ
 greatest_named [] = 0
 greatest_named (e ∷ past) = max (greatest_in e.body) (greatest_named past)
 
 -- the frontier: the least number that isn't settled
-unfoldable pub frontier_of : List Came → ℕ
+unfoldable pub frontier_of : List MatchEvent → ℕ
 frontier_of past = first_failing (is_settled past) 0 (greatest_named past + 1)

@@ -8,19 +8,19 @@ use Rattle.rtps_types.specs.declared.traffic.Reply.{Reply}
 use Rattle.rtps_types.specs.Field.{spelled, spelled_sn}
 use Rattle.rtps_types.specs.Named.{with_bits}
 use Rattle.rtps_types.specs.NumberSet.{NumberSet, members}
-use Rattle.rtps_receiver.specs.Brought.{Brought, Whole, Fragment, Heartbeat, Gap, HeartbeatFrag}
+use Rattle.rtps_receiver.specs.EventBody.{EventBody, Whole, Fragment, Heartbeat, Gap, HeartbeatFrag}
 use Rattle.rtps_wire.specs.Answering.{answering, sent_words, spelled_words}
 use Rattle.rtps_proxy.specs.Answer.{Acknack, acknack_by, answer}
-use Rattle.rtps_proxy.specs.History.{Came}
+use Rattle.rtps_proxy.specs.History.{MatchEvent}
 use Rattle.rtps_proxy.specs.NackFrag.{Nack, nack}
-use Rattle.rtps_proxy.specs.Kept.{Whom}
+use Rattle.rtps_proxy.specs.Kept.{Pairing}
 
 -- a datagram, and where it goes
-pub record Sent : Type 0 where
+pub record ReplyView : Type 0 where
   pub to : List Locator
   pub octets : List ℕ
 
-abbrev pub reply_view : {A : Type 0} → Reply A → Sent
+abbrev pub reply_view : {A : Type 0} → Reply A → ReplyView
 reply_view r = record { to = r.to; octets = r.octets }
 
 -- the set of the members, in eight words
@@ -28,12 +28,12 @@ abbrev pub set_of : Acknack → NumberSet
 set_of a = record { base = a.base; bits = a.bits; words = with_bits a.base (replicate 8 0) a.members }
 
 -- readerId, writerId, readerSNState, count
-abbrev pub acknack_body : Whom → Acknack → List ℕ
+abbrev pub acknack_body : Pairing → Acknack → List ℕ
 acknack_body w a =
     w.reader.0 ++ w.writer.entity.0 ++ spelled_sn Little (pos a.base) ++ spelled Little 4 a.bits ++ spelled_words (sent_words (set_of a)) ++ spelled Little 4 a.count
 
 -- an ACKNACK with flag E, 1, and flag F, 2, where it is final, to the writer's locators
-unfoldable pub reply_of : Whom → Acknack → Sent
+unfoldable pub reply_of : Pairing → Acknack → ReplyView
 reply_of w a = record { to = w.locators; octets = answering w.own w.writer.prefix 0x06 (if a.final then 3 else 1) (acknack_body w a) }
 
 -- an answer names just the numbers that are missing, up to the announced one, among the 256 from its base on
@@ -43,19 +43,19 @@ NamesWhatIsMissing =
     ≡ ((nat_le base n && (nat_lt n (base + 256) && nat_le n announced)) && not (settled n))
 
 -- readerId, writerId, writerSN, fragmentNumberState, count
-abbrev pub nack_body : Whom → Nack → List ℕ
+abbrev pub nack_body : Pairing → Nack → List ℕ
 nack_body w a =
     w.reader.0 ++ w.writer.entity.0 ++ spelled_sn Little (pos a.number) ++ spelled Little 4 a.missing.base ++ spelled Little 4 a.missing.bits ++ spelled_words (sent_words a.missing) ++ spelled Little 4 a.count
 
 -- a NACK_FRAG with flag E, to the writer's locators
-unfoldable pub nack_of : Whom → Nack → Sent
+unfoldable pub nack_of : Pairing → Nack → ReplyView
 nack_of w a = record { to = w.locators; octets = answering w.own w.writer.prefix 0x12 1 (nack_body w a) }
 
 -- what a reliable reader sends at an event
-abbrev pub reply : Whom → List Came → Came → Option Sent
+abbrev pub reply : Pairing → List MatchEvent → MatchEvent → Option ReplyView
 reply w past e = by_body e.body
   where
-    by_body : Brought → Option Sent
+    by_body : EventBody → Option ReplyView
     by_body (Whole c) = None
     by_body (Fragment f) = None
     by_body (Heartbeat h) = option_map (reply_of w) (answer past e)

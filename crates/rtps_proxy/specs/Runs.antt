@@ -3,7 +3,7 @@ use Rattle.std.specs.Prelude.{◌≡◌, ℕ, ◌+◌, ◌-◌, ◌<◌, ◌≤�
 use Rattle.std.specs.List.{list_any, AllByRecursion}
 use Rattle.rtps_types.specs.declared.number.Number.{Number}
 use Rattle.rtps_types.specs.Number.{value_of}
-use Rattle.rtps_proxy.specs.History.{Came}
+use Rattle.rtps_proxy.specs.History.{MatchEvent}
 use Rattle.rtps_proxy.specs.Received.{frontier_of, is_settled}
 
 -- a run is its first and its last number
@@ -51,6 +51,6 @@ missing_from low [] high = high - low
 missing_from low (r ∷ rs) high = (min (start_of r) high - low) + missing_from (end_of r) rs high
 
 -- these are the greatest runs of settled numbers above the frontier, in order
-pub record AreRuns (past : List Came) (runs : List Run) : Type 0 where
+pub record AreRuns (past : List MatchEvent) (runs : List Run) : Type 0 where
   pub apart : AreApart (frontier_of past) runs
   pub settled : (n : ℕ) → frontier_of past ≤ n → is_settled past n ≡ list_any (within n) runs

@@ -4,8 +4,8 @@ ghost use Rattle.std.specs.Prelude.{◌≡◌, ◌<◌, [], ◌∷◌, None, map
 ghost use Rattle.rtps_types.specs.Number.{value_of};
 ghost use Rattle.rtps_proxy.specs.BestEffort.{above, skipped};
 ghost use Rattle.rtps_proxy.specs.Changes.{change_view};
-ghost use Rattle.rtps_proxy.specs.Effects.{BestEffortStandsAt, came};
-ghost use Rattle.rtps_proxy.specs.Kept.{latest, latest_first};
+ghost use Rattle.rtps_proxy.specs.Effects.{BestEffortStandsAt, match_event};
+ghost use Rattle.rtps_proxy.specs.Kept.{best_effort_view, best_effort_first};
 ghost use Rattle.rtps_proxy.specs.Pending.{are_sound, pending_views};
 ghost use Rattle.rtps_proxy.specs.Steps.{BestEffortTakes};
 
@@ -28,7 +28,7 @@ pub(crate) struct BestEffort<A: Allocator> {
 impl<A: Allocator + Copy> BestEffort<A> {
     /// Nothing has come yet.
     pub fn new(alloc: A) -> BestEffort<A>
-        ensures { latest result ≡ latest_first }
+        ensures { best_effort_view result ≡ best_effort_first }
     {
         BestEffort {
             top: 0,
@@ -43,7 +43,8 @@ impl<A: Allocator + Copy> BestEffort<A> {
         time: Option<Timestamp>,
         brought: &Body<'a>,
     ) -> Result<Effects<'a, A>, ProxyError>
-        ensures { BestEffortTakes (latest self.old) (latest self.new) (came time brought.now) result }
+        ensures { BestEffortTakes (best_effort_view self.old) (best_effort_view self.new)
+            (match_event time brought.now) result }
     {
         match brought {
             Body::Whole(whole) => self.on_whole(alloc, time, whole),

@@ -3,7 +3,7 @@
 ghost use Rattle.std.specs.Prelude.{◌≡◌, IfOk};
 ghost use Rattle.rtps_receiver.specs.Views.{whole_view};
 ghost use Rattle.rtps_proxy.specs.Changes.{change_view, octets_of};
-ghost use Rattle.rtps_proxy.specs.History.{sample_of};
+ghost use Rattle.rtps_proxy.specs.History.{change_of};
 
 use crate::effects::ProxyError;
 use rtps_receiver::Whole;
@@ -45,7 +45,7 @@ impl<A: Allocator> Payload<'_, A> {
 impl<'a, A: Allocator> Change<'a, A> {
     /// The change as it lies in the datagram.
     pub(crate) fn lent(time: Option<Timestamp>, whole: &Whole<'a>) -> Change<'a, A>
-        ensures { change_view result ≡ sample_of time (whole_view whole.now) }
+        ensures { change_view result ≡ change_of time (whole_view whole.now) }
     {
         Change {
             number: whole.number,
@@ -64,7 +64,7 @@ impl<A: Allocator> Change<'static, A> {
         whole: &Whole<'_>,
     ) -> Result<Change<'static, A>, ProxyError>
         ensures { IfOk result (λ change.
-            change_view change ≡ sample_of time (whole_view whole.now)) }
+            change_view change ≡ change_of time (whole_view whole.now)) }
     {
         let octets = Vec::from_slice(alloc, whole.payload)?;
         Ok(Change {

@@ -4,8 +4,9 @@ ghost use Rattle.std.specs.Prelude.{◌≡◌, ◌≤◌, ◌^◌, IfSome, is_so
 ghost use Rattle.rtps_types.specs.Number.{value_of};
 ghost use Rattle.rtps_receiver.specs.declared.body.Body.TheVariants as body;
 ghost use Rattle.rtps_receiver.specs.Views.{fragment_view};
-ghost use Rattle.rtps_proxy.specs.Effects.{came};
-ghost use Rattle.rtps_proxy.specs.Kept.{Whom, awaited, latest, takes_above, takes_by};
+ghost use Rattle.rtps_proxy.specs.Effects.{match_event};
+ghost use Rattle.rtps_proxy.specs.Kept.{Pairing, best_effort_view, reliable_view};
+ghost use Rattle.rtps_proxy.specs.Kept.{takes_above, takes_by};
 ghost use Rattle.rtps_proxy.specs.Pending.{pending_views, place_in};
 ghost use Rattle.rtps_proxy.specs.Runs.{IsPlaceOf};
 ghost use Rattle.rtps_proxy.specs.Steps.{BestEffortTakes, ReliableTakes};
@@ -25,7 +26,7 @@ impl<A: Allocator + Copy> BestEffort<A> {
     fn takes(&self, at: usize, fragment: &Fragment<'_>) -> bool
         requires { at ≡ place_in (value_of fragment.now.number)
             (pending_views self.now.pending.items) }
-        ensures { result ≡ takes_above (latest self.now) (fragment_view fragment.now) }
+        ensures { result ≡ takes_above (best_effort_view self.now) (fragment_view fragment.now) }
     {
         let number = fragment.number.get();
         let pending = self.pending.as_slice();
@@ -46,8 +47,8 @@ impl<A: Allocator + Copy> BestEffort<A> {
         time: Option<Timestamp>,
         fragment: &Fragment<'a>,
     ) -> Result<Effects<'a, A>, ProxyError>
-        ensures { BestEffortTakes (latest self.old) (latest self.new)
-            (came time (body.Fragment fragment.now)) result }
+        ensures { BestEffortTakes (best_effort_view self.old) (best_effort_view self.new)
+            (match_event time (body.Fragment fragment.now)) result }
     {
         let number = fragment.number.get();
         let at = place_of(self.pending.as_slice(), number);
@@ -73,7 +74,7 @@ impl<A: Allocator + Copy> Reliable<A> {
         requires { at ≡ place_in (value_of fragment.now.number)
             (pending_views self.now.pending.items) }
         ensures taken { is_some result
-            ≡ takes_by (awaited self.now) (fragment_view fragment.now) }
+            ≡ takes_by (reliable_view self.now) (fragment_view fragment.now) }
         ensures place { IfSome result (λ place.
             IsPlaceOf (value_of fragment.now.number) place self.now.settled.runs) }
     {
@@ -96,8 +97,9 @@ impl<A: Allocator + Copy> Reliable<A> {
         time: Option<Timestamp>,
         fragment: &Fragment<'a>,
     ) -> Result<Effects<'a, A>, ProxyError>
-        ensures { (whom : Whom) → ReliableTakes whom (awaited self.old) (awaited self.new)
-            (came time (body.Fragment fragment.now)) result }
+        ensures { (pairing : Pairing) →
+            ReliableTakes pairing (reliable_view self.old) (reliable_view self.new)
+            (match_event time (body.Fragment fragment.now)) result }
     {
         let number = fragment.number.get();
         let at = place_of(self.pending.as_slice(), number);

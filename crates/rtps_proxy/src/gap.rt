@@ -7,9 +7,9 @@ ghost use Rattle.rtps_types.specs.Number.{value_of};
 ghost use Rattle.rtps_types.specs.NumberSet.{members};
 ghost use Rattle.rtps_types.specs.Sets.{sn_view};
 ghost use Rattle.rtps_receiver.specs.declared.body.Body.TheVariants as body;
-ghost use Rattle.rtps_proxy.specs.Effects.{came};
+ghost use Rattle.rtps_proxy.specs.Effects.{match_event};
 ghost use Rattle.rtps_proxy.specs.History.{names};
-ghost use Rattle.rtps_proxy.specs.Kept.{Whom, awaited};
+ghost use Rattle.rtps_proxy.specs.Kept.{Pairing, reliable_view};
 ghost use Rattle.rtps_proxy.specs.Runs.{marks};
 ghost use Rattle.rtps_proxy.specs.Steps.{ReliableTakes};
 ghost use Rattle.rtps_receiver.specs.Views.{body_view};
@@ -39,9 +39,9 @@ impl<A: Allocator> Settled<A> {
 impl<A: Allocator + Copy> Reliable<A> {
     /// Takes in a gap.
     pub fn on_gap<'a>(&mut self, alloc: A, gap: &Gap) -> Result<Effects<'a, A>, ProxyError>
-        ensures { (whom : Whom) (time : Option Timestamp) →
-            ReliableTakes whom (awaited self.old) (awaited self.new)
-            (came time (body.Gap gap.now)) result }
+        ensures { (pairing : Pairing) (time : Option Timestamp) →
+            ReliableTakes pairing (reliable_view self.old) (reliable_view self.new)
+            (match_event time (body.Gap gap.now)) result }
     {
         self.settled.add_named(gap)?;
         give_up(&mut self.pending, &self.settled);

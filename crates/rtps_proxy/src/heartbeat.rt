@@ -4,8 +4,9 @@ ghost use Rattle.std.specs.Prelude.{◌≡◌, ◌≤◌, ◌^◌, ◌+◌, List
 ghost use Rattle.std.specs.Option.{option_map};
 ghost use Rattle.rtps_types.specs.declared.time.Timestamp.{Timestamp};
 ghost use Rattle.rtps_receiver.specs.declared.body.Body.TheVariants as body;
-ghost use Rattle.rtps_proxy.specs.Effects.{came, exceeds};
-ghost use Rattle.rtps_proxy.specs.Kept.{asks_by, asked_by, awaited, counts_answer, marked, whom};
+ghost use Rattle.rtps_proxy.specs.Effects.{match_event, exceeds};
+ghost use Rattle.rtps_proxy.specs.Kept.{asks_by, asked_by, counts_answer, marked, pairing};
+ghost use Rattle.rtps_proxy.specs.Kept.{reliable_view};
 ghost use Rattle.rtps_types.specs.Numbers.{count_failing};
 ghost use Rattle.rtps_proxy.specs.Replies.{reply_of, reply_view};
 ghost use Rattle.rtps_proxy.specs.Steps.{ReliableTakes};
@@ -35,7 +36,7 @@ impl<A: Allocator + Copy> Reliable<A> {
     fn lost_below(&self, first: u64) -> u64
         requires { first ≤ 2 ^ 62 + 1 }
         ensures { result ≡ (if is_some self.now.accepted
-            then count_failing (marked (awaited self.now)) first else 0) }
+            then count_failing (marked (reliable_view self.now)) first else 0) }
     {
         if self.accepted.is_none() {
             return 0;
@@ -45,7 +46,7 @@ impl<A: Allocator + Copy> Reliable<A> {
 
     /// Whether an accepted heartbeat is answered.
     fn is_answer_due(&self, heartbeat: &Heartbeat) -> bool
-        ensures { result ≡ asks_by (awaited self.now) heartbeat.now }
+        ensures { result ≡ asks_by (reliable_view self.now) heartbeat.now }
     {
         !heartbeat.final_flag || (!heartbeat.liveliness && self.settled.lacks(self.announced))
     }
@@ -53,7 +54,7 @@ impl<A: Allocator + Copy> Reliable<A> {
     /// The answer to an accepted heartbeat: what is missing, to the writer's locators.
     fn reply_to(&self, alloc: A, config: &ProxyConfig<A>) -> Result<Reply<A>, ProxyError>
         ensures { IfOk result (λ reply.
-            reply_view reply ≡ reply_of (whom config.now) (asked_by (awaited self.now))) }
+            reply_view reply ≡ reply_of (pairing config.now) (asked_by (reliable_view self.now))) }
     {
         let octets = write_acknack(
             alloc,
@@ -79,10 +80,12 @@ impl<A: Allocator + Copy> Reliable<A> {
         heartbeat: &Heartbeat,
     ) -> Result<Option<Reply<A>>, ProxyError>
         ensures answer { IfOk result (λ answer. option_map reply_view answer
-            ≡ (if asks_by (awaited self.old) heartbeat.now
-            then Some (reply_of (whom config.now) (asked_by (awaited self.old))) else None)) }
-        ensures kept { OnOk result (awaited self.new
-            ≡ counts_answer (asks_by (awaited self.old) heartbeat.now) (awaited self.old)) }
+            ≡ (if asks_by (reliable_view self.old) heartbeat.now
+            then Some (reply_of (pairing config.now) (asked_by (reliable_view self.old)))
+            else None)) }
+        ensures kept { OnOk result (reliable_view self.new
+            ≡ counts_answer (asks_by (reliable_view self.old) heartbeat.now)
+            (reliable_view self.old)) }
     {
         if !self.is_answer_due(heartbeat) {
             return Ok(None);
@@ -99,8 +102,9 @@ impl<A: Allocator + Copy> Reliable<A> {
         config: &ProxyConfig<A>,
         heartbeat: &Heartbeat,
     ) -> Result<Effects<'a, A>, ProxyError>
-        ensures { (time : Option Timestamp) → ReliableTakes (whom config.now) (awaited self.old)
-            (awaited self.new) (came time (body.Heartbeat heartbeat.now)) result }
+        ensures { (time : Option Timestamp) →
+            ReliableTakes (pairing config.now) (reliable_view self.old) (reliable_view self.new)
+            (match_event time (body.Heartbeat heartbeat.now)) result }
     {
         let heartbeat = *heartbeat;
         if !self.is_accepted(heartbeat.count) {

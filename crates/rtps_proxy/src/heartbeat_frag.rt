@@ -7,8 +7,8 @@ ghost use Rattle.rtps_types.specs.Number.{value_of};
 ghost use Rattle.rtps_types.specs.Sets.{frag_view};
 ghost use Rattle.rtps_receiver.specs.declared.body.Body.TheVariants as body;
 ghost use Rattle.rtps_receiver.specs.Views.{heartbeat_frag_view};
-ghost use Rattle.rtps_proxy.specs.Effects.{came, exceeds};
-ghost use Rattle.rtps_proxy.specs.Kept.{awaited, lacks_frags, whom};
+ghost use Rattle.rtps_proxy.specs.Effects.{match_event, exceeds};
+ghost use Rattle.rtps_proxy.specs.Kept.{reliable_view, lacks_frags, pairing};
 ghost use Rattle.rtps_proxy.specs.NackFrag.{nack_by};
 ghost use Rattle.rtps_proxy.specs.Replies.{nack_of, reply_view};
 ghost use Rattle.rtps_proxy.specs.Steps.{ReliableTakes};
@@ -37,7 +37,7 @@ impl<A: Allocator + Copy> Reliable<A> {
     /// The fragments that an accepted one asks for: none where the number is settled.
     fn missing_fragments(&self, alloc: A, heartbeat: &HeartbeatFrag) -> Option<FragSet>
         ensures { option_map frag_view result
-            ≡ lacks_frags (awaited self.now) (heartbeat_frag_view heartbeat.now) }
+            ≡ lacks_frags (reliable_view self.now) (heartbeat_frag_view heartbeat.now) }
     {
         let number = heartbeat.number.get();
         if self.settled.contains(number) {
@@ -59,7 +59,7 @@ impl<A: Allocator + Copy> Reliable<A> {
         number: Number,
         missing: FragSet,
     ) -> Result<Reply<A>, ProxyError>
-        ensures { IfOk result (λ reply. reply_view reply ≡ nack_of (whom config.now)
+        ensures { IfOk result (λ reply. reply_view reply ≡ nack_of (pairing config.now)
             (nack_by (value_of number) self.now.nacks (frag_view missing))) }
     {
         let octets = write_nack_frag(
@@ -87,8 +87,9 @@ impl<A: Allocator + Copy> Reliable<A> {
         config: &ProxyConfig<A>,
         heartbeat: &HeartbeatFrag,
     ) -> Result<Effects<'a, A>, ProxyError>
-        ensures { (time : Option Timestamp) → ReliableTakes (whom config.now) (awaited self.old)
-            (awaited self.new) (came time (body.HeartbeatFrag heartbeat.now)) result }
+        ensures { (time : Option Timestamp) →
+            ReliableTakes (pairing config.now) (reliable_view self.old) (reliable_view self.new)
+            (match_event time (body.HeartbeatFrag heartbeat.now)) result }
     {
         let heartbeat = *heartbeat;
         if !self.is_frag_accepted(heartbeat.count) {

@@ -5,14 +5,15 @@ ghost use Rattle.std.specs.List.{AllByRecursion};
 ghost use Rattle.rtps_types.specs.NumberSet.{members};
 ghost use Rattle.rtps_proxy.specs.Answer.{acknack_by};
 ghost use Rattle.rtps_proxy.specs.Replies.{NamesWhatIsMissing, set_of};
-ghost use Rattle.rtps_proxy.specs.History.{Came};
+ghost use Rattle.rtps_proxy.specs.History.{MatchEvent};
 ghost use Rattle.rtps_proxy.specs.Presentation.{Brings, PassesOverOnly, RisesStrictly, presented};
 ghost use Rattle.rtps_proxy.specs.Received.{frontier_of, is_settled, ready};
 
 /// The frontier is the least number that isn't settled.
 pub fn frontier_is_least()
-    ensures below { (past : List Came) (n : ℕ) → n < frontier_of past → is_settled past n ≡ true }
-    ensures itself { (past : List Came) → is_settled past (frontier_of past) ≡ false }
+    ensures below { (past : List MatchEvent) (n : ℕ) →
+        n < frontier_of past → is_settled past n ≡ true }
+    ensures itself { (past : List MatchEvent) → is_settled past (frontier_of past) ≡ false }
 {}
 
 /// The set of an answer names its members, and these are just the numbers that are missing, up to the
@@ -28,9 +29,10 @@ pub fn an_answer_names_its_members()
 /// match, or DATA_FRAGs with all its fragments, brought each sample by then; and each number that a
 /// sample passes over was given up by then, by a GAP or an accepted HEARTBEAT of the match.
 pub fn presents_in_order()
-    ensures rising { (past : List Came) → RisesStrictly (map (λ s. s.number) (presented past)) }
-    ensures received { (past : List Came) (e : Came) →
+    ensures rising { (past : List MatchEvent) →
+        RisesStrictly (map (λ s. s.number) (presented past)) }
+    ensures received { (past : List MatchEvent) (e : MatchEvent) →
         AllByRecursion (Brings (e ∷ past)) (ready past e) }
-    ensures passed_over { (past : List Came) (e : Came) →
+    ensures passed_over { (past : List MatchEvent) (e : MatchEvent) →
         AllByRecursion (PassesOverOnly (e ∷ past)) (ready past e) }
 {}

@@ -2,8 +2,8 @@
 
 ghost use Rattle.std.specs.Prelude.{◌≡◌, [], List, IfOk, OnErr, OnOk, length};
 ghost use Rattle.std.specs.Map.{keys_of};
-ghost use Rattle.rtps_proxy.specs.Effects.{came};
-ghost use Rattle.rtps_proxy.specs.Kept.{whom};
+ghost use Rattle.rtps_proxy.specs.Effects.{match_event};
+ghost use Rattle.rtps_proxy.specs.Kept.{pairing};
 ghost use Rattle.rtps_proxy.specs.Matches.{AllStand, AreTaken, IsSpentAt, Match, begun, ended, extended, fresh, match_with};
 
 use crate::{Effects, ProxyConfig, ProxyError, WriterProxy};
@@ -25,9 +25,9 @@ pub struct Matches<A: Allocator = Global> {
 impl<A: Allocator> Model for Matches<A> {
     ghost use Rattle.std.specs.Prelude.{List};
     ghost use Rattle.rtps_types.specs.declared.identity.Guid.{Guid};
-    ghost use Rattle.rtps_proxy.specs.Kept.{Kept};
+    ghost use Rattle.rtps_proxy.specs.Kept.{ProxyView};
 
-    ghost Value = { List (Guid × Kept) };
+    ghost Value = { List (Guid × ProxyView) };
 
     ghost view = { λ m. m.proxies.entries };
 }
@@ -60,7 +60,7 @@ impl<A: Allocator + Copy> Matches<A> {
     /// the match that there was with that writer. A refused growth leaves the matches as they were.
     pub fn begin(&mut self, alloc: A, config: ProxyConfig<A>) -> Result<(), ProxyError>
         ensures stands { (ms : List Match) → AllStand ms self.old
-            → OnOk result (AllStand (begun (fresh (whom config)) ms) self.new) }
+            → OnOk result (AllStand (begun (fresh (pairing config)) ms) self.new) }
         ensures err { OnErr result (self.new ≡ self.old) }
     {
         let writer = config.writer;
@@ -90,9 +90,9 @@ impl<A: Allocator + Copy> Matches<A> {
         brought: &Body<'a>,
     ) -> Result<Option<Effects<'a, A>>, ProxyError>
         ensures stands { (ms : List Match) → AllStand ms self.old
-            → OnOk result (AllStand (extended writer (came time brought.now) ms) self.new) }
+            → OnOk result (AllStand (extended writer (match_event time brought.now) ms) self.new) }
         ensures effects { (ms : List Match) → AllStand ms self.old
-            → IfOk result (AreTaken (match_with writer ms) (came time brought.now)) }
+            → IfOk result (AreTaken (match_with writer ms) (match_event time brought.now)) }
         ensures err { OnErr result (IsSpentAt writer self.old self.new) }
     {
         let Some(proxy) = self.proxies.get_mut(&writer) else {

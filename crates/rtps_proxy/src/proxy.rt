@@ -2,9 +2,9 @@
 
 ghost use Rattle.std.specs.Prelude.{◌≡◌, [], IfOk, List, false, true};
 ghost use Rattle.rtps_receiver.specs.declared.body.Body.TheVariants as body;
-ghost use Rattle.rtps_proxy.specs.Effects.{StandsAt, TakesIn, came};
-ghost use Rattle.rtps_proxy.specs.History.{Came};
-ghost use Rattle.rtps_proxy.specs.Kept.{standing, standing_since, whom};
+ghost use Rattle.rtps_proxy.specs.Effects.{StandsAt, TakesIn, match_event};
+ghost use Rattle.rtps_proxy.specs.History.{MatchEvent};
+ghost use Rattle.rtps_proxy.specs.Kept.{state_view, state_since, pairing};
 ghost use Rattle.rtps_proxy.specs.Runs.{AreRuns};
 
 use crate::config::ProxyConfig;
@@ -27,11 +27,12 @@ pub struct WriterProxy<A: Allocator = Global> {
 }
 
 impl<A: Allocator> Model for WriterProxy<A> {
-    ghost use Rattle.rtps_proxy.specs.Kept.{Kept, standing_since, whom};
+    ghost use Rattle.rtps_proxy.specs.Kept.{ProxyView, state_since, pairing};
 
-    ghost Value = { Kept };
+    ghost Value = { ProxyView };
 
-    ghost view = { λ p. record { whom = whom p.config; spent = p.spent; state = standing_since p.config.reliable p.state } };
+    ghost view = { λ p. record { pairing = pairing p.config; spent = p.spent;
+        state = state_since p.config.reliable p.state } };
 }
 
 /// What is kept, or, where nothing has come yet, what a reader keeps then.
@@ -40,7 +41,7 @@ fn begun<A: Allocator + Copy>(
     reliable: bool,
     state: Option<Box<State<A>, A>>,
 ) -> Result<Box<State<A>, A>, ProxyError>
-    ensures { IfOk result (λ begun. standing begun.value ≡ standing_since reliable state) }
+    ensures { IfOk result (λ begun. state_view begun.value ≡ state_since reliable state) }
 {
     if let Some(state) = state {
         return Ok(state);
@@ -56,7 +57,7 @@ impl<A: Allocator + Copy> WriterProxy<A> {
     /// comes. `AllocError` where memory is refused.
     pub fn new(alloc: A, config: ProxyConfig<A>) -> Result<WriterProxy<A>, ProxyError>
         ensures stands { IfOk result (StandsAt []) }
-        ensures whom { IfOk result (λ proxy. proxy.whom ≡ whom config) }
+        ensures pairing { IfOk result (λ proxy. proxy.pairing ≡ pairing config) }
     {
         Ok(WriterProxy {
             config,
@@ -73,7 +74,7 @@ impl<A: Allocator + Copy> WriterProxy<A> {
         time: Option<Timestamp>,
         brought: &Body<'a>,
     ) -> Result<Effects<'a, A>, ProxyError>
-        ensures { TakesIn self.old self.new (came time brought.now) result }
+        ensures { TakesIn self.old self.new (match_event time brought.now) result }
     {
         if self.spent {
             return Err(AllocError);
@@ -95,7 +96,7 @@ impl<A: Allocator + Copy> WriterProxy<A> {
         time: Option<Timestamp>,
         whole: &Whole<'a>,
     ) -> Result<Effects<'a, A>, ProxyError>
-        ensures { TakesIn self.old self.new (came time (body.Whole whole.now)) result }
+        ensures { TakesIn self.old self.new (match_event time (body.Whole whole.now)) result }
     {
         self.on_event(alloc, time, &Body::Whole(*whole))
     }
@@ -107,7 +108,8 @@ impl<A: Allocator + Copy> WriterProxy<A> {
         time: Option<Timestamp>,
         heartbeat: &Heartbeat,
     ) -> Result<Effects<'a, A>, ProxyError>
-        ensures { TakesIn self.old self.new (came time (body.Heartbeat heartbeat.now)) result }
+        ensures { TakesIn self.old self.new (match_event time (body.Heartbeat heartbeat.now))
+            result }
     {
         self.on_event(alloc, time, &Body::Heartbeat(*heartbeat))
     }
@@ -119,7 +121,7 @@ impl<A: Allocator + Copy> WriterProxy<A> {
         time: Option<Timestamp>,
         gap: &Gap,
     ) -> Result<Effects<'a, A>, ProxyError>
-        ensures { TakesIn self.old self.new (came time (body.Gap gap.now)) result }
+        ensures { TakesIn self.old self.new (match_event time (body.Gap gap.now)) result }
     {
         self.on_event(alloc, time, &Body::Gap(*gap))
     }
@@ -133,7 +135,7 @@ impl<A: Allocator + Copy> WriterProxy<A> {
         time: Option<Timestamp>,
         fragment: &Fragment<'a>,
     ) -> Result<Effects<'a, A>, ProxyError>
-        ensures { TakesIn self.old self.new (came time (body.Fragment fragment.now)) result }
+        ensures { TakesIn self.old self.new (match_event time (body.Fragment fragment.now)) result }
     {
         self.on_event(alloc, time, &Body::Fragment(*fragment))
     }
@@ -146,7 +148,8 @@ impl<A: Allocator + Copy> WriterProxy<A> {
         time: Option<Timestamp>,
         heartbeat: &HeartbeatFrag,
     ) -> Result<Effects<'a, A>, ProxyError>
-        ensures { TakesIn self.old self.new (came time (body.HeartbeatFrag heartbeat.now)) result }
+        ensures { TakesIn self.old self.new (match_event time (body.HeartbeatFrag heartbeat.now))
+            result }
     {
         self.on_event(alloc, time, &Body::HeartbeatFrag(*heartbeat))
     }
@@ -154,10 +157,10 @@ impl<A: Allocator + Copy> WriterProxy<A> {
     /// The first and the last number of each run of settled numbers above the frontier, which is the
     /// least number that isn't settled; none for a best-effort reader.
     pub fn runs(&self) -> &[(Number, Number)]
-        ensures reliable { (past : List Came) → StandsAt past self.now →
-            self.now.whom.reliable ≡ true → AreRuns past result.now }
-        ensures best_effort { (past : List Came) → StandsAt past self.now →
-            self.now.whom.reliable ≡ false → result.now ≡ [] }
+        ensures reliable { (past : List MatchEvent) → StandsAt past self.now →
+            self.now.pairing.reliable ≡ true → AreRuns past result.now }
+        ensures best_effort { (past : List MatchEvent) → StandsAt past self.now →
+            self.now.pairing.reliable ≡ false → result.now ≡ [] }
     {
         let Some(state) = &self.state else {
             return &[];

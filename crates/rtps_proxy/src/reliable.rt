@@ -35,13 +35,13 @@ pub(crate) struct Reliable<A: Allocator> {
 
 impl<A: Allocator + Copy> Reliable<A> {
     ghost use Rattle.std.specs.Prelude.{◌≡◌};
-    ghost use Rattle.rtps_proxy.specs.Effects.{came};
-    ghost use Rattle.rtps_proxy.specs.Kept.{awaited, awaited_first, whom};
+    ghost use Rattle.rtps_proxy.specs.Effects.{match_event};
+    ghost use Rattle.rtps_proxy.specs.Kept.{reliable_view, reliable_first, pairing};
     ghost use Rattle.rtps_proxy.specs.Steps.{ReliableTakes};
 
     /// Nothing has come yet.
     pub fn new(alloc: A) -> Reliable<A>
-        ensures { awaited result ≡ awaited_first }
+        ensures { reliable_view result ≡ reliable_first }
     {
         Reliable {
             accepted: None,
@@ -63,8 +63,8 @@ impl<A: Allocator + Copy> Reliable<A> {
         time: Option<Timestamp>,
         brought: &Body<'a>,
     ) -> Result<Effects<'a, A>, ProxyError>
-        ensures { ReliableTakes (whom config.now) (awaited self.old) (awaited self.new)
-            (came time brought.now) result }
+        ensures { ReliableTakes (pairing config.now) (reliable_view self.old)
+            (reliable_view self.new) (match_event time brought.now) result }
     {
         match brought {
             Body::Whole(whole) => self.on_whole(alloc, time, whole),

@@ -1,8 +1,8 @@
 //! What a proxy keeps, by whether its reader is reliable.
 
 ghost use Rattle.std.specs.Prelude.{◌≡◌};
-ghost use Rattle.rtps_proxy.specs.Effects.{came};
-ghost use Rattle.rtps_proxy.specs.Kept.{standing, standing_first, whom};
+ghost use Rattle.rtps_proxy.specs.Effects.{match_event};
+ghost use Rattle.rtps_proxy.specs.Kept.{state_view, state_first, pairing};
 ghost use Rattle.rtps_proxy.specs.Steps.{StateTakes};
 
 use crate::best_effort::BestEffort;
@@ -23,7 +23,7 @@ pub(crate) enum State<A: Allocator> {
 impl<A: Allocator + Copy> State<A> {
     /// Nothing has come yet.
     pub fn new(alloc: A, reliable: bool) -> State<A>
-        ensures { standing result ≡ standing_first reliable }
+        ensures { state_view result ≡ state_first reliable }
     {
         if reliable {
             State::Reliable(Reliable::new(alloc))
@@ -40,8 +40,8 @@ impl<A: Allocator + Copy> State<A> {
         time: Option<Timestamp>,
         brought: &Body<'a>,
     ) -> Result<Effects<'a, A>, ProxyError>
-        ensures { StateTakes (whom config.now) (standing self.old) (standing self.new)
-            (came time brought.now) result }
+        ensures { StateTakes (pairing config.now) (state_view self.old) (state_view self.new)
+            (match_event time brought.now) result }
     {
         match self {
             State::BestEffort(best_effort) => best_effort.on_event(alloc, time, brought),

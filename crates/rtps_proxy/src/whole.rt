@@ -2,8 +2,8 @@
 
 ghost use Rattle.std.specs.Prelude.{◌≡◌, ◌≤◌, ◌^◌, IfSome, is_some, length, not, ◌&&◌, ◌||◌, nat_le, nat_lt};
 ghost use Rattle.rtps_receiver.specs.declared.body.Body.TheVariants as body;
-ghost use Rattle.rtps_proxy.specs.Effects.{came};
-ghost use Rattle.rtps_proxy.specs.Kept.{Whom, awaited, latest, marked};
+ghost use Rattle.rtps_proxy.specs.Effects.{match_event};
+ghost use Rattle.rtps_proxy.specs.Kept.{Pairing, reliable_view, best_effort_view, marked};
 ghost use Rattle.rtps_proxy.specs.Runs.{IsPlaceOf};
 ghost use Rattle.rtps_proxy.specs.Steps.{BestEffortTakes, ReliableTakes};
 
@@ -28,8 +28,8 @@ impl<A: Allocator + Copy> BestEffort<A> {
         time: Option<Timestamp>,
         whole: &Whole<'a>,
     ) -> Result<Effects<'a, A>, ProxyError>
-        ensures { BestEffortTakes (latest self.old) (latest self.new)
-            (came time (body.Whole whole.now)) result }
+        ensures { BestEffortTakes (best_effort_view self.old) (best_effort_view self.new)
+            (match_event time (body.Whole whole.now)) result }
     {
         if whole.number.get() <= self.top {
             return Ok(Effects::none(alloc));
@@ -43,7 +43,7 @@ impl<A: Allocator + Copy> Reliable<A> {
     /// the least such number or there is room.
     pub(crate) fn place_for(&self, number: u64) -> Option<usize>
         requires { number ≤ 2 ^ 62 }
-        ensures taken { is_some result ≡ (not (marked (awaited self.now) number)
+        ensures taken { is_some result ≡ (not (marked (reliable_view self.now) number)
             && (nat_le number self.now.settled.frontier
             || nat_lt (length self.now.held.items) 65536)) }
         ensures place { IfSome result (λ at. IsPlaceOf number at self.now.settled.runs) }
@@ -61,8 +61,9 @@ impl<A: Allocator + Copy> Reliable<A> {
         time: Option<Timestamp>,
         whole: &Whole<'a>,
     ) -> Result<Effects<'a, A>, ProxyError>
-        ensures { (whom : Whom) → ReliableTakes whom (awaited self.old) (awaited self.new)
-            (came time (body.Whole whole.now)) result }
+        ensures { (pairing : Pairing) →
+            ReliableTakes pairing (reliable_view self.old) (reliable_view self.new)
+            (match_event time (body.Whole whole.now)) result }
     {
         let number = whole.number.get();
         let Some(at) = self.place_for(number) else {

@@ -6,7 +6,7 @@ use Rattle.std.proofs.lemmas.List.{append-nil, map-append}
 use Rattle.std.proofs.lemmas.List.Sums.{sum_by-append}
 use Rattle.rtps_types.specs.declared.identity.Guid.{Guid}
 use Rattle.rtps_types.specs.declared.place.Place.{Place}
-use Rattle.rtps_proxy.specs.History.{Came, Sample}
+use Rattle.rtps_proxy.specs.History.{MatchEvent, ChangeView}
 use Rattle.dds_topic.specs.Decoding.{Decoding}
 use Rattle.rtps_reader.specs.declared.notice.Notice.{Notice}
 use Rattle.rtps_reader.specs.declared.notice.NoticeKind.{NoticeKind}
@@ -15,7 +15,7 @@ use Rattle.rtps_reader.specs.declared.status.Status.{Status}
 use Rattle.rtps_reader.specs.declared.status.Counts.{Counts}
 use Rattle.rtps_proxy.specs.Matches.{Match}
 use Rattle.rtps_reader.specs.Reader.{Reader, loses, lost_at, notice_of, presented, ready_at, told_of}
-use Rattle.rtps_reader.specs.Standing.{StandsAt, StartsAt, ReaderKept, counts_after, status_by}
+use Rattle.rtps_reader.specs.Standing.{StandsAt, StartsAt, ReaderView, counts_after, status_by}
 use Rattle.rtps_reader.specs.Status.{capped, count_of, is_beginning, is_sample, last_of, lost_by, lost_in, refused_by, refused_in, status_of}
 
 counted_if : {X : Type 0} (b : Bool) (x : X) (xs : List X) (n m : ℕ) → length xs ≡ n + m → length (if b then x ∷ xs else xs) ≡ (if b then suc n else n) + m
@@ -50,7 +50,7 @@ pub record Adds {M : Type 0} (b : ℕ) (rs : List ℕ) (n k : ℕ) (more : List 
   pub lost : lost_by more ≡ n
   pub samples : count_of is_sample more ≡ k
 
-adds_samples : {M : Type 0} (d : Decoding M) (place : Place) (w : Guid) (xs : List Sample) → Adds 0 [] 0 (length xs) (map (presented d place w) xs)
+adds_samples : {M : Type 0} (d : Decoding M) (place : Place) (w : Guid) (xs : List ChangeView) → Adds 0 [] 0 (length xs) (map (presented d place w) xs)
 adds_samples d place w [] = record { beginnings = refl; refused = refl; lost = refl; samples = refl }
 adds_samples d place w (x ∷ xs) =
     let rest = adds_samples d place w xs in
@@ -73,7 +73,7 @@ adds_both n k a b first second = record {
 }
 
 -- the notices of an event add its losses and its samples
-pub adds_told : {M : Type 0} (d : Decoding M) (place : Place) (w : Guid) (e : Came) (m : Match) → Adds 0 [] (lost_at m e) (length (ready_at m e)) (told_of d place w e (Some m))
+pub adds_told : {M : Type 0} (d : Decoding M) (place : Place) (w : Guid) (e : MatchEvent) (m : Match) → Adds 0 [] (lost_at m e) (length (ready_at m e)) (told_of d place w e (Some m))
 adds_told d place w e m =
     adds_both (lost_at m e) (length (ready_at m e)) (loses place w (lost_at m e)) (map (presented d place w) (ready_at m e)) (adds_losses place w (lost_at m e)) (adds_samples d place w (ready_at m e))
 
@@ -178,5 +178,5 @@ first_status r counts now is count fixed =
     all_fixed n f l a b = omega (arith, a, b)
 
 -- a reader that gave out nothing counts so, whatever its notices would mean
-pub starts : {M : Type 0} (r : Reader) (state : ReaderKept) → StartsAt r state → StandsAt {M = M} r [] state
+pub starts : {M : Type 0} (r : Reader) (state : ReaderView) → StartsAt r state → StandsAt {M = M} r [] state
 starts r state s = record { sound = s.sound; own = s.own; entity = s.entity; reliable = s.reliable; matches = s.matches; status = s.status }

@@ -15,12 +15,12 @@ use Rattle.rtps_types.specs.Order.{guid_order}
 use Rattle.rtps_types.specs.declared.identity.EntityId.{EntityId}
 use Rattle.rtps_types.specs.declared.identity.Guid.{Guid}
 use Rattle.rtps_types.specs.declared.identity.GuidPrefix.{GuidPrefix}
-use Rattle.rtps_proxy.specs.History.{Came}
-use Rattle.rtps_proxy.specs.Kept.{Whom}
+use Rattle.rtps_proxy.specs.History.{MatchEvent}
+use Rattle.rtps_proxy.specs.Kept.{Pairing}
 use Rattle.rtps_proxy.specs.Matches.{Match, begun, ended, extended, fresh, match_with, same_guid}
 use Rattle.rtps_proxy.proofs.Matching.{exact, same_is}
-use Rattle.rtps_reader.specs.Reader.{Facts, Reader, all_begun, extended_by, first_reader, fresh_with, reader_after, reader_run, whom_of}
-use Rattle.rtps_reader.specs.Steps.{Doing, Takes, Begins, Ends, Refused}
+use Rattle.rtps_reader.specs.Reader.{Facts, Reader, all_begun, extended_by, first_reader, fresh_with, reader_after, reader_run, pairing_of}
+use Rattle.rtps_reader.specs.Steps.{StepView, Takes, Begins, Ends, Refused}
 use Rattle.rtps_reader.proofs.Begun.{swapped}
 
 -- two writers that are one with a third are one
@@ -34,56 +34,56 @@ match_ended g w [] = by_test (same_guid w g)
     by_test : (b : Bool) → match_with g [] ≡ (if b then None else match_with g [])
     by_test true = refl
     by_test false = refl
-match_ended g w (m ∷ ms) = by_match (same_guid m.whom.writer w) refl (match_ended g w ms)
+match_ended g w (m ∷ ms) = by_match (same_guid m.pairing.writer w) refl (match_ended g w ms)
   where
-    gone : same_guid m.whom.writer w ≡ true → (t : Bool) → same_guid w g ≡ t → (if t then None else match_with g ms) ≡ (if t then None else match_with g (m ∷ ms))
+    gone : same_guid m.pairing.writer w ≡ true → (t : Bool) → same_guid w g ≡ t → (if t then None else match_with g ms) ≡ (if t then None else match_with g (m ∷ ms))
     gone is true e = refl
     gone is false e =
-        let other : same_guid m.whom.writer g ≡ false = ap (λ h. same_guid h g) (same_is m.whom.writer w is) ∙ e in
+        let other : same_guid m.pairing.writer g ≡ false = ap (λ h. same_guid h g) (same_is m.pairing.writer w is) ∙ e in
         rw other refl
 
-    by_match : (b : Bool) → same_guid m.whom.writer w ≡ b → match_with g (ended w ms) ≡ (if same_guid w g then None else match_with g ms)
+    by_match : (b : Bool) → same_guid m.pairing.writer w ≡ b → match_with g (ended w ms) ≡ (if same_guid w g then None else match_with g ms)
         → match_with g (ended w (m ∷ ms)) ≡ (if same_guid w g then None else match_with g (m ∷ ms))
     by_match true is rest = rw is (rest ∙ gone is (same_guid w g) refl)
     by_match false is rest =
-        rw is (ap (λ o. if same_guid m.whom.writer g then Some m else o) rest
-        ∙ swapped (same_guid m.whom.writer g) (same_guid w g) (Some m) None (match_with g ms) (λ this that. absurd (true≢false (apart m.whom.writer w g is this that))))
+        rw is (ap (λ o. if same_guid m.pairing.writer g then Some m else o) rest
+        ∙ swapped (same_guid m.pairing.writer g) (same_guid w g) (Some m) None (match_with g ms) (λ this that. absurd (true≢false (apart m.pairing.writer w g is this that))))
 
-kept_apart : (a t : Bool) (m : Match) (e : Came) (z : Option Match) → (a ≡ true → t ≡ true → true ≡ false)
+kept_apart : (a t : Bool) (m : Match) (e : MatchEvent) (z : Option Match) → (a ≡ true → t ≡ true → true ≡ false)
     → (if a then Some m else (if t then option_map (extended_by e) z else z)) ≡ (if t then option_map (extended_by e) (if a then Some m else z) else (if a then Some m else z))
 kept_apart true true m e z h = absurd (true≢false (h refl refl))
 kept_apart true false m e z h = refl
 kept_apart false t m e z h = refl
 
 -- an event extends the match with its writer, and leaves the others as they were
-pub match_extended : (g w : Guid) (e : Came) (ms : List Match) → match_with g (extended w e ms) ≡ (if same_guid w g then option_map (extended_by e) (match_with g ms) else match_with g ms)
+pub match_extended : (g w : Guid) (e : MatchEvent) (ms : List Match) → match_with g (extended w e ms) ≡ (if same_guid w g then option_map (extended_by e) (match_with g ms) else match_with g ms)
 match_extended g w e [] = by_test (same_guid w g)
   where
     by_test : (b : Bool) → match_with g [] ≡ (if b then option_map (extended_by e) (match_with g []) else match_with g [])
     by_test true = refl
     by_test false = refl
-match_extended g w e (m ∷ ms) = by_match (same_guid m.whom.writer w) refl (match_extended g w e ms)
+match_extended g w e (m ∷ ms) = by_match (same_guid m.pairing.writer w) refl (match_extended g w e ms)
   where
-    here : same_guid m.whom.writer w ≡ true → (t : Bool) → same_guid w g ≡ t
+    here : same_guid m.pairing.writer w ≡ true → (t : Bool) → same_guid w g ≡ t
         → match_with g (extended_by e m ∷ ms) ≡ (if t then option_map (extended_by e) (match_with g (m ∷ ms)) else match_with g (m ∷ ms))
     here is true same =
-        let this : same_guid m.whom.writer g ≡ true = ap (λ h. same_guid h g) (same_is m.whom.writer w is) ∙ same in
+        let this : same_guid m.pairing.writer g ≡ true = ap (λ h. same_guid h g) (same_is m.pairing.writer w is) ∙ same in
         rw this refl
     here is false same =
-        let other : same_guid m.whom.writer g ≡ false = ap (λ h. same_guid h g) (same_is m.whom.writer w is) ∙ same in
+        let other : same_guid m.pairing.writer g ≡ false = ap (λ h. same_guid h g) (same_is m.pairing.writer w is) ∙ same in
         rw other refl
 
-    by_match : (b : Bool) → same_guid m.whom.writer w ≡ b → match_with g (extended w e ms) ≡ (if same_guid w g then option_map (extended_by e) (match_with g ms) else match_with g ms)
+    by_match : (b : Bool) → same_guid m.pairing.writer w ≡ b → match_with g (extended w e ms) ≡ (if same_guid w g then option_map (extended_by e) (match_with g ms) else match_with g ms)
         → match_with g (extended w e (m ∷ ms)) ≡ (if same_guid w g then option_map (extended_by e) (match_with g (m ∷ ms)) else match_with g (m ∷ ms))
     by_match true is rest = rw is (here is (same_guid w g) refl)
     by_match false is rest =
-        rw is (ap (λ o. if same_guid m.whom.writer g then Some m else o) rest
-        ∙ kept_apart (same_guid m.whom.writer g) (same_guid w g) m e (match_with g ms) (apart m.whom.writer w g is))
+        rw is (ap (λ o. if same_guid m.pairing.writer g then Some m else o) rest
+        ∙ kept_apart (same_guid m.pairing.writer g) (same_guid w g) m e (match_with g ms) (apart m.pairing.writer w g is))
 
 -- ---- the order of the matches
 
 abbrev writers_of : List Match → List Guid
-writers_of ms = map (λ (m : Match). m.whom.writer) ms
+writers_of ms = map (λ (m : Match). m.pairing.writer) ms
 
 abbrev InOrder : List Match → Type 0
 InOrder ms = IsStrictlySortedBy guid_order (writers_of ms)
@@ -119,47 +119,47 @@ module _ {K : Type 0} (R : K → K → Ordering) (o : IsTotalOrder R) where
       by_order Equal is rest = up
       by_order Greater is rest = (all_inserted (λ y. R x y ≡ Less) xs k up.0 (after_key k x is), rest)
 
-writers_begun : (m : Match) (ms : List Match) → writers_of (begun m ms) ≡ insert_key guid_order (writers_of ms) m.whom.writer
+writers_begun : (m : Match) (ms : List Match) → writers_of (begun m ms) ≡ insert_key guid_order (writers_of ms) m.pairing.writer
 writers_begun m [] = refl
-writers_begun m (n ∷ ms) = by_order (guid_order m.whom.writer n.whom.writer) refl (writers_begun m ms)
+writers_begun m (n ∷ ms) = by_order (guid_order m.pairing.writer n.pairing.writer) refl (writers_begun m ms)
   where
-    by_order : (o : Ordering) → guid_order m.whom.writer n.whom.writer ≡ o → writers_of (begun m ms) ≡ insert_key guid_order (writers_of ms) m.whom.writer
-        → writers_of (begun m (n ∷ ms)) ≡ insert_key guid_order (writers_of (n ∷ ms)) m.whom.writer
+    by_order : (o : Ordering) → guid_order m.pairing.writer n.pairing.writer ≡ o → writers_of (begun m ms) ≡ insert_key guid_order (writers_of ms) m.pairing.writer
+        → writers_of (begun m (n ∷ ms)) ≡ insert_key guid_order (writers_of (n ∷ ms)) m.pairing.writer
     by_order Less is rest = rw is refl
-    by_order Equal is rest = rw is (ap (λ (g : Guid). g ∷ writers_of ms) (sym (exact m.whom.writer n.whom.writer is)))
-    by_order Greater is rest = rw is (ap (λ (l : List Guid). n.whom.writer ∷ l) rest)
+    by_order Equal is rest = rw is (ap (λ (g : Guid). g ∷ writers_of ms) (sym (exact m.pairing.writer n.pairing.writer is)))
+    by_order Greater is rest = rw is (ap (λ (l : List Guid). n.pairing.writer ∷ l) rest)
 
 writers_ended : (w : Guid) (ms : List Match) → writers_of (ended w ms) ≡ filter (λ g. not (same_guid g w)) (writers_of ms)
 writers_ended w [] = refl
-writers_ended w (m ∷ ms) = by_test (same_guid m.whom.writer w) refl (writers_ended w ms)
+writers_ended w (m ∷ ms) = by_test (same_guid m.pairing.writer w) refl (writers_ended w ms)
   where
-    by_test : (b : Bool) → same_guid m.whom.writer w ≡ b → writers_of (ended w ms) ≡ filter (λ g. not (same_guid g w)) (writers_of ms)
+    by_test : (b : Bool) → same_guid m.pairing.writer w ≡ b → writers_of (ended w ms) ≡ filter (λ g. not (same_guid g w)) (writers_of ms)
         → writers_of (ended w (m ∷ ms)) ≡ filter (λ g. not (same_guid g w)) (writers_of (m ∷ ms))
     by_test true is rest = rw is rest
-    by_test false is rest = rw is (ap (λ (l : List Guid). m.whom.writer ∷ l) rest)
+    by_test false is rest = rw is (ap (λ (l : List Guid). m.pairing.writer ∷ l) rest)
 
-writers_extended : (w : Guid) (e : Came) (ms : List Match) → writers_of (extended w e ms) ≡ writers_of ms
+writers_extended : (w : Guid) (e : MatchEvent) (ms : List Match) → writers_of (extended w e ms) ≡ writers_of ms
 writers_extended w e [] = refl
-writers_extended w e (m ∷ ms) = by_test (same_guid m.whom.writer w) refl (writers_extended w e ms)
+writers_extended w e (m ∷ ms) = by_test (same_guid m.pairing.writer w) refl (writers_extended w e ms)
   where
-    by_test : (b : Bool) → same_guid m.whom.writer w ≡ b → writers_of (extended w e ms) ≡ writers_of ms → writers_of (extended w e (m ∷ ms)) ≡ writers_of (m ∷ ms)
+    by_test : (b : Bool) → same_guid m.pairing.writer w ≡ b → writers_of (extended w e ms) ≡ writers_of ms → writers_of (extended w e (m ∷ ms)) ≡ writers_of (m ∷ ms)
     by_test true is rest = rw is refl
-    by_test false is rest = rw is (ap (λ (l : List Guid). m.whom.writer ∷ l) rest)
+    by_test false is rest = rw is (ap (λ (l : List Guid). m.pairing.writer ∷ l) rest)
 
 order_begun : (m : Match) (ms : List Match) → InOrder ms → InOrder (begun m ms)
-order_begun m ms up = subst (IsStrictlySortedBy guid_order) (sym (writers_begun m ms)) (inserted guid_order guid_total (writers_of ms) m.whom.writer up)
+order_begun m ms up = subst (IsStrictlySortedBy guid_order) (sym (writers_begun m ms)) (inserted guid_order guid_total (writers_of ms) m.pairing.writer up)
 
-order_after : (r : Reader) (d : Doing) → InOrder r.matches → InOrder (reader_after r d).matches
+order_after : (r : Reader) (d : StepView) → InOrder r.matches → InOrder (reader_after r d).matches
 order_after r (Takes w e) up = subst (IsStrictlySortedBy guid_order) (sym (writers_extended w e r.matches)) up
 order_after r (Begins w locators) up = order_begun (fresh_with r (w, locators)) r.matches up
 order_after r (Ends w) up = subst (IsStrictlySortedBy guid_order) (sym (writers_ended w r.matches)) (IsStrictlySortedBy-filter guid_order (λ g. not (same_guid g w)) (writers_of r.matches) up)
 order_after r (Refused w policy) up = up
 
-order_run : (r : Reader) (ds : List Doing) → InOrder r.matches → InOrder (reader_run r ds).matches
+order_run : (r : Reader) (ds : List StepView) → InOrder r.matches → InOrder (reader_run r ds).matches
 order_run r [] up = up
 order_run r (d ∷ ds) up = order_run (reader_after r d) ds (order_after r d up)
 
-order_all : (ms : List Match) (ws : List Whom) → InOrder ms → InOrder (all_begun ms ws)
+order_all : (ms : List Match) (ws : List Pairing) → InOrder ms → InOrder (all_begun ms ws)
 order_all ms [] up = up
 order_all ms (w ∷ ws) up = order_all (begun (fresh w) ms) ws (order_begun (fresh w) ms up)
 
@@ -167,6 +167,6 @@ none_in_order : InOrder []
 unfolding IsStrictlySortedBy
 none_in_order = tt
 
-pub run_in_order : (own : GuidPrefix) (entity : EntityId) (is_reliable : Bool) (fixed : List Facts) (ds : List Doing) → InOrder (reader_run (first_reader own entity is_reliable fixed) ds).matches
+pub run_in_order : (own : GuidPrefix) (entity : EntityId) (is_reliable : Bool) (fixed : List Facts) (ds : List StepView) → InOrder (reader_run (first_reader own entity is_reliable fixed) ds).matches
 run_in_order own entity is_reliable fixed ds =
-    order_run (first_reader own entity is_reliable fixed) ds (order_all [] (map (whom_of own entity is_reliable) fixed) none_in_order)
+    order_run (first_reader own entity is_reliable fixed) ds (order_all [] (map (pairing_of own entity is_reliable) fixed) none_in_order)

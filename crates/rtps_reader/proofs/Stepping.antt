@@ -6,22 +6,22 @@ use Rattle.rtps_types.specs.declared.locator.Locator.{Locator}
 use Rattle.rtps_types.specs.declared.place.Place.{Place}
 use Rattle.rtps_proxy.specs.declared.effects.Effects.{Effects}
 use Rattle.rtps_proxy.specs.Changes.{change_view}
-use Rattle.rtps_proxy.specs.History.{Came}
-use Rattle.rtps_proxy.specs.Kept.{Kept}
+use Rattle.rtps_proxy.specs.History.{MatchEvent}
+use Rattle.rtps_proxy.specs.Kept.{ProxyView}
 use Rattle.rtps_proxy.specs.Matches.{AllStand, AreTaken, Match, begun, ended, extended, fresh, match_with}
 use Rattle.dds_topic.specs.Decoding.{Decoding}
 use Rattle.rtps_reader.specs.declared.notice.Notice.{Notice}
 use Rattle.rtps_reader.specs.declared.notice.NoticeKind.TheVariants.{Matched, Unmatched, Incompatible}
 use Rattle.rtps_reader.specs.declared.stateful.StatefulReader.{StatefulReader}
 use Rattle.rtps_reader.specs.declared.status.Counts.{Counts}
-use Rattle.rtps_reader.specs.Reader.{Reader, fresh_with, lost_at, notice_of, reader_after, ready_at, tells, told_of, whom_of}
+use Rattle.rtps_reader.specs.Reader.{Reader, fresh_with, lost_at, notice_of, reader_after, ready_at, tells, told_of, pairing_of}
 use Rattle.rtps_reader.specs.Standing.{IsSameReader, StandsAt, counts_after, counts_given, kept_by, status_by}
 use Rattle.rtps_reader.specs.Steps.{Takes, Begins, Ends, Refused}
 use Rattle.rtps_reader.specs.Status.{capped, status_of}
 use Rattle.rtps_reader.proofs.Counting.{Adds, GrowBy, adds_end, adds_match, adds_none, adds_refusal, adds_told, first_status, grow_event, grow_match, grow_none, grow_refusal, status_adds}
 
 -- there are as many matches as are kept
-pub as_many : (ms : List Match) (ss : List (Guid × Kept)) → AllStand ms ss → length ss ≡ length ms
+pub as_many : (ms : List Match) (ss : List (Guid × ProxyView)) → AllStand ms ss → length ss ≡ length ms
 as_many [] [] all = refl
 as_many [] (s ∷ ss) all = absurd all
 as_many (m ∷ ms) [] all = absurd all
@@ -41,7 +41,7 @@ stands_more r r1 given added old new b rs n k stands same only all adds grow = r
 }
 
 -- an event was taken in
-pub stands_taken : {M A : Type 0} (d : Decoding M) (r : Reader) (given : List (Notice M)) (place : Place) (w : Guid) (e : Came) (old new : StatefulReader A) (taken : Option (Effects A))
+pub stands_taken : {M A : Type 0} (d : Decoding M) (r : Reader) (given : List (Notice M)) (place : Place) (w : Guid) (e : MatchEvent) (old new : StatefulReader A) (taken : Option (Effects A))
     → StandsAt r given (kept_by false old) → IsSameReader old new → AllStand (extended w e r.matches) new.matches → AreTaken (match_with w r.matches) e taken → new.counts ≡ counts_given old.counts taken
     → StandsAt (reader_after r (Takes w e)) (given ++ tells d r place (Takes w e)) (kept_by false new)
 stands_taken {M} {A} d r given place w e old new taken stands same all are counts = by_match (match_with w r.matches) taken are counts
@@ -59,16 +59,16 @@ stands_taken {M} {A} d r given place w e old new taken stands same all are count
 
 -- a match began
 pub stands_begun : {M A : Type 0} (d : Decoding M) (r : Reader) (given : List (Notice M)) (place : Place) (w : Guid) (locators : List Locator) (old new : StatefulReader A)
-    → StandsAt r given (kept_by false old) → IsSameReader old new → AllStand (begun (fresh (whom_of old.own old.entity old.reliable (w, locators))) r.matches) new.matches → new.counts ≡ record old.counts { matched_total = capped (old.counts.matched_total + 1) }
+    → StandsAt r given (kept_by false old) → IsSameReader old new → AllStand (begun (fresh (pairing_of old.own old.entity old.reliable (w, locators))) r.matches) new.matches → new.counts ≡ record old.counts { matched_total = capped (old.counts.matched_total + 1) }
     → StandsAt (reader_after r (Begins w locators)) (given ++ tells d r place (Begins w locators)) (kept_by false new)
 stands_begun {M} d r given place w locators old new stands same all counts =
     stands_more r (reader_after r (Begins w locators)) given (notice_of place w Matched) old new 1 [] 0 0 stands same refl (subst (λ m. AllStand (begun m r.matches) new.matches) ours all) (adds_match M place w) (subst (GrowBy 1 [] 0 0 old.counts) (sym counts) (grow_match old.counts))
   where
-    ours : fresh (whom_of old.own old.entity old.reliable (w, locators)) ≡ fresh_with r (w, locators)
+    ours : fresh (pairing_of old.own old.entity old.reliable (w, locators)) ≡ fresh_with r (w, locators)
     ours =
-        ap (λ k. fresh (whom_of k old.entity old.reliable (w, locators))) stands.own
-        ∙ ap (λ k. fresh (whom_of r.own k old.reliable (w, locators))) stands.entity
-        ∙ ap (λ k. fresh (whom_of r.own r.entity k (w, locators))) stands.reliable
+        ap (λ k. fresh (pairing_of k old.entity old.reliable (w, locators))) stands.own
+        ∙ ap (λ k. fresh (pairing_of r.own k old.reliable (w, locators))) stands.entity
+        ∙ ap (λ k. fresh (pairing_of r.own r.entity k (w, locators))) stands.reliable
 
 -- a match ended
 pub stands_ended : {M A : Type 0} (d : Decoding M) (r : Reader) (given : List (Notice M)) (place : Place) (w : Guid) (old new : StatefulReader A)
@@ -86,7 +86,7 @@ stands_refused {M} d r given place w policy old new stands same kept counts =
     (adds_refusal M place w policy) (subst (GrowBy 0 (policy ∷ []) 0 0 old.counts) (sym counts) (grow_refusal old.counts policy))
 
 -- the status at the start
-pub started : (r : Reader) (counts : Counts) (now : ℕ) (ss : List (Guid × Kept)) → counts ≡ record { matched_total = capped (0 + now); incompatible_total = 0; last_policy = None; lost_total = 0; samples = 0 } → now ≡ length ss → AllStand r.matches ss → r.fixed ≡ length r.matches
+pub started : (r : Reader) (counts : Counts) (now : ℕ) (ss : List (Guid × ProxyView)) → counts ≡ record { matched_total = capped (0 + now); incompatible_total = 0; last_policy = None; lost_total = 0; samples = 0 } → now ≡ length ss → AllStand r.matches ss → r.fixed ≡ length r.matches
     → status_by counts (length ss) ≡ status_of {M = Unit {0}} r []
 started r counts now ss is count all fixed =
     ap (status_by counts) (sym count) ∙ first_status r counts now is (count ∙ as_many r.matches ss all) fixed

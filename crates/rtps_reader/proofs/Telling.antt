@@ -9,7 +9,7 @@ use Rattle.rtps_types.specs.declared.place.Place.{Place}
 use Rattle.rtps_types.specs.declared.time.Timestamp.{Timestamp}
 use Rattle.rtps_proxy.specs.declared.effects.Effects.{Effects}
 use Rattle.rtps_proxy.specs.Changes.{change_view}
-use Rattle.rtps_proxy.specs.History.{Came}
+use Rattle.rtps_proxy.specs.History.{MatchEvent}
 use Rattle.rtps_proxy.specs.Replies.{reply_view}
 use Rattle.rtps_reader.specs.declared.body.Body.{Body}
 use Rattle.dds_topic.specs.Decoding.{Decoding}
@@ -22,14 +22,14 @@ pub told_then : {A : Type 0} (old middle new a b : List A) → middle ≡ old ++
 told_then old middle new a b first second = second ∙ ap (λ l. l ++ b) first ∙ append_assoc old a b
 
 -- what the match with a writer gave at an event, as it is reported and as it is counted
-pub told_taken : {M A : Type 0} (decoding : Decoding M) (place : Place) (w : Guid) (found : Option Match) (e : Came) (effects : Effects A) → AreTaken found e (Some effects)
+pub told_taken : {M A : Type 0} (decoding : Decoding M) (place : Place) (w : Guid) (found : Option Match) (e : MatchEvent) (effects : Effects A) → AreTaken found e (Some effects)
     → loses place w effects.lost ++ map (presented decoding place w) (map change_view effects.ready.items) ≡ told_of decoding place w e found
 told_taken decoding place w None e effects taken = absurd taken
 told_taken decoding place w (Some m) e effects taken =
     ap (λ n. loses place w n ++ map (presented decoding place w) (map change_view effects.ready.items)) taken.lost
     ∙ ap (λ l. loses place w (lost_at m e) ++ map (presented decoding place w) l) taken.ready
 
-pub said_taken : {A : Type 0} (place : Place) (found : Option Match) (e : Came) (effects : Effects A) → AreTaken found e (Some effects) → placed place (option_map reply_view effects.answer) ≡ sent_of place e found
+pub said_taken : {A : Type 0} (place : Place) (found : Option Match) (e : MatchEvent) (effects : Effects A) → AreTaken found e (Some effects) → placed place (option_map reply_view effects.answer) ≡ sent_of place e found
 said_taken place None e effects taken = absurd taken
 said_taken place (Some m) e effects taken = ap (placed place) taken.answer
 
@@ -62,11 +62,11 @@ abbrev pub none_of : (A : Type 0) → Option (Effects A)
 none_of A = None
 
 -- of a writer that isn't matched nothing is reported, and nothing is sent to it
-pub none_told : {M : Type 0} (A : Type 0) (decoding : Decoding M) (place : Place) (w : Guid) (found : Option Match) (e : Came) → AreTaken found e (none_of A) → told_of decoding place w e found ≡ []
+pub none_told : {M : Type 0} (A : Type 0) (decoding : Decoding M) (place : Place) (w : Guid) (found : Option Match) (e : MatchEvent) → AreTaken found e (none_of A) → told_of decoding place w e found ≡ []
 none_told A decoding place w None e taken = refl
 none_told A decoding place w (Some m) e taken = absurd taken
 
-pub none_said : (A : Type 0) (place : Place) (found : Option Match) (e : Came) → AreTaken found e (none_of A) → sent_of place e found ≡ []
+pub none_said : (A : Type 0) (place : Place) (found : Option Match) (e : MatchEvent) → AreTaken found e (none_of A) → sent_of place e found ≡ []
 none_said A place None e taken = refl
 none_said A place (Some m) e taken = absurd taken
 

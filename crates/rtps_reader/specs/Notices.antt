@@ -1,7 +1,7 @@
 -- Notices, by what their values mean.
 use Rattle.rtps_types.specs.declared.place.Place.{Place}
 use Rattle.rtps_types.specs.declared.traffic.Reply.{Reply}
-use Rattle.rtps_proxy.specs.Replies.{Sent, reply_view}
+use Rattle.rtps_proxy.specs.Replies.{ReplyView, reply_view}
 use Rattle.rtps_reader.specs.declared.notice.Notice.{Notice}
 use Rattle.rtps_reader.specs.declared.notice.NoticeKind.{NoticeKind}
 use Rattle.rtps_reader.specs.declared.notice.NoticeKind.TheVariants as kind
@@ -18,5 +18,5 @@ abbrev pub notice_view : {V M : Type 0} → (V → M) → Notice V → Notice M
 notice_view f n = record { place = n.place; writer = n.writer; what = kind_view f n.what }
 
 -- an answer, with the place of the event that it answers
-abbrev pub answer_view : {A : Type 0} → Place × Reply A → Place × Sent
+abbrev pub answer_view : {A : Type 0} → Place × Reply A → Place × ReplyView
 answer_view a = (a.0, reply_view a.1)

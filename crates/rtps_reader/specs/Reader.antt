@@ -7,28 +7,28 @@ use Rattle.rtps_types.specs.declared.identity.Guid.{Guid}
 use Rattle.rtps_types.specs.declared.identity.GuidPrefix.{GuidPrefix}
 use Rattle.rtps_types.specs.declared.locator.Locator.{Locator}
 use Rattle.rtps_types.specs.declared.place.Place.{Place}
-use Rattle.rtps_proxy.specs.History.{Came, Sample}
+use Rattle.rtps_proxy.specs.History.{MatchEvent, ChangeView}
 use Rattle.rtps_proxy.specs.Effects.{answer_of, lost_of, ready_of}
-use Rattle.rtps_proxy.specs.Kept.{Whom}
+use Rattle.rtps_proxy.specs.Kept.{Pairing}
 use Rattle.rtps_proxy.specs.Matches.{Match, begun, ended, extended, fresh, match_with}
-use Rattle.rtps_proxy.specs.Replies.{Sent}
+use Rattle.rtps_proxy.specs.Replies.{ReplyView}
 use Rattle.dds_topic.specs.Decoding.{Decoding}
 use Rattle.rtps_reader.specs.declared.notice.Notice.{Notice}
 use Rattle.rtps_reader.specs.declared.notice.NoticeKind.{NoticeKind}
 use Rattle.rtps_reader.specs.declared.notice.NoticeKind.TheVariants as kind
 use Rattle.rtps_reader.specs.Body.{body_by}
-use Rattle.rtps_reader.specs.Steps.{Doing, Takes, Begins, Ends, Refused}
+use Rattle.rtps_reader.specs.Steps.{StepView, Takes, Begins, Ends, Refused}
 
 -- how many numbers are given up at an event, the changes that are ready then, and what is said to
 -- the writer
-abbrev pub lost_at : Match → Came → ℕ
-lost_at m e = lost_of m.whom.reliable m.past e
+abbrev pub lost_at : Match → MatchEvent → ℕ
+lost_at m e = lost_of m.pairing.reliable m.past e
 
-abbrev pub ready_at : Match → Came → List Sample
-ready_at m e = ready_of m.whom.reliable m.past e
+abbrev pub ready_at : Match → MatchEvent → List ChangeView
+ready_at m e = ready_of m.pairing.reliable m.past e
 
-abbrev pub answer_at : Match → Came → Option Sent
-answer_at m e = answer_of m.whom m.past e
+abbrev pub answer_at : Match → MatchEvent → Option ReplyView
+answer_at m e = answer_of m.pairing m.past e
 
 pub record Reader : Type 0 where
   -- our participant, and the reader's own part of its guid
@@ -46,8 +46,8 @@ abbrev pub Facts : Type 0
 Facts = Guid × List Locator
 
 -- between whom a match of a reader is
-abbrev pub whom_of : GuidPrefix → EntityId → Bool → Facts → Whom
-whom_of own entity is_reliable facts = record {
+abbrev pub pairing_of : GuidPrefix → EntityId → Bool → Facts → Pairing
+pairing_of own entity is_reliable facts = record {
   own = own;
   writer = facts.0;
   reader = entity;
@@ -57,10 +57,10 @@ whom_of own entity is_reliable facts = record {
 
 -- the reader's match with a writer as it begins: nothing came yet
 abbrev pub fresh_with : Reader → Facts → Match
-fresh_with r facts = fresh (whom_of r.own r.entity r.reliable facts)
+fresh_with r facts = fresh (pairing_of r.own r.entity r.reliable facts)
 
 -- a sample is presented with what the catalog makes of what it carries
-abbrev pub presented : {M : Type 0} → Decoding M → Place → Guid → Sample → Notice M
+abbrev pub presented : {M : Type 0} → Decoding M → Place → Guid → ChangeView → Notice M
 presented decoding place w s = record {
   place = place;
   writer = w;
@@ -72,7 +72,7 @@ abbrev pub loses : {M : Type 0} → Place → Guid → ℕ → List (Notice M)
 loses place w count =
     if count == 0 then [] else record { place = place; writer = w; what = kind.Lost count } ∷ []
 
-abbrev pub told_of : {M : Type 0} → Decoding M → Place → Guid → Came → Option Match
+abbrev pub told_of : {M : Type 0} → Decoding M → Place → Guid → MatchEvent → Option Match
     → List (Notice M)
 told_of decoding place w e None = []
 told_of decoding place w e (Some m) =
@@ -83,35 +83,35 @@ abbrev pub notice_of : {M : Type 0} → Place → Guid → NoticeKind M → List
 notice_of place w what = record { place = place; writer = w; what = what } ∷ []
 
 -- the notices that a reader gives out at a step: of an event none, where its writer isn't matched
-abbrev pub tells : {M : Type 0} → Decoding M → Reader → Place → Doing → List (Notice M)
+abbrev pub tells : {M : Type 0} → Decoding M → Reader → Place → StepView → List (Notice M)
 tells decoding r place (Takes w e) = told_of decoding place w e (match_with w r.matches)
 tells decoding r place (Begins w locators) = notice_of place w kind.Matched
 tells decoding r place (Ends w) = notice_of place w kind.Unmatched
 tells decoding r place (Refused w policy) = notice_of place w (kind.Incompatible policy)
 
 -- what is said, with the place of the event that it answers
-abbrev pub placed : Place → Option Sent → List (Place × Sent)
+abbrev pub placed : Place → Option ReplyView → List (Place × ReplyView)
 placed place None = []
 placed place (Some sent) = (place, sent) ∷ []
 
-abbrev pub sent_of : Place → Came → Option Match → List (Place × Sent)
+abbrev pub sent_of : Place → MatchEvent → Option Match → List (Place × ReplyView)
 sent_of place e None = []
 sent_of place e (Some m) = placed place (answer_at m e)
 
 -- what a reader sends at a step
-abbrev pub sends : Reader → Place → Doing → List (Place × Sent)
+abbrev pub sends : Reader → Place → StepView → List (Place × ReplyView)
 sends r place (Takes w e) = sent_of place e (match_with w r.matches)
 sends r place (Begins w locators) = []
 sends r place (Ends w) = []
 sends r place (Refused w policy) = []
 
 -- a match once an event came for it
-abbrev pub extended_by : Came → Match → Match
-extended_by e m = record { whom = m.whom; past = e ∷ m.past }
+abbrev pub extended_by : MatchEvent → Match → Match
+extended_by e m = record { pairing = m.pairing; past = e ∷ m.past }
 
 -- the reader after a step: an event extends the history of the match with its writer; a match
 -- begins with no history, also where there was one with that writer; at its end it is forgotten
-abbrev pub reader_after : Reader → Doing → Reader
+abbrev pub reader_after : Reader → StepView → Reader
 reader_after r (Takes w e) = record r { matches = extended w e r.matches }
 reader_after r (Begins w locators) =
     record r { matches = begun (fresh_with r (w, locators)) r.matches }
@@ -119,18 +119,18 @@ reader_after r (Ends w) = record r { matches = ended w r.matches }
 reader_after r (Refused w policy) = r
 
 -- one step after the other
-abbrev pub reader_run : Reader → List Doing → Reader
+abbrev pub reader_run : Reader → List StepView → Reader
 reader_run r [] = r
 reader_run r (d ∷ ds) = reader_run (reader_after r d) ds
 
 -- matches begin one after the other
-abbrev pub all_begun : List Match → List Whom → List Match
+abbrev pub all_begun : List Match → List Pairing → List Match
 all_begun ms [] = ms
 all_begun ms (w ∷ ws) = all_begun (begun (fresh w) ms) ws
 
 -- the matches that a reader begins with
 abbrev pub first_matches : GuidPrefix → EntityId → Bool → List Facts → List Match
-first_matches own entity is_reliable fixed = all_begun [] (map (whom_of own entity is_reliable) fixed)
+first_matches own entity is_reliable fixed = all_begun [] (map (pairing_of own entity is_reliable) fixed)
 
 -- a reader at the start: it has its fixed matches, and nothing came yet
 abbrev pub first_reader : GuidPrefix → EntityId → Bool → List Facts → Reader

@@ -5,7 +5,7 @@ use Rattle.rtps_types.specs.declared.identity.Guid.{Guid}
 use Rattle.rtps_types.specs.declared.identity.GuidPrefix.{GuidPrefix}
 use Rattle.rtps_types.specs.declared.traffic.WriterFacts.{WriterFacts}
 use Rattle.rtps_proxy.specs.declared.effects.Effects.{Effects}
-use Rattle.rtps_proxy.specs.Kept.{Kept}
+use Rattle.rtps_proxy.specs.Kept.{ProxyView}
 use Rattle.rtps_proxy.specs.Matches.{AllStand}
 use Rattle.rtps_reader.specs.declared.notice.Notice.{Notice}
 use Rattle.rtps_reader.specs.declared.notice.Output.{Output}
@@ -15,14 +15,14 @@ use Rattle.rtps_reader.specs.declared.status.Status.{Status}
 use Rattle.rtps_reader.specs.Reader.{Facts, Reader}
 use Rattle.rtps_reader.specs.Status.{capped, status_of}
 
-pub record ReaderKept : Type 0 where
+pub record ReaderView : Type 0 where
   pub rank : ℕ
   pub spent : Bool
   pub own : GuidPrefix
   pub entity : EntityId
   pub reliable : Bool
   -- each by its writer
-  pub matches : List (Guid × Kept)
+  pub matches : List (Guid × ProxyView)
   pub status : Status
 
 -- the status, by what is counted and by how many matches there are
@@ -37,7 +37,7 @@ status_by counts now = record {
 }
 
 -- what is kept, as contracts see it
-abbrev pub kept_by : {A : Type 0} → Bool → StatefulReader A → ReaderKept
+abbrev pub kept_by : {A : Type 0} → Bool → StatefulReader A → ReaderView
 kept_by is_spent r = record {
   rank = r.rank;
   spent = is_spent;
@@ -50,7 +50,7 @@ kept_by is_spent r = record {
 
 -- the state keeps what follows from all that the reader was asked to do, and counts the notices
 -- that it gave out
-pub record StandsAt {M : Type 0} (r : Reader) (given : List (Notice M)) (state : ReaderKept)
+pub record StandsAt {M : Type 0} (r : Reader) (given : List (Notice M)) (state : ReaderView)
     : Type 0 where
   pub sound : state.spent ≡ false
   pub own : state.own ≡ r.own
@@ -60,7 +60,7 @@ pub record StandsAt {M : Type 0} (r : Reader) (given : List (Notice M)) (state :
   pub status : state.status ≡ status_of r given
 
 -- the state of a reader that gave out no notice yet
-abbrev pub StartsAt : Reader → ReaderKept → Type 0
+abbrev pub StartsAt : Reader → ReaderView → Type 0
 StartsAt r state = StandsAt {M = Unit {0}} r [] state
 
 -- only matches and counts have changed

@@ -8,16 +8,16 @@ ghost use Rattle.rtps_types.specs.declared.identity.Guid.{Guid};
 ghost use Rattle.rtps_types.specs.declared.identity.GuidPrefix.{GuidPrefix};
 ghost use Rattle.rtps_types.specs.declared.locator.Locator.{Locator};
 ghost use Rattle.rtps_types.specs.Order.{guid_order};
-ghost use Rattle.rtps_proxy.specs.History.{Came};
+ghost use Rattle.rtps_proxy.specs.History.{MatchEvent};
 ghost use Rattle.rtps_proxy.specs.Matches.{match_with, same_guid};
 ghost use Rattle.rtps_reader.specs.Reader.{Facts, Reader, extended_by, first_reader, fresh_with, reader_after, reader_run};
-ghost use Rattle.rtps_reader.specs.Steps.{Begins, Doing, Ends, Takes};
+ghost use Rattle.rtps_reader.specs.Steps.{Begins, StepView, Ends, Takes};
 
 /// What a step does to the match with each writer. An event of a writer extends the history of its
 /// match, if there is one. A match that begins has no history, whatever there was before. After an
 /// end there is no match. Of no step does the match with another writer change.
 pub fn matches_follow()
-    ensures taken { (r : Reader) (writer other : Guid) (event : Came)
+    ensures taken { (r : Reader) (writer other : Guid) (event : MatchEvent)
         → match_with other (reader_after r (Takes writer event)).matches
         ≡ (if same_guid writer other then option_map (extended_by event) (match_with other r.matches)
         else match_with other r.matches) }
@@ -34,7 +34,7 @@ pub fn matches_follow()
 /// is with the writer of another.
 pub fn matches_in_order()
     ensures { (own : GuidPrefix) (entity : EntityId) (is_reliable : Bool) (fixed : List Facts)
-        (doings : List Doing)
-        → IsStrictlySortedBy guid_order (map (λ m. m.whom.writer) (reader_run (first_reader own
+        (doings : List StepView)
+        → IsStrictlySortedBy guid_order (map (λ m. m.pairing.writer) (reader_run (first_reader own
         entity is_reliable fixed) doings).matches) }
 {}

@@ -32,9 +32,9 @@ pub struct ReaderState<A: Allocator = Global> {
 }
 
 impl<A: Allocator> Model for ReaderState<A> {
-    ghost use Rattle.rtps_reader.specs.Standing.{ReaderKept, kept_by};
+    ghost use Rattle.rtps_reader.specs.Standing.{ReaderView, kept_by};
 
-    ghost Value = { ReaderKept };
+    ghost Value = { ReaderView };
 
     ghost view = { λ r. kept_by r.spent r.reader };
 }
@@ -61,7 +61,7 @@ impl<A: Allocator + Copy> ReaderState<A> {
 
     /// Takes one step, and adds what it gives after what is in `output`. Of an event of a writer
     /// that the reader is matched with it gives what was lost, then the samples that are ready, and
-    /// what is said to the writer; of any other event nothing. Whom an event is for is tested
+    /// what is said to the writer; of any other event nothing. Pairing an event is for is tested
     /// before: the reader is given only what is for it.
     ///
     /// When a step is out of memory the reader is spent, and what the step gave before is left in

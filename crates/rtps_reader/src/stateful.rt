@@ -1,11 +1,12 @@
 //! A reader that keeps state of each writer that it is matched with.
 
 ghost use Rattle.std.specs.Prelude.{◌≡◌, ◌++◌, List, IfOk, OnOk, false, map};
-ghost use Rattle.rtps_proxy.specs.Effects.{came};
+ghost use Rattle.rtps_proxy.specs.Effects.{match_event};
 ghost use Rattle.rtps_proxy.specs.Matches.{AllStand, AreTaken, Match, begun, extended, fresh, match_with};
 ghost use Rattle.rtps_reader.specs.declared.notice.Notice.{Notice};
 ghost use Rattle.rtps_reader.specs.Notices.{answer_view, notice_view};
-ghost use Rattle.rtps_reader.specs.Reader.{Reader, first_reader, reader_after, sends, tells, whom_of};
+ghost use Rattle.rtps_reader.specs.Reader.{Reader, first_reader, pairing_of, reader_after, sends};
+ghost use Rattle.rtps_reader.specs.Reader.{tells};
 ghost use Rattle.rtps_reader.specs.Standing.{IsSameReader, KeepsFront, StandsAt, StartsAt, counts_given, facts_in, kept_by};
 ghost use Rattle.rtps_reader.specs.Steps.{asked};
 
@@ -124,9 +125,10 @@ impl<A: Allocator + Copy> StatefulReader<A> {
         body: &Body<'a>,
     ) -> Result<Option<Effects<'a, A>>, AllocError>
         ensures stands { (ms : List Match) → AllStand ms self.old.matches
-            → OnOk result (AllStand (extended writer (came time body.now) ms) self.new.matches) }
+            → OnOk result (AllStand (extended writer (match_event time body.now) ms)
+            self.new.matches) }
         ensures effects { (ms : List Match) → AllStand ms self.old.matches
-            → IfOk result (AreTaken (match_with writer ms) (came time body.now)) }
+            → IfOk result (AreTaken (match_with writer ms) (match_event time body.now)) }
         ensures counts { IfOk result (λ effects. self.new.counts
             ≡ counts_given self.old.counts effects) }
         ensures reader { IsSameReader self.old self.new }
@@ -141,7 +143,7 @@ impl<A: Allocator + Copy> StatefulReader<A> {
     /// Begins a match with a writer, which keeps a copy of these locators.
     fn begin(&mut self, alloc: A, writer: Guid, locators: &[Locator]) -> Result<(), AllocError>
         ensures stands { (ms : List Match) → AllStand ms self.old.matches
-            → OnOk result (AllStand (begun (fresh (whom_of self.old.own self.old.entity
+            → OnOk result (AllStand (begun (fresh (pairing_of self.old.own self.old.entity
             self.old.reliable (writer, locators.now))) ms) self.new.matches) }
         ensures counts { self.new.counts ≡ self.old.counts }
         ensures reader { IsSameReader self.old self.new }

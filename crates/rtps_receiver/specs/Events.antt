@@ -12,44 +12,44 @@ use Rattle.rtps_wire.specs.Header.{header_of}
 use Rattle.rtps_wire.specs.Reading.{reading}
 use Rattle.rtps_wire.specs.Submessage.{Content, Item}
 use Rattle.rtps_receiver.specs.declared.event.Event.{Event}
-use Rattle.rtps_receiver.specs.Addressed.{Addressed, addressed, taken_of}
-use Rattle.rtps_receiver.specs.Brought.{Brought}
+use Rattle.rtps_receiver.specs.Addressed.{AddressedBody, addressed, taken_of}
+use Rattle.rtps_receiver.specs.EventBody.{EventBody}
 use Rattle.rtps_receiver.specs.Views.{body_view}
 use Rattle.rtps_receiver.specs.Context.{destination_of, source_of, time_of}
 
 -- an event, without where its octets lie in memory
-pub record Happening : Type 0 where
+pub record EventView : Type 0 where
   pub place : Place
   pub source : GuidPrefix
   pub time : Option Timestamp
   pub writer : EntityId
   pub reader : EntityId
-  pub body : Brought
+  pub body : EventBody
 
-abbrev pub view : Event → Happening
+abbrev pub view : Event → EventView
 view e = record { place = e.place; source = e.source; time = e.time; writer = e.writer; reader = e.reader; body = body_view e.body }
 
 -- the event of what is addressed, at a place, with a source and a time
-abbrev pub happening : Place → GuidPrefix → Option Timestamp → Option Addressed → Option Happening
+abbrev pub happening : Place → GuidPrefix → Option Timestamp → Option AddressedBody → Option EventView
 happening place source time addressed = option_map (λ a. record { place = place; source = source; time = time; writer = a.writer; reader = a.reader; body = a.body }) addressed
 
 -- the event of a submessage, after those before it, nearest first, where its destination is ours
-abbrev pub event_behind : GuidPrefix → GuidPrefix → Place → List Content → Content → Option Happening
+abbrev pub event_behind : GuidPrefix → GuidPrefix → Place → List Content → Content → Option EventView
 event_behind own header place before c =
     if bytes_eq (destination_of own before).0 own.0 then happening place (source_of header before) (time_of before) (taken_of (addressed c)) else None
 
 -- the events of the submessages that are left, after count others; every submessage counts
-abbrev pub events_behind : GuidPrefix → GuidPrefix → ℕ → ℕ → List Content → List Item → List Happening
+abbrev pub events_behind : GuidPrefix → GuidPrefix → ℕ → ℕ → List Content → List Item → List EventView
 events_behind own header index count before [] = []
 events_behind own header index count before (i ∷ left) =
     option_to_list (event_behind own header (record { datagram = index; submessage = count + 1 }) before i.content)
     ++ events_behind own header index (count + 1) (i.content ∷ before) left
 
 -- a bad header gives none
-abbrev pub events_under : GuidPrefix → ℕ → List ℕ → Result Header HeaderFault → List Happening
+abbrev pub events_under : GuidPrefix → ℕ → List ℕ → Result Header HeaderFault → List EventView
 events_under own index octets (Err f) = []
 events_under own index octets (Ok h) = events_behind own h.prefix index 0 [] (reading (drop 20 octets)).items
 
 -- the events of a datagram
-abbrev pub events_of : GuidPrefix → ℕ → List ℕ → List Happening
+abbrev pub events_of : GuidPrefix → ℕ → List ℕ → List EventView
 events_of own index octets = events_under own index octets (header_of octets)

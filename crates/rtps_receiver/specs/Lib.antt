@@ -1,4 +1,4 @@
-pub mod Brought
+pub mod EventBody
 pub mod Views
 pub mod Addressed
 pub mod Context

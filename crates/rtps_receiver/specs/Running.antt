@@ -6,7 +6,7 @@ use Rattle.rtps_types.specs.declared.identity.GuidPrefix.{GuidPrefix}
 use Rattle.rtps_wire.specs.Submessage.{Content, Item, Pad, HeartbeatOf, GapOf, Time, Source, Destination, HeartbeatFragOf, Whole, Frag, Skipped}
 use Rattle.rtps_receiver.specs.declared.context.Context.{Context}
 use Rattle.rtps_receiver.specs.Addressed.{addressed, taken_of}
-use Rattle.rtps_receiver.specs.Events.{Happening, happening}
+use Rattle.rtps_receiver.specs.Events.{EventView, happening}
 use Rattle.rtps_receiver.specs.Context.{destination_of, resolved, source_of, time_of}
 
 -- the context that the submessages before give
@@ -30,7 +30,7 @@ after c (Frag d) = c
 after c Skipped = c
 
 -- the event of a submessage in a context
-abbrev pub event_in : Context → Place → Content → Option Happening
+abbrev pub event_in : Context → Place → Content → Option EventView
 event_in c place content =
     if bytes_eq c.destination.0 c.own.0 then happening place c.source c.time (taken_of (addressed content)) else None
 
@@ -38,6 +38,6 @@ abbrev pub next_place : Place → Place
 next_place p = record p { submessage = p.submessage + 1 }
 
 -- the events of the submessages that are left, in a context, the first of them after a place
-abbrev pub events_left : Context → Place → List Item → List Happening
+abbrev pub events_left : Context → Place → List Item → List EventView
 events_left c before [] = []
 events_left c before (i ∷ left) = option_to_list (event_in c (next_place before) i.content) ++ events_left (after c i.content) (next_place before) left

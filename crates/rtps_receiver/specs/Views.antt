@@ -8,24 +8,24 @@ use Rattle.rtps_receiver.specs.declared.body.Gap as gap
 use Rattle.rtps_receiver.specs.declared.body.Heartbeat as heartbeat
 use Rattle.rtps_receiver.specs.declared.body.HeartbeatFrag as heartbeat_frag
 use Rattle.rtps_receiver.specs.declared.body.Whole as whole
-use Rattle.rtps_receiver.specs.Brought.{Announced, AnnouncedFragments, Brought, Change, Fragments, Passed, Whole, Fragment, Heartbeat, Gap, HeartbeatFrag}
+use Rattle.rtps_receiver.specs.EventBody.{HeartbeatView, HeartbeatFragView, EventBody, WholeView, FragmentView, GapView, Whole, Fragment, Heartbeat, Gap, HeartbeatFrag}
 
-abbrev pub whole_view : whole.Whole → Change
+abbrev pub whole_view : whole.Whole → WholeView
 whole_view w = record { number = value_of w.number; info = w.info; payload = w.payload.now }
 
-abbrev pub fragment_view : fragment.Fragment → Fragments
+abbrev pub fragment_view : fragment.Fragment → FragmentView
 fragment_view f = record { number = value_of f.number; start = f.start; count = f.count; size = f.size; sample = f.sample; info = f.info; payload = f.payload.now }
 
-abbrev pub heartbeat_view : heartbeat.Heartbeat → Announced
+abbrev pub heartbeat_view : heartbeat.Heartbeat → HeartbeatView
 heartbeat_view h = record { first = value_of h.first; last = h.last; count = h.count; final_flag = h.final_flag; liveliness = h.liveliness }
 
-abbrev pub gap_view : gap.Gap → Passed
+abbrev pub gap_view : gap.Gap → GapView
 gap_view g = record { start = value_of g.start; list = sn_view g.list }
 
-abbrev pub heartbeat_frag_view : heartbeat_frag.HeartbeatFrag → AnnouncedFragments
+abbrev pub heartbeat_frag_view : heartbeat_frag.HeartbeatFrag → HeartbeatFragView
 heartbeat_frag_view h = record { number = value_of h.number; last = h.last; count = h.count }
 
-abbrev pub body_view : Body → Brought
+abbrev pub body_view : Body → EventBody
 body_view (code.Whole w) = Whole (whole_view w)
 body_view (code.Fragment f) = Fragment (fragment_view f)
 body_view (code.Heartbeat h) = Heartbeat (heartbeat_view h)

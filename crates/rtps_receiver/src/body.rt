@@ -2,7 +2,7 @@
 
 ghost use Rattle.std.specs.Prelude.{◌≡◌, ◌^◌, ◌≤◌, true};
 ghost use Rattle.rtps_types.specs.Sets.{sn_view};
-ghost use Rattle.rtps_receiver.specs.Brought.{are_taken};
+ghost use Rattle.rtps_receiver.specs.EventBody.{are_taken};
 
 use rtps_types::{Number, SnSet};
 use rtps_wire::ChangeInfo;

@@ -11,7 +11,7 @@ ghost use Rattle.rtps_wire.specs.DataFrag.{frag_view};
 ghost use Rattle.rtps_wire.specs.Gap.{gap_view};
 ghost use Rattle.rtps_wire.specs.Submessage as wire;
 ghost use Rattle.rtps_receiver.specs.Addressed.{brought_by};
-ghost use Rattle.rtps_receiver.specs.Brought.{are_taken, is_taken};
+ghost use Rattle.rtps_receiver.specs.EventBody.{are_taken, is_taken};
 ghost use Rattle.rtps_receiver.specs.Views.{body_view};
 
 use crate::body::{Body, Fragment, Gap, Heartbeat, HeartbeatFrag, Whole};

@@ -2,7 +2,7 @@
 
 ghost use Rattle.std.specs.Prelude.{◌≡◌, ◌+◌, ◌≤◌, List, length};
 ghost use Rattle.std.specs.Iterator.{YieldsFirstBy, item_count};
-ghost use Rattle.rtps_receiver.specs.Events.{Happening, events_of, view};
+ghost use Rattle.rtps_receiver.specs.Events.{EventView, events_of, view};
 ghost use Rattle.rtps_wire.specs.Reading.{reading};
 ghost use Rattle.rtps_receiver.specs.Running.{events_left, first_context};
 
@@ -29,7 +29,7 @@ pub struct Events<'a> {
 }
 
 impl<'a> Model for Events<'a> {
-    ghost Value = { List Happening };
+    ghost Value = { List EventView };
 
     ghost view = { λ e. events_left e.context e.place e.submessages.items };
 

@@ -8,22 +8,23 @@ use Rattle.std.proofs.lemmas.Bool.Decides.{nat_tests}
 use Rattle.rtps_types.specs.declared.identity.EntityId.{EntityId}
 use Rattle.rtps_types.specs.declared.identity.Guid.{Guid}
 use Rattle.rtps_types.specs.declared.identity.GuidPrefix.{GuidPrefix}
-use Rattle.rtps_receiver.specs.Events.{Happening}
+use Rattle.rtps_receiver.specs.Events.{EventView}
 use Rattle.rtps_discovery.specs.Addressed.{is_addressed, is_discovery, writer_of}
 use Rattle.rtps_discovery.specs.Announcement.{Announcement, Comes, Leave, Offers, Withdraws, Asks, AsksNoMore}
 use Rattle.rtps_discovery.specs.Changes.{Becomes, ChangeAt, Matches, Unmatches, Refuses, at, changes, changes_run, known_run}
 use Rattle.rtps_discovery.specs.declared.config.Config.{Config}
 use Rattle.rtps_discovery.specs.declared.config.FixedMatch.{FixedMatch}
 use Rattle.rtps_discovery.specs.Known.{Known, Wish, is_fixed, is_joined, is_matched, known_after, locators_at, reader_at}
-use Rattle.rtps_discovery.specs.Records.{announcements, announcer_of, changes_by, came_of, known_by, noted}
+use Rattle.rtps_discovery.specs.Records.{announcements, announcer_of, changes_by, known_by, noted}
+use Rattle.rtps_proxy.specs.History.{match_event_of}
 use Rattle.rtps_discovery.specs.Start.{first_known, pair_of, reader_of}
 use Rattle.rtps_discovery.proofs.Differences.{at_first, differences, first_or, later_in, none_in}
 use Rattle.rtps_discovery.proofs.OneWriter.{no_writer}
 use Rattle.rtps_proxy.specs.Matches.{Match, begun, extended, fresh, match_with, same_guid}
 use Rattle.rtps_proxy.proofs.Matching.{same_is}
 use Rattle.dds_topic.specs.Decoding.{Decoding}
-use Rattle.rtps_reader.specs.Reader.{Reader, all_begun, first_matches, fresh_with, reader_after, reader_run, whom_of}
-use Rattle.rtps_reader.specs.Steps.{Doing, Takes, Begins, Ends, Refused, asks_of}
+use Rattle.rtps_reader.specs.Reader.{Reader, all_begun, first_matches, fresh_with, reader_after, reader_run, pairing_of}
+use Rattle.rtps_reader.specs.Steps.{StepView, Takes, Begins, Ends, Refused, asks_of}
 use Rattle.rtps_reader.proofs.Begun.{match_begun, same_self}
 use Rattle.rtps_serial.specs.Presentation as start
 use Rattle.rtps_serial.specs.Run.{entity_of, first_world, fixed_of, is_reliable_at, run, events_from, world_run}
@@ -50,27 +51,27 @@ still_some true f None = refl
 still_some true f (Some m) = refl
 still_some false f o = refl
 
-has_begun : (g : Guid) (m : Match) (ms : List Match) → has g (begun m ms) ≡ (same_guid m.whom.writer g || has g ms)
-has_begun g m ms = ap (λ (o : Option Match). is_some o) (match_begun g m ms) ∙ some_if (same_guid m.whom.writer g) m (match_with g ms)
+has_begun : (g : Guid) (m : Match) (ms : List Match) → has g (begun m ms) ≡ (same_guid m.pairing.writer g || has g ms)
+has_begun g m ms = ap (λ (o : Option Match). is_some o) (match_begun g m ms) ∙ some_if (same_guid m.pairing.writer g) m (match_with g ms)
 
 -- what a step makes of it
-abbrev after_doing : Guid → Bool → Doing → Bool
+abbrev after_doing : Guid → Bool → StepView → Bool
 after_doing g b (Takes w c) = b
 after_doing g b (Begins w ls) = same_guid w g || b
 after_doing g b (Ends w) = not (same_guid w g) && b
 after_doing g b (Refused w policy) = b
 
-abbrev after_doings : Guid → Bool → List Doing → Bool
+abbrev after_doings : Guid → Bool → List StepView → Bool
 after_doings g b [] = b
 after_doings g b (d ∷ ds) = after_doings g (after_doing g b d) ds
 
-has_done : (g : Guid) (r : Reader) (d : Doing) → has g (reader_after r d).matches ≡ after_doing g (has g r.matches) d
+has_done : (g : Guid) (r : Reader) (d : StepView) → has g (reader_after r d).matches ≡ after_doing g (has g r.matches) d
 has_done g r (Takes w c) = ap (λ (o : Option Match). is_some o) (extended_match g w c r.matches) ∙ still_some (same_guid g w) (extend c) (match_with g r.matches)
 has_done g r (Begins w ls) = has_begun g (fresh_with r (w, ls)) r.matches
 has_done g r (Ends w) = ap (λ (o : Option Match). is_some o) (ended_match g w r.matches) ∙ none_if (same_guid w g) (match_with g r.matches)
 has_done g r (Refused w policy) = refl
 
-has_run : (g : Guid) (r : Reader) (ds : List Doing) → has g (reader_run r ds).matches ≡ after_doings g (has g r.matches) ds
+has_run : (g : Guid) (r : Reader) (ds : List StepView) → has g (reader_run r ds).matches ≡ after_doings g (has g r.matches) ds
 has_run g r [] = refl
 has_run g r (d ∷ ds) = has_run g (reader_after r d) ds ∙ ap (λ b. after_doings g b ds) (has_done g r d)
 
@@ -207,22 +208,22 @@ pub record IsAlike (k j : Known) : Type 0 where
   pub fixed : j.fixed ≡ k.fixed
   pub writers : j.writers ≡ k.writers
 
-pub noted_alike : (k : Known) (e : Happening) → IsAlike k (noted k e)
+pub noted_alike : (k : Known) (e : EventView) → IsAlike k (noted k e)
 noted_alike k e = by_test (is_some (announcer_of k e))
   where
-    by_test : (b : Bool) → IsAlike k (if b then record k { announcers = extended (writer_of e) (came_of e) k.announcers } else k)
+    by_test : (b : Bool) → IsAlike k (if b then record k { announcers = extended (writer_of e) (match_event_of e) k.announcers } else k)
     by_test true = record { readers = refl; fixed = refl; writers = refl }
     by_test false = record { readers = refl; fixed = refl; writers = refl }
 
-noted_matched : (k : Known) (e : Happening) (rank : ℕ) (g : Guid) → is_matched (noted k e) rank g ≡ is_matched k rank g
+noted_matched : (k : Known) (e : EventView) (rank : ℕ) (g : Guid) → is_matched (noted k e) rank g ≡ is_matched k rank g
 noted_matched k e rank g = by_test (is_some (announcer_of k e))
   where
-    by_test : (b : Bool) → is_matched (if b then record k { announcers = extended (writer_of e) (came_of e) k.announcers } else k) rank g ≡ is_matched k rank g
+    by_test : (b : Bool) → is_matched (if b then record k { announcers = extended (writer_of e) (match_event_of e) k.announcers } else k) rank g ≡ is_matched k rank g
     by_test true = refl
     by_test false = refl
 
 -- what an event asks of a reader makes of a match what it is by what is known after the event
-known_presence : (k : Known) (e : Happening) (rank : ℕ) (g : Guid) → after_doings g (is_matched k rank g) (doings k rank e) ≡ is_matched (known_after_event k e) rank g
+known_presence : (k : Known) (e : EventView) (rank : ℕ) (g : Guid) → after_doings g (is_matched k rank g) (doings k rank e) ≡ is_matched (known_after_event k e) rank g
 known_presence k e rank g = by_kind (is_discovery e.writer)
   where
     taken : (r : Option Wish) → after_doings g (is_matched k rank g) (addressed_to k rank e r) ≡ is_matched k rank g
@@ -244,7 +245,7 @@ known_presence k e rank g = by_kind (is_discovery e.writer)
     by_kind false = taken (reader_at k.readers rank)
 
 -- an event leaves the fixed pairs
-pub fixed_kept : (k : Known) (e : Happening) → (known_after_event k e).fixed ≡ k.fixed
+pub fixed_kept : (k : Known) (e : EventView) → (known_after_event k e).fixed ≡ k.fixed
 fixed_kept k e = by_kind (is_discovery e.writer)
   where
     by_kind : (b : Bool) → (if b then known_by k e else k).fixed ≡ k.fixed
@@ -253,14 +254,14 @@ fixed_kept k e = by_kind (is_discovery e.writer)
 
 -- ---- runs
 
-pub agrees_after : {M : Type 0} (decoding : Decoding M) (w : World M) (e : Happening) → Agrees w → Agrees (world_after decoding w e)
+pub agrees_after : {M : Type 0} (decoding : Decoding M) (w : World M) (e : EventView) → Agrees w → Agrees (world_after decoding w e)
 agrees_after decoding w e agrees rank g below =
     let was_below : rank < length w.known.readers = subst (λ (rs : List (Option Wish)). rank < length rs) (readers_stay w.known e) below in
     has_run g (w.readers rank) (doings w.known rank e)
     ∙ ap (λ b. after_doings g b (doings w.known rank e)) (agrees rank g was_below)
     ∙ known_presence w.known e rank g
 
-agrees_run : {M : Type 0} (decoding : Decoding M) (w : World M) (es : List Happening) → Agrees w → Agrees (world_run decoding w es)
+agrees_run : {M : Type 0} (decoding : Decoding M) (w : World M) (es : List EventView) → Agrees w → Agrees (world_run decoding w es)
 agrees_run decoding w [] agrees = agrees
 agrees_run decoding w (e ∷ es) agrees = agrees_run decoding (world_after decoding w e) es (agrees_after decoding w e agrees)
 
@@ -272,15 +273,15 @@ turned false false c = refl
 
 -- the matches at the start are the fixed ones
 fixed_begun : (g : Guid) (own : GuidPrefix) (entity : EntityId) (b : Bool) (rank : ℕ) (fixed : List FixedMatch) (ms : List Match)
-    → has g (all_begun ms (map (whom_of own entity b) (fixed_of fixed rank))) ≡ (is_fixed (map pair_of fixed) rank g || has g ms)
+    → has g (all_begun ms (map (pairing_of own entity b) (fixed_of fixed rank))) ≡ (is_fixed (map pair_of fixed) rank g || has g ms)
 fixed_begun g own entity b rank [] ms = refl
 fixed_begun g own entity b rank (m ∷ fixed) ms = by_rank (m.rank == rank) refl (λ ns. fixed_begun g own entity b rank fixed ns)
   where
     one : Match
-    one = fresh (whom_of own entity b (m.writer, m.locators))
+    one = fresh (pairing_of own entity b (m.writer, m.locators))
 
-    by_rank : (t : Bool) → (m.rank == rank) ≡ t → ((ns : List Match) → has g (all_begun ns (map (whom_of own entity b) (fixed_of fixed rank))) ≡ (is_fixed (map pair_of fixed) rank g || has g ns))
-        → has g (all_begun ms (map (whom_of own entity b) (fixed_of (m ∷ fixed) rank))) ≡ (is_fixed (map pair_of (m ∷ fixed)) rank g || has g ms)
+    by_rank : (t : Bool) → (m.rank == rank) ≡ t → ((ns : List Match) → has g (all_begun ns (map (pairing_of own entity b) (fixed_of fixed rank))) ≡ (is_fixed (map pair_of fixed) rank g || has g ns))
+        → has g (all_begun ms (map (pairing_of own entity b) (fixed_of (m ∷ fixed) rank))) ≡ (is_fixed (map pair_of (m ∷ fixed)) rank g || has g ms)
     by_rank true is rest =
         rw is (rest (begun one ms) ∙ ap (λ t. is_fixed (map pair_of fixed) rank g || t) (has_begun g one ms)
         ∙ turned (is_fixed (map pair_of fixed) rank g) (same_guid m.writer g) (has g ms))

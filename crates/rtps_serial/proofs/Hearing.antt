@@ -9,24 +9,24 @@ use Rattle.std.proofs.lemmas.Bool.Decides.{nat_tests}
 use Rattle.std.proofs.lemmas.Cmp.{nat_cmp_total}
 use Rattle.std.proofs.lemmas.List.Sorted.{ranks_by}
 use Rattle.rtps_types.specs.declared.identity.EntityId.{EntityId}
-use Rattle.rtps_receiver.specs.Events.{Happening}
+use Rattle.rtps_receiver.specs.Events.{EventView}
 use Rattle.rtps_discovery.specs.Addressed.{is_discovery, is_for, writer_of}
 use Rattle.rtps_discovery.specs.Announcement.{Offer}
 use Rattle.rtps_discovery.specs.Changes.{ChangeAt}
-use Rattle.rtps_discovery.specs.Kept.{IsKnown, Kept, matched_ranks}
+use Rattle.rtps_discovery.specs.Kept.{IsKnown, HeldView, matched_ranks}
 use Rattle.rtps_discovery.specs.Known.{Known, Wish, is_fixed, is_joined, is_matched, reader_at, standing, writer_at}
 use Rattle.rtps_discovery.specs.OneWriter.{matched_from}
 use Rattle.rtps_discovery.specs.Records.{answered, changes_by, known_by}
 use Rattle.rtps_discovery.specs.Seen.{change_seen}
 use Rattle.rtps_discovery.specs.declared.changes.MatchChange.{MatchChange}
 use Rattle.dds_topic.specs.Decoding.{Decoding}
-use Rattle.rtps_reader.specs.Standing.{ReaderKept}
-use Rattle.rtps_reader.specs.Steps.{Doing, asks_of}
+use Rattle.rtps_reader.specs.Standing.{ReaderView}
+use Rattle.rtps_reader.specs.Steps.{StepView, asks_of}
 use Rattle.rtps_serial.specs.declared.outcome.Report.{Report}
 use Rattle.rtps_serial.specs.Seen.{reader_count}
 use Rattle.rtps_serial.specs.Standing.{AllKnown, ReadersStand, WorldStands}
 use Rattle.rtps_serial.specs.Steps.{AreByRank, ReaderStep, change_step, event_steps, step_by, steps_run}
-use Rattle.rtps_serial.specs.World.{Put, World, addressed_to, answer_put, changes_for, discovery_puts, doing_of, doings, known_after_event, world_after}
+use Rattle.rtps_serial.specs.World.{ReportView, World, addressed_to, answer_put, changes_for, discovery_puts, doing_of, doings, known_after_event, world_after}
 use Rattle.rtps_serial.proofs.OneOrder.{Rises, filter-map, rises_map, rises_sorted, stable_by}
 use Rattle.rtps_serial.proofs.Routed.{asks_for, comes_before, discovered, event_stands, named_after, not_before}
 
@@ -86,7 +86,7 @@ changes_asked {A} changes sorted rank h =
 unequal : (m n : ℕ) → m ≢ n → (m == n) ≡ false
 unequal m n e = grind (arith, nat_tests)
 
-module _ (p : ℕ → Bool) (f : ℕ → Bool) (o : Option Offer) (what : Doing) where
+module _ (p : ℕ → Bool) (f : ℕ → Bool) (o : Option Offer) (what : StepView) where
   -- the steps of the readers from this rank on
   abbrev steps_from : ℕ → List (Option Wish) → List ReaderStep
   steps_from k rs = map (λ rank. step_by rank what) (filter p (matched_from f o k rs))
@@ -147,15 +147,15 @@ module _ (p : ℕ → Bool) (f : ℕ → Bool) (o : Option Offer) (what : Doing)
       by_test true false e = rw e refl
       by_test false named e = refl
 
-pub event_rises : {M : Type 0} (w : World M) (e : Happening) → Rises comes_before (event_steps w e (matched_ranks w.known (writer_of e)))
+pub event_rises : {M : Type 0} (w : World M) (e : EventView) → Rises comes_before (event_steps w e (matched_ranks w.known (writer_of e)))
 event_rises w e = rise_from (λ rank. is_for e.reader (w.readers rank).entity) (λ rank. is_fixed w.known.fixed rank (writer_of e)) (writer_at w.known (writer_of e)) (asks_of e) 0 w.known.readers
 
-addressed : (k : Known) (rank : ℕ) (e : Happening) (o : Option Wish) (entity : EntityId) → is_discovery e.writer ≡ false → option_map (λ (r : Wish). r.entity) o ≡ Some entity
+addressed : (k : Known) (rank : ℕ) (e : EventView) (o : Option Wish) (entity : EntityId) → is_discovery e.writer ≡ false → option_map (λ (r : Wish). r.entity) o ≡ Some entity
     → addressed_to k rank e o ≡ (if is_matched k rank (writer_of e) && is_for e.reader entity then asks_of e ∷ [] else [])
 addressed k rank e None entity others named = absurd cc
 addressed k rank e (Some r) entity others named = let is : r.entity ≡ entity = cc in rw (others, is) refl
 
-pub event_asked : {M : Type 0} (w : World M) (e : Happening) (rank : ℕ) → is_discovery e.writer ≡ false → AllKnown w → rank < reader_count w
+pub event_asked : {M : Type 0} (w : World M) (e : EventView) (rank : ℕ) → is_discovery e.writer ≡ false → AllKnown w → rank < reader_count w
     → asks_for rank (event_steps w e (matched_ranks w.known (writer_of e))) ≡ doings w.known rank e
 event_asked w e rank others named less =
     asked_from (λ rank. is_for e.reader (w.readers rank).entity) (λ rank. is_fixed w.known.fixed rank (writer_of e)) (writer_at w.known (writer_of e)) (asks_of e) rank rank 0 w.known.readers less (omega arith)
@@ -167,17 +167,17 @@ event_asked w e rank others named less =
 
 -- ---- the whole event
 
-pub announced_known : (k : Known) (e : Happening) → is_discovery e.writer ≡ true → known_after_event k e ≡ known_by k e
+pub announced_known : (k : Known) (e : EventView) → is_discovery e.writer ≡ true → known_after_event k e ≡ known_by k e
 announced_known k e is = rw is refl
 
-pub announced_doings : (k : Known) (rank : ℕ) (e : Happening) → is_discovery e.writer ≡ true → doings k rank e ≡ changes_for rank (changes_by k e)
+pub announced_doings : (k : Known) (rank : ℕ) (e : EventView) → is_discovery e.writer ≡ true → doings k rank e ≡ changes_for rank (changes_by k e)
 announced_doings k rank e is = rw is refl
 
-pub announced_puts : {M : Type 0} (k : Known) (e : Happening) → is_discovery e.writer ≡ true → discovery_puts {M = M} k e ≡ answer_put e.place (answered k e)
+pub announced_puts : {M : Type 0} (k : Known) (e : EventView) → is_discovery e.writer ≡ true → discovery_puts {M = M} k e ≡ answer_put e.place (answered k e)
 announced_puts k e is = rw is refl
 
 -- an announcer's event
-pub announcement_stands : {V M A : Type 0} (view : V → M) (d : Decoding M) (w : World M) (e : Happening) (earlier : List (Put M)) (kept : Kept) (changes sorted : List (MatchChange A)) (states : List ReaderKept) (reports : List (Report V A))
+pub announcement_stands : {V M A : Type 0} (view : V → M) (d : Decoding M) (w : World M) (e : EventView) (earlier : List (ReportView M)) (kept : HeldView) (changes sorted : List (MatchChange A)) (states : List ReaderView) (reports : List (Report V A))
     → is_discovery e.writer ≡ true → AllKnown w → IsKnown (known_by w.known e) kept → map change_seen changes ≡ changes_by w.known e → AreByRank changes sorted
     → ReadersStand view (steps_run d e.place (discovered w e) (map change_step (map change_seen sorted))) earlier states reports → WorldStands view (world_after d w e) earlier kept states reports
 announcement_stands view d w e earlier kept changes sorted states reports is named known heard by_rank stands = record {
@@ -188,13 +188,13 @@ announcement_stands view d w e earlier kept changes sorted states reports is nam
 }
 
 -- a user's event changes nothing of what is known, and discovery puts out nothing
-pub other_known : (k : Known) (e : Happening) → is_discovery e.writer ≡ false → known_after_event k e ≡ k
+pub other_known : (k : Known) (e : EventView) → is_discovery e.writer ≡ false → known_after_event k e ≡ k
 other_known k e others = rw others refl
 
-pub no_puts : {M : Type 0} (k : Known) (e : Happening) → is_discovery e.writer ≡ false → discovery_puts {M = M} k e ≡ []
+pub no_puts : {M : Type 0} (k : Known) (e : EventView) → is_discovery e.writer ≡ false → discovery_puts {M = M} k e ≡ []
 no_puts k e others = rw others refl
 
-pub user_stands : {V M A : Type 0} (view : V → M) (d : Decoding M) (w : World M) (e : Happening) (earlier : List (Put M)) (kept : Kept) (states : List ReaderKept) (reports : List (Report V A))
+pub user_stands : {V M A : Type 0} (view : V → M) (d : Decoding M) (w : World M) (e : EventView) (earlier : List (ReportView M)) (kept : HeldView) (states : List ReaderView) (reports : List (Report V A))
     → is_discovery e.writer ≡ false → AllKnown w → IsKnown w.known kept
     → ReadersStand view (steps_run d e.place (discovered w e) (event_steps w e (matched_ranks w.known (writer_of e)))) earlier states reports → WorldStands view (world_after d w e) earlier kept states reports
 user_stands view d w e earlier kept states reports others named known stands = record {

@@ -8,7 +8,7 @@ use Rattle.std.proofs.lemmas.Bool.Decides.{nat_tests}
 use Rattle.std.proofs.lemmas.List.{append_cancel_left, map-append}
 use Rattle.std.proofs.lemmas.List.Elements.{filter-append}
 use Rattle.std.proofs.lemmas.List.Sorted.{ranks_by}
-use Rattle.rtps_receiver.specs.Events.{Happening}
+use Rattle.rtps_receiver.specs.Events.{EventView}
 use Rattle.rtps_discovery.specs.declared.config.Config.{Config}
 use Rattle.dds_topic.specs.Decoding.{Decoding}
 use Rattle.rtps_reader.specs.declared.notice.Notice.{Notice}
@@ -23,7 +23,7 @@ use Rattle.rtps_serial.specs.Outcome.{Adds, answer_view, notices_in, report_view
 use Rattle.rtps_serial.specs.Run.{events_from, first_world, run, world_run}
 use Rattle.rtps_serial.specs.Seen.{answers_in, notices_by, reader_count}
 use Rattle.rtps_serial.specs.Turn.{AreInOrder, notices_from, reports_of, turn_of, turn_order}
-use Rattle.rtps_serial.specs.World.{Put, Hears, Sends, Sending, World}
+use Rattle.rtps_serial.specs.World.{ReportView, NoticeOf, AnswerOf, AnswerView, World}
 use Rattle.rtps_serial.proofs.Dealt.{answers_in-append, notices_by-append}
 use Rattle.rtps_serial.proofs.OneOrder.{filter-map, one_order, rises_map, rises_sorted, stable_by}
 use Rattle.rtps_serial.proofs.Places.{PlacesRise, rise_from}
@@ -31,58 +31,58 @@ use Rattle.rtps_serial.proofs.Running.{count_stays, events_more, world_run-appen
 use Rattle.rtps_serial.proofs.Turns.{alike_turns, before, equal_turns, put_all, put_turn, run_none, run_puts, run_rises, same_kind, same_rank, turns_total, view_turn, weak}
 
 -- a test that passes only notices of one rank
-abbrev Only : {M : Type 0} → ℕ → (Put M → Bool) → Type 0
-Only {M} r p = (k : ℕ) (n : Notice M) → k ≢ r → p (Hears k n) ≡ false
+abbrev Only : {M : Type 0} → ℕ → (ReportView M → Bool) → Type 0
+Only {M} r p = (k : ℕ) (n : Notice M) → k ≢ r → p (NoticeOf k n) ≡ false
 
-abbrev NoNotice : {M : Type 0} → (Put M → Bool) → Type 0
-NoNotice {M} p = (k : ℕ) (n : Notice M) → p (Hears k n) ≡ false
+abbrev NoNotice : {M : Type 0} → (ReportView M → Bool) → Type 0
+NoNotice {M} p = (k : ℕ) (n : Notice M) → p (NoticeOf k n) ≡ false
 
-abbrev NoAnswer : {M : Type 0} → (Put M → Bool) → Type 0
-NoAnswer {M} p = (s : Sending) → p (Sends s) ≡ false
+abbrev NoAnswer : {M : Type 0} → (ReportView M → Bool) → Type 0
+NoAnswer {M} p = (s : AnswerView) → p (AnswerOf s) ≡ false
 
 kept : {X : Type 0} (b : Bool) (x : X) (xs ys : List X) → xs ≡ ys → (if b then x ∷ xs else xs) ≡ (if b then x ∷ ys else ys)
 kept b x xs ys e = ap (λ l. if b then x ∷ l else l) e
 
 -- such a test passes the notices of that rank
-by_rank : {M : Type 0} (p : Put M → Bool) (r : ℕ) (xs : List (Put M)) → Only r p → NoAnswer p → filter p xs ≡ filter p (map (Hears r) (notices_by r xs))
+by_rank : {M : Type 0} (p : ReportView M → Bool) (r : ℕ) (xs : List (ReportView M)) → Only r p → NoAnswer p → filter p xs ≡ filter p (map (NoticeOf r) (notices_by r xs))
 by_rank p r [] only none = refl
-by_rank p r (Sends s ∷ xs) only none = rw (none s) (by_rank p r xs only none)
-by_rank p r (Hears by n ∷ xs) only none = by_test (by == r) refl (by_rank p r xs only none)
+by_rank p r (AnswerOf s ∷ xs) only none = rw (none s) (by_rank p r xs only none)
+by_rank p r (NoticeOf by n ∷ xs) only none = by_test (by == r) refl (by_rank p r xs only none)
   where
-    by_test : (b : Bool) → (by == r) ≡ b → filter p xs ≡ filter p (map (Hears r) (notices_by r xs)) → filter p (Hears by n ∷ xs) ≡ filter p (map (Hears r) (if b then n ∷ notices_by r xs else notices_by r xs))
-    by_test true e rest = let same : by ≡ r = grind (arith, nat_tests) in ap (λ k. filter p (Hears k n ∷ xs)) same ∙ kept (p (Hears r n)) (Hears r n) _ _ rest
+    by_test : (b : Bool) → (by == r) ≡ b → filter p xs ≡ filter p (map (NoticeOf r) (notices_by r xs)) → filter p (NoticeOf by n ∷ xs) ≡ filter p (map (NoticeOf r) (if b then n ∷ notices_by r xs else notices_by r xs))
+    by_test true e rest = let same : by ≡ r = grind (arith, nat_tests) in ap (λ k. filter p (NoticeOf k n ∷ xs)) same ∙ kept (p (NoticeOf r n)) (NoticeOf r n) _ _ rest
     by_test false e rest = let other : by ≢ r = λ same. absurd (grind (arith, nat_tests)) in rw (only by n other) rest
 
 -- and one that passes no notice passes answers
-by_answers : {M : Type 0} (p : Put M → Bool) (xs : List (Put M)) → NoNotice p → filter p xs ≡ filter p (map Sends (answers_in xs))
+by_answers : {M : Type 0} (p : ReportView M → Bool) (xs : List (ReportView M)) → NoNotice p → filter p xs ≡ filter p (map AnswerOf (answers_in xs))
 by_answers p [] none = refl
-by_answers p (Hears by n ∷ xs) none = rw (none by n) (by_answers p xs none)
-by_answers p (Sends s ∷ xs) none = kept (p (Sends s)) (Sends s) _ _ (by_answers p xs none)
+by_answers p (NoticeOf by n ∷ xs) none = rw (none by n) (by_answers p xs none)
+by_answers p (AnswerOf s ∷ xs) none = kept (p (AnswerOf s)) (AnswerOf s) _ _ (by_answers p xs none)
 
-viewed : {V M : Type 0} (A : Type 0) (f : V → M) (k : ℕ) (ns : List (Notice V)) → map (report_view {A = A} f) (map (report.Notice k) ns) ≡ map (Hears k) (map (notice_view f) ns)
+viewed : {V M : Type 0} (A : Type 0) (f : V → M) (k : ℕ) (ns : List (Notice V)) → map (report_view {A = A} f) (map (report.Notice k) ns) ≡ map (NoticeOf k) (map (notice_view f) ns)
 viewed A f k [] = refl
-viewed A f k (n ∷ ns) = ap (λ l. Hears k (notice_view f n) ∷ l) (viewed A f k ns)
+viewed A f k (n ∷ ns) = ap (λ l. NoticeOf k (notice_view f n) ∷ l) (viewed A f k ns)
 
-viewed_answers : {V M A : Type 0} (f : V → M) (xs : List (Answer A)) → map (report_view f) (map report.Answer xs) ≡ map Sends (map answer_view xs)
+viewed_answers : {V M A : Type 0} (f : V → M) (xs : List (Answer A)) → map (report_view f) (map report.Answer xs) ≡ map AnswerOf (map answer_view xs)
 viewed_answers f [] = refl
-viewed_answers f (x ∷ xs) = ap (λ l. Sends (answer_view x) ∷ l) (viewed_answers f xs)
+viewed_answers f (x ∷ xs) = ap (λ l. AnswerOf (answer_view x) ∷ l) (viewed_answers f xs)
 
-no_hears : {M : Type 0} (p : Put M → Bool) (k : ℕ) (ns : List (Notice M)) → ((n : Notice M) → p (Hears k n) ≡ false) → filter p (map (Hears k) ns) ≡ []
+no_hears : {M : Type 0} (p : ReportView M → Bool) (k : ℕ) (ns : List (Notice M)) → ((n : Notice M) → p (NoticeOf k n) ≡ false) → filter p (map (NoticeOf k) ns) ≡ []
 no_hears p k [] none = refl
 no_hears p k (n ∷ ns) none = rw (none n) (no_hears p k ns none)
 
-no_sends : {M : Type 0} (p : Put M → Bool) (ss : List Sending) → NoAnswer p → filter p (map Sends ss) ≡ []
+no_sends : {M : Type 0} (p : ReportView M → Bool) (ss : List AnswerView) → NoAnswer p → filter p (map AnswerOf ss) ≡ []
 no_sends p [] none = refl
 no_sends p (s ∷ ss) none = rw (none s) (no_sends p ss none)
 
 -- the notices of an outcome, one list more
-one_list : {V M A : Type 0} (f : V → M) (p : Put M → Bool) (k : ℕ) (ns : Vec (Notice V) A) (lists : List (Vec (Notice V) A))
-    → filter p (map (report_view f) (notices_from k (ns ∷ lists))) ≡ filter p (map (Hears k) (notices_in f ns)) ++ filter p (map (report_view f) (notices_from (k + 1) lists))
+one_list : {V M A : Type 0} (f : V → M) (p : ReportView M → Bool) (k : ℕ) (ns : Vec (Notice V) A) (lists : List (Vec (Notice V) A))
+    → filter p (map (report_view f) (notices_from k (ns ∷ lists))) ≡ filter p (map (NoticeOf k) (notices_in f ns)) ++ filter p (map (report_view f) (notices_from (k + 1) lists))
 one_list {A = A} f p k ns lists =
     ap (filter p) (map-append (report_view f) (map (report.Notice k) ns.items) (notices_from (k + 1) lists) ∙ ap (λ l. l ++ map (report_view f) (notices_from (k + 1) lists)) (viewed A f k ns.items))
-    ∙ filter-append p (map (Hears k) (notices_in f ns)) (map (report_view f) (notices_from (k + 1) lists))
+    ∙ filter-append p (map (NoticeOf k) (notices_in f ns)) (map (report_view f) (notices_from (k + 1) lists))
 
-absent : {V M A : Type 0} (f : V → M) (p : Put M → Bool) (k : ℕ) (lists : List (Vec (Notice V) A)) → ((i : ℕ) (n : Notice M) → k ≤ i → i < k + length lists → p (Hears i n) ≡ false)
+absent : {V M A : Type 0} (f : V → M) (p : ReportView M → Bool) (k : ℕ) (lists : List (Vec (Notice V) A)) → ((i : ℕ) (n : Notice M) → k ≤ i → i < k + length lists → p (NoticeOf i n) ≡ false)
     → filter p (map (report_view f) (notices_from k lists)) ≡ []
 absent f p k [] none = refl
 absent f p k (ns ∷ lists) none =
@@ -90,7 +90,7 @@ absent f p k (ns ∷ lists) none =
     ∙ ap (λ l. l ++ filter p (map (report_view f) (notices_from (k + 1) lists))) (no_hears p k (notices_in f ns) (λ n. none k n (omega arith) (omega arith)))
     ∙ absent f p (k + 1) lists (λ i n low high. none i n (omega arith) (omega arith))
 
-present : {V M A : Type 0} (f : V → M) (p : Put M → Bool) (r k : ℕ) (lists : List (Vec (Notice V) A)) (more : List (Put M)) → Only r p → NoAnswer p → k ≤ r → r < k + length lists
+present : {V M A : Type 0} (f : V → M) (p : ReportView M → Bool) (r k : ℕ) (lists : List (Vec (Notice V) A)) (more : List (ReportView M)) → Only r p → NoAnswer p → k ≤ r → r < k + length lists
     → ((i : ℕ) (other : Vec (Notice V) A) → i < length lists → notices_by (k + i) more ≡ notices_in f (get_or lists i other))
     → filter p (map (report_view f) (notices_from k lists)) ≡ filter p more
 present f p r k [] more only none low high has = absurd (omega arith)
@@ -108,34 +108,34 @@ present {V} {M} {A} f p r k (ns ∷ lists) more only none low high has = by_test
         let same : k ≡ r = grind (arith, nat_tests) in
         let others : filter p (map (report_view f) (notices_from (k + 1) lists)) ≡ [] = absent f p (k + 1) lists (λ i n over inside. only i n (λ at. absurd (omega arith))) in
         one_list f p k ns lists
-        ∙ ap (λ l. filter p (map (Hears k) (notices_in f ns)) ++ l) others ∙ append-nil (filter p (map (Hears k) (notices_in f ns)))
-        ∙ ap (λ j. filter p (map (Hears j) (notices_in f ns))) same ∙ ap (λ l. filter p (map (Hears r) l)) (here same) ∙ sym (by_rank p r more only none)
+        ∙ ap (λ l. filter p (map (NoticeOf k) (notices_in f ns)) ++ l) others ∙ append-nil (filter p (map (NoticeOf k) (notices_in f ns)))
+        ∙ ap (λ j. filter p (map (NoticeOf j) (notices_in f ns))) same ∙ ap (λ l. filter p (map (NoticeOf r) l)) (here same) ∙ sym (by_rank p r more only none)
     by_test false e others_pass =
         let other : k ≢ r = λ same. absurd (grind (arith, nat_tests)) in
         one_list f p k ns lists
         ∙ ap (λ l. l ++ filter p (map (report_view f) (notices_from (k + 1) lists))) (no_hears p k (notices_in f ns) (λ n. only k n other))
         ∙ others_pass (omega arith) (omega arith)
 
-all_reports : {V M A : Type 0} (f : V → M) (p : Put M → Bool) (outcome : Outcome V A)
-    → filter p (map (report_view f) (reports_of outcome)) ≡ filter p (map (report_view f) (notices_from 0 outcome.notices.items)) ++ filter p (map Sends (map answer_view outcome.answers.items))
+all_reports : {V M A : Type 0} (f : V → M) (p : ReportView M → Bool) (outcome : Outcome V A)
+    → filter p (map (report_view f) (reports_of outcome)) ≡ filter p (map (report_view f) (notices_from 0 outcome.notices.items)) ++ filter p (map AnswerOf (map answer_view outcome.answers.items))
 all_reports f p outcome =
     ap (filter p) (map-append (report_view f) (notices_from 0 outcome.notices.items) (map report.Answer outcome.answers.items) ∙ ap (λ l. map (report_view f) (notices_from 0 outcome.notices.items) ++ l) (viewed_answers f outcome.answers.items))
-    ∙ filter-append p (map (report_view f) (notices_from 0 outcome.notices.items)) (map Sends (map answer_view outcome.answers.items))
+    ∙ filter-append p (map (report_view f) (notices_from 0 outcome.notices.items)) (map AnswerOf (map answer_view outcome.answers.items))
 
 -- an outcome has what was put out: each reader's notices, and the answers
-record Has {V M A : Type 0} (f : V → M) (more : List (Put M)) (outcome : Outcome V A) : Type 0 where
+record Has {V M A : Type 0} (f : V → M) (more : List (ReportView M)) (outcome : Outcome V A) : Type 0 where
   notices : (rank : ℕ) (other : Vec (Notice V) A) → rank < length outcome.notices.items → notices_by rank more ≡ notices_in f (get_or outcome.notices.items rank other)
   answers : answers_in more ≡ map answer_view outcome.answers.items
   others : (rank : ℕ) → length outcome.notices.items ≤ rank → notices_by rank more ≡ []
 
-some_answers : {V M A : Type 0} (f : V → M) (p : Put M → Bool) (more : List (Put M)) (outcome : Outcome V A) → Has f more outcome → NoNotice p
+some_answers : {V M A : Type 0} (f : V → M) (p : ReportView M → Bool) (more : List (ReportView M)) (outcome : Outcome V A) → Has f more outcome → NoNotice p
     → filter p (map (report_view f) (reports_of outcome)) ≡ filter p more
 some_answers f p more outcome has none =
     all_reports f p outcome
-    ∙ ap (λ l. l ++ filter p (map Sends (map answer_view outcome.answers.items))) (absent f p 0 outcome.notices.items (λ i n low high. none i n))
-    ∙ ap (λ l. filter p (map Sends l)) (sym has.answers) ∙ sym (by_answers p more none)
+    ∙ ap (λ l. l ++ filter p (map AnswerOf (map answer_view outcome.answers.items))) (absent f p 0 outcome.notices.items (λ i n low high. none i n))
+    ∙ ap (λ l. filter p (map AnswerOf l)) (sym has.answers) ∙ sym (by_answers p more none)
 
-some_notices : {V M A : Type 0} (f : V → M) (p : Put M → Bool) (r : ℕ) (more : List (Put M)) (outcome : Outcome V A) → Has f more outcome → Only r p → NoAnswer p
+some_notices : {V M A : Type 0} (f : V → M) (p : ReportView M → Bool) (r : ℕ) (more : List (ReportView M)) (outcome : Outcome V A) → Has f more outcome → Only r p → NoAnswer p
     → filter p (map (report_view f) (reports_of outcome)) ≡ filter p more
 some_notices f p r more outcome has only none =
     all_reports f p outcome
@@ -150,10 +150,10 @@ some_notices f p r more outcome has only none =
     by_test false e =
         let past : length outcome.notices.items ≤ r = grind (arith, nat_tests) in
         absent f p 0 outcome.notices.items (λ i n low high. only i n (λ same. absurd (omega arith)))
-        ∙ sym (by_rank p r more only none ∙ ap (λ l. filter p (map (Hears r) l)) (has.others r past))
+        ∙ sym (by_rank p r more only none ∙ ap (λ l. filter p (map (NoticeOf r) l)) (has.others r past))
 
 -- two things of which the rank or the kind differs have no turn in common
-no_tie : {M : Type 0} (x y : Put M) → ((put_turn x).rank ≡ (put_turn y).rank → (put_turn x).kind ≡ (put_turn y).kind → ⊥) → ties before x y ≡ false
+no_tie : {M : Type 0} (x y : ReportView M) → ((put_turn x).rank ≡ (put_turn y).rank → (put_turn x).kind ≡ (put_turn y).kind → ⊥) → ties before x y ≡ false
 no_tie x y differ = by_test (ties before x y) refl
   where
     by_test : (b : Bool) → ties before x y ≡ b → b ≡ false
@@ -161,19 +161,19 @@ no_tie x y differ = by_test (ties before x y) refl
     by_test true e = let same = equal_turns (put_turn x) (put_turn y) e in absurd (differ (same_rank (put_turn x) (put_turn y) same) (same_kind (put_turn x) (put_turn y) same))
 
 -- at each turn there is in the outcome what was put out then, in the same order
-at_turn : {V M A : Type 0} (f : V → M) (more : List (Put M)) (outcome : Outcome V A) → Has f more outcome → (x : Put M)
+at_turn : {V M A : Type 0} (f : V → M) (more : List (ReportView M)) (outcome : Outcome V A) → Has f more outcome → (x : ReportView M)
     → filter (ties before x) (map (report_view f) (reports_of outcome)) ≡ filter (ties before x) more
 at_turn {V} {M} {A} f more outcome has x = by_kind (put_turn x).kind (put_turn x).rank refl refl
   where
     by_kind : (k : ReportKind) (o : Option ℕ) → (put_turn x).kind ≡ k → (put_turn x).rank ≡ o → filter (ties before x) (map (report_view f) (reports_of outcome)) ≡ filter (ties before x) more
-    by_kind kind.Answer o e r = some_answers f (ties before x) more outcome has (λ k n. no_tie x (Hears k n) (λ s t. let wrong : kind.Answer ≡ kind.Notice = sym e ∙ t in cc))
-    by_kind kind.Notice None e r = some_answers f (ties before x) more outcome has (λ k n. no_tie x (Hears k n) (λ s t. let wrong : None ≡ Some k = sym r ∙ s in cc))
+    by_kind kind.Answer o e r = some_answers f (ties before x) more outcome has (λ k n. no_tie x (NoticeOf k n) (λ s t. let wrong : kind.Answer ≡ kind.Notice = sym e ∙ t in cc))
+    by_kind kind.Notice None e r = some_answers f (ties before x) more outcome has (λ k n. no_tie x (NoticeOf k n) (λ s t. let wrong : None ≡ Some k = sym r ∙ s in cc))
     by_kind kind.Notice (Some rank) e r = some_notices f (ties before x) rank more outcome has
-        (λ k n other. no_tie x (Hears k n) (λ s t. let same : Some rank ≡ Some k = sym r ∙ s in other cc))
-        (λ sent. no_tie x (Sends sent) (λ s t. let wrong : kind.Notice ≡ kind.Answer = sym e ∙ t in cc))
+        (λ k n other. no_tie x (NoticeOf k n) (λ s t. let same : Some rank ≡ Some k = sym r ∙ s in other cc))
+        (λ sent. no_tie x (AnswerOf sent) (λ s t. let wrong : kind.Notice ≡ kind.Answer = sym e ∙ t in cc))
 
 -- an outcome in order is what was put out
-in_order : {V M A : Type 0} (f : V → M) (d : Decoding M) (w : World M) (es : List Happening) (outcome : Outcome V A) (reports : List (Report V A))
+in_order : {V M A : Type 0} (f : V → M) (d : Decoding M) (w : World M) (es : List EventView) (outcome : Outcome V A) (reports : List (Report V A))
     → Has f (run_puts d w es) outcome → AreInOrder outcome reports → PlacesRise es → map (report_view f) reports ≡ run_puts d w es
 in_order {V} {M} {A} f d w es outcome reports has ordered up =
     one_order before weak (map (report_view f) reports) (run_puts d w es)
@@ -186,7 +186,7 @@ in_order {V} {M} {A} f d w es outcome reports has ordered up =
     same_test : (a b : Report V A) → before (report_view f a) (report_view f b) ≡ is_lt (turn_order (turn_of a) (turn_of b))
     same_test a b = rw (view_turn f a, view_turn f b) refl
 
-    same : (z : Put M) → filter (ties before z) (map (report_view f) reports) ≡ filter (ties before z) (run_puts d w es)
+    same : (z : ReportView M) → filter (ties before z) (map (report_view f) reports) ≡ filter (ties before z) (run_puts d w es)
     same z =
         filter-map (ties before z) (report_view f) reports
         ∙ ap (map (report_view f)) (stable_by (λ a b. is_lt (turn_order (turn_of a) (turn_of b))) (reports_of outcome) reports ordered.stable (λ r. ties before z (report_view f r))

@@ -7,7 +7,7 @@ use Rattle.std.proofs.lemmas.List.{length-map}
 use Rattle.std.proofs.lemmas.List.Elements.{Contains-append_cases}
 use Rattle.rtps_types.specs.declared.identity.Guid.{Guid}
 use Rattle.rtps_types.specs.declared.place.Place.{Place}
-use Rattle.rtps_receiver.specs.Events.{Happening}
+use Rattle.rtps_receiver.specs.Events.{EventView}
 use Rattle.rtps_discovery.specs.Addressed.{is_addressed, is_discovery, writer_of}
 use Rattle.rtps_discovery.specs.Announcement.{Announcement}
 use Rattle.rtps_discovery.specs.Changes.{Becomes, ChangeAt, Matches, Unmatches, Refuses, at, changes, changes_run}
@@ -23,7 +23,8 @@ use Rattle.dds_topic.specs.Decoding.{Decoding}
 use Rattle.rtps_reader.specs.declared.notice.Notice.{Notice}
 use Rattle.rtps_reader.specs.Reader.{Reader, reader_after, tells}
 use Rattle.rtps_reader.specs.Steps.{asks_of}
-use Rattle.rtps_serial.specs.Presentation.{Since, Stretch, came_of, first_since, is_fixed, stretches, stretches_in}
+use Rattle.rtps_serial.specs.Presentation.{Since, Stretch, first_since, is_fixed, stretches, stretches_in}
+use Rattle.rtps_proxy.specs.History.{match_event_of}
 use Rattle.rtps_serial.specs.Run.{events_from, first_world, run, world_run}
 use Rattle.rtps_serial.specs.Seen.{notices_by, reader_count}
 use Rattle.rtps_serial.specs.World.{World, addressed_to, changes_for, doing_of, doings, world_after}
@@ -93,15 +94,15 @@ module _ (rank : ℕ) (g : Guid) where
       by_rank false is rest = rest r
 
   -- nor are events of users' writers
-  addressed_whole : {M : Type 0} (decoding : Decoding M) (k : Known) (r : Reader) (e : Happening) (o : Option Wish) → AllByRecursion (λ n. is_cut g n ≡ false) (told_run decoding e.place r (addressed_to k rank e o))
+  addressed_whole : {M : Type 0} (decoding : Decoding M) (k : Known) (r : Reader) (e : EventView) (o : Option Wish) → AllByRecursion (λ n. is_cut g n ≡ false) (told_run decoding e.place r (addressed_to k rank e o))
   addressed_whole decoding k r e None = tt
   addressed_whole {M} decoding k r e (Some wish) = by_test (is_addressed (is_matched k rank) wish.entity e)
     where
       by_test : (b : Bool) → AllByRecursion (λ n. is_cut g n ≡ false) (told_run decoding e.place r (if b then asks_of e ∷ [] else []))
-      by_test true = all_append (λ (n : Notice M). is_cut g n ≡ false) (tells decoding r e.place (asks_of e)) [] (told_uncut decoding e.place g (writer_of e) (came_of e) (match_with (writer_of e) r.matches)) tt
+      by_test true = all_append (λ (n : Notice M). is_cut g n ≡ false) (tells decoding r e.place (asks_of e)) [] (told_uncut decoding e.place g (writer_of e) (match_event_of e) (match_with (writer_of e) r.matches)) tt
       by_test false = tt
 
-  event_whole : {M : Type 0} (decoding : Decoding M) (k : Known) (r : Reader) (e : Happening) → known.is_fixed k.fixed rank g ≡ true → AllByRecursion (λ n. is_cut g n ≡ false) (told_run decoding e.place r (doings k rank e))
+  event_whole : {M : Type 0} (decoding : Decoding M) (k : Known) (r : Reader) (e : EventView) → known.is_fixed k.fixed rank g ≡ true → AllByRecursion (λ n. is_cut g n ≡ false) (told_run decoding e.place r (doings k rank e))
   event_whole decoding k r e fixed = by_kind (is_discovery e.writer)
     where
       by_kind : (b : Bool) → AllByRecursion (λ n. is_cut g n ≡ false) (told_run decoding e.place r (if b then changes_for rank (changes_by k e) else addressed_to k rank e (reader_at k.readers rank)))
@@ -110,7 +111,7 @@ module _ (rank : ℕ) (g : Guid) where
 
   -- ---- a run
 
-  run_whole : {M : Type 0} (decoding : Decoding M) (w : World M) (es : List Happening) → rank < reader_count w → known.is_fixed w.known.fixed rank g ≡ true
+  run_whole : {M : Type 0} (decoding : Decoding M) (w : World M) (es : List EventView) → rank < reader_count w → known.is_fixed w.known.fixed rank g ≡ true
       → AllByRecursion (λ n. is_cut g n ≡ false) (notices_by rank w.put) → AllByRecursion (λ n. is_cut g n ≡ false) (notices_by rank (world_run decoding w es).put)
   run_whole decoding w [] below fixed whole = whole
   run_whole {M} decoding w (e ∷ es) below fixed whole =

@@ -33,7 +33,7 @@ listed_more ks rank (w ∷ ws) up = listed_more (insert_key match_order ks (rank
 pub below_sorted : (readers : ℕ → Reader) (n : ℕ) → IsStrictlySortedBy match_order (matches_below readers n)
 unfolding IsStrictlySortedBy
 below_sorted readers zero = tt
-below_sorted readers (suc n) = listed_more (matches_below readers n) n (map (λ (m : Match). m.whom.writer) (readers n).matches) (below_sorted readers n)
+below_sorted readers (suc n) = listed_more (matches_below readers n) n (map (λ (m : Match). m.pairing.writer) (readers n).matches) (below_sorted readers n)
 
 abbrev is_one : ℕ → Guid → ℕ × Guid → Bool
 is_one rank writer m = m.0 == rank && same_guid m.1 writer
@@ -72,12 +72,12 @@ listed_with rank writer ks n (w ∷ ws) =
     ∙ turned (list_any (λ w. is_one rank writer (n, w)) ws) (is_one rank writer (n, w)) (list_any (is_one rank writer) ks)
 
 -- of another rank no match is the one, and of its own rank those of the writer are
-of_rank : (rank : ℕ) (writer : Guid) (n : ℕ) (ms : List Match) → list_any (λ w. is_one rank writer (n, w)) (map (λ (m : Match). m.whom.writer) ms) ≡ (n == rank && has writer ms)
+of_rank : (rank : ℕ) (writer : Guid) (n : ℕ) (ms : List Match) → list_any (λ w. is_one rank writer (n, w)) (map (λ (m : Match). m.pairing.writer) ms) ≡ (n == rank && has writer ms)
 of_rank rank writer n ms = by_test (n == rank) ms
   where
-    by_test : (b : Bool) (ms : List Match) → list_any (λ w. b && same_guid w writer) (map (λ (m : Match). m.whom.writer) ms) ≡ (b && has writer ms)
+    by_test : (b : Bool) (ms : List Match) → list_any (λ w. b && same_guid w writer) (map (λ (m : Match). m.pairing.writer) ms) ≡ (b && has writer ms)
     by_test true [] = refl
-    by_test true (m ∷ ms) = ap (λ b. same_guid m.whom.writer writer || b) (by_test true ms) ∙ sym (some_if (same_guid m.whom.writer writer) m (match_with writer ms))
+    by_test true (m ∷ ms) = ap (λ b. same_guid m.pairing.writer writer || b) (by_test true ms) ∙ sym (some_if (same_guid m.pairing.writer writer) m (match_with writer ms))
     by_test false [] = refl
     by_test false (m ∷ ms) = by_test false ms
 
@@ -96,7 +96,7 @@ next_rank rank n here there same = by_test (n == rank) (nat_lt rank n) (nat_lt r
 pub below_listed : (readers : ℕ → Reader) (n rank : ℕ) (writer : Guid) → is_listed (matches_below readers n) rank writer ≡ (nat_lt rank n && has writer (readers rank).matches)
 below_listed readers zero rank writer = let past : nat_lt rank zero ≡ false = grind (arith, nat_tests) in rw past refl
 below_listed readers (suc n) rank writer =
-    listed_with rank writer (matches_below readers n) n (map (λ (m : Match). m.whom.writer) (readers n).matches)
+    listed_with rank writer (matches_below readers n) n (map (λ (m : Match). m.pairing.writer) (readers n).matches)
     ∙ ap (λ b. b || list_any (is_one rank writer) (matches_below readers n)) (of_rank rank writer n (readers n).matches)
     ∙ ap (λ b. n == rank && has writer (readers n).matches || b) (below_listed readers n rank writer)
     ∙ next_rank rank n (has writer (readers n).matches) (has writer (readers rank).matches) (λ same. ap (λ k. has writer (readers k).matches) same)

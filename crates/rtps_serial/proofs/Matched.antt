@@ -8,24 +8,24 @@ use Rattle.rtps_types.specs.SequenceNumber.{IsNumber}
 use Rattle.rtps_types.specs.declared.identity.Guid.{Guid}
 use Rattle.rtps_types.specs.declared.place.Place.{Place}
 use Rattle.rtps_types.proofs.Nearest.{value_of-nearest}
-use Rattle.rtps_receiver.specs.Events.{Happening}
+use Rattle.rtps_receiver.specs.Events.{EventView}
 use Rattle.rtps_discovery.specs.Addressed.{is_discovery}
 use Rattle.rtps_discovery.specs.Known.{Known}
 use Rattle.rtps_discovery.specs.Records.{answered}
-use Rattle.rtps_proxy.specs.History.{Came, Sample}
+use Rattle.rtps_proxy.specs.History.{MatchEvent, ChangeView}
 use Rattle.rtps_proxy.specs.Matches.{Match, ended, extended, match_with, same_guid}
-use Rattle.rtps_proxy.specs.Replies.{Sent}
+use Rattle.rtps_proxy.specs.Replies.{ReplyView}
 use Rattle.rtps_proxy.proofs.Matching.{same_is}
 use Rattle.dds_topic.specs.Decoding.{Decoding}
 use Rattle.rtps_reader.specs.declared.notice.Notice.{Notice}
 use Rattle.rtps_reader.specs.declared.notice.NoticeKind.TheVariants.{Lost}
 use Rattle.rtps_reader.specs.Body.{body_by}
 use Rattle.rtps_reader.specs.Reader.{Reader, loses, lost_at, presented, reader_after, ready_at, sends, tells, told_of}
-use Rattle.rtps_reader.specs.Steps.{Doing}
+use Rattle.rtps_reader.specs.Steps.{StepView}
 use Rattle.rtps_reader.proofs.Begun.{same_self}
 use Rattle.rtps_serial.specs.Presentation.{Shown, shown_in}
 use Rattle.rtps_serial.specs.Seen.{notices_by, reader_count}
-use Rattle.rtps_serial.specs.World.{Hears, World, answer_put, discovery_puts, doings, puts_at, puts_below, puts_run, sent_by, world_after}
+use Rattle.rtps_serial.specs.World.{NoticeOf, World, answer_put, discovery_puts, doings, puts_at, puts_below, puts_run, sent_by, world_after}
 use Rattle.rtps_serial.proofs.Dealt.{notices_by-append}
 use Rattle.rtps_serial.proofs.Shown.{samples_of, shown}
 
@@ -39,33 +39,33 @@ other_way a b h = by_test (same_guid b a) refl
     by_test false e = refl
 
 -- a match once an event came for it
-abbrev pub extend : Came → Match → Match
-extend c m = record { whom = m.whom; past = c ∷ m.past }
+abbrev pub extend : MatchEvent → Match → Match
+extend c m = record { pairing = m.pairing; past = c ∷ m.past }
 
 -- an event of one writer extends the match with it, and with no other
-pub extended_match : (g w : Guid) (c : Came) (ms : List Match) → match_with g (extended w c ms) ≡ (if same_guid g w then option_map (extend c) (match_with g ms) else match_with g ms)
+pub extended_match : (g w : Guid) (c : MatchEvent) (ms : List Match) → match_with g (extended w c ms) ≡ (if same_guid g w then option_map (extend c) (match_with g ms) else match_with g ms)
 extended_match g w c ms = by_test (same_guid g w) refl
   where
     same : (ms : List Match) → match_with g (extended g c ms) ≡ option_map (extend c) (match_with g ms)
     same [] = refl
-    same (m ∷ ms) = by_match (same_guid m.whom.writer g) refl (same ms)
+    same (m ∷ ms) = by_match (same_guid m.pairing.writer g) refl (same ms)
       where
-        by_match : (b : Bool) → same_guid m.whom.writer g ≡ b → match_with g (extended g c ms) ≡ option_map (extend c) (match_with g ms)
+        by_match : (b : Bool) → same_guid m.pairing.writer g ≡ b → match_with g (extended g c ms) ≡ option_map (extend c) (match_with g ms)
             → match_with g (extended g c (m ∷ ms)) ≡ option_map (extend c) (match_with g (m ∷ ms))
         by_match true e rest = rw e (rw e refl)
         by_match false e rest = rw e (rw e rest)
 
     others : same_guid g w ≡ false → (ms : List Match) → match_with g (extended w c ms) ≡ match_with g ms
     others differ [] = refl
-    others differ (m ∷ ms) = by_match (same_guid m.whom.writer w) refl (others differ ms)
+    others differ (m ∷ ms) = by_match (same_guid m.pairing.writer w) refl (others differ ms)
       where
-        by_match : (b : Bool) → same_guid m.whom.writer w ≡ b → match_with g (extended w c ms) ≡ match_with g ms
+        by_match : (b : Bool) → same_guid m.pairing.writer w ≡ b → match_with g (extended w c ms) ≡ match_with g ms
             → match_with g (extended w c (m ∷ ms)) ≡ match_with g (m ∷ ms)
         by_match true e rest =
-            let is : m.whom.writer ≡ w = same_is m.whom.writer w e in
-            let not_this : same_guid m.whom.writer g ≡ false = subst (λ v. same_guid v g ≡ false) (sym is) (other_way g w differ) in
+            let is : m.pairing.writer ≡ w = same_is m.pairing.writer w e in
+            let not_this : same_guid m.pairing.writer g ≡ false = subst (λ v. same_guid v g ≡ false) (sym is) (other_way g w differ) in
             rw e (rw not_this refl)
-        by_match false e rest = rw e (ap (λ o. if same_guid m.whom.writer g then Some m else o) rest)
+        by_match false e rest = rw e (ap (λ o. if same_guid m.pairing.writer g then Some m else o) rest)
 
     by_test : (b : Bool) → same_guid g w ≡ b → match_with g (extended w c ms) ≡ (if b then option_map (extend c) (match_with g ms) else match_with g ms)
     by_test true e = subst (λ v. match_with g (extended v c ms) ≡ option_map (extend c) (match_with g ms)) (same_is g w e) (same ms)
@@ -87,19 +87,19 @@ none_later false b x o h = refl
 -- the match with one writer ends, and with no other
 pub ended_match : (g w : Guid) (ms : List Match) → match_with g (ended w ms) ≡ (if same_guid w g then None else match_with g ms)
 ended_match g w [] = sym (either_way (same_guid w g) None)
-ended_match g w (m ∷ ms) = by_test (same_guid m.whom.writer w) refl (ended_match g w ms)
+ended_match g w (m ∷ ms) = by_test (same_guid m.pairing.writer w) refl (ended_match g w ms)
   where
-    differs : same_guid m.whom.writer w ≡ false → same_guid m.whom.writer g ≡ true → same_guid w g ≡ false
-    differs other this = other_way g w (subst (λ h. same_guid h w ≡ false) (same_is m.whom.writer g this) other)
+    differs : same_guid m.pairing.writer w ≡ false → same_guid m.pairing.writer g ≡ true → same_guid w g ≡ false
+    differs other this = other_way g w (subst (λ h. same_guid h w ≡ false) (same_is m.pairing.writer g this) other)
 
-    by_test : (b : Bool) → same_guid m.whom.writer w ≡ b → match_with g (ended w ms) ≡ (if same_guid w g then None else match_with g ms)
+    by_test : (b : Bool) → same_guid m.pairing.writer w ≡ b → match_with g (ended w ms) ≡ (if same_guid w g then None else match_with g ms)
         → match_with g (ended w (m ∷ ms)) ≡ (if same_guid w g then None else match_with g (m ∷ ms))
     by_test true e rest =
-        let same : same_guid m.whom.writer g ≡ same_guid w g = ap (λ h. same_guid h g) (same_is m.whom.writer w e) in
+        let same : same_guid m.pairing.writer g ≡ same_guid w g = ap (λ h. same_guid h g) (same_is m.pairing.writer w e) in
         rw e (rest ∙ none_twice (same_guid w g) (Some m) (match_with g ms) ∙ ap (λ b. if same_guid w g then None else (if b then Some m else match_with g ms)) (sym same))
     by_test false e rest =
-        rw e (ap (λ o. if same_guid m.whom.writer g then Some m else o) rest
-        ∙ none_later (same_guid m.whom.writer g) (same_guid w g) (Some m) (match_with g ms) (differs e))
+        rw e (ap (λ o. if same_guid m.pairing.writer g then Some m else o) rest
+        ∙ none_later (same_guid m.pairing.writer g) (same_guid w g) (Some m) (match_with g ms) (differs e))
 
 -- ---- the samples among the notices of a reader
 
@@ -112,7 +112,7 @@ samples_of-append g [] ys = refl
 samples_of-append g (n ∷ xs) ys = rw (samples_of-append g xs ys) (samples_then (same_guid n.writer g) (shown_in n.place n.what) (samples_of g xs) (samples_of g ys))
 
 -- the notices of a writer's match give its samples, and none of another's
-own_samples : {M : Type 0} (decoding : Decoding M) (place : Place) (g : Guid) (ss : List Sample) → AllByRecursion (λ (s : Sample). IsNumber s.number) ss → samples_of g (map (presented decoding place g) ss) ≡ map (shown decoding place) ss
+own_samples : {M : Type 0} (decoding : Decoding M) (place : Place) (g : Guid) (ss : List ChangeView) → AllByRecursion (λ (s : ChangeView). IsNumber s.number) ss → samples_of g (map (presented decoding place g) ss) ≡ map (shown decoding place) ss
 own_samples decoding place g [] all = refl
 own_samples {M} decoding place g (s ∷ ss) all =
     rw (same_self g) (ap (λ n. numbered n ∷ samples_of g (map (presented decoding place g) ss)) (value_of-nearest s.number all.0) ∙ ap (λ l. shown decoding place s ∷ l) (own_samples decoding place g ss all.1))
@@ -130,17 +130,17 @@ no_losses {M} place g w count = by_test (eqb count 0)
     by_test true = refl
     by_test false = either_way (same_guid w g) none
 
-pub samples_told : {M : Type 0} (decoding : Decoding M) (place : Place) (g : Guid) (c : Came) (m : Match) → AllByRecursion (λ (s : Sample). IsNumber s.number) (ready_at m c) → samples_of g (told_of decoding place g c (Some m)) ≡ map (shown decoding place) (ready_at m c)
+pub samples_told : {M : Type 0} (decoding : Decoding M) (place : Place) (g : Guid) (c : MatchEvent) (m : Match) → AllByRecursion (λ (s : ChangeView). IsNumber s.number) (ready_at m c) → samples_of g (told_of decoding place g c (Some m)) ≡ map (shown decoding place) (ready_at m c)
 samples_told decoding place g c m all =
     samples_of-append g (loses place g (lost_at m c)) (map (presented decoding place g) (ready_at m c))
     ∙ ap (λ l. l ++ samples_of g (map (presented decoding place g) (ready_at m c))) (no_losses place g g (lost_at m c))
     ∙ own_samples decoding place g (ready_at m c) all
 
-other_samples : {M : Type 0} (decoding : Decoding M) (place : Place) (g w : Guid) → same_guid w g ≡ false → (ss : List Sample) → samples_of g (map (presented decoding place w) ss) ≡ []
+other_samples : {M : Type 0} (decoding : Decoding M) (place : Place) (g w : Guid) → same_guid w g ≡ false → (ss : List ChangeView) → samples_of g (map (presented decoding place w) ss) ≡ []
 other_samples decoding place g w h [] = refl
 other_samples decoding place g w h (s ∷ ss) = rw h (other_samples decoding place g w h ss)
 
-pub told_by_other : {M : Type 0} (decoding : Decoding M) (place : Place) (g w : Guid) (c : Came) (o : Option Match) → same_guid w g ≡ false → samples_of g (told_of decoding place w c o) ≡ []
+pub told_by_other : {M : Type 0} (decoding : Decoding M) (place : Place) (g w : Guid) (c : MatchEvent) (o : Option Match) → same_guid w g ≡ false → samples_of g (told_of decoding place w c o) ≡ []
 told_by_other decoding place g w c None h = refl
 told_by_other decoding place g w c (Some m) h =
     samples_of-append g (loses place w (lost_at m c)) (map (presented decoding place w) (ready_at m c))
@@ -150,31 +150,31 @@ told_by_other decoding place g w c (Some m) h =
 -- ---- the notices of one reader among all that is put out
 
 -- what a reader gives out at one step after the other
-abbrev pub told_run : {M : Type 0} → Decoding M → Place → Reader → List Doing → List (Notice M)
+abbrev pub told_run : {M : Type 0} → Decoding M → Place → Reader → List StepView → List (Notice M)
 told_run decoding place r [] = []
 told_run decoding place r (d ∷ ds) = tells decoding r place d ++ told_run decoding place (reader_after r d) ds
 
-heard_all : {M : Type 0} (rank : ℕ) (ns : List (Notice M)) → notices_by rank (map (Hears rank) ns) ≡ ns
+heard_all : {M : Type 0} (rank : ℕ) (ns : List (Notice M)) → notices_by rank (map (NoticeOf rank) ns) ≡ ns
 heard_all rank [] = refl
 heard_all rank (n ∷ ns) = rw (eq-eqb rank rank refl) (ap (λ l. n ∷ l) (heard_all rank ns))
 
-heard_none : {M : Type 0} (rank k : ℕ) → eqb k rank ≡ false → (ns : List (Notice M)) → notices_by rank (map (Hears k) ns) ≡ []
+heard_none : {M : Type 0} (rank k : ℕ) → eqb k rank ≡ false → (ns : List (Notice M)) → notices_by rank (map (NoticeOf k) ns) ≡ []
 heard_none rank k h [] = refl
 heard_none rank k h (n ∷ ns) = rw h (heard_none rank k h ns)
 
-none_sent : {M : Type 0} (rank k : ℕ) (ss : List (Place × Sent)) → notices_by {M = M} rank (map (sent_by k) ss) ≡ []
+none_sent : {M : Type 0} (rank k : ℕ) (ss : List (Place × ReplyView)) → notices_by {M = M} rank (map (sent_by k) ss) ≡ []
 none_sent rank k [] = refl
 none_sent rank k (s ∷ ss) = none_sent rank k ss
 
 -- of what a reader puts out at a step, its notices
-heard_at : {M : Type 0} (decoding : Decoding M) (place : Place) (rank : ℕ) (r : Reader) (d : Doing) → notices_by rank (puts_at decoding place rank r d) ≡ tells decoding r place d
+heard_at : {M : Type 0} (decoding : Decoding M) (place : Place) (rank : ℕ) (r : Reader) (d : StepView) → notices_by rank (puts_at decoding place rank r d) ≡ tells decoding r place d
 heard_at decoding place rank r d =
-    notices_by-append rank (map (Hears rank) (tells decoding r place d)) (map (sent_by rank) (sends r place d))
-    ∙ ap (λ l. notices_by rank (map (Hears rank) (tells decoding r place d)) ++ l) (none_sent rank rank (sends r place d))
-    ∙ append-nil (notices_by rank (map (Hears rank) (tells decoding r place d)))
+    notices_by-append rank (map (NoticeOf rank) (tells decoding r place d)) (map (sent_by rank) (sends r place d))
+    ∙ ap (λ l. notices_by rank (map (NoticeOf rank) (tells decoding r place d)) ++ l) (none_sent rank rank (sends r place d))
+    ∙ append-nil (notices_by rank (map (NoticeOf rank) (tells decoding r place d)))
     ∙ heard_all rank (tells decoding r place d)
 
-heard_run : {M : Type 0} (decoding : Decoding M) (place : Place) (rank : ℕ) (r : Reader) (ds : List Doing) → notices_by rank (puts_run decoding place rank r ds) ≡ told_run decoding place r ds
+heard_run : {M : Type 0} (decoding : Decoding M) (place : Place) (rank : ℕ) (r : Reader) (ds : List StepView) → notices_by rank (puts_run decoding place rank r ds) ≡ told_run decoding place r ds
 heard_run decoding place rank r [] = refl
 heard_run decoding place rank r (d ∷ ds) =
     notices_by-append rank (puts_at decoding place rank r d) (puts_run decoding place rank (reader_after r d) ds)
@@ -182,21 +182,21 @@ heard_run decoding place rank r (d ∷ ds) =
     ∙ ap (λ l. tells decoding r place d ++ l) (heard_run decoding place rank (reader_after r d) ds)
 
 -- and none of another reader's
-other_at : {M : Type 0} (decoding : Decoding M) (place : Place) (rank k : ℕ) (r : Reader) (d : Doing) → eqb k rank ≡ false → notices_by rank (puts_at decoding place k r d) ≡ []
+other_at : {M : Type 0} (decoding : Decoding M) (place : Place) (rank k : ℕ) (r : Reader) (d : StepView) → eqb k rank ≡ false → notices_by rank (puts_at decoding place k r d) ≡ []
 other_at decoding place rank k r d h =
-    notices_by-append rank (map (Hears k) (tells decoding r place d)) (map (sent_by k) (sends r place d))
-    ∙ ap (λ l. notices_by rank (map (Hears k) (tells decoding r place d)) ++ l) (none_sent rank k (sends r place d))
-    ∙ append-nil (notices_by rank (map (Hears k) (tells decoding r place d)))
+    notices_by-append rank (map (NoticeOf k) (tells decoding r place d)) (map (sent_by k) (sends r place d))
+    ∙ ap (λ l. notices_by rank (map (NoticeOf k) (tells decoding r place d)) ++ l) (none_sent rank k (sends r place d))
+    ∙ append-nil (notices_by rank (map (NoticeOf k) (tells decoding r place d)))
     ∙ heard_none rank k h (tells decoding r place d)
 
-other_run : {M : Type 0} (decoding : Decoding M) (place : Place) (rank k : ℕ) (r : Reader) (ds : List Doing) → eqb k rank ≡ false → notices_by rank (puts_run decoding place k r ds) ≡ []
+other_run : {M : Type 0} (decoding : Decoding M) (place : Place) (rank k : ℕ) (r : Reader) (ds : List StepView) → eqb k rank ≡ false → notices_by rank (puts_run decoding place k r ds) ≡ []
 other_run decoding place rank k r [] h = refl
 other_run decoding place rank k r (d ∷ ds) h =
     notices_by-append rank (puts_at decoding place k r d) (puts_run decoding place k (reader_after r d) ds)
     ∙ ap (λ l. l ++ notices_by rank (puts_run decoding place k (reader_after r d) ds)) (other_at decoding place rank k r d h)
     ∙ other_run decoding place rank k (reader_after r d) ds h
 
-pub none_below : {M : Type 0} (decoding : Decoding M) (k : Known) (e : Happening) (readers : ℕ → Reader) (rank n : ℕ) → n ≤ rank → notices_by rank (puts_below decoding k e readers n) ≡ []
+pub none_below : {M : Type 0} (decoding : Decoding M) (k : Known) (e : EventView) (readers : ℕ → Reader) (rank n : ℕ) → n ≤ rank → notices_by rank (puts_below decoding k e readers n) ≡ []
 none_below decoding k e readers rank zero le = refl
 none_below decoding k e readers rank (suc n) le =
     let differ : eqb n rank ≡ false = grind (arith, nat_tests) in
@@ -206,7 +206,7 @@ none_below decoding k e readers rank (suc n) le =
     ∙ none_below decoding k e readers rank n (omega arith)
 
 -- of what all readers put out at an event, the notices of one
-by_rank : {M : Type 0} (decoding : Decoding M) (k : Known) (e : Happening) (readers : ℕ → Reader) (rank n : ℕ) → rank < n
+by_rank : {M : Type 0} (decoding : Decoding M) (k : Known) (e : EventView) (readers : ℕ → Reader) (rank n : ℕ) → rank < n
     → notices_by rank (puts_below decoding k e readers n) ≡ told_run decoding e.place (readers rank) (doings k rank e)
 by_rank decoding k e readers rank zero l = absurd (omega arith)
 by_rank decoding k e readers rank (suc n) l =
@@ -227,10 +227,10 @@ by_rank decoding k e readers rank (suc n) l =
     ]
 
 -- discovery reports nothing
-unheard : {M : Type 0} (rank : ℕ) (k : Known) (e : Happening) → notices_by {M = M} rank (discovery_puts k e) ≡ []
+unheard : {M : Type 0} (rank : ℕ) (k : Known) (e : EventView) → notices_by {M = M} rank (discovery_puts k e) ≡ []
 unheard {M} rank k e = by_test (is_discovery e.writer)
   where
-    by_answer : (o : Option Sent) → notices_by {M = M} rank (answer_put e.place o) ≡ []
+    by_answer : (o : Option ReplyView) → notices_by {M = M} rank (answer_put e.place o) ≡ []
     by_answer None = refl
     by_answer (Some s) = refl
 
@@ -239,20 +239,20 @@ unheard {M} rank k e = by_test (is_discovery e.writer)
     by_test false = refl
 
 -- all notices of an event are readers': discovery gives out none
-pub heard_event : {M : Type 0} (decoding : Decoding M) (w : World M) (rank : ℕ) (e : Happening)
+pub heard_event : {M : Type 0} (decoding : Decoding M) (w : World M) (rank : ℕ) (e : EventView)
     → notices_by rank (discovery_puts w.known e ++ puts_below decoding w.known e w.readers (reader_count w)) ≡ notices_by rank (puts_below decoding w.known e w.readers (reader_count w))
 heard_event decoding w rank e =
     notices_by-append rank (discovery_puts w.known e) (puts_below decoding w.known e w.readers (reader_count w))
     ∙ ap (λ l. l ++ notices_by rank (puts_below decoding w.known e w.readers (reader_count w))) (unheard rank w.known e)
 
-heard_more : {M : Type 0} (decoding : Decoding M) (w : World M) (rank : ℕ) (e : Happening)
+heard_more : {M : Type 0} (decoding : Decoding M) (w : World M) (rank : ℕ) (e : EventView)
     → notices_by rank (world_after decoding w e).put ≡ notices_by rank w.put ++ notices_by rank (puts_below decoding w.known e w.readers (reader_count w))
 heard_more decoding w rank e =
     notices_by-append rank w.put (discovery_puts w.known e ++ puts_below decoding w.known e w.readers (reader_count w))
     ∙ ap (λ l. notices_by rank w.put ++ l) (heard_event decoding w rank e)
 
 -- one event more, as the reader of a rank reports it
-pub told_more : {M : Type 0} (decoding : Decoding M) (w : World M) (rank : ℕ) (e : Happening) → rank < reader_count w
+pub told_more : {M : Type 0} (decoding : Decoding M) (w : World M) (rank : ℕ) (e : EventView) → rank < reader_count w
     → notices_by rank (world_after decoding w e).put ≡ notices_by rank w.put ++ told_run decoding e.place (w.readers rank) (doings w.known rank e)
 told_more decoding w rank e below =
     heard_more decoding w rank e

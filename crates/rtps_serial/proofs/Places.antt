@@ -16,9 +16,9 @@ use Rattle.rtps_wire.specs.declared.message_header.HeaderFault.{HeaderFault}
 use Rattle.rtps_wire.specs.Header.{header_of}
 use Rattle.rtps_wire.specs.Reading.{reading}
 use Rattle.rtps_wire.specs.Submessage.{Content, Item}
-use Rattle.rtps_receiver.specs.Addressed.{Addressed, addressed, taken_of}
+use Rattle.rtps_receiver.specs.Addressed.{AddressedBody, addressed, taken_of}
 use Rattle.rtps_receiver.specs.Context.{destination_of, source_of, time_of}
-use Rattle.rtps_receiver.specs.Events.{Happening, event_behind, events_behind, events_of, events_under, happening}
+use Rattle.rtps_receiver.specs.Events.{EventView, event_behind, events_behind, events_of, events_under, happening}
 use Rattle.rtps_discovery.specs.Addressed.{is_addressed}
 use Rattle.rtps_proxy.specs.Matches.{same_guid}
 use Rattle.rtps_serial.specs.Presentation.{events_after, events_for, not_after}
@@ -26,7 +26,7 @@ use Rattle.rtps_serial.specs.Run.{events_from}
 use Rattle.rtps_serial.proofs.OneOrder.{filter_none}
 
 -- each event comes after those before it in the list
-abbrev pub PlacesRise : List Happening → Type 0
+abbrev pub PlacesRise : List EventView → Type 0
 PlacesRise [] = Unit {0}
 PlacesRise (e ∷ es) = AllByRecursion (λ d. not_after d.place e.place ≡ false) es × PlacesRise es
 
@@ -59,7 +59,7 @@ all_filter P p (x ∷ xs) h = by_test (p x) (all_filter P p xs h.1)
     by_test false rest = rest
 
 -- two lists in order, one after the other, where each event of the first is before each of the second
-rises_append : (P Q : Happening → Type 0) → ((d e : Happening) → P d → Q e → not_after e.place d.place ≡ false) → (ds es : List Happening) → AllByRecursion P ds → AllByRecursion Q es → PlacesRise ds → PlacesRise es → PlacesRise (ds ++ es)
+rises_append : (P Q : EventView → Type 0) → ((d e : EventView) → P d → Q e → not_after e.place d.place ≡ false) → (ds es : List EventView) → AllByRecursion P ds → AllByRecursion Q es → PlacesRise ds → PlacesRise es → PlacesRise (ds ++ es)
 rises_append P Q apart [] es p q h k = k
 rises_append P Q apart (d ∷ ds) es p q h k = (
   all_append (λ e. not_after e.place d.place ≡ false) ds es h.0 (all_weaker Q (λ e. not_after e.place d.place ≡ false) es (λ e l. apart d e p.0 l) q),
@@ -73,16 +73,16 @@ later_datagram : (a b : Place) → a.datagram < b.datagram → not_after b a ≡
 later_datagram a b less = grind (arith, nat_tests)
 
 -- an event, where there is one, has its place
-at_place : (place : Place) (source : GuidPrefix) (time : Option Timestamp) (b : Bool) (a : Option Addressed) → AllByRecursion (λ e. e.place ≡ place) (option_to_list (if b then happening place source time a else None))
+at_place : (place : Place) (source : GuidPrefix) (time : Option Timestamp) (b : Bool) (a : Option AddressedBody) → AllByRecursion (λ e. e.place ≡ place) (option_to_list (if b then happening place source time a else None))
 at_place place source time true (Some a) = (refl, tt)
 at_place place source time true None = tt
 at_place place source time false a = tt
 
-alone : (o : Option Happening) → PlacesRise (option_to_list o)
+alone : (o : Option EventView) → PlacesRise (option_to_list o)
 alone None = tt
 alone (Some e) = (tt, tt)
 
-abbrev IsBehind : ℕ → ℕ → Happening → Type 0
+abbrev IsBehind : ℕ → ℕ → EventView → Type 0
 IsBehind index count e = (e.place.datagram ≡ index) × (count < e.place.submessage)
 
 event_at : (own header : GuidPrefix) (place : Place) (before : List Content) (c : Content) → AllByRecursion (λ e. e.place ≡ place) (option_to_list (event_behind own header place before c))
@@ -95,7 +95,7 @@ all_behind own header index count before (i ∷ left) =
     (all_weaker (λ e. e.place ≡ record { datagram = index; submessage = count + 1 }) (IsBehind index count) _ here (event_at own header (record { datagram = index; submessage = count + 1 }) before i.content))
     (all_weaker (IsBehind index (count + 1)) (IsBehind index count) _ (λ e h. (h.0, omega (arith, h.1))) (all_behind own header index (count + 1) (i.content ∷ before) left))
   where
-    here : (e : Happening) → e.place ≡ record { datagram = index; submessage = count + 1 } → IsBehind index count e
+    here : (e : EventView) → e.place ≡ record { datagram = index; submessage = count + 1 } → IsBehind index count e
     here e is = rw is (refl, omega arith)
 
 behind_rise : (own header : GuidPrefix) (index count : ℕ) (before : List Content) (items : List Item) → PlacesRise (events_behind own header index count before items)
@@ -141,11 +141,11 @@ pub places_rise : (own : GuidPrefix) (datagrams : List (List ℕ)) → PlacesRis
 places_rise own datagrams = rise_from own 0 datagrams
 
 -- of events, the newest first, each comes after those that follow in the list
-abbrev pub PlacesFall : List Happening → Type 0
+abbrev pub PlacesFall : List EventView → Type 0
 PlacesFall [] = Unit {0}
 PlacesFall (e ∷ es) = AllByRecursion (λ d. not_after e.place d.place ≡ false) es × PlacesFall es
 
-filter_rises : (p : Happening → Bool) (es : List Happening) → PlacesRise es → PlacesRise (filter p es)
+filter_rises : (p : EventView → Bool) (es : List EventView) → PlacesRise es → PlacesRise (filter p es)
 filter_rises p [] h = tt
 filter_rises p (e ∷ es) h = by_test (p e) (filter_rises p es h.1)
   where
@@ -153,13 +153,13 @@ filter_rises p (e ∷ es) h = by_test (p e) (filter_rises p es h.1)
     by_test true rest = (all_filter (λ d. not_after d.place e.place ≡ false) p es h.0, rest)
     by_test false rest = rest
 
-reversed_falls : (es before : List Happening) → PlacesRise es → PlacesFall before → AllByRecursion (λ e. AllByRecursion (λ d. not_after e.place d.place ≡ false) before) es → PlacesFall (reverse_aux es before)
+reversed_falls : (es before : List EventView) → PlacesRise es → PlacesFall before → AllByRecursion (λ e. AllByRecursion (λ d. not_after e.place d.place ≡ false) before) es → PlacesFall (reverse_aux es before)
 reversed_falls [] before rises falls behind = falls
 reversed_falls (e ∷ es) before rises falls behind =
     reversed_falls es (e ∷ before) rises.1 (behind.0, falls)
     (all_both (λ d. not_after d.place e.place ≡ false) (λ d. AllByRecursion (λ b. not_after d.place b.place ≡ false) before) (λ d. AllByRecursion (λ b. not_after d.place b.place ≡ false) (e ∷ before)) es (λ d here rest. (here, rest)) rises.0 behind.1)
 
-none_before : (es : List Happening) → AllByRecursion (λ e. AllByRecursion (λ (d : Happening). not_after e.place d.place ≡ false) []) es
+none_before : (es : List EventView) → AllByRecursion (λ e. AllByRecursion (λ (d : EventView). not_after e.place d.place ≡ false) []) es
 none_before [] = tt
 none_before (e ∷ es) = (tt, none_before es)
 
@@ -171,7 +171,7 @@ places_fall own datagrams writer reader =
 
 -- ---- the submessages since a place
 
-filter_falls : (p : Happening → Bool) (es : List Happening) → PlacesFall es → PlacesFall (filter p es)
+filter_falls : (p : EventView → Bool) (es : List EventView) → PlacesFall es → PlacesFall (filter p es)
 filter_falls p [] h = tt
 filter_falls p (e ∷ es) h = by_test (p e) (filter_falls p es h.1)
   where
@@ -180,17 +180,17 @@ filter_falls p (e ∷ es) h = by_test (p e) (filter_falls p es h.1)
     by_test false rest = rest
 
 -- those after a place fall too
-pub later_fall : (place : Place) (es : List Happening) → PlacesFall es → PlacesFall (events_after place es)
+pub later_fall : (place : Place) (es : List EventView) → PlacesFall es → PlacesFall (events_after place es)
 later_fall place es falls = filter_falls (λ e. not (not_after e.place place)) es falls
 
 -- each of the later ones is after each of the earlier ones
-pub later_first : (later mine : List Happening) → PlacesFall (reverse_aux later mine) → PlacesFall mine × AllByRecursion (λ e. AllByRecursion (λ d. not_after e.place d.place ≡ false) mine) later
+pub later_first : (later mine : List EventView) → PlacesFall (reverse_aux later mine) → PlacesFall mine × AllByRecursion (λ e. AllByRecursion (λ d. not_after e.place d.place ≡ false) mine) later
 later_first [] mine falls = (falls, tt)
 later_first (e ∷ later) mine falls =
     let rest = later_first later (e ∷ mine) falls in
     (rest.0.1, (rest.0.0, all_weaker (λ d. AllByRecursion (λ c. not_after d.place c.place ≡ false) (e ∷ mine)) (λ d. AllByRecursion (λ c. not_after d.place c.place ≡ false) mine) later (λ d h. h.1) rest.1))
 
-filter_reversed : (p : Happening → Bool) (xs ys : List Happening) → filter p (reverse_aux xs ys) ≡ reverse_aux (filter p xs) (filter p ys)
+filter_reversed : (p : EventView → Bool) (xs ys : List EventView) → filter p (reverse_aux xs ys) ≡ reverse_aux (filter p xs) (filter p ys)
 filter_reversed p [] ys = refl
 filter_reversed p (x ∷ xs) ys = filter_reversed p xs (x ∷ ys) ∙ by_test (p x)
   where
@@ -198,19 +198,19 @@ filter_reversed p (x ∷ xs) ys = filter_reversed p xs (x ∷ ys) ∙ by_test (p
     by_test true = refl
     by_test false = refl
 
-all_pass : (p : Happening → Bool) (es : List Happening) → AllByRecursion (λ e. p e ≡ true) es → filter p es ≡ es
+all_pass : (p : EventView → Bool) (es : List EventView) → AllByRecursion (λ e. p e ≡ true) es → filter p es ≡ es
 all_pass p [] h = refl
 all_pass p (e ∷ es) h = let here : p e ≡ true = h.0 in rw here (ap (λ l. e ∷ l) (all_pass p es h.1))
 
 -- the events before one in order, and those after it
-parted : (before : List Happening) (e : Happening) (left : List Happening) → PlacesRise (before ++ e ∷ left)
+parted : (before : List EventView) (e : EventView) (left : List EventView) → PlacesRise (before ++ e ∷ left)
     → AllByRecursion (λ d. not_after e.place d.place ≡ false) before × AllByRecursion (λ d. not_after d.place e.place ≡ false) left
 parted [] e left rises = (tt, rises.0)
 parted (d ∷ before) e left rises =
     let rest = parted before e left rises.1 in
     ((at_one before rises.0, rest.0), rest.1)
   where
-    at_one : (ds : List Happening) → AllByRecursion (λ c. not_after c.place d.place ≡ false) (ds ++ e ∷ left) → not_after e.place d.place ≡ false
+    at_one : (ds : List EventView) → AllByRecursion (λ c. not_after c.place d.place ≡ false) (ds ++ e ∷ left) → not_after e.place d.place ≡ false
     at_one [] all = all.0
     at_one (c ∷ ds) all = at_one ds all.1
 
@@ -221,7 +221,7 @@ is_later : (a b : Place) → not_after a b ≡ false → not (not_after a b) ≡
 is_later a b h = rw h refl
 
 -- where an event isn't one of a match's, the match's submessages after its place are those of the later events
-pub events_since : (writer : Guid) (reader : EntityId) (before : List Happening) (e : Happening) (left : List Happening) → PlacesRise (before ++ e ∷ left)
+pub events_since : (writer : Guid) (reader : EntityId) (before : List EventView) (e : EventView) (left : List EventView) → PlacesRise (before ++ e ∷ left)
     → is_addressed (same_guid writer) reader e ≡ false
     → events_after e.place (events_for writer reader (before ++ e ∷ left)) ≡ reverse_aux (filter (is_addressed (same_guid writer) reader) left) []
 events_since writer reader before e left rises other =
@@ -229,10 +229,10 @@ events_since writer reader before e left rises other =
     ∙ ap (λ l. reverse_aux (filter later l) []) (filter-append mine before (e ∷ left) ∙ ap (λ b. filter mine before ++ (if b then e ∷ filter mine left else filter mine left)) other)
     ∙ ap (λ l. reverse_aux l []) (filter-append later (filter mine before) (filter mine left) ∙ ap (λ l. l ++ filter later (filter mine left)) earlier_pass ∙ later_pass)
   where
-    later : Happening → Bool
+    later : EventView → Bool
     later d = not (not_after d.place e.place)
 
-    mine : Happening → Bool
+    mine : EventView → Bool
     mine = is_addressed (same_guid writer) reader
 
     earlier_pass : filter later (filter mine before) ≡ []

@@ -8,7 +8,7 @@ use Rattle.std.proofs.lemmas.List.{length-map}
 use Rattle.rtps_types.specs.declared.identity.EntityId.{EntityId}
 use Rattle.rtps_types.specs.declared.identity.Guid.{Guid}
 use Rattle.rtps_types.specs.declared.identity.GuidPrefix.{GuidPrefix}
-use Rattle.rtps_receiver.specs.Events.{Happening}
+use Rattle.rtps_receiver.specs.Events.{EventView}
 use Rattle.rtps_discovery.specs.Addressed.{is_addressed, is_discovery, is_for, writer_of}
 use Rattle.rtps_discovery.specs.declared.config.Config.{Config}
 use Rattle.rtps_discovery.specs.Known.{Known, Wish, is_matched, reader_at}
@@ -18,8 +18,8 @@ use Rattle.rtps_proxy.specs.Matches.{Match, begun, fresh, match_with, same_guid}
 use Rattle.rtps_proxy.proofs.Matching.{same_is}
 use Rattle.dds_topic.specs.Decoding.{Decoding}
 use Rattle.rtps_reader.specs.declared.notice.Notice.{Notice}
-use Rattle.rtps_reader.specs.Reader.{Facts, Reader, all_begun, first_matches, reader_after, reader_run, tells, whom_of}
-use Rattle.rtps_reader.specs.Steps.{Doing, asks_of}
+use Rattle.rtps_reader.specs.Reader.{Facts, Reader, all_begun, first_matches, reader_after, reader_run, tells, pairing_of}
+use Rattle.rtps_reader.specs.Steps.{StepView, asks_of}
 use Rattle.rtps_reader.proofs.Begun.{match_begun}
 use Rattle.rtps_serial.specs.Presentation.{IsPresented, Since, TheStart, Never, Stretch, events_after, events_for, events_in, first_since, is_fixed, stretch, stretches, stretches_in}
 use Rattle.rtps_serial.specs.Run.{entity_of, events_from, first_world, fixed_of, is_reliable_at, run, world_run}
@@ -42,14 +42,14 @@ no_match None h = refl
 no_match (Some m) h = absurd (true≢false h)
 
 -- what an event asks of the reader is done, and then these submessages for the match are left
-abbrev Does : {M : Type 0} → Decoding M → Bool → Guid → Since → List Happening → Reader → List (Notice M) → Happening → List Happening → List Doing → Type 0
+abbrev Does : {M : Type 0} → Decoding M → Bool → Guid → Since → List EventView → Reader → List (Notice M) → EventView → List EventView → List StepView → Type 0
 Does decoding reliable g first all r given e left ds = Follows decoding reliable g first all (reader_run r ds) (given ++ told_run decoding e.place r ds) left
 
-module _ {M : Type 0} (decoding : Decoding M) (reliable : Bool) (g : Guid) (first : Since) (all : List Happening) (r : Reader) (given : List (Notice M)) (e : Happening) (left : List Happening) where
+module _ {M : Type 0} (decoding : Decoding M) (reliable : Bool) (g : Guid) (first : Since) (all : List EventView) (r : Reader) (given : List (Notice M)) (e : EventView) (left : List EventView) where
   nothing : Follows decoding reliable g first all r given left → Does decoding reliable g first all r given e left []
   nothing f = subst (λ ns. Follows decoding reliable g first all r ns left) (sym (append-nil given)) f
 
-  one : (d : Doing) → Follows decoding reliable g first all (reader_after r d) (given ++ tells decoding r e.place d) left → Does decoding reliable g first all r given e left (d ∷ [])
+  one : (d : StepView) → Follows decoding reliable g first all (reader_after r d) (given ++ tells decoding r e.place d) left → Does decoding reliable g first all r given e left (d ∷ [])
   one d f = subst (λ ns. Follows decoding reliable g first all (reader_after r d) (given ++ ns) left) (sym (append-nil (tells decoding r e.place d))) f
 
   -- an event of a user's writer: whether it is of this writer, whether it is for the reader, and whether its writer is matched
@@ -78,7 +78,7 @@ module _ {M : Type 0} (decoding : Decoding M) (reliable : Bool) (g : Guid) (firs
 -- ---- a run
 
 -- the reader of a rank at a world of a run, of whose events these are left
-record InRun {M : Type 0} (decoding : Decoding M) (reliable : Bool) (g : Guid) (first : Since) (all : List Happening) (rank : ℕ) (entity : EntityId) (w : World M) (left : List Happening) : Type 0 where
+record InRun {M : Type 0} (decoding : Decoding M) (reliable : Bool) (g : Guid) (first : Since) (all : List EventView) (rank : ℕ) (entity : EntityId) (w : World M) (left : List EventView) : Type 0 where
   agrees : Agrees w
   below : rank < reader_count w
   wish : Wish
@@ -86,12 +86,12 @@ record InRun {M : Type 0} (decoding : Decoding M) (reliable : Bool) (g : Guid) (
   named : wish.entity ≡ entity
   follows : Follows decoding reliable g first (events_for g entity all) (w.readers rank) (notices_by rank w.put) (filter (is_addressed (same_guid g) entity) left)
 
-module _ {M : Type 0} (decoding : Decoding M) (reliable : Bool) (g : Guid) (first : Since) (all : List Happening) (rank : ℕ) (entity : EntityId) (rises : PlacesRise all) (falls : PlacesFall (events_for g entity all)) where
-  abbrev mine : Happening → Bool
+module _ {M : Type 0} (decoding : Decoding M) (reliable : Bool) (g : Guid) (first : Since) (all : List EventView) (rank : ℕ) (entity : EntityId) (rises : PlacesRise all) (falls : PlacesFall (events_for g entity all)) where
+  abbrev mine : EventView → Bool
   mine = is_addressed (same_guid g) entity
 
   -- the reader's part of an event
-  part : (w : World M) (before : List Happening) (e : Happening) (left : List Happening) → all ≡ before ++ e ∷ left → HasNumber e.body → InRun decoding reliable g first all rank entity w (e ∷ left)
+  part : (w : World M) (before : List EventView) (e : EventView) (left : List EventView) → all ≡ before ++ e ∷ left → HasNumber e.body → InRun decoding reliable g first all rank entity w (e ∷ left)
       → Does decoding reliable g first (events_for g entity all) (w.readers rank) (notices_by rank w.put) e (filter mine left) (doings w.known rank e)
   part w before e left whole has_number i = by_kind (is_discovery e.writer) refl
     where
@@ -108,7 +108,7 @@ module _ {M : Type 0} (decoding : Decoding M) (reliable : Bool) (g : Guid) (firs
           of_user decoding reliable g first (events_for g entity all) (w.readers rank) (notices_by rank w.put) e (filter mine left) w.known rank i.wish is has_number i.found (i.agrees rank g i.below)
           (subst (λ n. Follows decoding reliable g first (events_for g entity all) (w.readers rank) (notices_by rank w.put) (if is_addressed (same_guid g) n e then e ∷ filter mine left else filter mine left)) (sym i.named) i.follows)
 
-  one_event : (w : World M) (before : List Happening) (e : Happening) (left : List Happening) → all ≡ before ++ e ∷ left → HasNumber e.body → InRun decoding reliable g first all rank entity w (e ∷ left)
+  one_event : (w : World M) (before : List EventView) (e : EventView) (left : List EventView) → all ≡ before ++ e ∷ left → HasNumber e.body → InRun decoding reliable g first all rank entity w (e ∷ left)
       → InRun decoding reliable g first all rank entity (world_after decoding w e) left
   one_event w before e left whole has_number i = record {
     agrees = agrees_after decoding w e i.agrees;
@@ -120,7 +120,7 @@ module _ {M : Type 0} (decoding : Decoding M) (reliable : Bool) (g : Guid) (firs
         (part w before e left whole has_number i);
   }
 
-  all_events : (w : World M) (before left : List Happening) → all ≡ before ++ left → AllByRecursion (λ (e : Happening). HasNumber e.body) left → InRun decoding reliable g first all rank entity w left
+  all_events : (w : World M) (before left : List EventView) → all ≡ before ++ left → AllByRecursion (λ (e : EventView). HasNumber e.body) left → InRun decoding reliable g first all rank entity w left
       → InRun decoding reliable g first all rank entity (world_run decoding w left) []
   all_events w before [] whole numbers i = i
   all_events w before (e ∷ left) whole numbers i =
@@ -131,19 +131,19 @@ module _ {M : Type 0} (decoding : Decoding M) (reliable : Bool) (g : Guid) (firs
 -- a match for which nothing came yet, as reliable as its reader
 abbrev IsFresh : Bool → Option Match → Type 0
 IsFresh reliable None = Unit {0}
-IsFresh reliable (Some m) = (m.whom.reliable ≡ reliable) × (m.past ≡ [])
+IsFresh reliable (Some m) = (m.pairing.reliable ≡ reliable) × (m.past ≡ [])
 
-fresh_more : (g : Guid) (reliable : Bool) (m : Match) (ms : List Match) → m.whom.reliable ≡ reliable → m.past ≡ [] → IsFresh reliable (match_with g ms) → IsFresh reliable (match_with g (begun m ms))
-fresh_more g reliable m ms asks past before = subst (IsFresh reliable) (sym (match_begun g m ms)) (by_test (same_guid m.whom.writer g))
+fresh_more : (g : Guid) (reliable : Bool) (m : Match) (ms : List Match) → m.pairing.reliable ≡ reliable → m.past ≡ [] → IsFresh reliable (match_with g ms) → IsFresh reliable (match_with g (begun m ms))
+fresh_more g reliable m ms asks past before = subst (IsFresh reliable) (sym (match_begun g m ms)) (by_test (same_guid m.pairing.writer g))
   where
     by_test : (b : Bool) → IsFresh reliable (if b then Some m else match_with g ms)
     by_test true = (asks, past)
     by_test false = before
 
-all_fresh : (g : Guid) (own : GuidPrefix) (entity : EntityId) (reliable : Bool) (fixed : List Facts) (ms : List Match) → IsFresh reliable (match_with g ms) → IsFresh reliable (match_with g (all_begun ms (map (whom_of own entity reliable) fixed)))
+all_fresh : (g : Guid) (own : GuidPrefix) (entity : EntityId) (reliable : Bool) (fixed : List Facts) (ms : List Match) → IsFresh reliable (match_with g ms) → IsFresh reliable (match_with g (all_begun ms (map (pairing_of own entity reliable) fixed)))
 all_fresh g own entity reliable [] ms before = before
 all_fresh g own entity reliable (p ∷ fixed) ms before =
-    all_fresh g own entity reliable fixed (begun (fresh (whom_of own entity reliable p)) ms) (fresh_more g reliable (fresh (whom_of own entity reliable p)) ms refl refl before)
+    all_fresh g own entity reliable fixed (begun (fresh (pairing_of own entity reliable p)) ms) (fresh_more g reliable (fresh (pairing_of own entity reliable p)) ms refl refl before)
 
 module _ {M : Type 0} (decoding : Decoding M) (config : Config) (rank : ℕ) (g : Guid) where
   abbrev reliable_there : Bool
@@ -152,7 +152,7 @@ module _ {M : Type 0} (decoding : Decoding M) (config : Config) (rank : ℕ) (g 
   abbrev entity_there : EntityId
   entity_there = entity_of config.readers.items rank
 
-  at_first : (all : List Happening) → rank < length config.readers.items → InRun decoding reliable_there g (first_since config rank g) all rank entity_there (first_world config) all
+  at_first : (all : List EventView) → rank < length config.readers.items → InRun decoding reliable_there g (first_since config rank g) all rank entity_there (first_world config) all
   at_first all below =
       let there = wish_at config.readers.items rank below in
       let many : length (map reader_of config.readers.items) ≡ length config.readers.items = length-map config.readers.items reader_of in
@@ -184,10 +184,10 @@ module _ {M : Type 0} (decoding : Decoding M) (config : Config) (rank : ℕ) (g 
       by_fixed false (Some m) h new = absurd (true≢false h)
 
   -- a rank that no reader has gives out no notice
-  pub none_told : (w : World M) (es : List Happening) → reader_count w ≤ rank → notices_by rank w.put ≡ [] → notices_by rank (world_run decoding w es).put ≡ []
+  pub none_told : (w : World M) (es : List EventView) → reader_count w ≤ rank → notices_by rank w.put ≡ [] → notices_by rank (world_run decoding w es).put ≡ []
   none_told w es past none = ap (notices_by rank) (put_all decoding w es) ∙ notices_by-append rank w.put (run_puts decoding w es) ∙ ap (λ l. l ++ notices_by rank (run_puts decoding w es)) none ∙ run_none decoding w rank es past
 
-  empty_settled : (fixed : Bool) (all : List Happening) → IsSettled decoding reliable_there all (stretch (if fixed then TheStart else Never) [])
+  empty_settled : (fixed : Bool) (all : List EventView) → IsSettled decoding reliable_there all (stretch (if fixed then TheStart else Never) [])
   empty_settled true all = record { unmatched = λ never. refl; matched = λ asks. record { rising = tt; received = tt; passed_over = tt } }
   empty_settled false all = record { unmatched = λ never. refl; matched = λ asks. refl }
 
@@ -195,7 +195,7 @@ module _ {M : Type 0} (decoding : Decoding M) (config : Config) (rank : ℕ) (g 
   run_settled : (datagrams : List (List ℕ)) → AllByRecursion (IsSettled decoding reliable_there (events_in config datagrams rank g)) (stretches_in decoding config datagrams rank g)
   run_settled datagrams = by_count (nat_lt rank (length config.readers.items)) refl
     where
-      es : List Happening
+      es : List EventView
       es = events_from config.own 0 datagrams
 
       by_count : (b : Bool) → nat_lt rank (length config.readers.items) ≡ b → AllByRecursion (IsSettled decoding reliable_there (events_in config datagrams rank g)) (stretches_in decoding config datagrams rank g)

@@ -9,13 +9,13 @@ use Rattle.rtps_discovery.specs.declared.config.FixedMatch.{FixedMatch}
 use Rattle.rtps_discovery.specs.declared.config.ReaderConfig.{ReaderConfig}
 use Rattle.rtps_reader.specs.Reader.{Facts, Reader, first_reader}
 use Rattle.rtps_reader.specs.Standing as reader
-use Rattle.rtps_reader.specs.Standing.{ReaderKept, facts_in}
+use Rattle.rtps_reader.specs.Standing.{ReaderView, facts_in}
 use Rattle.rtps_reader.specs.Listed.{with_writers}
 use Rattle.rtps_types.specs.declared.identity.GuidPrefix.{GuidPrefix}
 use Rattle.rtps_serial.specs.Run.{entity_of, is_reliable, is_reliable_at, reader_first}
 use Rattle.rtps_serial.specs.Seen.{matches_below}
 use Rattle.rtps_types.specs.declared.traffic.WriterFacts.{WriterFacts}
-use Rattle.rtps_proxy.specs.Kept.{Kept}
+use Rattle.rtps_proxy.specs.Kept.{ProxyView}
 use Rattle.rtps_proxy.specs.Matches.{AllStand, Match}
 use Rattle.std.specs.Map.{keys_of}
 use Rattle.rtps_serial.specs.Standing.{AllStandBy, AllStart, StandsFor}
@@ -31,7 +31,7 @@ each_push P xs x n e all one k other below =
     k below
 
 -- one state more
-pub all_stand_push : {M : Type 0} (readers : ℕ → Reader) (given : ℕ → List (Notice M)) (states : List ReaderKept) (s : ReaderKept) (n : ℕ) → length states ≡ n
+pub all_stand_push : {M : Type 0} (readers : ℕ → Reader) (given : ℕ → List (Notice M)) (states : List ReaderView) (s : ReaderView) (n : ℕ) → length states ≡ n
     → AllStandBy readers given states → StandsFor (readers n) (given n) n s → AllStandBy readers given (states ++ s ∷ [])
 all_stand_push readers given states s n e all one rank other below =
     each_push (λ k t. StandsFor (readers k) (given k) k t) states s n e (λ k other less. all k other (omega (arith, less, e))) one rank other (omega (arith, below, length-append states (s ∷ []), e))
@@ -51,9 +51,9 @@ pub put_more : {P : Type 0} (old reports new before one all : List P) → new �
 put_more old reports new before one all put first rest = put ∙ ap (λ l. l ++ one) first ∙ append_assoc old before one ∙ ap (λ l. old ++ l) rest
 
 -- the states below a place are done, and so is the one that is put there
-pub done_more : {M : Type 0} (readers : ℕ → Reader) (given : ℕ → List (Notice M)) (states : List ReaderKept) (at : ℕ) (s : ReaderKept) → at < length states
-    → ((rank : ℕ) (other : ReaderKept) → rank < at → StandsFor (readers rank) (given rank) rank (get_or states rank other)) → StandsFor (readers at) (given at) at s
-    → (rank : ℕ) (other : ReaderKept) → rank < at + 1 → StandsFor (readers rank) (given rank) rank (get_or (set states at s) rank other)
+pub done_more : {M : Type 0} (readers : ℕ → Reader) (given : ℕ → List (Notice M)) (states : List ReaderView) (at : ℕ) (s : ReaderView) → at < length states
+    → ((rank : ℕ) (other : ReaderView) → rank < at → StandsFor (readers rank) (given rank) rank (get_or states rank other)) → StandsFor (readers at) (given at) at s
+    → (rank : ℕ) (other : ReaderView) → rank < at + 1 → StandsFor (readers rank) (given rank) rank (get_or (set states at s) rank other)
 done_more readers given states at s fits done one rank other below =
     below_more (λ k. StandsFor (readers k) (given k) k (get_or (set states at s) k other)) at
     (λ k less. subst (StandsFor (readers k) (given k) k) (sym (get_or-set_other states at k s other (λ e. omega (arith, less, e)))) (done k other less))
@@ -61,17 +61,17 @@ done_more readers given states at s fits done one rank other below =
     rank below
 
 -- the states above it are as they were
-pub left_more : (old states : List ReaderKept) (at : ℕ) (s : ReaderKept)
-    → ((rank : ℕ) (other : ReaderKept) → at ≤ rank → get_or states rank other ≡ get_or old rank other)
-    → (rank : ℕ) (other : ReaderKept) → at + 1 ≤ rank → get_or (set states at s) rank other ≡ get_or old rank other
+pub left_more : (old states : List ReaderView) (at : ℕ) (s : ReaderView)
+    → ((rank : ℕ) (other : ReaderView) → at ≤ rank → get_or states rank other ≡ get_or old rank other)
+    → (rank : ℕ) (other : ReaderView) → at + 1 ≤ rank → get_or (set states at s) rank other ≡ get_or old rank other
 left_more old states at s left rank other above = get_or-set_other states at rank s other (λ e. omega (arith, above, e)) ∙ left rank other (omega (arith, above))
 
 -- matches and what is kept of them have the same writers
-pub same_writers : (ms : List Match) (ss : List (Guid × Kept)) → AllStand ms ss → keys_of ss ≡ map (λ (m : Match). m.whom.writer) ms
+pub same_writers : (ms : List Match) (ss : List (Guid × ProxyView)) → AllStand ms ss → keys_of ss ≡ map (λ (m : Match). m.pairing.writer) ms
 same_writers [] [] all = refl
 same_writers [] (s ∷ ss) all = absurd all
 same_writers (m ∷ ms) [] all = absurd all
-same_writers (m ∷ ms) (s ∷ ss) all = ap (λ (w : Guid). w ∷ keys_of ss) (sym all.0.writer) ∙ ap (λ (l : List Guid). m.whom.writer ∷ l) (same_writers ms ss all.1)
+same_writers (m ∷ ms) (s ∷ ss) all = ap (λ (w : Guid). w ∷ keys_of ss) (sym all.0.writer) ∙ ap (λ (l : List Guid). m.pairing.writer ∷ l) (same_writers ms ss all.1)
 
 -- one fixed match more that is dealt out, where the test says that it is of the rank
 pub fixed_more : {A : Type 0} (b : Bool) (m : FixedMatch) (left : List FixedMatch) (facts : WriterFacts A) (old new : List (WriterFacts A))
@@ -83,7 +83,7 @@ fixed_more true m left facts old new same pushed =
 fixed_more false m left facts old new same pushed = ap (λ l. map facts_in l ++ map (λ (m : FixedMatch). (m.writer, m.locators)) left) pushed
 
 -- one reader more at the start
-pub first_more : (own : GuidPrefix) (readers : List ReaderConfig) (matched : ℕ → List Facts) (states : List ReaderKept) (s : ReaderKept) (n : ℕ) (config : ReaderConfig) (facts : List Facts)
+pub first_more : (own : GuidPrefix) (readers : List ReaderConfig) (matched : ℕ → List Facts) (states : List ReaderView) (s : ReaderView) (n : ℕ) (config : ReaderConfig) (facts : List Facts)
     → length states ≡ n → n < length readers → config ≡ get_or readers n config → facts ≡ matched n
     → reader.StartsAt (first_reader own config.entity (is_reliable config.requested.policies.reliability) facts) s → s.rank ≡ n
     → AllStart (λ rank. reader_first own readers rank (matched rank)) states → AllStart (λ rank. reader_first own readers rank (matched rank)) (states ++ s ∷ [])
@@ -99,7 +99,7 @@ first_more own readers matched states s n config facts e below is same stands ra
     })
 
 -- the matches of one rank more
-pub matches_more : {M : Type 0} (readers : ℕ → Reader) (given : List (Notice M)) (n : ℕ) (state : ReaderKept) (listed : List (ℕ × Guid)) → listed ≡ matches_below readers n → StandsFor (readers n) given n state
+pub matches_more : {M : Type 0} (readers : ℕ → Reader) (given : List (Notice M)) (n : ℕ) (state : ReaderView) (listed : List (ℕ × Guid)) → listed ≡ matches_below readers n → StandsFor (readers n) given n state
     → with_writers listed state.rank (keys_of state.matches) ≡ matches_below readers (n + 1)
 matches_more readers given n state listed e one =
     let next : n + 1 ≡ suc n = omega arith in

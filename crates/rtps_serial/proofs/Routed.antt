@@ -7,23 +7,23 @@ use Rattle.std.specs.Ordering.{is_lt, nat_cmp}
 use Rattle.std.specs.declared.cmp.Ordering.TheVariants.{Less, Equal, Greater}
 use Rattle.std.proofs.lemmas.Bool.Decides.{nat_tests}
 use Rattle.rtps_types.specs.declared.place.Place.{Place}
-use Rattle.rtps_receiver.specs.Events.{Happening}
+use Rattle.rtps_receiver.specs.Events.{EventView}
 use Rattle.rtps_discovery.specs.Addressed.{is_discovery}
 use Rattle.rtps_discovery.specs.Announcement.{Announcement, Comes, Leave, Offers, Withdraws, Asks, AsksNoMore}
 use Rattle.rtps_discovery.specs.Changes.{known_run}
 use Rattle.rtps_discovery.specs.Known.{Known, Wish, known_after, reader_at}
 use Rattle.rtps_discovery.specs.Records.{announcements, answered, known_by, noted}
-use Rattle.rtps_proxy.specs.Replies.{Sent}
+use Rattle.rtps_proxy.specs.Replies.{ReplyView}
 use Rattle.dds_topic.specs.Decoding.{Decoding}
 use Rattle.rtps_reader.specs.Reader.{Reader, reader_after, reader_run}
-use Rattle.rtps_reader.specs.Standing.{ReaderKept}
-use Rattle.rtps_reader.specs.Steps.{Doing}
+use Rattle.rtps_reader.specs.Standing.{ReaderView}
+use Rattle.rtps_reader.specs.Steps.{StepView}
 use Rattle.rtps_serial.specs.declared.outcome.Report.{Report}
 use Rattle.rtps_serial.specs.Outcome.{report_view}
 use Rattle.rtps_serial.specs.Seen.{notices_by, reader_count}
 use Rattle.rtps_serial.specs.Standing.{AllKnown, ReadersStand, StandsFor}
 use Rattle.rtps_serial.specs.Steps.{ReaderStep, step_puts, steps_run, world_stepped}
-use Rattle.rtps_serial.specs.World.{Put, World, answer_put, discovery_puts, doings, known_after_event, puts_at, puts_below, puts_run, world_after}
+use Rattle.rtps_serial.specs.World.{ReportView, World, answer_put, discovery_puts, doings, known_after_event, puts_at, puts_below, puts_run, world_after}
 use Rattle.rtps_serial.proofs.Dealt.{notices_by-append}
 use Rattle.rtps_serial.proofs.OneOrder.{Rises, filter_none}
 use Rattle.rtps_serial.proofs.Reached.{same_entity}
@@ -62,7 +62,7 @@ sums_first g h first rank (suc n) below none here others = by_test (n == rank) r
 
 -- ---- the steps of one rank
 
-abbrev pub asks_for : ℕ → List ReaderStep → List Doing
+abbrev pub asks_for : ℕ → List ReaderStep → List StepView
 asks_for rank ss = map (λ (s : ReaderStep). s.what) (filter (λ (s : ReaderStep). s.rank == rank) ss)
 
 asks_here : (s : ReaderStep) (ss : List ReaderStep) → asks_for s.rank (s ∷ ss) ≡ s.what ∷ asks_for s.rank ss
@@ -118,7 +118,7 @@ none_below s ss k less h =
     ∙ ap (map (λ (s : ReaderStep). s.what)) (filter_none (λ (s : ReaderStep). s.rank == k) ss (above s ss k less h))
 
 -- what steps put out, by rank
-abbrev pub parts : {M : Type 0} → Decoding M → Place → (ℕ → Reader) → List ReaderStep → ℕ → List (Put M)
+abbrev pub parts : {M : Type 0} → Decoding M → Place → (ℕ → Reader) → List ReaderStep → ℕ → List (ReportView M)
 parts d place readers ss rank = puts_run d place rank (readers rank) (asks_for rank ss)
 
 less_is : (m n : ℕ) → m < n → nat_lt m n ≡ true
@@ -135,10 +135,10 @@ put_of_steps {M} d place w (s ∷ ss) up =
     ∙ append_assoc w.put (step_puts d place w s) (sums more (reader_count w))
     ∙ ap (λ l. w.put ++ l) (by_test (nat_lt s.rank (reader_count w)) refl)
   where
-    all : ℕ → List (Put M)
+    all : ℕ → List (ReportView M)
     all = parts d place w.readers (s ∷ ss)
 
-    more : ℕ → List (Put M)
+    more : ℕ → List (ReportView M)
     more = parts d place (world_stepped d place w s).readers ss
 
     others : (k : ℕ) → k ≢ s.rank → all k ≡ more k
@@ -175,19 +175,19 @@ readers_if : (b : Bool) (j k : Known) → j.readers ≡ k.readers → (if b then
 readers_if true j k e = e
 readers_if false j k e = refl
 
-pub readers_stay : (k : Known) (e : Happening) → (known_after_event k e).readers ≡ k.readers
+pub readers_stay : (k : Known) (e : EventView) → (known_after_event k e).readers ≡ k.readers
 readers_stay k e = readers_if (is_discovery e.writer) (known_by k e) k (readers_run (noted k e) (announcements k e) ∙ readers_if _ _ k refl)
 
 -- discovery's part of an event, before the readers' part
-abbrev pub discovered : {M : Type 0} → World M → Happening → World M
+abbrev pub discovered : {M : Type 0} → World M → EventView → World M
 discovered w e = record { known = known_after_event w.known e; readers = w.readers; put = w.put ++ discovery_puts w.known e }
 
-below_sums : {M : Type 0} (d : Decoding M) (k : Known) (e : Happening) (readers : ℕ → Reader) (n : ℕ) → puts_below d k e readers n ≡ sums (λ rank. puts_run d e.place rank (readers rank) (doings k rank e)) n
+below_sums : {M : Type 0} (d : Decoding M) (k : Known) (e : EventView) (readers : ℕ → Reader) (n : ℕ) → puts_below d k e readers n ≡ sums (λ rank. puts_run d e.place rank (readers rank) (doings k rank e)) n
 below_sums d k e readers zero = refl
 below_sums d k e readers (suc n) = ap (λ l. l ++ puts_run d e.place n (readers n) (doings k n e)) (below_sums d k e readers n)
 
 -- steps by rising rank that ask what the event asks of each reader make of the world what the event does
-pub event_put : {M : Type 0} (d : Decoding M) (w : World M) (e : Happening) (ss : List ReaderStep) → Rises comes_before ss
+pub event_put : {M : Type 0} (d : Decoding M) (w : World M) (e : EventView) (ss : List ReaderStep) → Rises comes_before ss
     → ((rank : ℕ) → rank < reader_count w → asks_for rank ss ≡ doings w.known rank e) → (world_after d w e).put ≡ (steps_run d e.place (discovered w e) ss).put
 event_put d w e ss up same =
     let n : length (known_after_event w.known e).readers ≡ reader_count w = ap length (readers_stay w.known e) in
@@ -198,7 +198,7 @@ event_put d w e ss up same =
     ∙ ap (sums (parts d e.place w.readers ss)) (sym n))
     ∙ sym (put_of_steps d e.place (discovered w e) ss up)
 
-pub event_stands : {V M A : Type 0} (view : V → M) (d : Decoding M) (w : World M) (e : Happening) (ss : List ReaderStep) (earlier : List (Put M)) (states : List ReaderKept) (reports : List (Report V A)) → Rises comes_before ss
+pub event_stands : {V M A : Type 0} (view : V → M) (d : Decoding M) (w : World M) (e : EventView) (ss : List ReaderStep) (earlier : List (ReportView M)) (states : List ReaderView) (reports : List (Report V A)) → Rises comes_before ss
     → ((rank : ℕ) → rank < reader_count w → asks_for rank ss ≡ doings w.known rank e)
     → ReadersStand view (steps_run d e.place (discovered w e) ss) earlier states reports → ReadersStand view (world_after d w e) earlier states reports
 event_stands {V} {M} {A} view d w e ss earlier states reports up same stands =
@@ -212,21 +212,21 @@ event_stands {V} {M} {A} view d w e ss earlier states reports up same stands =
           let below : rank < reader_count w = omega (arith, less, stands.count, count) in
           let is : v.readers rank ≡ reader_run (w.readers rank) (doings w.known rank e) = reader_of_steps d e.place (discovered w e) ss rank ∙ ap (reader_run (w.readers rank)) (same rank below) in
           subst (λ (r : Reader). StandsFor r (notices_by rank (world_after d w e).put) rank (get_or states rank other)) is
-          (subst (λ (l : List (Put M)). StandsFor (v.readers rank) (notices_by rank l) rank (get_or states rank other)) (sym put) (stands.readers rank other less));
+          (subst (λ (l : List (ReportView M)). StandsFor (v.readers rank) (notices_by rank l) rank (get_or states rank other)) (sym put) (stands.readers rank other less));
       put = put ∙ stands.put;
     }
 
 -- discovery's part puts out no notice
-no_notice : {M : Type 0} (w : World M) (e : Happening) (rank : ℕ) → notices_by rank (discovery_puts {M = M} w.known e) ≡ []
+no_notice : {M : Type 0} (w : World M) (e : EventView) (rank : ℕ) → notices_by rank (discovery_puts {M = M} w.known e) ≡ []
 no_notice {M} w e rank = by_test (is_discovery e.writer) (answered w.known e)
   where
-    by_test : (b : Bool) (o : Option Sent) → notices_by rank (if b then answer_put {M = M} e.place o else []) ≡ []
+    by_test : (b : Bool) (o : Option ReplyView) → notices_by rank (if b then answer_put {M = M} e.place o else []) ≡ []
     by_test true None = refl
     by_test true (Some s) = refl
     by_test false o = refl
 
 -- the readers stay as they are at discovery's part
-pub discovered_stands : {V M A : Type 0} (view : V → M) (w : World M) (e : Happening) (earlier : List (Put M)) (states : List ReaderKept) (reports more : List (Report V A))
+pub discovered_stands : {V M A : Type 0} (view : V → M) (w : World M) (e : EventView) (earlier : List (ReportView M)) (states : List ReaderView) (reports more : List (Report V A))
     → ReadersStand view w earlier states reports → map (report_view view) more ≡ map (report_view view) reports ++ discovery_puts w.known e → ReadersStand view (discovered w e) earlier states more
 discovered_stands {V} {M} {A} view w e earlier states reports more stands put =
     let same : length (known_after_event w.known e).readers ≡ reader_count w = ap length (readers_stay w.known e) in
@@ -238,12 +238,12 @@ discovered_stands {V} {M} {A} view w e earlier states reports more stands put =
       put = ap (λ l. l ++ discovery_puts w.known e) stands.put ∙ append_assoc earlier (map (report_view view) reports) (discovery_puts w.known e) ∙ ap (λ l. earlier ++ l) (sym put);
     }
 
-same_entities : (r : Reader) (ds : List Doing) → (reader_run r ds).entity ≡ r.entity
+same_entities : (r : Reader) (ds : List StepView) → (reader_run r ds).entity ≡ r.entity
 same_entities r [] = refl
 same_entities r (d ∷ ds) = same_entities (reader_after r d) ds ∙ same_entity r d
 
 -- the readers stay known, and by the same entities
-pub named_after : {M : Type 0} (d : Decoding M) (w : World M) (e : Happening) → AllKnown w → AllKnown (world_after d w e)
+pub named_after : {M : Type 0} (d : Decoding M) (w : World M) (e : EventView) → AllKnown w → AllKnown (world_after d w e)
 named_after d w e named rank below =
     let less : rank < reader_count w = omega (arith, below, ap length (readers_stay w.known e)) in
     ap (λ l. option_map (λ (r : Wish). r.entity) (reader_at l rank)) (readers_stay w.known e) ∙ named rank less ∙ ap Some (sym (same_entities (w.readers rank) (doings w.known rank e)))

@@ -5,7 +5,7 @@ use Rattle.std.specs.Option.{option_map}
 use Rattle.std.proofs.lemmas.List.{length-map, take_more}
 use Rattle.rtps_types.specs.declared.identity.EntityId.{EntityId}
 use Rattle.rtps_types.specs.declared.identity.GuidPrefix.{GuidPrefix}
-use Rattle.rtps_receiver.specs.Events.{Happening, events_of}
+use Rattle.rtps_receiver.specs.Events.{EventView, events_of}
 use Rattle.rtps_discovery.specs.declared.config.Config.{Config}
 use Rattle.rtps_discovery.specs.declared.config.ReaderConfig.{ReaderConfig}
 use Rattle.rtps_discovery.specs.Known.{Wish, reader_at}
@@ -17,17 +17,17 @@ use Rattle.rtps_serial.specs.Seen.{reader_count}
 use Rattle.rtps_serial.specs.Standing.{AllKnown}
 use Rattle.rtps_serial.proofs.Routed.{named_after, readers_stay}
 
-pub world_run-append : {M : Type 0} (decoding : Decoding M) (w : World M) (xs ys : List Happening) → world_run decoding w (xs ++ ys) ≡ world_run decoding (world_run decoding w xs) ys
+pub world_run-append : {M : Type 0} (decoding : Decoding M) (w : World M) (xs ys : List EventView) → world_run decoding w (xs ++ ys) ≡ world_run decoding (world_run decoding w xs) ys
 world_run-append decoding w [] ys = refl
 world_run-append decoding w (x ∷ xs) ys = world_run-append decoding (world_after decoding w x) xs ys
 
 -- one event more
-pub world_run_more : {M : Type 0} (decoding : Decoding M) (w : World M) (es : List Happening) (i : ℕ) (d : Happening) → i < length es
+pub world_run_more : {M : Type 0} (decoding : Decoding M) (w : World M) (es : List EventView) (i : ℕ) (d : EventView) → i < length es
     → world_run decoding w (take (i + 1) es) ≡ world_after decoding (world_run decoding w (take i es)) (get_or es i d)
 world_run_more decoding w es i d h = ap (world_run decoding w) (take_more es i d h) ∙ world_run-append decoding w (take i es) (get_or es i d ∷ [])
 
 -- no event changes how many readers there are
-pub count_stays : {M : Type 0} (decoding : Decoding M) (w : World M) (es : List Happening) → reader_count (world_run decoding w es) ≡ reader_count w
+pub count_stays : {M : Type 0} (decoding : Decoding M) (w : World M) (es : List EventView) → reader_count (world_run decoding w es) ≡ reader_count w
 count_stays decoding w [] = refl
 count_stays decoding w (e ∷ es) = count_stays decoding (world_after decoding w e) es ∙ ap length (readers_stay w.known e)
 
@@ -70,7 +70,7 @@ first_named readers rank below =
     let there = wish_at readers rank (omega (arith, below, length-map readers reader_of)) in
     ap (option_map (λ (r : Wish). r.entity)) there.found ∙ ap (λ (e : EntityId). Some e) there.named
 
-all_named : {M : Type 0} (decoding : Decoding M) (w : World M) (es : List Happening) → AllKnown w → AllKnown (world_run decoding w es)
+all_named : {M : Type 0} (decoding : Decoding M) (w : World M) (es : List EventView) → AllKnown w → AllKnown (world_run decoding w es)
 all_named decoding w [] named = named
 all_named decoding w (e ∷ es) named = all_named decoding (world_after decoding w e) es (named_after decoding w e named)
 

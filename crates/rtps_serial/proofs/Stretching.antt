@@ -7,11 +7,11 @@ use Rattle.std.proofs.Math.Bool.{and-false}
 use Rattle.rtps_types.specs.SequenceNumber.{IsNumber}
 use Rattle.rtps_types.specs.declared.identity.Guid.{Guid}
 use Rattle.rtps_types.specs.declared.place.Place.{Place}
-use Rattle.rtps_receiver.specs.Events.{Happening}
+use Rattle.rtps_receiver.specs.Events.{EventView}
 use Rattle.rtps_discovery.specs.Addressed.{writer_of}
 use Rattle.rtps_discovery.specs.Changes.{Becomes, ChangeAt, Matches, Unmatches, Refuses}
 use Rattle.rtps_proxy.specs.Effects.{ready_of}
-use Rattle.rtps_proxy.specs.History.{Came, Sample}
+use Rattle.rtps_proxy.specs.History.{MatchEvent, ChangeView, match_event_of}
 use Rattle.rtps_proxy.specs.Matches.{Match, match_with, same_guid}
 use Rattle.rtps_proxy.specs.Presentation.{Brings}
 use Rattle.rtps_proxy.specs.Received.{ready}
@@ -20,11 +20,11 @@ use Rattle.rtps_proxy.proofs.Presenting.{ready_brought}
 use Rattle.dds_topic.specs.Decoding.{Decoding}
 use Rattle.rtps_reader.specs.declared.notice.Notice.{Notice}
 use Rattle.rtps_reader.specs.declared.notice.NoticeKind.{NoticeKind}
-use Rattle.rtps_reader.specs.declared.notice.NoticeKind.TheVariants.{Sample as ASample, Matched, Unmatched, Incompatible, Lost}
+use Rattle.rtps_reader.specs.declared.notice.NoticeKind.TheVariants.{ChangeView as ASample, Matched, Unmatched, Incompatible, Lost}
 use Rattle.rtps_reader.specs.Reader.{Reader, fresh_with, loses, lost_at, presented, reader_after, reader_run, ready_at, tells, told_of}
 use Rattle.rtps_reader.specs.Steps.{Takes, Begins, Ends, asks_of}
 use Rattle.rtps_reader.proofs.Begun.{match_begun, same_self}
-use Rattle.rtps_serial.specs.Presentation.{ArePresented, IsPresented, PresentedSince, Shown, Since, TheStart, ThePlace, Never, Stretch, came_of, events_after, shown_first, shown_in, stretch, stretches, stretches_by}
+use Rattle.rtps_serial.specs.Presentation.{ArePresented, IsPresented, PresentedSince, Shown, Since, TheStart, ThePlace, Never, Stretch, events_after, shown_first, shown_in, stretch, stretches, stretches_by}
 use Rattle.rtps_serial.specs.World.{doing_of}
 use Rattle.rtps_serial.proofs.Matched.{either_way, ended_match, extend, extended_match, other_way, samples_told, told_by_other, told_run}
 use Rattle.rtps_serial.proofs.Places.{PlacesFall, all_append, all_weaker, later_fall}
@@ -73,7 +73,7 @@ uncut {M} g since (n ∷ ns) ys all = by_writer (same_guid n.writer g) all.0 (un
     by_writer false h rest = rest
 
 -- what a reader reports of an event begins and ends no match
-pub told_uncut : {M : Type 0} (decoding : Decoding M) (place : Place) (g w : Guid) (c : Came) (o : Option Match) → AllByRecursion (λ n. is_cut g n ≡ false) (told_of decoding place w c o)
+pub told_uncut : {M : Type 0} (decoding : Decoding M) (place : Place) (g w : Guid) (c : MatchEvent) (o : Option Match) → AllByRecursion (λ n. is_cut g n ≡ false) (told_of decoding place w c o)
 told_uncut decoding place g w c None = tt
 told_uncut {M} decoding place g w c (Some m) =
     all_append (λ (n : Notice M). is_cut g n ≡ false) (loses place w (lost_at m c)) (map (presented decoding place w) (ready_at m c)) (no_losses (lost_at m c == 0)) (of_samples (ready_at m c))
@@ -82,38 +82,38 @@ told_uncut {M} decoding place g w c (Some m) =
     no_losses true = tt
     no_losses false = (and-false (same_guid w g), tt)
 
-    of_samples : (ss : List Sample) → AllByRecursion (λ (n : Notice M). is_cut g n ≡ false) (map (presented decoding place w) ss)
+    of_samples : (ss : List ChangeView) → AllByRecursion (λ (n : Notice M). is_cut g n ≡ false) (map (presented decoding place w) ss)
     of_samples [] = tt
     of_samples (s ∷ ss) = (and-false (same_guid w g), of_samples ss)
 
 -- ---- a reader, step by step
 
 -- a stretch that is over: of a reliable reader it is presented against these submessages for the match
-pub record IsSettled {M : Type 0} (decoding : Decoding M) (reliable : Bool) (all : List Happening) (s : Stretch M) : Type 0 where
+pub record IsSettled {M : Type 0} (decoding : Decoding M) (reliable : Bool) (all : List EventView) (s : Stretch M) : Type 0 where
   pub unmatched : s.since ≡ Never → s.samples ≡ []
   pub matched : reliable ≡ true → IsPresented decoding all s
 
 -- these are the submessages since then
-abbrev IsSince : Since → List Happening → List Happening → Type 0
+abbrev IsSince : Since → List EventView → List EventView → Type 0
 IsSince TheStart all es = all ≡ es
 IsSince (ThePlace place) all es = events_after place all ≡ es
 IsSince Never all es = ⊥
 
 -- a match that goes on: what came for it, the newest first, and what is left are its submessages since it began
-pub record GoesOn {M : Type 0} (decoding : Decoding M) (reliable : Bool) (all left : List Happening) (since : Since) (shown : List (Shown M)) (m : Match) : Type 0 where
-  pub mine : List Happening
-  pub past : m.past ≡ map came_of mine
-  pub asks : m.whom.reliable ≡ reliable
-  pub numbers : AllByRecursion (λ (e : Happening). HasNumber e.body) mine
+pub record GoesOn {M : Type 0} (decoding : Decoding M) (reliable : Bool) (all left : List EventView) (since : Since) (shown : List (Shown M)) (m : Match) : Type 0 where
+  pub mine : List EventView
+  pub past : m.past ≡ map match_event_of mine
+  pub asks : m.pairing.reliable ≡ reliable
+  pub numbers : AllByRecursion (λ (e : EventView). HasNumber e.body) mine
   pub given : reliable ≡ true → shown ≡ shown_after decoding mine
   pub events : IsSince since all (reverse_aux left mine)
 
-abbrev pub IsNow : {M : Type 0} → Decoding M → Bool → List Happening → List Happening → Since → List (Shown M) → Option Match → Type 0
+abbrev pub IsNow : {M : Type 0} → Decoding M → Bool → List EventView → List EventView → Since → List (Shown M) → Option Match → Type 0
 IsNow decoding reliable all left since shown None = (since ≡ Never) × (shown ≡ [])
 IsNow decoding reliable all left since shown (Some m) = GoesOn decoding reliable all left since shown m
 
 -- a reader gave out these notices, and these submessages for the match with the writer are left
-pub record Follows {M : Type 0} (decoding : Decoding M) (reliable : Bool) (g : Guid) (first : Since) (all : List Happening) (r : Reader) (given : List (Notice M)) (left : List Happening) : Type 0 where
+pub record Follows {M : Type 0} (decoding : Decoding M) (reliable : Bool) (g : Guid) (first : Since) (all : List EventView) (r : Reader) (given : List (Notice M)) (left : List EventView) : Type 0 where
   pub asks : r.reliable ≡ reliable
   -- the stretches that are over, and the one that goes on
   pub over : List (Stretch M)
@@ -124,7 +124,7 @@ pub record Follows {M : Type 0} (decoding : Decoding M) (reliable : Bool) (g : G
   pub now : IsNow decoding reliable all left since shown (match_with g r.matches)
 
 -- a stretch is settled once it is over
-settles : {M : Type 0} (decoding : Decoding M) (reliable : Bool) (all left : List Happening) (since : Since) (shown : List (Shown M)) (o : Option Match)
+settles : {M : Type 0} (decoding : Decoding M) (reliable : Bool) (all left : List EventView) (since : Since) (shown : List (Shown M)) (o : Option Match)
     → PlacesFall all → IsNow decoding reliable all left since shown o → IsSettled decoding reliable all (stretch since shown)
 settles decoding reliable all left since shown None falls now = record {
   unmatched = λ never. now.1;
@@ -132,7 +132,7 @@ settles decoding reliable all left since shown None falls now = record {
 }
 settles {M} decoding reliable all left since shown (Some m) falls now = by_since since now.events
   where
-    shows : (es : List Happening) → PlacesFall es → es ≡ reverse_aux left now.mine → reliable ≡ true → ArePresented decoding es shown
+    shows : (es : List EventView) → PlacesFall es → es ≡ reverse_aux left now.mine → reliable ≡ true → ArePresented decoding es shown
     shows es down is asks =
         subst (λ (l : List (Shown M)). ArePresented decoding es l) (sym (now.given asks))
         (subst (λ l. ArePresented decoding l (shown_after decoding now.mine)) (sym is) (first_presented decoding left now.mine (subst PlacesFall is down)))
@@ -142,9 +142,9 @@ settles {M} decoding reliable all left since shown (Some m) falls now = by_since
     by_since (ThePlace place) is = record { unmatched = λ never. absurd cc; matched = λ asks. shows (events_after place all) (later_fall place all falls) is asks }
     by_since Never is = absurd is
 
-module _ {M : Type 0} (decoding : Decoding M) (reliable : Bool) (g : Guid) (first : Since) (all : List Happening) where
+module _ {M : Type 0} (decoding : Decoding M) (reliable : Bool) (g : Guid) (first : Since) (all : List EventView) where
   -- notices that begin and end no match of the writer
-  more_shown : (r s : Reader) (given ns : List (Notice M)) (left rest : List Happening) (f : Follows decoding reliable g first all r given left) → s.reliable ≡ r.reliable
+  more_shown : (r s : Reader) (given ns : List (Notice M)) (left rest : List EventView) (f : Follows decoding reliable g first all r given left) → s.reliable ≡ r.reliable
       → AllByRecursion (λ n. is_cut g n ≡ false) ns → IsNow decoding reliable all rest f.since (f.shown ++ samples_of g ns) (match_with g s.matches)
       → Follows decoding reliable g first all s (given ++ ns) rest
   more_shown r s given ns left rest f same whole now = record {
@@ -161,7 +161,7 @@ module _ {M : Type 0} (decoding : Decoding M) (reliable : Bool) (g : Guid) (firs
   }
 
   -- a step that leaves the match, and presents nothing of it
-  left_alone : (r s : Reader) (given ns : List (Notice M)) (left : List Happening) → Follows decoding reliable g first all r given left → s.reliable ≡ r.reliable
+  left_alone : (r s : Reader) (given ns : List (Notice M)) (left : List EventView) → Follows decoding reliable g first all r given left → s.reliable ≡ r.reliable
       → match_with g s.matches ≡ match_with g r.matches → AllByRecursion (λ n. is_cut g n ≡ false) ns → samples_of g ns ≡ []
       → Follows decoding reliable g first all s (given ++ ns) left
   left_alone r s given ns left f same still whole none =
@@ -170,7 +170,7 @@ module _ {M : Type 0} (decoding : Decoding M) (reliable : Bool) (g : Guid) (firs
       (subst (λ (o : Option Match). IsNow decoding reliable all left f.since f.shown o) (sym still) f.now))
 
   -- one that begins or ends the match
-  anew : (r s : Reader) (given : List (Notice M)) (n : Notice M) (left : List Happening) (since : Since) → PlacesFall all → Follows decoding reliable g first all r given left → s.reliable ≡ r.reliable
+  anew : (r s : Reader) (given : List (Notice M)) (n : Notice M) (left : List EventView) (since : Since) → PlacesFall all → Follows decoding reliable g first all r given left → s.reliable ≡ r.reliable
       → ((old : Since) (ys : List (Notice M)) → stretches g old (n ∷ ys) ≡ stretch old [] ∷ stretches g since ys)
       → IsNow decoding reliable all left since [] (match_with g s.matches)
       → Follows decoding reliable g first all s (given ++ n ∷ []) left
@@ -190,7 +190,7 @@ module _ {M : Type 0} (decoding : Decoding M) (reliable : Bool) (g : Guid) (firs
   }
 
   -- a change of what is known, at a place after which these submessages are left
-  follows_change : (place : Place) (r : Reader) (given : List (Notice M)) (left : List Happening) (x : Becomes) → PlacesFall all → events_after place all ≡ reverse_aux left []
+  follows_change : (place : Place) (r : Reader) (given : List (Notice M)) (left : List EventView) (x : Becomes) → PlacesFall all → events_after place all ≡ reverse_aux left []
       → Follows decoding reliable g first all r given left → Follows decoding reliable g first all (reader_after r (doing_of x)) (given ++ tells decoding r place (doing_of x)) left
   follows_change place r given left (Matches w ls) falls here f = by_writer (same_guid w g) refl
     where
@@ -225,7 +225,7 @@ module _ {M : Type 0} (decoding : Decoding M) (reliable : Bool) (g : Guid) (firs
       none = []
 
   -- all changes of an event, one after the other
-  pub follows_changes : (place : Place) (r : Reader) (given : List (Notice M)) (left : List Happening) (cs : List ChangeAt) → PlacesFall all → events_after place all ≡ reverse_aux left []
+  pub follows_changes : (place : Place) (r : Reader) (given : List (Notice M)) (left : List EventView) (cs : List ChangeAt) → PlacesFall all → events_after place all ≡ reverse_aux left []
       → Follows decoding reliable g first all r given left
       → Follows decoding reliable g first all (reader_run r (map (λ c. doing_of c.what) cs)) (given ++ told_run decoding place r (map (λ c. doing_of c.what) cs)) left
   follows_changes place r given left [] falls here f = subst (λ ns. Follows decoding reliable g first all r ns left) (sym (append-nil given)) f
@@ -234,37 +234,37 @@ module _ {M : Type 0} (decoding : Decoding M) (reliable : Bool) (g : Guid) (firs
       (append_assoc given (tells decoding r place (doing_of c.what)) (told_run decoding place (reader_after r (doing_of c.what)) (map (λ (c : ChangeAt). doing_of c.what) cs)))
       (follows_changes place (reader_after r (doing_of c.what)) (given ++ tells decoding r place (doing_of c.what)) left cs falls here (follows_change place r given left c.what falls here f))
 
-  ready_is : (m : Match) (past : List Came) (c : Came) → m.whom.reliable ≡ true → m.past ≡ past → ready_at m c ≡ ready past c
+  ready_is : (m : Match) (past : List MatchEvent) (c : MatchEvent) → m.pairing.reliable ≡ true → m.past ≡ past → ready_at m c ≡ ready past c
   ready_is m past c asks came = ap (λ b. ready_of b m.past c) asks ∙ ap (λ p. ready p c) came
 
   -- a submessage for the match comes
-  next_shown : (e : Happening) (m : Match) (shown_so_far : List (Shown M)) (mine : List Happening) → HasNumber e.body → AllByRecursion (λ (e : Happening). HasNumber e.body) mine
-      → m.past ≡ map came_of mine → m.whom.reliable ≡ true → shown_so_far ≡ shown_after decoding mine
-      → shown_so_far ++ samples_of g (told_of decoding e.place g (came_of e) (Some m)) ≡ shown_after decoding (e ∷ mine)
+  next_shown : (e : EventView) (m : Match) (shown_so_far : List (Shown M)) (mine : List EventView) → HasNumber e.body → AllByRecursion (λ (e : EventView). HasNumber e.body) mine
+      → m.past ≡ map match_event_of mine → m.pairing.reliable ≡ true → shown_so_far ≡ shown_after decoding mine
+      → shown_so_far ++ samples_of g (told_of decoding e.place g (match_event_of e) (Some m)) ≡ shown_after decoding (e ∷ mine)
   next_shown e m shown_so_far mine has numbers past asks given =
-      ap (λ l. l ++ samples_of g (told_of decoding e.place g (came_of e) (Some m))) given
+      ap (λ l. l ++ samples_of g (told_of decoding e.place g (match_event_of e) (Some m))) given
       ∙ ap (λ l. shown_after decoding mine ++ l)
-      (samples_told decoding e.place g (came_of e) m numbered ∙ ap (map (shown decoding e.place)) (ready_is m (map came_of mine) (came_of e) asks past))
+      (samples_told decoding e.place g (match_event_of e) m numbered ∙ ap (map (shown decoding e.place)) (ready_is m (map match_event_of mine) (match_event_of e) asks past))
     where
-      numbered : AllByRecursion (λ (s : Sample). IsNumber s.number) (ready_at m (came_of e))
-      numbered = subst (AllByRecursion (λ (s : Sample). IsNumber s.number)) (sym (ready_is m (map came_of mine) (came_of e) asks past))
-          (all_weaker (Brings (came_of e ∷ map came_of mine)) (λ (s : Sample). IsNumber s.number) (ready (map came_of mine) (came_of e)) (λ s b. brought_number (e ∷ mine) s (has, numbers) b) (ready_brought (map came_of mine) (came_of e)))
+      numbered : AllByRecursion (λ (s : ChangeView). IsNumber s.number) (ready_at m (match_event_of e))
+      numbered = subst (AllByRecursion (λ (s : ChangeView). IsNumber s.number)) (sym (ready_is m (map match_event_of mine) (match_event_of e) asks past))
+          (all_weaker (Brings (match_event_of e ∷ map match_event_of mine)) (λ (s : ChangeView). IsNumber s.number) (ready (map match_event_of mine) (match_event_of e)) (λ s b. brought_number (e ∷ mine) s (has, numbers) b) (ready_brought (map match_event_of mine) (match_event_of e)))
 
-  taken_own : (e : Happening) (r : Reader) (given : List (Notice M)) (left : List Happening) → HasNumber e.body → Follows decoding reliable g first all r given (e ∷ left)
-      → Follows decoding reliable g first all (reader_after r (Takes g (came_of e))) (given ++ told_of decoding e.place g (came_of e) (match_with g r.matches)) left
+  taken_own : (e : EventView) (r : Reader) (given : List (Notice M)) (left : List EventView) → HasNumber e.body → Follows decoding reliable g first all r given (e ∷ left)
+      → Follows decoding reliable g first all (reader_after r (Takes g (match_event_of e))) (given ++ told_of decoding e.place g (match_event_of e) (match_with g r.matches)) left
   taken_own e r given left has f =
-      more_shown r (reader_after r (Takes g (came_of e))) given (told_of decoding e.place g (came_of e) (match_with g r.matches)) (e ∷ left) left f refl
-      (told_uncut decoding e.place g g (came_of e) (match_with g r.matches))
-      (subst (λ (o : Option Match). IsNow decoding reliable all left f.since (f.shown ++ samples_of g (told_of decoding e.place g (came_of e) (match_with g r.matches))) o)
-      (sym (extended_match g g (came_of e) r.matches ∙ ap (λ t. if t then option_map (extend (came_of e)) (match_with g r.matches) else match_with g r.matches) (same_self g)))
+      more_shown r (reader_after r (Takes g (match_event_of e))) given (told_of decoding e.place g (match_event_of e) (match_with g r.matches)) (e ∷ left) left f refl
+      (told_uncut decoding e.place g g (match_event_of e) (match_with g r.matches))
+      (subst (λ (o : Option Match). IsNow decoding reliable all left f.since (f.shown ++ samples_of g (told_of decoding e.place g (match_event_of e) (match_with g r.matches))) o)
+      (sym (extended_match g g (match_event_of e) r.matches ∙ ap (λ t. if t then option_map (extend (match_event_of e)) (match_with g r.matches) else match_with g r.matches) (same_self g)))
       (by_match (match_with g r.matches) f.now))
     where
       by_match : (o : Option Match) → IsNow decoding reliable all (e ∷ left) f.since f.shown o
-          → IsNow decoding reliable all left f.since (f.shown ++ samples_of g (told_of decoding e.place g (came_of e) o)) (option_map (extend (came_of e)) o)
+          → IsNow decoding reliable all left f.since (f.shown ++ samples_of g (told_of decoding e.place g (match_event_of e) o)) (option_map (extend (match_event_of e)) o)
       by_match None now = (now.0, append-nil f.shown ∙ now.1)
       by_match (Some m) now = record {
         mine = e ∷ now.mine;
-        past = ap (λ (l : List Came). came_of e ∷ l) now.past;
+        past = ap (λ (l : List MatchEvent). match_event_of e ∷ l) now.past;
         asks = now.asks;
         numbers = (has, now.numbers);
         given = λ asks. next_shown e m f.shown now.mine has now.numbers now.past (now.asks ∙ asks) (now.given asks);
@@ -272,15 +272,15 @@ module _ {M : Type 0} (decoding : Decoding M) (reliable : Bool) (g : Guid) (firs
       }
 
   -- an event of the writer for the reader
-  pub follows_taken : (e : Happening) (r : Reader) (given : List (Notice M)) (left : List Happening) → HasNumber e.body → same_guid g (writer_of e) ≡ true
+  pub follows_taken : (e : EventView) (r : Reader) (given : List (Notice M)) (left : List EventView) → HasNumber e.body → same_guid g (writer_of e) ≡ true
       → Follows decoding reliable g first all r given (e ∷ left)
       → Follows decoding reliable g first all (reader_after r (asks_of e)) (given ++ tells decoding r e.place (asks_of e)) left
   follows_taken e r given left has is f =
-      subst (λ w. Follows decoding reliable g first all (reader_after r (Takes w (came_of e))) (given ++ told_of decoding e.place w (came_of e) (match_with w r.matches)) left)
+      subst (λ w. Follows decoding reliable g first all (reader_after r (Takes w (match_event_of e))) (given ++ told_of decoding e.place w (match_event_of e) (match_with w r.matches)) left)
       (same_is g (writer_of e) is) (taken_own e r given left has f)
 
   -- one that the reader isn't given, since there is no match
-  pub follows_missed : (e : Happening) (r : Reader) (given : List (Notice M)) (left : List Happening) → match_with g r.matches ≡ None
+  pub follows_missed : (e : EventView) (r : Reader) (given : List (Notice M)) (left : List EventView) → match_with g r.matches ≡ None
       → Follows decoding reliable g first all r given (e ∷ left) → Follows decoding reliable g first all r given left
   follows_missed e r given left none f = record {
     asks = f.asks;
@@ -293,17 +293,17 @@ module _ {M : Type 0} (decoding : Decoding M) (reliable : Bool) (g : Guid) (firs
   }
 
   -- one of another writer
-  pub follows_other : (e : Happening) (r : Reader) (given : List (Notice M)) (left : List Happening) → same_guid g (writer_of e) ≡ false
+  pub follows_other : (e : EventView) (r : Reader) (given : List (Notice M)) (left : List EventView) → same_guid g (writer_of e) ≡ false
       → Follows decoding reliable g first all r given left
       → Follows decoding reliable g first all (reader_after r (asks_of e)) (given ++ tells decoding r e.place (asks_of e)) left
   follows_other e r given left other f =
       left_alone r (reader_after r (asks_of e)) given (tells decoding r e.place (asks_of e)) left f refl
-      (extended_match g (writer_of e) (came_of e) r.matches ∙ ap (λ t. if t then option_map (extend (came_of e)) (match_with g r.matches) else match_with g r.matches) other)
-      (told_uncut decoding e.place g (writer_of e) (came_of e) (match_with (writer_of e) r.matches))
-      (told_by_other decoding e.place g (writer_of e) (came_of e) (match_with (writer_of e) r.matches) (other_way g (writer_of e) other))
+      (extended_match g (writer_of e) (match_event_of e) r.matches ∙ ap (λ t. if t then option_map (extend (match_event_of e)) (match_with g r.matches) else match_with g r.matches) other)
+      (told_uncut decoding e.place g (writer_of e) (match_event_of e) (match_with (writer_of e) r.matches))
+      (told_by_other decoding e.place g (writer_of e) (match_event_of e) (match_with (writer_of e) r.matches) (other_way g (writer_of e) other))
 
   -- in the end each stretch is settled
-  pub all_settled : (r : Reader) (given : List (Notice M)) (left : List Happening) → PlacesFall all → Follows decoding reliable g first all r given left
+  pub all_settled : (r : Reader) (given : List (Notice M)) (left : List EventView) → PlacesFall all → Follows decoding reliable g first all r given left
       → AllByRecursion (IsSettled decoding reliable all) (stretches g first given)
   all_settled r given left falls f =
       subst (AllByRecursion (IsSettled decoding reliable all))

@@ -5,50 +5,50 @@ use Rattle.std.proofs.lemmas.Bool.Decides.{nat_tests}
 use Rattle.std.proofs.lemmas.List.{get_or-map, length-map}
 use Rattle.rtps_receiver.specs.Events.{events_of}
 use Rattle.rtps_discovery.specs.declared.config.Config.{Config}
-use Rattle.rtps_discovery.specs.Kept.{DiscoveryKept, IsKnown}
+use Rattle.rtps_discovery.specs.Kept.{DiscoveryView, IsKnown}
 use Rattle.dds_topic.specs.Decoding.{Decoding}
 use Rattle.rtps_reader.specs.declared.status.Status.{Status}
-use Rattle.rtps_reader.specs.Standing.{ReaderKept}
+use Rattle.rtps_reader.specs.Standing.{ReaderView}
 use Rattle.rtps_reader.proofs.Counting.{starts}
 use Rattle.rtps_serial.specs.declared.outcome.Report.{Report}
 use Rattle.rtps_serial.specs.Outcome.{report_view}
 use Rattle.rtps_serial.specs.Run.{fixed_of, reader_first, run, world_run}
 use Rattle.rtps_serial.specs.Seen.{status_at}
-use Rattle.rtps_serial.specs.Standing.{AllStand, AllStart, EngineKept, IsFinishedFrom, IsSteppedFrom, ShowsAt, StandsAt, WorldStands, run_by}
+use Rattle.rtps_serial.specs.Standing.{AllStand, AllStart, EngineView, IsFinishedFrom, IsSteppedFrom, ShowsAt, StandsAt, WorldStands, run_by}
 use Rattle.rtps_serial.specs.World.{World}
 use Rattle.rtps_serial.proofs.Running.{run_count, run_more, run_named}
 
 -- readers that gave out nothing are those of the first world
-pub starts_here : {M : Type 0} (d : Decoding M) (config : Config) (states : List ReaderKept) → AllStart (λ rank. reader_first config.own config.readers.items rank (fixed_of config.fixed.items rank)) states → AllStand (run d config []) states
+pub starts_here : {M : Type 0} (d : Decoding M) (config : Config) (states : List ReaderView) → AllStart (λ rank. reader_first config.own config.readers.items rank (fixed_of config.fixed.items rank)) states → AllStand (run d config []) states
 starts_here d config states all rank other below =
     let one = all rank other below in
     record { stands = starts _ _ one.stands; ranked = one.ranked }
 
 -- some state, where there is one at a rank
-some_of : (states : List ReaderKept) (rank : ℕ) → rank < length states → ReaderKept
+some_of : (states : List ReaderView) (rank : ℕ) → rank < length states → ReaderView
 some_of [] rank below = absurd (omega arith)
 some_of (s ∷ states) rank below = s
 
 -- a reader's own status is the one that is to be shown
-shows : {M : Type 0} (w : World M) (states : List ReaderKept) (statuses : List Status) → AllStand w states
-    → ((rank : ℕ) (s : Status) (r : ReaderKept) → rank < length states → get_or statuses rank s ≡ (get_or states rank r).status)
+shows : {M : Type 0} (w : World M) (states : List ReaderView) (statuses : List Status) → AllStand w states
+    → ((rank : ℕ) (s : Status) (r : ReaderView) → rank < length states → get_or statuses rank s ≡ (get_or states rank r).status)
     → (rank : ℕ) (other : Status) → rank < length states → get_or statuses rank other ≡ status_at w rank
 shows w states statuses all same rank other below =
     let default = some_of states rank below in
     same rank other default below ∙ (all rank default below).stands.status
 
-pub shows_first : {C M : Type 0} (decoding : C → Decoding M) (engine : EngineKept C) → length engine.readers ≡ length engine.config.readers.items
-    → engine.statuses ≡ map (λ (r : ReaderKept). r.status) engine.readers → AllStand (run_by decoding engine []) engine.readers → ShowsAt decoding [] engine
+pub shows_first : {C M : Type 0} (decoding : C → Decoding M) (engine : EngineView C) → length engine.readers ≡ length engine.config.readers.items
+    → engine.statuses ≡ map (λ (r : ReaderView). r.status) engine.readers → AllStand (run_by decoding engine []) engine.readers → ShowsAt decoding [] engine
 shows_first decoding engine count shown all =
-    let whole : length engine.statuses ≡ length engine.readers = ap length shown ∙ length-map engine.readers (λ (r : ReaderKept). r.status) in
+    let whole : length engine.statuses ≡ length engine.readers = ap length shown ∙ length-map engine.readers (λ (r : ReaderView). r.status) in
     record {
       count = whole ∙ count;
       statuses = λ rank other below. shows (run_by decoding engine []) engine.readers engine.statuses all
-          (λ k s r less. ap (λ l. get_or l k s) shown ∙ get_or-map (λ (r : ReaderKept). r.status) engine.readers k r s less) rank other (omega (arith, below, whole));
+          (λ k s r less. ap (λ l. get_or l k s) shown ∙ get_or-map (λ (r : ReaderView). r.status) engine.readers k r s less) rank other (omega (arith, below, whole));
     }
 
 -- what stands at a list of datagrams keeps the world of its run, which put out nothing since
-pub run_stands : {C V M A : Type 0} (view : V → M) (decoding : C → Decoding M) (datagrams : List (List ℕ)) (engine : EngineKept C) → StandsAt decoding datagrams engine
+pub run_stands : {C V M A : Type 0} (view : V → M) (decoding : C → Decoding M) (datagrams : List (List ℕ)) (engine : EngineView C) → StandsAt decoding datagrams engine
     → WorldStands {A = A} view (run_by decoding engine datagrams) (run_by decoding engine datagrams).put engine.discovery.kept engine.readers []
 run_stands view decoding datagrams engine kept = record {
   known = kept.known;
@@ -61,7 +61,7 @@ run_stands view decoding datagrams engine kept = record {
 }
 
 -- the run after one datagram more, where what is reported stands after the events of that datagram
-next_stands : {C V M A : Type 0} (view : V → M) (decoding : C → Decoding M) (datagrams : List (List ℕ)) (octets : List ℕ) (old admitted stepped : EngineKept C) (reports : List (Report V A)) → StandsAt decoding datagrams old
+next_stands : {C V M A : Type 0} (view : V → M) (decoding : C → Decoding M) (datagrams : List (List ℕ)) (octets : List ℕ) (old admitted stepped : EngineView C) (reports : List (Report V A)) → StandsAt decoding datagrams old
     → admitted ≡ record old { failed = true }
     → ((w : World M) → WorldStands {A = A} view w w.put admitted.discovery.kept admitted.readers []
     → WorldStands view (world_run (decoding admitted.catalog) w (events_of admitted.config.own admitted.index octets)) w.put stepped.discovery.kept stepped.readers reports)
@@ -69,23 +69,23 @@ next_stands : {C V M A : Type 0} (view : V → M) (decoding : C → Decoding M) 
 next_stands {C} {V} {M} {A} view decoding datagrams octets old admitted stepped reports kept is stands =
     let before = run_by decoding old datagrams in
     let start : WorldStands {A = A} view before before.put admitted.discovery.kept admitted.readers []
-    = subst (λ (e : EngineKept C). WorldStands {A = A} view before before.put e.discovery.kept e.readers []) (sym is) (run_stands {A = A} view decoding datagrams old kept) in
+    = subst (λ (e : EngineView C). WorldStands {A = A} view before before.put e.discovery.kept e.readers []) (sym is) (run_stands {A = A} view decoding datagrams old kept) in
     let here : WorldStands view (world_run (decoding old.catalog) before (events_of old.config.own old.index octets)) before.put stepped.discovery.kept stepped.readers reports
-    = subst (λ (e : EngineKept C). WorldStands view (world_run (decoding e.catalog) before (events_of e.config.own e.index octets)) before.put stepped.discovery.kept stepped.readers reports) is (stands before start) in
+    = subst (λ (e : EngineView C). WorldStands view (world_run (decoding e.catalog) before (events_of e.config.own e.index octets)) before.put stepped.discovery.kept stepped.readers reports) is (stands before start) in
     subst (λ (w : World M). WorldStands view w before.put stepped.discovery.kept stepped.readers reports) (sym (run_more (decoding old.catalog) old.config datagrams octets old.index kept.index)) here
 
-pub taken : {C V M A : Type 0} (view : V → M) (decoding : C → Decoding M) (datagrams : List (List ℕ)) (octets : List ℕ) (old admitted stepped new : EngineKept C) (reports : List (Report V A)) → StandsAt decoding datagrams old
+pub taken : {C V M A : Type 0} (view : V → M) (decoding : C → Decoding M) (datagrams : List (List ℕ)) (octets : List ℕ) (old admitted stepped new : EngineView C) (reports : List (Report V A)) → StandsAt decoding datagrams old
     → admitted ≡ record old { failed = true } → IsSteppedFrom admitted stepped
     → ((w : World M) → WorldStands {A = A} view w w.put admitted.discovery.kept admitted.readers []
     → WorldStands view (world_run (decoding admitted.catalog) w (events_of admitted.config.own admitted.index octets)) w.put stepped.discovery.kept stepped.readers reports)
     → IsFinishedFrom stepped new → StandsAt decoding (datagrams ++ octets ∷ []) new
 taken {C} {V} {M} {A} view decoding datagrams octets old admitted stepped new reports kept is step stands finish =
     let all = datagrams ++ octets ∷ [] in
-    let catalog : new.catalog ≡ old.catalog = finish.catalog ∙ step.catalog ∙ ap (λ (e : EngineKept C). e.catalog) is in
-    let config : new.config ≡ old.config = finish.config ∙ step.config ∙ ap (λ (e : EngineKept C). e.config) is in
-    let index : new.index ≡ old.index + 1 = finish.index ∙ ap (λ n. n + 1) (step.index ∙ ap (λ (e : EngineKept C). e.index) is) in
-    let readers : length stepped.readers ≡ length old.readers = step.count ∙ ap (λ (e : EngineKept C). length e.readers) is in
-    let statuses : length new.statuses ≡ length old.statuses = finish.count ∙ ap length step.statuses ∙ ap (λ (e : EngineKept C). length e.statuses) is in
+    let catalog : new.catalog ≡ old.catalog = finish.catalog ∙ step.catalog ∙ ap (λ (e : EngineView C). e.catalog) is in
+    let config : new.config ≡ old.config = finish.config ∙ step.config ∙ ap (λ (e : EngineView C). e.config) is in
+    let index : new.index ≡ old.index + 1 = finish.index ∙ ap (λ n. n + 1) (step.index ∙ ap (λ (e : EngineView C). e.index) is) in
+    let readers : length stepped.readers ≡ length old.readers = step.count ∙ ap (λ (e : EngineView C). length e.readers) is in
+    let statuses : length new.statuses ≡ length old.statuses = finish.count ∙ ap length step.statuses ∙ ap (λ (e : EngineView C). length e.statuses) is in
     let same : run_by decoding new all ≡ run_by decoding old all = ap (λ k. run (decoding k) new.config all) catalog ∙ ap (λ k. run (decoding old.catalog) k all) config in
     let there : WorldStands view (run_by decoding new all) (run_by decoding old datagrams).put stepped.discovery.kept stepped.readers reports
     = subst (λ (w : World M). WorldStands view w (run_by decoding old datagrams).put stepped.discovery.kept stepped.readers reports) (sym same) (next_stands view decoding datagrams octets old admitted stepped reports kept is stands) in
@@ -93,7 +93,7 @@ taken {C} {V} {M} {A} view decoding datagrams octets old admitted stepped new re
     record {
       sound = finish.sound;
       index = omega (arith, index, kept.index, length-append datagrams (octets ∷ []));
-      known = subst (λ (d : DiscoveryKept). IsKnown (run_by decoding new all).known d.kept) (sym finish.discovery) there.known;
+      known = subst (λ (d : DiscoveryView). IsKnown (run_by decoding new all).known d.kept) (sym finish.discovery) there.known;
       count = ap length finish.readers ∙ readers ∙ kept.count ∙ fixed;
       readers = subst (AllStand (run_by decoding new all)) (sym finish.readers) there.readers.readers;
       shows = record {
@@ -103,7 +103,7 @@ taken {C} {V} {M} {A} view decoding datagrams octets old admitted stepped new re
     }
 
 -- a run that is put out, once a datagram more is taken
-pub put_taken : {C V M A : Type 0} (view : V → M) (decoding : C → Decoding M) (datagrams : List (List ℕ)) (octets : List ℕ) (old admitted stepped : EngineKept C) (reports : List (Report V A)) → StandsAt decoding datagrams old
+pub put_taken : {C V M A : Type 0} (view : V → M) (decoding : C → Decoding M) (datagrams : List (List ℕ)) (octets : List ℕ) (old admitted stepped : EngineView C) (reports : List (Report V A)) → StandsAt decoding datagrams old
     → admitted ≡ record old { failed = true }
     → ((w : World M) → WorldStands {A = A} view w w.put admitted.discovery.kept admitted.readers []
     → WorldStands view (world_run (decoding admitted.catalog) w (events_of admitted.config.own admitted.index octets)) w.put stepped.discovery.kept stepped.readers reports)

@@ -14,19 +14,19 @@ use Rattle.std.proofs.lemmas.Map.Lookups.{exact_unsigned}
 use Rattle.rtps_types.specs.declared.identity.Guid.{Guid}
 use Rattle.rtps_types.specs.declared.place.Place.{Place}
 use Rattle.rtps_types.specs.Place.{place_order}
-use Rattle.rtps_receiver.specs.Events.{Happening}
+use Rattle.rtps_receiver.specs.Events.{EventView}
 use Rattle.rtps_discovery.specs.Addressed.{is_addressed, is_discovery}
 use Rattle.rtps_discovery.specs.Changes.{Becomes, ChangeAt, Matches, Unmatches, Refuses}
 use Rattle.rtps_discovery.specs.Known.{Known, Wish, is_matched, reader_at}
 use Rattle.rtps_discovery.specs.Records.{answered, changes_by}
 use Rattle.dds_topic.specs.Decoding.{Decoding}
-use Rattle.rtps_proxy.specs.History.{Came, Sample}
+use Rattle.rtps_proxy.specs.History.{MatchEvent, ChangeView}
 use Rattle.rtps_proxy.specs.Matches.{Match, match_with}
-use Rattle.rtps_proxy.specs.Replies.{Sent}
+use Rattle.rtps_proxy.specs.Replies.{ReplyView}
 use Rattle.rtps_reader.specs.declared.notice.Notice.{Notice}
 use Rattle.rtps_reader.specs.declared.notice.NoticeKind.TheVariants as notice
 use Rattle.rtps_reader.specs.Reader.{Reader, answer_at, loses, lost_at, placed, presented, reader_after, ready_at, sends, sent_of, tells, told_of}
-use Rattle.rtps_reader.specs.Steps.{Doing, Takes, Begins, Ends, Refused, asks_of}
+use Rattle.rtps_reader.specs.Steps.{StepView, Takes, Begins, Ends, Refused, asks_of}
 use Rattle.rtps_serial.specs.declared.outcome.Report.{Report}
 use Rattle.rtps_serial.specs.declared.outcome.Report.TheVariants as report
 use Rattle.rtps_serial.specs.declared.turn.ReportKind.{ReportKind}
@@ -37,7 +37,7 @@ use Rattle.rtps_serial.specs.Presentation.{not_after}
 use Rattle.rtps_serial.specs.Run.{world_run}
 use Rattle.rtps_serial.specs.Seen.{notices_by, reader_count}
 use Rattle.rtps_serial.specs.Turn.{kind_order, turn_of, turn_order}
-use Rattle.rtps_serial.specs.World.{Put, Hears, Sends, World, addressed_to, answer_put, changes_for, discovery_puts, doing_of, doings, puts_at, puts_below, puts_run, sent_by, world_after}
+use Rattle.rtps_serial.specs.World.{ReportView, NoticeOf, AnswerOf, World, addressed_to, answer_put, changes_for, discovery_puts, doing_of, doings, puts_at, puts_below, puts_run, sent_by, world_after}
 use Rattle.rtps_serial.proofs.Routed.{readers_stay}
 use Rattle.rtps_serial.proofs.Dealt.{notices_by-append}
 use Rattle.rtps_serial.proofs.Matched.{heard_event, none_below}
@@ -75,11 +75,11 @@ turns_total =
     (then_total (on_total (λ (t : Turn). t.rank) (options_total nat_cmp_total)) (on_total (λ (t : Turn). t.kind) kinds_total))
 
 -- the turn of what is put out
-abbrev pub put_turn : {M : Type 0} → Put M → Turn
-put_turn (Hears rank n) = record { place = n.place; rank = Some rank; kind = kind.Notice }
-put_turn (Sends s) = record { place = s.place; rank = s.rank; kind = kind.Answer }
+abbrev pub put_turn : {M : Type 0} → ReportView M → Turn
+put_turn (NoticeOf rank n) = record { place = n.place; rank = Some rank; kind = kind.Notice }
+put_turn (AnswerOf s) = record { place = s.place; rank = s.rank; kind = kind.Answer }
 
-abbrev pub before : {M : Type 0} → Put M → Put M → Bool
+abbrev pub before : {M : Type 0} → ReportView M → ReportView M → Bool
 before a b = is_lt (turn_order (put_turn a) (put_turn b))
 
 pub weak : {M : Type 0} → IsStrictWeakOrder (before {M = M})
@@ -148,13 +148,13 @@ later_place a b h = by_test (nat_lt b.datagram a.datagram) (b.datagram == a.data
     by_test false true false true i j k l = absurd (grind (arith, nat_tests))
     by_test false true false false i j k l = refl
 
-later : {M : Type 0} (x y : Put M) (place : Place) → (put_turn x).place ≡ place → not_after (put_turn y).place place ≡ false → before y x ≡ false
+later : {M : Type 0} (x y : ReportView M) (place : Place) → (put_turn x).place ≡ place → not_after (put_turn y).place place ≡ false → before y x ≡ false
 later x y place is h = rw (later_place (put_turn x).place (put_turn y).place (ap (not_after (put_turn y).place) is ∙ h)) refl
 
 pub level : (a b t : Turn) → a ≡ t → b ≡ t → is_lt (turn_order a b) ≡ false
 level a b t e f = rw (e, f) (ap is_lt (tied_itself turns_total t))
 
-rises_level : {M : Type 0} (t : Turn) (xs : List (Put M)) → AllByRecursion (λ p. put_turn p ≡ t) xs → Rises before xs
+rises_level : {M : Type 0} (t : Turn) (xs : List (ReportView M)) → AllByRecursion (λ p. put_turn p ≡ t) xs → Rises before xs
 rises_level t [] h = tt
 rises_level t (x ∷ xs) h = (all_weaker (λ p. put_turn p ≡ t) (λ y. before y x ≡ false) xs (λ y e. level (put_turn y) (put_turn x) t e h.0) h.1, rises_level t xs h.1)
 
@@ -169,39 +169,39 @@ loses_at M place w count = by_test (count == 0)
     by_test true = tt
     by_test false = (refl, tt)
 
-presented_at : {M : Type 0} (d : Decoding M) (place : Place) (w : Guid) (ss : List Sample) → AllByRecursion (λ (n : Notice M). n.place ≡ place) (map (presented d place w) ss)
+presented_at : {M : Type 0} (d : Decoding M) (place : Place) (w : Guid) (ss : List ChangeView) → AllByRecursion (λ (n : Notice M). n.place ≡ place) (map (presented d place w) ss)
 presented_at d place w [] = tt
 presented_at d place w (s ∷ ss) = (refl, presented_at d place w ss)
 
-told_at : {M : Type 0} (d : Decoding M) (place : Place) (w : Guid) (e : Came) (m : Option Match) → AllByRecursion (λ (n : Notice M). n.place ≡ place) (told_of d place w e m)
+told_at : {M : Type 0} (d : Decoding M) (place : Place) (w : Guid) (e : MatchEvent) (m : Option Match) → AllByRecursion (λ (n : Notice M). n.place ≡ place) (told_of d place w e m)
 told_at d place w e None = tt
 told_at {M} d place w e (Some m) = all_append (λ n. n.place ≡ place) (loses place w (lost_at m e)) (map (presented d place w) (ready_at m e)) (loses_at M place w (lost_at m e)) (presented_at d place w (ready_at m e))
 
-pub tells_at : {M : Type 0} (d : Decoding M) (r : Reader) (place : Place) (asks : Doing) → AllByRecursion (λ (n : Notice M). n.place ≡ place) (tells d r place asks)
+pub tells_at : {M : Type 0} (d : Decoding M) (r : Reader) (place : Place) (asks : StepView) → AllByRecursion (λ (n : Notice M). n.place ≡ place) (tells d r place asks)
 tells_at d r place (Takes w e) = told_at d place w e (match_with w r.matches)
 tells_at d r place (Begins w locators) = (refl, tt)
 tells_at d r place (Ends w) = (refl, tt)
 tells_at d r place (Refused w policy) = (refl, tt)
 
-placed_at : (place : Place) (o : Option Sent) → AllByRecursion (λ (s : Place × Sent). s.0 ≡ place) (placed place o)
+placed_at : (place : Place) (o : Option ReplyView) → AllByRecursion (λ (s : Place × ReplyView). s.0 ≡ place) (placed place o)
 placed_at place None = tt
 placed_at place (Some s) = (refl, tt)
 
-sent_at : (place : Place) (e : Came) (m : Option Match) → AllByRecursion (λ (s : Place × Sent). s.0 ≡ place) (sent_of place e m)
+sent_at : (place : Place) (e : MatchEvent) (m : Option Match) → AllByRecursion (λ (s : Place × ReplyView). s.0 ≡ place) (sent_of place e m)
 sent_at place e None = tt
 sent_at place e (Some m) = placed_at place (answer_at m e)
 
-pub sends_at : (r : Reader) (place : Place) (asks : Doing) → AllByRecursion (λ (s : Place × Sent). s.0 ≡ place) (sends r place asks)
+pub sends_at : (r : Reader) (place : Place) (asks : StepView) → AllByRecursion (λ (s : Place × ReplyView). s.0 ≡ place) (sends r place asks)
 sends_at r place (Takes w e) = sent_at place e (match_with w r.matches)
 sends_at r place (Begins w locators) = tt
 sends_at r place (Ends w) = tt
 sends_at r place (Refused w policy) = tt
 
-hears_turn : {M : Type 0} (place : Place) (rank : ℕ) (ns : List (Notice M)) → AllByRecursion (λ n. n.place ≡ place) ns → AllByRecursion (λ p. put_turn p ≡ turn_at place rank kind.Notice) (map (Hears rank) ns)
+hears_turn : {M : Type 0} (place : Place) (rank : ℕ) (ns : List (Notice M)) → AllByRecursion (λ n. n.place ≡ place) ns → AllByRecursion (λ p. put_turn p ≡ turn_at place rank kind.Notice) (map (NoticeOf rank) ns)
 hears_turn place rank [] h = tt
 hears_turn place rank (n ∷ ns) h = (ap (λ l. turn_at l rank kind.Notice) h.0, hears_turn place rank ns h.1)
 
-sends_turn : (M : Type 0) (place : Place) (rank : ℕ) (ss : List (Place × Sent)) → AllByRecursion (λ s. s.0 ≡ place) ss → AllByRecursion (λ (p : Put M). put_turn p ≡ turn_at place rank kind.Answer) (map (sent_by rank) ss)
+sends_turn : (M : Type 0) (place : Place) (rank : ℕ) (ss : List (Place × ReplyView)) → AllByRecursion (λ s. s.0 ≡ place) ss → AllByRecursion (λ (p : ReportView M). put_turn p ≡ turn_at place rank kind.Answer) (map (sent_by rank) ss)
 sends_turn M place rank [] h = tt
 sends_turn M place rank (s ∷ ss) h = (ap (λ l. turn_at l rank kind.Answer) h.0, sends_turn M place rank ss h.1)
 
@@ -209,40 +209,40 @@ answer_last : (place : Place) (rank : ℕ) → is_lt (turn_order (turn_at place 
 answer_last place rank = rw (tied_itself places_total place, tied_itself nat_cmp_total rank) refl
 
 -- what the reader of a rank puts out at an event
-record IsAt {M : Type 0} (at : Place) (own : ℕ) (p : Put M) : Type 0 where
+record IsAt {M : Type 0} (at : Place) (own : ℕ) (p : ReportView M) : Type 0 where
   place : (put_turn p).place ≡ at
   rank : (put_turn p).rank ≡ Some own
 
-of_turn : {M : Type 0} (at : Place) (rank : ℕ) (k : ReportKind) (p : Put M) → put_turn p ≡ turn_at at rank k → IsAt at rank p
+of_turn : {M : Type 0} (at : Place) (rank : ℕ) (k : ReportKind) (p : ReportView M) → put_turn p ≡ turn_at at rank k → IsAt at rank p
 of_turn at rank k p e = record { place = ap (λ (t : Turn). t.place) e; rank = ap (λ (t : Turn). t.rank) e }
 
 module _ {M : Type 0} (d : Decoding M) (place : Place) (rank : ℕ) where
-  abbrev Notices : List (Put M) → Type 0
-  Notices = AllByRecursion (λ (p : Put M). put_turn p ≡ turn_at place rank kind.Notice)
+  abbrev Notices : List (ReportView M) → Type 0
+  Notices = AllByRecursion (λ (p : ReportView M). put_turn p ≡ turn_at place rank kind.Notice)
 
-  step_told : (r : Reader) (a : Doing) → Notices (map (Hears rank) (tells d r place a))
+  step_told : (r : Reader) (a : StepView) → Notices (map (NoticeOf rank) (tells d r place a))
   step_told r a = hears_turn place rank (tells d r place a) (tells_at d r place a)
 
-  step_sent : (r : Reader) (a : Doing) → AllByRecursion (λ (p : Put M). put_turn p ≡ turn_at place rank kind.Answer) (map (sent_by rank) (sends r place a))
+  step_sent : (r : Reader) (a : StepView) → AllByRecursion (λ (p : ReportView M). put_turn p ≡ turn_at place rank kind.Answer) (map (sent_by rank) (sends r place a))
   step_sent r a = sends_turn M place rank (sends r place a) (sends_at r place a)
 
   -- at one step, and at one after the other
-  step_at : (r : Reader) (a : Doing) → AllByRecursion (IsAt place rank) (puts_at d place rank r a)
+  step_at : (r : Reader) (a : StepView) → AllByRecursion (IsAt place rank) (puts_at d place rank r a)
   step_at r a =
-      all_append (IsAt place rank) (map (Hears rank) (tells d r place a)) (map (sent_by rank) (sends r place a))
+      all_append (IsAt place rank) (map (NoticeOf rank) (tells d r place a)) (map (sent_by rank) (sends r place a))
       (all_weaker (λ p. put_turn p ≡ turn_at place rank kind.Notice) (IsAt place rank) _ (of_turn place rank kind.Notice) (step_told r a))
       (all_weaker (λ p. put_turn p ≡ turn_at place rank kind.Answer) (IsAt place rank) _ (of_turn place rank kind.Answer) (step_sent r a))
 
-  steps_at : (r : Reader) (doings : List Doing) → AllByRecursion (IsAt place rank) (puts_run d place rank r doings)
+  steps_at : (r : Reader) (doings : List StepView) → AllByRecursion (IsAt place rank) (puts_run d place rank r doings)
   steps_at r [] = tt
   steps_at r (a ∷ rest) = all_append (IsAt place rank) (puts_at d place rank r a) (puts_run d place rank (reader_after r a) rest) (step_at r a) (steps_at (reader_after r a) rest)
 
   -- at one step the notices come first
-  step_rises : (r : Reader) (a : Doing) → Rises before (puts_at d place rank r a)
+  step_rises : (r : Reader) (a : StepView) → Rises before (puts_at d place rank r a)
   step_rises r a =
       rises_then before (λ p. put_turn p ≡ turn_at place rank kind.Notice) (λ p. put_turn p ≡ turn_at place rank kind.Answer)
       (λ x y p q. ap is_lt (ap (λ t. turn_order t (put_turn x)) q ∙ ap (turn_order (turn_at place rank kind.Answer)) p) ∙ answer_last place rank)
-      (map (Hears rank) (tells d r place a)) (map (sent_by rank) (sends r place a)) (step_told r a) (step_sent r a)
+      (map (NoticeOf rank) (tells d r place a)) (map (sent_by rank) (sends r place a)) (step_told r a) (step_sent r a)
       (rises_level (turn_at place rank kind.Notice) _ (step_told r a)) (rises_level (turn_at place rank kind.Answer) _ (step_sent r a))
 
   -- a match that begins, ends or is refused is not answered
@@ -256,12 +256,12 @@ module _ {M : Type 0} (d : Decoding M) (place : Place) (rank : ℕ) where
   changes_told r [] = tt
   changes_told r (c ∷ cs) =
       all_append (λ p. put_turn p ≡ turn_at place rank kind.Notice) (puts_at d place rank r (doing_of c.what)) (puts_run d place rank (reader_after r (doing_of c.what)) (map (λ (c : ChangeAt). doing_of c.what) cs))
-      (subst (λ (ss : List (Place × Sent)). Notices (map (Hears rank) (tells d r place (doing_of c.what)) ++ map (sent_by rank) ss)) (sym (no_answer r c.what))
-      (subst Notices (sym (append-nil (map (Hears rank) (tells d r place (doing_of c.what))))) (step_told r (doing_of c.what))))
+      (subst (λ (ss : List (Place × ReplyView)). Notices (map (NoticeOf rank) (tells d r place (doing_of c.what)) ++ map (sent_by rank) ss)) (sym (no_answer r c.what))
+      (subst Notices (sym (append-nil (map (NoticeOf rank) (tells d r place (doing_of c.what))))) (step_told r (doing_of c.what))))
       (changes_told (reader_after r (doing_of c.what)) cs)
 
 -- what a reader puts out at an event comes by turn: its notices, and then its answer
-reader_rises : {M : Type 0} (d : Decoding M) (k : Known) (rank : ℕ) (r : Reader) (e : Happening) → Rises (before {M = M}) (puts_run d e.place rank r (doings k rank e))
+reader_rises : {M : Type 0} (d : Decoding M) (k : Known) (rank : ℕ) (r : Reader) (e : EventView) → Rises (before {M = M}) (puts_run d e.place rank r (doings k rank e))
 reader_rises {M} d k rank r e = by_kind (is_discovery e.writer)
   where
     by_test : (b : Bool) → Rises (before {M = M}) (puts_run d e.place rank r (if b then asks_of e ∷ [] else []))
@@ -277,13 +277,13 @@ reader_rises {M} d k rank r e = by_kind (is_discovery e.writer)
     by_kind false = by_wish (reader_at k.readers rank)
 
 -- what the readers of the ranks below a count put out at an event
-record IsBelow {M : Type 0} (at : Place) (count : ℕ) (p : Put M) : Type 0 where
+record IsBelow {M : Type 0} (at : Place) (count : ℕ) (p : ReportView M) : Type 0 where
   place : (put_turn p).place ≡ at
   rank : ℕ
   is : (put_turn p).rank ≡ Some rank
   below : rank < count
 
-below_at : {M : Type 0} (d : Decoding M) (k : Known) (e : Happening) (readers : ℕ → Reader) (n : ℕ) → AllByRecursion (IsBelow e.place n) (puts_below d k e readers n)
+below_at : {M : Type 0} (d : Decoding M) (k : Known) (e : EventView) (readers : ℕ → Reader) (n : ℕ) → AllByRecursion (IsBelow e.place n) (puts_below d k e readers n)
 below_at d k e readers zero = tt
 below_at d k e readers (suc n) =
     all_append (IsBelow e.place (suc n)) (puts_below d k e readers n) (puts_run d e.place n (readers n) (doings k n e))
@@ -299,7 +299,7 @@ higher r k h =
 pub lower_first : (a b : Turn) (place : Place) (r k : ℕ) → a.place ≡ place → a.rank ≡ Some r → b.place ≡ place → b.rank ≡ Some k → r < k → is_lt (turn_order b a) ≡ false
 lower_first a b place r k ap1 ar bp br less = rw (ap1, ar, bp, br, tied_itself places_total place, higher r k less) refl
 
-below_rises : {M : Type 0} (d : Decoding M) (k : Known) (e : Happening) (readers : ℕ → Reader) (n : ℕ) → Rises (before {M = M}) (puts_below d k e readers n)
+below_rises : {M : Type 0} (d : Decoding M) (k : Known) (e : EventView) (readers : ℕ → Reader) (n : ℕ) → Rises (before {M = M}) (puts_below d k e readers n)
 below_rises d k e readers zero = tt
 below_rises d k e readers (suc n) =
     rises_then before (IsBelow e.place n) (IsAt e.place n) (λ x y p q. lower_first (put_turn x) (put_turn y) e.place p.rank n p.place p.is q.place q.rank p.below)
@@ -310,14 +310,14 @@ below_rises d k e readers (suc n) =
 abbrev pub discovery_turn : Place → Turn
 discovery_turn place = record { place = place; rank = None; kind = kind.Answer }
 
-answer_turn : (M : Type 0) (k : Known) (e : Happening) → AllByRecursion (λ (p : Put M). put_turn p ≡ discovery_turn e.place) (discovery_puts k e)
+answer_turn : (M : Type 0) (k : Known) (e : EventView) → AllByRecursion (λ (p : ReportView M). put_turn p ≡ discovery_turn e.place) (discovery_puts k e)
 answer_turn M k e = by_test (is_discovery e.writer)
   where
-    by_answer : (o : Option Sent) → AllByRecursion (λ (p : Put M). put_turn p ≡ discovery_turn e.place) (answer_put e.place o)
+    by_answer : (o : Option ReplyView) → AllByRecursion (λ (p : ReportView M). put_turn p ≡ discovery_turn e.place) (answer_put e.place o)
     by_answer None = tt
     by_answer (Some s) = (refl, tt)
 
-    by_test : (b : Bool) → AllByRecursion (λ (p : Put M). put_turn p ≡ discovery_turn e.place) (if b then answer_put e.place (answered k e) else [])
+    by_test : (b : Bool) → AllByRecursion (λ (p : ReportView M). put_turn p ≡ discovery_turn e.place) (if b then answer_put e.place (answered k e) else [])
     by_test true = by_answer (answered k e)
     by_test false = tt
 
@@ -326,31 +326,31 @@ pub discovery_first : (a b : Turn) (place : Place) (r : ℕ) → a ≡ discovery
 discovery_first a b place r is bp br = rw (is, bp, br, tied_itself places_total place) refl
 
 -- what is put out at an event
-abbrev event_puts : {M : Type 0} → Decoding M → World M → Happening → List (Put M)
+abbrev event_puts : {M : Type 0} → Decoding M → World M → EventView → List (ReportView M)
 event_puts d w e = discovery_puts w.known e ++ puts_below d w.known e w.readers (reader_count w)
 
-event_at : {M : Type 0} (d : Decoding M) (w : World M) (e : Happening) → AllByRecursion (λ (p : Put M). (put_turn p).place ≡ e.place) (event_puts d w e)
+event_at : {M : Type 0} (d : Decoding M) (w : World M) (e : EventView) → AllByRecursion (λ (p : ReportView M). (put_turn p).place ≡ e.place) (event_puts d w e)
 event_at {M} d w e =
     all_append (λ p. (put_turn p).place ≡ e.place) (discovery_puts w.known e) (puts_below d w.known e w.readers (reader_count w))
     (all_weaker (λ p. put_turn p ≡ discovery_turn e.place) (λ p. (put_turn p).place ≡ e.place) _ (λ p is. ap (λ (t : Turn). t.place) is) (answer_turn M w.known e))
     (all_weaker (IsBelow e.place (reader_count w)) (λ p. (put_turn p).place ≡ e.place) _ (λ p b. b.place) (below_at d w.known e w.readers (reader_count w)))
 
-event_rises : {M : Type 0} (d : Decoding M) (w : World M) (e : Happening) → Rises (before {M = M}) (event_puts d w e)
+event_rises : {M : Type 0} (d : Decoding M) (w : World M) (e : EventView) → Rises (before {M = M}) (event_puts d w e)
 event_rises {M} d w e =
     rises_then before (λ p. put_turn p ≡ discovery_turn e.place) (IsBelow e.place (reader_count w)) (λ x y p q. discovery_first (put_turn x) (put_turn y) e.place q.rank p q.place q.is)
     (discovery_puts w.known e) (puts_below d w.known e w.readers (reader_count w)) (answer_turn M w.known e) (below_at d w.known e w.readers (reader_count w))
     (rises_level (discovery_turn e.place) _ (answer_turn M w.known e)) (below_rises d w.known e w.readers (reader_count w))
 
 -- what is put out at events, one after another
-abbrev pub run_puts : {M : Type 0} → Decoding M → World M → List Happening → List (Put M)
+abbrev pub run_puts : {M : Type 0} → Decoding M → World M → List EventView → List (ReportView M)
 run_puts d w [] = []
 run_puts d w (e ∷ es) = event_puts d w e ++ run_puts d (world_after d w e) es
 
-pub put_all : {M : Type 0} (d : Decoding M) (w : World M) (es : List Happening) → (world_run d w es).put ≡ w.put ++ run_puts d w es
+pub put_all : {M : Type 0} (d : Decoding M) (w : World M) (es : List EventView) → (world_run d w es).put ≡ w.put ++ run_puts d w es
 put_all d w [] = sym (append-nil w.put)
 put_all d w (e ∷ es) = put_all d (world_after d w e) es ∙ append_assoc w.put (event_puts d w e) (run_puts d (world_after d w e) es)
 
-run_later : {M : Type 0} (d : Decoding M) (w : World M) (place : Place) (es : List Happening) → AllByRecursion (λ (e : Happening). not_after e.place place ≡ false) es
+run_later : {M : Type 0} (d : Decoding M) (w : World M) (place : Place) (es : List EventView) → AllByRecursion (λ (e : EventView). not_after e.place place ≡ false) es
     → AllByRecursion (λ p. not_after (put_turn p).place place ≡ false) (run_puts d w es)
 run_later d w place [] h = tt
 run_later d w place (e ∷ es) h =
@@ -359,7 +359,7 @@ run_later d w place (e ∷ es) h =
     (run_later d (world_after d w e) place es h.1)
 
 -- it comes by turn
-pub run_rises : {M : Type 0} (d : Decoding M) (w : World M) (es : List Happening) → PlacesRise es → Rises before (run_puts d w es)
+pub run_rises : {M : Type 0} (d : Decoding M) (w : World M) (es : List EventView) → PlacesRise es → Rises before (run_puts d w es)
 run_rises d w [] up = tt
 run_rises d w (e ∷ es) up =
     rises_then before (λ p. (put_turn p).place ≡ e.place) (λ p. not_after (put_turn p).place e.place ≡ false) (λ x y p q. later x y e.place p q)
@@ -367,7 +367,7 @@ run_rises d w (e ∷ es) up =
     (event_rises d w e) (run_rises d (world_after d w e) es up.1)
 
 -- no reader past the last gives out a notice
-pub run_none : {M : Type 0} (d : Decoding M) (w : World M) (rank : ℕ) (es : List Happening) → reader_count w ≤ rank → notices_by rank (run_puts d w es) ≡ []
+pub run_none : {M : Type 0} (d : Decoding M) (w : World M) (rank : ℕ) (es : List EventView) → reader_count w ≤ rank → notices_by rank (run_puts d w es) ≡ []
 run_none d w rank [] past = refl
 run_none d w rank (e ∷ es) past =
     notices_by-append rank (event_puts d w e) (run_puts d (world_after d w e) es)

@@ -8,21 +8,21 @@ use Rattle.rtps_serial.specs.declared.outcome.Outcome.{Outcome}
 use Rattle.rtps_serial.specs.declared.outcome.Report.{Report}
 use Rattle.rtps_serial.specs.declared.outcome.Report.TheVariants as report
 use Rattle.rtps_serial.specs.Seen.{answers_in, notices_by, reader_count}
-use Rattle.rtps_serial.specs.World.{Put, Hears, Sends, Sending, World}
+use Rattle.rtps_serial.specs.World.{ReportView, NoticeOf, AnswerOf, AnswerView, World}
 
-abbrev pub answer_view : {A : Type 0} → Answer A → Sending
+abbrev pub answer_view : {A : Type 0} → Answer A → AnswerView
 answer_view a = record { place = a.place; rank = a.rank; to = a.to; octets = a.octets }
 
-abbrev pub report_view : {V M A : Type 0} → (V → M) → Report V A → Put M
-report_view f (report.Notice rank notice) = Hears rank (notice_view f notice)
-report_view f (report.Answer answer) = Sends (answer_view answer)
+abbrev pub report_view : {V M A : Type 0} → (V → M) → Report V A → ReportView M
+report_view f (report.Notice rank notice) = NoticeOf rank (notice_view f notice)
+report_view f (report.Answer answer) = AnswerOf (answer_view answer)
 
 -- the notices in a list of an outcome
 abbrev pub notices_in : {V M A : Type 0} → (V → M) → Vec (Notice V) A → List (Notice M)
 notices_in f notices = map (notice_view f) notices.items
 
 -- an outcome has what was put out: a list of notices for each reader, and the answers
-pub record Deals {V M A : Type 0} (f : V → M) (count : ℕ) (put : List (Put M))
+pub record Deals {V M A : Type 0} (f : V → M) (count : ℕ) (put : List (ReportView M))
     (outcome : Outcome V A) : Type 0 where
   pub readers : length outcome.notices.items ≡ count
   pub notices : (rank : ℕ) (other : Vec (Notice V) A) → rank < count

@@ -6,17 +6,17 @@ use Rattle.rtps_types.specs.declared.identity.EntityId.{EntityId}
 use Rattle.rtps_types.specs.declared.identity.Guid.{Guid}
 use Rattle.rtps_types.specs.declared.place.Place.{Place}
 use Rattle.rtps_types.specs.declared.time.Timestamp.{Timestamp}
-use Rattle.rtps_receiver.specs.Events.{Happening}
+use Rattle.rtps_receiver.specs.Events.{EventView}
 use Rattle.rtps_discovery.specs.Addressed.{is_addressed}
 use Rattle.rtps_discovery.specs.declared.config.Config.{Config}
-use Rattle.rtps_proxy.specs.History.{Came, Sample}
+use Rattle.rtps_proxy.specs.History.{MatchEvent, ChangeView, match_event_of}
 use Rattle.rtps_proxy.specs.Presentation.{Brings, IsGivenUp, RisesStrictly}
 use Rattle.rtps_reader.specs.declared.body.Body.{Body}
 use Rattle.dds_topic.specs.Decoding.{Decoding}
 use Rattle.rtps_types.specs.Number.{value_of}
 use Rattle.rtps_reader.specs.declared.notice.Notice.{Notice}
 use Rattle.rtps_reader.specs.declared.notice.NoticeKind.{NoticeKind}
-use Rattle.rtps_reader.specs.declared.notice.NoticeKind.TheVariants.{Sample as ASample, Matched, Unmatched}
+use Rattle.rtps_reader.specs.declared.notice.NoticeKind.TheVariants.{ChangeView as ASample, Matched, Unmatched}
 use Rattle.rtps_reader.specs.Body.{body_by}
 use Rattle.rtps_proxy.specs.Matches.{same_guid}
 use Rattle.rtps_serial.specs.Run.{entity_of, events_from, run}
@@ -43,21 +43,18 @@ not_after a b =
     || (a.datagram == b.datagram && nat_le a.submessage b.submessage)
 
 -- the submessages for the match of a writer and a reader, the newest first
-abbrev pub events_for : Guid → EntityId → List Happening → List Happening
+abbrev pub events_for : Guid → EntityId → List EventView → List EventView
 events_for writer reader events = reverse (filter (is_addressed (same_guid writer) reader) events)
 
-abbrev pub came_of : Happening → Came
-came_of e = record { time = e.time; body = e.body }
-
 -- what came of these submessages by a place, the newest first
-abbrev pub came_by : Place → List Happening → List Came
-came_by place events = map came_of (filter (λ e. not_after e.place place) events)
+abbrev pub match_events_by : Place → List EventView → List MatchEvent
+match_events_by place events = map match_event_of (filter (λ e. not_after e.place place) events)
 
 -- a DATA or DATA_FRAGs brought the sample: its sequence number, its time, and the body that the catalog
 -- makes of what they carry
-pub record IsBrought {M : Type 0} (decoding : Decoding M) (past : List Came) (s : Shown M)
+pub record IsBrought {M : Type 0} (decoding : Decoding M) (past : List MatchEvent) (s : Shown M)
     : Type 0 where
-  pub change : Sample
+  pub change : ChangeView
   pub came : Brings past change
   pub number : s.number ≡ change.number
   pub time : s.time ≡ change.time
@@ -65,19 +62,19 @@ pub record IsBrought {M : Type 0} (decoding : Decoding M) (past : List Came) (s 
 
 -- each sequence number between that of a sample and that of the sample before it was given up by
 -- then
-abbrev pub PassesOverOnly : {M : Type 0} → List Happening → ℕ → List (Shown M) → Type 0
+abbrev pub PassesOverOnly : {M : Type 0} → List EventView → ℕ → List (Shown M) → Type 0
 PassesOverOnly events last [] = Unit {0}
 PassesOverOnly events last (s ∷ ss) =
-    ((k : ℕ) → last < k → k < s.number → IsGivenUp (came_by s.place events) k)
+    ((k : ℕ) → last < k → k < s.number → IsGivenUp (match_events_by s.place events) k)
     × PassesOverOnly events s.number ss
 
 -- the samples of a match, against its submessages, the newest first
-pub record ArePresented {M : Type 0} (decoding : Decoding M) (events : List Happening)
+pub record ArePresented {M : Type 0} (decoding : Decoding M) (events : List EventView)
     (samples : List (Shown M)) : Type 0 where
   -- each sequence number is above all before it
   pub rising : RisesStrictly (map (λ s. s.number) samples)
   -- a DATA or DATA_FRAGs that aren't after the sample's place brought it
-  pub received : AllByRecursion (λ s. IsBrought decoding (came_by s.place events) s) samples
+  pub received : AllByRecursion (λ s. IsBrought decoding (match_events_by s.place events) s) samples
   -- from 1 on, each sequence number that no sample has was given up by the place of the next sample
   pub passed_over : PassesOverOnly events 0 samples
 
@@ -117,11 +114,11 @@ stretches writer since (n ∷ ns) =
     else stretches writer since ns
 
 -- the submessages after a place
-abbrev pub events_after : Place → List Happening → List Happening
+abbrev pub events_after : Place → List EventView → List EventView
 events_after place events = filter (λ e. not (not_after e.place place)) events
 
 -- these samples are presented against the submessages since a match began, none where there is none
-abbrev pub PresentedSince : {M : Type 0} → Decoding M → List Happening → List (Shown M) → Since
+abbrev pub PresentedSince : {M : Type 0} → Decoding M → List EventView → List (Shown M) → Since
     → Type 0
 PresentedSince decoding events samples TheStart = ArePresented decoding events samples
 PresentedSince decoding events samples (ThePlace place) =
@@ -130,7 +127,7 @@ PresentedSince decoding events samples Never = samples ≡ []
 
 -- the samples of a stretch are presented against the submessages since its match began; where
 -- nothing is matched there are none
-abbrev pub IsPresented : {M : Type 0} → Decoding M → List Happening → Stretch M → Type 0
+abbrev pub IsPresented : {M : Type 0} → Decoding M → List EventView → Stretch M → Type 0
 IsPresented decoding events s = PresentedSince decoding events s.samples s.since
 
 -- the reader of a rank is matched with a writer from the start
@@ -139,7 +136,7 @@ is_fixed config rank writer =
     list_any (λ m. m.rank == rank && same_guid m.writer writer) config.fixed.items
 
 -- the submessages of a run for the match of a writer and the reader of a rank, the newest first
-abbrev pub events_in : Config → List (List ℕ) → ℕ → Guid → List Happening
+abbrev pub events_in : Config → List (List ℕ) → ℕ → Guid → List EventView
 events_in config datagrams rank writer =
     events_for writer (entity_of config.readers.items rank) (events_from config.own 0 datagrams)
 

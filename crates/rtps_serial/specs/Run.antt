@@ -4,7 +4,7 @@ use Rattle.rtps_types.specs.declared.identity.EntityId.{EntityId}
 use Rattle.rtps_types.specs.declared.identity.GuidPrefix.{GuidPrefix}
 use Rattle.dds_qos.specs.declared.policies.Reliability.{Reliability}
 use Rattle.dds_qos.specs.declared.policies.Reliability.TheVariants.{BestEffort, Reliable}
-use Rattle.rtps_receiver.specs.Events.{Happening, events_of}
+use Rattle.rtps_receiver.specs.Events.{EventView, events_of}
 use Rattle.rtps_discovery.specs.Addressed.{unknown_entity}
 use Rattle.rtps_discovery.specs.declared.config.Config.{Config}
 use Rattle.rtps_discovery.specs.declared.config.FixedMatch.{FixedMatch}
@@ -47,13 +47,13 @@ first_world config = record {
 }
 
 -- the events of a list of datagrams, of which the first has this index in the run
-abbrev pub events_from : GuidPrefix → ℕ → List (List ℕ) → List Happening
+abbrev pub events_from : GuidPrefix → ℕ → List (List ℕ) → List EventView
 events_from own index [] = []
 events_from own index (datagram ∷ datagrams) =
     events_of own index datagram ++ events_from own (index + 1) datagrams
 
 -- the events one by one
-abbrev pub world_run : {M : Type 0} → Decoding M → World M → List Happening → World M
+abbrev pub world_run : {M : Type 0} → Decoding M → World M → List EventView → World M
 world_run decoding w [] = w
 world_run decoding w (e ∷ es) = world_run decoding (world_after decoding w e) es
 

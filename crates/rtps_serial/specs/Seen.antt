@@ -9,24 +9,24 @@ use Rattle.rtps_reader.specs.declared.notice.Notice.{Notice}
 use Rattle.rtps_proxy.specs.Matches.{match_with, same_guid}
 use Rattle.rtps_reader.specs.Reader.{Reader}
 use Rattle.rtps_reader.specs.Status.{status_of}
-use Rattle.rtps_serial.specs.World.{Put, Hears, Sends, Sending, World}
+use Rattle.rtps_serial.specs.World.{ReportView, NoticeOf, AnswerOf, AnswerView, World}
 
 -- the notices of the reader of a rank, in order
-abbrev pub notices_by : {M : Type 0} → ℕ → List (Put M) → List (Notice M)
+abbrev pub notices_by : {M : Type 0} → ℕ → List (ReportView M) → List (Notice M)
 notices_by rank [] = []
-notices_by rank (Hears by notice ∷ put) =
+notices_by rank (NoticeOf by notice ∷ put) =
     if by == rank then notice ∷ notices_by rank put else notices_by rank put
-notices_by rank (Sends answer ∷ put) = notices_by rank put
+notices_by rank (AnswerOf answer ∷ put) = notices_by rank put
 
 -- how many readers there are: the ranks are the numbers below it
 abbrev pub reader_count : {M : Type 0} → World M → ℕ
 reader_count w = length w.known.readers
 
 -- the answers, in order
-abbrev pub answers_in : {M : Type 0} → List (Put M) → List Sending
+abbrev pub answers_in : {M : Type 0} → List (ReportView M) → List AnswerView
 answers_in [] = []
-answers_in (Hears by notice ∷ put) = answers_in put
-answers_in (Sends answer ∷ put) = answer ∷ answers_in put
+answers_in (NoticeOf by notice ∷ put) = answers_in put
+answers_in (AnswerOf answer ∷ put) = answer ∷ answers_in put
 
 -- the status of the reader of a rank: its matches and its notices, counted
 abbrev pub status_at : {M : Type 0} → World M → ℕ → Status
@@ -40,7 +40,7 @@ status_seen w rank = if nat_lt rank (reader_count w) then Some (status_at w rank
 abbrev pub matches_below : (ℕ → Reader) → ℕ → List (ℕ × Guid)
 matches_below readers zero = []
 matches_below readers (suc rank) =
-    with_writers (matches_below readers rank) rank (map (λ m. m.whom.writer) (readers rank).matches)
+    with_writers (matches_below readers rank) rank (map (λ m. m.pairing.writer) (readers rank).matches)
 
 abbrev pub matches_seen : {M : Type 0} → World M → List (ℕ × Guid)
 matches_seen w = matches_below w.readers (reader_count w)

@@ -3,26 +3,26 @@ use Rattle.std.specs.Prelude.{ℕ, List, [], ◌∷◌, ◌++◌, map, filter, n
 use Rattle.std.specs.List.Sorted.{IsSortedByKey, IsStableByKey}
 use Rattle.std.specs.Ordering.{nat_cmp}
 use Rattle.rtps_types.specs.declared.place.Place.{Place}
-use Rattle.rtps_receiver.specs.Events.{Happening}
+use Rattle.rtps_receiver.specs.Events.{EventView}
 use Rattle.rtps_discovery.specs.Addressed.{is_for}
 use Rattle.rtps_discovery.specs.Changes.{ChangeAt}
 use Rattle.rtps_discovery.specs.declared.changes.MatchChange.{MatchChange}
 use Rattle.dds_topic.specs.Decoding.{Decoding}
 use Rattle.rtps_reader.specs.Reader.{reader_after}
-use Rattle.rtps_reader.specs.Steps.{Doing, asks_of}
+use Rattle.rtps_reader.specs.Steps.{StepView, asks_of}
 use Rattle.rtps_serial.specs.Seen.{reader_count}
-use Rattle.rtps_serial.specs.World.{Put, World, doing_of, puts_at}
+use Rattle.rtps_serial.specs.World.{ReportView, World, doing_of, puts_at}
 
 -- what is asked of the reader of a rank
 pub record ReaderStep : Type 0 where
   pub rank : ℕ
-  pub what : Doing
+  pub what : StepView
 
-abbrev pub step_by : ℕ → Doing → ReaderStep
+abbrev pub step_by : ℕ → StepView → ReaderStep
 step_by rank what = record { rank = rank; what = what }
 
 -- what the reader puts out at the step; there is none past the last rank
-abbrev pub step_puts : {M : Type 0} → Decoding M → Place → World M → ReaderStep → List (Put M)
+abbrev pub step_puts : {M : Type 0} → Decoding M → Place → World M → ReaderStep → List (ReportView M)
 step_puts decoding place w s =
     if nat_lt s.rank (reader_count w)
     then puts_at decoding place s.rank (w.readers s.rank) s.what
@@ -42,7 +42,7 @@ steps_run decoding place w [] = w
 steps_run decoding place w (s ∷ ss) = steps_run decoding place (world_stepped decoding place w s) ss
 
 -- a user's event is a step of the reader of each of these ranks, where the event names the reader
-abbrev pub event_steps : {M : Type 0} → World M → Happening → List ℕ → List ReaderStep
+abbrev pub event_steps : {M : Type 0} → World M → EventView → List ℕ → List ReaderStep
 event_steps w e ranks =
     map (λ rank. step_by rank (asks_of e))
     (filter (λ rank. is_for e.reader (w.readers rank).entity) ranks)

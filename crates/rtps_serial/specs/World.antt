@@ -3,90 +3,90 @@
 use Rattle.std.specs.Prelude.{ℕ, zero, suc, List, [], ◌∷◌, ◌++◌, length, map, filter, Option, Some, None, ◌==◌, if◌then◌else◌}
 use Rattle.rtps_types.specs.declared.locator.Locator.{Locator}
 use Rattle.rtps_types.specs.declared.place.Place.{Place}
-use Rattle.rtps_receiver.specs.Events.{Happening}
+use Rattle.rtps_receiver.specs.Events.{EventView}
 use Rattle.rtps_discovery.specs.Addressed.{is_addressed, is_discovery}
 use Rattle.rtps_discovery.specs.Changes.{Becomes, ChangeAt, Matches, Unmatches, Refuses}
 use Rattle.rtps_discovery.specs.Known.{Known, Wish, is_matched, reader_at}
 use Rattle.rtps_discovery.specs.Records.{answered, changes_by, known_by}
 use Rattle.dds_topic.specs.Decoding.{Decoding}
-use Rattle.rtps_proxy.specs.Replies.{Sent}
+use Rattle.rtps_proxy.specs.Replies.{ReplyView}
 use Rattle.rtps_reader.specs.declared.notice.Notice.{Notice}
 use Rattle.rtps_reader.specs.Reader.{Reader, reader_after, reader_run, sends, tells}
-use Rattle.rtps_reader.specs.Steps.{Doing, Begins, Ends, Refused, asks_of}
+use Rattle.rtps_reader.specs.Steps.{StepView, Begins, Ends, Refused, asks_of}
 
 -- an answering datagram: the place that it answers, the rank of the reader that sends it (none:
 -- discovery does), where it goes and its octets
-pub record Sending : Type 0 where
+pub record AnswerView : Type 0 where
   pub place : Place
   pub rank : Option ℕ
   pub to : List Locator
   pub octets : List ℕ
 
 -- what is put out: a notice of the reader of a rank, or an answer
-pub data Put (M : Type 0) : Type 0 where
-  Hears : ℕ → Notice M → Put M
-  Sends : Sending → Put M
+pub data ReportView (M : Type 0) : Type 0 where
+  NoticeOf : ℕ → Notice M → ReportView M
+  AnswerOf : AnswerView → ReportView M
 
 pub record World (M : Type 0) : Type 0 where
   pub known : Known
   -- each reader by its rank, counted from 0; there are as many as are known
   pub readers : ℕ → Reader
-  pub put : List (Put M)
+  pub put : List (ReportView M)
 
 -- what a change of what is known asks of a reader
-abbrev pub doing_of : Becomes → Doing
+abbrev pub doing_of : Becomes → StepView
 doing_of (Matches writer locators) = Begins writer locators
 doing_of (Unmatches writer) = Ends writer
 doing_of (Refuses writer policy) = Refused writer policy
 
 -- what these changes ask of the reader of a rank, in order
-abbrev pub changes_for : ℕ → List ChangeAt → List Doing
+abbrev pub changes_for : ℕ → List ChangeAt → List StepView
 changes_for rank changes = map (λ c. doing_of c.what) (filter (λ c. c.rank == rank) changes)
 
 -- a user's event is for a reader that it is addressed to, by what is known at that moment
-abbrev pub addressed_to : Known → ℕ → Happening → Option Wish → List Doing
+abbrev pub addressed_to : Known → ℕ → EventView → Option Wish → List StepView
 addressed_to k rank e None = []
 addressed_to k rank e (Some r) =
     if is_addressed (is_matched k rank) r.entity e then asks_of e ∷ [] else []
 
 -- all that an event asks of the reader of a rank, in order: discovery alone decides it
-abbrev pub doings : Known → ℕ → Happening → List Doing
+abbrev pub doings : Known → ℕ → EventView → List StepView
 doings k rank e =
     if is_discovery e.writer
     then changes_for rank (changes_by k e)
     else addressed_to k rank e (reader_at k.readers rank)
 
 -- what is known after an event
-abbrev pub known_after_event : Known → Happening → Known
+abbrev pub known_after_event : Known → EventView → Known
 known_after_event k e = if is_discovery e.writer then known_by k e else k
 
 -- discovery's answer to an event, with the event's place
-abbrev pub answer_put : {M : Type 0} → Place → Option Sent → List (Put M)
+abbrev pub answer_put : {M : Type 0} → Place → Option ReplyView → List (ReportView M)
 answer_put place None = []
 answer_put place (Some s) =
-    Sends (record { place = place; rank = None; to = s.to; octets = s.octets }) ∷ []
+    AnswerOf (record { place = place; rank = None; to = s.to; octets = s.octets }) ∷ []
 
-abbrev pub discovery_puts : {M : Type 0} → Known → Happening → List (Put M)
+abbrev pub discovery_puts : {M : Type 0} → Known → EventView → List (ReportView M)
 discovery_puts k e = if is_discovery e.writer then answer_put e.place (answered k e) else []
 
 -- an answer of the reader of a rank, with the place of the event that it answers
-abbrev pub sent_by : {M : Type 0} → ℕ → Place × Sent → Put M
-sent_by rank s = Sends (record { place = s.0; rank = Some rank; to = s.1.to; octets = s.1.octets })
+abbrev pub sent_by : {M : Type 0} → ℕ → Place × ReplyView → ReportView M
+sent_by rank s = AnswerOf (record { place = s.0; rank = Some rank; to = s.1.to; octets = s.1.octets })
 
 -- what the reader of a rank puts out at a step: its notices, in order, and then its answer
-abbrev pub puts_at : {M : Type 0} → Decoding M → Place → ℕ → Reader → Doing → List (Put M)
+abbrev pub puts_at : {M : Type 0} → Decoding M → Place → ℕ → Reader → StepView → List (ReportView M)
 puts_at decoding place rank r d =
-    map (Hears rank) (tells decoding r place d) ++ map (sent_by rank) (sends r place d)
+    map (NoticeOf rank) (tells decoding r place d) ++ map (sent_by rank) (sends r place d)
 
 -- and at one step after the other
-abbrev pub puts_run : {M : Type 0} → Decoding M → Place → ℕ → Reader → List Doing → List (Put M)
+abbrev pub puts_run : {M : Type 0} → Decoding M → Place → ℕ → Reader → List StepView → List (ReportView M)
 puts_run decoding place rank r [] = []
 puts_run decoding place rank r (d ∷ ds) =
     puts_at decoding place rank r d ++ puts_run decoding place rank (reader_after r d) ds
 
 -- what the readers of the ranks below a count put out at an event, by rising rank
-abbrev pub puts_below : {M : Type 0} → Decoding M → Known → Happening → (ℕ → Reader) → ℕ
-    → List (Put M)
+abbrev pub puts_below : {M : Type 0} → Decoding M → Known → EventView → (ℕ → Reader) → ℕ
+    → List (ReportView M)
 puts_below decoding k e readers zero = []
 puts_below decoding k e readers (suc rank) =
     puts_below decoding k e readers rank
@@ -94,7 +94,7 @@ puts_below decoding k e readers (suc rank) =
 
 -- one event: what it makes known, then each reader's steps; put out are discovery's answer and, by
 -- rank, each reader's part
-abbrev pub world_after : {M : Type 0} → Decoding M → World M → Happening → World M
+abbrev pub world_after : {M : Type 0} → Decoding M → World M → EventView → World M
 world_after decoding w e = record {
   known = known_after_event w.known e;
   readers = λ rank. reader_run (w.readers rank) (doings w.known rank e);

@@ -2,7 +2,7 @@
 
 ghost use Rattle.std.specs.Prelude.{◌≡◌, ℕ, ◌^◌, ◌<◌, ◌≤◌, ◌==◌, ◌++◌, [], ◌∷◌, IfOk, OnOk, List, if◌then◌else◌, length, map, slice_index_or, vec_len};
 ghost use Rattle.rtps_serial.specs.Outcome.{Deals, report_view};
-ghost use Rattle.rtps_serial.specs.World.{Put};
+ghost use Rattle.rtps_serial.specs.World.{ReportView};
 
 use crate::outcome::{Answer, Outcome, Report};
 use dds_topic::Catalog;
@@ -69,7 +69,7 @@ fn add<C: Catalog, A: Allocator>(
     outcome: &mut Outcome<C::Value, A>,
     report: Report<C::Value, A>,
 ) -> Result<(), AllocError>
-    ensures { (count : ℕ) (put : List (Put C.Meaning)) → Deals C.view count put outcome.old
+    ensures { (count : ℕ) (put : List (ReportView C.Meaning)) → Deals C.view count put outcome.old
         → OnOk result (Deals C.view count (put ++ report_view C.view report ∷ []) outcome.new) }
 {
     match report {

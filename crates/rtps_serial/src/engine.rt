@@ -45,9 +45,9 @@ pub struct SerialEngine<C: Catalog, A: Allocator = Global> {
 
 impl<C: Catalog, A: Allocator> Model for SerialEngine<C, A> {
     ghost use Rattle.std.specs.Prelude.{◌≡◌, ◌≤◌, length};
-    ghost use Rattle.rtps_serial.specs.Standing.{EngineKept};
+    ghost use Rattle.rtps_serial.specs.Standing.{EngineView};
 
-    ghost Value = { EngineKept C };
+    ghost Value = { EngineView C };
 
     ghost view = { λ e. record {
       catalog = e.readers.decoder;

@@ -3,12 +3,12 @@
 ghost use Rattle.std.specs.Prelude.{◌≡◌, ◌<◌, ◌≤◌, ◌++◌, List, OnOk, false, length, map, slice_index_or};
 ghost use Rattle.rtps_discovery.specs.Addressed as addressed;
 ghost use Rattle.rtps_reader.specs.Notices.{answer_view, notice_view};
-ghost use Rattle.rtps_reader.specs.Standing.{ReaderKept};
+ghost use Rattle.rtps_reader.specs.Standing.{ReaderView};
 ghost use Rattle.rtps_reader.specs.Steps.{asked};
 ghost use Rattle.rtps_serial.specs.Outcome.{report_view};
 ghost use Rattle.rtps_serial.specs.Standing.{ReadersStand};
 ghost use Rattle.rtps_serial.specs.Steps.{step_by, world_stepped};
-ghost use Rattle.rtps_serial.specs.World.{Hears, Put, World, sent_by};
+ghost use Rattle.rtps_serial.specs.World.{NoticeOf, ReportView, World, sent_by};
 
 use crate::outcome::{Answer, Report};
 use dds_topic::{Catalog, Decoder};
@@ -46,7 +46,7 @@ impl<C: Catalog, A: Allocator + Copy> Readers<C, A> {
 
     /// Whether there is a reader of the rank, and a reader id is for it.
     pub fn is_named(&self, rank: u32, reader: EntityId) -> bool
-        ensures named { (other : ReaderKept) → rank < length self.now.states.items
+        ensures named { (other : ReaderView) → rank < length self.now.states.items
             → result ≡ addressed.is_for reader
             (slice_index_or self.now.states.items rank other).entity }
         ensures past { length self.now.states.items ≤ rank → result ≡ false }
@@ -68,7 +68,7 @@ impl<C: Catalog, A: Allocator + Copy> Readers<C, A> {
     ) -> Result<(), AllocError>
         ensures same { self.new.decoder ≡ self.old.decoder }
         ensures count { length self.new.states.items ≡ length self.old.states.items }
-        ensures stands { (w : World C.Meaning) (earlier : List (Put C.Meaning))
+        ensures stands { (w : World C.Meaning) (earlier : List (ReportView C.Meaning))
             → ReadersStand C.view w earlier self.old.states.items reports.old.items
             → OnOk result (ReadersStand C.view (world_stepped (C.decoding self.old.decoder)
             step.now.place w (step_by rank (asked step.now.what))) earlier
@@ -93,7 +93,7 @@ fn report_all<C: Catalog, A: Allocator>(
 ) -> Result<(), AllocError>
     ensures { OnOk result (map (report_view C.view) reports.new.items
         ≡ map (report_view C.view) reports.old.items
-        ++ (map (Hears rank) (map (notice_view C.view) output.old.notices.items)
+        ++ (map (NoticeOf rank) (map (notice_view C.view) output.old.notices.items)
         ++ map (sent_by rank) (map answer_view output.old.answers.items))) }
 {
     report_notices::<C, A>(rank, &mut output.notices, reports)?;
@@ -108,7 +108,7 @@ fn report_notices<C: Catalog, A: Allocator>(
 ) -> Result<(), AllocError>
     ensures { OnOk result (map (report_view C.view) reports.new.items
         ≡ map (report_view C.view) reports.old.items
-        ++ map (Hears rank) (map (notice_view C.view) notices.old.items)) }
+        ++ map (NoticeOf rank) (map (notice_view C.view) notices.old.items)) }
 {
     if notices.is_empty() {
         return Ok(());

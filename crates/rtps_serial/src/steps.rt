@@ -7,14 +7,14 @@ ghost use Rattle.rtps_discovery.specs.Addressed as addressed;
 ghost use Rattle.rtps_discovery.specs.Seen.{becomes_seen, change_seen};
 ghost use Rattle.rtps_proxy.specs.Replies.{reply_view};
 ghost use Rattle.rtps_reader.specs.declared.status.Status as status;
-ghost use Rattle.rtps_reader.specs.Standing.{ReaderKept};
+ghost use Rattle.rtps_reader.specs.Standing.{ReaderView};
 ghost use Rattle.rtps_reader.specs.Steps.{asked};
 ghost use Rattle.rtps_serial.specs.Outcome.{report_view};
 ghost use Rattle.rtps_serial.specs.Run.{world_run};
 ghost use Rattle.rtps_serial.specs.Seen.{matches_below};
 ghost use Rattle.rtps_serial.specs.Standing.{AllStand, ReadersStand, WorldStands};
 ghost use Rattle.rtps_serial.specs.Steps.{AreByRank, change_step, event_steps, steps_run};
-ghost use Rattle.rtps_serial.specs.World.{Put, World, answer_put, doing_of, world_after};
+ghost use Rattle.rtps_serial.specs.World.{ReportView, World, answer_put, doing_of, world_after};
 
 use crate::outcome::{Answer, Report};
 use crate::readers::Readers;
@@ -36,7 +36,7 @@ fn take_by_ranks<C: Catalog, A: Allocator + Copy>(
 ) -> Result<(), AllocError>
     ensures same { readers.new.decoder ≡ readers.old.decoder }
     ensures count { length readers.new.states.items ≡ length readers.old.states.items }
-    ensures stands { (w : World C.Meaning) (earlier : List (Put C.Meaning))
+    ensures stands { (w : World C.Meaning) (earlier : List (ReportView C.Meaning))
         → ReadersStand C.view w earlier readers.old.states.items reports.old.items
         → OnOk result (ReadersStand C.view (steps_run (C.decoding readers.old.decoder)
         event.now.place w (event_steps w (view event.now) ranks.now)) earlier
@@ -78,7 +78,7 @@ fn take_changes<C: Catalog, A: Allocator + Copy>(
 ) -> Result<(), AllocError>
     ensures same { readers.new.decoder ≡ readers.old.decoder }
     ensures count { length readers.new.states.items ≡ length readers.old.states.items }
-    ensures stands { (w : World C.Meaning) (earlier : List (Put C.Meaning))
+    ensures stands { (w : World C.Meaning) (earlier : List (ReportView C.Meaning))
         → ReadersStand C.view w earlier readers.old.states.items reports.old.items
         → OnOk result (ReadersStand C.view (steps_run (C.decoding readers.old.decoder) place w
         (map change_step (map change_seen changes.now))) earlier
@@ -139,7 +139,7 @@ fn take_announcement<C: Catalog, A: Allocator + Copy>(
     ensures same { readers.new.decoder ≡ readers.old.decoder }
     ensures count { length readers.new.states.items ≡ length readers.old.states.items }
     ensures stands { addressed.is_discovery event.now.writer ≡ true
-        → (w : World C.Meaning) (earlier : List (Put C.Meaning))
+        → (w : World C.Meaning) (earlier : List (ReportView C.Meaning))
         → WorldStands C.view w earlier discovery.old.kept readers.old.states.items reports.old.items
         → OnOk result (WorldStands C.view (world_after (C.decoding readers.old.decoder) w
         (view event.now)) earlier discovery.new.kept readers.new.states.items
@@ -162,7 +162,7 @@ fn take_event<C: Catalog, A: Allocator + Copy>(
 ) -> Result<(), AllocError>
     ensures same { readers.new.decoder ≡ readers.old.decoder }
     ensures count { length readers.new.states.items ≡ length readers.old.states.items }
-    ensures stands { (w : World C.Meaning) (earlier : List (Put C.Meaning))
+    ensures stands { (w : World C.Meaning) (earlier : List (ReportView C.Meaning))
         → WorldStands C.view w earlier discovery.old.kept readers.old.states.items reports.old.items
         → OnOk result (WorldStands C.view (world_after (C.decoding readers.old.decoder) w
         (view event.now)) earlier discovery.new.kept readers.new.states.items
@@ -220,7 +220,7 @@ pub fn all_matches<C: Catalog, A: Allocator + Copy>(
 /// Writes down the status of each reader, by its rank.
 pub fn show_all<A: Allocator + Copy>(readers: &[ReaderState<A>], statuses: &mut [Status])
     requires { length statuses.old ≡ length readers.now }
-    ensures { (rank : ℕ) (s : status.Status) (r : ReaderKept) → rank < length readers.now
+    ensures { (rank : ℕ) (s : status.Status) (r : ReaderView) → rank < length readers.now
         → slice_index_or statuses.new rank s ≡ (slice_index_or readers.now rank r).status }
 {
     for at in 0..readers.len() {

@@ -1,13 +1,13 @@
 -- A job, some steps after others.
 use Rattle.std.proofs.Common.{◌≡◌, ℕ, List, [], ◌∷◌, ◌++◌, map, refl, sym, ap, ◌∙◌, subst, append_assoc, append-nil}
 use Rattle.rtps_types.specs.declared.place.Place.{Place}
-use Rattle.rtps_receiver.specs.Events.{Happening}
+use Rattle.rtps_receiver.specs.Events.{EventView}
 use Rattle.dds_topic.specs.Decoding.{Decoding}
 use Rattle.rtps_reader.specs.declared.notice.Notice.{Notice}
 use Rattle.rtps_reader.specs.Notices.{answer_view, notice_view}
 use Rattle.rtps_reader.specs.Reader.{Reader, reader_after, sends, tells}
 use Rattle.rtps_reader.specs.Standing.{StandsAt}
-use Rattle.rtps_reader.specs.Steps.{Doing}
+use Rattle.rtps_reader.specs.Steps.{StepView}
 use Rattle.rtps_planner.specs.Job.{Job, job_run, job_sent, job_told}
 use Rattle.rtps_planner.specs.Plan.{steps_seen}
 use Rattle.rtps_shards.specs.declared.jobs.JobResult.{JobResult}
@@ -42,7 +42,7 @@ module _ {V M : Type 0} (f : V → M) (decoding : Decoding M) (r : Reader) (give
   }
 
   -- one step
-  pub one_taken : (place : Place) (what : Doing) (old new : JobResult V) → StandsAt (reader_after r what) (given ++ tells decoding r place what) new.state
+  pub one_taken : (place : Place) (what : StepView) (old new : JobResult V) → StandsAt (reader_after r what) (given ++ tells decoding r place what) new.state
       → map (notice_view f) new.output.notices.items ≡ map (notice_view f) old.output.notices.items ++ tells decoding r place what
       → map answer_view new.output.answers.items ≡ map answer_view old.output.answers.items ++ sends r place what
       → HasTaken f decoding (share r given ((place, what) ∷ [])) old new
@@ -68,7 +68,7 @@ module _ {V M : Type 0} (f : V → M) (decoding : Decoding M) (r : Reader) (give
       }
 
 -- a job whose steps were all taken, into lists that were empty
-pub all_taken : {V M : Type 0} (f : V → M) (decoding : Decoding M) (es : List Happening) (shares : ℕ → Share M) (work : ReaderJob V) (first done : JobResult V) → IsReady es shares work
+pub all_taken : {V M : Type 0} (f : V → M) (decoding : Decoding M) (es : List EventView) (shares : ℕ → Share M) (work : ReaderJob V) (first done : JobResult V) → IsReady es shares work
     → first.output.notices.items ≡ [] → first.output.answers.items ≡ [] → done.rank ≡ work.job.rank → done.state.rank ≡ work.state.rank
     → HasTaken f decoding (share (shares work.job.rank).reader (shares work.job.rank).given (steps_seen es work.job.steps.items)) first done → IsDone f decoding shares done
 all_taken {V} {M} f decoding es shares work first done ready notices answers ranked same taken =

@@ -2,14 +2,14 @@
 use Rattle.std.specs.Prelude.{◌≡◌, ℕ, List, [], ◌∷◌, All, IfOk, Result, Ok, Err, map}
 use Rattle.std.specs.declared.alloc.Global.{Global}
 use Rattle.std.specs.declared.vec.Vec.{Vec}
-use Rattle.rtps_receiver.specs.Events.{Happening}
+use Rattle.rtps_receiver.specs.Events.{EventView}
 use Rattle.dds_topic.specs.Decoding.{Decoding}
 use Rattle.rtps_shards.specs.declared.jobs.JobResult.{JobResult}
 use Rattle.rtps_shards.specs.declared.jobs.ReaderJob.{ReaderJob}
 use Rattle.rtps_shards.specs.Results.{IsDone, IsReady, Share, rank_in, rank_of}
 
 -- one job is done
-unfoldable pub IsJobDone : {V M E : Type 0} → (V → M) → Decoding M → List Happening → ReaderJob V
+unfoldable pub IsJobDone : {V M E : Type 0} → (V → M) → Decoding M → List EventView → ReaderJob V
     → Result (JobResult V) E → Type 0
 IsJobDone f decoding es x result =
     ((shares : ℕ → Share _) → IsReady es shares x
@@ -17,7 +17,7 @@ IsJobDone f decoding es x result =
     × IfOk result (λ done. rank_of done ≡ rank_in x)
 
 -- all jobs of a worker are done, in their order
-unfoldable pub IsPileDone : {V M E : Type 0} → (V → M) → Decoding M → List Happening
+unfoldable pub IsPileDone : {V M E : Type 0} → (V → M) → Decoding M → List EventView
     → Vec (ReaderJob V) Global → Result (Vec (JobResult V) Global) E → Type 0
 IsPileDone f decoding es pile result =
     ((shares : ℕ → Share _) → All (IsReady es shares) pile.items

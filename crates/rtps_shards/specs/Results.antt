@@ -1,6 +1,6 @@
 -- What comes of the jobs of a batch (DDSI-RTPS 8.4.10, 8.5).
 use Rattle.std.specs.Prelude.{◌≡◌, ℕ, List, ◌++◌, map}
-use Rattle.rtps_receiver.specs.Events.{Happening}
+use Rattle.rtps_receiver.specs.Events.{EventView}
 use Rattle.dds_topic.specs.Decoding.{Decoding}
 use Rattle.rtps_reader.specs.declared.notice.Notice.{Notice}
 use Rattle.rtps_reader.specs.Notices.{answer_view, notice_view}
@@ -29,7 +29,7 @@ abbrev pub given_done : {M : Type 0} → Decoding M → Share M → List (Notice
 given_done decoding s = s.given ++ job_told decoding s.reader s.job
 
 -- the steps are those of the share of the job's rank, and the state keeps the reader of that rank
-pub record IsReady {V M : Type 0} (es : List Happening) (shares : ℕ → Share M) (x : ReaderJob V)
+pub record IsReady {V M : Type 0} (es : List EventView) (shares : ℕ → Share M) (x : ReaderJob V)
     : Type 0 where
   pub job : steps_seen es x.job.steps.items ≡ (shares x.job.rank).job
   pub state : StandsFor (shares x.job.rank).reader (shares x.job.rank).given x.job.rank x.state

@@ -7,10 +7,10 @@ use Rattle.std.proofs.lemmas.Bool.Decides.{nat_tests}
 use Rattle.std.proofs.lemmas.Grind.{flat_map-append}
 use Rattle.std.proofs.lemmas.List.{drop-drop, map-append}
 use Rattle.rtps_types.specs.declared.place.Place.{Place}
-use Rattle.rtps_proxy.specs.Replies.{Sent}
+use Rattle.rtps_proxy.specs.Replies.{ReplyView}
 use Rattle.rtps_serial.specs.Presentation.{not_after}
 use Rattle.rtps_serial.specs.World as world
-use Rattle.rtps_serial.specs.World.{Put, Hears, Sends}
+use Rattle.rtps_serial.specs.World.{ReportView, NoticeOf, AnswerOf}
 use Rattle.rtps_planner.specs.Commuting.{Parts, answers_at, discovery_sends, merged, merged_below, notices_at, same_place}
 use Rattle.rtps_planner.specs.Gather.{AreRising}
 use Rattle.rtps_text.specs.Replayed.{put_line, put_lines}
@@ -65,26 +65,26 @@ module _ {X : Type 0} (place : X → Place) where
 
 -- ---- all lists
 
-answers_put : {M : Type 0} (text : M → List ℕ) (put : Place × Sent → Put M) → ((s : Place × Sent) → put_line text (put s) ≡ answer_line s.0 s.1.to s.1.octets)
-    → (ss : List (Place × Sent)) → put_lines text (map put ss) ≡ answer_lines ss
+answers_put : {M : Type 0} (text : M → List ℕ) (put : Place × ReplyView → ReportView M) → ((s : Place × ReplyView) → put_line text (put s) ≡ answer_line s.0 s.1.to s.1.octets)
+    → (ss : List (Place × ReplyView)) → put_lines text (map put ss) ≡ answer_lines ss
 answers_put text put line [] = refl
 answers_put text put line (s ∷ ss) = ap (λ l. l ++ put_lines text (map put ss)) (line s) ∙ ap (λ l. answer_line s.0 s.1.to s.1.octets ++ l) (answers_put text put line ss)
 
 -- the lines of the reader of a rank at a place
 abbrev rank_lines : {M : Type 0} → (M → List ℕ) → Parts M → Place → ℕ → List ℕ
-rank_lines text parts p rank = put_lines text (map (Hears rank) (notices_at p (parts.told rank)) ++ map (world.sent_by rank) (answers_at p (parts.sent rank)))
+rank_lines text parts p rank = put_lines text (map (NoticeOf rank) (notices_at p (parts.told rank)) ++ map (world.sent_by rank) (answers_at p (parts.sent rank)))
 
 part_is : {M : Type 0} (text : M → List ℕ) (parts : Parts M) (p : Place) (ps : List Place) (c : Cursor) → AllByRecursion (λ q. not_after q p ≡ false) ps
     → IsLeft parts (p ∷ ps) c → (part_lines text parts p c ≡ rank_lines text parts p c.rank) × IsLeft parts ps (cursor_after parts p c)
 part_is text parts p ps c later left =
     let told = front_next (λ n. n.place) p ps (parts.told c.rank) c.notices later left.told in
-    let sent = front_next (λ (s : Place × Sent). s.0) p ps (parts.sent c.rank) c.answers later left.sent in (
-      ap (λ l. put_lines text (map (Hears c.rank) l) ++ answer_lines (first_answers p (drop c.answers (parts.sent c.rank)))) told
-          ∙ ap (λ l. put_lines text (map (Hears c.rank) (notices_at p (parts.told c.rank))) ++ l) (ap answer_lines sent ∙ sym (answers_put text (world.sent_by c.rank) (λ s. refl) (answers_at p (parts.sent c.rank))))
-          ∙ sym (flat_map-append (put_line text) (map (Hears c.rank) (notices_at p (parts.told c.rank))) (map (world.sent_by c.rank) (answers_at p (parts.sent c.rank)))),
+    let sent = front_next (λ (s : Place × ReplyView). s.0) p ps (parts.sent c.rank) c.answers later left.sent in (
+      ap (λ l. put_lines text (map (NoticeOf c.rank) l) ++ answer_lines (first_answers p (drop c.answers (parts.sent c.rank)))) told
+          ∙ ap (λ l. put_lines text (map (NoticeOf c.rank) (notices_at p (parts.told c.rank))) ++ l) (ap answer_lines sent ∙ sym (answers_put text (world.sent_by c.rank) (λ s. refl) (answers_at p (parts.sent c.rank))))
+          ∙ sym (flat_map-append (put_line text) (map (NoticeOf c.rank) (notices_at p (parts.told c.rank))) (map (world.sent_by c.rank) (answers_at p (parts.sent c.rank)))),
       record {
         told = rest_next (λ n. n.place) p ps (parts.told c.rank) c.notices later left.told;
-        sent = rest_next (λ (s : Place × Sent). s.0) p ps (parts.sent c.rank) c.answers later left.sent;
+        sent = rest_next (λ (s : Place × ReplyView). s.0) p ps (parts.sent c.rank) c.answers later left.sent;
       },
     )
 
@@ -107,14 +107,14 @@ merged_lines text parts p (suc rank) =
     flat_map-append (rank_lines text parts p) (ranks_below rank) (rank ∷ [])
     ∙ ap (λ l. l ++ (rank_lines text parts p rank ++ [])) (merged_lines text parts p rank)
     ∙ ap (λ l. put_lines text (merged_below p parts rank) ++ l) (append-nil (rank_lines text parts p rank))
-    ∙ sym (flat_map-append (put_line text) (merged_below p parts rank) (map (Hears rank) (notices_at p (parts.told rank)) ++ map (world.sent_by rank) (answers_at p (parts.sent rank))))
+    ∙ sym (flat_map-append (put_line text) (merged_below p parts rank) (map (NoticeOf rank) (notices_at p (parts.told rank)) ++ map (world.sent_by rank) (answers_at p (parts.sent rank))))
 
 -- what is printed place by place are the parts, merged, also where it ends before other places
 pub places_merged : {M : Type 0} (text : M → List ℕ) (parts : Parts M) (count : ℕ) (places more : List Place) (said : ℕ) (readers : List Cursor) → AreRising (places ++ more)
     → AreLeft parts count (places ++ more) said readers → places_lines text parts places said readers ≡ put_lines text (merged parts count places)
 places_merged text parts count [] more said readers rising left = refl
 places_merged text parts count (p ∷ ps) more said readers (later, rising) left =
-    let next = front_next (λ (s : Place × Sent). s.0) p (ps ++ more) parts.answers said later left.answers in
+    let next = front_next (λ (s : Place × ReplyView). s.0) p (ps ++ more) parts.answers said later left.answers in
     let all = parts_are text parts p (ps ++ more) readers later left.lists in
     let discovered = map discovery_sends (answers_at p parts.answers) in
     let here : answer_lines (next_said parts p said) ++ parts_lines text parts p readers ≡ put_lines text (discovered ++ merged_below p parts count) =
@@ -123,7 +123,7 @@ places_merged text parts count (p ∷ ps) more said readers (later, rising) left
     ∙ ap (λ l. put_lines text discovered ++ l) (all.0 ∙ ap (flat_map (rank_lines text parts p)) left.ranks ∙ merged_lines text parts p count)
     ∙ sym (flat_map-append (put_line text) discovered (merged_below p parts count)) in
     let rest = places_merged text parts count ps more (said + length (next_said parts p said)) (map (cursor_after parts p) readers) rising (record {
-      answers = rest_next (λ (s : Place × Sent). s.0) p (ps ++ more) parts.answers said later left.answers;
+      answers = rest_next (λ (s : Place × ReplyView). s.0) p (ps ++ more) parts.answers said later left.answers;
       ranks = all.2 ∙ left.ranks;
       lists = all.1;
     }) in

@@ -16,7 +16,7 @@ use Rattle.rtps_records.proofs.Progress.{Progress, many_more, moved}
 use Rattle.dds_topic.specs.Decoding.{Decoding}
 use Rattle.rtps_discovery.specs.declared.config.Config.{Config}
 use Rattle.rtps_serial.specs.Run.{run}
-use Rattle.rtps_serial.specs.Standing.{EngineKept, StandsAt, run_by}
+use Rattle.rtps_serial.specs.Standing.{EngineView, StandsAt, run_by}
 use Rattle.rtps_serial.proofs.Running.{run_count}
 use Rattle.rtps_planner.specs.Commuting.{merged}
 use Rattle.rtps_text.specs.Batched.{RunsBatch}
@@ -77,7 +77,7 @@ given_lines text f decoding config records batch given count counted is =
     ∙ ap (put_lines text) (sym is.put)
 
 -- the lines of a batch are said after what was said before
-says_given : {C V M : Type 0} (text : C → M → List ℕ) (f : V → M) (decoding : C → Decoding M) (before after : EngineKept C) (batch : List (List ℕ)) (given : Given V) (number : ℕ) (kept : List ℕ)
+says_given : {C V M : Type 0} (text : C → M → List ℕ) (f : V → M) (decoding : C → Decoding M) (before after : EngineView C) (batch : List (List ℕ)) (given : Given V) (number : ℕ) (kept : List ℕ)
     → (after.catalog ≡ before.catalog) × (after.config ≡ before.config)
     → ((records : List (List ℕ)) → StandsAt decoding records before → StandsAt decoding (records ++ batch) after)
     → ((records : List (List ℕ)) → StandsAt decoding records before → IsGiven f (run_by decoding before records) (run_by decoding before (records ++ batch)) given)
@@ -102,7 +102,7 @@ says_given {C} text f decoding before after batch given number kept same stands 
 )
 
 -- a batch more was read, and its lines are added
-pub batch_more : {C V M : Type 0} (text : C → M → List ℕ) (f : V → M) (decoding : C → Decoding M) (first now after old new : Option (List ℕ)) (n m : ℕ) (end : BatchEnd) (before next : EngineKept C) (given : Given V) (kept : List ℕ)
+pub batch_more : {C V M : Type 0} (text : C → M → List ℕ) (f : V → M) (decoding : C → Decoding M) (first now after old new : Option (List ℕ)) (n m : ℕ) (end : BatchEnd) (before next : EngineView C) (given : Given V) (kept : List ℕ)
     → (next.catalog ≡ before.catalog) × (next.config ≡ before.config)
     → Progress (λ records said. HasSaid text decoding records said before) first now old new n kept → (r : RunsBatch f decoding now after n m end before next given)
     → Progress (λ records said. HasSaid text decoding records said next) first r.reads.here old new m (kept ++ all_lines (text next.catalog) f given (length next.statuses))
@@ -113,13 +113,13 @@ batch_more text f decoding first now after old new n m end before next given kep
     subst (λ k. Progress then_said first r.reads.here old new k out) (sym r.reads.count) more
 
 -- what the batch gave is by place
-pub batch_by_place : {C V M : Type 0} (text : C → M → List ℕ) (f : V → M) (decoding : C → Decoding M) (first now after old new : Option (List ℕ)) (n m : ℕ) (end : BatchEnd) (before next : EngineKept C) (given : Given V) (kept : List ℕ)
+pub batch_by_place : {C V M : Type 0} (text : C → M → List ℕ) (f : V → M) (decoding : C → Decoding M) (first now after old new : Option (List ℕ)) (n m : ℕ) (end : BatchEnd) (before next : EngineView C) (given : Given V) (kept : List ℕ)
     → Progress (λ records said. HasSaid text decoding records said before) first now old new n kept → RunsBatch f decoding now after n m end before next given → AreByPlace f given
 batch_by_place text f decoding first now after old new n m end before next given kept p r =
     by_place f (run_by decoding before p.records) (run_by decoding before (p.records ++ r.batch)) given (r.gives p.records p.says.stands)
 
 -- and are on their way to the writer
-pub batch_printed : {C V M : Type 0} (text : C → M → List ℕ) (f : V → M) (decoding : C → Decoding M) (first now after old mid new : Option (List ℕ)) (n m : ℕ) (end : BatchEnd) (before next final : EngineKept C) (given : Given V) (kept left : List ℕ)
+pub batch_printed : {C V M : Type 0} (text : C → M → List ℕ) (f : V → M) (decoding : C → Decoding M) (first now after old mid new : Option (List ℕ)) (n m : ℕ) (end : BatchEnd) (before next final : EngineView C) (given : Given V) (kept left : List ℕ)
     → (next.catalog ≡ before.catalog) × (next.config ≡ before.config) → final ≡ next
     → Progress (λ records said. HasSaid text decoding records said before) first now old mid n kept → (r : RunsBatch f decoding now after n m end before next given)
     → Moves mid new (kept ++ all_lines (text next.catalog) f given (length next.statuses)) left

@@ -4,7 +4,7 @@ use Rattle.std.specs.List.{All, AllByRecursion, flat_map}
 use Rattle.std.proofs.lemmas.List.Elements.{All-append, All-from_recursion}
 use Rattle.dds_cache.specs.Calls.{Done, Accepted}
 use Rattle.dds_cache.specs.Standing as shelf
-use Rattle.dds_cache.specs.Standing.{Kept}
+use Rattle.dds_cache.specs.Standing.{CacheView}
 use Rattle.dds_cache.specs.Cache.{cached}
 use Rattle.dds_cache.specs.declared.entry.Sample.{Sample}
 use Rattle.dds_cache.specs.Answered.{answered}
@@ -14,7 +14,7 @@ use Rattle.rtps_records.specs.Runs.{Moves, PutsFront}
 use Rattle.rtps_records.specs.Text.{IsFront}
 use Rattle.rtps_reader.specs.declared.notice.Output.{Output}
 use Rattle.rtps_serial.specs.Seen.{notices_by}
-use Rattle.rtps_serial.specs.World.{Put}
+use Rattle.rtps_serial.specs.World.{ReportView}
 use borrow.Author.Count.{below_more}
 use Rattle.dds_cache.specs.declared.history.History.{History}
 use Rattle.rtps_reader.specs.declared.notice.Notice.{Notice}
@@ -24,11 +24,11 @@ use Rattle.rtps_text.proofs.Run.{Printed, front_more, printed_front, printed_mor
 use Rattle.rtps_text.proofs.Viewing.{taken_same}
 
 -- as many entries are kept as there are
-pub as_many : {V : Type 0} (c : Kept V) (past : List _) → shelf.StandsAt past c → length c.entries ≡ length (cached c.keep past).entries
+pub as_many : {V : Type 0} (c : CacheView V) (past : List _) → shelf.StandsAt past c → length c.entries ≡ length (cached c.keep past).entries
 as_many c past stands = sym (length-map c.entries (λ e. e.1)) ∙ ap length stands.entries
 
 -- the lines of all that a cache hands over
-pub heard_lines : {V M : Type 0} (text : M → List ℕ) (f : V → M) (keep : History) (rank : ℕ) (told : List (Notice M)) (c : Kept V) (h : HasHeard f keep told c) (most : ℕ) (taken : List (Sample V))
+pub heard_lines : {V M : Type 0} (text : M → List ℕ) (f : V → M) (keep : History) (rank : ℕ) (told : List (Notice M)) (c : CacheView V) (h : HasHeard f keep told c) (most : ℕ) (taken : List (Sample V))
     → most ≡ length c.entries → taken ≡ answered c.keep (accepted_after [] h.heard) most any_entry
     → flat_map (entry_line text rank) (map (sample_view f) taken) ≡ cache_lines text keep rank told
 heard_lines text f keep rank told c h most taken all is =
@@ -39,15 +39,15 @@ heard_lines text f keep rank told c h most taken all is =
 -- ---- one cache
 
 -- of these notices some are left; the others were accepted
-pub record GoesOn {V : Type 0} (whole left : List (Notice V)) (old now : Kept V) : Type 0 where
+pub record GoesOn {V : Type 0} (whole left : List (Notice V)) (old now : CacheView V) : Type 0 where
   pub keep : now.keep ≡ old.keep
   pub goes : (past : List (Done V)) → shelf.StandsAt past old
       → (mid : List (Done V)) × shelf.StandsAt mid now × (accepted_after mid left ≡ accepted_after past whole)
 
-pub goes_none : {V : Type 0} (whole left : List (Notice V)) (old : Kept V) → left ≡ whole → GoesOn whole left old old
+pub goes_none : {V : Type 0} (whole left : List (Notice V)) (old : CacheView V) → left ≡ whole → GoesOn whole left old old
 goes_none whole left old e = record { keep = refl; goes = λ past s. (past, s, ap (accepted_after past) e) }
 
-pub goes_more : {V : Type 0} (whole left rest : List (Notice V)) (n : Notice V) (old now new : Kept V) → GoesOn whole left old now → left ≡ n ∷ rest → new.keep ≡ now.keep
+pub goes_more : {V : Type 0} (whole left rest : List (Notice V)) (n : Notice V) (old now new : CacheView V) → GoesOn whole left old now → left ≡ n ∷ rest → new.keep ≡ now.keep
     → ((past : List (Done V)) → shelf.StandsAt past now → shelf.StandsAt (Accepted n ∷ past) new) → GoesOn whole rest old new
 goes_more whole left rest n old now new g e same stands = record {
   keep = same ∙ g.keep;
@@ -56,7 +56,7 @@ goes_more whole left rest n old now new g e same stands = record {
       (Accepted n ∷ m.0, stands m.0 m.1, ap (accepted_after m.0) (sym e) ∙ m.2);
 }
 
-pub goes_all : {V : Type 0} (whole left : List (Notice V)) (old now : Kept V) → GoesOn whole left old now → left ≡ [] → Accepts whole old now
+pub goes_all : {V : Type 0} (whole left : List (Notice V)) (old now : CacheView V) → GoesOn whole left old now → left ≡ [] → Accepts whole old now
 goes_all whole left old now g e = record {
   keep = g.keep;
   stands = λ past s.
@@ -67,14 +67,14 @@ goes_all whole left old now g e = record {
 -- ---- all caches
 
 -- those of the ranks below i went on, and the others are as they were, and so is what their readers gave out
-pub record AcceptedBelow {V : Type 0} (given : List (Output V Global)) (whole : List (Kept V)) (outputs : List (Output V Global)) (caches : List (Kept V)) (i : ℕ) : Type 0 where
+pub record AcceptedBelow {V : Type 0} (given : List (Output V Global)) (whole : List (CacheView V)) (outputs : List (Output V Global)) (caches : List (CacheView V)) (i : ℕ) : Type 0 where
   pub count : length caches ≡ length whole
   pub others : length outputs ≡ length given
-  pub front : (rank : ℕ) → rank < i → (output : Output V Global) (other : Kept V) → Accepts (get_or given rank output).notices.items (get_or whole rank other) (get_or caches rank other)
-  pub back : (rank : ℕ) (other : Kept V) → i ≤ rank → get_or caches rank other ≡ get_or whole rank other
+  pub front : (rank : ℕ) → rank < i → (output : Output V Global) (other : CacheView V) → Accepts (get_or given rank output).notices.items (get_or whole rank other) (get_or caches rank other)
+  pub back : (rank : ℕ) (other : CacheView V) → i ≤ rank → get_or caches rank other ≡ get_or whole rank other
   pub left : (rank : ℕ) (output : Output V Global) → i ≤ rank → get_or outputs rank output ≡ get_or given rank output
 
-pub accepted_none : {V : Type 0} (given : List (Output V Global)) (whole : List (Kept V)) → AcceptedBelow given whole given whole 0
+pub accepted_none : {V : Type 0} (given : List (Output V Global)) (whole : List (CacheView V)) → AcceptedBelow given whole given whole 0
 accepted_none given whole = record {
   count = refl;
   others = refl;
@@ -83,7 +83,7 @@ accepted_none given whole = record {
   left = λ rank output past. refl;
 }
 
-pub accepted_more : {V : Type 0} (given : List (Output V Global)) (whole : List (Kept V)) (outputs : List (Output V Global)) (caches : List (Kept V)) (i : ℕ) (c new : Kept V) (o p : Output V Global)
+pub accepted_more : {V : Type 0} (given : List (Output V Global)) (whole : List (CacheView V)) (outputs : List (Output V Global)) (caches : List (CacheView V)) (i : ℕ) (c new : CacheView V) (o p : Output V Global)
     → AcceptedBelow given whole outputs caches i → i < length caches → i < length outputs → c ≡ get_or caches i c → o ≡ get_or outputs i o → Accepts o.notices.items c new
     → AcceptedBelow given whole (set outputs i p) (set caches i new) (i + 1)
 accepted_more {V} given whole outputs caches i c new o p a below within here there accepts = record {
@@ -95,12 +95,12 @@ accepted_more {V} given whole outputs caches i c new o p a below within here the
 }
   where
     P : ℕ → Type 0
-    P rank = (output : Output V Global) (other : Kept V) → Accepts (get_or given rank output).notices.items (get_or whole rank other) (get_or (set caches i new) rank other)
+    P rank = (output : Output V Global) (other : CacheView V) → Accepts (get_or given rank output).notices.items (get_or whole rank other) (get_or (set caches i new) rank other)
 
-    before : (rank : ℕ) → rank < i → (output : Output V Global) (other : Kept V) → Accepts (get_or given rank output).notices.items (get_or whole rank other) (get_or (set caches i new) rank other)
+    before : (rank : ℕ) → rank < i → (output : Output V Global) (other : CacheView V) → Accepts (get_or given rank output).notices.items (get_or whole rank other) (get_or (set caches i new) rank other)
     before rank less output other = subst (Accepts (get_or given rank output).notices.items (get_or whole rank other)) (sym (get_or-set_other caches i rank new other (λ e. absurd (omega (arith, e, less))))) (a.front rank less output other)
 
-    at : (output : Output V Global) (other : Kept V) → Accepts (get_or given i output).notices.items (get_or whole i other) (get_or (set caches i new) i other)
+    at : (output : Output V Global) (other : CacheView V) → Accepts (get_or given i output).notices.items (get_or whole i other) (get_or (set caches i new) i other)
     at output other =
         let same : c ≡ get_or whole i other = here ∙ get_or_default caches i c other below ∙ a.back i other (omega arith) in
         let gave : o ≡ get_or given i output = there ∙ get_or_default outputs i o output within ∙ a.left i output (omega arith) in
@@ -108,7 +108,7 @@ accepted_more {V} given whole outputs caches i c new o p a below within here the
         (subst (λ d. Accepts (get_or given i output).notices.items d new) same
         (subst (λ (g : Output V Global). Accepts g.notices.items c new) gave accepts))
 
-pub accepted_all : {V : Type 0} (given : List (Output V Global)) (whole : List (Kept V)) (outputs : List (Output V Global)) (caches : List (Kept V)) (i : ℕ)
+pub accepted_all : {V : Type 0} (given : List (Output V Global)) (whole : List (CacheView V)) (outputs : List (Output V Global)) (caches : List (CacheView V)) (i : ℕ)
     → AcceptedBelow given whole outputs caches i → length whole ≤ i → AllAccept given whole caches
 accepted_all given whole outputs caches i a past = record {
   count = a.count;
@@ -141,25 +141,25 @@ moves_printed old now octets left whole rest m e = record {
 }
 
 -- the entries of the first ranks come first
-lines_on : {M : Type 0} (text : M → List ℕ) (keep : History) (put : List (Put M)) (i d n : ℕ) → n ≡ d + i → IsFront (entry_lines text keep put i) (entry_lines text keep put n)
+lines_on : {M : Type 0} (text : M → List ℕ) (keep : History) (put : List (ReportView M)) (i d n : ℕ) → n ≡ d + i → IsFront (entry_lines text keep put i) (entry_lines text keep put n)
 lines_on text keep put i zero n e =
     let same : n ≡ i = omega (arith, e) in
     ([], ap (entry_lines text keep put) same ∙ sym (append-nil (entry_lines text keep put i)))
 lines_on text keep put i (suc d) zero e = absurd (omega (arith, e))
 lines_on text keep put i (suc d) (suc n) e = front_more _ _ _ (cache_lines text keep n (notices_by n put)) (lines_on text keep put i d n (omega (arith, e))) refl
 
-pub first_ranks : {M : Type 0} (text : M → List ℕ) (keep : History) (put : List (Put M)) (i n : ℕ) → i ≤ n → IsFront (entry_lines text keep put i) (entry_lines text keep put n)
+pub first_ranks : {M : Type 0} (text : M → List ℕ) (keep : History) (put : List (ReportView M)) (i n : ℕ) → i ≤ n → IsFront (entry_lines text keep put i) (entry_lines text keep put n)
 first_ranks text keep put i n low = lines_on text keep put i (n - i) n (omega (arith, low))
 
 -- the lines of one rank more
-pub rank_more : {M : Type 0} (text : M → List ℕ) (keep : History) (put : List (Put M)) (i : ℕ) (lines : List ℕ) → lines ≡ cache_lines text keep i (notices_by i put)
+pub rank_more : {M : Type 0} (text : M → List ℕ) (keep : History) (put : List (ReportView M)) (i : ℕ) (lines : List ℕ) → lines ≡ cache_lines text keep i (notices_by i put)
     → entry_lines text keep put (i + 1) ≡ entry_lines text keep put i ++ lines
 rank_more text keep put i lines is =
     let next : i + 1 ≡ suc i = omega arith in
     ap (entry_lines text keep put) next ∙ ap (λ l. entry_lines text keep put i ++ l) (sym is)
 
 -- what is taken of the cache of a rank
-pub taken_lines : {V M : Type 0} (text : M → List ℕ) (f : V → M) (keep : History) (put : List (Put M)) (whole caches : List (Kept V)) (i : ℕ) (c : Kept V) (most : ℕ) (taken : List (Sample V))
+pub taken_lines : {V M : Type 0} (text : M → List ℕ) (f : V → M) (keep : History) (put : List (ReportView M)) (whole caches : List (CacheView V)) (i : ℕ) (c : CacheView V) (most : ℕ) (taken : List (Sample V))
     → AllHeard f keep put whole → length caches ≡ length whole → i < length caches → c ≡ get_or caches i c → get_or caches i c ≡ get_or whole i c
     → most ≡ length c.entries → ((past : List (Done V)) → shelf.StandsAt past c → taken ≡ answered c.keep past most any_entry)
     → flat_map (entry_line text i) (map (sample_view f) taken) ≡ cache_lines text keep i (notices_by i put)
@@ -169,7 +169,7 @@ taken_lines text f keep put whole caches i c most taken heard count below here s
     heard_lines text f keep i (notices_by i put) c h most taken all (is (accepted_after [] h.heard) h.stands)
 
 -- the lines of the ranks below i are on their way, of those of the ranks below n
-pub ranks_printed : {M : Type 0} (text : M → List ℕ) (keep : History) (put : List (Put M)) (i n : ℕ) (old now : Option (List ℕ)) (start left : List ℕ)
+pub ranks_printed : {M : Type 0} (text : M → List ℕ) (keep : History) (put : List (ReportView M)) (i n : ℕ) (old now : Option (List ℕ)) (start left : List ℕ)
     → Moves old now (start ++ entry_lines text keep put i) left → i ≤ n → (rest : List ℕ) × Printed old now (start ++ entry_lines text keep put n) left rest
 ranks_printed text keep put i n old now start left m low =
     let front = first_ranks text keep put i n low in (
@@ -179,7 +179,7 @@ ranks_printed text keep put i n old now start left m low =
     )
 
 -- those of one rank more
-pub ranks_moved : {M : Type 0} (text : M → List ℕ) (keep : History) (put : List (Put M)) (i : ℕ) (old now new : Option (List ℕ)) (start left rest lines : List ℕ)
+pub ranks_moved : {M : Type 0} (text : M → List ℕ) (keep : History) (put : List (ReportView M)) (i : ℕ) (old now new : Option (List ℕ)) (start left rest lines : List ℕ)
     → Moves old now (start ++ entry_lines text keep put i) left → Moves now new (left ++ lines) rest → lines ≡ cache_lines text keep i (notices_by i put)
     → Moves old new (start ++ entry_lines text keep put (i + 1)) rest
 ranks_moved text keep put i old now new start left rest lines m n is =
@@ -187,7 +187,7 @@ ranks_moved text keep put i old now new start left rest lines m n is =
     (moves_more old now new (start ++ entry_lines text keep put i) left lines rest m n)
 
 -- a front of the lines of that rank was written
-pub ranks_front : {M : Type 0} (text : M → List ℕ) (keep : History) (put : List (Put M)) (i n : ℕ) (old now new : Option (List ℕ)) (start left lines : List ℕ)
+pub ranks_front : {M : Type 0} (text : M → List ℕ) (keep : History) (put : List (ReportView M)) (i n : ℕ) (old now new : Option (List ℕ)) (start left lines : List ℕ)
     → Moves old now (start ++ entry_lines text keep put i) left → PutsFront now new (left ++ lines) → lines ≡ cache_lines text keep i (notices_by i put) → i + 1 ≤ n
     → PutsFront old new (start ++ entry_lines text keep put n)
 ranks_front text keep put i n old now new start left lines m f is low =
@@ -200,8 +200,8 @@ ranks_front text keep put i n old now new start left lines m f is low =
     printed_front old now new (start ++ entry_lines text keep put n) (left ++ lines) front.0 (printed_more old now (start ++ entry_lines text keep put n) left lines front.0 (left ++ lines) p refl) f
 
 -- one empty cache more
-pub empty_more : {V : Type 0} (history : History) (caches new : List (Kept V)) (c : Kept V) → new ≡ caches ++ c ∷ [] → All (IsEmpty history) caches → c.keep ≡ history → shelf.StandsAt [] c
+pub empty_more : {V : Type 0} (history : History) (caches new : List (CacheView V)) (c : CacheView V) → new ≡ caches ++ c ∷ [] → All (IsEmpty history) caches → c.keep ≡ history → shelf.StandsAt [] c
     → All (IsEmpty history) new
 empty_more {V} history caches new c e all keep stands =
     let one : AllByRecursion (IsEmpty history) (c ∷ []) = (record { keep = keep; stands = stands }, tt) in
-    subst (λ (l : List (Kept V)). All (IsEmpty history) l) (sym e) (All-append (IsEmpty history) caches (c ∷ []) all (All-from_recursion (IsEmpty history) (c ∷ []) one))
+    subst (λ (l : List (CacheView V)). All (IsEmpty history) l) (sym e) (All-append (IsEmpty history) caches (c ∷ []) all (All-from_recursion (IsEmpty history) (c ∷ []) one))

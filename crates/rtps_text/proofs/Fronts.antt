@@ -8,10 +8,10 @@ use Rattle.rtps_reader.specs.declared.notice.Notice.{Notice}
 use Rattle.std.specs.declared.alloc.Global.{Global}
 use Rattle.rtps_reader.specs.declared.notice.Output.{Output}
 use Rattle.rtps_reader.specs.Notices.{answer_view, notice_view}
-use Rattle.rtps_serial.specs.World.{Hears}
+use Rattle.rtps_serial.specs.World.{NoticeOf}
 use Rattle.rtps_planner.specs.Commuting.{Parts, same_place}
 use Rattle.rtps_text.specs.Replayed.{put_lines}
-use Rattle.rtps_proxy.specs.Replies.{Sent}
+use Rattle.rtps_proxy.specs.Replies.{ReplyView}
 use Rattle.rtps_serial.specs.declared.outcome.Answer.{Answer}
 use Rattle.dds_participant.specs.Given.{parts_given, said_view, sent_in, told_in}
 use Rattle.dds_participant.specs.declared.given.Given.{Given}
@@ -45,19 +45,19 @@ notices_more f place ns i n below here same =
 -- one line more
 pub line_more : {M : Type 0} (text : M → List ℕ) (rank : ℕ) (n : Notice M) (first rest whole : List (Notice M)) (old now out : List ℕ)
     → first ≡ n ∷ rest → out ≡ now ++ heard_line text rank n
-    → now ++ put_lines text (map (Hears rank) first) ≡ old ++ put_lines text (map (Hears rank) whole)
-    → out ++ put_lines text (map (Hears rank) rest) ≡ old ++ put_lines text (map (Hears rank) whole)
+    → now ++ put_lines text (map (NoticeOf rank) first) ≡ old ++ put_lines text (map (NoticeOf rank) whole)
+    → out ++ put_lines text (map (NoticeOf rank) rest) ≡ old ++ put_lines text (map (NoticeOf rank) whole)
 line_more text rank n first rest whole old now out e put so_far =
-    ap (λ l. l ++ put_lines text (map (Hears rank) rest)) put
-    ∙ append_assoc now (heard_line text rank n) (put_lines text (map (Hears rank) rest))
-    ∙ ap (λ l. now ++ put_lines text (map (Hears rank) l)) (sym e) ∙ so_far
+    ap (λ l. l ++ put_lines text (map (NoticeOf rank) rest)) put
+    ∙ append_assoc now (heard_line text rank n) (put_lines text (map (NoticeOf rank) rest))
+    ∙ ap (λ l. now ++ put_lines text (map (NoticeOf rank) l)) (sym e) ∙ so_far
 
 -- no line is left
 pub lines_stop : {M : Type 0} (text : M → List ℕ) (rank : ℕ) (first whole : List (Notice M)) (old now : List ℕ)
-    → first ≡ [] → now ++ put_lines text (map (Hears rank) first) ≡ old ++ put_lines text (map (Hears rank) whole)
-    → now ≡ old ++ put_lines text (map (Hears rank) whole)
+    → first ≡ [] → now ++ put_lines text (map (NoticeOf rank) first) ≡ old ++ put_lines text (map (NoticeOf rank) whole)
+    → now ≡ old ++ put_lines text (map (NoticeOf rank) whole)
 lines_stop text rank first whole old now e so_far =
-    sym (append-nil now) ∙ ap (λ l. now ++ put_lines text (map (Hears rank) l)) (sym e) ∙ so_far
+    sym (append-nil now) ∙ ap (λ l. now ++ put_lines text (map (NoticeOf rank) l)) (sym e) ∙ so_far
 
 drop-mapped : {X Y : Type 0} (f : X → Y) (n : ℕ) (xs : List X) → map f (drop n xs) ≡ drop n (map f xs)
 drop-mapped f zero xs = refl
@@ -65,19 +65,19 @@ drop-mapped f (suc n) [] = refl
 drop-mapped f (suc n) (x ∷ xs) = drop-mapped f n xs
 
 -- the lines of one reader's notices, and then those of its answers
-pub both_lines : {V M X : Type 0} (f : V → M) (g : X → Place × Sent) (text : M → List ℕ) (c : Cursor) (place : Place) (ns left : List (Notice V)) (xs rest : List X) (old mid out : List ℕ)
+pub both_lines : {V M X : Type 0} (f : V → M) (g : X → Place × ReplyView) (text : M → List ℕ) (c : Cursor) (place : Place) (ns left : List (Notice V)) (xs rest : List X) (old mid out : List ℕ)
     → left ≡ drop c.notices ns → rest ≡ drop c.answers xs
-    → mid ≡ old ++ put_lines text (map (Hears c.rank) (first_notices place (map (notice_view f) left)))
+    → mid ≡ old ++ put_lines text (map (NoticeOf c.rank) (first_notices place (map (notice_view f) left)))
     → out ≡ mid ++ answer_lines (first_answers place (map g rest))
     → out ≡ old ++ lists_lines text (map (notice_view f) ns) (map g xs) place c
 both_lines f g text c place ns left xs rest old mid out front more notices answers =
-    let told = put_lines text (map (Hears c.rank) (first_notices place (drop c.notices (map (notice_view f) ns)))) in
+    let told = put_lines text (map (NoticeOf c.rank) (first_notices place (drop c.notices (map (notice_view f) ns)))) in
     let sent = answer_lines (first_answers place (drop c.answers (map g xs))) in
     answers ∙ ap (λ l. mid ++ answer_lines (first_answers place l)) (ap (map g) more ∙ drop-mapped g c.answers xs)
-    ∙ ap (λ l. l ++ sent) (notices ∙ ap (λ l. old ++ put_lines text (map (Hears c.rank) (first_notices place l))) (ap (map (notice_view f)) front ∙ drop-mapped (notice_view f) c.notices ns))
+    ∙ ap (λ l. l ++ sent) (notices ∙ ap (λ l. old ++ put_lines text (map (NoticeOf c.rank) (first_notices place l))) (ap (map (notice_view f)) front ∙ drop-mapped (notice_view f) c.notices ns))
     ∙ append_assoc old told sent
 
-pub both_after : {V M X : Type 0} (f : V → M) (g : X → Place × Sent) (c : Cursor) (place : Place) (ns left : List (Notice V)) (xs rest : List X) (m n : ℕ)
+pub both_after : {V M X : Type 0} (f : V → M) (g : X → Place × ReplyView) (c : Cursor) (place : Place) (ns left : List (Notice V)) (xs rest : List X) (m n : ℕ)
     → left ≡ drop c.notices ns → rest ≡ drop c.answers xs
     → m ≡ length (first_notices place (map (notice_view f) left))
     → n ≡ length (first_answers place (map g rest))
@@ -138,8 +138,8 @@ drop-none (suc n) = refl
 nothing_left : {M : Type 0} (text : M → List ℕ) (place : Place) (c : Cursor) → (lists_lines text (nil {X = Notice M}) nil place c ≡ []) × (lists_after (nil {X = Notice M}) nil place c ≡ c)
 nothing_left {M} text place c =
     let told : first_notices place (drop c.notices (nil {X = Notice M})) ≡ [] = ap (first_notices place) (drop-none c.notices) in
-    let sent : first_answers place (drop c.answers (nil {X = Place × Sent})) ≡ [] = ap (first_answers place) (drop-none c.answers) in (
-      ap (λ l. put_lines text (map (Hears c.rank) l) ++ answer_lines (first_answers place (drop c.answers (nil {X = Place × Sent})))) told ∙ ap answer_lines sent,
+    let sent : first_answers place (drop c.answers (nil {X = Place × ReplyView})) ≡ [] = ap (first_answers place) (drop-none c.answers) in (
+      ap (λ l. put_lines text (map (NoticeOf c.rank) l) ++ answer_lines (first_answers place (drop c.answers (nil {X = Place × ReplyView})))) told ∙ ap answer_lines sent,
       after c (ap (λ l. c.notices + length l) told ∙ add-zero c.notices) (ap (λ l. c.answers + length l) sent ∙ add-zero c.answers),
     )
   where
@@ -155,8 +155,8 @@ part_none {V} {M} f text given place c outputs out same test =
     let told = sym (ap (λ l. told_in f l c.rank) (sym same) ∙ told_none f outputs c.rank past) in
     let sent = sym (ap (λ l. sent_in l c.rank) (sym same) ∙ sent_none outputs c.rank past) in
     let none = nothing_left text place c in (
-      sym (append-nil out) ∙ ap (λ l. out ++ l) (sym none.0 ∙ ap (λ l. lists_lines text l (nil {X = Place × Sent}) place c) told ∙ ap (λ l. lists_lines text (told_in f given.outputs.items c.rank) l place c) sent),
-      sym none.1 ∙ ap (λ l. lists_after l (nil {X = Place × Sent}) place c) told ∙ ap (λ l. lists_after (told_in f given.outputs.items c.rank) l place c) sent,
+      sym (append-nil out) ∙ ap (λ l. out ++ l) (sym none.0 ∙ ap (λ l. lists_lines text l (nil {X = Place × ReplyView}) place c) told ∙ ap (λ l. lists_lines text (told_in f given.outputs.items c.rank) l place c) sent),
+      sym none.1 ∙ ap (λ l. lists_after l (nil {X = Place × ReplyView}) place c) told ∙ ap (λ l. lists_after (told_in f given.outputs.items c.rank) l place c) sent,
     )
 
 -- ---- all readers

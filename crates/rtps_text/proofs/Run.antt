@@ -16,10 +16,10 @@ use Rattle.std.proofs.lemmas.Bool.Decides.{nat_tests}
 use Rattle.rtps_reader.specs.declared.status.Status.{Status}
 use Rattle.rtps_serial.specs.Seen.{reader_count, status_at, status_seen}
 use Rattle.rtps_types.specs.declared.identity.GuidPrefix.{GuidPrefix}
-use Rattle.rtps_receiver.specs.Events.{Happening, events_of}
-use Rattle.rtps_serial.specs.World.{Put, World, discovery_puts, puts_below, world_after}
+use Rattle.rtps_receiver.specs.Events.{EventView, events_of}
+use Rattle.rtps_serial.specs.World.{ReportView, World, discovery_puts, puts_below, world_after}
 use Rattle.rtps_serial.specs.Run.{events_from, first_world, world_run}
-use Rattle.rtps_serial.specs.Standing.{EngineKept, StandsAt, run_by}
+use Rattle.rtps_serial.specs.Standing.{EngineView, StandsAt, run_by}
 use Rattle.rtps_text.specs.Replayed.{HasSaid, put_line, replay_text, status_lines, status_text, summary_text, text_by}
 
 -- a text that grows begins as before
@@ -27,14 +27,14 @@ pub front_more : (a b c x : List ℕ) → IsFront a b → c ≡ b ++ x → IsFro
 front_more a b c x f e = (f.0 ++ x, e ∙ ap (λ l. l ++ x) f.1 ∙ append_assoc a f.0 x)
 
 -- without a summary nothing is left to say
-pub ends_plain : {C M : Type 0} (text : C → M → List ℕ) (decoding : C → Decoding M) (engine : EngineKept C) (summary : Bool) (old : List ℕ) → summary ≡ false
+pub ends_plain : {C M : Type 0} (text : C → M → List ℕ) (decoding : C → Decoding M) (engine : EngineView C) (summary : Bool) (old : List ℕ) → summary ≡ false
     → Ends (λ records said. HasSaid text decoding records said engine) (text_by text decoding engine summary) old old
 unfolding Ends
 ends_plain text decoding engine true old e = absurd (let bad : true ≡ false = e in cc)
 ends_plain text decoding engine false old e = ([], sym (append-nil old), λ records said h. ap (λ l. l ++ []) (sym h.lines))
 
 -- the summary is all that is left to say
-pub ends_summed : {C M : Type 0} (text : C → M → List ℕ) (decoding : C → Decoding M) (engine : EngineKept C) (summary : Bool) (old new : List ℕ) → summary ≡ true
+pub ends_summed : {C M : Type 0} (text : C → M → List ℕ) (decoding : C → Decoding M) (engine : EngineView C) (summary : Bool) (old new : List ℕ) → summary ≡ true
     → IsFront old new → ((records : List (List ℕ)) → StandsAt decoding records engine → new ≡ old ++ summary_text (run_by decoding engine records))
     → Ends (λ records said. HasSaid text decoding records said engine) (text_by text decoding engine summary) old new
 unfolding Ends
@@ -47,18 +47,18 @@ ends_summed text decoding engine true old new e front sums = (
 )
 
 -- the run over these events goes on where that over those ends
-abbrev GoesOn : {M : Type 0} → Decoding M → World M → List Happening → List Happening → Type 0
-GoesOn {M} decoding w those these = (extra : List (Put M)) × ((world_run decoding w these).put ≡ (world_run decoding w those).put ++ extra)
+abbrev GoesOn : {M : Type 0} → Decoding M → World M → List EventView → List EventView → Type 0
+GoesOn {M} decoding w those these = (extra : List (ReportView M)) × ((world_run decoding w these).put ≡ (world_run decoding w those).put ++ extra)
 
 -- what was put out stays in front
-put_stays : {M : Type 0} (decoding : Decoding M) (w : World M) (es : List Happening) → GoesOn decoding w [] es
+put_stays : {M : Type 0} (decoding : Decoding M) (w : World M) (es : List EventView) → GoesOn decoding w [] es
 put_stays decoding w [] = ([], sym (append-nil w.put))
 put_stays decoding w (e ∷ es) =
     let here = discovery_puts w.known e ++ puts_below decoding w.known e w.readers (reader_count w) in
     let rest = put_stays decoding (world_after decoding w e) es in
     (here ++ rest.0, rest.1 ∙ append_assoc w.put here rest.0)
 
-goes_on_behind : {M : Type 0} (decoding : Decoding M) (those these : List Happening) → ((w : World M) → GoesOn decoding w those these) → (w : World M) (es : List Happening)
+goes_on_behind : {M : Type 0} (decoding : Decoding M) (those these : List EventView) → ((w : World M) → GoesOn decoding w those these) → (w : World M) (es : List EventView)
     → GoesOn decoding w (es ++ those) (es ++ these)
 goes_on_behind decoding those these on w [] = on w
 goes_on_behind decoding those these on w (e ∷ es) = goes_on_behind decoding those these on (world_after decoding w e) es
@@ -70,7 +70,7 @@ goes_on decoding own index (octets ∷ records) more w =
     goes_on_behind decoding (events_from own (index + 1) records) (events_from own (index + 1) (records ++ more)) (goes_on decoding own (index + 1) records more) w (events_of own index octets)
 
 -- what was said of the first records begins the whole text of all
-pub fronts : {C M : Type 0} (text : C → M → List ℕ) (decoding : C → Decoding M) (summary : Bool) (engine : EngineKept C) (records more : List (List ℕ)) (said : List ℕ)
+pub fronts : {C M : Type 0} (text : C → M → List ℕ) (decoding : C → Decoding M) (summary : Bool) (engine : EngineView C) (records more : List (List ℕ)) (said : List ℕ)
     → HasSaid text decoding records said engine → IsFront said (text_by text decoding engine summary (records ++ more))
 fronts text decoding summary engine records more said h =
     let line = put_line (text engine.catalog) in
@@ -83,7 +83,7 @@ fronts text decoding summary engine records more said h =
     )
 
 -- engines of one catalog and one configuration have one text
-pub same_text : {C M : Type 0} (text : C → M → List ℕ) (decoding : C → Decoding M) (a b : EngineKept C) (s t : Bool) → a.catalog ≡ b.catalog → a.config ≡ b.config → s ≡ t
+pub same_text : {C M : Type 0} (text : C → M → List ℕ) (decoding : C → Decoding M) (a b : EngineView C) (s t : Bool) → a.catalog ≡ b.catalog → a.config ≡ b.config → s ≡ t
     → (records : List (List ℕ)) → text_by text decoding a s records ≡ text_by text decoding b t records
 same_text text decoding a b s t same e f records =
     ap (λ catalog. replay_text (text catalog) (decoding catalog) a.config s records) same

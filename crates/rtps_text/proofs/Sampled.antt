@@ -12,7 +12,7 @@ use Rattle.rtps_records.specs.declared.fault.RunFault.TheVariants.{CannotRead, N
 use Rattle.rtps_records.proofs.Progress.{EndsHere, Finished, Progress, many_more, stops_closing, stops_without}
 use Rattle.dds_topic.specs.Decoding.{Decoding}
 use Rattle.dds_cache.specs.Standing as shelf
-use Rattle.dds_cache.specs.Standing.{Kept}
+use Rattle.dds_cache.specs.Standing.{CacheView}
 use Rattle.dds_cache.specs.Calls.{Done}
 use Rattle.dds_cache.specs.declared.history.History.{History}
 use Rattle.rtps_discovery.specs.declared.config.Config.{Config}
@@ -21,7 +21,7 @@ use Rattle.rtps_reader.specs.declared.notice.Notice.{Notice}
 use Rattle.rtps_reader.specs.declared.notice.Output.{Output}
 use Rattle.rtps_serial.specs.Run.{run}
 use Rattle.rtps_serial.specs.Seen.{notices_by}
-use Rattle.rtps_serial.specs.Standing.{EngineKept, StandsAt, run_by}
+use Rattle.rtps_serial.specs.Standing.{EngineView, StandsAt, run_by}
 use Rattle.rtps_serial.specs.World.{World}
 use Rattle.rtps_serial.proofs.Running.{run_count}
 use Rattle.dds_participant.specs.Given.{IsGiven, told_in}
@@ -37,7 +37,7 @@ use Rattle.rtps_text.proofs.Run.{Printed, printed_front, printed_more}
 -- ---- the caches
 
 -- nothing was told, and nothing was accepted
-pub kept_first : {C V M : Type 0} (f : V → M) (decoding : C → Decoding M) (history : History) (engine : EngineKept C) (caches : List (Kept V)) (readers : ℕ)
+pub kept_first : {C V M : Type 0} (f : V → M) (decoding : C → Decoding M) (history : History) (engine : EngineView C) (caches : List (CacheView V)) (readers : ℕ)
     → StandsAt decoding [] engine → readers ≡ length engine.statuses → length caches ≡ readers → All (IsEmpty history) caches → AreKept f decoding history [] engine caches
 kept_first f decoding history engine caches readers stands counted count empty = record {
   stands = stands;
@@ -57,19 +57,19 @@ accepted_both past [] ms = refl
 accepted_both past (n ∷ ns) ms = accepted_both _ ns ms
 
 -- engines of one catalog and one configuration have one run
-same_run : {C M : Type 0} (decoding : C → Decoding M) (a b : EngineKept C) → (b.catalog ≡ a.catalog) × (b.config ≡ a.config) → (records : List (List ℕ)) → run_by decoding a records ≡ run_by decoding b records
+same_run : {C M : Type 0} (decoding : C → Decoding M) (a b : EngineView C) → (b.catalog ≡ a.catalog) × (b.config ≡ a.config) → (records : List (List ℕ)) → run_by decoding a records ≡ run_by decoding b records
 same_run {C} decoding a b same records =
     ap (λ (k : C). run (decoding k) a.config records) (sym same.0) ∙ ap (λ (config : Config). run (decoding b.catalog) config records) (sym same.1)
 
 -- there is a cache for each reader that gave something out
-pub outputs_many : {C V M : Type 0} (f : V → M) (decoding : C → Decoding M) (history : History) (records batch : List (List ℕ)) (engine : EngineKept C) (caches : List (Kept V)) (given : Given V)
+pub outputs_many : {C V M : Type 0} (f : V → M) (decoding : C → Decoding M) (history : History) (records batch : List (List ℕ)) (engine : EngineView C) (caches : List (CacheView V)) (given : Given V)
     → AreKept f decoding history records engine caches → IsGiven f (run_by decoding engine records) (run_by decoding engine (records ++ batch)) given
     → length given.outputs.items ≡ length caches
 outputs_many f decoding history records batch engine caches given k is =
     is.readers ∙ run_count (decoding engine.catalog) engine.config (records ++ batch) ∙ sym k.count
 
 -- what the readers gave out in a batch was accepted
-pub kept_more : {C V M : Type 0} (f : V → M) (decoding : C → Decoding M) (history : History) (records batch : List (List ℕ)) (before after : EngineKept C) (given : Given V) (caches next : List (Kept V))
+pub kept_more : {C V M : Type 0} (f : V → M) (decoding : C → Decoding M) (history : History) (records batch : List (List ℕ)) (before after : EngineView C) (given : Given V) (caches next : List (CacheView V))
     → (after.catalog ≡ before.catalog) × (after.config ≡ before.config) → AreKept f decoding history records before caches → StandsAt decoding (records ++ batch) after
     → IsGiven f (run_by decoding before records) (run_by decoding before (records ++ batch)) given → AllAccept given.outputs.items caches next
     → AreKept f decoding history (records ++ batch) after next
@@ -79,7 +79,7 @@ kept_more {C} {V} {M} f decoding history records batch before after given caches
   heard = λ rank other below. heard rank other (subst (λ n. rank < n) a.count below);
 }
   where
-    heard : (rank : ℕ) (other : Kept V) → rank < length caches → HasHeard f history (notices_by rank (run_by decoding after (records ++ batch)).put) (get_or next rank other)
+    heard : (rank : ℕ) (other : CacheView V) → rank < length caches → HasHeard f history (notices_by rank (run_by decoding after (records ++ batch)).put) (get_or next rank other)
     heard rank other below =
         let within : rank < length given.outputs.items = subst (λ n. rank < n) (sym (outputs_many f decoding history records batch before caches given k is)) below in
         let o = element given.outputs.items rank within in
@@ -100,10 +100,10 @@ kept_more {C} {V} {M} f decoding history records batch before after given caches
 -- ---- the run so far
 
 -- nothing was said, and the caches have what the readers were told
-abbrev pub IsSilent : {C V M : Type 0} → (V → M) → (C → Decoding M) → History → EngineKept C → List (Kept V) → List (List ℕ) → List ℕ → Type 0
+abbrev pub IsSilent : {C V M : Type 0} → (V → M) → (C → Decoding M) → History → EngineView C → List (CacheView V) → List (List ℕ) → List ℕ → Type 0
 IsSilent f decoding history engine caches records said = (said ≡ []) × AreKept f decoding history records engine caches
 
-silent_more : {C V M : Type 0} (f : V → M) (decoding : C → Decoding M) (history : History) (before after : EngineKept C) (caches next : List (Kept V)) (number : ℕ) (batch : List (List ℕ))
+silent_more : {C V M : Type 0} (f : V → M) (decoding : C → Decoding M) (history : History) (before after : EngineView C) (caches next : List (CacheView V)) (number : ℕ) (batch : List (List ℕ))
     → ((records : List (List ℕ)) → AreKept f decoding history records before caches → AreKept f decoding history (records ++ batch) after next)
     → Says (IsSilent f decoding history before caches) (IsSilent f decoding history after next) number batch [] []
 unfolding Says
@@ -111,7 +111,7 @@ silent_more f decoding history before after caches next number batch more =
     ([], refl, λ records said h count. (append-nil said ∙ h.0, more records h.1))
 
 -- a batch more was read and accepted
-pub sampled_more : {C V M : Type 0} (f : V → M) (decoding : C → Decoding M) (history : History) (first now after old mid : Option (List ℕ)) (n m : ℕ) (end : BatchEnd) (before next final : EngineKept C) (given : Given V) (caches later : List (Kept V)) (again : History)
+pub sampled_more : {C V M : Type 0} (f : V → M) (decoding : C → Decoding M) (history : History) (first now after old mid : Option (List ℕ)) (n m : ℕ) (end : BatchEnd) (before next final : EngineView C) (given : Given V) (caches later : List (CacheView V)) (again : History)
     → (next.catalog ≡ before.catalog) × (next.config ≡ before.config) → final ≡ next → again ≡ history
     → Progress (IsSilent f decoding history before caches) first now old mid n [] → (r : RunsBatch f decoding now after n m end before next given) → AllAccept given.outputs.items caches later
     → Progress (IsSilent f decoding again final later) first r.reads.here old mid m []
@@ -123,14 +123,14 @@ sampled_more f decoding history first now after old mid n m end before next fina
     (subst (λ k. Progress (IsSilent f decoding history next later) first r.reads.here old mid k []) (sym r.reads.count) more))
 
 -- there is an output for each cache
-pub sampled_many : {C V M : Type 0} (f : V → M) (decoding : C → Decoding M) (history : History) (first now after old mid : Option (List ℕ)) (n m : ℕ) (end : BatchEnd) (before next : EngineKept C) (given : Given V) (caches : List (Kept V))
+pub sampled_many : {C V M : Type 0} (f : V → M) (decoding : C → Decoding M) (history : History) (first now after old mid : Option (List ℕ)) (n m : ℕ) (end : BatchEnd) (before next : EngineView C) (given : Given V) (caches : List (CacheView V))
     → Progress (IsSilent f decoding history before caches) first now old mid n [] → RunsBatch f decoding now after n m end before next given
     → length given.outputs.items ≡ length caches
 sampled_many f decoding history first now after old mid n m end before next given caches p r =
     outputs_many f decoding history p.records r.batch before caches given p.says.1 (r.gives p.records p.says.1.stands)
 
 -- runs of one catalog and one configuration that are kept alike have one text
-pub same_samples : {C M : Type 0} (text : C → M → List ℕ) (decoding : C → Decoding M) (a b : EngineKept C) (s t : Bool) (j k : History) → a.catalog ≡ b.catalog → a.config ≡ b.config → s ≡ t → j ≡ k
+pub same_samples : {C M : Type 0} (text : C → M → List ℕ) (decoding : C → Decoding M) (a b : EngineView C) (s t : Bool) (j k : History) → a.catalog ≡ b.catalog → a.config ≡ b.config → s ≡ t → j ≡ k
     → (records : List (List ℕ)) → samples_by text decoding a s j records ≡ samples_by text decoding b t k records
 same_samples {C} text decoding a b s t j k same e f g records =
     ap (λ (catalog : C). samples_text (text catalog) (decoding catalog) a.config s j records) same
@@ -154,7 +154,7 @@ nothing_front : (whole : List (List ℕ) → List ℕ) (records more : List (Lis
 nothing_front whole records more words e = (whole (records ++ more), ap (λ w. w ++ whole (records ++ more)) (sym e))
 
 -- want of memory before anything was said
-pub stops_silent : {C V M : Type 0} (f : V → M) (decoding : C → Decoding M) (history : History) (engine : EngineKept C) (caches : List (Kept V)) (whole : List (List ℕ) → List ℕ) (first now after old mid : Option (List ℕ)) (n : ℕ) (fault : RunFault)
+pub stops_silent : {C V M : Type 0} (f : V → M) (decoding : C → Decoding M) (history : History) (engine : EngineView C) (caches : List (CacheView V)) (whole : List (List ℕ) → List ℕ) (first now after old mid : Option (List ℕ)) (n : ℕ) (fault : RunFault)
     → n ≤ 4294967295 → Progress (IsSilent f decoding history engine caches) first now old mid n [] → fault ≡ NoMemory → StopsLate whole fault first after old mid
 stops_silent f decoding history engine caches whole first now after old mid n fault few p is =
     subst (λ e. StopsLate whole e first after old mid) (sym is)
@@ -162,7 +162,7 @@ stops_silent f decoding history engine caches whole first now after old mid n fa
     (stops_without _ whole whole first now after old mid n [] few p (λ records more words s. nothing_front whole records more words s.0) (λ records. refl)))
 
 -- all was written
-pub finished : {C V M : Type 0} (f : V → M) (decoding : C → Decoding M) (history : History) (engine : EngineKept C) (caches : List (Kept V)) (text whole : List (List ℕ) → List ℕ) (first now old mid new : Option (List ℕ)) (n : ℕ)
+pub finished : {C V M : Type 0} (f : V → M) (decoding : C → Decoding M) (history : History) (engine : EngineView C) (caches : List (CacheView V)) (text whole : List (List ℕ) → List ℕ) (first now old mid new : Option (List ℕ)) (n : ℕ)
     → (p : Progress (IsSilent f decoding history engine caches) first now old mid n []) → ((records : List (List ℕ)) → text records ≡ whole records)
     → Appends mid new (text p.records) → Finished whole first now old new n
 finished f decoding history engine caches text whole first now old mid new n p same put = record {
@@ -175,7 +175,7 @@ finished f decoding history engine caches text whole first now old mid new n p s
 }
 
 -- a front was written
-pub stops_late : {C V M : Type 0} (f : V → M) (decoding : C → Decoding M) (history : History) (engine : EngineKept C) (caches : List (Kept V)) (text whole : List (List ℕ) → List ℕ) (first now after old mid new : Option (List ℕ)) (n : ℕ) (end : Option RunFault) (fault : RunFault)
+pub stops_late : {C V M : Type 0} (f : V → M) (decoding : C → Decoding M) (history : History) (engine : EngineView C) (caches : List (CacheView V)) (text whole : List (List ℕ) → List ℕ) (first now after old mid new : Option (List ℕ)) (n : ℕ) (end : Option RunFault) (fault : RunFault)
     → n ≤ 4294967295 → EndsHere end n now after → (p : Progress (IsSilent f decoding history engine caches) first now old mid n []) → ((records : List (List ℕ)) → text records ≡ whole records)
     → PutsFront mid new (text p.records) → (fault ≡ CannotWrite) ⊎ (fault ≡ NoMemory)
     → StopsLate whole fault first after old new
@@ -202,7 +202,7 @@ stops_late f decoding history engine caches text whole first now after old mid n
       | inr e ↦ subst (λ k. StopsLate whole k first after old new) (sym e) both
     ]
 
-pub fails_late : {U C V M : Type 0} (f : V → M) (decoding : C → Decoding M) (history : History) (engine : EngineKept C) (caches : List (Kept V)) (text whole : List (List ℕ) → List ℕ) (first now after old mid new : Option (List ℕ)) (n : ℕ) (end : Option RunFault) (r : Result U RunFault)
+pub fails_late : {U C V M : Type 0} (f : V → M) (decoding : C → Decoding M) (history : History) (engine : EngineView C) (caches : List (CacheView V)) (text whole : List (List ℕ) → List ℕ) (first now after old mid new : Option (List ℕ)) (n : ℕ) (end : Option RunFault) (r : Result U RunFault)
     → n ≤ 4294967295 → EndsHere end n now after → (p : Progress (IsSilent f decoding history engine caches) first now old mid n []) → ((records : List (List ℕ)) → text records ≡ whole records)
     → OnErr r (PutsFront mid new (text p.records)) → IfErr r (λ fault. (fault ≡ CannotWrite) ⊎ (fault ≡ NoMemory))
     → IfErr r (λ fault. StopsLate whole fault first after old new)
@@ -213,7 +213,7 @@ fails_late f decoding history engine caches text whole first now after old mid n
 -- ---- the last text
 
 -- entries and summary
-pub all_text : {C V M : Type 0} (text : C → M → List ℕ) (f : V → M) (decoding : C → Decoding M) (engine : EngineKept C) (summary : Bool) (history : History) (records : List (List ℕ)) (caches : List (Kept V)) (catalog : C) (rest : List ℕ)
+pub all_text : {C V M : Type 0} (text : C → M → List ℕ) (f : V → M) (decoding : C → Decoding M) (engine : EngineView C) (summary : Bool) (history : History) (records : List (List ℕ)) (caches : List (CacheView V)) (catalog : C) (rest : List ℕ)
     → AreKept f decoding history records engine caches → catalog ≡ engine.catalog → rest ≡ (if summary then summary_text (run_by decoding engine records) else [])
     → samples_by text decoding engine summary history records ≡ entry_lines (text catalog) history (run_by decoding engine records).put (length caches) ++ rest
 all_text {C} text f decoding engine summary history records caches catalog rest k same e =

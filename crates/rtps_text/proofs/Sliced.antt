@@ -13,7 +13,7 @@ use Rattle.std.proofs.lemmas.List.{drop-drop, length-drop, map-append}
 use Rattle.std.proofs.lemmas.List.Elements.{filter-append}
 use Rattle.rtps_types.specs.declared.place.Place.{Place}
 use Rattle.rtps_types.specs.declared.traffic.Reply.{Reply}
-use Rattle.rtps_proxy.specs.Replies.{Sent}
+use Rattle.rtps_proxy.specs.Replies.{ReplyView}
 use Rattle.rtps_reader.specs.declared.notice.Notice.{Notice}
 use Rattle.rtps_reader.specs.declared.notice.Output.{Output}
 use Rattle.rtps_reader.specs.Notices.{answer_view, notice_view}
@@ -210,7 +210,7 @@ left_some {V} {M} f given before p after rank outputs o ns rs n m same test e cu
     let sent = ap (λ l. sent_in l rank) (sym same) ∙ sent_some outputs rank o below e in
     record {
       told = list_left (notice_view f) (λ (x : Notice M). x.place) before p after given.places.items ns (told_in f given.outputs.items rank) n cut by.places (by.notices rank) (told ∙ ap (map (notice_view f)) (sym all_notices)) notices;
-      sent = list_left answer_view (λ (s : Place × Sent). s.0) before p after given.places.items rs (sent_in given.outputs.items rank) m cut by.places (by.answers rank) (sent ∙ ap (map answer_view) (sym all_answers)) answers;
+      sent = list_left answer_view (λ (s : Place × ReplyView). s.0) before p after given.places.items rs (sent_in given.outputs.items rank) m cut by.places (by.answers rank) (sent ∙ ap (map answer_view) (sym all_answers)) answers;
     }
 
 -- where there is no such reader
@@ -223,16 +223,16 @@ left_none {V} {M} f given p after rank outputs same test =
     let sent : sent_in given.outputs.items rank ≡ [] = ap (λ l. sent_in l rank) (sym same) ∙ sent_none outputs rank past in
     record {
       told = told ∙ sym (along_none (λ (x : Notice M). x.place) (p ∷ after)) ∙ ap (along (λ (x : Notice M). x.place) (p ∷ after)) (sym told);
-      sent = sent ∙ sym (along_none (λ (s : Place × Sent). s.0) (p ∷ after)) ∙ ap (along (λ (s : Place × Sent). s.0) (p ∷ after)) (sym sent);
+      sent = sent ∙ sym (along_none (λ (s : Place × ReplyView). s.0) (p ∷ after)) ∙ ap (along (λ (s : Place × ReplyView). s.0) (p ∷ after)) (sym sent);
     }
 
 -- discovery's answers
 pub left_said : {V M : Type 0} (f : V → M) (given : Given V) (before : List Place) (p : Place) (after : List Place) (items : List (Answer Global)) (n : ℕ)
     → items ≡ given.answers.items → given.places.items ≡ before ++ p ∷ after → AreByPlace f given
     → (IsPartitionedBy (λ a. is_before a.place p) items → drop n items ≡ filter (λ a. not (is_before a.place p)) items)
-    → drop n (map said_view given.answers.items) ≡ along (λ (s : Place × Sent). s.0) (p ∷ after) (map said_view given.answers.items)
+    → drop n (map said_view given.answers.items) ≡ along (λ (s : Place × ReplyView). s.0) (p ∷ after) (map said_view given.answers.items)
 left_said f given before p after items n same cut by left =
-    list_left said_view (λ (s : Place × Sent). s.0) before p after given.places.items items (map said_view given.answers.items) n cut by.places by.said (ap (map said_view) (sym same)) left
+    list_left said_view (λ (s : Place × ReplyView). s.0) before p after given.places.items items (map said_view given.answers.items) n cut by.places by.said (ap (map said_view) (sym same)) left
 
 -- one reader more
 pub left_more : {M : Type 0} (parts : Parts M) (places : List Place) (cs : List Cursor) (c : Cursor) → AllByRecursion (IsLeft parts places) cs → IsLeft parts places c → AllByRecursion (IsLeft parts places) (cs ++ c ∷ [])

@@ -3,7 +3,7 @@ use Rattle.std.specs.Prelude.{◌≡◌, ℕ, List, ◌++◌, Option}
 use Rattle.rtps_records.specs.Batches.{ReadsBatch}
 use Rattle.rtps_records.specs.declared.batch_end.BatchEnd.{BatchEnd}
 use Rattle.dds_topic.specs.Decoding.{Decoding}
-use Rattle.rtps_serial.specs.Standing.{EngineKept, StandsAt, run_by}
+use Rattle.rtps_serial.specs.Standing.{EngineView, StandsAt, run_by}
 use Rattle.dds_participant.specs.Given.{IsGiven}
 use Rattle.dds_participant.specs.declared.given.Given.{Given}
 use Rattle.rtps_text.specs.declared.running.RunLines.{RunLines}
@@ -17,7 +17,7 @@ pub record IsSameRun {C V U : Type 0} (old new : RunLines C V U) : Type 0 where
 
 -- after n records a batch of them was read, which makes them m, and this is what an engine gave of it
 pub record RunsBatch {C V M : Type 0} (f : V → M) (decoding : C → Decoding M)
-    (before after : Option (List ℕ)) (n m : ℕ) (end : BatchEnd) (old new : EngineKept C)
+    (before after : Option (List ℕ)) (n m : ℕ) (end : BatchEnd) (old new : EngineView C)
     (given : Given V) : Type 0 where
   pub batch : List (List ℕ)
   pub reads : ReadsBatch before after n m batch end

@@ -7,54 +7,54 @@ use Rattle.rtps_records.specs.declared.fault.RunFault.TheVariants.{CannotRead, N
 use Rattle.dds_topic.specs.Decoding.{Decoding}
 use Rattle.dds_cache.specs.Calls.{Done}
 use Rattle.dds_cache.specs.Standing as shelf
-use Rattle.dds_cache.specs.Standing.{Kept}
+use Rattle.dds_cache.specs.Standing.{CacheView}
 use Rattle.dds_cache.specs.declared.history.History.{History}
 use Rattle.rtps_reader.specs.Notices.{notice_view}
 use Rattle.rtps_reader.specs.declared.notice.Notice.{Notice}
 use Rattle.rtps_reader.specs.declared.notice.Output.{Output}
 use Rattle.rtps_serial.specs.Seen.{notices_by}
-use Rattle.rtps_serial.specs.Standing.{EngineKept, StandsAt, run_by}
-use Rattle.rtps_serial.specs.World.{Put}
+use Rattle.rtps_serial.specs.Standing.{EngineView, StandsAt, run_by}
+use Rattle.rtps_serial.specs.World.{ReportView}
 use Rattle.rtps_text.specs.Entries.{accepted_after}
 
 -- a cache in which nothing was done
-pub record IsEmpty {V : Type 0} (history : History) (cache : Kept V) : Type 0 where
+pub record IsEmpty {V : Type 0} (history : History) (cache : CacheView V) : Type 0 where
   pub keep : cache.keep ≡ history
   pub stands : shelf.StandsAt [] cache
 
 -- a cache accepted notices that mean these, in order
 pub record HasHeard {V M : Type 0} (f : V → M) (history : History) (told : List (Notice M))
-    (cache : Kept V) : Type 0 where
+    (cache : CacheView V) : Type 0 where
   pub keep : cache.keep ≡ history
   pub heard : List (Notice V)
   pub means : map (notice_view f) heard ≡ told
   pub stands : shelf.StandsAt (accepted_after [] heard) cache
 
 -- the cache of each rank accepted what the reader of the rank was told
-abbrev pub AllHeard : {V M : Type 0} → (V → M) → History → List (Put M) → List (Kept V) → Type 0
+abbrev pub AllHeard : {V M : Type 0} → (V → M) → History → List (ReportView M) → List (CacheView V) → Type 0
 AllHeard {V} f keep put caches =
-    (rank : ℕ) (other : Kept V) → rank < length caches
+    (rank : ℕ) (other : CacheView V) → rank < length caches
     → HasHeard f keep (notices_by rank put) (slice_index_or caches rank other)
 
 -- an engine stands at these records, and there is a cache for each reader, which accepted what the
 -- reader was told
 pub record AreKept {C V M : Type 0} (f : V → M) (decoding : C → Decoding M) (keep : History)
-    (records : List (List ℕ)) (engine : EngineKept C) (caches : List (Kept V)) : Type 0 where
+    (records : List (List ℕ)) (engine : EngineView C) (caches : List (CacheView V)) : Type 0 where
   pub stands : StandsAt decoding records engine
   pub count : length caches ≡ length engine.config.readers.items
   pub heard : AllHeard f keep (run_by decoding engine records).put caches
 
 -- a cache goes on by these notices, whatever was done with it before
-pub record Accepts {V : Type 0} (notices : List (Notice V)) (old new : Kept V) : Type 0 where
+pub record Accepts {V : Type 0} (notices : List (Notice V)) (old new : CacheView V) : Type 0 where
   pub keep : new.keep ≡ old.keep
   pub stands : (past : List (Done V)) → shelf.StandsAt past old
       → shelf.StandsAt (accepted_after past notices) new
 
 -- each cache goes on by what the reader of its rank gave out
-pub record AllAccept {V : Type 0} (outputs : List (Output V Global)) (old new : List (Kept V))
+pub record AllAccept {V : Type 0} (outputs : List (Output V Global)) (old new : List (CacheView V))
     : Type 0 where
   pub count : length new ≡ length old
-  pub each : (rank : ℕ) (output : Output V Global) (other : Kept V) → rank < length old
+  pub each : (rank : ℕ) (output : Output V Global) (other : CacheView V) → rank < length old
       → Accepts (slice_index_or outputs rank output).notices.items (slice_index_or old rank other)
       (slice_index_or new rank other)
 

@@ -25,8 +25,8 @@ use Rattle.rtps_discovery.specs.declared.config.Config.{Config}
 use Rattle.rtps_reader.specs.declared.notice.Notice.{Notice}
 use Rattle.rtps_serial.specs.Run.{run}
 use Rattle.rtps_serial.specs.Seen.{notices_by, reader_count}
-use Rattle.rtps_serial.specs.Standing.{EngineKept}
-use Rattle.rtps_serial.specs.World.{Put}
+use Rattle.rtps_serial.specs.Standing.{EngineView}
+use Rattle.rtps_serial.specs.World.{ReportView}
 use Rattle.rtps_ascii.specs.Hex.{hex_text}
 use Rattle.rtps_text.specs.Line.{◌then◌, time_text}
 use Rattle.rtps_text.specs.Replayed.{summary_text}
@@ -89,7 +89,7 @@ cache_lines text keep rank told =
     flat_map (entry_line text rank) (all_taken keep (accepted_after [] told))
 
 -- the lines of the readers of the ranks below a count, by rank
-abbrev pub entry_lines : {M : Type 0} → (M → List ℕ) → History → List (Put M) → ℕ → List ℕ
+abbrev pub entry_lines : {M : Type 0} → (M → List ℕ) → History → List (ReportView M) → ℕ → List ℕ
 entry_lines text keep put zero = []
 entry_lines text keep put (suc rank) =
     entry_lines text keep put rank ++ cache_lines text keep rank (notices_by rank put)
@@ -103,7 +103,7 @@ samples_text text decoding config summary keep records =
     ++ (if summary then summary_text (run decoding config records) else [])
 
 -- the same, by an engine's catalog and configuration
-abbrev pub samples_by : {C M : Type 0} → (C → M → List ℕ) → (C → Decoding M) → EngineKept C → Bool
+abbrev pub samples_by : {C M : Type 0} → (C → M → List ℕ) → (C → Decoding M) → EngineView C → Bool
     → History → List (List ℕ) → List ℕ
 samples_by text decoding engine summary keep records =
     samples_text (text engine.catalog) (decoding engine.catalog) engine.config summary keep records

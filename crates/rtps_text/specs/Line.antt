@@ -8,8 +8,8 @@ use Rattle.rtps_types.specs.declared.time.Timestamp.{Timestamp}
 use Rattle.rtps_types.specs.NumberSet.{members}
 use Rattle.rtps_wire.specs.declared.data.Form.{Form}
 use Rattle.rtps_wire.specs.declared.data.Form.TheVariants.{Value, Key, Other, Nothing}
-use Rattle.rtps_receiver.specs.Brought.{Announced, AnnouncedFragments, Brought, Change, Fragments, Passed, Whole, Fragment, Heartbeat, Gap, HeartbeatFrag}
-use Rattle.rtps_receiver.specs.Events.{Happening}
+use Rattle.rtps_receiver.specs.EventBody.{HeartbeatView, HeartbeatFragView, EventBody, WholeView, FragmentView, GapView, Whole, Fragment, Heartbeat, Gap, HeartbeatFrag}
+use Rattle.rtps_receiver.specs.Events.{EventView}
 use Rattle.rtps_ascii.specs.Hex.{hex_text}
 
 -- two texts with a blank between
@@ -52,26 +52,26 @@ abbrev pub numbers_text : List ℕ → List ℕ
 numbers_text [] = codes "-"
 numbers_text (n ∷ ns) = decimal n ++ more_text ns
 
-abbrev pub whole_text : Change → List ℕ
+abbrev pub whole_text : WholeView → List ℕ
 whole_text c = codes "data" then decimal c.number then hex_text (c.info.status ∷ []) then form_word c.info.form then hex_text c.payload then hash_text c.info.hash
 
 -- which fragments they are, and their payload
-abbrev pub pieces_text : Fragments → List ℕ
+abbrev pub pieces_text : FragmentView → List ℕ
 pieces_text f = decimal f.start then decimal f.count then decimal f.size then decimal f.sample then hex_text f.payload then hash_text f.info.hash
 
-abbrev pub fragment_text : Fragments → List ℕ
+abbrev pub fragment_text : FragmentView → List ℕ
 fragment_text f = codes "frag" then decimal f.number then hex_text (f.info.status ∷ []) then form_word f.info.form then pieces_text f
 
-abbrev pub heartbeat_text : Announced → List ℕ
+abbrev pub heartbeat_text : HeartbeatView → List ℕ
 heartbeat_text h = codes "heartbeat" then decimal h.first then decimal h.last then signed_decimal h.count then flags_text h.final_flag h.liveliness
 
-abbrev pub gap_text : Passed → List ℕ
+abbrev pub gap_text : GapView → List ℕ
 gap_text g = codes "gap" then decimal g.start then decimal g.list.base then numbers_text (members g.list)
 
-abbrev pub heartbeat_frag_text : AnnouncedFragments → List ℕ
+abbrev pub heartbeat_frag_text : HeartbeatFragView → List ℕ
 heartbeat_frag_text h = codes "heartbeat-frag" then decimal h.number then decimal h.last then signed_decimal h.count
 
-abbrev pub body_text : Brought → List ℕ
+abbrev pub body_text : EventBody → List ℕ
 body_text (Whole c) = whole_text c
 body_text (Fragment f) = fragment_text f
 body_text (Heartbeat h) = heartbeat_text h
@@ -79,8 +79,8 @@ body_text (Gap g) = gap_text g
 body_text (HeartbeatFrag h) = heartbeat_frag_text h
 
 -- what stands before the body
-abbrev pub context_text : Happening → List ℕ
+abbrev pub context_text : EventView → List ℕ
 context_text h = place_text h.place then hex_text h.source.0 then time_text h.time then hex_text h.writer.0 then hex_text h.reader.0
 
-abbrev pub line_of : Happening → List ℕ
+abbrev pub line_of : EventView → List ℕ
 line_of h = context_text h then (body_text h.body ++ codes "\n")

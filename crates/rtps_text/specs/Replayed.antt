@@ -5,19 +5,19 @@ use Rattle.rtps_types.specs.declared.identity.Guid.{Guid}
 use Rattle.dds_topic.specs.Decoding.{Decoding}
 use Rattle.rtps_discovery.specs.declared.config.Config.{Config}
 use Rattle.rtps_reader.specs.declared.status.Status.{Status}
-use Rattle.rtps_serial.specs.World.{Put, Hears, Sends, World}
+use Rattle.rtps_serial.specs.World.{ReportView, NoticeOf, AnswerOf, World}
 use Rattle.rtps_serial.specs.Run.{run}
 use Rattle.rtps_serial.specs.Seen.{matches_seen, reader_count, status_at}
-use Rattle.rtps_serial.specs.Standing.{EngineKept, StandsAt, run_by}
+use Rattle.rtps_serial.specs.Standing.{EngineView, StandsAt, run_by}
 use Rattle.rtps_text.specs.Told.{answer_line, heard_line, match_line, status_line}
 
 -- the line of what is put out
-abbrev pub put_line : {M : Type 0} → (M → List ℕ) → Put M → List ℕ
-put_line text (Hears rank notice) = heard_line text rank notice
-put_line text (Sends answer) = answer_line answer.place answer.to answer.octets
+abbrev pub put_line : {M : Type 0} → (M → List ℕ) → ReportView M → List ℕ
+put_line text (NoticeOf rank notice) = heard_line text rank notice
+put_line text (AnswerOf answer) = answer_line answer.place answer.to answer.octets
 
 -- the lines of all that is put out, in the order of the run
-abbrev pub put_lines : {M : Type 0} → (M → List ℕ) → List (Put M) → List ℕ
+abbrev pub put_lines : {M : Type 0} → (M → List ℕ) → List (ReportView M) → List ℕ
 put_lines text put = flat_map (put_line text) put
 
 abbrev pub match_lines : List (ℕ × Guid) → List ℕ
@@ -42,10 +42,10 @@ replay_text text decoding config summary records =
     put_lines text (run decoding config records).put ++ (if summary then summary_text (run decoding config records) else [])
 
 -- the same, by an engine's catalog and configuration
-abbrev pub text_by : {C M : Type 0} → (C → M → List ℕ) → (C → Decoding M) → EngineKept C → Bool → List (List ℕ) → List ℕ
+abbrev pub text_by : {C M : Type 0} → (C → M → List ℕ) → (C → Decoding M) → EngineView C → Bool → List (List ℕ) → List ℕ
 text_by text decoding engine summary records = replay_text (text engine.catalog) (decoding engine.catalog) engine.config summary records
 
 -- an engine stands at these records, and their lines were said
-pub record HasSaid {C M : Type 0} (text : C → M → List ℕ) (decoding : C → Decoding M) (records : List (List ℕ)) (said : List ℕ) (engine : EngineKept C) : Type 0 where
+pub record HasSaid {C M : Type 0} (text : C → M → List ℕ) (decoding : C → Decoding M) (records : List (List ℕ)) (said : List ℕ) (engine : EngineView C) : Type 0 where
   pub stands : StandsAt decoding records engine
   pub lines : said ≡ put_lines (text engine.catalog) (run_by decoding engine records).put

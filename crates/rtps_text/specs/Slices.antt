@@ -5,9 +5,9 @@ use Rattle.std.specs.declared.alloc.AllocError.{AllocError}
 use Rattle.std.specs.declared.alloc.Global.{Global}
 use Rattle.std.specs.declared.vec.Vec.{Vec}
 use Rattle.rtps_types.specs.declared.place.Place.{Place}
-use Rattle.rtps_proxy.specs.Replies.{Sent}
+use Rattle.rtps_proxy.specs.Replies.{ReplyView}
 use Rattle.rtps_reader.specs.declared.notice.Notice.{Notice}
-use Rattle.rtps_serial.specs.World.{Hears}
+use Rattle.rtps_serial.specs.World.{NoticeOf}
 use Rattle.rtps_planner.specs.Commuting.{Parts, answers_at, merged, notices_at, same_place}
 use Rattle.rtps_planner.specs.Gather.{AreRising}
 use Rattle.dds_participant.specs.Given.{AreAnswersAlong, AreNoticesAlong, parts_given, said_view, sent_in, told_in}
@@ -24,22 +24,22 @@ front_at at place (x ∷ xs) = if same_place (at x) place then x ∷ front_at at
 abbrev pub first_notices : {M : Type 0} → Place → List (Notice M) → List (Notice M)
 first_notices place notices = front_at (λ n. n.place) place notices
 
-abbrev pub first_answers : Place → List (Place × Sent) → List (Place × Sent)
+abbrev pub first_answers : Place → List (Place × ReplyView) → List (Place × ReplyView)
 first_answers place answers = front_at (λ s. s.0) place answers
 
 -- the lines of answers
-abbrev pub answer_lines : List (Place × Sent) → List ℕ
+abbrev pub answer_lines : List (Place × ReplyView) → List ℕ
 answer_lines answers = flat_map (λ s. answer_line s.0 s.1.to s.1.octets) answers
 
 -- the lines at a place of what a reader gives out and sends, of which so much was printed
-abbrev pub lists_lines : {M : Type 0} → (M → List ℕ) → List (Notice M) → List (Place × Sent) → Place
+abbrev pub lists_lines : {M : Type 0} → (M → List ℕ) → List (Notice M) → List (Place × ReplyView) → Place
     → Cursor → List ℕ
 lists_lines text told sent place c =
-    put_lines text (map (Hears c.rank) (first_notices place (drop c.notices told)))
+    put_lines text (map (NoticeOf c.rank) (first_notices place (drop c.notices told)))
     ++ answer_lines (first_answers place (drop c.answers sent))
 
 -- and what is printed of it then
-abbrev pub lists_after : {M : Type 0} → List (Notice M) → List (Place × Sent) → Place → Cursor
+abbrev pub lists_after : {M : Type 0} → List (Notice M) → List (Place × ReplyView) → Place → Cursor
     → Cursor
 lists_after told sent place c = record {
   rank = c.rank;
@@ -59,7 +59,7 @@ abbrev pub parts_lines : {M : Type 0} → (M → List ℕ) → Parts M → Place
 parts_lines text parts place cursors = flat_map (part_lines text parts place) cursors
 
 -- what discovery answers next
-abbrev pub next_said : {M : Type 0} → Parts M → Place → ℕ → List (Place × Sent)
+abbrev pub next_said : {M : Type 0} → Parts M → Place → ℕ → List (Place × ReplyView)
 next_said parts place said = first_answers place (drop said parts.answers)
 
 -- nothing of the readers below a count was printed

@@ -5,7 +5,7 @@ ghost use Rattle.std.specs.List.{flat_map};
 ghost use Rattle.rtps_records.specs.Runs.{Moves, PutsFront};
 ghost use Rattle.rtps_records.specs.declared.fault.RunFault.TheVariants.{CannotWrite, NoMemory};
 ghost use Rattle.dds_cache.specs.Cache.{IsHistory};
-ghost use Rattle.rtps_serial.specs.World.{Put};
+ghost use Rattle.rtps_serial.specs.World.{ReportView};
 ghost use Rattle.rtps_text.specs.Caches.{Accepts, AllAccept, AllHeard, IsEmpty};
 ghost use Rattle.rtps_text.specs.Entries.{entry_line, entry_lines, sample_view};
 ghost use Rattle.dds_cache.specs.declared.history.History.{History};
@@ -119,13 +119,13 @@ pub(crate) fn print_caches<C: TextCatalog, W: Write, B: Allocator + Copy>(
     requires { length caches.old.items ≤ 4294967295 }
     ensures count { length caches.new.items ≡ length caches.old.items }
     ensures same_writer { lines.new.writer.ghost_name ≡ lines.old.writer.ghost_name }
-    ensures ok { (keep : History) (put : List (Put C.Meaning))
+    ensures ok { (keep : History) (put : List (ReportView C.Meaning))
         → AllHeard C.view keep put caches.old.items → OnOk result (Moves
         (W.contents lines.old.writer.now) (W.contents lines.new.writer.now)
         (lines.old.text.items ++ entry_lines (C.text_of catalog.now) keep put
         (length caches.old.items)) lines.new.text.items) }
     ensures fault { IfErr result (λ fault. (fault ≡ CannotWrite) ⊎ (fault ≡ NoMemory)) }
-    ensures front { (keep : History) (put : List (Put C.Meaning))
+    ensures front { (keep : History) (put : List (ReportView C.Meaning))
         → AllHeard C.view keep put caches.old.items → OnErr result (PutsFront
         (W.contents lines.old.writer.now) (W.contents lines.new.writer.now)
         (lines.old.text.items ++ entry_lines (C.text_of catalog.now) keep put

@@ -3,7 +3,7 @@
 ghost use Rattle.std.specs.Prelude.{◌≡◌, ◌+◌, ◌≤◌, ◌++◌, ◌∷◌, IfOk, List, OnOk, drop, filter, length, map, not};
 ghost use Rattle.std.specs.List.Sorted.{IsPartitionedBy};
 ghost use Rattle.rtps_reader.specs.Notices.{answer_view, notice_view};
-ghost use Rattle.rtps_serial.specs.World.{Hears};
+ghost use Rattle.rtps_serial.specs.World.{NoticeOf};
 ghost use Rattle.dds_participant.specs.Given.{parts_given, said_view};
 ghost use Rattle.rtps_text.specs.Replayed.{put_lines};
 ghost use Rattle.rtps_text.specs.Slices.{AreByPlace, AreLeft, IsLeft, is_before, answer_lines, cursor_after, first_answers, first_notices, lists_after, lists_lines, next_said, part_lines, parts_lines, starts};
@@ -51,7 +51,7 @@ fn push_notices<C: TextCatalog, A: Allocator, B: Allocator + Copy>(
     ensures count { IfOk result (λ n. n ≡
         length (first_notices spot.1 (map (notice_view C.view) notices.now))) }
     ensures lines { OnOk result (out.new.items ≡ out.old.items ++
-        put_lines (C.text_of catalog.now) (map (Hears spot.0)
+        put_lines (C.text_of catalog.now) (map (NoticeOf spot.0)
         (first_notices spot.1 (map (notice_view C.view) notices.now)))) }
 {
     let (rank, place) = spot;

@@ -25,10 +25,10 @@ pub use field::{
 };
 pub use identity::{EntityId, Guid, GuidPrefix, KeyHash};
 pub use locator::{Locator, Locators};
-pub use number::{MAX_NUMBER, Number};
+pub use number::{MAX_NUMBER, Number, SequenceNumber};
 pub use octets::Octets;
 pub use place::Place;
-pub use set::{FragSet, Members, SnSet, set_bit};
+pub use set::{FragSet, FragmentNumberSet, Members, SequenceNumberSet, SnSet, set_bit};
 pub use text::TextFault;
 pub use time::{Duration, Timestamp};
 pub use traffic::{Reply, WriterFacts};

@@ -14,6 +14,9 @@ pub struct Number {
     ghost bounds: { IsNumber value },
 }
 
+/// What the standard calls it (DDSI-RTPS 9.4.2.5).
+pub type SequenceNumber = Number;
+
 impl Number {
     ghost use Rattle.rtps_types.specs.Number.{value_of};
 

@@ -33,6 +33,12 @@ pub struct FragSet {
     ghost few: { bits ≤ 256 },
 }
 
+/// What the standard calls them (DDSI-RTPS 9.4.2.6).
+pub type SequenceNumberSet = SnSet;
+
+/// What the standard calls them (DDSI-RTPS 9.4.2.8).
+pub type FragmentNumberSet = FragSet;
+
 impl SnSet {
     ghost use Rattle.rtps_types.specs.Sets.{sn_view};
 

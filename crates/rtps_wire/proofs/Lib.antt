@@ -4,6 +4,6 @@ pub mod Steps
 pub mod Grammar
 pub mod Bounds
 pub mod OneReading
-pub mod Sent
+pub mod ReplyView
 pub mod Cuts
 mod CutMessages

@@ -12,14 +12,14 @@ use Rattle.rtps_wire.specs.Fields.{◌>>=◌, entity_at, from, has, positive_at}
 use Rattle.rtps_wire.specs.InlineQos.{inline_of, no_inline}
 
 -- a change, without where its payload lies in memory
-pub record Change : Type 0 where
+pub record DataView : Type 0 where
   pub reader : EntityId
   pub writer : EntityId
   pub number : ℕ
   pub info : ChangeInfo
   pub payload : List ℕ
 
-abbrev pub data_view : Data → Change
+abbrev pub data_view : Data → DataView
 data_view d = record { reader = d.reader; writer = d.writer; number = d.number; info = d.info; payload = d.payload.now }
 
 -- flag Q, 2, says that inline QoS follows
@@ -39,7 +39,7 @@ abbrev pub payload_of : ℕ → List ℕ → ℕ → Option (List ℕ)
 payload_of flags rest used = if has 12 flags then from rest used else Some []
 
 -- octetsToInlineQos counts from just after itself; invalid below 16 and past the end
-unfoldable pub data_of : ℕ → Endian → List ℕ → Option Change
+unfoldable pub data_of : ℕ → Endian → List ℕ → Option DataView
 data_of flags e body = do
   offset ← number_at e 2 body 2
   reader ← entity_at body 4

@@ -11,7 +11,7 @@ use Rattle.rtps_wire.specs.Data.{qos_of}
 use Rattle.rtps_wire.specs.Fields.{◌>>=◌, entity_at, from, has, positive_at}
 
 -- fragments, without where their octets lie in memory
-pub record Fragments : Type 0 where
+pub record DataFragView : Type 0 where
   pub reader : EntityId
   pub writer : EntityId
   pub number : ℕ
@@ -22,7 +22,7 @@ pub record Fragments : Type 0 where
   pub info : ChangeInfo
   pub payload : List ℕ
 
-abbrev pub frag_view : DataFrag → Fragments
+abbrev pub frag_view : DataFrag → DataFragView
 frag_view d = record { reader = d.reader; writer = d.writer; number = d.number; start = d.start; count = d.count; size = d.size; sample = d.sample; info = d.info; payload = d.payload.now }
 
 -- flag N, 8, says no standard form, K, 4, a key; else it is a value
@@ -30,7 +30,7 @@ abbrev pub frag_form_of : ℕ → Form
 frag_form_of flags = if has 8 flags then Other else if has 4 flags then Key else Value
 
 -- octetsToInlineQos counts from just after itself; invalid below 28 and past the end, and where the fragments begin with number 0
-unfoldable pub data_frag_of : ℕ → Endian → List ℕ → Option Fragments
+unfoldable pub data_frag_of : ℕ → Endian → List ℕ → Option DataFragView
 data_frag_of flags e body = do
   offset ← number_at e 2 body 2
   reader ← entity_at body 4

@@ -9,8 +9,8 @@ use Rattle.rtps_wire.specs.declared.info_src.InfoSource.{InfoSource}
 use Rattle.rtps_wire.specs.declared.submessage.Submessage.{Submessage}
 use Rattle.rtps_wire.specs.declared.submessage.Parts.{Parts}
 use Rattle.rtps_wire.specs.declared.submessage.Parts.TheVariants as code
-use Rattle.rtps_wire.specs.Data.{Change, data_of, data_view}
-use Rattle.rtps_wire.specs.DataFrag.{Fragments, data_frag_of, frag_view}
+use Rattle.rtps_wire.specs.Data.{DataView, data_of, data_view}
+use Rattle.rtps_wire.specs.DataFrag.{DataFragView, data_frag_of, frag_view}
 use Rattle.rtps_wire.specs.Fields.{endian_of, prefix_at}
 use Rattle.rtps_wire.specs.Gap.{GapFields, gap_of, gap_view}
 use Rattle.rtps_wire.specs.Heartbeat.{heartbeat_of}
@@ -26,8 +26,8 @@ pub data Content : Type 0 where
   Source : InfoSource → Content
   Destination : GuidPrefix → Content
   HeartbeatFragOf : HeartbeatFrag → Content
-  Whole : Change → Content
-  Frag : Fragments → Content
+  Whole : DataView → Content
+  Frag : DataFragView → Content
   Skipped : Content
 
 -- a valid submessage: its kind, its flags, and what it says

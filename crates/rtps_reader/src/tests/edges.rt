@@ -2,7 +2,7 @@
 
 use crate::*;
 use dds_topic::{Decoder, Raw};
-use rtps_receiver::{Body as Brought, Event, Whole};
+use rtps_receiver::{Body as EventBody, Event, Whole};
 use rtps_types::{EntityId, Guid, GuidPrefix, Locators, Number, Place, WriterFacts};
 use rtps_wire::{ChangeInfo, Form};
 use std::alloc::{AllocError, Global};
@@ -55,7 +55,7 @@ fn greatest<'a>(payload: &'a [u8]) -> Result<Event<'a>, Fail> {
         time: None,
         writer: EntityId([0, 0, 1, 2]),
         reader: READER,
-        body: Brought::Whole(Whole {
+        body: EventBody::Whole(Whole {
             number,
             info: ChangeInfo {
                 form: Form::Value,

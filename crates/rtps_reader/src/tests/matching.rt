@@ -3,7 +3,7 @@
 use crate::*;
 use dds_topic::{Decoder, Shape, Shapes};
 use linked_list_allocator::LocalHeap;
-use rtps_receiver::{Body as Brought, Heartbeat, Whole};
+use rtps_receiver::{Body as EventBody, Heartbeat, Whole};
 use rtps_types::{EntityId, Guid, GuidPrefix, Locator, Number, Place};
 use rtps_wire::{ChangeInfo, Form};
 use std::alloc::{AllocError, Allocator, Global};
@@ -150,8 +150,8 @@ fn number_of(number: u64) -> Result<Number, Fail> {
     }
 }
 
-fn change(number: u64) -> Result<Brought<'static>, Fail> {
-    Ok(Brought::Whole(Whole {
+fn change(number: u64) -> Result<EventBody<'static>, Fail> {
+    Ok(EventBody::Whole(Whole {
         number: number_of(number)?,
         info: ChangeInfo {
             form: Form::Nothing,
@@ -162,11 +162,11 @@ fn change(number: u64) -> Result<Brought<'static>, Fail> {
     }))
 }
 
-fn heartbeat(first: u64, last: u64, count: i32) -> Result<Brought<'static>, Fail> {
+fn heartbeat(first: u64, last: u64, count: i32) -> Result<EventBody<'static>, Fail> {
     if last > 7 {
         return Err(Fail::new("no last number"));
     }
-    Ok(Brought::Heartbeat(Heartbeat {
+    Ok(EventBody::Heartbeat(Heartbeat {
         first: number_of(first)?,
         last,
         count,
@@ -197,7 +197,7 @@ fn taken<A: Allocator + Copy>(
     alloc: A,
     values: Global,
     reader: &mut ReaderState<A>,
-    body: &Brought<'_>,
+    body: &EventBody<'_>,
 ) -> Result<Output<Shape, A>, ReaderError> {
     let what = StepKind::Event {
         writer: WRITER,

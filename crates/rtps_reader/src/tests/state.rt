@@ -2,7 +2,7 @@
 
 use crate::*;
 use dds_topic::{Decoder, Shape, Shapes};
-use rtps_receiver::{Body as Brought, Event, Whole};
+use rtps_receiver::{Body as EventBody, Event, Whole};
 use rtps_types::{EntityId, Guid, GuidPrefix, Locators, Number, Place, WriterFacts};
 use rtps_wire::{ChangeInfo, Form};
 use std::alloc::Global;
@@ -53,7 +53,7 @@ fn event(datagram: u64, source: GuidPrefix, number: u64) -> Result<Event<'static
         time: None,
         writer: WRITER,
         reader: READER,
-        body: Brought::Whole(Whole {
+        body: EventBody::Whole(Whole {
             number,
             info: ChangeInfo {
                 form: Form::Value,

@@ -5,7 +5,7 @@ use Rattle.std.specs.Option.{option_copied_mut, option_map}
 use Rattle.rtps_types.specs.declared.identity.KeyHash.{KeyHash}
 use Rattle.dds_cache.specs.declared.instance.Instance.{Instance}
 use Rattle.dds_cache.specs.Effects.{ChangesAt, FindsSame, with_number}
-use Rattle.dds_cache.specs.Standing.{Known, is_key, known_at}
+use Rattle.dds_cache.specs.Standing.{InstanceView, is_key, known_at}
 use Rattle.dds_cache.proofs.Knowing.{changed, stays, unknown}
 use Rattle.dds_cache.proofs.instance.add_number.Goals as goal
 
@@ -22,7 +22,7 @@ returns-in-Ok-clause-added g c =
     let i = c.in-Some.instance.now in
     let some : lookup (is_key c.args.key) es ≡ Some i = sym c.get_mut.ensures.value ∙ ap option_copied_mut c.in-Some.is in
     let v : Instance g.row.A.Denot = record i { numbers = c.insert.new.self } in
-    changed es (c.get_mut.follows.lender v).entries c.args.key i v (with_number c.args.number) some ((c.get_mut.follows.holds v).3 (rw some refl)).0 (ap (λ ns. let k : Known = record { is_disposed = i.is_disposed; is_new = i.is_new; live = i.live; numbers = ns } in k) c.in-Ok.ensures.keys)
+    changed es (c.get_mut.follows.lender v).entries c.args.key i v (with_number c.args.number) some ((c.get_mut.follows.holds v).3 (rw some refl)).0 (ap (λ ns. let k : InstanceView = record { is_disposed = i.is_disposed; is_new = i.is_new; live = i.live; numbers = ns } in k) c.in-Ok.ensures.keys)
 
 pub returns-in-Err-clause-err : goal.returns-in-Err-clause-err
 returns-in-Err-clause-err g c =
@@ -30,7 +30,7 @@ returns-in-Err-clause-err g c =
     let i = c.in-Some.instance.now in
     let some : lookup (is_key c.args.key) es ≡ Some i = sym c.get_mut.ensures.value ∙ ap option_copied_mut c.in-Some.is in
     let v : Instance g.row.A.Denot = record i { numbers = c.insert.new.self } in
-    stays es (c.get_mut.follows.lender v).entries c.args.key i v some ((c.get_mut.follows.holds v).3 (rw some refl)).0 (ap (λ ns. let k : Known = record { is_disposed = i.is_disposed; is_new = i.is_new; live = i.live; numbers = ns } in k) c.in-Err.ensures.err)
+    stays es (c.get_mut.follows.lender v).entries c.args.key i v some ((c.get_mut.follows.holds v).3 (rw some refl)).0 (ap (λ ns. let k : InstanceView = record { is_disposed = i.is_disposed; is_new = i.is_new; live = i.live; numbers = ns } in k) c.in-Err.ensures.err)
 
 pub returns-in-Ok-clause-there : goal.returns-in-Ok-clause-there
 returns-in-Ok-clause-there g c = by_added c.in-Ok.added c.in-Ok.ensures.unchanged
@@ -42,4 +42,4 @@ returns-in-Ok-clause-there g c = by_added c.in-Ok.added c.in-Ok.ensures.unchange
         let i = c.in-Some.instance.now in
         let some : lookup (is_key c.args.key) es ≡ Some i = sym c.get_mut.ensures.value ∙ ap option_copied_mut c.in-Some.is in
         let v : Instance g.row.A.Denot = record i { numbers = c.insert.new.self } in
-        stays es (c.get_mut.follows.lender v).entries c.args.key i v some ((c.get_mut.follows.holds v).3 (rw some refl)).0 (ap (λ ns. let k : Known = record { is_disposed = i.is_disposed; is_new = i.is_new; live = i.live; numbers = ns } in k) h)
+        stays es (c.get_mut.follows.lender v).entries c.args.key i v some ((c.get_mut.follows.holds v).3 (rw some refl)).0 (ap (λ ns. let k : InstanceView = record { is_disposed = i.is_disposed; is_new = i.is_new; live = i.live; numbers = ns } in k) h)

@@ -8,17 +8,17 @@ use Rattle.dds_cache.specs.Instances.{state_by}
 use Rattle.dds_cache.specs.Effects.{HandsOver, chosen_by, shown_as}
 use Rattle.std.specs.Prelude.{Option, nat_lt}
 use Rattle.dds_cache.specs.declared.choose.States.{States}
-use Rattle.dds_cache.specs.Standing.{Known, count_in, disposed_in, is_number, new_in, parts}
+use Rattle.dds_cache.specs.Standing.{InstanceView, count_in, disposed_in, is_number, new_in, parts}
 use Rattle.dds_cache.proofs.Next.{head_of, never, none_of, nothing, taken_next}
 use Rattle.dds_cache.proofs.take.take_next.Goals as goal
 
 abbrev shows : {M : Type 0} → ℕ → Entry M → States → Chosen
 shows n e s = record { number = n; key = e.key; sample = sample_state e.is_read; view = view_state s.is_new; instance = state_by s.is_disposed s.is_written }
 
-abbrev states_in : Option Known → States
+abbrev states_in : Option InstanceView → States
 states_in o = record { is_new = new_in o; is_disposed = disposed_in o; is_written = nat_lt 0 (count_in o) }
 
-chosen_is : {M : Type 0} (c : Chosen) (n : ℕ) (e : Entry M) (s : States) (o : Option Known) → c ≡ shows n e s → s ≡ states_in o
+chosen_is : {M : Type 0} (c : Chosen) (n : ℕ) (e : Entry M) (s : States) (o : Option InstanceView) → c ≡ shows n e s → s ≡ states_in o
     → c ≡ record { number = n; key = e.key; sample = sample_state e.is_read; view = view_state (new_in o); instance = state_by (disposed_in o) (nat_lt 0 (count_in o)) }
 chosen_is c n e s o is states = is ∙ ap (shows n e) states
 

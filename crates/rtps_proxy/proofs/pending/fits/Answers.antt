@@ -1,7 +1,7 @@
 use Rattle.std.proofs.Common.{◌≡◌, ℕ, ◌<◌, Bool, true, false, not, ◌&&◌, cond, List, length, get_or, sym, ◌∙◌, ap, arith, refl, eqb, Option, Some, None}
 use Rattle.std.specs.Prelude.{is_some}
 use Rattle.rtps_types.specs.Number.{value_of}
-use Rattle.rtps_receiver.specs.Brought.{Fragments}
+use Rattle.rtps_receiver.specs.EventBody.{FragmentView}
 use Rattle.rtps_receiver.specs.Views.{fragment_view}
 use Rattle.rtps_proxy.specs.declared.pending.Pending.{Pending}
 use Rattle.rtps_proxy.specs.Fragments.{Begun, fits_in, is_cut_so, is_faulty, sizes_of}
@@ -22,7 +22,7 @@ bounds-pending-at g c =
     let l = found_in c.get.result (value_of c.args.fragment.now.number) c.args.pending.now c.is_there.result c.get.ensures.value c.is_there.ensures c.if-not-is_there.false in
     omega (arith, l, c.requires)
 
-alike : (f : Fragments) (o : Option Begun) (b : Begun) (fits n : Bool) → fits ≡ not (is_faulty f) → fits ≡ true → is_some o ≡ true → o ≡ cond n (Some b) None → is_cut_so b.sizes (sizes_of f) ≡ (not (is_faulty f) && fits_in o f)
+alike : (f : FragmentView) (o : Option Begun) (b : Begun) (fits n : Bool) → fits ≡ not (is_faulty f) → fits ≡ true → is_some o ≡ true → o ≡ cond n (Some b) None → is_cut_so b.sizes (sizes_of f) ≡ (not (is_faulty f) && fits_in o f)
 alike f o b fits true is sure some e = sym (rw (sym is ∙ sure, e) refl)
 alike f o b fits false is sure some e = absurd (none some e)
   where

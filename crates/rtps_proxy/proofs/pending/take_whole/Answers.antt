@@ -6,10 +6,10 @@ use Rattle.std.proofs.lemmas.Bool.Decides.{nat_tests}
 use Rattle.std.proofs.lemmas.List.{get_or_default}
 use Rattle.rtps_types.specs.Number.{value_of}
 use Rattle.rtps_frags.specs.Fragments.{is_whole}
-use Rattle.rtps_frags.specs.Kept.{Kept, has_come}
+use Rattle.rtps_frags.specs.Kept.{AssemblyView, has_come}
 use Rattle.rtps_proxy.specs.declared.pending.Pending.{Pending}
 use Rattle.rtps_proxy.specs.Fragments.{sample_in}
-use Rattle.rtps_proxy.specs.History.{Sample}
+use Rattle.rtps_proxy.specs.History.{ChangeView}
 use Rattle.rtps_proxy.specs.Pending.{are_sound, found_at, pending_view, pending_views, place_in, whole_found}
 use Rattle.rtps_proxy.proofs.Places.{found_inside, found_within, left_filtered, sound_at, sound_removed}
 use Rattle.rtps_proxy.proofs.pending.take_whole.Goals as goal
@@ -29,7 +29,7 @@ here n at ps d place there = by_test (eqb (value_of (get_or ps at d).number) n) 
     by_test true e f = (rw e at f, grind (arith, nat_tests))
     by_test false e f = (let none : found_at n (pending_views ps) ≡ None = rw e at f in let both : true ≡ false = sym there ∙ ap is_some none in absurd cc)
 
-come_is : (k : Kept) (b : Bool) → k.spent ≡ false → has_come k ≡ b → is_whole k.sizes k.there ≡ b
+come_is : (k : AssemblyView) (b : Bool) → k.spent ≡ false → has_come k ≡ b → is_whole k.sizes k.there ≡ b
 come_is k b fresh come = rw fresh at come
 
 pub index-requires : goal.index-requires
@@ -59,7 +59,7 @@ returns-clause-whole g c = λ sound.
     let all : is_whole p.sample.sizes p.sample.there ≡ true = come_is p.sample true fresh (sym c.is_whole.ensures ∙ c.if-not-is_whole.false) in
     let same : q ≡ p = c.remove.ensures.value ∙ get_or_default ps c.args.at q p l ∙ sym c.index.ensures in
     let here_all : is_whole q.sample.sizes q.sample.there ≡ true = ap (λ (r : Pending g.row.A.Denot). is_whole r.sample.sizes r.sample.there) same ∙ all in
-    ap (λ (s : Sample). Some s) c.into_change.ensures
+    ap (λ (s : ChangeView). Some s) c.into_change.ensures
     ∙ sym (ap whole_found (h.0 ∙ ap (λ (r : Pending g.row.A.Denot). Some (pending_view r)) (sym c.remove.ensures.value)) ∙ ap (λ b. cond b (Some (sample_in (pending_view q))) None) here_all)
 
 pub returns-clause-left : goal.returns-clause-left
@@ -77,4 +77,4 @@ pub returns-clause-number : goal.returns-clause-number
 returns-clause-number g c =
     let ps = c.args.pending.now.items in
     let h = here c.args.number c.args.at ps c.remove.result c.requires.place c.requires.there in
-    ap (λ (s : Sample). s.number) c.into_change.ensures ∙ ap (λ (q : Pending g.row.A.Denot). value_of q.number) c.remove.ensures.value ∙ h.1
+    ap (λ (s : ChangeView). s.number) c.into_change.ensures ∙ ap (λ (q : Pending g.row.A.Denot). value_of q.number) c.remove.ensures.value ∙ h.1

@@ -1,6 +1,6 @@
 use Rattle.std.proofs.Common.{◌≡◌, ◌<◌, ◌∙◌, ap, arith, below_more, get_or, get_or-set_other, get_or-set_same, length, length-set, set}
 use Rattle.std.proofs.lemmas.List.{get_or_default}
-use Rattle.rtps_reader.specs.Standing.{ReaderKept}
+use Rattle.rtps_reader.specs.Standing.{ReaderView}
 use Rattle.rtps_serial.proofs.steps.show_all.Goals as goal
 
 pub loop-at-preserved : goal.loop-at-preserved
@@ -13,7 +13,7 @@ loop-at-preserved g c =
       count = length-set shown at c.status.result ∙ c.loop-at.invariant.count;
       shown = λ rank s r below. below_more (λ k. get_or (set shown at c.status.result) k s ≡ (get_or readers k r).status) at
           (λ k less. get_or-set_other shown at k c.status.result s (λ e. omega (arith, less, e)) ∙ c.loop-at.invariant.shown k s r less)
-          (get_or-set_same shown at c.status.result s fits ∙ c.status.ensures ∙ ap (λ (k : ReaderKept). k.status) (c.index-readers-at.is ∙ get_or_default readers at c.index-readers-at.result r c.loop-at-test.true))
+          (get_or-set_same shown at c.status.result s fits ∙ c.status.ensures ∙ ap (λ (k : ReaderView). k.status) (c.index-readers-at.is ∙ get_or_default readers at c.index-readers-at.result r c.loop-at-test.true))
           rank below;
     }
 

@@ -2,8 +2,8 @@ use Rattle.std.proofs.Common.{◌∙◌, ap, arith, refl, rules, None, Some}
 use Rattle.rtps_records.proofs.NextRead.{at_fault}
 use Rattle.rtps_records.proofs.Progress.{closed, ended, fails_closing, started, stops_closing, stops_first, stops_here, stops_printing, stops_without}
 use Rattle.rtps_serial.proofs.Answered.{on_ok_then}
-use Rattle.rtps_serial.specs.Standing.{EngineKept}
-use Rattle.dds_participant.specs.Kept.{ParticipantKept}
+use Rattle.rtps_serial.specs.Standing.{EngineView}
+use Rattle.dds_participant.specs.Kept.{ParticipantView}
 use Rattle.rtps_text.proofs.Batches.{after_end, after_fault, after_more, batch_by_place, batch_more, batch_printed}
 use Rattle.rtps_text.proofs.Run.{fronts, of_cause, same_text}
 use Rattle.rtps_text.proofs.replaying.print_run.Goals as goal
@@ -58,7 +58,7 @@ loop-end-preserved g c =
     let runs = c.in_ok-end.ensures.reads in
     let same = c.in_ok-end.ensures.same in
     let by = batch_by_place text g.C.Catalog.view decoding _ _ _ _ _ _ _ _ old.participant.engine next.participant.engine next.given _ c.loop-end.invariant.so_far runs in
-    let is = ap (λ (p : ParticipantKept _). p.engine) c.in_ok-print.ensures.same.0 in
+    let is = ap (λ (p : ParticipantView _). p.engine) c.in_ok-print.ensures.same.0 in
     let few = runs.reads.few c.loop-end.invariant.few in
     let so_far = batch_printed text g.C.Catalog.view decoding _ _ _ _ _ _ _ _ _ old.participant.engine next.participant.engine now.participant.engine next.given _ _ (same.catalog, same.config) is c.loop-end.invariant.so_far runs (c.in_ok-print.ensures.ok by) in
     let more = after_more _ _ _ _ _ _ runs.reads c.in-More.is in
@@ -67,8 +67,8 @@ loop-end-preserved g c =
       same_writer = search rules;
       few = few;
       same = record {
-        catalog = ap (λ (e : EngineKept _). e.catalog) is ∙ same.catalog ∙ c.loop-end.invariant.same.catalog;
-        config = ap (λ (e : EngineKept _). e.config) is ∙ same.config ∙ c.loop-end.invariant.same.config;
+        catalog = ap (λ (e : EngineView _). e.catalog) is ∙ same.catalog ∙ c.loop-end.invariant.same.catalog;
+        config = ap (λ (e : EngineView _). e.config) is ∙ same.config ∙ c.loop-end.invariant.same.config;
         summary = c.in_ok-print.ensures.same.1 ∙ same.summary ∙ c.loop-end.invariant.same.summary;
         pace = c.in_ok-print.ensures.same.2 ∙ same.pace ∙ c.loop-end.invariant.same.pace;
       };
@@ -93,11 +93,11 @@ returns-in-End-clause-ok g c =
     let runs = c.in_ok-end.ensures.reads in
     let same = c.in_ok-end.ensures.same in
     let by = batch_by_place text g.C.Catalog.view decoding _ _ _ _ _ _ _ _ old.participant.engine next.participant.engine next.given _ c.loop-end.invariant.so_far runs in
-    let is = ap (λ (p : ParticipantKept _). p.engine) c.in_ok-print.ensures.same.0 in
+    let is = ap (λ (p : ParticipantView _). p.engine) c.in_ok-print.ensures.same.0 in
     let few = runs.reads.few c.loop-end.invariant.few in
     let so_far = batch_printed text g.C.Catalog.view decoding _ _ _ _ _ _ _ _ _ old.participant.engine next.participant.engine now.participant.engine next.given _ _ (same.catalog, same.config) is c.loop-end.invariant.so_far runs (c.in_ok-print.ensures.ok by) in
     let same_run = same_text text decoding now.participant.engine run.participant.engine now.summary run.summary
-    (ap (λ (e : EngineKept _). e.catalog) is ∙ same.catalog ∙ c.loop-end.invariant.same.catalog) (ap (λ (e : EngineKept _). e.config) is ∙ same.config ∙ c.loop-end.invariant.same.config) (c.in_ok-print.ensures.same.1 ∙ same.summary ∙ c.loop-end.invariant.same.summary) in
+    (ap (λ (e : EngineView _). e.catalog) is ∙ same.catalog ∙ c.loop-end.invariant.same.catalog) (ap (λ (e : EngineView _). e.config) is ∙ same.config ∙ c.loop-end.invariant.same.config) (c.in_ok-print.ensures.same.1 ∙ same.summary ∙ c.loop-end.invariant.same.summary) in
     let begins = fronts text decoding now.summary now.participant.engine in
     on_ok_then c.close.result
     (λ put. ended _ _ _ _ _ _ few (closed _ _ _ _ _ _ _ _ _ _ so_far same_run put) (after_end _ _ _ _ _ _ runs.reads c.in-End.is))
@@ -114,11 +114,11 @@ returns-in-End-clause-fault g c =
     let runs = c.in_ok-end.ensures.reads in
     let same = c.in_ok-end.ensures.same in
     let by = batch_by_place text g.C.Catalog.view decoding _ _ _ _ _ _ _ _ old.participant.engine next.participant.engine next.given _ c.loop-end.invariant.so_far runs in
-    let is = ap (λ (p : ParticipantKept _). p.engine) c.in_ok-print.ensures.same.0 in
+    let is = ap (λ (p : ParticipantView _). p.engine) c.in_ok-print.ensures.same.0 in
     let few = runs.reads.few c.loop-end.invariant.few in
     let so_far = batch_printed text g.C.Catalog.view decoding _ _ _ _ _ _ _ _ _ old.participant.engine next.participant.engine now.participant.engine next.given _ _ (same.catalog, same.config) is c.loop-end.invariant.so_far runs (c.in_ok-print.ensures.ok by) in
     let same_run = same_text text decoding now.participant.engine run.participant.engine now.summary run.summary
-    (ap (λ (e : EngineKept _). e.catalog) is ∙ same.catalog ∙ c.loop-end.invariant.same.catalog) (ap (λ (e : EngineKept _). e.config) is ∙ same.config ∙ c.loop-end.invariant.same.config) (c.in_ok-print.ensures.same.1 ∙ same.summary ∙ c.loop-end.invariant.same.summary) in
+    (ap (λ (e : EngineView _). e.catalog) is ∙ same.catalog ∙ c.loop-end.invariant.same.catalog) (ap (λ (e : EngineView _). e.config) is ∙ same.config ∙ c.loop-end.invariant.same.config) (c.in_ok-print.ensures.same.1 ∙ same.summary ∙ c.loop-end.invariant.same.summary) in
     let begins = fronts text decoding now.summary now.participant.engine in
     fails_closing _ _ _ _ _ _ _ _ _ _ _ None c.close.result few (few, after_end _ _ _ _ _ _ runs.reads c.in-End.is) so_far begins same_run (c.close.ensures.fault)
 
@@ -133,11 +133,11 @@ returns-in_err-close-in-Fault-clause-fault g c =
     let runs = c.in_ok-end.ensures.reads in
     let same = c.in_ok-end.ensures.same in
     let by = batch_by_place text g.C.Catalog.view decoding _ _ _ _ _ _ _ _ old.participant.engine next.participant.engine next.given _ c.loop-end.invariant.so_far runs in
-    let is = ap (λ (p : ParticipantKept _). p.engine) c.in_ok-print.ensures.same.0 in
+    let is = ap (λ (p : ParticipantView _). p.engine) c.in_ok-print.ensures.same.0 in
     let few = runs.reads.few c.loop-end.invariant.few in
     let so_far = batch_printed text g.C.Catalog.view decoding _ _ _ _ _ _ _ _ _ old.participant.engine next.participant.engine now.participant.engine next.given _ _ (same.catalog, same.config) is c.loop-end.invariant.so_far runs (c.in_ok-print.ensures.ok by) in
     let same_run = same_text text decoding now.participant.engine run.participant.engine now.summary run.summary
-    (ap (λ (e : EngineKept _). e.catalog) is ∙ same.catalog ∙ c.loop-end.invariant.same.catalog) (ap (λ (e : EngineKept _). e.config) is ∙ same.config ∙ c.loop-end.invariant.same.config) (c.in_ok-print.ensures.same.1 ∙ same.summary ∙ c.loop-end.invariant.same.summary) in
+    (ap (λ (e : EngineView _). e.catalog) is ∙ same.catalog ∙ c.loop-end.invariant.same.catalog) (ap (λ (e : EngineView _). e.config) is ∙ same.config ∙ c.loop-end.invariant.same.config) (c.in_ok-print.ensures.same.1 ∙ same.summary ∙ c.loop-end.invariant.same.summary) in
     let begins = fronts text decoding now.summary now.participant.engine in
     at_fault _ _ _ c.from_residual-in_err-close-in-Fault.ensures.1
     (stops_closing _ _ _ _ _ _ _ _ _ _ _ (Some c.in-Fault.fault) _ few (after_fault _ _ _ _ _ _ _ runs.reads c.in-Fault.is) so_far begins same_run (c.in_err-close-in-Fault.ensures.fault))
@@ -153,10 +153,10 @@ returns-in-Fault-clause-fault g c =
     let runs = c.in_ok-end.ensures.reads in
     let same = c.in_ok-end.ensures.same in
     let by = batch_by_place text g.C.Catalog.view decoding _ _ _ _ _ _ _ _ old.participant.engine next.participant.engine next.given _ c.loop-end.invariant.so_far runs in
-    let is = ap (λ (p : ParticipantKept _). p.engine) c.in_ok-print.ensures.same.0 in
+    let is = ap (λ (p : ParticipantView _). p.engine) c.in_ok-print.ensures.same.0 in
     let few = runs.reads.few c.loop-end.invariant.few in
     let so_far = batch_printed text g.C.Catalog.view decoding _ _ _ _ _ _ _ _ _ old.participant.engine next.participant.engine now.participant.engine next.given _ _ (same.catalog, same.config) is c.loop-end.invariant.so_far runs (c.in_ok-print.ensures.ok by) in
     let same_run = same_text text decoding now.participant.engine run.participant.engine now.summary run.summary
-    (ap (λ (e : EngineKept _). e.catalog) is ∙ same.catalog ∙ c.loop-end.invariant.same.catalog) (ap (λ (e : EngineKept _). e.config) is ∙ same.config ∙ c.loop-end.invariant.same.config) (c.in_ok-print.ensures.same.1 ∙ same.summary ∙ c.loop-end.invariant.same.summary) in
+    (ap (λ (e : EngineView _). e.catalog) is ∙ same.catalog ∙ c.loop-end.invariant.same.catalog) (ap (λ (e : EngineView _). e.config) is ∙ same.config ∙ c.loop-end.invariant.same.config) (c.in_ok-print.ensures.same.1 ∙ same.summary ∙ c.loop-end.invariant.same.summary) in
     let begins = fronts text decoding now.summary now.participant.engine in
     stops_here _ _ _ _ _ _ _ _ (closed _ _ _ _ _ _ _ _ _ _ so_far same_run (c.in_ok-close-in-Fault.ensures.ok)) (after_fault _ _ _ _ _ _ _ runs.reads c.in-Fault.is)

@@ -2,8 +2,8 @@ use Rattle.std.proofs.Common.{◌∙◌, ap, arith, refl, rules, None, Some}
 use Rattle.rtps_records.proofs.NextRead.{at_fault}
 use Rattle.rtps_records.proofs.Progress.{ended, started, stops_first, stops_here}
 use Rattle.rtps_serial.proofs.Answered.{on_ok_then}
-use Rattle.rtps_serial.specs.Standing.{EngineKept}
-use Rattle.dds_participant.specs.Kept.{ParticipantKept}
+use Rattle.rtps_serial.specs.Standing.{EngineView}
+use Rattle.dds_participant.specs.Kept.{ParticipantView}
 use Rattle.rtps_text.proofs.Batches.{after_end, after_fault, after_more}
 use Rattle.rtps_text.specs.Entries.{samples_by}
 use Rattle.rtps_text.proofs.Sampled.{fails_late, finished, late, same_samples, sampled_many, sampled_more, stops_late, stops_silent}
@@ -39,7 +39,7 @@ pub loop-end-preserved : goal.loop-end-preserved
 loop-end-preserved g c =
     let runs = c.in_ok-end.ensures.reads in
     let same = c.in_ok-end.ensures.same in
-    let is = ap (λ (p : ParticipantKept _). p.engine) c.in_ok-accept.ensures.same.0 in
+    let is = ap (λ (p : ParticipantView _). p.engine) c.in_ok-accept.ensures.same.0 in
     let so_far = sampled_more g.C.Catalog.view g.C.Catalog.decoding c.loop-end.kept.keep _ _ _ _ _ _ _ _ c.loop-end.kept.run.participant.engine c.run_batch.new.run.participant.engine c.accept.new.self.run.participant.engine c.run_batch.new.run.given c.loop-end.kept.caches.items c.accept.new.self.caches.items c.accept.new.self.keep (same.catalog, same.config) is c.in_ok-accept.ensures.same.3 c.loop-end.invariant.so_far runs c.in_ok-accept.ensures.accept in
     let more = after_more _ _ _ _ _ _ runs.reads c.in-More.is in
     record {
@@ -48,8 +48,8 @@ loop-end-preserved g c =
       empty = c.loop-end.invariant.empty;
       few = runs.reads.few c.loop-end.invariant.few;
       same = record {
-        catalog = ap (λ (e : EngineKept _). e.catalog) is ∙ same.catalog ∙ c.loop-end.invariant.same.catalog;
-        config = ap (λ (e : EngineKept _). e.config) is ∙ same.config ∙ c.loop-end.invariant.same.config;
+        catalog = ap (λ (e : EngineView _). e.catalog) is ∙ same.catalog ∙ c.loop-end.invariant.same.catalog;
+        config = ap (λ (e : EngineView _). e.config) is ∙ same.config ∙ c.loop-end.invariant.same.config;
         summary = c.in_ok-accept.ensures.same.1 ∙ same.summary ∙ c.loop-end.invariant.same.summary;
         pace = c.in_ok-accept.ensures.same.2 ∙ same.pace ∙ c.loop-end.invariant.same.pace;
       };
@@ -70,10 +70,10 @@ returns-in-End-clause-ok g c =
     let now = c.accept.new.self in
     let runs = c.in_ok-end.ensures.reads in
     let same = c.in_ok-end.ensures.same in
-    let is = ap (λ (p : ParticipantKept _). p.engine) c.in_ok-accept.ensures.same.0 in
+    let is = ap (λ (p : ParticipantView _). p.engine) c.in_ok-accept.ensures.same.0 in
     let so_far = sampled_more g.C.Catalog.view g.C.Catalog.decoding c.loop-end.kept.keep _ _ _ _ _ _ _ _ c.loop-end.kept.run.participant.engine c.run_batch.new.run.participant.engine c.accept.new.self.run.participant.engine c.run_batch.new.run.given c.loop-end.kept.caches.items c.accept.new.self.caches.items c.accept.new.self.keep (same.catalog, same.config) is c.in_ok-accept.ensures.same.3 c.loop-end.invariant.so_far runs c.in_ok-accept.ensures.accept in
     let text = same_samples g.C.Catalog.text_of g.C.Catalog.decoding now.run.participant.engine first.run.participant.engine now.run.summary first.run.summary now.keep first.keep
-    (ap (λ (e : EngineKept _). e.catalog) is ∙ same.catalog ∙ c.loop-end.invariant.same.catalog) (ap (λ (e : EngineKept _). e.config) is ∙ same.config ∙ c.loop-end.invariant.same.config)
+    (ap (λ (e : EngineView _). e.catalog) is ∙ same.catalog ∙ c.loop-end.invariant.same.catalog) (ap (λ (e : EngineView _). e.config) is ∙ same.config ∙ c.loop-end.invariant.same.config)
     (c.in_ok-accept.ensures.same.1 ∙ same.summary ∙ c.loop-end.invariant.same.summary) (c.in_ok-accept.ensures.same.3 ∙ c.loop-end.invariant.same_keep) in
     on_ok_then c.close.result
     (λ put. ended _ _ _ _ _ _ (runs.reads.few c.loop-end.invariant.few) (finished g.C.Catalog.view g.C.Catalog.decoding now.keep now.run.participant.engine now.caches.items (samples_by g.C.Catalog.text_of g.C.Catalog.decoding now.run.participant.engine now.run.summary now.keep) _ _ _ _ _ _ _ so_far text put) (after_end _ _ _ _ _ _ runs.reads c.in-End.is))
@@ -85,10 +85,10 @@ returns-in-End-clause-fault g c =
     let now = c.accept.new.self in
     let runs = c.in_ok-end.ensures.reads in
     let same = c.in_ok-end.ensures.same in
-    let is = ap (λ (p : ParticipantKept _). p.engine) c.in_ok-accept.ensures.same.0 in
+    let is = ap (λ (p : ParticipantView _). p.engine) c.in_ok-accept.ensures.same.0 in
     let so_far = sampled_more g.C.Catalog.view g.C.Catalog.decoding c.loop-end.kept.keep _ _ _ _ _ _ _ _ c.loop-end.kept.run.participant.engine c.run_batch.new.run.participant.engine c.accept.new.self.run.participant.engine c.run_batch.new.run.given c.loop-end.kept.caches.items c.accept.new.self.caches.items c.accept.new.self.keep (same.catalog, same.config) is c.in_ok-accept.ensures.same.3 c.loop-end.invariant.so_far runs c.in_ok-accept.ensures.accept in
     let text = same_samples g.C.Catalog.text_of g.C.Catalog.decoding now.run.participant.engine first.run.participant.engine now.run.summary first.run.summary now.keep first.keep
-    (ap (λ (e : EngineKept _). e.catalog) is ∙ same.catalog ∙ c.loop-end.invariant.same.catalog) (ap (λ (e : EngineKept _). e.config) is ∙ same.config ∙ c.loop-end.invariant.same.config)
+    (ap (λ (e : EngineView _). e.catalog) is ∙ same.catalog ∙ c.loop-end.invariant.same.catalog) (ap (λ (e : EngineView _). e.config) is ∙ same.config ∙ c.loop-end.invariant.same.config)
     (c.in_ok-accept.ensures.same.1 ∙ same.summary ∙ c.loop-end.invariant.same.summary) (c.in_ok-accept.ensures.same.3 ∙ c.loop-end.invariant.same_keep) in
     let few = runs.reads.few c.loop-end.invariant.few in
     fails_late g.C.Catalog.view g.C.Catalog.decoding now.keep now.run.participant.engine now.caches.items (samples_by g.C.Catalog.text_of g.C.Catalog.decoding now.run.participant.engine now.run.summary now.keep) _ _ _ _ _ _ _ _ None c.close.result few (few, after_end _ _ _ _ _ _ runs.reads c.in-End.is) so_far text (c.close.ensures.front so_far.records so_far.says.1) c.close.ensures.fault
@@ -99,10 +99,10 @@ returns-in_err-close-in-Fault-clause-fault g c =
     let now = c.accept.new.self in
     let runs = c.in_ok-end.ensures.reads in
     let same = c.in_ok-end.ensures.same in
-    let is = ap (λ (p : ParticipantKept _). p.engine) c.in_ok-accept.ensures.same.0 in
+    let is = ap (λ (p : ParticipantView _). p.engine) c.in_ok-accept.ensures.same.0 in
     let so_far = sampled_more g.C.Catalog.view g.C.Catalog.decoding c.loop-end.kept.keep _ _ _ _ _ _ _ _ c.loop-end.kept.run.participant.engine c.run_batch.new.run.participant.engine c.accept.new.self.run.participant.engine c.run_batch.new.run.given c.loop-end.kept.caches.items c.accept.new.self.caches.items c.accept.new.self.keep (same.catalog, same.config) is c.in_ok-accept.ensures.same.3 c.loop-end.invariant.so_far runs c.in_ok-accept.ensures.accept in
     let text = same_samples g.C.Catalog.text_of g.C.Catalog.decoding now.run.participant.engine first.run.participant.engine now.run.summary first.run.summary now.keep first.keep
-    (ap (λ (e : EngineKept _). e.catalog) is ∙ same.catalog ∙ c.loop-end.invariant.same.catalog) (ap (λ (e : EngineKept _). e.config) is ∙ same.config ∙ c.loop-end.invariant.same.config)
+    (ap (λ (e : EngineView _). e.catalog) is ∙ same.catalog ∙ c.loop-end.invariant.same.catalog) (ap (λ (e : EngineView _). e.config) is ∙ same.config ∙ c.loop-end.invariant.same.config)
     (c.in_ok-accept.ensures.same.1 ∙ same.summary ∙ c.loop-end.invariant.same.summary) (c.in_ok-accept.ensures.same.3 ∙ c.loop-end.invariant.same_keep) in
     at_fault _ _ _ c.from_residual-in_err-close-in-Fault.ensures.1
     (stops_late g.C.Catalog.view g.C.Catalog.decoding now.keep now.run.participant.engine now.caches.items (samples_by g.C.Catalog.text_of g.C.Catalog.decoding now.run.participant.engine now.run.summary now.keep) _ _ _ _ _ _ _ _ (Some c.in-Fault.fault) _ (runs.reads.few c.loop-end.invariant.few) (after_fault _ _ _ _ _ _ _ runs.reads c.in-Fault.is) so_far text
@@ -114,9 +114,9 @@ returns-in-Fault-clause-fault g c =
     let now = c.accept.new.self in
     let runs = c.in_ok-end.ensures.reads in
     let same = c.in_ok-end.ensures.same in
-    let is = ap (λ (p : ParticipantKept _). p.engine) c.in_ok-accept.ensures.same.0 in
+    let is = ap (λ (p : ParticipantView _). p.engine) c.in_ok-accept.ensures.same.0 in
     let so_far = sampled_more g.C.Catalog.view g.C.Catalog.decoding c.loop-end.kept.keep _ _ _ _ _ _ _ _ c.loop-end.kept.run.participant.engine c.run_batch.new.run.participant.engine c.accept.new.self.run.participant.engine c.run_batch.new.run.given c.loop-end.kept.caches.items c.accept.new.self.caches.items c.accept.new.self.keep (same.catalog, same.config) is c.in_ok-accept.ensures.same.3 c.loop-end.invariant.so_far runs c.in_ok-accept.ensures.accept in
     let text = same_samples g.C.Catalog.text_of g.C.Catalog.decoding now.run.participant.engine first.run.participant.engine now.run.summary first.run.summary now.keep first.keep
-    (ap (λ (e : EngineKept _). e.catalog) is ∙ same.catalog ∙ c.loop-end.invariant.same.catalog) (ap (λ (e : EngineKept _). e.config) is ∙ same.config ∙ c.loop-end.invariant.same.config)
+    (ap (λ (e : EngineView _). e.catalog) is ∙ same.catalog ∙ c.loop-end.invariant.same.catalog) (ap (λ (e : EngineView _). e.config) is ∙ same.config ∙ c.loop-end.invariant.same.config)
     (c.in_ok-accept.ensures.same.1 ∙ same.summary ∙ c.loop-end.invariant.same.summary) (c.in_ok-accept.ensures.same.3 ∙ c.loop-end.invariant.same_keep) in
     late _ _ _ _ _ _ (stops_here _ _ _ _ _ _ _ _ (finished g.C.Catalog.view g.C.Catalog.decoding now.keep now.run.participant.engine now.caches.items (samples_by g.C.Catalog.text_of g.C.Catalog.decoding now.run.participant.engine now.run.summary now.keep) _ _ _ _ _ _ _ so_far text (c.in_ok-close-in-Fault.ensures.ok so_far.records so_far.says.1)) (after_fault _ _ _ _ _ _ _ runs.reads c.in-Fault.is))

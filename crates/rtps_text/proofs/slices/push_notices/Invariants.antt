@@ -1,6 +1,6 @@
 use Rattle.std.proofs.Common.{◌≡◌, ◌++◌, ◌+◌, length, map, drop}
 use Rattle.rtps_reader.specs.Notices.{notice_view}
-use Rattle.rtps_serial.specs.World.{Hears}
+use Rattle.rtps_serial.specs.World.{NoticeOf}
 use Rattle.rtps_text.specs.Replayed.{put_lines}
 use Rattle.rtps_text.specs.Slices.{first_notices}
 use Rattle.rtps_text.proofs.slices.push_notices.Given as goal
@@ -9,6 +9,6 @@ abbrev pub invariant-loop-notice : goal.invariant-loop-notice
 invariant-loop-notice g l = record {
   at : l.count ≡ l.notice-index;
   count : l.count + length (first_notices l.place (map (notice_view g.C.Catalog.view) (drop l.notice-index l.notices))) ≡ length (first_notices l.place (map (notice_view g.C.Catalog.view) l.notices));
-  lines : l.out.items ++ put_lines (g.C.Catalog.text_of l.catalog) (map (Hears l.rank) (first_notices l.place (map (notice_view g.C.Catalog.view) (drop l.notice-index l.notices))))
-      ≡ l.fn.out.items ++ put_lines (g.C.Catalog.text_of l.catalog) (map (Hears l.rank) (first_notices l.place (map (notice_view g.C.Catalog.view) l.notices)));
+  lines : l.out.items ++ put_lines (g.C.Catalog.text_of l.catalog) (map (NoticeOf l.rank) (first_notices l.place (map (notice_view g.C.Catalog.view) (drop l.notice-index l.notices))))
+      ≡ l.fn.out.items ++ put_lines (g.C.Catalog.text_of l.catalog) (map (NoticeOf l.rank) (first_notices l.place (map (notice_view g.C.Catalog.view) l.notices)));
 }

@@ -1,7 +1,7 @@
 use Rattle.std.proofs.Common.{◌∷◌, Some, map, refl, sym, ap, ◌∙◌, subst}
 use Rattle.dds_cache.specs.Answered.{answered}
 use Rattle.dds_cache.specs.Calls.{WasRead}
-use Rattle.dds_cache.specs.Standing.{Kept, StandsAt, parts}
+use Rattle.dds_cache.specs.Standing.{CacheView, StandsAt, parts}
 use Rattle.dds_cache.proofs.Answering.{stands_same}
 use Rattle.dds_cache.proofs.Seeing.{from_parts, to_parts}
 use Rattle.dds_cache.proofs.reader.DataReader.read.Goals as goal
@@ -9,7 +9,7 @@ use Rattle.dds_cache.proofs.reader.DataReader.read.Goals as goal
 pub returns-in-Ok : goal.returns-in-Ok
 returns-in-Ok g c =
     let i = c.self.inside in
-    let keep = c.read_some.ensures.keep ∙ ap (λ (k : Kept g.row.V.Denot). k.keep) c.self.view_is in (
+    let keep = c.read_some.ensures.keep ∙ ap (λ (k : CacheView g.row.V.Denot). k.keep) c.self.view_is in (
       (
         refl,
         λ _. tt,
@@ -22,14 +22,14 @@ returns-in-Ok g c =
       record {
         after = tt;
         answers = λ past s. c.in-Ok.ensures.answers past (to_parts past i.index i.shelf.entries.entries (subst (StandsAt past) (sym c.self.view_is) s))
-            ∙ ap (λ (k : Kept g.row.V.Denot). map (λ x. Some x) (answered k.keep past c.args.max c.args.condition)) c.self.view_is;
+            ∙ ap (λ (k : CacheView g.row.V.Denot). map (λ x. Some x) (answered k.keep past c.args.max c.args.condition)) c.self.view_is;
       },
     )
 
 pub returns-in-Err : goal.returns-in-Err
 returns-in-Err g c =
     let i = c.self.inside in
-    let keep = c.read_some.ensures.keep ∙ ap (λ (k : Kept g.row.V.Denot). k.keep) c.self.view_is in (
+    let keep = c.read_some.ensures.keep ∙ ap (λ (k : CacheView g.row.V.Denot). k.keep) c.self.view_is in (
       (
         refl,
         λ _. tt,

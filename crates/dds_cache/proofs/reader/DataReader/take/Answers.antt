@@ -3,7 +3,7 @@ use Rattle.std.specs.Prelude.{IfOk}
 use Rattle.std.proofs.lemmas.Result.{on_err_weaker, on_ok_weaker}
 use Rattle.dds_cache.specs.Calls.{WasTaken}
 use Rattle.dds_cache.specs.Effects.{IsSame}
-use Rattle.dds_cache.specs.Standing.{Kept, StandsAt, parts}
+use Rattle.dds_cache.specs.Standing.{CacheView, StandsAt, parts}
 use Rattle.dds_cache.specs.Answered.{answered}
 use Rattle.dds_cache.proofs.Answering.{stands_same}
 use Rattle.dds_cache.proofs.Seeing.{from_parts, to_parts}
@@ -13,7 +13,7 @@ pub returns-clause-answers : goal.returns-clause-answers
 returns-clause-answers g c = λ past s.
     let i = c.self.inside in
     let old = to_parts past i.index i.shelf.entries.entries (subst (StandsAt past) (sym c.self.view_is) s) in
-    subst (λ (k : Kept g.row.V.Denot). IfOk c.take_some.result (λ taken. taken.items ≡ answered k.keep past c.args.max c.args.condition)) c.self.view_is (c.take_some.ensures.answers past old)
+    subst (λ (k : CacheView g.row.V.Denot). IfOk c.take_some.result (λ taken. taken.items ≡ answered k.keep past c.args.max c.args.condition)) c.self.view_is (c.take_some.ensures.answers past old)
 
 pub returns-clause-stands : goal.returns-clause-stands
 returns-clause-stands g c = λ past s.

@@ -2,7 +2,7 @@ use Rattle.std.proofs.Common.{◌∙◌, ap, length, map, subst, sym}
 use Rattle.std.proofs.lemmas.List.{length-map}
 use Rattle.rtps_serial.specs.World.{World}
 use Rattle.dds_participant.specs.Given.{HoldsNothing, IsGiven}
-use Rattle.dds_participant.specs.Kept.{ParticipantKept}
+use Rattle.dds_participant.specs.Kept.{ParticipantView}
 use Rattle.dds_participant.proofs.Leaving.{left_alone, left_empty}
 use Rattle.dds_participant.proofs.Taken.{adds_after, stands_after}
 use Rattle.dds_participant.proofs.participant.Participant.run_in_order.Goals as goal
@@ -11,9 +11,9 @@ pub finish-requires-clause-readers : goal.finish-requires-clause-readers
 finish-requires-clause-readers g c κs outlives =
     let is = c.in_ok-admit.ensures.ok.2 in
     c.in_ok-given.ensures.count
-    ∙ ap (λ (p : ParticipantKept _). length p.engine.readers) is
+    ∙ ap (λ (p : ParticipantView _). length p.engine.readers) is
     ∙ c.in_ok-admit.ensures.few.1
-    ∙ sym (ap (λ (p : ParticipantKept _). length p.engine.statuses) is)
+    ∙ sym (ap (λ (p : ParticipantView _). length p.engine.statuses) is)
     ∙ sym (ap length c.run.ensures.same.statuses)
 
 pub returns-clause-stands : goal.returns-clause-stands
@@ -21,9 +21,9 @@ returns-clause-stands g c earlier kept =
     let is = c.in_ok-admit.ensures.ok.2 in
     let batch = map (λ d. d.now) c.args.datagrams.now in
     let shown = c.in_ok-given.ensures.count
-    ∙ ap (λ (p : ParticipantKept _). length p.engine.readers) is
+    ∙ ap (λ (p : ParticipantView _). length p.engine.readers) is
     ∙ c.in_ok-admit.ensures.few.1
-    ∙ sym (ap (λ (p : ParticipantKept _). length p.engine.statuses) is)
+    ∙ sym (ap (λ (p : ParticipantView _). length p.engine.statuses) is)
     ∙ sym (ap length c.run.ensures.same.statuses) in
     stands_after g.C.Catalog.decoding earlier batch c.args.self.now c.admit.new.self c.run.new.self kept is c.finish.new.self (length c.args.datagrams.now) (sym (length-map c.args.datagrams.now (λ d. d.now)))
     c.run.ensures.same c.in_ok-given.ensures.keeps c.finish.ensures shown

@@ -3,7 +3,7 @@ use Rattle.std.specs.Prelude.{option_to_list}
 use Rattle.std.specs.List.{flat_map}
 use Rattle.std.proofs.lemmas.List.{at_drop_all, drop_more}
 use Rattle.rtps_proxy.specs.Changes.{change_view}
-use Rattle.rtps_proxy.specs.History.{Sample}
+use Rattle.rtps_proxy.specs.History.{ChangeView}
 use Rattle.rtps_proxy.specs.declared.change.Change.{Change}
 use Rattle.rtps_discovery.specs.Announcement.{Announcement}
 use Rattle.rtps_discovery.specs.Kept.{kept}
@@ -19,7 +19,7 @@ loop-change-preserved g c = λ k is.
     let ready = c.args.ready.now in
     let left = drop (i + 1) ready in
     let cut : drop i ready ≡ change ∷ left = drop_more ready i change c.loop-change-test.true ∙ ap (λ (x : Change g.row.A.Denot). x ∷ left) (sym c.change-item.is) in
-    let said : Sample → List Announcement = λ s. option_to_list (endpoint_in c.args.writer.prefix c.args.writer.entity s) in
+    let said : ChangeView → List Announcement = λ s. option_to_list (endpoint_in c.args.writer.prefix c.args.writer.entity s) in
     let all = flat_map said (map change_view ready) in
     let earlier = map change_seen c.args.changes.now.items in
     let told = map change_seen c.loop-change.changes.items in
@@ -32,7 +32,7 @@ pub returns : goal.returns
 returns g c =
     let i = c.loop-change.change-index in
     let ready = c.args.ready.now in
-    let said : Sample → List Announcement = λ s. option_to_list (endpoint_in c.args.writer.prefix c.args.writer.entity s) in
+    let said : ChangeView → List Announcement = λ s. option_to_list (endpoint_in c.args.writer.prefix c.args.writer.entity s) in
     let all = flat_map said (map change_view ready) in
     let earlier = map change_seen c.args.changes.now.items in
     let told = map change_seen c.loop-change.changes.items in

@@ -4,7 +4,7 @@ use Rattle.std.specs.Option.{option_or}
 use Rattle.rtps_frags.specs.declared.fault.FragFault.{FragFault}
 use Rattle.rtps_frags.specs.declared.sizes.Sizes.{Sizes}
 use Rattle.rtps_frags.specs.Fragments.{There, fault_of, fragment_in, last_of, with_fragments}
-use Rattle.rtps_frags.specs.Kept.{Kept, with_part}
+use Rattle.rtps_frags.specs.Kept.{AssemblyView, with_part}
 use Rattle.rtps_frags.specs.Parts.{part_at, there_in}
 use Rattle.rtps_frags.proofs.Faultless.{Faultless, faultless}
 use Rattle.rtps_frags.proofs.Listed.{listed_same, puts_listed}
@@ -17,8 +17,8 @@ on_ok : {T E P : Type 0} (r : Result T E) → is_err r ≡ false → OnOk r P �
 on_ok (Ok x) h p = p
 on_ok (Err e) h p = absurd cc
 
-same_kept : (z : Sizes) (s t : There) → s ≡ t → ◌≡◌ {A = Kept} (record { sizes = z; there = s; spent = false }) (record { sizes = z; there = t; spent = false })
-same_kept z s t e = ap {B = Kept} (λ (x : There). record { sizes = z; there = x; spent = false }) e
+same_kept : (z : Sizes) (s t : There) → s ≡ t → ◌≡◌ {A = AssemblyView} (record { sizes = z; there = s; spent = false }) (record { sizes = z; there = t; spent = false })
+same_kept z s t e = ap {B = AssemblyView} (λ (x : There). record { sizes = z; there = x; spent = false }) e
 
 pub add-requires-clause-cut : goal.add-requires-clause-cut
 add-requires-clause-cut g c = (none_wrong c.self.inside.sizes c.args.start c.args.count (length c.args.payload.now) c.fault_in.result c.fault_in.ensures c.in_default.is).fragment
@@ -52,4 +52,4 @@ returns-clause-ok g c =
     listed_same now (λ k. option_or (was k) (cond (leb c.args.start k && ltb k (c.args.start + c.args.count)) (Some (fragment_in z c.args.start c.args.payload.now k)) None)) 1 (last_of z) (λ k _ _. added k)
     ∙ sym (puts_listed z c.args.start c.args.payload.now (last_of z) was c.args.start c.args.count f.first f.within)
     in
-    same_kept z (there_in z c.add.new.self) (with_fragments z c.args.start c.args.payload.now (there_in z c.self.inside.parts) c.args.start c.args.count) there ∙ ap (λ (k : Kept). with_part k c.args.start c.args.count c.args.payload.now) c.self.view_is
+    same_kept z (there_in z c.add.new.self) (with_fragments z c.args.start c.args.payload.now (there_in z c.self.inside.parts) c.args.start c.args.count) there ∙ ap (λ (k : AssemblyView). with_part k c.args.start c.args.count c.args.payload.now) c.self.view_is

@@ -1,6 +1,6 @@
 use Rattle.std.proofs.Common.{◌≡◌, ℕ, min, false, sym, ◌∙◌, ap, arith, refl}
 use Rattle.rtps_frags.specs.Fragments.{There, has, is_empty, last_of}
-use Rattle.rtps_frags.specs.Kept.{Kept}
+use Rattle.rtps_frags.specs.Kept.{AssemblyView}
 use Rattle.rtps_frags.specs.Missing.{missing, missing_by}
 use Rattle.rtps_frags.specs.Parts.{holds, there_in}
 use Rattle.rtps_frags.specs.declared.sizes.Sizes.{Sizes}
@@ -18,4 +18,4 @@ returns g c =
     let same : missing_by (holds p) (min c.args.last (last_of a.sizes)) ≡ missing_by (has (there_in a.sizes p)) (min c.args.last (last_of a.sizes)) =
     missing_same (holds p) (has (there_in a.sizes p)) (min c.args.last (last_of a.sizes)) (λ k one le. sym (has_is a.sizes p.next p.front.items p.early.entries c.self.invariant k one (omega (arith, le))))
     in
-    c.missing_up_to.ensures ∙ ap (missing_by (holds p)) end ∙ same ∙ none_of a.sizes (there_in a.sizes p) c.args.last (sym c.is_empty.ensures ∙ c.if-is_empty.false) ∙ ap (λ (k : Kept). missing k.sizes k.there c.args.last) c.self.view_is
+    c.missing_up_to.ensures ∙ ap (missing_by (holds p)) end ∙ same ∙ none_of a.sizes (there_in a.sizes p) c.args.last (sym c.is_empty.ensures ∙ c.if-is_empty.false) ∙ ap (λ (k : AssemblyView). missing k.sizes k.there c.args.last) c.self.view_is

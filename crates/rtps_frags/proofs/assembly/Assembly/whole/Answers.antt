@@ -1,17 +1,17 @@
 use Rattle.std.proofs.Common.{◌≡◌, ℕ, ◌<◌, ◌&&◌, length, not, true, sym, ◌∙◌, ap, ltb, arith}
 use Rattle.std.proofs.lemmas.Bool.Decides.{nat_tests}
 use Rattle.rtps_frags.specs.Fragments.{has_all, is_empty, last_of, payload_of}
-use Rattle.rtps_frags.specs.Kept.{Kept, has_come}
+use Rattle.rtps_frags.specs.Kept.{AssemblyView, has_come}
 use Rattle.rtps_frags.specs.Parts.{there_in}
 use Rattle.rtps_frags.proofs.AnyOrder.{some_octets}
 use Rattle.rtps_frags.proofs.Assembled.{payload_is, size_is, whole_is}
 use Rattle.rtps_frags.proofs.Whole.{and_first, and_second}
 use Rattle.rtps_frags.proofs.assembly.Assembly.whole.Goals as goal
 
-cut_from : (a : Kept) → has_come a ≡ true → 0 < a.sizes.fragment
+cut_from : (a : AssemblyView) → has_come a ≡ true → 0 < a.sizes.fragment
 cut_from a h = some_octets a.sizes (and_first (not (is_empty a.sizes)) (has_all a.there 1 (last_of a.sizes)) (and_second (not a.spent) (not (is_empty a.sizes) && has_all a.there 1 (last_of a.sizes)) h))
 
-all_from : (a : Kept) → has_come a ≡ true → has_all a.there 1 (last_of a.sizes) ≡ true
+all_from : (a : AssemblyView) → has_come a ≡ true → has_all a.there 1 (last_of a.sizes) ≡ true
 all_from a h = and_second (not (is_empty a.sizes)) (has_all a.there 1 (last_of a.sizes)) (and_second (not a.spent) (not (is_empty a.sizes) && has_all a.there 1 (last_of a.sizes)) h)
 
 above : (n m : ℕ) → ltb n m ≡ true → n < m
@@ -25,7 +25,7 @@ returns-clause-payload g c =
     let whole : has_all (there_in a.sizes p) 1 (last_of a.sizes) ≡ ltb (last_of a.sizes) p.next = whole_is a.sizes p.next p.front.items p.early.entries c.self.invariant in
     let beyond : last_of a.sizes < p.next = above (last_of a.sizes) p.next (sym whole ∙ all_from (record { sizes = a.sizes; there = there_in a.sizes p; spent = a.spent }) come) in
     let payload : payload_of (there_in a.sizes p) ≡ p.front.items = payload_is a.sizes p.next p.front.items p.early.entries c.self.invariant (cut_from (record { sizes = a.sizes; there = there_in a.sizes p; spent = a.spent }) come) beyond in
-    c.new.ensures ∙ sym payload ∙ ap (λ (k : Kept). payload_of k.there) c.self.view_is
+    c.new.ensures ∙ sym payload ∙ ap (λ (k : AssemblyView). payload_of k.there) c.self.view_is
 
 pub returns-clause-size : goal.returns-clause-size
 returns-clause-size g c =
@@ -34,4 +34,4 @@ returns-clause-size g c =
     let come : has_come (record { sizes = a.sizes; there = there_in a.sizes p; spent = a.spent }) ≡ true = ap has_come c.self.view_is ∙ c.requires in
     let whole : has_all (there_in a.sizes p) 1 (last_of a.sizes) ≡ ltb (last_of a.sizes) p.next = whole_is a.sizes p.next p.front.items p.early.entries c.self.invariant in
     let beyond : last_of a.sizes < p.next = above (last_of a.sizes) p.next (sym whole ∙ all_from (record { sizes = a.sizes; there = there_in a.sizes p; spent = a.spent }) come) in
-    ap length c.new.ensures ∙ size_is a.sizes p.next p.front.items p.early.entries c.self.invariant (cut_from (record { sizes = a.sizes; there = there_in a.sizes p; spent = a.spent }) come) beyond ∙ ap (λ (k : Kept). k.sizes.sample) c.self.view_is
+    ap length c.new.ensures ∙ size_is a.sizes p.next p.front.items p.early.entries c.self.invariant (cut_from (record { sizes = a.sizes; there = there_in a.sizes p; spent = a.spent }) come) beyond ∙ ap (λ (k : AssemblyView). k.sizes.sample) c.self.view_is

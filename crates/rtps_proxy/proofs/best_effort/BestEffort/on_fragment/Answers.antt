@@ -1,13 +1,13 @@
 use Rattle.std.proofs.Common.{◌≡◌, ℕ, ◌<◌, Bool, true, false, sym, ◌∙◌, ap, ltb, arith, Some, None}
 use Rattle.std.specs.Prelude.{is_some}
 use Rattle.std.proofs.lemmas.Bool.Decides.{nat_tests}
-use Rattle.rtps_receiver.specs.Brought.{Fragments}
+use Rattle.rtps_receiver.specs.EventBody.{FragmentView}
 use Rattle.rtps_receiver.specs.Views.{fragment_view}
 use Rattle.rtps_proxy.specs.BestEffort.{above, standing, taken, takes_fragments}
 use Rattle.rtps_proxy.specs.Changes.{change_view}
 use Rattle.rtps_proxy.specs.Fragments.{with_fragments_of}
-use Rattle.rtps_proxy.specs.History.{Came}
-use Rattle.rtps_proxy.specs.Kept.{Latest, latest, takes_above}
+use Rattle.rtps_proxy.specs.History.{MatchEvent}
+use Rattle.rtps_proxy.specs.Kept.{BestEffortView, best_effort_view, takes_above}
 use Rattle.rtps_proxy.specs.Pending.{found_at, last_64, pending_views, place_in, whole_found}
 use Rattle.rtps_proxy.proofs.Newest.{brings, left_begun, left_none, receives, receives_none, taken_above, taken_last, taken_ready, takes_then}
 use Rattle.rtps_proxy.proofs.Places.{and_both, found_then, place_stays}
@@ -35,25 +35,25 @@ take_whole-requires-clause-there g c =
     ∙ ap (λ xs. is_some (found_at f.number xs)) c.in_ok-put.ensures.put
     ∙ found_then c.args.time f bs
 
-above_top : (r : Latest) (f : Fragments) (t : Bool) → t ≡ takes_above r f → t ≡ true → r.top < f.number
+above_top : (r : BestEffortView) (f : FragmentView) (t : Bool) → t ≡ takes_above r f → t ≡ true → r.top < f.number
 above_top r f t is h = let over : ltb r.top f.number ≡ true = (and_both (ltb r.top f.number) _ (sym is ∙ h)).0 in grind (arith, nat_tests)
 
 pub receive-requires : goal.receive-requires
 receive-requires g c =
-    let over = above_top (latest c.args.self.now) (fragment_view c.args.fragment.now) c.takes.result c.takes.ensures c.if-not-takes.false in
+    let over = above_top (best_effort_view c.args.self.now) (fragment_view c.args.fragment.now) c.takes.result c.takes.ensures c.if-not-takes.false in
     rw (c.in-Some.ensures.number ∙ c.get-number.ensures.value) over
 
 pub returns-then-not-takes : goal.returns-then-not-takes
 returns-then-not-takes g c = λ past at.
     let f = fragment_view c.args.fragment.now in
-    let left : takes_fragments (taken past) f ≡ false = sym (takes_then past f (latest c.args.self.now) at) ∙ sym c.takes.ensures ∙ c.if-not-takes.true in
+    let left : takes_fragments (taken past) f ≡ false = sym (takes_then past f (best_effort_view c.args.self.now) at) ∙ sym c.takes.ensures ∙ c.if-not-takes.true in
     receives_none past (frags_at c.args.time f) (left_none past c.args.time f left) _ _ at.top (at.pending ∙ sym (left_begun past c.args.time f left)) at.sound c.none.ensures.lost c.none.ensures.ready c.none.ensures.answer
 
 pub returns-in-None : goal.returns-in-None
 returns-in-None g c = λ past at.
     let f = fragment_view c.args.fragment.now in
     let grown = with_fragments_of c.args.time f (standing past) in
-    let takes_it : takes_fragments (taken past) f ≡ true = sym (takes_then past f (latest c.args.self.now) at) ∙ sym c.takes.ensures ∙ c.if-not-takes.false in
+    let takes_it : takes_fragments (taken past) f ≡ true = sym (takes_then past f (best_effort_view c.args.self.now) at) ∙ sym c.takes.ensures ∙ c.if-not-takes.false in
     let put_is : pending_views c.put.new.pending.items ≡ grown = c.in_ok-put.ensures.put ∙ ap (with_fragments_of c.args.time f) at.pending in
     let sound = c.in_ok-put.ensures.sound at.sound in
     let whole : None ≡ whole_found (found_at f.number grown) =
@@ -66,10 +66,10 @@ returns-in-None g c = λ past at.
 pub returns-in-Some : goal.returns-in-Some
 returns-in-Some g c = λ past at.
     let f = fragment_view c.args.fragment.now in
-    let event : Came = frags_at c.args.time f in
+    let event : MatchEvent = frags_at c.args.time f in
     let grown = with_fragments_of c.args.time f (standing past) in
     let s = change_view c.in-Some.change in
-    let takes_it : takes_fragments (taken past) f ≡ true = sym (takes_then past f (latest c.args.self.now) at) ∙ sym c.takes.ensures ∙ c.if-not-takes.false in
+    let takes_it : takes_fragments (taken past) f ≡ true = sym (takes_then past f (best_effort_view c.args.self.now) at) ∙ sym c.takes.ensures ∙ c.if-not-takes.false in
     let put_is : pending_views c.put.new.pending.items ≡ grown = c.in_ok-put.ensures.put ∙ ap (with_fragments_of c.args.time f) at.pending in
     let sound = c.in_ok-put.ensures.sound at.sound in
     let whole : Some s ≡ whole_found (found_at f.number grown) =
@@ -85,7 +85,7 @@ returns-in-Some g c = λ past at.
     ∙ ap (λ n. above n (brings past event)) (sym number)
     in
     receives past event s (taken_ready past c.args.time f takes_it ∙ ap listed (sym whole)) c.args.self.now.top (pending_views c.take_whole.new.pending.items) at.top left
-    (latest c.receive.new.self) c.receive.result c.receive.ensures.top c.receive.ensures.pending (c.receive.ensures.sound (c.take_whole.ensures.sound sound))
+    (best_effort_view c.receive.new.self) c.receive.result c.receive.ensures.top c.receive.ensures.pending (c.receive.ensures.sound (c.take_whole.ensures.sound sound))
     c.receive.ensures.lost c.receive.ensures.ready c.receive.ensures.answer
   where
     not_itself : (m n : ℕ) → n ≡ m → ltb m n ≡ false

@@ -2,12 +2,12 @@ use Rattle.std.proofs.Common.{◌≡◌, ℕ, ◌+◌, ◌++◌, Bool, true, fal
 use Rattle.std.specs.Prelude.{is_some}
 use Rattle.std.specs.List.{filter}
 use Rattle.std.proofs.lemmas.Bool.Decides.{nat_tests}
-use Rattle.rtps_receiver.specs.Brought.{Fragments}
+use Rattle.rtps_receiver.specs.EventBody.{FragmentView}
 use Rattle.rtps_receiver.specs.Views.{fragment_view}
 use Rattle.rtps_proxy.specs.Changes.{change_view}
 use Rattle.rtps_proxy.specs.Fragments.{fits, whole_at, with_fragments_of}
 use Rattle.rtps_proxy.specs.Held.{IsRising, behind_front, front_below}
-use Rattle.rtps_proxy.specs.History.{Came}
+use Rattle.rtps_proxy.specs.History.{MatchEvent}
 use Rattle.rtps_proxy.specs.Pending.{found_at, pending_views, place_in, whole_found}
 use Rattle.rtps_proxy.specs.Received.{held, in_order, is_covered, is_settled, put, received, standing, taken, takes_fragments}
 use Rattle.rtps_proxy.specs.Runs.{marks}
@@ -28,16 +28,16 @@ and_parts false b h = absurd cc
 unsettled_by : (fits room seat : Bool) (m : Bool) → true ≡ (fits && ((not m && room) && seat)) → m ≡ false
 unsettled_by fits room seat m h = not_and m room (and_parts (not m && room) seat (and_parts fits ((not m && room) && seat) (sym h)).1).0
 
-unsettled_then : (past : List Came) (f : Fragments) → takes_fragments (taken past) past f ≡ true → is_settled past f.number ≡ false
+unsettled_then : (past : List MatchEvent) (f : FragmentView) → takes_fragments (taken past) past f ≡ true → is_settled past f.number ≡ false
 unsettled_then past f h = not_and (is_settled past f.number) _ (and_parts (fits (taken past).begun f) _ h).1
 
 itself : (m n : ℕ) → n ≡ m → (leb m n && ltb n (m + 1)) ≡ true
 itself m n same = grind (arith, nat_tests)
 
 pub returns-in_default : goal.returns-in_default
-returns-in_default g c = λ whom past at.
+returns-in_default g c = λ pairing past at.
     let f = fragment_view c.args.fragment.now in
-    let event : Came = frags_at c.args.time f in
+    let event : MatchEvent = frags_at c.args.time f in
     let old = c.args.self.now.settled in
     let waiting = map change_view c.args.self.now.held.items in
     let bs = pending_views c.args.self.now.pending.items in
@@ -96,9 +96,9 @@ add_at-requires-clause-above g c =
     not_or false b h = refl
 
 pub returns-in_default-take_whole : goal.returns-in_default-take_whole
-returns-in_default-take_whole g c = λ whom past at.
+returns-in_default-take_whole g c = λ pairing past at.
     let f = fragment_view c.args.fragment.now in
-    let event : Came = frags_at c.args.time f in
+    let event : MatchEvent = frags_at c.args.time f in
     let old = c.args.self.now.settled in
     let waiting = map change_view c.args.self.now.held.items in
     let bs = pending_views c.args.self.now.pending.items in
@@ -132,9 +132,9 @@ returns-in_default-take_whole g c = λ whom past at.
     }
 
 pub returns : goal.returns
-returns g c = λ whom past at.
+returns g c = λ pairing past at.
     let f = fragment_view c.args.fragment.now in
-    let event : Came = frags_at c.args.time f in
+    let event : MatchEvent = frags_at c.args.time f in
     let old = c.args.self.now.settled in
     let new = c.add_at.new.self in
     let waiting = map change_view c.args.self.now.held.items in

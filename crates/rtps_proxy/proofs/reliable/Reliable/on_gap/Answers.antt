@@ -2,9 +2,9 @@ use Rattle.std.proofs.Common.{◌≡◌, ◌++◌, ◌||◌, ℕ, not, true, ap,
 use Rattle.std.specs.List.{filter}
 use Rattle.rtps_receiver.specs.declared.body.Body.TheVariants as body
 use Rattle.rtps_proxy.specs.Changes.{change_view}
-use Rattle.rtps_proxy.specs.Effects.{came}
+use Rattle.rtps_proxy.specs.Effects.{match_event}
 use Rattle.rtps_proxy.specs.Held.{front_below}
-use Rattle.rtps_proxy.specs.History.{Came}
+use Rattle.rtps_proxy.specs.History.{MatchEvent}
 use Rattle.rtps_proxy.proofs.Apart.{apart_from}
 use Rattle.rtps_proxy.proofs.Seats.{standing_then}
 use Rattle.rtps_proxy.specs.History.{names}
@@ -13,8 +13,8 @@ use Rattle.rtps_proxy.proofs.Standing.{or_true, Shows, lost_nothing, names_shows
 use Rattle.rtps_proxy.proofs.reliable.Reliable.on_gap.Goals as goal
 
 pub returns : goal.returns
-returns g c = λ whom time past at.
-    let event : Came = came time (body.Gap c.args.gap.now) in
+returns g c = λ pairing time past at.
+    let event : MatchEvent = match_event time (body.Gap c.args.gap.now) in
     let old = c.args.self.now.settled in
     let new = c.add_named.new.self in
     let before : Shows past old.frontier old.runs = record { settled = at.settled; apart = apart_from old.frontier old.runs old.apart } in

@@ -5,13 +5,13 @@ use Rattle.std.proofs.lemmas.Int.{to_z-of_z}
 use mir.Syntax.{w32}
 use mir.Val.{to_z, of_z}
 use Rattle.rtps_types.specs.Number.{value_of}
-use Rattle.rtps_receiver.specs.Brought.{Announced}
+use Rattle.rtps_receiver.specs.EventBody.{HeartbeatView}
 use Rattle.rtps_proxy.specs.Changes.{change_view}
 use Rattle.rtps_proxy.specs.Answer.{is_answered}
 use Rattle.rtps_proxy.specs.Effects.{ReliableStandsAt, exceeds}
 use Rattle.rtps_proxy.specs.Held.{front_below}
-use Rattle.rtps_proxy.specs.History.{Came, announced_of, has_heartbeat, is_new}
-use Rattle.rtps_proxy.specs.Kept.{Awaited, whom}
+use Rattle.rtps_proxy.specs.History.{MatchEvent, announced_of, has_heartbeat, is_new}
+use Rattle.rtps_proxy.specs.Kept.{ReliableView, pairing}
 use Rattle.rtps_types.specs.Numbers.{lacks}
 use Rattle.rtps_proxy.specs.Received.{in_order, lost}
 use Rattle.rtps_proxy.specs.Runs.{marks}
@@ -24,8 +24,8 @@ use Rattle.rtps_proxy.proofs.reliable.Reliable.on_heartbeat.Goals as goal
 pub returns-then-not-is_accepted : goal.returns-then-not-is_accepted
 returns-then-not-is_accepted g c = λ time past at.
     let b = c.args.heartbeat.now in
-    let h : Announced = record { first = value_of b.first; last = b.last; count = b.count; final_flag = b.final_flag; liveliness = b.liveliness } in
-    let event : Came = beat_at time h in
+    let h : HeartbeatView = record { first = value_of b.first; last = b.last; count = b.count; final_flag = b.final_flag; liveliness = b.liveliness } in
+    let event : MatchEvent = beat_at time h in
     let e : to_z w32 (of_z w32 b.count) ≡ b.count = to_z-of_z w32 b.count (search rules) in
     let exceeded : exceeds c.args.self.now.accepted b.count ≡ false = rw e at (sym c.is_accepted.ensures ∙ c.if-not-is_accepted.true) in
     let refused : is_new past b.count ≡ false = at.counts b.count ∙ exceeded in
@@ -51,8 +51,8 @@ returns-then-not-is_accepted g c = λ time past at.
 pub returns : goal.returns
 returns g c = λ time past at.
     let b = c.args.heartbeat.now in
-    let h : Announced = record { first = value_of b.first; last = b.last; count = b.count; final_flag = b.final_flag; liveliness = b.liveliness } in
-    let event : Came = beat_at time h in
+    let h : HeartbeatView = record { first = value_of b.first; last = b.last; count = b.count; final_flag = b.final_flag; liveliness = b.liveliness } in
+    let event : MatchEvent = beat_at time h in
     let old = c.args.self.now.settled in
     let new = c.add.new.self in
     let waiting = map change_view c.args.self.now.held.items in
@@ -70,7 +70,7 @@ returns g c = λ time past at.
     let none_first : map change_view c.new-ready.result.items ++ front_below new.frontier waiting ≡ front_below new.frontier waiting = rw c.new-ready.ensures.items refl in
     let lost_is : c.lost_below-lost.result ≡ lost past event = c.lost_below-lost.ensures ∙ rw (sym begun, c.get-first.ensures.value, beat_lost past time h accepted old.frontier old.runs before) refl in
     record {
-      stands = subst (λ (k : Awaited). ReliableStandsAt (event ∷ past) k) (sym c.in_ok-answer.ensures.kept) (record {
+      stands = subst (λ (k : ReliableView). ReliableStandsAt (event ∷ past) k) (sym c.in_ok-answer.ensures.kept) (record {
         counts = λ next. rw e (ap (λ d. int_lt b.count next && d) (at.counts next) ∙ newer c.args.self.now.accepted b.count next exceeded);
         begun = refl;
         announced = announced;
@@ -84,5 +84,5 @@ returns g c = λ time past at.
       });
       lost = lost_is;
       ready = c.in_ok-release.ensures.taken ∙ none_first ∙ split_ready past event new.frontier new.runs waiting after.0 refl at.held;
-      answer = c.in_ok-answer.ensures.answer ∙ reply_is (whom c.args.config.now) past event asks new.frontier c.max-self.result c.args.self.now.answers new.runs after.0 due announced at.answers;
+      answer = c.in_ok-answer.ensures.answer ∙ reply_is (pairing c.args.config.now) past event asks new.frontier c.max-self.result c.args.self.now.answers new.runs after.0 due announced at.answers;
     }

@@ -6,24 +6,24 @@ use mir.Syntax.{w32}
 use mir.Val.{to_z, of_z}
 use Rattle.rtps_types.specs.NumberSet.{NumberSet}
 use Rattle.rtps_types.specs.Sets.{frag_view}
-use Rattle.rtps_receiver.specs.Brought.{AnnouncedFragments, HeartbeatFrag}
+use Rattle.rtps_receiver.specs.EventBody.{HeartbeatFragView, HeartbeatFrag}
 use Rattle.rtps_receiver.specs.Views.{heartbeat_frag_view}
 use Rattle.rtps_proxy.specs.Changes.{change_view}
 use Rattle.rtps_proxy.specs.Effects.{ReliableStandsAt, exceeds}
-use Rattle.rtps_proxy.specs.History.{Came, is_new_frag}
-use Rattle.rtps_proxy.specs.Kept.{Awaited, Whom, awaited, lacks_frags, whom}
+use Rattle.rtps_proxy.specs.History.{MatchEvent, is_new_frag}
+use Rattle.rtps_proxy.specs.Kept.{ReliableView, Pairing, reliable_view, lacks_frags, pairing}
 use Rattle.rtps_proxy.specs.NackFrag.{asked_frags, nack, nack_by, nacks}
 use Rattle.rtps_proxy.specs.Received.{in_order, is_settled, taken}
 use Rattle.rtps_proxy.specs.Fragments.{begun_at}
 use Rattle.rtps_proxy.specs.Pending.{found_at}
-use Rattle.rtps_proxy.specs.Replies.{Sent, nack_of}
+use Rattle.rtps_proxy.specs.Replies.{ReplyView, nack_of}
 use Rattle.rtps_proxy.proofs.Beats.{newer, one_more, refused_counts}
 use Rattle.rtps_proxy.proofs.Seats.{found_standing, standing_same}
 use Rattle.rtps_proxy.proofs.Standing.{lost_nothing, none_ready, same_held}
 use Rattle.rtps_proxy.proofs.reliable.Reliable.on_heartbeat_frag.Goals as goal
 
 -- what is asked for, by what the proxy keeps
-asked_is : (past : List Came) (r : Awaited) (h : AnnouncedFragments) → ReliableStandsAt past r → is_new_frag past h.count ≡ true → asked_frags past h ≡ lacks_frags r h
+asked_is : (past : List MatchEvent) (r : ReliableView) (h : HeartbeatFragView) → ReliableStandsAt past r → is_new_frag past h.count ≡ true → asked_frags past h ≡ lacks_frags r h
 asked_is past r h at accepted = by_settled (is_settled past h.number) refl
   where
     by_settled : (b : Bool) → is_settled past h.number ≡ b → asked_frags past h ≡ lacks_frags r h
@@ -32,11 +32,11 @@ asked_is past r h at accepted = by_settled (is_settled past h.number) refl
         let found : found_at h.number r.begun ≡ begun_at h.number (taken past).begun = ap (found_at h.number) at.pending ∙ found_standing past h.number e in
         rw (accepted, e, sym (at.settled h.number) ∙ e, found) refl
 
-nacks_counted : (past : List Came) (b : Bool) (earlier now : ℕ) → earlier ≡ nacks past % 2 ^ 32 → now ≡ cond b ((earlier + 1) % 2 ^ 32) earlier → now ≡ cond b (nacks past + 1) (nacks past) % 2 ^ 32
+nacks_counted : (past : List MatchEvent) (b : Bool) (earlier now : ℕ) → earlier ≡ nacks past % 2 ^ 32 → now ≡ cond b ((earlier + 1) % 2 ^ 32) earlier → now ≡ cond b (nacks past + 1) (nacks past) % 2 ^ 32
 nacks_counted past true earlier now is e = e ∙ rw is (one_more (nacks past) (2 ^ 32))
 nacks_counted past false earlier now is e = e ∙ is
 
-nack_sent : (w : Whom) (past : List Came) (h : AnnouncedFragments) (earlier : ℕ) (s : NumberSet) (r : Sent) → asked_frags past h ≡ Some s → earlier ≡ nacks past % 2 ^ 32 → r ≡ nack_of w (nack_by h.number earlier s) → Some r ≡ option_map (nack_of w) (nack past h)
+nack_sent : (w : Pairing) (past : List MatchEvent) (h : HeartbeatFragView) (earlier : ℕ) (s : NumberSet) (r : ReplyView) → asked_frags past h ≡ Some s → earlier ≡ nacks past % 2 ^ 32 → r ≡ nack_of w (nack_by h.number earlier s) → Some r ≡ option_map (nack_of w) (nack past h)
 nack_sent w past h earlier s r asked counted is =
     let counts : (earlier + 1) % 2 ^ 32 ≡ (nacks past + 1) % 2 ^ 32 = rw counted (one_more (nacks past) (2 ^ 32)) in
     ap (λ x. Some x) is
@@ -47,7 +47,7 @@ pub returns-then-not-is_frag_accepted : goal.returns-then-not-is_frag_accepted
 returns-then-not-is_frag_accepted g c = λ time past at.
     let b = c.args.heartbeat.now in
     let h = heartbeat_frag_view b in
-    let event : Came = record { time = time; body = HeartbeatFrag h } in
+    let event : MatchEvent = record { time = time; body = HeartbeatFrag h } in
     let e : to_z w32 (of_z w32 b.count) ≡ b.count = to_z-of_z w32 b.count (search rules) in
     let exceeded : exceeds c.args.self.now.frag_accepted b.count ≡ false = rw e at (sym c.is_frag_accepted.ensures ∙ c.if-not-is_frag_accepted.true) in
     let refused : is_new_frag past b.count ≡ false = at.frag_counts b.count ∙ exceeded in
@@ -74,11 +74,11 @@ pub returns-in_default : goal.returns-in_default
 returns-in_default g c = λ time past at.
     let b = c.args.heartbeat.now in
     let h = heartbeat_frag_view b in
-    let event : Came = record { time = time; body = HeartbeatFrag h } in
+    let event : MatchEvent = record { time = time; body = HeartbeatFrag h } in
     let e : to_z w32 (of_z w32 b.count) ≡ b.count = to_z-of_z w32 b.count (search rules) in
     let exceeded : exceeds c.args.self.now.frag_accepted b.count ≡ true = rw e at (sym c.is_frag_accepted.ensures ∙ c.if-not-is_frag_accepted.false) in
     let accepted : is_new_frag past b.count ≡ true = at.frag_counts b.count ∙ exceeded in
-    let asked : asked_frags past h ≡ None = asked_is past (awaited c.args.self.now) h at accepted ∙ sym c.in_default.ensures in
+    let asked : asked_frags past h ≡ None = asked_is past (reliable_view c.args.self.now) h at accepted ∙ sym c.in_default.ensures in
     record {
       stands = record {
         counts = at.counts;
@@ -101,11 +101,11 @@ pub returns : goal.returns
 returns g c = λ time past at.
     let b = c.args.heartbeat.now in
     let h = heartbeat_frag_view b in
-    let event : Came = record { time = time; body = HeartbeatFrag h } in
+    let event : MatchEvent = record { time = time; body = HeartbeatFrag h } in
     let e : to_z w32 (of_z w32 b.count) ≡ b.count = to_z-of_z w32 b.count (search rules) in
     let exceeded : exceeds c.args.self.now.frag_accepted b.count ≡ true = rw e at (sym c.is_frag_accepted.ensures ∙ c.if-not-is_frag_accepted.false) in
     let accepted : is_new_frag past b.count ≡ true = at.frag_counts b.count ∙ exceeded in
-    let asked : asked_frags past h ≡ Some (frag_view c.in-Some.missing) = asked_is past (awaited c.args.self.now) h at accepted ∙ sym c.in-Some.ensures in
+    let asked : asked_frags past h ≡ Some (frag_view c.in-Some.missing) = asked_is past (reliable_view c.args.self.now) h at accepted ∙ sym c.in-Some.ensures in
     record {
       stands = record {
         counts = at.counts;
@@ -121,5 +121,5 @@ returns g c = λ time past at.
       };
       lost = sym (lost_nothing past event refl);
       ready = ap (map change_view) c.new.ensures.items ∙ sym (none_ready past event (λ n. refl));
-      answer = nack_sent (whom c.args.config.now) past h c.args.self.now.nacks (frag_view c.in-Some.missing) _ asked at.nacks c.in_ok-reply.ensures;
+      answer = nack_sent (pairing c.args.config.now) past h c.args.self.now.nacks (frag_view c.in-Some.missing) _ asked at.nacks c.in_ok-reply.ensures;
     }

@@ -3,7 +3,7 @@ use Rattle.std.specs.List.{list_all, list_any}
 use Rattle.rtps_types.specs.Number.{value_of}
 use Rattle.rtps_types.specs.NumberSet.{members}
 use Rattle.rtps_types.specs.Sets.{sn_view}
-use Rattle.rtps_receiver.specs.Brought.{is_taken}
+use Rattle.rtps_receiver.specs.EventBody.{is_taken}
 use Rattle.rtps_proxy.specs.Runs.{marks}
 use Rattle.rtps_proxy.proofs.settled.Settled.add_named.Given as goal
 

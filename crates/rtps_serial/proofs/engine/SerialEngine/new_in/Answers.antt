@@ -1,6 +1,6 @@
 use Rattle.std.proofs.Common.{◌≡◌, ◌≤◌, ◌∙◌, ap, arith, false, length, map, refl, rules, slice_index_or}
 use Rattle.std.proofs.lemmas.List.{length-map}
-use Rattle.rtps_reader.specs.Standing.{ReaderKept, facts_in}
+use Rattle.rtps_reader.specs.Standing.{ReaderView, facts_in}
 use Rattle.rtps_serial.specs.Run.{fixed_of}
 use Rattle.rtps_serial.proofs.Taking.{starts_here, shows_first}
 use Rattle.rtps_serial.proofs.engine.SerialEngine.new_in.Goals as goal
@@ -12,7 +12,7 @@ returns-clause-stands g c =
     let start = (rw c.deref-2.ensures.value at c.in_ok-states.ensures.start) (fixed_of c.args.config.fixed.items) (λ rank other below. ap (λ l. map facts_in (slice_index_or l rank other).items) c.deref-3.ensures.value ∙ c.in_ok-fixed.ensures.fixed rank other (omega (arith, below, c.len.ensures)) ∙ ap (λ l. fixed_of l rank) c.deref.ensures.value) in
     let count : length states ≡ length c.args.config.readers.items = search rules in
     let all = starts_here d c.args.config states start in
-    let shown : c.in_ok-statuses.statuses.items ≡ map (λ (s : ReaderKept). s.status) states = c.in_ok-statuses.ensures ∙ ap (map (λ (s : ReaderKept). s.status)) c.deref-4.ensures.value in
+    let shown : c.in_ok-statuses.statuses.items ≡ map (λ (s : ReaderView). s.status) states = c.in_ok-statuses.ensures ∙ ap (map (λ (s : ReaderView). s.status)) c.deref-4.ensures.value in
     rw (c.new-3.ensures.decoder, c.new-3.ensures.states, c.new-2.ensures) (record {
       sound = refl;
       index = refl;
@@ -27,5 +27,5 @@ invariant_of-result g c =
     let states = c.in_ok-states.states.items in
     let count : length states ≡ length c.args.config.readers.items = search rules in
     let few : length c.args.config.readers.items ≤ 256 = c.in-Ok.ensures.readers in
-    let shown : c.in_ok-statuses.statuses.items ≡ map (λ (s : ReaderKept). s.status) states = c.in_ok-statuses.ensures ∙ ap (map (λ (s : ReaderKept). s.status)) c.deref-4.ensures.value in
-    rw c.new-3.ensures.states (omega (arith, count, few), ap length shown ∙ length-map states (λ (s : ReaderKept). s.status))
+    let shown : c.in_ok-statuses.statuses.items ≡ map (λ (s : ReaderView). s.status) states = c.in_ok-statuses.ensures ∙ ap (map (λ (s : ReaderView). s.status)) c.deref-4.ensures.value in
+    rw c.new-3.ensures.states (omega (arith, count, few), ap length shown ∙ length-map states (λ (s : ReaderView). s.status))

@@ -1,6 +1,6 @@
 use Rattle.std.proofs.Common.{◌≡◌, ◌++◌, ◌∷◌, [], ◌∙◌, ap, length, map, rules, sym}
 use Rattle.rtps_serial.specs.Outcome.{report_view}
-use Rattle.rtps_serial.specs.Standing.{EngineKept, run_by}
+use Rattle.rtps_serial.specs.Standing.{EngineView, run_by}
 use Rattle.rtps_serial.proofs.Dealt.{adds_dealt}
 use Rattle.rtps_serial.proofs.Running.{run_count}
 use Rattle.rtps_serial.proofs.Taking.{put_taken, taken}
@@ -16,6 +16,6 @@ returns-clause-adds g c datagrams kept =
     let all = datagrams ++ c.args.octets.now ∷ [] in
     let reports = map (report_view g.C.Catalog.view) c.report.new.reports.items in
     let counted : length c.report.new.self.readers ≡ c.len.result = search rules in
-    let count = run_count (g.C.Catalog.decoding old.catalog) old.config all ∙ sym kept.count ∙ sym (ap (λ (e : EngineKept _). length e.readers) c.in_ok-admit.ensures.ok.2) ∙ sym c.report.ensures.same.count ∙ counted in
+    let count = run_count (g.C.Catalog.decoding old.catalog) old.config all ∙ sym kept.count ∙ sym (ap (λ (e : EngineView _). length e.readers) c.in_ok-admit.ensures.ok.2) ∙ sym c.report.ensures.same.count ∙ counted in
     adds_dealt g.C.Catalog.view (run_by g.C.Catalog.decoding old datagrams) (run_by g.C.Catalog.decoding old all) c.len.result reports c.in_ok-outcome.outcome count
     (put_taken g.C.Catalog.view g.C.Catalog.decoding datagrams c.args.octets.now old c.admit.new.self c.report.new.self c.report.new.reports.items kept c.in_ok-admit.ensures.ok.2 c.in_ok-report.ensures.stands) c.in_ok-outcome.ensures

@@ -5,7 +5,7 @@ use Rattle.rtps_reader.specs.Steps.{asked}
 use Rattle.rtps_serial.specs.Outcome.{report_view}
 use Rattle.rtps_serial.specs.Seen.{notices_by}
 use Rattle.rtps_serial.specs.Steps.{step_by}
-use Rattle.rtps_serial.specs.World.{Hears, sent_by}
+use Rattle.rtps_serial.specs.World.{NoticeOf, sent_by}
 use Rattle.rtps_serial.proofs.Answered.{on_ok_then}
 use Rattle.rtps_serial.proofs.Stepped.{state_of, step_stands}
 use Rattle.rtps_serial.proofs.readers.Readers.step.Goals as goal
@@ -28,6 +28,6 @@ returns-clause-stands g c w earlier stands =
     on_ok_then c.report_all.result
     (λ moved. step_stands g.C.Catalog.view d place w earlier (step_by rank what) states old c.step.new.self c.args.reports.now.items c.report_all.new.reports.items stands below c.index_mut.ensures.value c.in_ok-step.ensures.place.0
     (c.in_ok-step.ensures.stands r (notices_by rank w.put) here.stands)
-    (moved ∙ ap (λ l. map (report_view g.C.Catalog.view) c.args.reports.now.items ++ (map (Hears rank) l ++ map (sent_by rank) (map answer_view c.step.new.output.answers.items))) told
-    ∙ ap (λ l. map (report_view g.C.Catalog.view) c.args.reports.now.items ++ (map (Hears rank) (tells d r place what) ++ map (sent_by rank) l)) sent))
+    (moved ∙ ap (λ l. map (report_view g.C.Catalog.view) c.args.reports.now.items ++ (map (NoticeOf rank) l ++ map (sent_by rank) (map answer_view c.step.new.output.answers.items))) told
+    ∙ ap (λ l. map (report_view g.C.Catalog.view) c.args.reports.now.items ++ (map (NoticeOf rank) (tells d r place what) ++ map (sent_by rank) l)) sent))
     c.report_all.ensures

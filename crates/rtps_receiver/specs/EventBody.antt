@@ -13,13 +13,13 @@ abbrev pub are_taken : NumberSet → Bool
 are_taken s = list_all is_taken (s.base ∷ members s)
 
 -- a change in one piece
-pub record Change : Type 0 where
+pub record WholeView : Type 0 where
   pub number : ℕ
   pub info : ChangeInfo
   pub payload : List ℕ
 
 -- fragments of a change, from number start on
-pub record Fragments : Type 0 where
+pub record FragmentView : Type 0 where
   pub number : ℕ
   pub start : ℕ
   pub count : ℕ
@@ -29,7 +29,7 @@ pub record Fragments : Type 0 where
   pub payload : List ℕ
 
 -- which numbers a writer has
-pub record Announced : Type 0 where
+pub record HeartbeatView : Type 0 where
   pub first : ℕ
   pub last : ℕ
   pub count : ℤ
@@ -37,19 +37,19 @@ pub record Announced : Type 0 where
   pub liveliness : Bool
 
 -- numbers that will not come: from start up to below the base of the list, and its members
-pub record Passed : Type 0 where
+pub record GapView : Type 0 where
   pub start : ℕ
   pub list : NumberSet
 
 -- which fragments of a change a writer has
-pub record AnnouncedFragments : Type 0 where
+pub record HeartbeatFragView : Type 0 where
   pub number : ℕ
   pub last : ℕ
   pub count : ℤ
 
-pub data Brought : Type 0 where
-  Whole : Change → Brought
-  Fragment : Fragments → Brought
-  Heartbeat : Announced → Brought
-  Gap : Passed → Brought
-  HeartbeatFrag : AnnouncedFragments → Brought
+pub data EventBody : Type 0 where
+  Whole : WholeView → EventBody
+  Fragment : FragmentView → EventBody
+  Heartbeat : HeartbeatView → EventBody
+  Gap : GapView → EventBody
+  HeartbeatFrag : HeartbeatFragView → EventBody

@@ -3,14 +3,14 @@ use Rattle.std.proofs.Common.{◌≡◌, ℕ, suc, ◌+◌, ◌-◌, ◌<◌, �
 use Rattle.std.specs.List.{filter, AllByRecursion}
 use Rattle.std.proofs.lemmas.Bool.Decides.{nat_tests, leb_tells, eqb_tells}
 use Rattle.rtps_types.specs.declared.time.Timestamp.{Timestamp}
-use Rattle.rtps_receiver.specs.Brought.{Brought, Fragments, Whole, Fragment, Heartbeat, Gap, HeartbeatFrag}
+use Rattle.rtps_receiver.specs.EventBody.{EventBody, FragmentView, Whole, Fragment, Heartbeat, Gap, HeartbeatFrag}
 use Rattle.rtps_frags.specs.Fragments.{has_all, is_empty, is_whole, last_of, payload_of, before}
 use Rattle.rtps_frags.specs.declared.sizes.Sizes.{Sizes}
 use Rattle.rtps_frags.specs.Payload.{AreFragments}
 use Rattle.rtps_frags.proofs.Faultless.{Faultless, faultless, fits as fits_all}
 use Rattle.rtps_frags.proofs.Puts.{puts_hold, puts_stay}
 use Rattle.rtps_frags.proofs.Whole.{IsFrom, from_all, length_from, part_from}
-use Rattle.rtps_proxy.specs.History.{Came, Sample, sample_of}
+use Rattle.rtps_proxy.specs.History.{MatchEvent, ChangeView, change_of}
 use Rattle.rtps_proxy.specs.Settled.{has_room_by, is_settled_by}
 use Rattle.rtps_proxy.specs.Fragments.{Begun, begun_at, fits, fits_in, grown, is_cut_so, is_faulty, opened, sample_in, sizes_of, whole_at, whole_of, with_fragments_of}
 use Rattle.rtps_proxy.specs.Received.{in_order, is_covered, put, ready, received, taken, taken_after, takes_fragments, with_begun}
@@ -29,11 +29,11 @@ not_true true h = absurd cc
 not_true false h = refl
 
 -- what says all of a sample but its payload says so whatever the payload
-told_alike : (past : List Came) (z : Sizes) (s : Sample) (payload : List ℕ) → IsTold past z s → IsTold past z (record { number = s.number; time = s.time; info = s.info; payload = payload })
+told_alike : (past : List MatchEvent) (z : Sizes) (s : ChangeView) (payload : List ℕ) → IsTold past z s → IsTold past z (record { number = s.number; time = s.time; info = s.info; payload = payload })
 told_alike [] z s payload h = absurd h
 told_alike (e ∷ past) z s payload (inl h) = inl (by_body e.body h)
   where
-    by_body : (b : Brought) → IsToldBy z s e.time b → IsToldBy z (record { number = s.number; time = s.time; info = s.info; payload = payload }) e.time b
+    by_body : (b : EventBody) → IsToldBy z s e.time b → IsToldBy z (record { number = s.number; time = s.time; info = s.info; payload = payload }) e.time b
     by_body (Whole c) h = absurd h
     by_body (Fragment f) h = h
     by_body (Heartbeat b) h = absurd h
@@ -42,24 +42,24 @@ told_alike (e ∷ past) z s payload (inl h) = inl (by_body e.body h)
 told_alike (e ∷ past) z s payload (inr h) = inr (told_alike past z s payload h)
 
 -- what is begun is what DATA_FRAGs of the match brought
-record IsSound (past : List Came) (a : Begun) : Type 0 where
+record IsSound (past : List MatchEvent) (a : Begun) : Type 0 where
   cut : 0 < a.sizes.fragment
   told : IsTold past a.sizes (sample_in a)
   parts : AreFragments a.sizes 0 a.there
   brought : AllByRecursion (λ f. BringsFragment past a.number a.sizes f.0 f.1) a.there
 
-abbrev frags_at : Option Timestamp → Fragments → Came
+abbrev frags_at : Option Timestamp → FragmentView → MatchEvent
 frags_at time f = record { time = time; body = Fragment f }
 
 all_weaker : {X : Type 0} (P Q : X → Type 0) (xs : List X) → ((x : X) → P x → Q x) → AllByRecursion P xs → AllByRecursion Q xs
 all_weaker P Q [] f h = tt
 all_weaker P Q (x ∷ xs) f h = (f x h.0, all_weaker P Q xs f h.1)
 
-sound_then : (past : List Came) (e : Came) (a : Begun) → IsSound past a → IsSound (e ∷ past) a
+sound_then : (past : List MatchEvent) (e : MatchEvent) (a : Begun) → IsSound past a → IsSound (e ∷ past) a
 sound_then past e a s = record { cut = s.cut; told = inr s.told; parts = s.parts; brought = all_weaker (λ f. BringsFragment past a.number a.sizes f.0 f.1) (λ f. BringsFragment (e ∷ past) a.number a.sizes f.0 f.1) a.there (λ f h. inr h) s.brought }
 
 -- with the fragments of a DATA_FRAG that is cut as it
-module _ (past : List Came) (time : Option Timestamp) (f : Fragments) (good : is_faulty f ≡ false) where
+module _ (past : List MatchEvent) (time : Option Timestamp) (f : FragmentView) (good : is_faulty f ≡ false) where
   none_wrong : Faultless (sizes_of f) f.start f.count (length f.payload)
   none_wrong = faultless (sizes_of f) f.start f.count (length f.payload) good
 
@@ -110,7 +110,7 @@ module _ (past : List Came) (time : Option Timestamp) (f : Fragments) (good : is
         ]
       ]
 
-found_sound : (past : List Came) (n : ℕ) (bs : List Begun) → AllByRecursion (IsSound past) bs → AllByRecursion (IsPutTogether past) (whole_at n bs)
+found_sound : (past : List MatchEvent) (n : ℕ) (bs : List Begun) → AllByRecursion (IsSound past) bs → AllByRecursion (IsPutTogether past) (whole_at n bs)
 found_sound past n [] all = tt
 found_sound past n (a ∷ bs) all = by_test (eqb a.number n) (found_sound past n bs all.1)
   where
@@ -134,36 +134,36 @@ found_sound past n (a ∷ bs) all = by_test (eqb a.number n) (found_sound past n
     by_test true rest = by_whole (is_whole a.sizes a.there) refl
     by_test false rest = rest
 
-together_then : (past : List Came) (e : Came) (s : Sample) → IsPutTogether past s → IsPutTogether (e ∷ past) s
+together_then : (past : List MatchEvent) (e : MatchEvent) (s : ChangeView) → IsPutTogether past s → IsPutTogether (e ∷ past) s
 together_then past e s t = record { sizes = t.sizes; whole = t.whole; told = inr t.told; each = λ k one le. inr (t.each k one le) }
 
-brings_then : (past : List Came) (e : Came) (s : Sample) → Brings past s → Brings (e ∷ past) s
+brings_then : (past : List MatchEvent) (e : MatchEvent) (s : ChangeView) → Brings past s → Brings (e ∷ past) s
 brings_then past e s (inl h) = inl (inr h)
 brings_then past e s (inr h) = inr (together_then past e s h)
 
 -- all that was taken
-abbrev AllSound : List Came → Type 0
+abbrev AllSound : List MatchEvent → Type 0
 AllSound past = AllByRecursion (Brings past) (received past) × AllByRecursion (IsSound past) (taken past).begun
 
 all_append : {X : Type 0} (P : X → Type 0) (xs ys : List X) → AllByRecursion P xs → AllByRecursion P ys → AllByRecursion P (xs ++ ys)
 all_append P [] ys h k = k
 all_append P (x ∷ xs) ys h k = (h.0, all_append P xs ys h.1 k)
 
-all_sound : (past : List Came) → AllSound past
+all_sound : (past : List MatchEvent) → AllSound past
 all_sound [] = (tt, tt)
 all_sound (e ∷ past) = by_body e.body (all_weaker (Brings past) (Brings (e ∷ past)) (received past) (brings_then past e) (all_sound past).0, all_weaker (IsSound past) (IsSound (e ∷ past)) (taken past).begun (sound_then past e) (all_sound past).1) (all_sound past).1
   where
-    Then : Brought → Type 0
+    Then : EventBody → Type 0
     Then b = AllByRecursion (Brings (record { time = e.time; body = b } ∷ past)) (taken_after (taken past) past (record { time = e.time; body = b })).changes
         × AllByRecursion (IsSound (record { time = e.time; body = b } ∷ past)) (taken_after (taken past) past (record { time = e.time; body = b })).begun
 
-    by_body : (b : Brought) → AllByRecursion (Brings (record { time = e.time; body = b } ∷ past)) (received past) × AllByRecursion (IsSound (record { time = e.time; body = b } ∷ past)) (taken past).begun
+    by_body : (b : EventBody) → AllByRecursion (Brings (record { time = e.time; body = b } ∷ past)) (received past) × AllByRecursion (IsSound (record { time = e.time; body = b } ∷ past)) (taken past).begun
         → AllByRecursion (IsSound past) (taken past).begun
         → AllByRecursion (Brings (record { time = e.time; body = b } ∷ past)) (taken_after (taken past) past (record { time = e.time; body = b })).changes
         × AllByRecursion (IsSound (record { time = e.time; body = b } ∷ past)) (taken_after (taken past) past (record { time = e.time; body = b })).begun
     by_body (Whole c) was before = (by_test (not (is_settled_by (received past) past c.number) && has_room_by (received past) past c.number), was.1)
       where
-        by_test : (b : Bool) → AllByRecursion (Brings (record { time = e.time; body = Whole c } ∷ past)) (cond b (sample_of e.time c ∷ received past) (received past))
+        by_test : (b : Bool) → AllByRecursion (Brings (record { time = e.time; body = Whole c } ∷ past)) (cond b (change_of e.time c ∷ received past) (received past))
         by_test true = (inl (inl refl), was.0)
         by_test false = was.0
     by_body (Fragment f) was before = by_test (takes_fragments (taken past) past f) refl
@@ -185,18 +185,18 @@ all_sound (e ∷ past) = by_body e.body (all_weaker (Brings past) (Brings (e ∷
     by_body (Gap g) was before = was
     by_body (HeartbeatFrag h) was before = was
 
-module _ (P : Sample → Type 0) where
-  all_put : (s : Sample) (ts : List Sample) → P s → AllByRecursion P ts → AllByRecursion P (put s ts)
+module _ (P : ChangeView → Type 0) where
+  all_put : (s : ChangeView) (ts : List ChangeView) → P s → AllByRecursion P ts → AllByRecursion P (put s ts)
   all_put s [] here rest = (here, tt)
   all_put s (t ∷ ts) here rest =
       let more : AllByRecursion P (put s ts) = all_put s ts here rest.1 in
       elim (leb_tells (suc t.number) s.number) [ inl w ↦ rw w.0 (rest.0, more) | inr w ↦ rw w.0 (here, rest) ]
 
-  all_in_order : (ss : List Sample) → AllByRecursion P ss → AllByRecursion P (in_order ss)
+  all_in_order : (ss : List ChangeView) → AllByRecursion P ss → AllByRecursion P (in_order ss)
   all_in_order [] h = tt
   all_in_order (s ∷ ss) h = all_put s (in_order ss) h.0 (all_in_order ss h.1)
 
-  all_filter : (p : Sample → Bool) (ss : List Sample) → AllByRecursion P ss → AllByRecursion P (filter p ss)
+  all_filter : (p : ChangeView → Bool) (ss : List ChangeView) → AllByRecursion P ss → AllByRecursion P (filter p ss)
   all_filter p [] h = tt
   all_filter p (s ∷ ss) h = by_test (p s) (all_filter p ss h.1)
     where
@@ -204,6 +204,6 @@ module _ (P : Sample → Type 0) where
       by_test true rest = (h.0, rest)
       by_test false rest = rest
 
-pub ready_brought : (past : List Came) (e : Came) → AllByRecursion (Brings (e ∷ past)) (ready past e)
+pub ready_brought : (past : List MatchEvent) (e : MatchEvent) → AllByRecursion (Brings (e ∷ past)) (ready past e)
 ready_brought past e =
     all_in_order (Brings (e ∷ past)) _ (all_filter (Brings (e ∷ past)) (λ s. is_covered (e ∷ past) s.number && not (is_covered past s.number)) (received (e ∷ past)) (all_sound (e ∷ past)).0)
