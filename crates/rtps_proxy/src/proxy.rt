@@ -31,8 +31,11 @@ impl<A: Allocator> Model for WriterProxy<A> {
 
     ghost Value = { ProxyView };
 
-    ghost view = { λ p. record { pairing = pairing p.config; spent = p.spent;
-        state = state_since p.config.reliable p.state } };
+    ghost view = { λ p. record {
+      pairing = pairing p.config;
+      spent = p.spent;
+      state = state_since p.config.reliable p.state;
+    } };
 }
 
 /// What is kept, or, where nothing has come yet, what a reader keeps then.

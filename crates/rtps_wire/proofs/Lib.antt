@@ -4,6 +4,6 @@ pub mod Steps
 pub mod Grammar
 pub mod Bounds
 pub mod OneReading
-pub mod ReplyView
+pub mod Sent
 pub mod Cuts
 mod CutMessages

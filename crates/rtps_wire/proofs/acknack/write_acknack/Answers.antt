@@ -1,7 +1,7 @@
 use Rattle.std.proofs.Common.{◌≡◌, ◌+◌, ◌*◌, take, ap, arith}
 use Rattle.rtps_types.specs.Sets.{sn_view}
 use Rattle.rtps_wire.specs.Answering.{word_count}
-use Rattle.rtps_wire.proofs.ReplyView.{AckNackIsSized, acknack_built, acknack_tells, sent_again}
+use Rattle.rtps_wire.proofs.Sent.{AckNackIsSized, acknack_built, acknack_tells, sent_again}
 use Rattle.rtps_wire.proofs.acknack.write_acknack.Goals as goal
 
 counted : (g : _) (c : goal.After-new g) → c.div_ceil-words.result ≡ word_count (sn_view c.args.answer.missing)

@@ -1,5 +1,5 @@
 use Rattle.std.proofs.Common.{arith}
-use Rattle.rtps_wire.proofs.ReplyView.{words_again}
+use Rattle.rtps_wire.proofs.Sent.{words_again}
 use Rattle.rtps_wire.proofs.answering.push_words.Goals as goal
 
 pub returns-clause-read_again : goal.returns-clause-read_again

@@ -1,7 +1,7 @@
 use Rattle.std.proofs.Common.{◌≡◌, ◌+◌, ◌*◌, ◌^◌, ◌<◌, take, ap, arith}
 use Rattle.rtps_types.specs.Sets.{frag_view}
 use Rattle.rtps_wire.specs.Answering.{word_count}
-use Rattle.rtps_wire.proofs.ReplyView.{NackFragIsSized, nack_frag_built, nack_frag_tells, sent_again}
+use Rattle.rtps_wire.proofs.Sent.{NackFragIsSized, nack_frag_built, nack_frag_tells, sent_again}
 use Rattle.rtps_wire.proofs.nack_frag.write_nack_frag.Goals as goal
 
 counted : (g : _) (c : goal.After-new g) → c.div_ceil-words.result ≡ word_count (frag_view c.args.answer.missing)
