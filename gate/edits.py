@@ -7,7 +7,9 @@ written: a body changes no contract, so the goals of its callers stay what they 
 answers against them. Without answers a function waits for those that it calls, so they are not tried together. Edits
 whose functions wait for others that were edited are tried again, without those that were refused. What leaves a doubt
 is tried alone, by a check of the whole crate: an edit outside a function's body, one in several functions, and one that
-was not refused among others. An edit of a function that another's proof names is never among others.
+was not refused among others. An edit of a function that another's proof names is never among others. Where an edit that is
+tried alone names functions that refuse it, by lines `by:`, a check of these comes first, and one of the whole crate only
+where it refuses none of them.
 """
 
 import re
@@ -63,6 +65,8 @@ class Edit:
     """File, old text and new text of each change."""
     function: Function = None
     """The function whose body holds all changes, if one does."""
+    by: tuple = ()
+    """Functions that refuse it, as the checker calls them, where it is tried alone."""
 
 
 class BadEdit(Exception):
@@ -70,13 +74,15 @@ class BadEdit(Exception):
 
 
 def read_edit(path):
-    """Reads an edit: lines `file:`, and pairs of lines `old:` and `new:`."""
-    file, old, pairs = None, None, []
+    """Reads an edit: lines `file:`, pairs of lines `old:` and `new:`, and lines `by:`."""
+    file, old, pairs, by = None, None, [], []
     for line in path.read_text(encoding="utf-8").split("\n"):
         if line.startswith("file: "):
             file = line[6:].strip()
             if not re.fullmatch(r"(src|specs|proofs)(/\w+)+\.(rt|antt)", file):
                 raise BadEdit(f"it changes no file of src, specs or proofs: {file}")
+        elif line.startswith("by: "):
+            by.append(line[4:].strip())
         elif line.startswith("old: "):
             old = line[5:]
         elif line.startswith("new:"):
@@ -86,7 +92,7 @@ def read_edit(path):
             old = None
     if not pairs:
         raise BadEdit("it has no old and new text")
-    return Edit(path.stem, pairs)
+    return Edit(path.stem, pairs, by=tuple(by))
 
 
 def apply(edit, texts, folder):
@@ -256,6 +262,13 @@ def unreadable(edit, lines):
         if found[2] or not found[3] or re.search(cannot, said):
             return line
     return None
+
+
+def is_refused_by(edit, status, lines):
+    """Whether a check of the functions that an edit names says of one of them that it is not proved."""
+    said = "|".join(re.escape(path) for path in edit.by)
+    is_said = any(re.match(rf"fn ({said}): (no proof|not proved)", line) for line in lines)
+    return status == 1 and is_said and not unreadable(edit, lines)
 
 
 def judge_alone(edit, status, lines):

@@ -5,7 +5,7 @@ import re
 import shutil
 import subprocess
 import tempfile
-from dataclasses import dataclass, field
+from dataclasses import dataclass, field, replace
 from pathlib import Path
 
 from gate import edits as editing
@@ -197,18 +197,22 @@ def edits_sum(crate, toolchain):
 
 
 def try_edits(gate, crate, group, is_whole, jobs):
-    """Tries edits in one check of a copy of a crate: of the modules of their functions, or of the whole crate for one
-    that is alone. Those that leave a doubt are tried again, or alone."""
+    """Tries edits in one check of a copy of a crate: of the modules of their functions, or for one that is alone of the
+    functions that it names, if it names any, else of the whole crate. Those that leave a doubt are tried again, or alone."""
     texts = {}
     for edit in group:
         editing.apply(edit, texts, crate.folder)
-    asked = [] if is_whole else dict.fromkeys(edit.function.asked(crate.name) for edit in group)
+    asked = group[0].by if is_whole else dict.fromkeys(edit.function.asked(crate.name) for edit in group)
     words = [word for path in asked for word in ("--only", path)]
     with gate.rooms.room(crate, texts) as inside:
         ran = run(["rt", "check", "--jobs", str(jobs), *words], inside.folder)
     lines = ran.text.splitlines()
     done = Done(seconds=ran.seconds)
-    if is_whole:
+    if is_whole and asked:
+        refused = group if editing.is_refused_by(group[0], ran.status, lines) else []
+        done.says = "refused" if refused else "to be tried by a check of the whole crate"
+        done.more = [] if refused else [edits_task(gate, crate, [replace(group[0], by=())], True)]
+    elif is_whole:
         is_refused, done.says = editing.judge_alone(group[0], ran.status, lines)
         refused = group if is_refused else []
         if not is_refused:
