@@ -1,8 +1,8 @@
 //! A reader that keeps state of each writer that it is matched with.
 
 ghost use Rattle.std.specs.Prelude.{◌≡◌, ◌++◌, List, IfOk, OnOk, false, map};
-ghost use Rattle.rtps_proxy.specs.Effects.{match_event};
-ghost use Rattle.rtps_proxy.specs.Matches.{AllStand, AreTaken, Match, begun, extended, fresh, match_with};
+ghost use Rattle.rtps_proxy.specs.Effects.{GivesNothing, match_event};
+ghost use Rattle.rtps_proxy.specs.Matches.{AllStand, AreTaken, Match, begun, extended, fresh, given_where, match_with};
 ghost use Rattle.rtps_reader.specs.declared.notice.Notice.{Notice};
 ghost use Rattle.rtps_reader.specs.Notices.{answer_view, notice_view};
 ghost use Rattle.rtps_reader.specs.Reader.{Reader, first_reader, pairing_of, reader_after, sends};
@@ -90,10 +90,14 @@ impl<A: Allocator + Copy> StatefulReader<A> {
         ensures kept { KeepsFront output.old output.new }
     {
         match step.what {
-            StepKind::Event { writer, time, body } => match self.take(alloc, writer, time, body)? {
-                Some(effects) => present(decoder, step.place, writer, effects, output),
-                None => Ok(()),
-            },
+            StepKind::Event { writer, time, body } => {
+                let mut effects = Effects::none(alloc);
+                let is_matched = self.take(alloc, writer, time, body, &mut effects)?;
+                if !is_matched {
+                    return Ok(());
+                }
+                present(decoder, step.place, writer, &mut effects, output)
+            }
             StepKind::Match { writer, locators } => {
                 self.begin(alloc, writer, locators)?;
                 self.counts = self.counts.with_match();
@@ -116,28 +120,33 @@ impl<A: Allocator + Copy> StatefulReader<A> {
         }
     }
 
-    /// Gives an event to the match with its writer, if there is one, and counts what that gives.
+    /// Gives an event to the match with its writer, puts what that gives into `effects`, and counts
+    /// it. Whether there is such a match.
     fn take<'a>(
         &mut self,
         alloc: A,
         writer: Guid,
         time: Option<Timestamp>,
         body: &Body<'a>,
-    ) -> Result<Option<Effects<'a, A>>, AllocError>
+        effects: &mut Effects<'a, A>,
+    ) -> Result<bool, AllocError>
+        requires { GivesNothing effects.old }
         ensures stands { (ms : List Match) → AllStand ms self.old.matches
             → OnOk result (AllStand (extended writer (match_event time body.now) ms)
             self.new.matches) }
         ensures effects { (ms : List Match) → AllStand ms self.old.matches
-            → IfOk result (AreTaken (match_with writer ms) (match_event time body.now)) }
-        ensures counts { IfOk result (λ effects. self.new.counts
-            ≡ counts_given self.old.counts effects) }
+            → IfOk result (λ is_matched. AreTaken (match_with writer ms)
+            (match_event time body.now) (given_where is_matched effects.new)) }
+        ensures counts { IfOk result (λ is_matched. self.new.counts
+            ≡ counts_given self.old.counts (given_where is_matched effects.new)) }
         ensures reader { IsSameReader self.old self.new }
     {
-        let Some(effects) = self.matches.on_event(alloc, writer, time, body)? else {
-            return Ok(None);
-        };
-        self.counts = self.counts.with_effects(&effects);
-        Ok(Some(effects))
+        let matches = &mut self.matches;
+        if !matches.on_event_into(alloc, writer, time, body, effects)? {
+            return Ok(false);
+        }
+        self.counts = self.counts.with_effects(effects);
+        Ok(true)
     }
 
     /// Begins a match with a writer, which keeps a copy of these locators.
