@@ -1,6 +1,6 @@
 //! The matches of a reader.
 
-ghost use Rattle.std.specs.Prelude.{◌≡◌, [], List, IfOk, OnErr, OnOk, length};
+ghost use Rattle.std.specs.Prelude.{◌≡◌, [], List, IfOk, OnErr, OnOk, false, length};
 ghost use Rattle.std.specs.Map.{keys_of};
 ghost use Rattle.rtps_proxy.specs.Effects.{GivesNothing, match_event};
 ghost use Rattle.rtps_proxy.specs.Kept.{pairing};
@@ -119,6 +119,8 @@ impl<A: Allocator + Copy> Matches<A> {
         ensures effects { (ms : List Match) → AllStand ms self.old
             → IfOk result (λ is_matched. AreTaken (match_with writer ms)
             (match_event time brought.now) (given_where is_matched effects.new)) }
+        ensures nothing { IfOk result (λ is_matched. is_matched ≡ false
+            → GivesNothing effects.new) }
         ensures err { OnErr result (IsSpentAt writer self.old self.new) }
     {
         let Some(proxy) = self.proxies.get_mut(&writer) else {

@@ -63,13 +63,15 @@ impl<A: Allocator + Copy> StatefulReader<A> {
 
     /// Takes one step, and adds what it gives after what is in `output`. After a refused growth the
     /// matches may be those of a step taken by half.
-    pub(crate) fn step<C: Catalog>(
+    pub(crate) fn step<'a, C: Catalog>(
         &mut self,
         alloc: A,
         decoder: &mut Decoder<C>,
-        step: &Step<'_>,
+        step: &Step<'a>,
+        effects: &mut Effects<'a, A>,
         output: &mut Output<C::Value, A>,
     ) -> Result<(), AllocError>
+        requires { GivesNothing effects.old }
         ensures stands { (r : Reader) (given : List (Notice C.Meaning))
             → StandsAt r given (kept_by false self.old)
             → OnOk result (StandsAt (reader_after r (asked step.now.what))
@@ -88,15 +90,15 @@ impl<A: Allocator + Copy> StatefulReader<A> {
         ensures reader { IsSameReader self.old self.new }
         ensures same { decoder.new ≡ decoder.old }
         ensures kept { KeepsFront output.old output.new }
+        ensures nothing { OnOk result (GivesNothing effects.new) }
     {
         match step.what {
             StepKind::Event { writer, time, body } => {
-                let mut effects = Effects::none(alloc);
-                let is_matched = self.take(alloc, writer, time, body, &mut effects)?;
+                let is_matched = self.take(alloc, writer, time, body, effects)?;
                 if !is_matched {
                     return Ok(());
                 }
-                present(decoder, step.place, writer, &mut effects, output)
+                present(decoder, step.place, writer, effects, output)
             }
             StepKind::Match { writer, locators } => {
                 self.begin(alloc, writer, locators)?;
@@ -139,6 +141,8 @@ impl<A: Allocator + Copy> StatefulReader<A> {
             (match_event time body.now) (given_where is_matched effects.new)) }
         ensures counts { IfOk result (λ is_matched. self.new.counts
             ≡ counts_given self.old.counts (given_where is_matched effects.new)) }
+        ensures nothing { IfOk result (λ is_matched. is_matched ≡ false
+            → GivesNothing effects.new) }
         ensures reader { IsSameReader self.old self.new }
     {
         let matches = &mut self.matches;
