@@ -20,7 +20,7 @@ use Rattle.rtps_proxy.proofs.Presenting.{ready_brought}
 use Rattle.dds_topic.specs.Decoding.{Decoding}
 use Rattle.rtps_reader.specs.declared.notice.Notice.{Notice}
 use Rattle.rtps_reader.specs.declared.notice.NoticeKind.{NoticeKind}
-use Rattle.rtps_reader.specs.declared.notice.NoticeKind.TheVariants.{ChangeView as ASample, Matched, Unmatched, Incompatible, Lost}
+use Rattle.rtps_reader.specs.declared.notice.NoticeKind.TheVariants.{Sample as ASample, Matched, Unmatched, Incompatible, Lost}
 use Rattle.rtps_reader.specs.Reader.{Reader, fresh_with, loses, lost_at, presented, reader_after, reader_run, ready_at, tells, told_of}
 use Rattle.rtps_reader.specs.Steps.{Takes, Begins, Ends, asks_of}
 use Rattle.rtps_reader.proofs.Begun.{match_begun, same_self}

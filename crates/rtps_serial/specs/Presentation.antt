@@ -16,7 +16,7 @@ use Rattle.dds_topic.specs.Decoding.{Decoding}
 use Rattle.rtps_types.specs.Number.{value_of}
 use Rattle.rtps_reader.specs.declared.notice.Notice.{Notice}
 use Rattle.rtps_reader.specs.declared.notice.NoticeKind.{NoticeKind}
-use Rattle.rtps_reader.specs.declared.notice.NoticeKind.TheVariants.{ChangeView as ASample, Matched, Unmatched}
+use Rattle.rtps_reader.specs.declared.notice.NoticeKind.TheVariants.{Sample as ASample, Matched, Unmatched}
 use Rattle.rtps_reader.specs.Body.{body_by}
 use Rattle.rtps_proxy.specs.Matches.{same_guid}
 use Rattle.rtps_serial.specs.Run.{entity_of, events_from, run}
