@@ -8,8 +8,8 @@ answers against them. Without answers a function waits for those that it calls, 
 whose functions wait for others that were edited are tried again, without those that were refused. What leaves a doubt
 is tried alone, by a check of the whole crate: an edit outside a function's body, one in several functions, and one that
 was not refused among others. An edit of a function that another's proof names is never among others. Where an edit that is
-tried alone names functions that refuse it, by lines `by:`, a check of these comes first, and one of the whole crate only
-where it refuses none of them.
+tried alone has a function in `refused_by.txt`, a check of this one comes first, and one of the whole crate only where it is
+still proved.
 """
 
 import re
@@ -65,8 +65,8 @@ class Edit:
     """File, old text and new text of each change."""
     function: Function = None
     """The function whose body holds all changes, if one does."""
-    by: tuple = ()
-    """Functions that refuse it, as the checker calls them, where it is tried alone."""
+    by: str = ""
+    """A function that refuses it, as the checker calls it, where it is tried alone and one is known."""
 
 
 class BadEdit(Exception):
@@ -74,15 +74,13 @@ class BadEdit(Exception):
 
 
 def read_edit(path):
-    """Reads an edit: lines `file:`, pairs of lines `old:` and `new:`, and lines `by:`."""
-    file, old, pairs, by = None, None, [], []
+    """Reads an edit: lines `file:`, and pairs of lines `old:` and `new:`."""
+    file, old, pairs = None, None, []
     for line in path.read_text(encoding="utf-8").split("\n"):
         if line.startswith("file: "):
             file = line[6:].strip()
             if not re.fullmatch(r"(src|specs|proofs)(/\w+)+\.(rt|antt)", file):
                 raise BadEdit(f"it changes no file of src, specs or proofs: {file}")
-        elif line.startswith("by: "):
-            by.append(line[4:].strip())
         elif line.startswith("old: "):
             old = line[5:]
         elif line.startswith("new:"):
@@ -92,7 +90,13 @@ def read_edit(path):
             old = None
     if not pairs:
         raise BadEdit("it has no old and new text")
-    return Edit(path.stem, pairs, by=tuple(by))
+    return Edit(path.stem, pairs)
+
+
+def refusers(text):
+    """By name of an edit, with its crate's, the function that a line `CRATE/EDIT: FUNCTION` says to refuse it."""
+    lines = (line.partition(": ") for line in text.splitlines() if not line.startswith("#"))
+    return {name: function.strip() for name, _, function in lines}
 
 
 def apply(edit, texts, folder):
@@ -265,9 +269,8 @@ def unreadable(edit, lines):
 
 
 def is_refused_by(edit, status, lines):
-    """Whether a check of the functions that an edit names says of one of them that it is not proved."""
-    said = "|".join(re.escape(path) for path in edit.by)
-    is_said = any(re.match(rf"fn ({said}): (no proof|not proved)", line) for line in lines)
+    """Whether a check of the function that is known to refuse an edit says that it is not proved."""
+    is_said = any(re.match(rf"fn {re.escape(edit.by)}: (no proof|not proved)", line) for line in lines)
     return status == 1 and is_said and not unreadable(edit, lines)
 
 

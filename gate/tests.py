@@ -330,11 +330,9 @@ class Edits(Repository):
         bad = "specs/One.antt:3:4: error: `one` is not in scope"
         self.assertFalse(edits.judge_alone(edit, 1, [bad, "logic=not-proved"])[0])
 
-    def test_an_edit_may_name_functions_that_refuse_it(self):
-        path = self.top / "named.edit"
-        path.write_text("file: src/lib.rt\nby: low::one\nold: STEP: u8 = 1\nnew: STEP: u8 = 2\n", encoding="utf-8")
-        step = edits.read_edit(path)
-        self.assertEqual(("low::one",), step.by)
+    def test_a_function_may_be_known_that_refuses_an_edit(self):
+        known = edits.refusers("# edits\nlow/step: low::one\n")
+        step = edits.Edit("step", [("src/lib.rt", "STEP: u8 = 1", "STEP: u8 = 2")], by=known["low/step"])
         self.assertTrue(edits.is_refused_by(step, 1, LINES))
         self.assertFalse(edits.is_refused_by(step, 1, LINES[:2]))
         self.assertFalse(edits.is_refused_by(step, 0, ["fn low::one: proved"]))
