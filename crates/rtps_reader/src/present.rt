@@ -1,6 +1,6 @@
 //! Presenting what an event gave.
 
-ghost use Rattle.std.specs.Prelude.{◌≡◌, ◌++◌, None, length, map, take, OnOk};
+ghost use Rattle.std.specs.Prelude.{◌≡◌, ◌++◌, None, length, map, take, true, OnOk};
 ghost use Rattle.std.specs.Option.{option_map};
 ghost use Rattle.rtps_proxy.specs.Changes.{change_view};
 ghost use Rattle.rtps_proxy.specs.Effects.{GivesNothing};
@@ -38,12 +38,22 @@ pub(crate) fn present<C: Catalog, A: Allocator>(
     ensures same { decoder.new ≡ decoder.old }
     ensures nothing { OnOk result (GivesNothing effects.new) }
 {
+    if is_nothing(effects) {
+        return Ok(());
+    }
     tell_lost::<C, A>(place, writer, effects.lost, &mut output.notices)?;
     tell_ready(decoder, place, writer, &effects.ready, &mut output.notices)?;
     effects.lost = 0;
     effects.ready.clear();
     say(place, &mut effects.answer, &mut output.answers)?;
     Ok(())
+}
+
+/// Whether an event gave nothing, as most do where changes wait or come in fragments.
+fn is_nothing<A: Allocator>(effects: &Effects<'_, A>) -> bool
+    ensures { result ≡ true → GivesNothing effects.now }
+{
+    effects.lost == 0 && effects.ready.is_empty() && effects.answer.is_none()
 }
 
 /// Moves what is said to the writer, if anything is, after the answers, with the place of the event
