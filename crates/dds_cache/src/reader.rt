@@ -70,7 +70,7 @@ impl<V: Drop, A: Allocator + Copy> DataReader<V, A> {
     pub fn is_empty(&self) -> bool
         ensures { IsTrue result ↔ (length self.now.entries ≡ 0) }
     {
-        self.shelf.entries.len() == 0
+        self.len() == 0
     }
 
     /// Accepts a notice. A value and a disposal are put after all other entries; where the last so
