@@ -1,7 +1,7 @@
 -- What a call answers, and what a cache keeps after it took entries.
 use Rattle.std.proofs.Common.{◌≡◌, ℕ, ◌<◌, Bool, true, false, List, [], ◌∷◌, map, Some, None, refl, sym, ap, ◌∙◌, subst}
 use Rattle.std.proofs.Math.Path.{fun_ext}
-use Rattle.std.specs.Prelude.{Option, filter, is_some, not, ◌&&◌, ◌||◌, nat_lt}
+use Rattle.std.specs.Prelude.{Option, is_some, not, ◌&&◌, ◌||◌, nat_lt}
 use Rattle.std.specs.Option.{option_map}
 use Rattle.std.specs.List.{list_any}
 use Rattle.rtps_types.specs.declared.identity.KeyHash.{KeyHash}
@@ -14,27 +14,26 @@ use Rattle.dds_cache.specs.declared.history.History.TheVariants.{KeepLast, KeepA
 use Rattle.dds_cache.specs.Answered.{answered, sample_state, shown, shown_by, view_state}
 use Rattle.dds_cache.specs.Cache.{cached, first_by, is_of, left_by, meets}
 use Rattle.dds_cache.specs.Calls.{Done, WasTaken}
-use Rattle.dds_cache.specs.Effects.{HandsOver, IsSame, drop_each, take_each, take_shown, chosen_by, each, passes, shown_as, spend_each}
+use Rattle.dds_cache.specs.Effects.{HandsOver, IsSame, take_each, take_shown, chosen_by, each, passes, shown_as, spend_each}
 use Rattle.dds_cache.specs.Instances.{is_disposed, state_by}
-use Rattle.dds_cache.specs.Standing.{InstanceView, Pair, Parts, StandsBy, alive_in, count_in, disposed_in, is_key, new_in, not_yet, numbers, numbers_in, numbers_kept, of_key}
+use Rattle.dds_cache.specs.Standing.{InstanceView, Pair, Parts, StandsBy, alive_in, count_in, disposed_in, is_key, new_in, numbers_in, numbers_kept, of_key}
 use Rattle.dds_cache.proofs.Keys.{key_tie}
 use Rattle.dds_cache.proofs.Lists.{all_left, any_first, any_left, any_map, first_map, left_map, rising_left}
 use Rattle.dds_cache.proofs.Living.{alive_is, has_live_is}
-use Rattle.dds_cache.proofs.Taking.{chosen, each_keeps, each_new, each_none, drops, none_spent, spends, takes, takes_shown}
+use Rattle.dds_cache.proofs.Taking.{chosen, each_keeps, each_new, each_none, none_spent, spends, takes, takes_shown}
 
 -- ---- the same parts
 
-abbrev pub parts_from : {M : Type 0} → History → ℕ → List (ℕ × Entry M) → List ℕ → (KeyHash → Option InstanceView) → List Pair → Parts M
-parts_from keep accepted entries not_read find live = record { keep = keep; accepted = accepted; entries = entries; not_read = not_read; find = find; live = live }
+abbrev pub parts_from : {M : Type 0} → History → ℕ → List (ℕ × Entry M) → (KeyHash → Option InstanceView) → List Pair → Parts M
+parts_from keep accepted entries find live = record { keep = keep; accepted = accepted; entries = entries; find = find; live = live }
 
 pub same_parts : {M : Type 0} (p q : Parts M) → IsSame p q → q ≡ p
 same_parts p q is =
-    ap (λ x. parts_from x q.accepted q.entries q.not_read q.find q.live) is.keep
-    ∙ ap (λ x. parts_from p.keep x q.entries q.not_read q.find q.live) is.accepted
-    ∙ ap (λ x. parts_from p.keep p.accepted x q.not_read q.find q.live) is.entries
-    ∙ ap (λ x. parts_from p.keep p.accepted p.entries x q.find q.live) is.not_read
-    ∙ ap (λ x. parts_from p.keep p.accepted p.entries p.not_read x q.live) (fun_ext is.find)
-    ∙ ap (λ x. parts_from p.keep p.accepted p.entries p.not_read p.find x) is.live
+    ap (λ x. parts_from x q.accepted q.entries q.find q.live) is.keep
+    ∙ ap (λ x. parts_from p.keep x q.entries q.find q.live) is.accepted
+    ∙ ap (λ x. parts_from p.keep p.accepted x q.find q.live) is.entries
+    ∙ ap (λ x. parts_from p.keep p.accepted p.entries x q.live) (fun_ext is.find)
+    ∙ ap (λ x. parts_from p.keep p.accepted p.entries p.find x) is.live
 
 pub stands_same : {M : Type 0} (past : List (Done M)) (p q : Parts M) → IsSame p q → StandsBy past p → StandsBy past q
 stands_same past p q is s = subst (StandsBy past) (sym (same_parts p q is)) s
@@ -124,7 +123,7 @@ module _ {M : Type 0} (past : List (Done M)) (p : Parts M) (s : StandsBy past p)
   -- ---- once entries were taken
 
   abbrev pub without : ℕ → Parts M
-  without max = parts_from p.keep p.accepted (left_by (passes p.find flags) max p.entries) (numbers (filter not_yet (left_by (passes p.find flags) max p.entries))) (λ k. each spend_each (picked max) k (p.find k)) p.live
+  without max = parts_from p.keep p.accepted (left_by (passes p.find flags) max p.entries) (λ k. each spend_each (picked max) k (p.find k)) p.live
 
   numbers_left : (max : ℕ) (k : KeyHash) (keep : History) (o : Option InstanceView) → numbers_in o ≡ numbers_kept keep k p.entries
       → numbers_in (each spend_each (picked max) k o) ≡ numbers_kept keep k (left_by (passes p.find flags) max p.entries)
@@ -136,7 +135,6 @@ module _ {M : Type 0} (past : List (Done M)) (p : Parts M) (s : StandsBy past p)
     entries = ap (λ t. map (λ e. e.1) (left_by t max p.entries)) test ∙ sym (left_map (λ e. e.1) meet max p.entries) ∙ ap (left_by meet max) s.entries;
     rising = rising_left (passes p.find flags) max 0 p.entries s.rising;
     below = all_left (λ e. e.0 < p.accepted) (passes p.find flags) max p.entries s.below;
-    not_read = refl;
     there = λ k h. each_keeps spend_each is_some keeps_some (picked max) k (p.find k) ∙ s.there k (any_left (of_key k) (passes p.find flags) max p.entries h);
     numbers = λ k. numbers_left max k p.keep (p.find k) (s.numbers k);
     new = λ k. new_after spend_each (λ c i. refl) max k;
@@ -152,7 +150,6 @@ module _ {M : Type 0} (past : List (Done M)) (p : Parts M) (s : StandsBy past p)
         keep = h.keep;
         accepted = h.accepted;
         entries = h.entries ∙ ap (λ l. take_each l p.entries) is ∙ takes p.find (passes p.find flags) max 0 p.entries s.rising;
-        not_read = h.not_read ∙ ap (λ l. drop_each l p.not_read) is ∙ ap (drop_each (picked max)) s.not_read ∙ drops p.find (passes p.find flags) max 0 p.entries s.rising;
         find = λ k. h.find k ∙ ap (λ l. each spend_each l k (p.find k)) is;
         live = h.live;
       } in

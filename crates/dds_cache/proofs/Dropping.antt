@@ -14,14 +14,14 @@ use Rattle.dds_cache.specs.declared.history.History.TheVariants.{KeepLast, KeepA
 use Rattle.dds_cache.specs.Cache.{cached, first_by, is_of, kept_by, left_by, without_oldest}
 use Rattle.dds_cache.specs.Calls.{Done}
 use Rattle.dds_cache.specs.Coming.{dropped, without_first}
-use Rattle.dds_cache.specs.Effects.{chosen_by, drop_each, each, spend_each, spent, take_each, with_numbers}
-use Rattle.dds_cache.specs.Standing.{InstanceView, Pair, Rising, StandsBy, count_in, disposed_in, is_key, is_number, new_in, not_yet, numbers, numbers_in, of_key}
+use Rattle.dds_cache.specs.Effects.{chosen_by, each, spend_each, spent, take_each, with_numbers}
+use Rattle.dds_cache.specs.Standing.{InstanceView, Pair, Rising, StandsBy, count_in, disposed_in, is_key, is_number, new_in, numbers, numbers_in, of_key}
 use Rattle.dds_cache.proofs.Answering.{parts_from}
 use Rattle.dds_cache.proofs.Choosing.{first_zero, number_itself}
 use Rattle.dds_cache.proofs.Entering.{Stood, stands_from}
 use Rattle.dds_cache.proofs.Keys.{key_is, key_tie}
 use Rattle.dds_cache.proofs.Lists.{all_left, any_left, left_map, rising_left}
-use Rattle.dds_cache.proofs.Taking.{drops, spends, takes}
+use Rattle.dds_cache.proofs.Taking.{spends, takes}
 
 pub left_none : {E : Type 0} (p : E → Bool) (es : List E) → left_by p 0 es ≡ es
 left_none p [] = refl
@@ -87,25 +87,17 @@ module _ {M : Type 0} where
           let f = more is in
           record { entry = f.entry; number = f.number; key = f.key; first = ap (λ b. if b then e ∷ first_by (of_key k) 0 es else first_by (of_key k) 1 es) h ∙ f.first }
 
-  module _ (past : List (Done M)) (l : List (Entry M)) (key : KeyHash) (most accepted : ℕ) (es : List (ℕ × Entry M)) (ns : List ℕ) (find : KeyHash → Option InstanceView) (live : List Pair) (s : Stood past l (parts_from (KeepLast most) accepted es ns find live)) (n : ℕ) (rest : List ℕ) (is : numbers_in (find key) ≡ n ∷ rest) where
+  module _ (past : List (Done M)) (l : List (Entry M)) (key : KeyHash) (most accepted : ℕ) (es : List (ℕ × Entry M)) (find : KeyHash → Option InstanceView) (live : List Pair) (s : Stood past l (parts_from (KeepLast most) accepted es find live)) (n : ℕ) (rest : List ℕ) (is : numbers_in (find key) ≡ n ∷ rest) where
     f : First key n es
     f = first_of key n rest es (sym (s.numbers key) ∙ is)
 
     abbrev left : List (ℕ × Entry M)
     left = left_by (of_key key) 1 es
 
-    abbrev unread : List (ℕ × Entry M) → List ℕ
-    unread l = numbers (filter not_yet l)
-
     taken : remove_entry (is_number n) es ≡ left
     taken =
         ap (λ m. remove_entry (is_number m) es) (sym f.number) ∙ sym (ap (λ x. take_each (map (chosen_by find) x) es) f.first)
         ∙ takes find (of_key key) 1 0 es s.rising
-
-    not_read_left : remove_key (is_number n) ns ≡ unread left
-    not_read_left =
-        ap (remove_key (is_number n)) s.not_read ∙ ap (λ m. remove_key (is_number m) (unread es)) (sym f.number)
-        ∙ sym (ap (λ x. drop_each (map (chosen_by find) x) (unread es)) f.first) ∙ drops find (of_key key) 1 0 es s.rising
 
     abbrev found : KeyHash → Option InstanceView
     found k = if is_key key k then option_map (with_numbers rest) (find k) else find k
@@ -131,12 +123,11 @@ module _ {M : Type 0} where
         ∙ sym (ap (λ x. numbers_in (each spend_each (map (chosen_by find) x) k (find k))) f.first)
         ∙ spends find k (of_key key) 1 0 es [] (find k) tt s.rising (s.numbers k)
 
-    pub oldest_left : Stood past (without_oldest key l) (without_first key (n ∷ rest) (parts_from (KeepLast most) accepted es ns find live))
+    pub oldest_left : Stood past (without_oldest key l) (without_first key (n ∷ rest) (parts_from (KeepLast most) accepted es find live))
     oldest_left = record {
       entries = ap (map (λ e. e.1)) taken ∙ sym (left_map (λ e. e.1) (is_of key) 1 es) ∙ ap (left_by (is_of key) 1) s.entries ∙ sym (oldest_is key l);
       rising = subst (Rising 0) (sym taken) (rising_left (of_key key) 1 0 es s.rising);
       below = subst (AllByRecursion (λ e. e.0 < accepted)) (sym taken) (all_left (λ e. e.0 < accepted) (of_key key) 1 es s.below);
-      not_read = not_read_left ∙ ap unread (sym taken);
       there = λ k h. still is_some (some_still rest) k ∙ s.there k (any_left (of_key k) (of_key key) 1 es (ap (list_any (of_key k)) (sym taken) ∙ h));
       numbers = λ k. numbers_left k ∙ ap (λ x. numbers (filter (of_key k) x)) (sym taken);
       new = λ k. still new_in (new_still rest) k ∙ s.new k;
@@ -146,10 +137,10 @@ module _ {M : Type 0} where
       sized = s.sized;
     }
 
-  pub dropping : (past : List (Done M)) (l : List (Entry M)) (key : KeyHash) (keep : History) (accepted : ℕ) (es : List (ℕ × Entry M)) (ns : List ℕ) (find : KeyHash → Option InstanceView) (live : List Pair)
-      → Stood past l (parts_from keep accepted es ns find live) → kept_by keep key l ≡ (cached keep past).entries → StandsBy past (dropped key keep (parts_from keep accepted es ns find live))
-  dropping past l key KeepAll accepted es ns find live s is = stands_from past l (parts_from KeepAll accepted es ns find live) s is
-  dropping past l key (KeepLast most) accepted es ns find live s is = by_test (nat_lt most (length (numbers_in (find key)))) refl
+  pub dropping : (past : List (Done M)) (l : List (Entry M)) (key : KeyHash) (keep : History) (accepted : ℕ) (es : List (ℕ × Entry M)) (find : KeyHash → Option InstanceView) (live : List Pair)
+      → Stood past l (parts_from keep accepted es find live) → kept_by keep key l ≡ (cached keep past).entries → StandsBy past (dropped key keep (parts_from keep accepted es find live))
+  dropping past l key KeepAll accepted es find live s is = stands_from past l (parts_from KeepAll accepted es find live) s is
+  dropping past l key (KeepLast most) accepted es find live s is = by_test (nat_lt most (length (numbers_in (find key)))) refl
     where
       same_length : length (numbers_in (find key)) ≡ length (filter (is_of key) l)
       same_length = ap length (s.numbers key) ∙ length-map (filter (of_key key) es) (λ (e : ℕ × Entry M). e.0) ∙ same_count key es ∙ ap (λ x. length (filter (is_of key) x)) s.entries
@@ -160,14 +151,14 @@ module _ {M : Type 0} where
       none_more : nat_lt most 0 ≡ false
       none_more = grind (arith, nat_tests)
 
-      by_numbers : (ms : List ℕ) → numbers_in (find key) ≡ ms → nat_lt most (length (numbers_in (find key))) ≡ true → StandsBy past (without_first key ms (parts_from (KeepLast most) accepted es ns find live))
+      by_numbers : (ms : List ℕ) → numbers_in (find key) ≡ ms → nat_lt most (length (numbers_in (find key))) ≡ true → StandsBy past (without_first key ms (parts_from (KeepLast most) accepted es find live))
       by_numbers [] e h = let bad : true ≡ false = sym h ∙ ap (λ x. nat_lt most (length x)) e ∙ none_more in absurd cc
       by_numbers (n ∷ rest) e h =
-          stands_from past (without_oldest key l) (without_first key (n ∷ rest) (parts_from (KeepLast most) accepted es ns find live))
-          (oldest_left past l key most accepted es ns find live s n rest e)
+          stands_from past (without_oldest key l) (without_first key (n ∷ rest) (parts_from (KeepLast most) accepted es find live))
+          (oldest_left past l key most accepted es find live s n rest e)
           (sym (ap (λ b. if b then without_oldest key l else l) (same_test ∙ h)) ∙ is)
 
       by_test : (b : Bool) → nat_lt most (length (numbers_in (find key))) ≡ b
-          → StandsBy past (if b then without_first key (numbers_in (find key)) (parts_from (KeepLast most) accepted es ns find live) else parts_from (KeepLast most) accepted es ns find live)
+          → StandsBy past (if b then without_first key (numbers_in (find key)) (parts_from (KeepLast most) accepted es find live) else parts_from (KeepLast most) accepted es find live)
       by_test true h = by_numbers (numbers_in (find key)) refl h
-      by_test false h = stands_from past l (parts_from (KeepLast most) accepted es ns find live) s (sym (ap (λ b. if b then without_oldest key l else l) (same_test ∙ h)) ∙ is)
+      by_test false h = stands_from past l (parts_from (KeepLast most) accepted es find live) s (sym (ap (λ b. if b then without_oldest key l else l) (same_test ∙ h)) ∙ is)

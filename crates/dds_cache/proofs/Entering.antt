@@ -22,7 +22,7 @@ use Rattle.dds_cache.specs.Cache.{cached, entry_by, is_new_behind}
 use Rattle.dds_cache.specs.Calls.{Done, Accepted, same_key}
 use Rattle.dds_cache.specs.Coming.{came, is_value_of, joined_by, joins, numbered, or_fresh}
 use Rattle.dds_cache.specs.Instances.{About, AValue, ADisposal, about_key, disposed_by, is_alive, is_disposed, is_end, is_live, is_value, live_by, told_about}
-use Rattle.dds_cache.specs.Standing.{AreSized, InstanceView, Pair, Parts, Rising, StandsBy, alive_in, count_in, disposed_in, is_key, is_pair, new_in, not_yet, numbers, numbers_in, numbers_kept, of_key, pair_order, writers_in}
+use Rattle.dds_cache.specs.Standing.{AreSized, InstanceView, Pair, Parts, Rising, StandsBy, alive_in, count_in, disposed_in, is_key, is_pair, new_in, numbers, numbers_in, numbers_kept, of_key, pair_order, writers_in}
 use Rattle.dds_cache.proofs.Answering.{parts_from}
 use Rattle.dds_cache.proofs.Keys.{and_left, and_right, guid_is, key_is, key_tie, key_turned, pair_tie, pair_total, same_turned}
 use Rattle.dds_cache.proofs.Living.{alive_is}
@@ -34,7 +34,6 @@ pub record Stood {M : Type 0} (past : List (Done M)) (l : List (Entry M)) (p : P
   pub entries : map (λ e. e.1) p.entries ≡ l
   pub rising : Rising 0 p.entries
   pub below : AllByRecursion (λ e. e.0 < p.accepted) p.entries
-  pub not_read : p.not_read ≡ numbers (filter not_yet p.entries)
   pub there : (k : KeyHash) → list_any (of_key k) p.entries ≡ true → is_some (p.find k) ≡ true
   pub numbers : (k : KeyHash) → numbers_in (p.find k) ≡ numbers_kept p.keep k p.entries
   pub new : (k : KeyHash) → new_in (p.find k) ≡ (cached p.keep past).is_new k
@@ -48,7 +47,6 @@ stands_from past l p s is = record {
   entries = s.entries ∙ is;
   rising = s.rising;
   below = s.below;
-  not_read = s.not_read;
   there = s.there;
   numbers = s.numbers;
   new = s.new;
@@ -127,7 +125,7 @@ count_more (KeepLast most) n (Some i) = refl
 count_more KeepAll n None = refl
 count_more KeepAll n (Some i) = refl
 
-numbers_more : (v j : Bool) (most n : ℕ) (o : Option InstanceView) → numbers_in (entered v j (KeepLast most) n o) ≡ insert_key nat_cmp (numbers_in o) n
+pub numbers_more : (v j : Bool) (most n : ℕ) (o : Option InstanceView) → numbers_in (entered v j (KeepLast most) n o) ≡ insert_key nat_cmp (numbers_in o) n
 numbers_more true j most n None = refl
 numbers_more true j most n (Some i) = refl
 numbers_more false j most n None = refl
@@ -194,7 +192,7 @@ module _ {M : Type 0} (past : List (Done M)) (p : Parts M) (s : StandsBy past p)
   last = (p.accepted, e)
 
   abbrev pub entered_parts : Parts M
-  entered_parts = parts_from p.keep (p.accepted + 1) (p.entries ++ last ∷ []) (p.not_read ++ p.accepted ∷ []) found (joined_by v pair p.live)
+  entered_parts = parts_from p.keep (p.accepted + 1) (p.entries ++ last ∷ []) found (joined_by v pair p.live)
 
   map_last : (es : List (ℕ × Entry M)) → map (λ e. e.1) (es ++ last ∷ []) ≡ map (λ e. e.1) es ++ e ∷ []
   map_last [] = refl
@@ -336,7 +334,6 @@ module _ {M : Type 0} (past : List (Done M)) (p : Parts M) (s : StandsBy past p)
     entries = map_last p.entries ∙ ap (λ l. l ++ e ∷ []) s.entries;
     rising = rising_last 0 p.accepted e p.entries (omega arith) s.rising s.below;
     below = below_last p.accepted e p.entries s.below;
-    not_read = ap (λ l. l ++ p.accepted ∷ []) s.not_read ∙ sym (numbers_with not_yet (ap not m.unread));
     there = there_then;
     numbers = λ k. numbers_then k p.keep (s.numbers k);
     new = new_then;

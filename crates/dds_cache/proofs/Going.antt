@@ -1,5 +1,5 @@
 -- What a cache keeps once writers are not live any more, and where a notice makes no entry.
-use Rattle.std.proofs.Common.{◌≡◌, ℕ, ◌+◌, ◌-◌, Bool, true, false, cond, List, [], ◌∷◌, length, Some, None, refl, sym, ap, ◌∙◌, subst, arith}
+use Rattle.std.proofs.Common.{◌≡◌, ◌+◌, ◌-◌, Bool, true, false, cond, List, [], ◌∷◌, length, Some, None, refl, sym, ap, ◌∙◌, subst, arith}
 use Rattle.std.specs.List.{list_any}
 use Rattle.std.specs.Option.{option_map}
 use Rattle.std.specs.Prelude.{Option, filter, if◌then◌else◌, is_some, not, ◌&&◌, ◌||◌}
@@ -12,13 +12,13 @@ use Rattle.rtps_types.specs.declared.time.Timestamp.{Timestamp}
 use Rattle.rtps_reader.specs.declared.body.Body.TheVariants as body
 use Rattle.rtps_reader.specs.declared.notice.Notice.{Notice}
 use Rattle.rtps_reader.specs.declared.notice.NoticeKind.TheVariants as kind
-use Rattle.dds_cache.specs.declared.entry.Entry.{Entry}
 use Rattle.dds_cache.specs.declared.index.Index.{Index}
 use Rattle.dds_cache.specs.Cache.{cached, entry_by, with_entry}
 use Rattle.dds_cache.specs.Calls.{Done, Accepted, same_key}
 use Rattle.dds_cache.specs.Departing.{AreCounted, Departs, Ends, KeepsRest, is_by, uncounted}
 use Rattle.dds_cache.specs.Effects.{ChangesAt, IsSame, left}
 use Rattle.dds_cache.specs.Instances.{AnUnregistration, about_key, disposed_by, is_alive, is_disposed, is_end, is_live, is_value, live_by, told_about}
+use Rattle.dds_cache.specs.Placed.{ShelfView}
 use Rattle.dds_cache.specs.Standing.{AreSized, InstanceView, Pair, Parts, StandsBy, count_in, disposed_in, is_key, is_pair, known_at, new_in, numbers_in, pair_order, parts, writers_in}
 use Rattle.dds_cache.proofs.Answering.{parts_from, stands_same}
 use Rattle.dds_cache.proofs.Entering.{key_back, or_nothing, pair_back}
@@ -43,12 +43,12 @@ numbers_rest : (o : Option InstanceView) → numbers_in (uncounted o) ≡ number
 numbers_rest None = refl
 numbers_rest (Some i) = refl
 
-module _ {A M : Type 0} (past : List (Done M)) (n : Notice M) (leaves : Pair → Bool) (e : Ends n leaves) (old new : Index A) (es : List (ℕ × Entry M)) where
+module _ {A M : Type 0} (past : List (Done M)) (n : Notice M) (leaves : Pair → Bool) (e : Ends n leaves) (old new : Index A) (es : ShelfView M) where
   abbrev found : KeyHash → Option InstanceView
   found = known_at new.instances.entries
 
   abbrev left_parts : Parts M
-  left_parts = parts_from old.keep old.accepted es old.not_read.keys found new.live.keys
+  left_parts = parts_from old.keep es.next es.entries found new.live.keys
 
   module _ (d : Departs leaves old new) where
     rest : {X : Type 0} (g : Option InstanceView → X) → ((o : Option InstanceView) → g (uncounted o) ≡ g o) → (k : KeyHash) → g (found k) ≡ g (known_at old.instances.entries k)
@@ -60,7 +60,6 @@ module _ {A M : Type 0} (past : List (Done M)) (n : Notice M) (leaves : Pair →
           entries = s.entries ∙ sym (ap (with_entry old.keep (cached old.keep past).entries) e.none);
           rising = s.rising;
           below = s.below;
-          not_read = s.not_read;
           there = λ k h. rest is_some some_rest k ∙ s.there k h;
           numbers = λ k. rest numbers_in numbers_rest k ∙ s.numbers k;
           new = λ k. rest new_in new_rest k ∙ s.new k ∙ sym (or_nothing ((cached old.keep past).is_new k) (not (is_alive past k))) ∙ sym (ap (λ b. (cached old.keep past).is_new k || (b && not (is_alive past k))) (e.value k));
@@ -69,12 +68,12 @@ module _ {A M : Type 0} (past : List (Done M)) (n : Notice M) (leaves : Pair →
           live = λ k w. d.live (w, k) ∙ ap (λ b. not (leaves (w, k)) && b) (s.live k w) ∙ sym (e.live k w (is_live past k w));
           sized = d.sized s.sized;
         } in
-        let same : IsSame left_parts (parts new es) = record { keep = d.keep; accepted = d.accepted; entries = refl; not_read = d.not_read; find = λ k. refl; live = refl } in
+        let same : IsSame left_parts (parts new es) = record { keep = d.keep; accepted = refl; entries = refl; find = λ k. refl; live = refl } in
         stands_same (Accepted n ∷ past) left_parts (parts new es) same here
 
 -- no pair leaves
 pub none_departs : {A : Type 0} (index : Index A) → Departs (λ p. false) index index
-none_departs index = record { keep = refl; accepted = refl; not_read = refl; rest = λ k. refl; counted = λ h. h; live = λ p. refl; sized = λ h. h }
+none_departs index = record { keep = refl; rest = λ k. refl; counted = λ h. h; live = λ p. refl; sized = λ h. h }
 
 -- ---- a writer leaves one instance
 
@@ -101,12 +100,10 @@ module _ {A : Type 0} (old new : Index A) (w : Guid) (key : KeyHash) where
   abbrev pair : Pair
   pair = (w, key)
 
-  pub one_departs : new.keep ≡ old.keep → new.accepted ≡ old.accepted → new.not_read.keys ≡ old.not_read.keys → list_any (is_pair pair) old.live.keys ≡ true → new.live.keys ≡ remove_key (is_pair pair) old.live.keys
+  pub one_departs : new.keep ≡ old.keep → list_any (is_pair pair) old.live.keys ≡ true → new.live.keys ≡ remove_key (is_pair pair) old.live.keys
       → ((q : Pair) → list_any (is_pair q) new.live.keys ≡ cond (is_pair pair q) false (list_any (is_pair q) old.live.keys)) → ChangesAt key (option_map left) (known_at old.instances.entries) (known_at new.instances.entries) → Departs (is_pair pair) old new
-  one_departs keep accepted not_read there taken others changes = record {
+  one_departs keep there taken others changes = record {
     keep = keep;
-    accepted = accepted;
-    not_read = not_read;
     rest = λ k. ap uncounted (changes k) ∙ rest_by (is_key key k) (known_at old.instances.entries k);
     counted = λ h k. counted_by h k (is_key key k) refl;
     live = λ q. others q ∙ live_by_pair (is_pair pair q) (list_any (is_pair q) old.live.keys);
@@ -139,12 +136,10 @@ module _ {A : Type 0} (old new : Index A) (w : Guid) (key : KeyHash) where
           by_key false sum = h k ∙ omega (arith, sum)
 
   -- it wasn't live there
-  pub absent_departs : new.keep ≡ old.keep → new.accepted ≡ old.accepted → new.not_read.keys ≡ old.not_read.keys → list_any (is_pair pair) old.live.keys ≡ false → new.live.keys ≡ old.live.keys
+  pub absent_departs : new.keep ≡ old.keep → list_any (is_pair pair) old.live.keys ≡ false → new.live.keys ≡ old.live.keys
       → new.instances.entries ≡ old.instances.entries → Departs (is_pair pair) old new
-  absent_departs keep accepted not_read none same found = record {
+  absent_departs keep none same found = record {
     keep = keep;
-    accepted = accepted;
-    not_read = not_read;
     rest = λ k. ap (λ es. uncounted (known_at es k)) found;
     counted = λ h k. ap (λ es. count_in (known_at es k)) found ∙ h k ∙ ap (writers_in k) (sym same);
     live = λ q. ap (list_any (is_pair q)) same ∙ by_pair q (is_pair pair q) refl;
@@ -159,21 +154,17 @@ module _ {A : Type 0} (old new : Index A) (w : Guid) (key : KeyHash) where
 
 pub record IsGoing {A : Type 0} (w : Guid) (old new : Index A) : Type 0 where
   pub keep : new.keep ≡ old.keep
-  pub accepted : new.accepted ≡ old.accepted
-  pub not_read : new.not_read.keys ≡ old.not_read.keys
   pub rest : KeepsRest (known_at old.instances.entries) (known_at new.instances.entries)
   pub counted : AreCounted (known_at old.instances.entries) old.live.keys → AreCounted (known_at new.instances.entries) new.live.keys
   pub others : (p : Pair) → is_by w p ≡ false → list_any (is_pair p) new.live.keys ≡ list_any (is_pair p) old.live.keys
   pub sized : AreSized old.live.keys → AreSized new.live.keys
 
 pub going_first : {A : Type 0} (w : Guid) (index : Index A) → IsGoing w index index
-going_first w index = record { keep = refl; accepted = refl; not_read = refl; rest = λ k. refl; counted = λ h. h; others = λ p h. refl; sized = λ h. h }
+going_first w index = record { keep = refl; rest = λ k. refl; counted = λ h. h; others = λ p h. refl; sized = λ h. h }
 
 pub going_on : {A : Type 0} (w : Guid) (k : KeyHash) (a b c : Index A) → IsGoing w a b → Departs (is_pair (w, k)) b c → IsGoing w a c
 going_on w k a b c g d = record {
   keep = d.keep ∙ g.keep;
-  accepted = d.accepted ∙ g.accepted;
-  not_read = d.not_read ∙ g.not_read;
   rest = λ q. d.rest q ∙ g.rest q;
   counted = λ h. d.counted (g.counted h);
   others = λ p h. d.live p ∙ ap (λ t. not t && list_any (is_pair p) b.live.keys) (pair_tie (w, k) p ∙ ap (λ t. t && same_key k p.1) h) ∙ g.others p h;
@@ -183,8 +174,6 @@ going_on w k a b c g d = record {
 pub gone : {A : Type 0} (w : Guid) (a b : Index A) → IsGoing w a b → ((k : KeyHash) → list_any (is_pair (w, k)) b.live.keys ≡ false) → Departs (is_by w) a b
 gone w a b g none = record {
   keep = g.keep;
-  accepted = g.accepted;
-  not_read = g.not_read;
   rest = g.rest;
   counted = g.counted;
   live = λ p. by_writer p (is_by w p) refl;

@@ -10,9 +10,12 @@ mod Seeing
 mod Marks
 mod Reading
 mod Placing
+mod Places
+mod Shelving
 mod Entering
 mod Dropping
 mod Going
+mod Doing
 mod Ranging
 mod Putting
 mod Admitting

@@ -1,5 +1,5 @@
 -- The first entry that no call answered.
-use Rattle.std.proofs.Common.{◌≡◌, ℕ, suc, ◌<◌, ◌≤◌, Bool, true, false, List, [], ◌∷◌, map, length, Some, None, refl, sym, ap, ◌∙◌, arith}
+use Rattle.std.proofs.Common.{◌≡◌, ℕ, suc, ◌≤◌, Bool, true, false, List, [], ◌∷◌, map, length, Some, None, refl, sym, ap, ◌∙◌, arith}
 use Rattle.std.specs.Prelude.{Option, filter, if◌then◌else◌, not, ◌&&◌, slice_get}
 use Rattle.std.specs.Map.{lookup}
 use Rattle.std.proofs.lemmas.List.{length-map}
@@ -33,19 +33,19 @@ looked_short {M} es (n ∷ ns) = by_found (lookup (is_number n) es) (looked_shor
     by_found None h = omega (arith, h)
     by_found (Some e) h = omega (arith, h)
 
-pub none_of : {X : Type 0} (l : List X) → (0 < length l → false ≡ true) → l ≡ []
-none_of [] h = refl
-none_of (x ∷ xs) h = let bad : false ≡ true = h (omega arith) in absurd cc
+pub none_first : {X : Type 0} (l : List X) → slice_get l 0 ≡ None → l ≡ []
+none_first [] h = refl
+none_first (x ∷ xs) h = absurd cc
 
 module _ {M : Type 0} (past : List (Done M)) (p : Parts M) (s : StandsBy past p) where
   abbrev fresh : ℕ × Entry M → Bool
   fresh = passes p.find unread
 
-  firsts : (ns : List ℕ) → p.not_read ≡ ns → first_by fresh 1 (looked p.entries ns) ≡ first_by fresh 1 p.entries
-  firsts ns is = from_numbers p.find unread 1 p.entries ns refl (sym is ∙ s.not_read) s.rising
+  firsts : (ns : List ℕ) → numbers (filter not_yet p.entries) ≡ ns → first_by fresh 1 (looked p.entries ns) ≡ first_by fresh 1 p.entries
+  firsts ns is = from_numbers p.find unread 1 p.entries ns refl (sym is) s.rising
 
   -- there is none
-  pub nothing : (q : Parts M) → p.not_read ≡ [] → HandsOver [] p q → (answered p.keep past 1 unread ≡ []) × StandsBy (WasTaken 1 unread ∷ past) q
+  pub nothing : (q : Parts M) → numbers (filter not_yet p.entries) ≡ [] → HandsOver [] p q → (answered p.keep past 1 unread ≡ []) × StandsBy (WasTaken 1 unread ∷ past) q
   nothing q none h =
       let is : [] ≡ picked past p s unread 1 = ap (map (chosen_by p.find)) (firsts [] none) in
       (sym (took_shown past p s unread 1 [] is), took past p s unread 1 [] q is h)
@@ -60,14 +60,14 @@ module _ {M : Type 0} (past : List (Done M)) (p : Parts M) (s : StandsBy past p)
   and_true true h = refl
   and_true false h = h
 
-  pub first_unread : (n : ℕ) (ns : List ℕ) → p.not_read ≡ n ∷ ns → First n
+  pub first_unread : (n : ℕ) (ns : List ℕ) → numbers (filter not_yet p.entries) ≡ n ∷ ns → First n
   first_unread n ns is = by_found (lookup (is_number n) p.entries) refl
     where
       all : filter not_yet p.entries ≡ with_found n (lookup (is_number n) p.entries) (looked p.entries ns)
-      all = sym (looked_all not_yet 0 p.entries s.rising) ∙ ap (looked p.entries) (sym s.not_read ∙ is)
+      all = sym (looked_all not_yet 0 p.entries s.rising) ∙ ap (looked p.entries) is
 
       by_found : (o : Option (Entry M)) → lookup (is_number n) p.entries ≡ o → First n
-      by_found None e = absurd (missing (filter not_yet p.entries) (sym s.not_read ∙ is) (all ∙ ap (λ o. with_found n o (looked p.entries ns)) e))
+      by_found None e = absurd (missing (filter not_yet p.entries) is (all ∙ ap (λ o. with_found n o (looked p.entries ns)) e))
         where
           missing : (l : List (ℕ × Entry M)) → numbers l ≡ n ∷ ns → l ≡ looked p.entries ns → ⊥
           missing l a b = omega (arith, looked_short p.entries ns, ap (length {A = ℕ}) a, length-map l (λ (e : ℕ × Entry M). e.0), ap (length {A = ℕ × Entry M}) b)
@@ -82,10 +82,10 @@ module _ {M : Type 0} (past : List (Done M)) (p : Parts M) (s : StandsBy past p)
           none_more (x ∷ xs) = refl
 
   -- it is always found
-  pub never : (n : ℕ) (ns : List ℕ) → p.not_read ≡ n ∷ ns → lookup (is_number n) p.entries ≡ None → ⊥
+  pub never : (n : ℕ) (ns : List ℕ) → numbers (filter not_yet p.entries) ≡ n ∷ ns → lookup (is_number n) p.entries ≡ None → ⊥
   never n ns is none = let f = first_unread n ns is in let bad : Some f.entry ≡ None = sym f.found ∙ none in cc
 
-  pub taken_next : (n : ℕ) (ns : List ℕ) → p.not_read ≡ n ∷ ns → (e : Entry M) → lookup (is_number n) p.entries ≡ Some e → (c : Chosen) → c ≡ chosen_by p.find (n, e) → (q : Parts M) → HandsOver (c ∷ []) p q
+  pub taken_next : (n : ℕ) (ns : List ℕ) → numbers (filter not_yet p.entries) ≡ n ∷ ns → (e : Entry M) → lookup (is_number n) p.entries ≡ Some e → (c : Chosen) → c ≡ chosen_by p.find (n, e) → (q : Parts M) → HandsOver (c ∷ []) p q
       → (shown_as e c ∷ [] ≡ answered p.keep past 1 unread) × StandsBy (WasTaken 1 unread ∷ past) q
   taken_next n ns is e found c same q h =
       let f = first_unread n ns is in

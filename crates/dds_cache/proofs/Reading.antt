@@ -11,14 +11,14 @@ use Rattle.dds_cache.specs.declared.entry.Entry.{Entry}
 use Rattle.dds_cache.specs.declared.history.History.{History}
 use Rattle.dds_cache.specs.declared.history.History.TheVariants.{KeepLast, KeepAll}
 use Rattle.dds_cache.specs.Answered.{answered}
-use Rattle.dds_cache.specs.Cache.{cached, first_by, left_by, marked, marked_by, meets}
+use Rattle.dds_cache.specs.Cache.{cached, first_by, marked, marked_by, meets}
 use Rattle.dds_cache.specs.Calls.{Done, WasRead}
-use Rattle.dds_cache.specs.Effects.{IsSame, Reads, chosen_by, drop_each, each, mark_each, mark_one, passes, read_each, shown_as}
+use Rattle.dds_cache.specs.Effects.{IsSame, Reads, chosen_by, each, mark_each, mark_one, passes, read_each, shown_as}
 use Rattle.dds_cache.specs.Lent.{answer_at}
-use Rattle.dds_cache.specs.Standing.{InstanceView, Parts, Rising, StandsBy, count_in, disposed_in, is_number, not_yet, numbers, numbers_in, numbers_kept, of_key}
+use Rattle.dds_cache.specs.Standing.{InstanceView, Parts, Rising, StandsBy, count_in, disposed_in, is_number, numbers, numbers_in, numbers_kept, of_key}
 use Rattle.dds_cache.proofs.Answering.{answers, new_after, parts_from, picked, stands_same, test}
 use Rattle.dds_cache.proofs.Choosing.{number_apart, number_itself}
-use Rattle.dds_cache.proofs.Taking.{After, chosen, chosen_after, drops, each_keeps}
+use Rattle.dds_cache.proofs.Taking.{After, chosen, chosen_after, each_keeps}
 
 module _ {M : Type 0} where
   -- the first so many that pass are marked
@@ -54,22 +54,6 @@ module _ {M : Type 0} where
       by_test : (b : Bool) → AllByRecursion (λ e. e.0 < n) (marks p m es) → AllByRecursion (λ e. e.0 < n) (marks p (suc m) es) → AllByRecursion (λ (e : ℕ × Entry M). e.0 < n) (if b then (e.0, marked e.1) ∷ marks p m es else e ∷ marks p (suc m) es)
       by_test true one rest = (all.0, one)
       by_test false one rest = (all.0, rest)
-
-  -- those that no call answered are the same as when the answered ones leave
-  pub unread_left : (p : ℕ × Entry M → Bool) (m : ℕ) (es : List (ℕ × Entry M)) → numbers (filter not_yet (left_by p m es)) ≡ numbers (filter not_yet (marks p m es))
-  unread_left p m [] = refl
-  unread_left p zero (e ∷ es) = refl
-  unread_left p (suc m) (e ∷ es) = by_test (p e) (unread_left p m es) (unread_left p (suc m) es)
-    where
-      by_flag : (u : Bool) → numbers (filter not_yet (left_by p (suc m) es)) ≡ numbers (filter not_yet (marks p (suc m) es))
-          → numbers (if u then e ∷ filter not_yet (left_by p (suc m) es) else filter not_yet (left_by p (suc m) es)) ≡ numbers (if u then e ∷ filter not_yet (marks p (suc m) es) else filter not_yet (marks p (suc m) es))
-      by_flag true rest = ap (λ l. e.0 ∷ l) rest
-      by_flag false rest = rest
-
-      by_test : (b : Bool) → numbers (filter not_yet (left_by p m es)) ≡ numbers (filter not_yet (marks p m es)) → numbers (filter not_yet (left_by p (suc m) es)) ≡ numbers (filter not_yet (marks p (suc m) es))
-          → numbers (filter not_yet (if b then left_by p m es else e ∷ left_by p (suc m) es)) ≡ numbers (filter not_yet (if b then (e.0, marked e.1) ∷ marks p m es else e ∷ marks p (suc m) es))
-      by_test true one rest = one
-      by_test false one rest = by_flag (not_yet e) rest
 
   pub marks_any : (k : KeyHash) (p : ℕ × Entry M → Bool) (m : ℕ) (es : List (ℕ × Entry M)) → list_any (of_key k) (marks p m es) ≡ list_any (of_key k) es
   marks_any k p m [] = refl
@@ -176,7 +160,7 @@ seen_numbers c (Some i) = refl
 
 module _ {M : Type 0} (past : List (Done M)) (p : Parts M) (s : StandsBy past p) (flags : Condition) where
   abbrev marked_parts : ℕ → Parts M
-  marked_parts max = parts_from p.keep p.accepted (marks (passes p.find flags) max p.entries) (numbers (filter not_yet (marks (passes p.find flags) max p.entries))) (λ k. each read_each (picked past p s flags max) k (p.find k)) p.live
+  marked_parts max = parts_from p.keep p.accepted (marks (passes p.find flags) max p.entries) (λ k. each read_each (picked past p s flags max) k (p.find k)) p.live
 
   numbers_same : (max : ℕ) (k : KeyHash) (keep : History) → numbers_kept keep k p.entries ≡ numbers_kept keep k (marks (passes p.find flags) max p.entries)
   numbers_same max k (KeepLast n) = marks_mine k (passes p.find flags) max p.entries
@@ -187,7 +171,6 @@ module _ {M : Type 0} (past : List (Done M)) (p : Parts M) (s : StandsBy past p)
     entries = ap (λ t. map (λ e. e.1) (marks t max p.entries)) (test past p s flags) ∙ marks_map (meets past (cached p.keep past) flags) max p.entries ∙ ap (marked_by (meets past (cached p.keep past) flags) max) s.entries;
     rising = marks_rising (passes p.find flags) max 0 p.entries s.rising;
     below = marks_below p.accepted (passes p.find flags) max p.entries s.below;
-    not_read = refl;
     there = λ k h. each_keeps read_each is_some seen_some (picked past p s flags max) k (p.find k) ∙ s.there k (sym (marks_any k (passes p.find flags) max p.entries) ∙ h);
     numbers = λ k. each_keeps read_each numbers_in seen_numbers (picked past p s flags max) k (p.find k) ∙ s.numbers k ∙ numbers_same max k p.keep;
     new = λ k. new_after past p s flags read_each (λ c i. refl) max k;
@@ -203,7 +186,6 @@ module _ {M : Type 0} (past : List (Done M)) (p : Parts M) (s : StandsBy past p)
         keep = h.keep;
         accepted = h.accepted;
         entries = h.entries ∙ ap (λ l. mark_each l p.entries) is ∙ marks_each p.find (passes p.find flags) max 0 p.entries s.rising;
-        not_read = h.not_read ∙ ap (λ l. drop_each l p.not_read) is ∙ ap (drop_each (picked past p s flags max)) s.not_read ∙ drops p.find (passes p.find flags) max 0 p.entries s.rising ∙ unread_left (passes p.find flags) max p.entries;
         find = λ k. h.find k ∙ ap (λ l. each read_each l k (p.find k)) is;
         live = h.live;
       } in

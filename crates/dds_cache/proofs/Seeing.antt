@@ -1,13 +1,13 @@
 -- What contracts see of a cache, and its parts.
-use Rattle.std.proofs.Common.{◌≡◌, ℕ, Bool, true, false, cond, Some, List, [], ◌∷◌, map, refl, sym}
+use Rattle.std.proofs.Common.{◌≡◌, Bool, true, false, cond, Some, List, [], ◌∷◌, map, refl, sym}
 use Rattle.std.specs.Map.{lookup}
 use Rattle.std.specs.Option.{option_map}
 use Rattle.rtps_types.specs.declared.identity.KeyHash.{KeyHash}
-use Rattle.dds_cache.specs.declared.entry.Entry.{Entry}
 use Rattle.dds_cache.specs.declared.index.Index.{Index}
 use Rattle.dds_cache.specs.declared.instance.Instance.{Instance}
 use Rattle.dds_cache.specs.Calls.{Done}
 use Rattle.dds_cache.specs.Effects.{IsSame}
+use Rattle.dds_cache.specs.Placed.{ShelfView}
 use Rattle.dds_cache.specs.Standing.{StandsAt, StandsBy, is_key, kept, known, known_at, parts, parts_in}
 use Rattle.dds_cache.proofs.Answering.{stands_same}
 
@@ -20,13 +20,13 @@ seen_known k (e ∷ es) = by_test (is_key k e.0) (seen_known k es)
     by_test true more = refl
     by_test false more = more
 
-module _ {A M : Type 0} (past : List (Done M)) (index : Index A) (es : List (ℕ × Entry M)) where
+module _ {A M : Type 0} (past : List (Done M)) (index : Index A) (es : ShelfView M) where
   pub to_parts : StandsAt past (kept index es) → StandsBy past (parts index es)
   to_parts s =
-      let same : IsSame (parts_in (kept index es)) (parts index es) = record { keep = refl; accepted = refl; entries = refl; not_read = refl; find = λ k. sym (seen_known k index.instances.entries); live = refl } in
+      let same : IsSame (parts_in (kept index es)) (parts index es) = record { keep = refl; accepted = refl; entries = refl; find = λ k. sym (seen_known k index.instances.entries); live = refl } in
       stands_same past (parts_in (kept index es)) (parts index es) same s
 
   pub from_parts : StandsBy past (parts index es) → StandsAt past (kept index es)
   from_parts s =
-      let same : IsSame (parts index es) (parts_in (kept index es)) = record { keep = refl; accepted = refl; entries = refl; not_read = refl; find = λ k. seen_known k index.instances.entries; live = refl } in
+      let same : IsSame (parts index es) (parts_in (kept index es)) = record { keep = refl; accepted = refl; entries = refl; find = λ k. seen_known k index.instances.entries; live = refl } in
       stands_same past (parts index es) (parts_in (kept index es)) same s

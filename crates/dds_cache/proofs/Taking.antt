@@ -10,22 +10,14 @@ use Rattle.dds_cache.specs.declared.choose.Chosen.{Chosen}
 use Rattle.dds_cache.specs.declared.entry.Entry.{Entry}
 use Rattle.dds_cache.specs.declared.entry.Sample.{Sample}
 use Rattle.dds_cache.specs.Cache.{first_by, left_by}
-use Rattle.dds_cache.specs.Effects.{chosen_by, drop_each, each, shown_as, spend_each, spent, take_each, take_shown, with_shown}
-use Rattle.dds_cache.specs.Standing.{InstanceView, Rising, is_key, is_number, new_in, not_yet, numbers, numbers_in, of_key}
-use Rattle.dds_cache.proofs.Choosing.{above, number_apart, number_before, number_itself}
+use Rattle.dds_cache.specs.Effects.{chosen_by, each, shown_as, spend_each, spent, take_each, take_shown, with_shown}
+use Rattle.dds_cache.specs.Standing.{InstanceView, Rising, is_key, is_number, new_in, numbers, numbers_in, of_key}
+use Rattle.dds_cache.proofs.Choosing.{number_apart, number_itself}
 use Rattle.dds_cache.proofs.Keys.{key_tie}
 
 -- all of them are after this number
 abbrev pub After : ℕ → List Chosen → Type 0
 After n cs = AllByRecursion (λ c. n < c.number) cs
-
-drop_past : (cs : List Chosen) (n : ℕ) (ns : List ℕ) → After n cs → drop_each cs (n ∷ ns) ≡ n ∷ drop_each cs ns
-drop_past [] n ns all = refl
-drop_past (c ∷ cs) n ns all = ap (λ b. drop_each cs (cond b ns (n ∷ remove_key (is_number c.number) ns))) (number_apart n c.number all.0) ∙ drop_past cs n (remove_key (is_number c.number) ns) all.1
-
-not_among : (n : ℕ) (ns : List ℕ) → AllByRecursion (λ m. n < m) ns → remove_key (is_number n) ns ≡ ns
-not_among n [] all = refl
-not_among n (m ∷ ms) all = ap (λ b. cond b ms (m ∷ remove_key (is_number n) ms)) (number_before n m all.0) ∙ ap (λ l. m ∷ l) (not_among n ms all.1)
 
 module _ {M : Type 0} (find : KeyHash → Option InstanceView) where
   abbrev pub chosen : (ℕ × Entry M → Bool) → ℕ → List (ℕ × Entry M) → List Chosen
@@ -65,9 +57,6 @@ module _ {M : Type 0} (find : KeyHash → Option InstanceView) where
   abbrev show : ℕ × Entry M → Sample M
   show x = shown_as x.1 (chosen_by find x)
 
-  abbrev unread : List (ℕ × Entry M) → List ℕ
-  unread l = numbers (filter not_yet l)
-
   pub takes_shown : (p : ℕ × Entry M → Bool) (m low : ℕ) (es : List (ℕ × Entry M)) → Rising low es → take_shown (chosen p m es) es ≡ map (λ e. shown_as e.1 (chosen_by find e)) (first_by p m es)
   takes_shown p m low [] up = refl
   takes_shown p zero low (e ∷ es) up = refl
@@ -79,23 +68,6 @@ module _ {M : Type 0} (find : KeyHash → Option InstanceView) where
           ap (λ b. with_shown (chosen_by find e) (cond b (Some e.1) (lookup (is_number e.0) es)) (take_shown (chosen p m es) (cond b es (e ∷ remove_entry (is_number e.0) es)))) (number_itself e.0)
           ∙ ap (λ l. show e ∷ l) one
       by_test false one rest = shown_past (chosen p (suc m) es) e es (chosen_after p (suc m) e.0 (suc e.0) es (omega arith) up.1) ∙ rest
-
-  -- ---- the numbers of those that no call answered
-
-  pub drops : (p : ℕ × Entry M → Bool) (m low : ℕ) (es : List (ℕ × Entry M)) → Rising low es → drop_each (chosen p m es) (numbers (filter not_yet es)) ≡ numbers (filter not_yet (left_by p m es))
-  drops p m low [] up = refl
-  drops p zero low (e ∷ es) up = refl
-  drops p (suc m) low (e ∷ es) up = by_tests (p e) (not_yet e) refl (drops p m (suc e.0) es up.1) (drops p (suc m) (suc e.0) es up.1)
-    where
-      by_tests : (b u : Bool) → not_yet e ≡ u → drop_each (chosen p m es) (unread es) ≡ unread (left_by p m es) → drop_each (chosen p (suc m) es) (unread es) ≡ unread (left_by p (suc m) es)
-          → drop_each (map (chosen_by find) (if b then e ∷ first_by p m es else first_by p (suc m) es)) (numbers (if u then e ∷ filter not_yet es else filter not_yet es))
-          ≡ unread (if b then left_by p m es else e ∷ left_by p (suc m) es)
-      by_tests true true is one rest = ap (λ b. drop_each (chosen p m es) (cond b (unread es) (e.0 ∷ remove_key (is_number e.0) (unread es)))) (number_itself e.0) ∙ one
-      by_tests true false is one rest = ap (drop_each (chosen p m es)) (not_among e.0 (unread es) (above not_yet (suc e.0) e.0 es (omega arith) up.1)) ∙ one
-      by_tests false true is one rest =
-          drop_past (chosen p (suc m) es) e.0 (unread es) (chosen_after p (suc m) e.0 (suc e.0) es (omega arith) up.1) ∙ ap (λ l. e.0 ∷ l) rest
-          ∙ sym (ap (λ u. numbers (if u then e ∷ filter not_yet (left_by p (suc m) es) else filter not_yet (left_by p (suc m) es))) is)
-      by_tests false false is one rest = rest ∙ sym (ap (λ u. numbers (if u then e ∷ filter not_yet (left_by p (suc m) es) else filter not_yet (left_by p (suc m) es))) is)
 
 -- ---- what is known of an instance
 

@@ -1,20 +1,13 @@
 -- What a value or a disposal that comes does to what is kept.
-use Rattle.std.specs.Prelude.{◌≡◌, ℕ, length, nat_lt, List, [], ◌∷◌, Bool, true, false, not, ◌&&◌, Option, Some, None, if◌then◌else◌}
-use Rattle.std.specs.BTreeMap.{insert_entry}
+use Rattle.std.specs.Prelude.{◌≡◌, ℕ, length, drop, slice_get, nat_lt, List, [], ◌∷◌, Bool, true, false, not, ◌&&◌, Option, Some, None, if◌then◌else◌}
 use Rattle.std.specs.BTreeSet.{insert_key}
 use Rattle.std.specs.List.{list_any}
 use Rattle.std.specs.Map.{remove_entry}
 use Rattle.std.specs.Option.{option_map}
 use Rattle.std.specs.Ordering.{nat_cmp}
-use Rattle.std.specs.Set.{remove_key}
-use Rattle.rtps_types.specs.declared.identity.Guid.{Guid}
 use Rattle.rtps_types.specs.declared.identity.KeyHash.{KeyHash}
-use Rattle.rtps_types.specs.declared.number.Number.{Number}
-use Rattle.rtps_types.specs.declared.place.Place.{Place}
-use Rattle.rtps_types.specs.declared.time.Timestamp.{Timestamp}
-use Rattle.rtps_reader.specs.declared.body.Body.{Body}
 use Rattle.rtps_reader.specs.declared.body.Body.TheVariants as body
-use Rattle.rtps_reader.specs.declared.notice.Notice.{Notice}
+use Rattle.rtps_reader.specs.declared.notice.NoticeKind.{NoticeKind}
 use Rattle.rtps_reader.specs.declared.notice.NoticeKind.TheVariants as kind
 use Rattle.dds_cache.specs.declared.accept.Coming.{Coming}
 use Rattle.dds_cache.specs.declared.accept.Coming.TheVariants as coming
@@ -23,36 +16,25 @@ use Rattle.dds_cache.specs.declared.entry.Content.TheVariants as content
 use Rattle.dds_cache.specs.declared.entry.Entry.{Entry}
 use Rattle.dds_cache.specs.declared.history.History.{History}
 use Rattle.dds_cache.specs.declared.history.History.TheVariants.{KeepLast, KeepAll}
-use Rattle.dds_cache.specs.Cache.{entry_by}
-use Rattle.dds_cache.specs.Departing.{Ends, is_by}
+use Rattle.dds_cache.specs.declared.instance.Arrival.{Arrival}
+use Rattle.dds_cache.specs.declared.index.Index.{Index}
 use Rattle.dds_cache.specs.Effects.{ChangesAt, disposed, fresh, valued, with_number, with_numbers}
-use Rattle.dds_cache.specs.Standing.{InstanceView, Pair, Parts, is_key, is_number, is_pair, numbers_in, pair_order}
-
-abbrev pub sample_notice : {M : Type 0} → Place → Guid → Number → Option Timestamp → Body M → Notice M
-sample_notice place w number time b = record {
-  place = place;
-  writer = w;
-  what = kind.Sample number time b;
-}
-
--- the notice that an entry was made of, and its body
-abbrev pub body_in : {M : Type 0} → KeyHash → Content M → Body M
-body_in k (content.Value v) = body.Value k v
-body_in k content.Disposed = body.Disposed k
-
-abbrev pub notice_of : {M : Type 0} → Entry M → Notice M
-notice_of e = sample_notice e.place e.writer e.number e.time (body_in e.key e.body)
-
--- what a notice does
-abbrev pub Does : {M : Type 0} → Notice M → Coming M → Type 0
-Does n (coming.Enters e) = (entry_by n.place n.writer n.what ≡ e ∷ []) × (notice_of e ≡ n)
-Does n (coming.Leaves k) = Ends n (is_pair (n.writer, k))
-Does n coming.LeavesAll = Ends n (is_by n.writer)
-Does n coming.ChangesNothing = Ends n (λ p. false)
+use Rattle.dds_cache.specs.Standing.{InstanceView, Pair, Parts, count_in, is_key, is_number, is_pair, known_at, numbers_in, pair_order, writers_in}
 
 abbrev pub is_value_of : {M : Type 0} → Content M → Bool
 is_value_of (content.Value v) = true
 is_value_of content.Disposed = false
+
+-- what a notice does
+abbrev pub does : {M : Type 0} → NoticeKind M → Coming
+does (kind.Sample number time (body.Value k v)) = coming.Enters k true
+does (kind.Sample number time (body.Disposed k)) = coming.Enters k false
+does (kind.Sample number time (body.Unregistered k)) = coming.Leaves k
+does (kind.Sample number time (body.Unread u)) = coming.ChangesNothing
+does kind.Matched = coming.ChangesNothing
+does kind.Unmatched = coming.LeavesAll
+does (kind.Incompatible policy) = coming.ChangesNothing
+does (kind.Lost count) = coming.ChangesNothing
 
 -- ---- the live writers
 
@@ -83,23 +65,39 @@ abbrev pub came : Bool → Bool → InstanceView → InstanceView
 came true joined i = valued joined i
 came false joined i = disposed i
 
+-- the numbers that an instance keeps, and the one that it gives up where there are too many
+abbrev pub kept_numbers : ℕ → List ℕ → List ℕ
+kept_numbers most ns = if nat_lt most (length ns) then drop 1 ns else ns
+
+abbrev pub given_up : ℕ → List ℕ → Option ℕ
+given_up most ns = if nat_lt most (length ns) then slice_get ns 0 else None
+
+abbrev pub counted : History → ℕ → InstanceView → InstanceView
+counted (KeepLast most) n i = with_numbers (kept_numbers most (insert_key nat_cmp i.numbers n)) i
+counted KeepAll n i = i
+
+abbrev pub leaving : History → ℕ → List ℕ → Option ℕ
+leaving (KeepLast most) n ns = given_up most (insert_key nat_cmp ns n)
+leaving KeepAll n ns = None
+
+-- an entry came
+abbrev pub entered_by : History → Arrival → InstanceView → InstanceView
+entered_by keep a i = came a.is_value a.joined (counted keep a.number i)
+
 -- ---- the entry
 
--- an entry is put, and what is known of its instance changes
-pub record IsPut {M : Type 0} (e : Entry M) (f : Option InstanceView → Option InstanceView) (after : List Pair) (old new : Parts M) : Type 0 where
-  pub keep : new.keep ≡ old.keep
-  pub accepted : new.accepted ≡ old.accepted
-  pub entries : new.entries ≡ insert_entry nat_cmp old.entries old.accepted e
-  pub not_read : new.not_read ≡ insert_key nat_cmp old.not_read old.accepted
-  pub find : ChangesAt e.key f old.find new.find
-  pub live : new.live ≡ after
+-- an entry of an instance arrived, and this is the number of the one that has to leave
+pub record Arrives {A : Type 0} (p : Pair) (is_value : Bool) (n : ℕ) (old new : Index A) (oldest : Option ℕ) : Type 0 where
+  pub live : new.live.keys ≡ joined_by is_value p old.live.keys
+  pub gives_up : oldest ≡ leaving old.keep n (numbers_in (known_at old.instances.entries p.1))
+  pub find : count_in (known_at old.instances.entries p.1) ≡ writers_in p.1 old.live.keys
+      → ChangesAt p.1 (made (λ i. came is_value (joins is_value p old.live.keys) (counted old.keep n i))) (known_at old.instances.entries) (known_at new.instances.entries)
 
 -- the entry with the first of these numbers of an instance leaves
 abbrev pub without_first : {M : Type 0} → KeyHash → List ℕ → Parts M → Parts M
 without_first key [] p = p
 without_first key (n ∷ ns) p = record p {
   entries = remove_entry (is_number n) p.entries;
-  not_read = remove_key (is_number n) p.not_read;
   find = λ k. if is_key key k then option_map (with_numbers ns) (p.find k) else p.find k;
 }
 
@@ -109,3 +107,8 @@ dropped key (KeepLast most) p =
     if nat_lt most (length (numbers_in (p.find key)))
     then without_first key (numbers_in (p.find key)) p else p
 dropped key KeepAll p = p
+
+-- without the entry with a number, if there is a number
+abbrev pub left_by_number : {M : Type 0} → Option ℕ → List (ℕ × Entry M) → List (ℕ × Entry M)
+left_by_number None es = es
+left_by_number (Some m) es = remove_entry (is_number m) es

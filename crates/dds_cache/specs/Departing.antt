@@ -35,8 +35,6 @@ is_by w p = same_guid w p.0
 -- the pairs that pass a test leave; each is taken out of the count of its instance
 pub record Departs {A : Type 0} (leaves : Pair → Bool) (old new : Index A) : Type 0 where
   pub keep : new.keep ≡ old.keep
-  pub accepted : new.accepted ≡ old.accepted
-  pub not_read : new.not_read.keys ≡ old.not_read.keys
   pub rest : KeepsRest (known_at old.instances.entries) (known_at new.instances.entries)
   pub counted : AreCounted (known_at old.instances.entries) old.live.keys → AreCounted (known_at new.instances.entries) new.live.keys
   pub live : (p : Pair) → list_any (is_pair p) new.live.keys ≡ (not (leaves p) && list_any (is_pair p) old.live.keys)

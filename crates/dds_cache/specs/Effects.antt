@@ -1,5 +1,5 @@
 -- What the steps of a call do to what is kept.
-use Rattle.std.specs.Prelude.{◌≡◌, ℕ, ◌+◌, ◌-◌, ◌<◌, ◌≤◌, length, nat_lt, List, [], ◌∷◌, Bool, true, false, not, ◌&&◌, ◌||◌, Option, Some, None, if◌then◌else◌}
+use Rattle.std.specs.Prelude.{◌≡◌, ℕ, ◌+◌, ◌-◌, length, nat_lt, List, [], ◌∷◌, ◌++◌, map, Bool, true, false, not, ◌&&◌, ◌||◌, Option, Some, None, if◌then◌else◌}
 use Rattle.std.specs.BTreeSet.{insert_key}
 use Rattle.std.specs.Map.{lookup, remove_entry}
 use Rattle.std.specs.Set.{remove_key}
@@ -11,9 +11,9 @@ use Rattle.dds_cache.specs.declared.condition.Condition.{Condition}
 use Rattle.dds_cache.specs.declared.entry.Entry.{Entry}
 use Rattle.dds_cache.specs.declared.entry.Sample.{Sample}
 use Rattle.dds_cache.specs.Answered.{sample_state, shown, view_state}
-use Rattle.dds_cache.specs.Cache.{marked}
+use Rattle.dds_cache.specs.Cache.{first_by, marked}
 use Rattle.dds_cache.specs.Instances.{alive_by, state_by}
-use Rattle.dds_cache.specs.Standing.{InstanceView, Parts, alive_in, count_in, disposed_in, is_key, is_number, new_in, numbers_in}
+use Rattle.dds_cache.specs.Standing.{InstanceView, Parts, alive_in, count_in, disposed_in, is_key, is_number, new_in}
 
 -- ---- what becomes of an instance
 
@@ -70,7 +70,6 @@ pub record IsSame {M : Type 0} (old new : Parts M) : Type 0 where
   pub keep : new.keep ≡ old.keep
   pub accepted : new.accepted ≡ old.accepted
   pub entries : new.entries ≡ old.entries
-  pub not_read : new.not_read ≡ old.not_read
   pub find : FindsSame old.find new.find
   pub live : new.live ≡ old.live
 
@@ -90,6 +89,11 @@ chosen_by find e = record {
   instance = state_by (disposed_in (find e.1.key)) (nat_lt 0 (count_in (find e.1.key)));
 }
 
+-- what is at a place, where it is an entry that meets a condition
+abbrev pub judged_at : {M : Type 0} → (KeyHash → Option InstanceView) → Condition → ℕ → Option (Entry M) → Option Chosen
+judged_at find flags n None = None
+judged_at find flags n (Some e) = if passes find flags (n, e) then Some (chosen_by find (n, e)) else None
+
 -- an entry with the states that it was chosen with
 abbrev pub shown_as : {M : Type 0} → Entry M → Chosen → Sample M
 shown_as e c = shown e c.sample c.view c.instance
@@ -104,13 +108,6 @@ abbrev pub each : (Chosen → InstanceView → InstanceView) → List Chosen →
 each f [] k o = o
 each f (c ∷ cs) k o = each f cs k (if is_key c.key k then option_map (f c) o else o)
 
--- the number of the oldest entry of an instance is given up, where it has more than so many
-abbrev pub PopsOldest : KeyHash → ℕ → Option ℕ → (KeyHash → Option InstanceView) → (KeyHash → Option InstanceView) → Type 0
-PopsOldest key most None old new = (length (numbers_in (old key)) ≤ most) × FindsSame old new
-PopsOldest key most (Some n) old new =
-    (most < length (numbers_in (old key))) × (numbers_in (old key) ≡ n ∷ numbers_in (new key))
-    × ChangesAt key (option_map (with_numbers (numbers_in (new key)))) old new
-
 -- the entries of these numbers
 abbrev pub with_found : {M : Type 0} → ℕ → Option (Entry M) → List (ℕ × Entry M) → List (ℕ × Entry M)
 with_found n None es = es
@@ -119,6 +116,12 @@ with_found n (Some e) es = (n, e) ∷ es
 abbrev pub looked : {M : Type 0} → List (ℕ × Entry M) → List ℕ → List (ℕ × Entry M)
 looked es [] = []
 looked es (n ∷ ns) = with_found n (lookup (is_number n) es) (looked es ns)
+
+-- the first so many of some entries that pass a test are added, as they are chosen, and so many more
+-- are wanted
+abbrev pub AddsFirst : {C E : Type 0} → (E → Bool) → (E → C) → ℕ → List E → List C → List C → ℕ → Type 0
+AddsFirst p f max es old new left =
+    (new ≡ old ++ map f (first_by p max es)) × (left ≡ max - length (first_by p max es))
 
 -- ---- once entries were chosen
 
@@ -130,11 +133,6 @@ mark_each (c ∷ cs) es = mark_each cs (mark_one c.number es)
 abbrev pub take_each : {M : Type 0} → List Chosen → List (ℕ × Entry M) → List (ℕ × Entry M)
 take_each [] es = es
 take_each (c ∷ cs) es = take_each cs (remove_entry (is_number c.number) es)
-
--- the numbers that are left
-abbrev pub drop_each : List Chosen → List ℕ → List ℕ
-drop_each [] ns = ns
-drop_each (c ∷ cs) ns = drop_each cs (remove_key (is_number c.number) ns)
 
 -- what is handed over
 abbrev pub with_shown : {M : Type 0} → Chosen → Option (Entry M) → List (Sample M) → List (Sample M)
@@ -157,7 +155,6 @@ pub record HandsOver {M : Type 0} (cs : List Chosen) (old new : Parts M) : Type 
   pub keep : new.keep ≡ old.keep
   pub accepted : new.accepted ≡ old.accepted
   pub entries : new.entries ≡ take_each cs old.entries
-  pub not_read : new.not_read ≡ drop_each cs old.not_read
   pub find : (k : KeyHash) → new.find k ≡ each spend_each cs k (old.find k)
   pub live : new.live ≡ old.live
 
@@ -166,6 +163,5 @@ pub record Reads {M : Type 0} (cs : List Chosen) (old new : Parts M) : Type 0 wh
   pub keep : new.keep ≡ old.keep
   pub accepted : new.accepted ≡ old.accepted
   pub entries : new.entries ≡ mark_each cs old.entries
-  pub not_read : new.not_read ≡ drop_each cs old.not_read
   pub find : (k : KeyHash) → new.find k ≡ each read_each cs k (old.find k)
   pub live : new.live ≡ old.live

@@ -2,7 +2,9 @@ pub mod Calls
 pub mod Instances
 pub mod Cache
 pub mod Answered
+pub mod Placed
 pub mod Standing
+pub mod Shelved
 pub mod Effects
 pub mod Lent
 pub mod After

@@ -15,6 +15,7 @@ use Rattle.dds_cache.specs.declared.index.Index.{Index}
 use Rattle.dds_cache.specs.declared.instance.Instance.{Instance}
 use Rattle.dds_cache.specs.Cache.{cached, is_of}
 use Rattle.dds_cache.specs.Calls.{Done}
+use Rattle.dds_cache.specs.Placed.{ShelfView}
 use Rattle.dds_cache.specs.Instances.{alive_by, is_disposed, is_live}
 
 -- the orders in which instances, and writers with instances, are found
@@ -63,8 +64,6 @@ pub record CacheView (M : Type 0) : Type 0 where
   -- how many entries were made; each has the count before it as its number
   pub accepted : ℕ
   pub entries : List (ℕ × Entry M)
-  -- the numbers of those that no call answered
-  pub not_read : List ℕ
   pub instances : List (KeyHash × InstanceView)
   pub live : List Pair
 
@@ -73,7 +72,6 @@ pub record Parts (M : Type 0) : Type 0 where
   pub keep : History
   pub accepted : ℕ
   pub entries : List (ℕ × Entry M)
-  pub not_read : List ℕ
   pub find : KeyHash → Option InstanceView
   pub live : List Pair
 
@@ -82,27 +80,24 @@ parts_in kept = record {
   keep = kept.keep;
   accepted = kept.accepted;
   entries = kept.entries;
-  not_read = kept.not_read;
   find = λ k. lookup (is_key k) kept.instances;
   live = kept.live;
 }
 
-abbrev pub parts : {A M : Type 0} → Index A → List (ℕ × Entry M) → Parts M
-parts index entries = record {
+abbrev pub parts : {A M : Type 0} → Index A → ShelfView M → Parts M
+parts index shelf = record {
   keep = index.keep;
-  accepted = index.accepted;
-  entries = entries;
-  not_read = index.not_read.keys;
+  accepted = shelf.next;
+  entries = shelf.entries;
   find = known_at index.instances.entries;
   live = index.live.keys;
 }
 
-abbrev pub kept : {A M : Type 0} → Index A → List (ℕ × Entry M) → CacheView M
-kept index entries = record {
+abbrev pub kept : {A M : Type 0} → Index A → ShelfView M → CacheView M
+kept index shelf = record {
   keep = index.keep;
-  accepted = index.accepted;
-  entries = entries;
-  not_read = index.not_read.keys;
+  accepted = shelf.next;
+  entries = shelf.entries;
   instances = map (λ p. (p.0, known p.1)) index.instances.entries;
   live = index.live.keys;
 }
@@ -160,7 +155,6 @@ pub record StandsBy {M : Type 0} (past : List (Done M)) (p : Parts M) : Type 0 w
   pub entries : map (λ e. e.1) p.entries ≡ (cached p.keep past).entries
   pub rising : Rising 0 p.entries
   pub below : AllByRecursion (λ e. e.0 < p.accepted) p.entries
-  pub not_read : p.not_read ≡ numbers (filter not_yet p.entries)
   pub there : (k : KeyHash) → list_any (of_key k) p.entries ≡ true → is_some (p.find k) ≡ true
   pub numbers : (k : KeyHash) → numbers_in (p.find k) ≡ numbers_kept p.keep k p.entries
   pub new : (k : KeyHash) → new_in (p.find k) ≡ (cached p.keep past).is_new k

@@ -1,52 +1,72 @@
 //! A notice is accepted.
 
-ghost use Rattle.std.specs.Prelude.{◌≡◌, ◌<◌, ◌∷◌, [], IfErr, List, OnErr, OnOk, length, true};
-ghost use Rattle.std.specs.Option.{option_map};
-ghost use Rattle.rtps_reader.specs.declared.notice.Notice.{Notice};
+ghost use Rattle.std.specs.Prelude.{◌≡◌, ◌+◌, ◌++◌, ◌∷◌, [], IfErr, IfOk, List, OnErr, OnOk, length, option_to_list};
 ghost use Rattle.dds_cache.specs.Cache.{entry_by};
-ghost use Rattle.dds_cache.specs.Calls.{Done, Accepted};
-ghost use Rattle.dds_cache.specs.Coming.{Does, came, notice_of, sample_notice};
-ghost use Rattle.dds_cache.specs.Effects.{ChangesAt, IsSame};
-ghost use Rattle.dds_cache.specs.Standing.{StandsBy, count_in, known_at, parts};
+ghost use Rattle.dds_cache.specs.Calls.{Accepted, Done};
+ghost use Rattle.dds_cache.specs.Coming.{Arrives, does, joined_by, joins, left_by_number};
+ghost use Rattle.dds_cache.specs.declared.accept.Coming.TheVariants.{Enters};
+ghost use Rattle.dds_cache.specs.declared.entry.Entry.{Entry};
+ghost use Rattle.dds_cache.specs.Effects.{IsSame};
+ghost use Rattle.dds_cache.specs.Placed.{HasRoom};
+ghost use Rattle.rtps_types.specs.declared.identity.KeyHash.{KeyHash};
+ghost use Rattle.dds_cache.specs.Standing.{StandsBy, known_at, parts};
 
 use crate::entry::{Content, Entry};
 use crate::index::Index;
-use crate::instance::{Instances, note_disposal, note_value};
+use crate::instance::{Arrival, enter};
 use crate::leave::{leave, leave_all};
-use crate::put::{drop_oldest, put};
+use crate::shelf::Shelf;
 use rtps_reader::{Body, Notice, NoticeKind};
-use rtps_types::{Guid, KeyHash, Number, Place, Timestamp};
-use std::alloc::Allocator;
-use std::collections::BTreeMap;
+use rtps_types::{Guid, KeyHash};
+use std::alloc::{AllocError, Allocator};
+use std::collections::BTreeSet;
 
 /// What a notice does to a cache.
-enum Coming<V> {
-    /// It makes an entry.
-    Enters(Entry<V>),
-    /// Its writer is not live in an instance any more.
+#[derive(Clone, Copy)]
+enum Coming {
+    /// It makes an entry of the instance: a value, or else the end of it.
+    Enters(KeyHash, bool),
+    /// Its writer is not live in the instance any more.
     Leaves(KeyHash),
     /// Its writer is not live in any instance any more.
     LeavesAll,
     ChangesNothing,
 }
 
-/// What the notice of a sample does.
-fn what_sample_does<V: Drop>(
-    place: Place,
-    writer: Guid,
-    number: Number,
-    time: Option<Timestamp>,
-    body: Body<V>,
-) -> Coming<V>
-    ensures { Does (sample_notice place writer number time body) result }
+/// What a notice does.
+fn what_it_does<V>(notice: &Notice<V>) -> Coming
+    ensures { result ≡ does notice.now.what }
 {
+    let body = match &notice.what {
+        NoticeKind::Sample { body, .. } => body,
+        NoticeKind::Unmatched => return Coming::LeavesAll,
+        NoticeKind::Matched | NoticeKind::Incompatible { .. } | NoticeKind::Lost { .. } => {
+            return Coming::ChangesNothing;
+        }
+    };
+    match body {
+        Body::Value(key, _) => Coming::Enters(*key, true),
+        Body::Disposed(key) => Coming::Enters(*key, false),
+        Body::Unregistered(key) => Coming::Leaves(*key),
+        Body::Unread(_) => Coming::ChangesNothing,
+    }
+}
+
+/// The entry that a notice makes, if it makes one.
+fn entry_of<V: Drop>(notice: Notice<V>) -> Option<Entry<V>>
+    ensures { option_to_list result ≡ entry_by notice.place notice.writer notice.what }
+{
+    let place = notice.place;
+    let writer = notice.writer;
+    let NoticeKind::Sample { number, time, body } = notice.what else {
+        return None;
+    };
     let (key, body) = match body {
         Body::Value(key, value) => (key, Content::Value(value)),
         Body::Disposed(key) => (key, Content::Disposed),
-        Body::Unregistered(key) => return Coming::Leaves(key),
-        Body::Unread(_) => return Coming::ChangesNothing,
+        Body::Unregistered(_) | Body::Unread(_) => return None,
     };
-    Coming::Enters(Entry {
+    Some(Entry {
         place,
         writer,
         number,
@@ -57,134 +77,134 @@ fn what_sample_does<V: Drop>(
     })
 }
 
-/// What a notice does.
-fn what_it_does<V: Drop>(notice: Notice<V>) -> Coming<V>
-    ensures { Does notice result }
-{
-    let place = notice.place;
-    let writer = notice.writer;
-    match notice.what {
-        NoticeKind::Sample { number, time, body } => {
-            what_sample_does(place, writer, number, time, body)
-        }
-        NoticeKind::Unmatched => Coming::LeavesAll,
-        NoticeKind::Matched | NoticeKind::Incompatible { .. } | NoticeKind::Lost { .. } => {
-            Coming::ChangesNothing
-        }
-    }
-}
-
-impl<V> Entry<V> {
-    /// The notice that it was made of.
-    fn into_notice(self) -> Notice<V>
-        ensures { result ≡ notice_of self }
-    {
-        let Entry {
-            place,
-            writer,
-            number,
-            time,
-            key,
-            body,
-            ..
-        } = self;
-        let body = match body {
-            Content::Value(value) => Body::Value(key, value),
-            Content::Disposed => Body::Disposed(key),
-        };
-        let what = NoticeKind::Sample { number, time, body };
-        Notice {
-            place,
-            writer,
-            what,
-        }
-    }
-}
-
-/// What comes of an instance when its entry is there: a value, whose writer wasn't live in it if
-/// it `joined`, or a disposal. So many writers are live in all instances.
-fn note<A: Allocator>(
-    instances: &mut Instances<A>,
-    key: KeyHash,
+/// The writer of a value is live in its instance from then on. Answers whether it wasn't before.
+fn join<A: Allocator + Copy>(
+    live: &mut BTreeSet<(Guid, KeyHash), A>,
+    pair: (Guid, KeyHash),
     is_value: bool,
-    joined: bool,
-    all: usize,
-)
-    ensures { (joined ≡ true → count_in (known_at instances.old.entries key) < all)
-        → ChangesAt key (option_map (came is_value joined)) (known_at instances.old.entries)
-        (known_at instances.new.entries) }
+) -> Result<bool, AllocError>
+    ensures live { OnOk result (live.new.keys ≡ joined_by is_value pair live.old.keys) }
+    ensures joined { IfOk result (λ joined. joined ≡ joins is_value pair live.old.keys) }
+    ensures err { OnErr result (live.new.keys ≡ live.old.keys) }
 {
-    if is_value {
-        note_value(instances, key, joined, all);
-    } else {
-        note_disposal(instances, key);
+    if !is_value {
+        return Ok(false);
+    }
+    match live.insert(pair) {
+        Ok(joined) => Ok(joined),
+        Err(_) => Err(AllocError),
     }
 }
 
-/// Takes in the entry that a notice makes. After a refused growth it comes back, and nothing is
-/// changed.
+/// An entry of an instance comes. Answers the number of the entry that has to leave, if one has.
+/// After a refused growth nothing is changed.
+fn arrive<A: Allocator + Copy>(
+    alloc: A,
+    index: &mut Index<A>,
+    pair: (Guid, KeyHash),
+    is_value: bool,
+    number: u64,
+) -> Result<Option<u64>, AllocError>
+    ensures arrives { IfOk result (Arrives pair is_value number index.old index.new) }
+    ensures keep { index.new.keep ≡ index.old.keep }
+    ensures live { OnErr result (index.new.live.keys ≡ index.old.live.keys) }
+    ensures find { OnErr result ((k : KeyHash) → known_at index.new.instances.entries k
+        ≡ known_at index.old.instances.entries k) }
+{
+    let joined = join(&mut index.live, pair, is_value)?;
+    let arrival = Arrival {
+        number,
+        is_value,
+        joined,
+        all: index.live.len(),
+    };
+    match enter(alloc, &mut index.instances, pair.1, index.keep, arrival) {
+        Ok(oldest) => Ok(oldest),
+        Err(refused) => {
+            if joined {
+                index.live.remove(&pair);
+            }
+            Err(refused)
+        }
+    }
+}
+
+/// Puts the entry that a notice makes.
+fn put_made<V: Drop, A: Allocator + Copy>(entries: &mut Shelf<V, A>, notice: Notice<V>)
+    requires { HasRoom entries.old }
+    ensures put { (e : Entry V) → entry_by notice.place notice.writer notice.what ≡ e ∷ []
+        → entries.new.entries ≡ entries.old.entries ++ (entries.old.next, e) ∷ [] }
+    ensures next { (e : Entry V) → entry_by notice.place notice.writer notice.what ≡ e ∷ []
+        → entries.new.next ≡ entries.old.next + 1 }
+{
+    if let Some(entry) = entry_of(notice) {
+        entries.put(entry);
+    }
+}
+
+/// The entry with a number leaves, if there is a number.
+fn discard<V: Drop, A: Allocator>(entries: &mut Shelf<V, A>, number: Option<u64>)
+    ensures left { entries.new.entries ≡ left_by_number number entries.old.entries }
+    ensures next { entries.new.next ≡ entries.old.next }
+{
+    if let Some(number) = number {
+        entries.discard(number);
+    }
+}
+
+/// Takes in the entry that a notice makes of an instance. After a refused growth the notice comes
+/// back, and nothing is changed.
 fn admit<V: Drop, A: Allocator + Copy>(
     alloc: A,
     index: &mut Index<A>,
-    entries: &mut BTreeMap<u64, Entry<V>, A>,
-    entry: Entry<V>,
-) -> Result<(), Entry<V>>
-    ensures stands { (past : List (Done V)) → (n : Notice V)
-        → entry_by n.place n.writer n.what ≡ entry ∷ []
-        → StandsBy past (parts index.old entries.old.entries)
-        → OnOk result (StandsBy (Accepted n ∷ past) (parts index.new entries.new.entries)) }
+    entries: &mut Shelf<V, A>,
+    notice: Notice<V>,
+    of: (KeyHash, bool),
+) -> Result<(), Notice<V>>
+    ensures stands { (past : List (Done V)) → does notice.what ≡ Enters of.0 of.1
+        → StandsBy past (parts index.old entries.old)
+        → OnOk result (StandsBy (Accepted notice ∷ past) (parts index.new entries.new)) }
     ensures keep { index.new.keep ≡ index.old.keep }
-    ensures back { IfErr result (λ e. e ≡ entry) }
-    ensures err { OnErr result (IsSame (parts index.old entries.old.entries)
-        (parts index.new entries.new.entries)) }
+    ensures back { IfErr result (λ n. n ≡ notice) }
+    ensures err { OnErr result (IsSame (parts index.old entries.old)
+        (parts index.new entries.new)) }
 {
-    let Some(next) = index.accepted.checked_add(1) else {
-        return Err(entry);
-    };
-    let key = entry.key;
-    let is_value = entry.is_value();
-    match put(alloc, index, entries, entry) {
-        Ok(joined) => {
-            let all = index.live.len();
-            note(&mut index.instances, key, is_value, joined, all);
-            index.accepted = next;
-            drop_oldest(index, entries, key);
-            Ok(())
-        }
-        Err(entry) => Err(entry),
+    if entries.make_room().is_err() {
+        return Err(notice);
     }
+    let pair = (notice.writer, of.0);
+    let Ok(oldest) = arrive(alloc, index, pair, of.1, entries.next()) else {
+        return Err(notice);
+    };
+    put_made(entries, notice);
+    discard(entries, oldest);
+    Ok(())
 }
 
 /// Accepts a notice. After a refused growth it comes back, and nothing is changed.
 pub(crate) fn accept<V: Drop, A: Allocator + Copy>(
     alloc: A,
     index: &mut Index<A>,
-    entries: &mut BTreeMap<u64, Entry<V>, A>,
+    entries: &mut Shelf<V, A>,
     notice: Notice<V>,
 ) -> Result<(), Notice<V>>
-    ensures stands { (past : List (Done V))
-        → StandsBy past (parts index.old entries.old.entries)
-        → OnOk result (StandsBy (Accepted notice ∷ past)
-        (parts index.new entries.new.entries)) }
+    ensures stands { (past : List (Done V)) → StandsBy past (parts index.old entries.old)
+        → OnOk result (StandsBy (Accepted notice ∷ past) (parts index.new entries.new)) }
     ensures keep { index.new.keep ≡ index.old.keep }
     ensures back { IfErr result (λ n. n ≡ notice) }
     ensures makes { OnErr result
         (length (entry_by notice.place notice.writer notice.what) ≡ 1) }
-    ensures err { OnErr result (IsSame (parts index.old entries.old.entries)
-        (parts index.new entries.new.entries)) }
+    ensures err { OnErr result (IsSame (parts index.old entries.old)
+        (parts index.new entries.new)) }
 {
-    let writer = notice.writer;
-    match what_it_does(notice) {
-        Coming::Enters(entry) => match admit(alloc, index, entries, entry) {
-            Ok(()) => Ok(()),
-            Err(entry) => Err(entry.into_notice()),
-        },
+    match what_it_does(&notice) {
+        Coming::Enters(key, is_value) => admit(alloc, index, entries, notice, (key, is_value)),
         Coming::Leaves(key) => {
-            leave(index, writer, key);
+            leave(index, notice.writer, key);
             Ok(())
         }
         Coming::LeavesAll => {
-            leave_all(index, writer);
+            leave_all(index, notice.writer);
             Ok(())
         }
         Coming::ChangesNothing => Ok(()),

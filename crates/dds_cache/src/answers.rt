@@ -7,15 +7,15 @@ ghost use Rattle.dds_cache.specs.Lent.{answers_in, lent_sample, nth_answer};
 
 use crate::choose::Chosen;
 use crate::entry::{Content, Entry, Sample, Seen};
+use crate::shelf::Shelf;
 use std::alloc::{Allocator, Global};
-use std::collections::BTreeMap;
 
 /// The entries that a read answers, in order of acceptance. They stay in the cache: their values
 /// are lent.
 #[derive(Drop)]
 pub struct Answers<V, A: Allocator = Global> {
-    /// All entries of the cache, by their numbers.
-    pub(crate) entries: BTreeMap<u64, Entry<V>, A>,
+    /// All entries of the cache.
+    pub(crate) entries: Shelf<V, A>,
     /// Those that the last read answered.
     pub(crate) answered: Vec<Chosen, A>,
 }
@@ -63,7 +63,7 @@ impl<V, A: Allocator> Answers<V, A> {
         ensures { option_map lent_sample result ≡ nth_answer (answers_in self.now) at }
     {
         let chosen = self.answered.get(at)?;
-        let entry = self.entries.get(&chosen.number)?;
+        let entry = self.entries.get(chosen.number)?;
         Some(entry.lend(*chosen))
     }
 }

@@ -1,20 +1,21 @@
 //! Which entries a call answers, and with which states.
 
-ghost use Rattle.std.specs.Prelude.{◌≡◌, ◌++◌, IfOk, Some, None, filter, if◌then◌else◌, map, nat_lt, true};
+ghost use Rattle.std.specs.Prelude.{◌≡◌, ◌+◌, ◌<◌, ◌^◌, IfOk, None, Some, filter, if◌then◌else◌, length, map, nat_lt};
 ghost use Rattle.dds_cache.specs.Answered.{sample_state, view_state};
 ghost use Rattle.dds_cache.specs.Instances.{state_by};
 ghost use Rattle.dds_cache.specs.Cache.{first_by};
-ghost use Rattle.dds_cache.specs.Effects.{chosen_by, looked, passes};
+ghost use Rattle.dds_cache.specs.Effects.{AddsFirst, chosen_by, judged_at, looked, passes};
+ghost use Rattle.dds_cache.specs.Placed.{placed};
 ghost use Rattle.dds_cache.specs.Standing.{Rising, count_in, disposed_in, known_at, new_in, not_yet, numbers};
 
 use crate::condition::Condition;
 use crate::entry::Entry;
-use crate::index::Index;
 use crate::instance::Instances;
+use crate::shelf::Shelf;
 use crate::state::{InstanceState, SampleState, ViewState};
 use rtps_types::KeyHash;
 use std::alloc::{AllocError, Allocator};
-use std::collections::BTreeMap;
+use std::collections::{BTreeMap, BTreeSet, VecDeque};
 
 /// An entry that a call answers, with its states before the call.
 #[derive(Clone, Copy)]
@@ -115,81 +116,156 @@ fn judge<V, A: Allocator>(
     Some(states.show(number, entry))
 }
 
-/// The first `max` entries that meet a condition.
-fn choose_all<V, A: Allocator + Copy>(
-    alloc: A,
+/// The same of what is at a place.
+fn judge_place<V, A: Allocator>(
+    number: u64,
+    place: &Option<Entry<V>>,
+    instances: &Instances<A>,
+    condition: Condition,
+) -> Option<Chosen>
+    ensures { result ≡ judged_at (known_at instances.now.entries) condition number place.now }
+{
+    match place {
+        Some(entry) => judge(number, entry, instances, condition),
+        None => None,
+    }
+}
+
+/// What is asked for: so many entries at most, that meet a condition.
+#[derive(Clone, Copy)]
+struct Wanted {
+    max: usize,
+    condition: Condition,
+}
+
+/// Adds the first of some entries that are wanted. Answers how many more are.
+fn choose_all<V, A: Allocator>(
+    chosen: &mut Vec<Chosen, A>,
     entries: &BTreeMap<u64, Entry<V>, A>,
+    instances: &Instances<A>,
+    wanted: Wanted,
+) -> Result<usize, AllocError>
+    ensures { let find = known_at instances.now.entries in
+        IfOk result (AddsFirst (passes find wanted.condition) (chosen_by find) wanted.max
+        entries.now.entries chosen.old.items chosen.new.items) }
+{
+    let mut left = wanted.max;
+    let mut rest = entries.iter();
+    'entries: while left > 0 {
+        let Some((number, entry)) = rest.next() else {
+            return Ok(left);
+        };
+        if let Some(one) = judge(*number, entry, instances, wanted.condition) {
+            chosen.push(one)?;
+            left -= 1;
+        }
+    }
+    Ok(left)
+}
+
+/// Adds the first of the entries with these numbers that are wanted. Answers how many more are.
+fn choose_unread<V, A: Allocator>(
+    chosen: &mut Vec<Chosen, A>,
+    entries: &BTreeMap<u64, Entry<V>, A>,
+    numbers: &BTreeSet<u64, A>,
+    instances: &Instances<A>,
+    wanted: Wanted,
+) -> Result<usize, AllocError>
+    ensures { let find = known_at instances.now.entries in
+        IfOk result (AddsFirst (passes find wanted.condition) (chosen_by find) wanted.max
+        (looked entries.now.entries numbers.now.keys) chosen.old.items chosen.new.items) }
+{
+    let mut left = wanted.max;
+    let mut rest = numbers.iter();
+    'numbers: while left > 0 {
+        let Some(number) = rest.next() else {
+            return Ok(left);
+        };
+        if let Some(entry) = entries.get(number) {
+            if let Some(one) = judge(*number, entry, instances, wanted.condition) {
+                chosen.push(one)?;
+                left -= 1;
+            }
+        }
+    }
+    Ok(left)
+}
+
+/// Adds the first of the entries without a place that are wanted. Where only those are that no call
+/// answered, it goes over these alone. Answers how many more are wanted.
+fn choose_old<V, A: Allocator>(
+    chosen: &mut Vec<Chosen, A>,
+    entries: &BTreeMap<u64, Entry<V>, A>,
+    unread: &BTreeSet<u64, A>,
+    instances: &Instances<A>,
+    wanted: Wanted,
+) -> Result<usize, AllocError>
+    ensures { let find = known_at instances.now.entries in
+        unread.now.keys ≡ numbers (filter not_yet entries.now.entries)
+        → Rising 0 entries.now.entries
+        → IfOk result (AddsFirst (passes find wanted.condition) (chosen_by find) wanted.max
+        entries.now.entries chosen.old.items chosen.new.items) }
+{
+    if wanted.condition.not_read {
+        choose_unread(chosen, entries, unread, instances, wanted)
+    } else {
+        choose_all(chosen, entries, instances, wanted)
+    }
+}
+
+/// Adds the first of the entries at places that are wanted; the first place has this number.
+/// Answers how many more are.
+fn choose_placed<V, A: Allocator>(
+    chosen: &mut Vec<Chosen, A>,
+    first: u64,
+    row: &VecDeque<Option<Entry<V>>, A>,
+    instances: &Instances<A>,
+    wanted: Wanted,
+) -> Result<usize, AllocError>
+    requires { first + length row.now.items < 2 ^ 64 }
+    ensures { let find = known_at instances.now.entries in
+        IfOk result (AddsFirst (passes find wanted.condition) (chosen_by find) wanted.max
+        (placed first row.now.items) chosen.old.items chosen.new.items) }
+{
+    let mut number = first;
+    let mut left = wanted.max;
+    let mut rest = row.iter();
+    'places: while left > 0 {
+        let Some(place) = rest.next() else {
+            return Ok(left);
+        };
+        let at = number;
+        number += 1;
+        if let Some(one) = judge_place(at, place, instances, wanted.condition) {
+            chosen.push(one)?;
+            left -= 1;
+        }
+    }
+    Ok(left)
+}
+
+/// The first `max` entries that meet a condition, in order of acceptance.
+pub(crate) fn choose<V, A: Allocator + Copy>(
+    alloc: A,
+    shelf: &Shelf<V, A>,
     instances: &Instances<A>,
     max: usize,
     condition: Condition,
 ) -> Result<Vec<Chosen, A>, AllocError>
     ensures { let find = known_at instances.now.entries in
         IfOk result (λ chosen. chosen.items ≡ map (chosen_by find)
-        (first_by (passes find condition) max entries.now.entries)) }
+        (first_by (passes find condition) max shelf.now.entries)) }
 {
     let mut chosen = Vec::new(alloc);
-    let mut left = max;
-    let mut rest = entries.iter();
-    'entries: while left > 0 {
-        let Some((number, entry)) = rest.next() else {
-            return Ok(chosen);
-        };
-        if let Some(one) = judge(*number, entry, instances, condition) {
-            chosen.push(one)?;
-            left -= 1;
-        }
-    }
+    let wanted = Wanted { max, condition };
+    let max = choose_old(
+        &mut chosen,
+        &shelf.tree,
+        &shelf.tree_unread,
+        instances,
+        wanted,
+    )?;
+    let wanted = Wanted { max, condition };
+    choose_placed(&mut chosen, shelf.first, &shelf.row, instances, wanted)?;
     Ok(chosen)
-}
-
-/// The first `max` entries that no call answered and that meet a condition.
-fn choose_unread<V, A: Allocator + Copy>(
-    alloc: A,
-    entries: &BTreeMap<u64, Entry<V>, A>,
-    index: &Index<A>,
-    max: usize,
-    condition: Condition,
-) -> Result<Vec<Chosen, A>, AllocError>
-    ensures { let find = known_at index.now.instances.entries in
-        IfOk result (λ chosen. chosen.items ≡ map (chosen_by find)
-        (first_by (passes find condition) max
-        (looked entries.now.entries index.now.not_read.keys))) }
-{
-    let mut chosen = Vec::new(alloc);
-    let mut left = max;
-    let mut rest = index.not_read.iter();
-    'numbers: while left > 0 {
-        let Some(number) = rest.next() else {
-            return Ok(chosen);
-        };
-        if let Some(entry) = entries.get(number) {
-            if let Some(one) = judge(*number, entry, &index.instances, condition) {
-                chosen.push(one)?;
-                left -= 1;
-            }
-        }
-    }
-    Ok(chosen)
-}
-
-/// The first `max` entries that meet a condition, in order of acceptance. Where the condition asks
-/// for entries that no call answered, it goes over these alone.
-pub(crate) fn choose<V, A: Allocator + Copy>(
-    alloc: A,
-    entries: &BTreeMap<u64, Entry<V>, A>,
-    index: &Index<A>,
-    max: usize,
-    condition: Condition,
-) -> Result<Vec<Chosen, A>, AllocError>
-    ensures { let find = known_at index.now.instances.entries in
-        index.now.not_read.keys ≡ numbers (filter not_yet entries.now.entries)
-        → Rising 0 entries.now.entries
-        → IfOk result (λ chosen. chosen.items ≡ map (chosen_by find)
-        (first_by (passes find condition) max entries.now.entries)) }
-{
-    if condition.not_read {
-        choose_unread(alloc, entries, index, max, condition)
-    } else {
-        choose_all(alloc, entries, &index.instances, max, condition)
-    }
 }

@@ -1,13 +1,15 @@
 //! What is known of the instances of a cache (DDS 1.4, 2.2.2.5.1.3).
 
-ghost use Rattle.std.specs.Prelude.{◌≡◌, ◌<◌, IfOk, OnErr, OnOk, nat_lt, not, true};
-ghost use Rattle.std.specs.Bool.{OnFalse};
-ghost use Rattle.std.specs.List.{list_any};
+ghost use Rattle.std.specs.Prelude.{◌≡◌, ◌<◌, IfOk, OnErr, OnOk, nat_lt, true};
+ghost use Rattle.std.specs.BTreeSet.{insert_key};
 ghost use Rattle.std.specs.Option.{option_map};
-ghost use Rattle.dds_cache.specs.Effects.{ChangesAt, FindsSame, PopsOldest, disposed, fresh, left, seen, spent, valued, with_number, without_number};
+ghost use Rattle.std.specs.Ordering.{nat_cmp};
+ghost use Rattle.dds_cache.specs.Coming.{entered_by, given_up, kept_numbers, leaving, made};
+ghost use Rattle.dds_cache.specs.Effects.{ChangesAt, FindsSame, fresh, left, seen, spent, valued, with_numbers};
 ghost use Rattle.dds_cache.specs.Instances.{alive_by};
-ghost use Rattle.dds_cache.specs.Standing.{count_in, is_number, known, known_at, numbers_in};
+ghost use Rattle.dds_cache.specs.Standing.{count_in, known, known_at, numbers_in};
 
+use crate::history::History;
 use rtps_types::KeyHash;
 use std::alloc::{AllocError, Allocator};
 use std::collections::{BTreeMap, BTreeSet};
@@ -21,6 +23,18 @@ pub(crate) struct Instance<A: Allocator> {
     pub live: usize,
     /// The numbers of its entries, where the last so many are kept.
     pub numbers: BTreeSet<u64, A>,
+}
+
+/// An entry that comes.
+#[derive(Clone, Copy)]
+pub(crate) struct Arrival {
+    pub number: u64,
+    /// It is a value, and not the end of its instance.
+    pub is_value: bool,
+    /// Its writer wasn't live in the instance before.
+    pub joined: bool,
+    /// How many writers are live in all instances.
+    pub all: usize,
 }
 
 /// The instances of a cache, by their keys.
@@ -62,29 +76,72 @@ impl<A: Allocator> Instance<A> {
     }
 }
 
-/// A value of an instance came.
-pub(crate) fn note_value<A: Allocator>(
-    instances: &mut Instances<A>,
-    key: KeyHash,
-    joined: bool,
-    all: usize,
-)
-    ensures { (joined ≡ true → count_in (known_at instances.old.entries key) < all)
-        → ChangesAt key (option_map (valued joined)) (known_at instances.old.entries)
-        (known_at instances.new.entries) }
-{
-    if let Some(instance) = instances.get_mut(&key) {
-        instance.value(joined, all);
+impl<A: Allocator + Copy> Instance<A> {
+    /// Adds the number of an entry, and gives up the oldest one where there are more than `most`.
+    fn add_number(&mut self, number: u64, most: u32) -> Result<Option<u64>, AllocError>
+        ensures kept { OnOk result (known self.new ≡ with_numbers (kept_numbers most
+            (insert_key nat_cmp self.old.numbers.keys number)) (known self.old)) }
+        ensures oldest { IfOk result (λ oldest. oldest ≡ given_up most
+            (insert_key nat_cmp self.old.numbers.keys number)) }
+        ensures err { OnErr result (known self.new ≡ known self.old) }
+    {
+        match self.numbers.insert(number) {
+            Ok(_) => {}
+            Err(_) => return Err(AllocError),
+        }
+        if self.numbers.len() <= most as usize {
+            return Ok(None);
+        }
+        Ok(self.numbers.pop_first())
+    }
+
+    /// An entry of it came. Answers the number of the entry that has to leave, if one has.
+    fn enter(&mut self, keep: History, arrival: Arrival) -> Result<Option<u64>, AllocError>
+        ensures entered { (arrival.joined ≡ true → self.old.live < arrival.all)
+            → OnOk result (known self.new ≡ entered_by keep arrival (known self.old)) }
+        ensures oldest { IfOk result (λ oldest. oldest
+            ≡ leaving keep arrival.number self.old.numbers.keys) }
+        ensures err { OnErr result (known self.new ≡ known self.old) }
+    {
+        let oldest = match keep {
+            History::KeepLast(most) => self.add_number(arrival.number, most)?,
+            History::KeepAll => None,
+        };
+        if arrival.is_value {
+            self.value(arrival.joined, arrival.all);
+        } else {
+            self.is_disposed = true;
+        }
+        Ok(oldest)
     }
 }
 
-/// An instance was disposed.
-pub(crate) fn note_disposal<A: Allocator>(instances: &mut Instances<A>, key: KeyHash)
-    ensures { ChangesAt key (option_map disposed) (known_at instances.old.entries)
-        (known_at instances.new.entries) }
+/// An entry of an instance came, which is made where it isn't known. Answers the number of the
+/// entry that has to leave, if one has. After a refused growth nothing is changed.
+pub(crate) fn enter<A: Allocator + Copy>(
+    alloc: A,
+    instances: &mut Instances<A>,
+    key: KeyHash,
+    keep: History,
+    arrival: Arrival,
+) -> Result<Option<u64>, AllocError>
+    ensures entered { (arrival.joined ≡ true
+        → count_in (known_at instances.old.entries key) < arrival.all)
+        → OnOk result (ChangesAt key (made (entered_by keep arrival))
+        (known_at instances.old.entries) (known_at instances.new.entries)) }
+    ensures oldest { IfOk result (λ oldest. oldest ≡ leaving keep arrival.number
+        (numbers_in (known_at instances.old.entries key))) }
+    ensures err { OnErr result (FindsSame (known_at instances.old.entries)
+        (known_at instances.new.entries)) }
 {
     if let Some(instance) = instances.get_mut(&key) {
-        instance.is_disposed = true;
+        return instance.enter(keep, arrival);
+    }
+    let mut made = Instance::new(alloc);
+    let oldest = made.enter(keep, arrival)?;
+    match instances.insert(key, made) {
+        Ok(_) => Ok(oldest),
+        Err(_) => Err(AllocError),
     }
 }
 
@@ -116,58 +173,5 @@ pub(crate) fn note_taken<A: Allocator>(instances: &mut Instances<A>, key: KeyHas
     if let Some(instance) = instances.get_mut(&key) {
         instance.is_new = false;
         instance.numbers.remove(&number);
-    }
-}
-
-/// Adds the number of an entry to its instance's, where it isn't among them.
-pub(crate) fn add_number<A: Allocator + Copy>(
-    instances: &mut Instances<A>,
-    key: KeyHash,
-    number: u64,
-) -> Result<bool, AllocError>
-    ensures added { OnOk result (ChangesAt key (option_map (with_number number))
-        (known_at instances.old.entries) (known_at instances.new.entries)) }
-    ensures new { IfOk result (λ added. added ≡ not (list_any (is_number number)
-        (numbers_in (known_at instances.old.entries key)))) }
-    ensures there { IfOk result (λ added. OnFalse added
-        (FindsSame (known_at instances.old.entries) (known_at instances.new.entries))) }
-    ensures err { OnErr result (FindsSame (known_at instances.old.entries)
-        (known_at instances.new.entries)) }
-{
-    let Some(instance) = instances.get_mut(&key) else {
-        return Ok(true);
-    };
-    match instance.numbers.insert(number) {
-        Ok(added) => Ok(added),
-        Err(_) => Err(AllocError),
-    }
-}
-
-/// Takes the number of an entry out of its instance's.
-pub(crate) fn remove_number<A: Allocator>(instances: &mut Instances<A>, key: KeyHash, number: u64)
-    ensures { ChangesAt key (option_map (without_number number))
-        (known_at instances.old.entries) (known_at instances.new.entries) }
-{
-    if let Some(instance) = instances.get_mut(&key) {
-        instance.numbers.remove(&number);
-    }
-}
-
-/// Takes out the number of the oldest entry of an instance, where it has more than `most`.
-pub(crate) fn pop_oldest<A: Allocator>(
-    instances: &mut Instances<A>,
-    key: KeyHash,
-    most: u32,
-) -> Option<u64>
-    ensures { PopsOldest key most result (known_at instances.old.entries)
-        (known_at instances.new.entries) }
-{
-    let instance = instances.get_mut(&key)?;
-    if instance.numbers.len() <= most as usize {
-        return None;
-    }
-    match instance.numbers.pop_first() {
-        Some(oldest) => Some(oldest),
-        None => None,
     }
 }

@@ -11,9 +11,9 @@ mod index;
 mod instance;
 pub mod laws;
 mod leave;
-mod put;
 mod read;
 mod reader;
+mod shelf;
 mod state;
 mod take;
 

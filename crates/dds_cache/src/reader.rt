@@ -15,10 +15,10 @@ use crate::entry::Taken;
 use crate::history::History;
 use crate::index::Index;
 use crate::read::read_some;
+use crate::shelf::Shelf;
 use crate::take::{take_next, take_some};
 use rtps_reader::Notice;
 use std::alloc::{AllocError, AllocFailed, Allocator, Global};
-use std::collections::BTreeMap;
 use std::marker::Model;
 
 /// A reader's cache (DDS 1.4, 2.2.2.5): the values and the disposals of the notices that it
@@ -38,7 +38,7 @@ impl<V, A: Allocator> Model for DataReader<V, A> {
 
     ghost Value = { CacheView V };
 
-    ghost view = { λ r. kept r.index r.shelf.entries.entries };
+    ghost view = { λ r. kept r.index r.shelf.entries };
 }
 
 impl<V: Drop, A: Allocator + Copy> DataReader<V, A> {
@@ -53,7 +53,7 @@ impl<V: Drop, A: Allocator + Copy> DataReader<V, A> {
         DataReader {
             index: Index::new(alloc, keep),
             shelf: Answers {
-                entries: BTreeMap::new(alloc),
+                entries: Shelf::new(alloc),
                 answered: Vec::new(alloc),
             },
         }
@@ -70,7 +70,7 @@ impl<V: Drop, A: Allocator + Copy> DataReader<V, A> {
     pub fn is_empty(&self) -> bool
         ensures { IsTrue result ↔ (length self.now.entries ≡ 0) }
     {
-        self.shelf.entries.is_empty()
+        self.len() == 0
     }
 
     /// Accepts a notice. A value and a disposal are put after all other entries; where the last so

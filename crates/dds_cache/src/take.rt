@@ -6,8 +6,7 @@ ghost use Rattle.dds_cache.specs.Calls.{Done, WasTaken};
 ghost use Rattle.rtps_types.specs.declared.identity.KeyHash.{KeyHash};
 ghost use Rattle.std.specs.Option.{option_map};
 ghost use Rattle.std.specs.Map.{lookup, remove_entry};
-ghost use Rattle.std.specs.Set.{remove_key};
-ghost use Rattle.dds_cache.specs.Effects.{ChangesAt, IsSame, drop_each, each, shown_as, spend_each, spent, take_each, take_shown};
+ghost use Rattle.dds_cache.specs.Effects.{ChangesAt, IsSame, each, shown_as, spend_each, spent, take_each, take_shown};
 ghost use Rattle.dds_cache.specs.Standing.{StandsBy, is_number, known_at, parts};
 
 use crate::choose::{Chosen, States, choose};
@@ -15,8 +14,8 @@ use crate::condition::Condition;
 use crate::entry::{Entry, Sample, Taken};
 use crate::index::Index;
 use crate::instance::note_taken;
+use crate::shelf::Shelf;
 use std::alloc::{AllocError, Allocator};
-use std::collections::BTreeMap;
 
 impl<V> Entry<V> {
     /// The entry with the states that it was chosen with.
@@ -40,29 +39,26 @@ impl<V> Entry<V> {
 /// Takes out an entry.
 pub(crate) fn forget<V, A: Allocator>(
     index: &mut Index<A>,
-    entries: &mut BTreeMap<u64, Entry<V>, A>,
+    entries: &mut Shelf<V, A>,
     chosen: Chosen,
 ) -> Option<Entry<V>>
     ensures entry { result ≡ lookup (is_number chosen.number) entries.old.entries }
     ensures left { entries.new.entries
         ≡ remove_entry (is_number chosen.number) entries.old.entries }
-    ensures not_read { index.new.not_read.keys
-        ≡ remove_key (is_number chosen.number) index.old.not_read.keys }
     ensures find { ChangesAt chosen.key (option_map (spent chosen.number))
         (known_at index.old.instances.entries) (known_at index.new.instances.entries) }
-    ensures same { (index.new.keep ≡ index.old.keep) × (index.new.accepted ≡ index.old.accepted)
+    ensures same { (index.new.keep ≡ index.old.keep) × (entries.new.next ≡ entries.old.next)
         × (index.new.live.keys ≡ index.old.live.keys) }
 {
-    index.not_read.remove(&chosen.number);
     note_taken(&mut index.instances, chosen.key, chosen.number);
-    entries.remove(&chosen.number)
+    entries.remove(chosen.number)
 }
 
 /// Takes out these entries, and puts each with its states after those that were taken. There is
 /// room for them.
 pub(crate) fn hand_over<V: Drop, A: Allocator + Copy>(
     index: &mut Index<A>,
-    entries: &mut BTreeMap<u64, Entry<V>, A>,
+    entries: &mut Shelf<V, A>,
     chosen: &[Chosen],
     taken: &mut Vec<Taken<V>, A>,
 )
@@ -70,10 +66,9 @@ pub(crate) fn hand_over<V: Drop, A: Allocator + Copy>(
     ensures taken { taken.new.items
         ≡ taken.old.items ++ take_shown chosen.now entries.old.entries }
     ensures left { entries.new.entries ≡ take_each chosen.now entries.old.entries }
-    ensures not_read { index.new.not_read.keys ≡ drop_each chosen.now index.old.not_read.keys }
     ensures find { (k : KeyHash) → known_at index.new.instances.entries k
         ≡ each spend_each chosen.now k (known_at index.old.instances.entries k) }
-    ensures same { (index.new.keep ≡ index.old.keep) × (index.new.accepted ≡ index.old.accepted)
+    ensures same { (index.new.keep ≡ index.old.keep) × (entries.new.next ≡ entries.old.next)
         × (index.new.live.keys ≡ index.old.live.keys) }
 {
     for one in chosen {
@@ -87,22 +82,22 @@ pub(crate) fn hand_over<V: Drop, A: Allocator + Copy>(
 pub(crate) fn take_some<V: Drop, A: Allocator + Copy>(
     alloc: A,
     index: &mut Index<A>,
-    entries: &mut BTreeMap<u64, Entry<V>, A>,
+    entries: &mut Shelf<V, A>,
     max: usize,
     condition: Condition,
 ) -> Result<Vec<Taken<V>, A>, AllocError>
     ensures answers { (past : List (Done V))
-        → StandsBy past (parts index.old entries.old.entries)
+        → StandsBy past (parts index.old entries.old)
         → IfOk result (λ taken. taken.items ≡ answered index.old.keep past max condition) }
     ensures stands { (past : List (Done V))
-        → StandsBy past (parts index.old entries.old.entries)
+        → StandsBy past (parts index.old entries.old)
         → OnOk result (StandsBy (WasTaken max condition ∷ past)
-        (parts index.new entries.new.entries)) }
+        (parts index.new entries.new)) }
     ensures keep { index.new.keep ≡ index.old.keep }
-    ensures err { OnErr result (IsSame (parts index.old entries.old.entries)
-        (parts index.new entries.new.entries)) }
+    ensures err { OnErr result (IsSame (parts index.old entries.old)
+        (parts index.new entries.new)) }
 {
-    let chosen = choose(alloc, entries, index, max, condition)?;
+    let chosen = choose(alloc, entries, &index.instances, max, condition)?;
     let mut taken = Vec::with_capacity(alloc, chosen.len())?;
     hand_over(index, entries, &chosen, &mut taken);
     Ok(taken)
@@ -111,23 +106,23 @@ pub(crate) fn take_some<V: Drop, A: Allocator + Copy>(
 /// Takes the first entry that no call answered. No memory is taken.
 pub(crate) fn take_next<V: Drop, A: Allocator>(
     index: &mut Index<A>,
-    entries: &mut BTreeMap<u64, Entry<V>, A>,
+    entries: &mut Shelf<V, A>,
 ) -> Option<Taken<V>>
     ensures answer { (past : List (Done V))
-        → StandsBy past (parts index.old entries.old.entries)
+        → StandsBy past (parts index.old entries.old)
         → option_to_list result ≡ answered index.old.keep past 1 unread }
     ensures stands { (past : List (Done V))
-        → StandsBy past (parts index.old entries.old.entries)
-        → StandsBy (WasTaken 1 unread ∷ past) (parts index.new entries.new.entries) }
+        → StandsBy past (parts index.old entries.old)
+        → StandsBy (WasTaken 1 unread ∷ past) (parts index.new entries.new) }
     ensures keep { index.new.keep ≡ index.old.keep }
 {
-    let Some(number) = index.not_read.first() else {
+    let Some(number) = entries.first_unread() else {
         return None;
     };
     let Some(entry) = entries.get(number) else {
         return None;
     };
-    let chosen = States::of(&index.instances, entry.key).show(*number, entry);
+    let chosen = States::of(&index.instances, entry.key).show(number, entry);
     match forget(index, entries, chosen) {
         Some(entry) => Some(entry.into_sample(chosen)),
         None => None,

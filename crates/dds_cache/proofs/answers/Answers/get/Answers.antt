@@ -17,5 +17,5 @@ returns g c =
     let test : ltb c.args.at (length c.deref.result.now) ≡ true = sym c.in_ok-chosen.ensures.lookup.0 in
     let within : c.args.at < length c.deref.result.now = grind (arith, nat_tests) in
     let first : slice_get l c.args.at ≡ Some one = ap (λ x. slice_get x c.args.at) (sym c.deref.ensures.value) ∙ slice_get_read c.deref.result.now (length c.deref.result.now) c.args.at one refl within c.in_ok-chosen.ensures.lookup.1 in
-    let found : lookup (is_number one.number) es ≡ Some c.in_ok-entry.entry.now = sym c.get-2.ensures.value ∙ ap option_copied c.in_ok-entry.was in
+    let found : lookup (is_number one.number) es ≡ Some c.in_ok-entry.entry.now = sym c.get-2.ensures ∙ ap option_copied c.in_ok-entry.was in
     sym (ap joined (slice_get-map (answer_at es) l c.args.at ∙ ap (option_map (answer_at es)) first) ∙ ap (option_map (λ e. shown_as e one)) found ∙ ap (λ s. Some s) (sym c.lend.ensures))

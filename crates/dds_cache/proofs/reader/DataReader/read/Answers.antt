@@ -15,13 +15,13 @@ returns-in-Ok g c =
         λ _. tt,
         (
           keep,
-          (λ past s. from_parts (WasRead c.args.max c.args.condition ∷ past) c.read_some.new.index c.read_some.new.shelf.entries.entries (c.in-Ok.ensures.stands past (to_parts past i.index i.shelf.entries.entries (subst (StandsAt past) (sym c.self.view_is) s)))),
+          (λ past s. from_parts (WasRead c.args.max c.args.condition ∷ past) c.read_some.new.index c.read_some.new.shelf.entries (c.in-Ok.ensures.stands past (to_parts past i.index i.shelf.entries (subst (StandsAt past) (sym c.self.view_is) s)))),
           (λ past s. tt),
         ),
       ),
       record {
         after = tt;
-        answers = λ past s. c.in-Ok.ensures.answers past (to_parts past i.index i.shelf.entries.entries (subst (StandsAt past) (sym c.self.view_is) s))
+        answers = λ past s. c.in-Ok.ensures.answers past (to_parts past i.index i.shelf.entries (subst (StandsAt past) (sym c.self.view_is) s))
             ∙ ap (λ (k : CacheView g.row.V.Denot). map (λ x. Some x) (answered k.keep past c.args.max c.args.condition)) c.self.view_is;
       },
     )
@@ -36,7 +36,7 @@ returns-in-Err g c =
         (
           keep,
           (λ past s. tt),
-          (λ past s. from_parts past c.read_some.new.index c.read_some.new.shelf.entries.entries (stands_same past (parts {A = g.row.A.Denot} i.index i.shelf.entries.entries) (parts {A = g.row.A.Denot} c.read_some.new.index c.read_some.new.shelf.entries.entries) c.in-Err.ensures.err (to_parts past i.index i.shelf.entries.entries (subst (StandsAt past) (sym c.self.view_is) s)))),
+          (λ past s. from_parts past c.read_some.new.index c.read_some.new.shelf.entries (stands_same past (parts {A = g.row.A.Denot} i.index i.shelf.entries) (parts {A = g.row.A.Denot} c.read_some.new.index c.read_some.new.shelf.entries) c.in-Err.ensures.err (to_parts past i.index i.shelf.entries (subst (StandsAt past) (sym c.self.view_is) s)))),
         ),
       ),
       record { after = tt; answers = λ past s. tt },
