@@ -1,6 +1,7 @@
 //! What can stand in a key.
 
 ghost use Rattle.std.specs.Prelude.{◌≡◌, OnOk};
+ghost use Rattle.rtps_cdr.specs.declared.fault.CdrFault.{CdrFault};
 ghost use Rattle.rtps_cdr.specs.Writing.{appended};
 ghost use Rattle.dds_topic.specs.Answer.{Gives};
 ghost use Rattle.dds_struct.specs.Value.{value};
@@ -88,14 +89,16 @@ impl<S: KeyMember, T: KeyMember> KeyMember for (S, T) {
 
 /// Reads a value of a type, and writes it.
 ///
-/// `Unread::Malformed` says that no value of the type stands there.
+/// `Unread::Malformed` says that no value of the type stands there, and then nothing is written.
 pub fn copy_member<K: KeyMember, A: Allocator>(
     alloc: Global,
     reader: &mut CdrReader<'_>,
     writer: &mut CdrWriter<A>,
 ) -> Result<(), CatalogError>
-    ensures { Gives (λ _. writer.new) result
+    ensures copied { Gives (λ _. writer.new) result
         (copied K.cdr (value K.cdr reader.old) writer.old) }
+    ensures unwritten { (fault : CdrFault) → value K.cdr reader.old ≡ Err fault
+        → writer.new ≡ writer.old }
 {
     let read = K::read(alloc, reader)?;
     Ok(read.write(writer)?)

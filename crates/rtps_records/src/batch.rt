@@ -91,8 +91,8 @@ impl<A: Allocator> Batch<A> {
     }
 
     /// Reads the next record of a file, after `number` others, and adds it: [`BatchEnd::More`]. The
-    /// end of the file or a fault there adds nothing. An error is a refused growth, and then nothing
-    /// is read.
+    /// end of the file or a fault there adds nothing. An error is a refused growth, and then
+    /// nothing is read.
     #[tactic(auto, unfolding(crate::specs::Steps::ReadsOne))]
     pub(crate) fn read<R: Read>(
         &mut self,

@@ -42,8 +42,8 @@ impl<'a, W: Write, A: Allocator> Lines<'a, W, Vec<u8, A>> {
     }
 
     /// Writes the text where there are 64 KiB of it or more, and empties it; a shorter one is kept
-    /// back. A fault is always `CannotWrite`; a front of the text may have been written then, and the
-    /// text stays as it is.
+    /// back. A fault is always `CannotWrite`; a front of the text may have been written then, and
+    /// the text stays as it is.
     pub fn write_if_full(&mut self) -> Result<(), RunFault>
         ensures same_writer { self.new.writer.ghost_name ≡ self.old.writer.ghost_name }
         ensures ok { OnOk result (Spills (W.contents self.old.writer.now)

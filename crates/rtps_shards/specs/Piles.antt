@@ -8,8 +8,8 @@ use Rattle.rtps_shards.specs.declared.jobs.JobResult.{JobResult}
 use Rattle.rtps_shards.specs.declared.jobs.ReaderJob.{ReaderJob}
 use Rattle.rtps_shards.specs.Results.{IsDone, IsReady, Share, rank_in, rank_of}
 
--- Things are dealt out round and round to so many workers, these of them from a number on: those that
--- are one worker's.
+-- things that are counted from a number on are dealt out round and round to so many workers: those
+-- of one worker
 abbrev pub dealt_to : {X : Type 0} → ℕ → ℕ → ℕ → List X → List X
 dealt_to workers worker at [] = []
 dealt_to workers worker at (x ∷ xs) =

@@ -58,7 +58,8 @@ where
     /// No datagram was taken, and nothing was printed.
     pub(crate) fn new(alloc: Global, setup: Setup<C>) -> Result<RunLines<C>, AllocError>
         ensures same { IfOk result (λ run. (run.participant.engine.catalog ≡ setup.catalog) ×
-            (run.participant.engine.config ≡ setup.config) × (run.summary ≡ setup.summary)) }
+            (run.participant.engine.config ≡ setup.config) × (run.summary ≡ setup.summary)
+            × (run.pace ≡ setup.pace)) }
         ensures fresh { IfOk result (λ run.
             HasSaid C.text_of C.decoding [] [] run.participant.engine) }
     {
