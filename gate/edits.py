@@ -7,7 +7,9 @@ written: a body changes no contract, so the goals of its callers stay what they 
 answers against them. Without answers a function waits for those that it calls, so they are not tried together. Edits
 whose functions wait for others that were edited are tried again, without those that were refused. What leaves a doubt
 is tried alone, by a check of the whole crate: an edit outside a function's body, one in several functions, and one that
-was not refused among others. An edit of a function that another's proof names is never among others.
+was not refused among others. An edit of a function that another's proof names is never among others. Where an edit that is
+tried alone has a function in `refused_by.txt`, a check of this one comes first, and one of the whole crate only where it is
+still proved.
 """
 
 import re
@@ -63,6 +65,8 @@ class Edit:
     """File, old text and new text of each change."""
     function: Function = None
     """The function whose body holds all changes, if one does."""
+    by: str = ""
+    """A function that refuses it, as the checker calls it, where it is tried alone and one is known."""
 
 
 class BadEdit(Exception):
@@ -87,6 +91,12 @@ def read_edit(path):
     if not pairs:
         raise BadEdit("it has no old and new text")
     return Edit(path.stem, pairs)
+
+
+def refusers(text):
+    """By name of an edit, with its crate's, the function that a line `CRATE/EDIT: FUNCTION` says to refuse it."""
+    lines = (line.partition(": ") for line in text.splitlines() if not line.startswith("#"))
+    return {name: function.strip() for name, _, function in lines}
 
 
 def apply(edit, texts, folder):
@@ -256,6 +266,12 @@ def unreadable(edit, lines):
         if found[2] or not found[3] or re.search(cannot, said):
             return line
     return None
+
+
+def is_refused_by(edit, status, lines):
+    """Whether a check of the function that is known to refuse an edit says that it is not proved."""
+    is_said = any(re.match(rf"fn {re.escape(edit.by)}: (no proof|not proved)", line) for line in lines)
+    return status == 1 and is_said and not unreadable(edit, lines)
 
 
 def judge_alone(edit, status, lines):

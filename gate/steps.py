@@ -5,7 +5,7 @@ import re
 import shutil
 import subprocess
 import tempfile
-from dataclasses import dataclass, field
+from dataclasses import dataclass, field, replace
 from pathlib import Path
 
 from gate import edits as editing
@@ -13,6 +13,7 @@ from gate.crates import PARTS, TOP, proof_sum, sum_of
 from gate.rooms import copied
 from gate.tasks import Done, Task, run
 
+REFUSED_BY = TOP / "gate" / "refused_by.txt"
 LISTENER = "rtps_listen"
 """The program of the conformance rows, and of ./run."""
 SCRIPTS = (("conformance rows", "run.py"), ("one file by many cuts", "cuts.py"))
@@ -197,18 +198,23 @@ def edits_sum(crate, toolchain):
 
 
 def try_edits(gate, crate, group, is_whole, jobs):
-    """Tries edits in one check of a copy of a crate: of the modules of their functions, or of the whole crate for one
-    that is alone. Those that leave a doubt are tried again, or alone."""
+    """Tries edits in one check of a copy of a crate: of the modules of their functions, or for one that is alone of
+    the function that is known to refuse it, else of the whole crate. Those that leave a doubt are tried again, or alone."""
     texts = {}
     for edit in group:
         editing.apply(edit, texts, crate.folder)
-    asked = [] if is_whole else dict.fromkeys(edit.function.asked(crate.name) for edit in group)
+    known = [edit.by for edit in group if edit.by and is_whole]
+    asked = known if is_whole else dict.fromkeys(edit.function.asked(crate.name) for edit in group)
     words = [word for path in asked for word in ("--only", path)]
     with gate.rooms.room(crate, texts) as inside:
         ran = run(["rt", "check", "--jobs", str(jobs), *words], inside.folder)
     lines = ran.text.splitlines()
     done = Done(seconds=ran.seconds)
-    if is_whole:
+    if known:
+        refused = group if editing.is_refused_by(group[0], ran.status, lines) else []
+        done.says = "refused" if refused else "to be tried by a check of the whole crate"
+        done.more = [] if refused else [edits_task(gate, crate, [replace(group[0], by="")], True)]
+    elif is_whole:
         is_refused, done.says = editing.judge_alone(group[0], ran.status, lines)
         refused = group if is_refused else []
         if not is_refused:
@@ -240,12 +246,12 @@ def edits_tasks(gate, crate):
     """Tasks that try a crate's edits, where anything that they hang on has changed since all were refused, the number
     of edits whose refusal still holds, and the names and faults of those that can't be applied."""
     files = sorted((crate.folder / "must-fail").glob("*")) if (crate.folder / "must-fail").is_dir() else []
-    found, bad = [], []
+    found, bad, known = [], [], editing.refusers(REFUSED_BY.read_text(encoding="utf-8"))
     for path in files:
         try:
             if path.suffix != ".edit":
                 raise editing.BadEdit("a file of must-fail ends in .edit")
-            edit = editing.read_edit(path)
+            edit = replace(editing.read_edit(path), by=known.get(f"{crate.name}/{path.stem}", ""))
             editing.apply(edit, {}, crate.folder)
             found.append(edit)
         except (editing.BadEdit, ValueError) as fault:

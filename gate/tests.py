@@ -330,6 +330,15 @@ class Edits(Repository):
         bad = "specs/One.antt:3:4: error: `one` is not in scope"
         self.assertFalse(edits.judge_alone(edit, 1, [bad, "logic=not-proved"])[0])
 
+    def test_a_function_may_be_known_that_refuses_an_edit(self):
+        known = edits.refusers("# edits\nlow/step: low::one\n")
+        step = edits.Edit("step", [("src/lib.rt", "STEP: u8 = 1", "STEP: u8 = 2")], by=known["low/step"])
+        self.assertTrue(edits.is_refused_by(step, 1, LINES))
+        self.assertFalse(edits.is_refused_by(step, 1, LINES[:2]))
+        self.assertFalse(edits.is_refused_by(step, 0, ["fn low::one: proved"]))
+        bad = "src/lib.rt:3:4: error: `STEP` is not in scope"
+        self.assertFalse(edits.is_refused_by(step, 1, [bad, *LINES]))
+
 
 def edits_in(case):
     """The three edits, each with its function."""

@@ -7,3 +7,4 @@ mod Pieces
 pub mod Giving
 mod Dealing
 mod Leaving
+mod Counting

@@ -10,6 +10,10 @@ pub record ParticipantView (C : Type 0) : Type 0 where
   -- how many batches were taken
   pub batches : ℕ
 
+-- the count of so many batches: it stays at 2^64 - 1
+abbrev pub counted : ℕ → ℕ
+counted taken = min taken (2 ^ 64 - 1)
+
 -- one batch more, where the count doesn't pass 2^64 - 1
 abbrev pub one_more : ℕ → ℕ
 one_more batches = min (batches + 1) (2 ^ 64 - 1)

@@ -11,7 +11,7 @@ ghost use Rattle.rtps_reader.specs.Standing.{ReaderView};
 ghost use Rattle.rtps_shards.specs.Results.{Share, rank_in, rank_of};
 ghost use Rattle.dds_participant.specs.Batch.{IsFinishedBy, Keeps, OnlyRuns, failing};
 ghost use Rattle.dds_participant.specs.Given.{IsGiven, LeavesLists};
-ghost use Rattle.dds_participant.specs.Kept.{RefusesBatch, TakesBatch};
+ghost use Rattle.dds_participant.specs.Kept.{RefusesBatch, TakesBatch, counted};
 ghost use Rattle.dds_participant.specs.Sharing.{AllShare, ArePaired, AreRun, state_rank};
 
 use crate::decode::{Arrived, decoded, places_of};
@@ -87,6 +87,8 @@ impl<C: Catalog> Participant<C> {
         requires fit { All (λ d. length d.now ≤ 65507) datagrams.now }
         requires workers { (1 ≤ workers) × (workers ≤ 64) }
         ensures takes { TakesBatch (length datagrams.now) result self.old self.new }
+        ensures counts { (taken : ℕ) → self.old.batches ≡ counted taken
+            → OnOk result (self.new.batches ≡ counted (taken + 1)) }
         ensures same { (self.new.engine.catalog ≡ self.old.engine.catalog)
             × (self.new.engine.config ≡ self.old.engine.config) }
         ensures stands { (earlier : List (List ℕ)) → StandsAt C.decoding earlier self.old.engine
@@ -131,6 +133,8 @@ impl<C: Catalog> Participant<C> {
         requires fit { All (λ d. length d.now ≤ 65507) datagrams.now }
         requires workers { (1 ≤ workers.now.count) × (workers.now.count ≤ 64) }
         ensures takes { TakesBatch (length datagrams.now) result self.old self.new }
+        ensures counts { (taken : ℕ) → self.old.batches ≡ counted taken
+            → OnOk result (self.new.batches ≡ counted (taken + 1)) }
         ensures same { (self.new.engine.catalog ≡ self.old.engine.catalog)
             × (self.new.engine.config ≡ self.old.engine.config) }
         ensures stands { (earlier : List (List ℕ)) → StandsAt C.decoding earlier self.old.engine

@@ -8,9 +8,8 @@ mod routed;
 mod stress;
 
 use crate::*;
-use dds_qos::{Reliability, Requested};
 use dds_topic::{Catalog, Shape, Shapes};
-use rtps_discovery::{Config, FixedMatch, ReaderConfig};
+use rtps_discovery::{Config, ReaderConfig};
 use rtps_reader::{Body, NoticeKind, Status};
 use rtps_serial::Report;
 use rtps_shards::{Gate, NoGate};
@@ -43,25 +42,15 @@ const LATER: &[u8] = b"RTPS\x02\x05\x00\x00\
 const ALL: [&[u8]; 3] = [DATA, HEARTBEAT, LATER];
 
 fn reader_config(alloc: Global, rank: u8) -> Result<ReaderConfig, AllocError> {
-    let mut requested = Requested::new(alloc);
-    requested.policies.reliability = Reliability::Reliable;
-    Ok(ReaderConfig {
-        entity: EntityId([0, 0, rank.wrapping_add(1), 7]),
-        topic: String::from_str(alloc, "Square")?,
-        type_name: String::from_str(alloc, "ShapeType")?,
-        requested,
-    })
+    let entity = EntityId([0, 0, rank.wrapping_add(1), 7]);
+    Ok(ReaderConfig::new(alloc, entity, "Square", "ShapeType")?.reliable())
 }
 
 /// So many reliable readers that are matched with no writer.
 fn unmatched(alloc: Global, readers: u8) -> Result<Config, AllocError> {
-    let mut config = Config {
-        own: GuidPrefix([0x0b; 12]),
-        readers: Vec::new(alloc),
-        fixed: Vec::new(alloc),
-    };
+    let mut config = Config::new(alloc, GuidPrefix([0x0b; 12]));
     for rank in 0..readers {
-        config.readers.push(reader_config(alloc, rank)?)?;
+        config.add_reader(reader_config(alloc, rank)?)?;
     }
     Ok(config)
 }
@@ -70,14 +59,11 @@ fn unmatched(alloc: Global, readers: u8) -> Result<Config, AllocError> {
 fn config(alloc: Global) -> Result<Config, AllocError> {
     let mut config = unmatched(alloc, 2)?;
     for rank in [0, 1] {
-        config.fixed.push(FixedMatch {
-            rank,
-            writer: Guid {
-                prefix: GuidPrefix([0x0a; 12]),
-                entity: EntityId([0, 0, 1, 2]),
-            },
-            locators: Locators::new(Vec::new(alloc)),
-        })?;
+        let writer = Guid {
+            prefix: GuidPrefix([0x0a; 12]),
+            entity: EntityId([0, 0, 1, 2]),
+        };
+        config.add_fixed(rank, writer, Locators::new(Vec::new(alloc)))?;
     }
     Ok(config)
 }

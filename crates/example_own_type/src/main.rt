@@ -4,7 +4,6 @@
 
 mod reading;
 
-use dds_qos::{Reliability, Requested};
 use dds_struct::Structs;
 use reading::Reading;
 use rtps_discovery::{Config, ReaderConfig, check};
@@ -38,18 +37,8 @@ fn main(rt: HostRuntime) -> ExitCode {
 
 /// A participant with one reliable reader of the topic `Readings`.
 fn config(alloc: Global) -> Result<Config, AllocError> {
-    let mut requested = Requested::new(alloc);
-    requested.policies.reliability = Reliability::Reliable;
-    let mut readers = Vec::new(alloc);
-    readers.push(ReaderConfig {
-        entity: EntityId([0, 0, 1, 7]),
-        topic: String::from_str(alloc, "Readings")?,
-        type_name: String::from_str(alloc, "Reading")?,
-        requested,
-    })?;
-    Ok(Config {
-        own: GuidPrefix([0x0b; 12]),
-        readers,
-        fixed: Vec::new(alloc),
-    })
+    let mut config = Config::new(alloc, GuidPrefix([0x0b; 12]));
+    let reader = ReaderConfig::new(alloc, EntityId([0, 0, 1, 7]), "Readings", "Reading")?;
+    config.add_reader(reader.reliable())?;
+    Ok(config)
 }

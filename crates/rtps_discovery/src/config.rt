@@ -103,8 +103,8 @@ impl Config {
         writer: Guid,
         locators: Locators,
     ) -> Result<(), AllocError>
-        ensures added { OnOk result (self.new.fixed.items
-            ≡ self.old.fixed.items ++ (record { rank = rank; writer = writer; locators = locators }) ∷ []) }
+        ensures added { OnOk result (self.new.fixed.items ≡ self.old.fixed.items
+            ++ (record { rank = rank; writer = writer; locators = locators }) ∷ []) }
         ensures refused { OnErr result (self.new.fixed.items ≡ self.old.fixed.items) }
         ensures others { (self.new.own ≡ self.old.own) × (self.new.readers ≡ self.old.readers) }
     {

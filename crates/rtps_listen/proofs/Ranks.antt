@@ -1,5 +1,5 @@
 -- Readers and matches by their ranks, from 0 on.
-use Rattle.std.proofs.Common.{◌≡◌, ◌∙◌, ℕ, ◌+◌, ◌<◌, ◌≤◌, zero, suc, List, [], ◌∷◌, ◌++◌, map, Bool, true, false, refl, sym, ap, ap₂, arith}
+use Rattle.std.proofs.Common.{◌≡◌, ◌∙◌, ℕ, ◌+◌, ◌<◌, ◌≤◌, zero, suc, List, [], ◌∷◌, ◌++◌, map, Bool, true, false, Option, Some, None, refl, sym, ap, ap₂, arith}
 use Rattle.std.specs.List.{list_any, range_with_len}
 use Rattle.std.proofs.lemmas.List.{map-append}
 use Rattle.std.proofs.lemmas.List.FromFn.{map-range_with_len_more}
@@ -8,7 +8,8 @@ use Rattle.dds_qos.specs.declared.policies.Reliability.{Reliability}
 use Rattle.rtps_discovery.specs.Config.{has_twice}
 use Rattle.rtps_discovery.specs.declared.config.ReaderConfig.{ReaderConfig}
 use Rattle.rtps_discovery.specs.Start.{wish_of}
-use Rattle.rtps_listen.specs.Configs.{reader_of, readers_of}
+use Rattle.rtps_types.specs.declared.identity.Guid.{Guid}
+use Rattle.rtps_listen.specs.Configs.{match_at, match_of, matches_of, reader_of, readers_of}
 
 -- one rank more
 pub ranks_more : {X : Type 0} (f : ℕ → X) (n : ℕ) → map f (range_with_len 0 (n + 1)) ≡ map f (range_with_len 0 n) ++ f n ∷ []
@@ -19,6 +20,11 @@ pub readers_more : (all before : List ReaderConfig) (last : ReaderConfig) (topic
     → map wish_of before ≡ readers_of topic reliability n → wish_of last ≡ reader_of topic reliability n → map wish_of all ≡ readers_of topic reliability (n + 1)
 readers_more all before last topic reliability n more have is =
     ap (map wish_of) more ∙ map-append wish_of before (last ∷ []) ∙ ap₂ (λ xs x. xs ++ x ∷ []) have is ∙ sym (ranks_more (reader_of topic reliability) n)
+
+-- and one more match of each, where there is a writer
+pub matches_more : (writer : Option Guid) (n : ℕ) → matches_of writer (n + 1) ≡ matches_of writer n ++ match_at writer n
+matches_more None n = refl
+matches_more (Some writer) n = ranks_more (match_of writer) n
 
 -- no item of some ranks passes a test
 pub no_rank_passes : {X : Type 0} (p : X → Bool) (f : ℕ → X) (a n : ℕ) → ((k : ℕ) → a ≤ k → k < a + n → p (f k) ≡ false) → list_any p (map f (range_with_len a n)) ≡ false

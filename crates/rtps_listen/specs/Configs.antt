@@ -48,6 +48,11 @@ readers_of topic reliability count = map (reader_of topic reliability) (range_wi
 abbrev pub match_of : Guid → ℕ → FixedMatch
 match_of writer rank = record { rank = rank; writer = writer; locators = [] }
 
+-- the match of the reader of a rank with the writer, where there is one
+abbrev pub match_at : Option Guid → ℕ → List FixedMatch
+match_at None rank = []
+match_at (Some writer) rank = match_of writer rank ∷ []
+
 -- a match of each of so many readers with the writer, where there is one
 abbrev pub matches_of : Option Guid → ℕ → List FixedMatch
 matches_of None count = []

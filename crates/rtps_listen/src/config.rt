@@ -1,15 +1,13 @@
 //! The configuration that the options of `replay` ask for.
 
-ghost use Rattle.std.specs.Prelude.{◌≡◌, ◌<◌, ◌≤◌, ◌↔◌, IfErr, IfOk, IsOk, Ok, map};
+ghost use Rattle.std.specs.Prelude.{◌≡◌, ◌<◌, ◌++◌, ◌↔◌, IfErr, IfOk, IsOk, Ok, OnOk};
 ghost use Rattle.rtps_discovery.specs.Config.{check_of};
 ghost use Rattle.rtps_discovery.specs.Start.{wish_of};
-ghost use Rattle.rtps_listen.specs.Configs.{IsCause, IsConfigOf, IsFixedText, IsMadeOf, NamesWriter, Refuses, matches_of, reader_of, readers_of, reliability_of};
+ghost use Rattle.rtps_listen.specs.Configs.{IsCause, IsConfigOf, IsFixedText, IsMadeOf, NamesWriter, Refuses, match_at, reader_of, reliability_of};
 
 use crate::fault::ListenFault;
 use crate::options::Options;
-use crate::prefix::{prefix_of, writer_of};
-use dds_qos::{Reliability, Requested};
-use rtps_discovery::{Config, FixedMatch, ReaderConfig, check};
+use rtps_discovery::{Config, ReaderConfig, check};
 use rtps_records::RunFault;
 use rtps_types::{EntityId, Guid, GuidPrefix, Locators};
 use std::alloc::{AllocError, Global};
@@ -17,77 +15,44 @@ use std::alloc::{AllocError, Global};
 /// The type of each reader.
 const TYPE_NAME: &str = "ShapeType";
 
-/// What readers ask for: a best-effort one asks for nothing again.
-fn reliability_of(best_effort: bool) -> Reliability
-    ensures { result ≡ reliability_of best_effort }
-{
-    if best_effort {
-        Reliability::BestEffort
-    } else {
-        Reliability::Reliable
-    }
-}
-
-/// The reader of a rank.
+/// The reader of a rank, which asks for what it misses unless it is a best-effort one.
 fn reader_for(
     alloc: Global,
     topic: &str,
-    reliability: Reliability,
+    best_effort: bool,
     rank: u8,
 ) -> Result<ReaderConfig, AllocError>
     requires { rank < 8 }
-    ensures { IfOk result (λ reader. wish_of reader ≡ reader_of topic.now reliability rank) }
+    ensures { IfOk result (λ reader. wish_of reader
+        ≡ reader_of topic.now (reliability_of best_effort) rank) }
 {
-    let mut requested = Requested::new(alloc);
-    requested.policies.reliability = reliability;
-    Ok(ReaderConfig {
-        entity: EntityId([0x00, 0x00, rank + 1, 0x07]),
-        topic: String::from_str(alloc, topic)?,
-        type_name: String::from_str(alloc, TYPE_NAME)?,
-        requested,
-    })
-}
-
-/// The readers, in the order of their ranks.
-#[tactic(auto, using(crate::proofs::Ranks::readers_more))]
-fn readers_for(
-    alloc: Global,
-    topic: &str,
-    reliability: Reliability,
-    count: u8,
-) -> Result<Vec<ReaderConfig>, AllocError>
-    requires { count ≤ 8 }
-    ensures { IfOk result (λ readers. map wish_of readers.items ≡
-        readers_of topic.now reliability count) }
-{
-    let mut readers = Vec::new(alloc);
-    for rank in 0..count {
-        readers.push(reader_for(alloc, topic, reliability, rank)?)?;
+    let entity = EntityId([0x00, 0x00, rank + 1, 0x07]);
+    let reader = ReaderConfig::new(alloc, entity, topic, TYPE_NAME)?;
+    if best_effort {
+        Ok(reader)
+    } else {
+        Ok(reader.reliable())
     }
-    Ok(readers)
 }
 
-/// A match of each reader with the writer, where there is one.
-#[tactic(auto, using(crate::proofs::Ranks::ranks_more))]
-fn matches_for(
+/// Adds a match of the reader of a rank with the writer, where there is one.
+fn match_with(
+    config: &mut Config,
     alloc: Global,
     writer: Option<Guid>,
-    count: u8,
-) -> Result<Vec<FixedMatch>, AllocError>
-    ensures { IfOk result (λ fixed. fixed.items ≡ matches_of writer count) }
+    rank: u8,
+) -> Result<(), AllocError>
+    ensures fixed { OnOk result (config.new.fixed.items
+        ≡ config.old.fixed.items ++ match_at writer rank) }
+    ensures others { (config.new.own ≡ config.old.own)
+        × (config.new.readers ≡ config.old.readers) }
 {
-    let mut fixed = Vec::new(alloc);
-    let Some(writer) = writer else {
-        return Ok(fixed);
-    };
-    for rank in 0..count {
-        fixed.push(FixedMatch {
-            rank: u32::from(rank),
-            writer,
-            locators: Locators::new(Vec::new(alloc)),
-        })?;
+    match writer {
+        Some(writer) => {
+            config.add_fixed(u32::from(rank), writer, Locators::new(Vec::new(alloc)))
+        }
+        None => Ok(()),
     }
-    Ok(fixed)
 }
 
 /// The configuration of the options, with what their texts write.
@@ -99,12 +64,13 @@ fn config_with(
 ) -> Result<Config, AllocError>
     ensures { IfOk result (IsMadeOf options.now own writer) }
 {
-    let reliability = reliability_of(options.best_effort);
-    Ok(Config {
-        own,
-        readers: readers_for(alloc, options.topic, reliability, options.readers)?,
-        fixed: matches_for(alloc, writer, options.readers)?,
-    })
+    let mut config = Config::new(alloc, own);
+    for rank in 0..options.readers {
+        let reader = reader_for(alloc, options.topic, options.best_effort, rank)?;
+        config.add_reader(reader)?;
+        match_with(&mut config, alloc, writer, rank)?;
+    }
+    Ok(config)
 }
 
 /// The writer that `--fixed` names, where it is given.
@@ -116,10 +82,10 @@ fn writer_in(fixed: Option<&str>) -> Result<Option<Guid>, ListenFault>
     let Some(text) = fixed else {
         return Ok(None);
     };
-    match writer_of(text) {
-        Some(writer) => Ok(Some(writer)),
-        None => Err(ListenFault::BadWriter),
-    }
+    let Ok(writer) = text.parse::<Guid>() else {
+        return Err(ListenFault::BadWriter);
+    };
+    Ok(Some(writer))
 }
 
 /// The configuration that the options ask for, which discovery takes. The readers of options are good
@@ -130,7 +96,7 @@ pub fn config_of(alloc: Global, options: &Options<'_>) -> Result<Config, ListenF
     ensures config { IfOk result (IsConfigOf options.now) }
     ensures taken { IfOk result (λ config. check_of config ≡ Ok tt) }
 {
-    let Some(own) = prefix_of(options.own) else {
+    let Ok(own) = options.own.parse::<GuidPrefix>() else {
         return Err(ListenFault::BadPrefix);
     };
     let writer = match writer_in(options.fixed) {

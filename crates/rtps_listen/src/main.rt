@@ -11,7 +11,6 @@ mod asked;
 mod config;
 mod fault;
 mod options;
-mod prefix;
 mod task;
 mod words;
 

@@ -12,7 +12,6 @@ use crate::asked::Asked;
 use crate::config::config_of;
 use crate::fault::ListenFault;
 use crate::options::{Options, SamplesOptions};
-use crate::prefix::prefix_of;
 use dds_cache::History;
 use dds_topic::{Raw, Shapes};
 use rtps_records::RunFault;
@@ -71,9 +70,9 @@ pub fn task_of(alloc: Global, asked: &Asked<'_>) -> Result<Task, ListenFault>
     ensures task { IfOk result (IsTaskOf asked.now) }
 {
     match asked {
-        Asked::Dump { own, .. } => match prefix_of(own) {
-            Some(own) => Ok(Task::Dump(own)),
-            None => Err(ListenFault::BadPrefix),
+        Asked::Dump { own, .. } => match own.parse::<GuidPrefix>() {
+            Ok(own) => Ok(Task::Dump(own)),
+            Err(_) => Err(ListenFault::BadPrefix),
         },
         Asked::Replay(options) => replay_of(alloc, options),
         Asked::Samples(samples) => samples_of(alloc, samples),

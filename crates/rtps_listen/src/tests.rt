@@ -4,11 +4,9 @@ mod replay;
 
 use crate::asked::{Asked, OWN};
 use crate::fault::ListenFault;
-use crate::prefix::prefix_of;
 use crate::words::read_words;
 use clap::error::ErrorKind;
 use rtps_records::RunFault;
-use rtps_types::GuidPrefix;
 use std::alloc::Global;
 use std::test::Fail;
 
@@ -123,21 +121,6 @@ fn bad_lines(rt: HostRuntime) -> Result<(), Fail> {
         }
     }
     Ok(())
-}
-
-#[test]
-fn prefixes(rt: HostRuntime) {
-    let own = GuidPrefix([0xab, 0xcd, 0xef, 0, 0, 0, 0, 0, 0, 0, 0, 0x12]);
-    assert_eq!(rt; prefix_of("aBcDEf000000000000000012"), Some(own));
-    for text in [
-        "",
-        "0b",
-        "abcdef00000000000000001",
-        "abcdef0000000000000000123",
-        "xbcdef000000000000000012",
-    ] {
-        assert_eq!(rt; prefix_of(text), None, "{text}");
-    }
 }
 
 #[test]

@@ -7,7 +7,7 @@ use Rattle.rtps_types.specs.declared.time.Timestamp.{Timestamp}
 use Rattle.rtps_receiver.specs.EventBody.{EventBody, FragmentView, Whole, Fragment, Heartbeat, Gap, HeartbeatFrag}
 use Rattle.rtps_proxy.specs.BestEffort.{Taken, above, begun_by, greatest, is_among, ready, ready_by, skipped, standing, taken, takes_fragments, top_of, with_ready}
 use Rattle.rtps_proxy.specs.Changes.{change_view}
-use Rattle.rtps_proxy.specs.Effects.{BestEffortStandsAt}
+use Rattle.rtps_proxy.specs.Effects.{BestEffortStandsAt, given_in}
 use Rattle.rtps_proxy.specs.Fragments.{Begun, begun_at, fits, fits_in, grown, is_faulty, opened, whole_at, with_fragments_of}
 use Rattle.rtps_proxy.specs.History.{MatchEvent, ChangeView}
 use Rattle.rtps_proxy.specs.Kept.{BestEffortView, takes_above}
@@ -277,12 +277,12 @@ abbrev pub brings : List MatchEvent → MatchEvent → List Begun
 brings past event = begun_by (taken past) event.time event.body
 
 module _ {A : Type 0} (past : List MatchEvent) (event : MatchEvent) where
-  pub receives : {E : Type 0} (s : ChangeView) → ready past event ≡ s ∷ [] → (old : ℕ) (bs : List Begun) → old ≡ top_of past → above s.number bs ≡ above s.number (brings past event)
-      → (new : BestEffortView) (result : Result (Effects A) E)
+  pub receives : {T E : Type 0} (s : ChangeView) → ready past event ≡ s ∷ [] → (old : ℕ) (bs : List Begun) → old ≡ top_of past → above s.number bs ≡ above s.number (brings past event)
+      → (new : BestEffortView) (effects : Effects A) (result : Result T E)
       → OnOk result (new.top ≡ s.number) → OnOk result (new.begun ≡ above s.number bs) → OnOk result (new.sound ≡ true)
-      → IfOk result (λ effects. effects.lost ≡ skipped old (s ∷ [])) → IfOk result (λ effects. map change_view effects.ready.items ≡ s ∷ []) → IfOk result (λ effects. effects.answer ≡ None)
-      → IfOk result (BestEffortStep past event new)
-  receives s is old bs was same new (Ok effects) top begun sound lost ready answer =
+      → OnOk result (effects.lost ≡ skipped old (s ∷ [])) → OnOk result (map change_view effects.ready.items ≡ s ∷ []) → OnOk result (effects.answer ≡ None)
+      → IfOk (given_in effects result) (BestEffortStep past event new)
+  receives s is old bs was same new effects (Ok done) top begun sound lost ready answer =
       let after : taken (event ∷ past) ≡ with_ready (brings past event) (top_of past) (s ∷ []) = ap (with_ready (brings past event) (top_of past)) is in
       record {
         stands = record { top = top ∙ sym (ap (λ (t : Taken). t.top) after); pending = begun ∙ same ∙ sym (ap (λ (t : Taken). t.begun) after); sound = sound };
@@ -290,7 +290,7 @@ module _ {A : Type 0} (past : List MatchEvent) (event : MatchEvent) where
         ready = ready ∙ sym is;
         answer = answer;
       }
-  receives s is old bs was same new (Err e) top begun sound lost ready answer = tt
+  receives s is old bs was same new effects (Err e) top begun sound lost ready answer = tt
 
   pub receives_none : ready past event ≡ [] → (new : BestEffortView) (effects : Effects A) → new.top ≡ top_of past → new.begun ≡ brings past event → new.sound ≡ true
       → effects.lost ≡ 0 → effects.ready.items ≡ [] → effects.answer ≡ None → BestEffortStep past event new effects

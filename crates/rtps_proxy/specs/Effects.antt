@@ -1,5 +1,5 @@
 -- What a proxy keeps of a history, and what it gives at an event.
-use Rattle.std.specs.Prelude.{◌≡◌, ℕ, ◌%◌, ◌^◌, Bool, true, false, List, ◌∷◌, map, Result, IfOk, IsErr, OnErr, OnOk, Option, Some, None, if◌then◌else◌, is_some, ℤ, int_lt}
+use Rattle.std.specs.Prelude.{◌≡◌, ℕ, ◌%◌, ◌^◌, Bool, true, false, List, [], ◌∷◌, map, Result, Ok, Err, IfOk, IsErr, OnErr, OnOk, Option, Some, None, if◌then◌else◌, is_some, ℤ, int_lt}
 use Rattle.std.specs.Option.{option_map}
 use Rattle.rtps_types.specs.declared.time.Timestamp.{Timestamp}
 use Rattle.rtps_receiver.specs.declared.body.Body.{Body}
@@ -83,3 +83,14 @@ pub record TakesIn {A E : Type 0} (old new : ProxyView) (event : MatchEvent) (re
   pub err : OnErr result (new.spent ≡ true)
   pub spent : old.spent ≡ true → IsErr result
   pub still : old.spent ≡ true → new ≡ old
+
+-- nothing was put into effects
+pub record GivesNothing {A : Type 0} (effects : Effects A) : Type 0 where
+  pub lost : effects.lost ≡ 0
+  pub ready : effects.ready.items ≡ []
+  pub answer : effects.answer ≡ None
+
+-- what a call gives that puts it into effects which are lent
+abbrev pub given_in : {A T E : Type 0} → Effects A → Result T E → Result (Effects A) E
+given_in effects (Ok done) = Ok effects
+given_in effects (Err e) = Err e

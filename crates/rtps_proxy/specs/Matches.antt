@@ -1,5 +1,5 @@
 -- The matches of a reader (DDSI-RTPS 8.4.10): between whom each is, and what came for it since it began.
-use Rattle.std.specs.Prelude.{◌≡◌, List, [], ◌∷◌, filter, Option, Some, None, Bool, true, not, ◌&&◌, if◌then◌else◌}
+use Rattle.std.specs.Prelude.{◌≡◌, List, [], ◌∷◌, filter, Option, Some, None, Bool, false, true, not, ◌&&◌, if◌then◌else◌}
 use Rattle.std.specs.Map.{lookup, set_value}
 use Rattle.std.specs.Str.{bytes_eq}
 use Rattle.std.specs.Ordering.{is_eq, match_ordering}
@@ -65,6 +65,11 @@ AreTaken None e None = Unit {0}
 AreTaken None e (Some effects) = ⊥
 AreTaken (Some m) e None = ⊥
 AreTaken (Some m) e (Some effects) = AreEffects m.pairing m.past e effects
+
+-- what was put into effects, where there is a match
+abbrev pub given_where : {A : Type 0} → Bool → Effects A → Option (Effects A)
+given_where false effects = None
+given_where true effects = Some effects
 
 abbrev pub is_at : Guid → Guid → Bool
 is_at w g = is_eq (guid_order w g)

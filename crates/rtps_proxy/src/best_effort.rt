@@ -1,10 +1,10 @@
 //! What a best-effort reader keeps of one writer (DDSI-RTPS 8.4.11).
 
-ghost use Rattle.std.specs.Prelude.{◌≡◌, ◌<◌, [], ◌∷◌, None, map, true, IfOk, OnOk};
+ghost use Rattle.std.specs.Prelude.{◌≡◌, ◌<◌, [], ◌∷◌, None, map, true, OnOk};
 ghost use Rattle.rtps_types.specs.Number.{value_of};
 ghost use Rattle.rtps_proxy.specs.BestEffort.{above, skipped};
 ghost use Rattle.rtps_proxy.specs.Changes.{change_view};
-ghost use Rattle.rtps_proxy.specs.Effects.{BestEffortStandsAt, match_event};
+ghost use Rattle.rtps_proxy.specs.Effects.{BestEffortStandsAt, GivesNothing, given_in, match_event};
 ghost use Rattle.rtps_proxy.specs.Kept.{best_effort_view, best_effort_first};
 ghost use Rattle.rtps_proxy.specs.Pending.{are_sound, pending_views};
 ghost use Rattle.rtps_proxy.specs.Steps.{BestEffortTakes};
@@ -36,20 +36,23 @@ impl<A: Allocator + Copy> BestEffort<A> {
         }
     }
 
-    /// Takes in what an event brings. All but changes, in one piece or in fragments, is ignored.
+    /// Takes in what an event brings, and puts what it gives into `effects`. All but changes, in one
+    /// piece or in fragments, is ignored.
     pub fn on_event<'a>(
         &mut self,
         alloc: A,
         time: Option<Timestamp>,
         brought: &Body<'a>,
-    ) -> Result<Effects<'a, A>, ProxyError>
+        effects: &mut Effects<'a, A>,
+    ) -> Result<(), ProxyError>
+        requires { GivesNothing effects.old }
         ensures { BestEffortTakes (best_effort_view self.old) (best_effort_view self.new)
-            (match_event time brought.now) result }
+            (match_event time brought.now) (given_in effects.new result) }
     {
         match brought {
-            Body::Whole(whole) => self.on_whole(alloc, time, whole),
-            Body::Fragment(fragment) => self.on_fragment(alloc, time, fragment),
-            _ => Ok(Effects::none(alloc)),
+            Body::Whole(whole) => self.on_whole(time, whole, effects),
+            Body::Fragment(fragment) => self.on_fragment(alloc, time, fragment, effects),
+            _ => Ok(()),
         }
     }
 
@@ -57,20 +60,21 @@ impl<A: Allocator + Copy> BestEffort<A> {
     /// The numbers that it skips are lost, none before the first change.
     pub fn receive<'a>(
         &mut self,
-        alloc: A,
         change: Change<'a, A>,
-    ) -> Result<Effects<'a, A>, ProxyError>
-        requires { self.old.top < value_of change.number }
+        effects: &mut Effects<'a, A>,
+    ) -> Result<(), ProxyError>
+        requires above { self.old.top < value_of change.number }
+        requires nothing { GivesNothing effects.old }
         ensures top { OnOk result (self.new.top ≡ value_of change.entry.number) }
         ensures pending { OnOk result (pending_views self.new.pending.items
             ≡ above (value_of change.entry.number) (pending_views self.old.pending.items)) }
         ensures sound { are_sound self.old.pending.items ≡ true →
             OnOk result (are_sound self.new.pending.items ≡ true) }
-        ensures lost { IfOk result (λ effects.
-            effects.lost ≡ skipped self.old.top (change_view change.entry ∷ [])) }
-        ensures ready { IfOk result (λ effects.
-            map change_view effects.ready.items ≡ change_view change.entry ∷ []) }
-        ensures answer { IfOk result (λ effects. effects.answer ≡ None) }
+        ensures lost { OnOk result
+            (effects.new.lost ≡ skipped self.old.top (change_view change.entry ∷ [])) }
+        ensures ready { OnOk result
+            (map change_view effects.new.ready.items ≡ change_view change.entry ∷ []) }
+        ensures answer { OnOk result (effects.new.answer ≡ None) }
     {
         let number = change.number.get();
         let lost = if self.top == 0 {
@@ -80,12 +84,8 @@ impl<A: Allocator + Copy> BestEffort<A> {
         };
         self.top = number;
         give_up_to(&mut self.pending, number);
-        let mut ready = Vec::new(alloc);
-        ready.push(change)?;
-        Ok(Effects {
-            lost,
-            ready,
-            answer: None,
-        })
+        effects.lost = lost;
+        effects.ready.push(change)?;
+        Ok(())
     }
 }

@@ -21,24 +21,15 @@ pub struct Effects<'a, A: Allocator = Global> {
 }
 
 impl<'a, A: Allocator> Effects<'a, A> {
-    /// Nothing happens.
-    pub(crate) fn none(alloc: A) -> Effects<'a, A>
+    /// Nothing happens, as long as nothing is put in.
+    pub fn none(alloc: A) -> Effects<'a, A>
         ensures lost { result.lost ≡ 0 }
         ensures ready { result.ready.items ≡ [] }
         ensures answer { result.answer ≡ None }
     {
-        Effects::only_ready(Vec::new(alloc))
-    }
-
-    /// These changes are ready, and nothing else happens.
-    pub(crate) fn only_ready(ready: Vec<Change<'a, A>, A>) -> Effects<'a, A>
-        ensures lost { result.lost ≡ 0 }
-        ensures ready { result.ready.items ≡ ready.entry.items }
-        ensures answer { result.answer ≡ None }
-    {
         Effects {
             lost: 0,
-            ready,
+            ready: Vec::new(alloc),
             answer: None,
         }
     }

@@ -4,7 +4,7 @@ ghost use Rattle.std.specs.Prelude.{◌≡◌, ◌≤◌, ◌^◌, IfSome, is_so
 ghost use Rattle.rtps_types.specs.Number.{value_of};
 ghost use Rattle.rtps_receiver.specs.declared.body.Body.TheVariants as body;
 ghost use Rattle.rtps_receiver.specs.Views.{fragment_view};
-ghost use Rattle.rtps_proxy.specs.Effects.{match_event};
+ghost use Rattle.rtps_proxy.specs.Effects.{GivesNothing, given_in, match_event};
 ghost use Rattle.rtps_proxy.specs.Kept.{Pairing, best_effort_view, reliable_view};
 ghost use Rattle.rtps_proxy.specs.Kept.{takes_above, takes_by};
 ghost use Rattle.rtps_proxy.specs.Pending.{pending_views, place_in};
@@ -46,21 +46,23 @@ impl<A: Allocator + Copy> BestEffort<A> {
         alloc: A,
         time: Option<Timestamp>,
         fragment: &Fragment<'a>,
-    ) -> Result<Effects<'a, A>, ProxyError>
+        effects: &mut Effects<'a, A>,
+    ) -> Result<(), ProxyError>
+        requires { GivesNothing effects.old }
         ensures { BestEffortTakes (best_effort_view self.old) (best_effort_view self.new)
-            (match_event time (body.Fragment fragment.now)) result }
+            (match_event time (body.Fragment fragment.now)) (given_in effects.new result) }
     {
         let number = fragment.number.get();
         let at = place_of(self.pending.as_slice(), number);
         if !self.takes(at, fragment) {
-            return Ok(Effects::none(alloc));
+            return Ok(());
         }
         put(&mut self.pending, alloc, time, at, fragment)?;
         match take_whole(&mut self.pending, at, number) {
-            Some(change) => self.receive(alloc, change),
+            Some(change) => self.receive(change, effects),
             None => {
                 displace(&mut self.pending);
-                Ok(Effects::none(alloc))
+                Ok(())
             }
         }
     }
@@ -96,25 +98,26 @@ impl<A: Allocator + Copy> Reliable<A> {
         alloc: A,
         time: Option<Timestamp>,
         fragment: &Fragment<'a>,
-    ) -> Result<Effects<'a, A>, ProxyError>
+        effects: &mut Effects<'a, A>,
+    ) -> Result<(), ProxyError>
+        requires { GivesNothing effects.old }
         ensures { (pairing : Pairing) →
             ReliableTakes pairing (reliable_view self.old) (reliable_view self.new)
-            (match_event time (body.Fragment fragment.now)) result }
+            (match_event time (body.Fragment fragment.now)) (given_in effects.new result) }
     {
         let number = fragment.number.get();
         let at = place_of(self.pending.as_slice(), number);
         let Some(place) = self.place_for_fragments(at, fragment) else {
-            return Ok(Effects::none(alloc));
+            return Ok(());
         };
         put(&mut self.pending, alloc, time, at, fragment)?;
         let Some(change) = take_whole(&mut self.pending, at, number) else {
-            return Ok(Effects::none(alloc));
+            return Ok(());
         };
         self.settled.add_at(place, number, number + 1)?;
         give_up(&mut self.pending, &self.settled);
         hold(&mut self.held, change)?;
-        let mut ready = Vec::new(alloc);
-        release(&mut self.held, self.settled.frontier, &mut ready)?;
-        Ok(Effects::only_ready(ready))
+        release(&mut self.held, self.settled.frontier, &mut effects.ready)?;
+        Ok(())
     }
 }

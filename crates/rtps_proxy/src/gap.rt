@@ -7,7 +7,7 @@ ghost use Rattle.rtps_types.specs.Number.{value_of};
 ghost use Rattle.rtps_types.specs.NumberSet.{members};
 ghost use Rattle.rtps_types.specs.Sets.{sn_view};
 ghost use Rattle.rtps_receiver.specs.declared.body.Body.TheVariants as body;
-ghost use Rattle.rtps_proxy.specs.Effects.{match_event};
+ghost use Rattle.rtps_proxy.specs.Effects.{GivesNothing, given_in, match_event};
 ghost use Rattle.rtps_proxy.specs.History.{names};
 ghost use Rattle.rtps_proxy.specs.Kept.{Pairing, reliable_view};
 ghost use Rattle.rtps_proxy.specs.Runs.{marks};
@@ -38,15 +38,15 @@ impl<A: Allocator> Settled<A> {
 
 impl<A: Allocator + Copy> Reliable<A> {
     /// Takes in a gap.
-    pub fn on_gap<'a>(&mut self, alloc: A, gap: &Gap) -> Result<Effects<'a, A>, ProxyError>
+    pub fn on_gap<'a>(&mut self, gap: &Gap, effects: &mut Effects<'a, A>) -> Result<(), ProxyError>
+        requires { GivesNothing effects.old }
         ensures { (pairing : Pairing) (time : Option Timestamp) →
             ReliableTakes pairing (reliable_view self.old) (reliable_view self.new)
-            (match_event time (body.Gap gap.now)) result }
+            (match_event time (body.Gap gap.now)) (given_in effects.new result) }
     {
         self.settled.add_named(gap)?;
         give_up(&mut self.pending, &self.settled);
-        let mut ready = Vec::new(alloc);
-        release(&mut self.held, self.settled.frontier, &mut ready)?;
-        Ok(Effects::only_ready(ready))
+        release(&mut self.held, self.settled.frontier, &mut effects.ready)?;
+        Ok(())
     }
 }

@@ -4,7 +4,7 @@ ghost use Rattle.std.specs.Prelude.{◌≡◌, ◌≤◌, ◌^◌, ◌+◌, List
 ghost use Rattle.std.specs.Option.{option_map};
 ghost use Rattle.rtps_types.specs.declared.time.Timestamp.{Timestamp};
 ghost use Rattle.rtps_receiver.specs.declared.body.Body.TheVariants as body;
-ghost use Rattle.rtps_proxy.specs.Effects.{match_event, exceeds};
+ghost use Rattle.rtps_proxy.specs.Effects.{GivesNothing, exceeds, given_in, match_event};
 ghost use Rattle.rtps_proxy.specs.Kept.{asks_by, asked_by, counts_answer, marked, pairing};
 ghost use Rattle.rtps_proxy.specs.Kept.{reliable_view};
 ghost use Rattle.rtps_types.specs.Numbers.{count_failing};
@@ -101,14 +101,16 @@ impl<A: Allocator + Copy> Reliable<A> {
         alloc: A,
         config: &ProxyConfig<A>,
         heartbeat: &Heartbeat,
-    ) -> Result<Effects<'a, A>, ProxyError>
+        effects: &mut Effects<'a, A>,
+    ) -> Result<(), ProxyError>
+        requires { GivesNothing effects.old }
         ensures { (time : Option Timestamp) →
             ReliableTakes (pairing config.now) (reliable_view self.old) (reliable_view self.new)
-            (match_event time (body.Heartbeat heartbeat.now)) result }
+            (match_event time (body.Heartbeat heartbeat.now)) (given_in effects.new result) }
     {
         let heartbeat = *heartbeat;
         if !self.is_accepted(heartbeat.count) {
-            return Ok(Effects::none(alloc));
+            return Ok(());
         }
         let first = heartbeat.first.get();
         let lost = self.lost_below(first);
@@ -116,13 +118,10 @@ impl<A: Allocator + Copy> Reliable<A> {
         self.announced = self.announced.max(heartbeat.last);
         self.settled.add(0, first)?;
         give_up(&mut self.pending, &self.settled);
-        let mut ready = Vec::new(alloc);
-        release(&mut self.held, self.settled.frontier, &mut ready)?;
+        release(&mut self.held, self.settled.frontier, &mut effects.ready)?;
         let answer = self.answer_to(alloc, config, &heartbeat)?;
-        Ok(Effects {
-            lost,
-            ready,
-            answer,
-        })
+        effects.lost = lost;
+        effects.answer = answer;
+        Ok(())
     }
 }

@@ -7,7 +7,7 @@ ghost use Rattle.rtps_types.specs.Number.{value_of};
 ghost use Rattle.rtps_types.specs.Sets.{frag_view};
 ghost use Rattle.rtps_receiver.specs.declared.body.Body.TheVariants as body;
 ghost use Rattle.rtps_receiver.specs.Views.{heartbeat_frag_view};
-ghost use Rattle.rtps_proxy.specs.Effects.{match_event, exceeds};
+ghost use Rattle.rtps_proxy.specs.Effects.{GivesNothing, exceeds, given_in, match_event};
 ghost use Rattle.rtps_proxy.specs.Kept.{reliable_view, lacks_frags, pairing};
 ghost use Rattle.rtps_proxy.specs.NackFrag.{nack_by};
 ghost use Rattle.rtps_proxy.specs.Replies.{nack_of, reply_view};
@@ -86,25 +86,24 @@ impl<A: Allocator + Copy> Reliable<A> {
         alloc: A,
         config: &ProxyConfig<A>,
         heartbeat: &HeartbeatFrag,
-    ) -> Result<Effects<'a, A>, ProxyError>
+        effects: &mut Effects<'a, A>,
+    ) -> Result<(), ProxyError>
+        requires { GivesNothing effects.old }
         ensures { (time : Option Timestamp) →
             ReliableTakes (pairing config.now) (reliable_view self.old) (reliable_view self.new)
-            (match_event time (body.HeartbeatFrag heartbeat.now)) result }
+            (match_event time (body.HeartbeatFrag heartbeat.now)) (given_in effects.new result) }
     {
         let heartbeat = *heartbeat;
         if !self.is_frag_accepted(heartbeat.count) {
-            return Ok(Effects::none(alloc));
+            return Ok(());
         }
         self.frag_accepted = Some(heartbeat.count);
         let Some(missing) = self.missing_fragments(alloc, &heartbeat) else {
-            return Ok(Effects::none(alloc));
+            return Ok(());
         };
         let reply = self.nack_to(alloc, config, heartbeat.number, missing)?;
         self.nacks = self.nacks.wrapping_add(1);
-        Ok(Effects {
-            lost: 0,
-            ready: Vec::new(alloc),
-            answer: Some(reply),
-        })
+        effects.answer = Some(reply);
+        Ok(())
     }
 }

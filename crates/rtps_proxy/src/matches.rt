@@ -1,10 +1,10 @@
 //! The matches of a reader.
 
-ghost use Rattle.std.specs.Prelude.{◌≡◌, [], List, IfOk, OnErr, OnOk, length};
+ghost use Rattle.std.specs.Prelude.{◌≡◌, [], List, IfOk, OnErr, OnOk, false, length};
 ghost use Rattle.std.specs.Map.{keys_of};
-ghost use Rattle.rtps_proxy.specs.Effects.{match_event};
+ghost use Rattle.rtps_proxy.specs.Effects.{GivesNothing, match_event};
 ghost use Rattle.rtps_proxy.specs.Kept.{pairing};
-ghost use Rattle.rtps_proxy.specs.Matches.{AllStand, AreTaken, IsSpentAt, Match, begun, ended, extended, fresh, match_with};
+ghost use Rattle.rtps_proxy.specs.Matches.{AllStand, AreTaken, IsSpentAt, Match, begun, ended, extended, fresh, given_where, match_with};
 
 use crate::{Effects, ProxyConfig, ProxyError, WriterProxy};
 use rtps_receiver::Body;
@@ -95,10 +95,38 @@ impl<A: Allocator + Copy> Matches<A> {
             → IfOk result (AreTaken (match_with writer ms) (match_event time brought.now)) }
         ensures err { OnErr result (IsSpentAt writer self.old self.new) }
     {
-        let Some(proxy) = self.proxies.get_mut(&writer) else {
+        let mut effects = Effects::none(alloc);
+        if !self.on_event_into(alloc, writer, time, brought, &mut effects)? {
             return Ok(None);
-        };
-        let effects = proxy.on_event(alloc, time, brought)?;
+        }
         Ok(Some(effects))
+    }
+
+    /// Gives an event to the match with its writer as [`Matches::on_event`] does, and puts what the
+    /// event gives back into effects that are lent, so that nothing is moved on the way; says whether
+    /// there is such a match. After a refused growth the effects may have a part of it.
+    pub fn on_event_into<'a>(
+        &mut self,
+        alloc: A,
+        writer: Guid,
+        time: Option<Timestamp>,
+        brought: &Body<'a>,
+        effects: &mut Effects<'a, A>,
+    ) -> Result<bool, ProxyError>
+        requires { GivesNothing effects.old }
+        ensures stands { (ms : List Match) → AllStand ms self.old
+            → OnOk result (AllStand (extended writer (match_event time brought.now) ms) self.new) }
+        ensures effects { (ms : List Match) → AllStand ms self.old
+            → IfOk result (λ is_matched. AreTaken (match_with writer ms)
+            (match_event time brought.now) (given_where is_matched effects.new)) }
+        ensures nothing { IfOk result (λ is_matched. is_matched ≡ false
+            → GivesNothing effects.new) }
+        ensures err { OnErr result (IsSpentAt writer self.old self.new) }
+    {
+        let Some(proxy) = self.proxies.get_mut(&writer) else {
+            return Ok(false);
+        };
+        proxy.on_event_into(alloc, time, brought, effects)?;
+        Ok(true)
     }
 }

@@ -2,7 +2,7 @@
 
 ghost use Rattle.std.specs.Prelude.{◌≡◌, [], IfOk, List, false, true};
 ghost use Rattle.rtps_receiver.specs.declared.body.Body.TheVariants as body;
-ghost use Rattle.rtps_proxy.specs.Effects.{StandsAt, TakesIn, match_event};
+ghost use Rattle.rtps_proxy.specs.Effects.{GivesNothing, StandsAt, TakesIn, given_in, match_event};
 ghost use Rattle.rtps_proxy.specs.History.{MatchEvent};
 ghost use Rattle.rtps_proxy.specs.Kept.{state_view, state_since, pairing};
 ghost use Rattle.rtps_proxy.specs.Runs.{AreRuns};
@@ -79,15 +79,36 @@ impl<A: Allocator + Copy> WriterProxy<A> {
     ) -> Result<Effects<'a, A>, ProxyError>
         ensures { TakesIn self.old self.new (match_event time brought.now) result }
     {
+        let mut effects = Effects::none(alloc);
+        self.on_event_into(alloc, time, brought, &mut effects)?;
+        Ok(effects)
+    }
+
+    /// Takes in what an event brings as [`WriterProxy::on_event`] does, and puts what the event gives
+    /// into effects that are lent, so that nothing is moved on the way. After a refused growth they
+    /// may have a part of it.
+    pub fn on_event_into<'a>(
+        &mut self,
+        alloc: A,
+        time: Option<Timestamp>,
+        brought: &Body<'a>,
+        effects: &mut Effects<'a, A>,
+    ) -> Result<(), ProxyError>
+        requires { GivesNothing effects.old }
+        ensures { TakesIn self.old self.new (match_event time brought.now)
+            (given_in effects.new result) }
+    {
         if self.spent {
             return Err(AllocError);
         }
         self.spent = true;
         let mut state = begun(alloc, self.config.reliable, self.state.take())?;
-        let effects = state.as_mut().on_event(alloc, &self.config, time, brought)?;
+        state
+            .as_mut()
+            .on_event(alloc, &self.config, time, brought, effects)?;
         self.state = Some(state);
         self.spent = false;
-        Ok(effects)
+        Ok(())
     }
 
     /// Takes in a change in one piece (DDSI-RTPS 8.3.7.2). One that is ready at once stays where the

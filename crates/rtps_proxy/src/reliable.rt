@@ -35,7 +35,7 @@ pub(crate) struct Reliable<A: Allocator> {
 
 impl<A: Allocator + Copy> Reliable<A> {
     ghost use Rattle.std.specs.Prelude.{◌≡◌};
-    ghost use Rattle.rtps_proxy.specs.Effects.{match_event};
+    ghost use Rattle.rtps_proxy.specs.Effects.{GivesNothing, given_in, match_event};
     ghost use Rattle.rtps_proxy.specs.Kept.{reliable_view, reliable_first, pairing};
     ghost use Rattle.rtps_proxy.specs.Steps.{ReliableTakes};
 
@@ -55,23 +55,27 @@ impl<A: Allocator + Copy> Reliable<A> {
         }
     }
 
-    /// Takes in what an event brings, by its kind.
+    /// Takes in what an event brings, by its kind, and puts what it gives into `effects`.
     pub fn on_event<'a>(
         &mut self,
         alloc: A,
         config: &ProxyConfig<A>,
         time: Option<Timestamp>,
         brought: &Body<'a>,
-    ) -> Result<Effects<'a, A>, ProxyError>
+        effects: &mut Effects<'a, A>,
+    ) -> Result<(), ProxyError>
+        requires { GivesNothing effects.old }
         ensures { ReliableTakes (pairing config.now) (reliable_view self.old)
-            (reliable_view self.new) (match_event time brought.now) result }
+            (reliable_view self.new) (match_event time brought.now) (given_in effects.new result) }
     {
         match brought {
-            Body::Whole(whole) => self.on_whole(alloc, time, whole),
-            Body::Heartbeat(heartbeat) => self.on_heartbeat(alloc, config, heartbeat),
-            Body::Gap(gap) => self.on_gap(alloc, gap),
-            Body::Fragment(fragment) => self.on_fragment(alloc, time, fragment),
-            Body::HeartbeatFrag(heartbeat) => self.on_heartbeat_frag(alloc, config, heartbeat),
+            Body::Whole(whole) => self.on_whole(alloc, time, whole, effects),
+            Body::Heartbeat(heartbeat) => self.on_heartbeat(alloc, config, heartbeat, effects),
+            Body::Gap(gap) => self.on_gap(gap, effects),
+            Body::Fragment(fragment) => self.on_fragment(alloc, time, fragment, effects),
+            Body::HeartbeatFrag(heartbeat) => {
+                self.on_heartbeat_frag(alloc, config, heartbeat, effects)
+            }
         }
     }
 }

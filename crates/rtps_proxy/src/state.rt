@@ -1,7 +1,7 @@
 //! What a proxy keeps, by whether its reader is reliable.
 
 ghost use Rattle.std.specs.Prelude.{◌≡◌};
-ghost use Rattle.rtps_proxy.specs.Effects.{match_event};
+ghost use Rattle.rtps_proxy.specs.Effects.{GivesNothing, given_in, match_event};
 ghost use Rattle.rtps_proxy.specs.Kept.{state_view, state_first, pairing};
 ghost use Rattle.rtps_proxy.specs.Steps.{StateTakes};
 
@@ -32,20 +32,23 @@ impl<A: Allocator + Copy> State<A> {
         }
     }
 
-    /// Takes in what an event brings, by whether the reader is reliable.
+    /// Takes in what an event brings, by whether the reader is reliable, and puts what it gives into
+    /// `effects`.
     pub fn on_event<'a>(
         &mut self,
         alloc: A,
         config: &ProxyConfig<A>,
         time: Option<Timestamp>,
         brought: &Body<'a>,
-    ) -> Result<Effects<'a, A>, ProxyError>
+        effects: &mut Effects<'a, A>,
+    ) -> Result<(), ProxyError>
+        requires { GivesNothing effects.old }
         ensures { StateTakes (pairing config.now) (state_view self.old) (state_view self.new)
-            (match_event time brought.now) result }
+            (match_event time brought.now) (given_in effects.new result) }
     {
         match self {
-            State::BestEffort(best_effort) => best_effort.on_event(alloc, time, brought),
-            State::Reliable(reliable) => reliable.on_event(alloc, config, time, brought),
+            State::BestEffort(best_effort) => best_effort.on_event(alloc, time, brought, effects),
+            State::Reliable(reliable) => reliable.on_event(alloc, config, time, brought, effects),
         }
     }
 }

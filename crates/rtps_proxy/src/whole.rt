@@ -2,7 +2,7 @@
 
 ghost use Rattle.std.specs.Prelude.{◌≡◌, ◌≤◌, ◌^◌, IfSome, is_some, length, not, ◌&&◌, ◌||◌, nat_le, nat_lt};
 ghost use Rattle.rtps_receiver.specs.declared.body.Body.TheVariants as body;
-ghost use Rattle.rtps_proxy.specs.Effects.{match_event};
+ghost use Rattle.rtps_proxy.specs.Effects.{GivesNothing, given_in, match_event};
 ghost use Rattle.rtps_proxy.specs.Kept.{Pairing, reliable_view, best_effort_view, marked};
 ghost use Rattle.rtps_proxy.specs.Runs.{IsPlaceOf};
 ghost use Rattle.rtps_proxy.specs.Steps.{BestEffortTakes, ReliableTakes};
@@ -24,17 +24,18 @@ impl<A: Allocator + Copy> BestEffort<A> {
     /// Takes in a change. A number that isn't above the greatest one received counts as not come.
     pub fn on_whole<'a>(
         &mut self,
-        alloc: A,
         time: Option<Timestamp>,
         whole: &Whole<'a>,
-    ) -> Result<Effects<'a, A>, ProxyError>
+        effects: &mut Effects<'a, A>,
+    ) -> Result<(), ProxyError>
+        requires { GivesNothing effects.old }
         ensures { BestEffortTakes (best_effort_view self.old) (best_effort_view self.new)
-            (match_event time (body.Whole whole.now)) result }
+            (match_event time (body.Whole whole.now)) (given_in effects.new result) }
     {
         if whole.number.get() <= self.top {
-            return Ok(Effects::none(alloc));
+            return Ok(());
         }
-        self.receive(alloc, Change::lent(time, whole))
+        self.receive(Change::lent(time, whole), effects)
     }
 }
 
@@ -60,24 +61,25 @@ impl<A: Allocator + Copy> Reliable<A> {
         alloc: A,
         time: Option<Timestamp>,
         whole: &Whole<'a>,
-    ) -> Result<Effects<'a, A>, ProxyError>
+        effects: &mut Effects<'a, A>,
+    ) -> Result<(), ProxyError>
+        requires { GivesNothing effects.old }
         ensures { (pairing : Pairing) →
             ReliableTakes pairing (reliable_view self.old) (reliable_view self.new)
-            (match_event time (body.Whole whole.now)) result }
+            (match_event time (body.Whole whole.now)) (given_in effects.new result) }
     {
         let number = whole.number.get();
         let Some(at) = self.place_for(number) else {
-            return Ok(Effects::none(alloc));
+            return Ok(());
         };
         self.settled.add_at(at, number, number + 1)?;
         give_up(&mut self.pending, &self.settled);
         if number >= self.settled.frontier {
             hold(&mut self.held, Change::kept(alloc, time, whole)?)?;
-            return Ok(Effects::none(alloc));
+            return Ok(());
         }
-        let mut ready = Vec::new(alloc);
-        ready.push(Change::lent(time, whole))?;
-        release(&mut self.held, self.settled.frontier, &mut ready)?;
-        Ok(Effects::only_ready(ready))
+        effects.ready.push(Change::lent(time, whole))?;
+        release(&mut self.held, self.settled.frontier, &mut effects.ready)?;
+        Ok(())
     }
 }

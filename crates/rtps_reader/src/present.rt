@@ -1,8 +1,9 @@
 //! Presenting what an event gave.
 
-ghost use Rattle.std.specs.Prelude.{◌≡◌, ◌++◌, length, map, take, OnOk};
+ghost use Rattle.std.specs.Prelude.{◌≡◌, ◌++◌, None, length, map, take, true, OnOk};
 ghost use Rattle.std.specs.Option.{option_map};
 ghost use Rattle.rtps_proxy.specs.Changes.{change_view};
+ghost use Rattle.rtps_proxy.specs.Effects.{GivesNothing};
 ghost use Rattle.rtps_proxy.specs.Replies.{reply_view};
 ghost use Rattle.rtps_reader.specs.Notices.{answer_view, kind_view, notice_view};
 ghost use Rattle.rtps_reader.specs.Reader.{loses, notice_of, placed, presented};
@@ -16,42 +17,61 @@ use rtps_types::{Guid, Place, Reply};
 use std::alloc::{AllocError, Allocator};
 
 /// Adds what an event of a writer gave: what was lost, then the changes that are ready, and what is
-/// said to the writer.
+/// said to the writer. Nothing is left in the effects, but the room of their list.
 #[tactic(auto, using(crate::proofs::Telling::told_then))]
 pub(crate) fn present<C: Catalog, A: Allocator>(
     decoder: &mut Decoder<C>,
     place: Place,
     writer: Guid,
-    effects: Effects<'_, A>,
+    effects: &mut Effects<'_, A>,
     output: &mut Output<C::Value, A>,
 ) -> Result<(), AllocError>
     ensures notices { OnOk result (map (notice_view C.view) output.new.notices.items
         ≡ map (notice_view C.view) output.old.notices.items
-        ++ (loses place writer effects.entry.lost
+        ++ (loses place writer effects.old.lost
         ++ map (presented (C.decoding decoder.old) place writer)
-        (map change_view effects.entry.ready.items))) }
+        (map change_view effects.old.ready.items))) }
     ensures answers { OnOk result (map answer_view output.new.answers.items
         ≡ map answer_view output.old.answers.items
-        ++ placed place (option_map reply_view effects.entry.answer)) }
+        ++ placed place (option_map reply_view effects.old.answer)) }
     ensures kept { KeepsFront output.old output.new }
     ensures same { decoder.new ≡ decoder.old }
+    ensures nothing { OnOk result (GivesNothing effects.new) }
 {
+    if is_nothing(effects) {
+        return Ok(());
+    }
     tell_lost::<C, A>(place, writer, effects.lost, &mut output.notices)?;
     tell_ready(decoder, place, writer, &effects.ready, &mut output.notices)?;
-    say(place, effects.answer, &mut output.answers)
+    effects.lost = 0;
+    effects.ready.clear();
+    say(place, &mut effects.answer, &mut output.answers)?;
+    Ok(())
 }
 
-/// Adds what is said to the writer, if anything is, with the place of the event that it answers.
+/// Whether an event gave nothing, as most do where changes wait or come in fragments.
+fn is_nothing<A: Allocator>(effects: &Effects<'_, A>) -> bool
+    ensures { result ≡ true → GivesNothing effects.now }
+{
+    effects.lost == 0 && effects.ready.is_empty() && effects.answer.is_none()
+}
+
+/// Moves what is said to the writer, if anything is, after the answers, with the place of the event
+/// that it answers.
 fn say<A: Allocator>(
     place: Place,
-    answer: Option<Reply<A>>,
+    answer: &mut Option<Reply<A>>,
     answers: &mut Vec<(Place, Reply<A>), A>,
 ) -> Result<(), AllocError>
     ensures said { OnOk result (map answer_view answers.new.items
-        ≡ map answer_view answers.old.items ++ placed place (option_map reply_view answer)) }
+        ≡ map answer_view answers.old.items ++ placed place (option_map reply_view answer.old)) }
     ensures kept { take (length answers.old.items) answers.new.items ≡ answers.old.items }
+    ensures taken { OnOk result (answer.new ≡ None) }
 {
-    if let Some(reply) = answer {
+    if answer.is_none() {
+        return Ok(());
+    }
+    if let Some(reply) = answer.take() {
         answers.push((place, reply))?;
     }
     Ok(())

@@ -3,6 +3,7 @@
 ghost use Rattle.std.specs.Prelude.{◌≡◌, ◌++◌, List, map, IfOk, IsErr, OnErr, OnOk, true};
 ghost use Rattle.std.specs.BTreeSet.{insert_key};
 ghost use Rattle.std.specs.Map.{keys_of};
+ghost use Rattle.rtps_proxy.specs.Effects.{GivesNothing};
 ghost use Rattle.rtps_reader.specs.declared.notice.Notice.{Notice};
 ghost use Rattle.rtps_reader.specs.Listed.{match_order, with_writers};
 ghost use Rattle.rtps_reader.specs.Notices.{answer_view, notice_view};
@@ -15,6 +16,7 @@ use crate::stateful::StatefulReader;
 use crate::status::Status;
 use crate::step::Step;
 use dds_topic::{Catalog, Decoder};
+use rtps_proxy::Effects;
 use rtps_types::{EntityId, Guid, GuidPrefix, WriterFacts};
 use std::alloc::{AllocError, Allocator, Global};
 use std::collections::BTreeSet;
@@ -93,11 +95,48 @@ impl<A: Allocator + Copy> ReaderState<A> {
         ensures spent { self.old.spent ≡ true → IsErr result }
         ensures still { self.old.spent ≡ true → (self.new ≡ self.old) × (output.new ≡ output.old) }
     {
+        let mut effects = Effects::none(alloc);
+        self.step_with(alloc, decoder, step, &mut effects, output)
+    }
+
+    /// Takes one step as [`ReaderState::step`] does. What its match gives on the way is put into
+    /// effects that are lent, of which nothing is left then but room for changes: lent from step to
+    /// step, their memory is used again.
+    pub fn step_with<'a, C: Catalog>(
+        &mut self,
+        alloc: A,
+        decoder: &mut Decoder<C>,
+        step: &Step<'a>,
+        effects: &mut Effects<'a, A>,
+        output: &mut Output<C::Value, A>,
+    ) -> Result<(), ReaderError>
+        requires { GivesNothing effects.old }
+        ensures stands { (r : Reader) (given : List (Notice C.Meaning)) → StandsAt r given self.old
+            → OnOk result (StandsAt (reader_after r (asked step.now.what))
+            (given ++ tells (C.decoding decoder.old) r step.now.place
+            (asked step.now.what)) self.new) }
+        ensures notices { (r : Reader) (given : List (Notice C.Meaning)) → StandsAt r given self.old
+            → OnOk result (map (notice_view C.view) output.new.notices.items
+            ≡ map (notice_view C.view) output.old.notices.items
+            ++ tells (C.decoding decoder.old) r step.now.place (asked step.now.what)) }
+        ensures answers { (r : Reader) (given : List (Notice C.Meaning)) → StandsAt r given self.old
+            → OnOk result (map answer_view output.new.answers.items
+            ≡ map answer_view output.old.answers.items
+            ++ sends r step.now.place (asked step.now.what)) }
+        ensures place { (self.new.rank ≡ self.old.rank) × (self.new.own ≡ self.old.own)
+            × (self.new.entity ≡ self.old.entity) }
+        ensures same { decoder.new ≡ decoder.old }
+        ensures kept { KeepsFront output.old output.new }
+        ensures err { OnErr result (self.new.spent ≡ true) }
+        ensures spent { self.old.spent ≡ true → IsErr result }
+        ensures still { self.old.spent ≡ true → (self.new ≡ self.old) × (output.new ≡ output.old) }
+        ensures nothing { OnOk result (GivesNothing effects.new) }
+    {
         if self.spent {
             return Err(AllocError);
         }
         self.spent = true;
-        self.reader.step(alloc, decoder, step, output)?;
+        self.reader.step(alloc, decoder, step, effects, output)?;
         self.spent = false;
         Ok(())
     }

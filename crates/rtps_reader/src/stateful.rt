@@ -1,8 +1,8 @@
 //! A reader that keeps state of each writer that it is matched with.
 
 ghost use Rattle.std.specs.Prelude.{◌≡◌, ◌++◌, List, IfOk, OnOk, false, map};
-ghost use Rattle.rtps_proxy.specs.Effects.{match_event};
-ghost use Rattle.rtps_proxy.specs.Matches.{AllStand, AreTaken, Match, begun, extended, fresh, match_with};
+ghost use Rattle.rtps_proxy.specs.Effects.{GivesNothing, match_event};
+ghost use Rattle.rtps_proxy.specs.Matches.{AllStand, AreTaken, Match, begun, extended, fresh, given_where, match_with};
 ghost use Rattle.rtps_reader.specs.declared.notice.Notice.{Notice};
 ghost use Rattle.rtps_reader.specs.Notices.{answer_view, notice_view};
 ghost use Rattle.rtps_reader.specs.Reader.{Reader, first_reader, pairing_of, reader_after, sends};
@@ -63,13 +63,15 @@ impl<A: Allocator + Copy> StatefulReader<A> {
 
     /// Takes one step, and adds what it gives after what is in `output`. After a refused growth the
     /// matches may be those of a step taken by half.
-    pub(crate) fn step<C: Catalog>(
+    pub(crate) fn step<'a, C: Catalog>(
         &mut self,
         alloc: A,
         decoder: &mut Decoder<C>,
-        step: &Step<'_>,
+        step: &Step<'a>,
+        effects: &mut Effects<'a, A>,
         output: &mut Output<C::Value, A>,
     ) -> Result<(), AllocError>
+        requires { GivesNothing effects.old }
         ensures stands { (r : Reader) (given : List (Notice C.Meaning))
             → StandsAt r given (kept_by false self.old)
             → OnOk result (StandsAt (reader_after r (asked step.now.what))
@@ -88,12 +90,16 @@ impl<A: Allocator + Copy> StatefulReader<A> {
         ensures reader { IsSameReader self.old self.new }
         ensures same { decoder.new ≡ decoder.old }
         ensures kept { KeepsFront output.old output.new }
+        ensures nothing { OnOk result (GivesNothing effects.new) }
     {
         match step.what {
-            StepKind::Event { writer, time, body } => match self.take(alloc, writer, time, body)? {
-                Some(effects) => present(decoder, step.place, writer, effects, output),
-                None => Ok(()),
-            },
+            StepKind::Event { writer, time, body } => {
+                let is_matched = self.take(alloc, writer, time, body, effects)?;
+                if !is_matched {
+                    return Ok(());
+                }
+                present(decoder, step.place, writer, effects, output)
+            }
             StepKind::Match { writer, locators } => {
                 self.begin(alloc, writer, locators)?;
                 self.counts = self.counts.with_match();
@@ -116,28 +122,35 @@ impl<A: Allocator + Copy> StatefulReader<A> {
         }
     }
 
-    /// Gives an event to the match with its writer, if there is one, and counts what that gives.
+    /// Gives an event to the match with its writer, puts what that gives into `effects`, and counts
+    /// it. Whether there is such a match.
     fn take<'a>(
         &mut self,
         alloc: A,
         writer: Guid,
         time: Option<Timestamp>,
         body: &Body<'a>,
-    ) -> Result<Option<Effects<'a, A>>, AllocError>
+        effects: &mut Effects<'a, A>,
+    ) -> Result<bool, AllocError>
+        requires { GivesNothing effects.old }
         ensures stands { (ms : List Match) → AllStand ms self.old.matches
             → OnOk result (AllStand (extended writer (match_event time body.now) ms)
             self.new.matches) }
         ensures effects { (ms : List Match) → AllStand ms self.old.matches
-            → IfOk result (AreTaken (match_with writer ms) (match_event time body.now)) }
-        ensures counts { IfOk result (λ effects. self.new.counts
-            ≡ counts_given self.old.counts effects) }
+            → IfOk result (λ is_matched. AreTaken (match_with writer ms)
+            (match_event time body.now) (given_where is_matched effects.new)) }
+        ensures counts { IfOk result (λ is_matched. self.new.counts
+            ≡ counts_given self.old.counts (given_where is_matched effects.new)) }
+        ensures nothing { IfOk result (λ is_matched. is_matched ≡ false
+            → GivesNothing effects.new) }
         ensures reader { IsSameReader self.old self.new }
     {
-        let Some(effects) = self.matches.on_event(alloc, writer, time, body)? else {
-            return Ok(None);
-        };
-        self.counts = self.counts.with_effects(&effects);
-        Ok(Some(effects))
+        let matches = &mut self.matches;
+        if !matches.on_event_into(alloc, writer, time, body, effects)? {
+            return Ok(false);
+        }
+        self.counts = self.counts.with_effects(effects);
+        Ok(true)
     }
 
     /// Begins a match with a writer, which keeps a copy of these locators.

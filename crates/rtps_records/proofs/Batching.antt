@@ -1,9 +1,9 @@
 -- The reading of a batch, one record after the other.
-use Rattle.std.proofs.Common.{◌≡◌, ℕ, ◌+◌, ◌<◌, ◌≤◌, List, [], ◌∷◌, Option, arith, refl, length, subst, sym, ap, ◌∙◌, length-append, sum, add-zero}
+use Rattle.std.proofs.Common.{◌≡◌, ℕ, ◌+◌, ◌<◌, List, [], ◌∷◌, Option, arith, refl, length, subst, sym, ap, ◌∙◌, length-append, sum, add-zero}
 use Rattle.std.specs.List.{AllByRecursion, flat_map}
 use Rattle.std.specs.Io.KnownBytes.{Consumes}
 use Rattle.std.proofs.KnownBytes.{Consumes-nil, Consumes-trans}
-use Rattle.rtps_records.specs.Batches.{EndsBatch, ReadsBatch, records_in}
+use Rattle.rtps_records.specs.Batches.{EndsBatch, HasRead, ReadsBatch, records_in}
 use Rattle.rtps_records.specs.Cuts.{cut}
 use Rattle.rtps_records.specs.RecordFile.{IsRecord, frame}
 use Rattle.rtps_records.specs.Steps.{ReadsOne}
@@ -13,15 +13,8 @@ use Rattle.rtps_records.specs.declared.batch_end.BatchEnd.TheVariants.{End, Faul
 use Rattle.rtps_records.proofs.Cuts.{length-cut}
 use Rattle.rtps_records.proofs.Progress.{all_more, frames_more}
 
--- after n records these were read, which makes them m
-pub record SoFar (before now : Option (List ℕ)) (n m : ℕ) (records : List (List ℕ)) : Type 0 where
-  pub few : n ≤ 4294967295 → m ≤ 4294967295
-  pub count : m ≡ n + length records
-  pub each : AllByRecursion IsRecord records
-  pub read : Consumes before now (flat_map frame records)
-
 -- nothing was read yet
-pub fresh : {A : Type 0} (now : Option (List ℕ)) (n : ℕ) (b : Batch A) → b.lengths.items ≡ [] → SoFar now now n n (records_in b)
+pub fresh : {A : Type 0} (now : Option (List ℕ)) (n : ℕ) (b : Batch A) → b.lengths.items ≡ [] → HasRead now now n n (records_in b)
 fresh now n b e =
     let none : records_in b ≡ [] = ap (λ l. cut l b.octets.items) e in
     record {
@@ -32,8 +25,8 @@ fresh now n b e =
     }
 
 -- one record more
-pub more : (before now after : Option (List ℕ)) (n m : ℕ) (records new : List (List ℕ)) (end : BatchEnd) → SoFar before now n m records
-    → end ≡ More → ReadsOne end m now after records new → (m < 4294967295) × (length new ≡ length records + 1) × SoFar before after n (m + 1) new
+pub more : (before now after : Option (List ℕ)) (n m : ℕ) (records new : List (List ℕ)) (end : BatchEnd) → HasRead before now n m records
+    → end ≡ More → ReadsOne end m now after records new → (m < 4294967295) × (length new ≡ length records + 1) × HasRead before after n (m + 1) new
 unfolding ReadsOne
 more before now after n m records new End s is r = absurd (not_end is)
   where
@@ -55,7 +48,7 @@ more before now after n m records new More s is (below, (octets, short, read, e)
       },
     )
 
-ends_as : (before now after : Option (List ℕ)) (n m : ℕ) (records new : List (List ℕ)) (end : BatchEnd) → SoFar before now n m records
+ends_as : (before now after : Option (List ℕ)) (n m : ℕ) (records new : List (List ℕ)) (end : BatchEnd) → HasRead before now n m records
     → new ≡ records → EndsBatch end m new now after → ReadsBatch before after n m new end
 ends_as before now after n m records new end s e ends = record {
   each = subst (AllByRecursion IsRecord) (sym e) s.each;
@@ -67,7 +60,7 @@ ends_as before now after n m records new end s e ends = record {
 }
 
 -- the file ends, or has a fault
-pub ends_here : (before now after : Option (List ℕ)) (n m : ℕ) (records new : List (List ℕ)) (end : BatchEnd) → SoFar before now n m records
+pub ends_here : (before now after : Option (List ℕ)) (n m : ℕ) (records new : List (List ℕ)) (end : BatchEnd) → HasRead before now n m records
     → ReadsOne end m now after records new → ¬ (end ≡ More) → ReadsBatch before after n m new end
 unfolding ReadsOne
 ends_here before now after n m records new More s r other = absurd (other refl)
@@ -75,7 +68,7 @@ ends_here before now after n m records new End s r other = ends_as before now af
 ends_here before now after n m records new (Fault fault) s r other = ends_as before now after n m records new (Fault fault) s r.1 r.0
 
 -- the batch is full
-pub full : (before now : Option (List ℕ)) (n m : ℕ) (records : List (List ℕ)) → SoFar before now n m records
+pub full : (before now : Option (List ℕ)) (n m : ℕ) (records : List (List ℕ)) → HasRead before now n m records
     → 0 < length records → ReadsBatch before now n m records More
 full before now n m records s some = ends_as before now now n m records records More s refl (some, refl)
 

@@ -19,7 +19,15 @@ EndsBatch More m records here after = (0 < length records) × (after ≡ here)
 EndsBatch End m records here after = IsAtEnd here
 EndsBatch (Fault fault) m records here after = FaultHere fault m here after
 
--- after n records these were read, which makes them m, and the batch ends so
+-- after n records these were read, which makes them m
+pub record HasRead (before after : Option (List ℕ)) (n m : ℕ) (records : List (List ℕ))
+    : Type 0 where
+  pub each : AllByRecursion IsRecord records
+  pub count : m ≡ n + length records
+  pub few : n ≤ 4294967295 → m ≤ 4294967295
+  pub read : Consumes before after (flat_map frame records)
+
+-- the same, and the batch ends so
 pub record ReadsBatch (before after : Option (List ℕ)) (n m : ℕ) (records : List (List ℕ))
     (end : BatchEnd) : Type 0 where
   pub each : AllByRecursion IsRecord records

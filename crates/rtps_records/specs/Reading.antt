@@ -5,8 +5,9 @@ use Rattle.std.specs.Io.KnownBytes.{Consumes, IsAtEnd}
 use Rattle.rtps_records.specs.RecordFile.{frame, FaultHere, IsRecord}
 use Rattle.rtps_records.specs.declared.fault.RunFault.{RunFault}
 
--- After n records the next one is read, which makes them m; or the file ends, or its first fault is here.
+-- After n records the next one is read, which makes them m; or the file ends, or its first fault is here,
+-- and then they stay n.
 unfoldable pub ReadsNext : Option (List ℕ) → Option (List ℕ) → ℕ → ℕ → Result (Option (Bor (List ℕ))) RunFault → Type 0
 ReadsNext before after n m (Ok (Some octets)) = IsRecord octets.now × (n < 4294967295) × (m ≡ n + 1) × Consumes before after (frame octets.now)
-ReadsNext before after n m (Ok None) = IsAtEnd before
-ReadsNext before after n m (Err fault) = FaultHere fault n before after
+ReadsNext before after n m (Ok None) = (m ≡ n) × IsAtEnd before
+ReadsNext before after n m (Err fault) = (m ≡ n) × FaultHere fault n before after

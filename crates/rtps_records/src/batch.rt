@@ -1,6 +1,6 @@
 //! The records of a batch, and room for them.
 
-ghost use Rattle.std.specs.Prelude.{◌≡◌, ◌+◌, ◌<◌, ◌≤◌, [], IfErr, IfOk, IfSome, None, OnSome, drop, false, length, map, sum, take, true, vec_len};
+ghost use Rattle.std.specs.Prelude.{◌≡◌, ◌+◌, ◌<◌, ◌≤◌, [], IfErr, IfOk, IfSome, None, OnErr, OnSome, drop, false, length, map, sum, take, true, vec_len};
 ghost use Rattle.std.specs.Io.KnownBytes.{Consumes, IsAtEnd};
 ghost use Rattle.rtps_records.specs.RecordFile.{FaultHere, frame};
 ghost use Rattle.rtps_records.specs.Cuts.{cut};
@@ -91,7 +91,8 @@ impl<A: Allocator> Batch<A> {
     }
 
     /// Reads the next record of a file, after `number` others, and adds it: [`BatchEnd::More`]. The
-    /// end of the file or a fault there adds nothing. An error is a refused growth.
+    /// end of the file or a fault there adds nothing. An error is a refused growth, and then nothing
+    /// is read.
     #[tactic(auto, unfolding(crate::specs::Steps::ReadsOne))]
     pub(crate) fn read<R: Read>(
         &mut self,
@@ -99,11 +100,15 @@ impl<A: Allocator> Batch<A> {
         number: u32,
     ) -> Result<BatchEnd, AllocError>
         requires room { self.old.used + 65507 ≤ 1048576 }
-        ensures { IfOk result (λ end. ReadsOne end number
+        ensures reads { IfOk result (λ end. ReadsOne end number
             (R.remaining reader.old) (R.remaining reader.new)
             (cut self.old.lengths.items self.old.octets.items)
             (cut self.new.lengths.items self.new.octets.items)) }
+        ensures unread { OnErr result (R.remaining reader.new ≡ R.remaining reader.old) }
+        ensures same { OnErr result (cut self.new.lengths.items self.new.octets.items
+            ≡ cut self.old.lengths.items self.old.octets.items) }
     {
+        self.lengths.reserve(1)?;
         match read_after(reader, self.octets.as_mut_slice(), self.used, number) {
             Ok(Some(length)) => {
                 self.lengths.push(length)?;

@@ -1,7 +1,7 @@
 //! The records of a record file, many at a time.
 
-ghost use Rattle.std.specs.Prelude.{◌≡◌, ◌≤◌, IfErr, IfOk, OnOk, length, map};
-ghost use Rattle.rtps_records.specs.Batches.{ReadsBatch, records_in};
+ghost use Rattle.std.specs.Prelude.{◌≡◌, ◌≤◌, IfErr, IfOk, OnErr, OnOk, length, map};
+ghost use Rattle.rtps_records.specs.Batches.{HasRead, ReadsBatch, records_in};
 ghost use Rattle.rtps_records.specs.declared.fault.RunFault.TheVariants.{NoMemory};
 
 use crate::batch::Batch;
@@ -33,7 +33,8 @@ impl<R: Read, A: Allocator> Records<'_, R, Batch<A>> {
     /// fault, which [`Records::next`] reports. Where it answers [`BatchEnd::More`] there is one at
     /// least.
     ///
-    /// An error is always `NoMemory`.
+    /// An error is always `NoMemory`. The records that were read until then are there, and no other
+    /// record was read.
     pub fn next_batch(&mut self, most: u16) -> Result<BatchEnd, RunFault>
         requires some { 1 ≤ most }
         ensures same_reader { self.new.reader.ghost_name ≡ self.old.reader.ghost_name }
@@ -42,6 +43,9 @@ impl<R: Read, A: Allocator> Records<'_, R, Batch<A>> {
             self.old.count self.new.count (records_in self.new.buffer)) }
         ensures few { OnOk result (length (records_in self.new.buffer) ≤ most) }
         ensures fault { IfErr result (λ fault. fault ≡ NoMemory) }
+        ensures refused { OnErr result (HasRead
+            (R.remaining self.old.reader.now) (R.remaining self.new.reader.now)
+            self.old.count self.new.count (records_in self.new.buffer)) }
     {
         self.buffer.clear();
         while self.buffer.len() < most as usize && self.buffer.has_room() {

@@ -42,7 +42,8 @@ impl<'a, W: Write, A: Allocator> Lines<'a, W, Vec<u8, A>> {
     }
 
     /// Writes the text where there are 64 KiB of it or more, and empties it; a shorter one is kept
-    /// back. A fault is always `CannotWrite`; a front of the text may have been written then.
+    /// back. A fault is always `CannotWrite`; a front of the text may have been written then, and the
+    /// text stays as it is.
     pub fn write_if_full(&mut self) -> Result<(), RunFault>
         ensures same_writer { self.new.writer.ghost_name ≡ self.old.writer.ghost_name }
         ensures ok { OnOk result (Spills (W.contents self.old.writer.now)
@@ -51,6 +52,7 @@ impl<'a, W: Write, A: Allocator> Lines<'a, W, Vec<u8, A>> {
         ensures front { OnErr result (PutsFront (W.contents self.old.writer.now)
             (W.contents self.new.writer.now) self.old.text.items) }
         ensures long { OnErr result (65536 ≤ length self.old.text.items) }
+        ensures refused { OnErr result (self.new.text ≡ self.old.text) }
     {
         if self.text.len() < KEPT_BACK {
             return Ok(());
@@ -61,7 +63,7 @@ impl<'a, W: Write, A: Allocator> Lines<'a, W, Vec<u8, A>> {
     }
 
     /// Writes the text that was kept back, and flushes the writer. A fault is always `CannotWrite`; a
-    /// front of the text may have been written then.
+    /// front of the text may have been written then. The text stays as it is.
     pub fn close(&mut self) -> Result<(), RunFault>
         ensures same_writer { self.new.writer.ghost_name ≡ self.old.writer.ghost_name }
         ensures ok { OnOk result (Appends (W.contents self.old.writer.now)
@@ -69,6 +71,7 @@ impl<'a, W: Write, A: Allocator> Lines<'a, W, Vec<u8, A>> {
         ensures fault { IfErr result (λ fault. fault ≡ CannotWrite) }
         ensures front { OnErr result (PutsFront (W.contents self.old.writer.now)
             (W.contents self.new.writer.now) self.old.text.items) }
+        ensures stays { self.new.text ≡ self.old.text }
     {
         put_all(self.writer, self.text.as_slice())?;
         flush_all(self.writer)

@@ -1,6 +1,6 @@
 //! The records of a record file, one at a time.
 
-ghost use Rattle.std.specs.Prelude.{◌≡◌, ◌+◌, ◌<◌, ◌≤◌, length, take, None, IfOk, IfErr, IfSome, OnSome, OnOk, []};
+ghost use Rattle.std.specs.Prelude.{◌≡◌, ◌+◌, ◌<◌, ◌≤◌, length, take, None, IfOk, IfErr, IfSome, OnErr, OnSome, OnOk, []};
 ghost use Rattle.std.specs.Borrow.{sem};
 ghost use Rattle.std.specs.Int.{w32, from_be_bytes, to_be_bytes};
 ghost use Rattle.std.specs.Io.BufRead.{Rests};
@@ -89,7 +89,8 @@ impl<'a, R: Read, A: Allocator> Records<'a, R, Buffer<A>> {
     ///
     /// `CutRecord` where the file ends inside the record, `RecordTooLong` for a length above 65,507
     /// octets whatever follows it, `TooManyRecords` where there are octets after 4,294,967,295
-    /// records, and `CannotRead` where a read fails before the record is whole.
+    /// records, and `CannotRead` where a read fails before the record is whole. Neither the end nor
+    /// a fault counts as a record.
     #[tactic(auto, unfolding(crate::specs::Reading::ReadsNext))]
     pub fn next(&mut self) -> Result<Option<&[u8]>, RunFault>
         ensures* reads { sem 𝓛 (Rests
@@ -111,6 +112,8 @@ impl<'a, R: Read, A: Allocator> Records<'a, R, Buffer<A>> {
         ensures same_reader { self.new.reader.ghost_name ≡ self.old.reader.ghost_name }
         ensures count { IfOk result (λ next. OnSome next
             ((self.old.count < 4294967295) × (self.new.count ≡ self.old.count + 1))) }
+        ensures stays { IfOk result (λ next. next ≡ None → self.new.count ≡ self.old.count) }
+        ensures refused { OnErr result (self.new.count ≡ self.old.count) }
         ensures fits { IfOk result (λ next. IfSome next (λ n. n ≤ 65507)) }
         ensures some { IfOk result (λ next. IfSome next (λ n.
             Consumes (R.remaining self.old.reader.now) (R.remaining self.new.reader.now)

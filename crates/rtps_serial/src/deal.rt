@@ -1,6 +1,6 @@
 //! Dealing out by rank.
 
-ghost use Rattle.std.specs.Prelude.{◌≡◌, ℕ, ◌^◌, ◌<◌, ◌≤◌, ◌==◌, ◌++◌, [], ◌∷◌, IfOk, OnOk, List, if◌then◌else◌, length, map, slice_index_or, vec_len};
+ghost use Rattle.std.specs.Prelude.{◌≡◌, ℕ, ◌^◌, ◌<◌, ◌≤◌, ◌==◌, ◌++◌, [], ◌∷◌, IfOk, OnErr, OnOk, List, if◌then◌else◌, length, map, slice_index_or, vec_len};
 ghost use Rattle.rtps_serial.specs.Outcome.{Deals, report_view};
 ghost use Rattle.rtps_serial.specs.World.{ReportView};
 
@@ -36,6 +36,9 @@ pub fn push_by<T: Drop, A: Allocator>(
         → (slice_index_or lists.new.items at other).items
         ≡ (if rank == at then (slice_index_or lists.old.items at other).items
         ++ item ∷ [] else (slice_index_or lists.old.items at other).items)) }
+    ensures refused { OnErr result ((at : ℕ) (other : _) → at < length lists.old.items
+        → (slice_index_or lists.new.items at other).items
+        ≡ (slice_index_or lists.old.items at other).items) }
 {
     let at = rank as usize;
     if at >= lists.len() {

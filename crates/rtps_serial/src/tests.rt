@@ -11,9 +11,9 @@ mod order;
 mod runs;
 
 use crate::*;
-use dds_qos::{Reliability, Requested};
+use dds_qos::Reliability;
 use dds_topic::{Shape, Shapes};
-use rtps_discovery::{Config, FixedMatch, ReaderConfig};
+use rtps_discovery::{Config, ReaderConfig};
 use rtps_reader::{Body, Notice, NoticeKind};
 use rtps_types::{EntityId, Guid, GuidPrefix, Locators};
 use std::alloc::{AllocError, Allocator, Global};
@@ -121,14 +121,10 @@ fn reader_config(
     reliability: Reliability,
     rank: u8,
 ) -> Result<ReaderConfig, AllocError> {
-    let mut requested = Requested::new(alloc);
-    requested.policies.reliability = reliability;
-    Ok(ReaderConfig {
-        entity: EntityId([0, 0, rank.wrapping_add(1), 7]),
-        topic: String::from_str(alloc, "Square")?,
-        type_name: String::from_str(alloc, "ShapeType")?,
-        requested,
-    })
+    let entity = EntityId([0, 0, rank.wrapping_add(1), 7]);
+    let mut reader = ReaderConfig::new(alloc, entity, "Square", "ShapeType")?;
+    reader.requested.policies.reliability = reliability;
+    Ok(reader)
 }
 
 /// The writer of a participant, by each octet of the participant.
@@ -146,22 +142,12 @@ fn config(
     ranks: &[u8],
     fixed: &[(u32, u8)],
 ) -> Result<Config, AllocError> {
-    let mut config = Config {
-        own: GuidPrefix([0x0b; 12]),
-        readers: Vec::new(alloc),
-        fixed: Vec::new(alloc),
-    };
+    let mut config = Config::new(alloc, GuidPrefix([0x0b; 12]));
     for rank in ranks {
-        config
-            .readers
-            .push(reader_config(alloc, reliability, *rank)?)?;
+        config.add_reader(reader_config(alloc, reliability, *rank)?)?;
     }
     for (rank, participant) in fixed {
-        config.fixed.push(FixedMatch {
-            rank: *rank,
-            writer: writer(*participant),
-            locators: Locators::new(Vec::new(alloc)),
-        })?;
+        config.add_fixed(*rank, writer(*participant), Locators::new(Vec::new(alloc)))?;
     }
     Ok(config)
 }

@@ -1,5 +1,5 @@
 -- What one worker gives, and what all of them give.
-use Rattle.std.specs.Prelude.{◌≡◌, ℕ, List, [], ◌∷◌, All, IfOk, Result, Ok, Err, map}
+use Rattle.std.specs.Prelude.{◌≡◌, ◌==◌, ◌+◌, ◌%◌, ℕ, List, [], ◌∷◌, All, IfOk, Result, Ok, Err, if◌then◌else◌, map}
 use Rattle.std.specs.declared.alloc.Global.{Global}
 use Rattle.std.specs.declared.vec.Vec.{Vec}
 use Rattle.rtps_receiver.specs.Events.{EventView}
@@ -7,6 +7,15 @@ use Rattle.dds_topic.specs.Decoding.{Decoding}
 use Rattle.rtps_shards.specs.declared.jobs.JobResult.{JobResult}
 use Rattle.rtps_shards.specs.declared.jobs.ReaderJob.{ReaderJob}
 use Rattle.rtps_shards.specs.Results.{IsDone, IsReady, Share, rank_in, rank_of}
+
+-- Things are dealt out round and round to so many workers, these of them from a number on: those that
+-- are one worker's.
+abbrev pub dealt_to : {X : Type 0} → ℕ → ℕ → ℕ → List X → List X
+dealt_to workers worker at [] = []
+dealt_to workers worker at (x ∷ xs) =
+    if at % workers == worker
+    then x ∷ dealt_to workers worker (at + 1) xs
+    else dealt_to workers worker (at + 1) xs
 
 -- one job is done
 unfoldable pub IsJobDone : {V M E : Type 0} → (V → M) → Decoding M → List EventView → ReaderJob V

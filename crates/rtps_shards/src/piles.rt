@@ -1,9 +1,9 @@
 //! Piles of work, one for each worker.
 
-ghost use Rattle.std.specs.Prelude.{◌≡◌, ◌≤◌, IfOk, OnOk, length};
+ghost use Rattle.std.specs.Prelude.{◌≡◌, ◌<◌, ◌≤◌, ℕ, IfOk, OnOk, length, slice_index_or};
 ghost use Rattle.std.specs.List.{flat_map};
 ghost use Rattle.std.specs.List.Sorted.{IsPermutation};
-ghost use Rattle.rtps_shards.specs.Piles.{AllOk, given_by};
+ghost use Rattle.rtps_shards.specs.Piles.{AllOk, dealt_to, given_by};
 
 use rtps_serial::empty_lists;
 use std::alloc::{AllocError, Global};
@@ -19,6 +19,9 @@ pub(crate) fn deal<T: Drop>(
     ensures count { IfOk result (λ piles. length piles.items ≡ workers) }
     ensures all { IfOk result (λ piles.
         IsPermutation things.items (flat_map (λ p. p.items) piles.items)) }
+    ensures turns { IfOk result (λ piles. (worker : ℕ) (other : _) → worker < workers
+        → (slice_index_or piles.items worker other).items
+        ≡ dealt_to workers worker 0 things.items) }
 {
     let mut piles = empty_lists(alloc, workers)?;
     for (at, thing) in things.into_iter().enumerate() {

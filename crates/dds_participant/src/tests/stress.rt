@@ -7,7 +7,7 @@ use super::{DATA, Line, fit, line, reader_config};
 use crate::*;
 use dds_qos::Reliability;
 use dds_topic::{Shape, Shapes};
-use rtps_discovery::{Config, FixedMatch};
+use rtps_discovery::Config;
 use rtps_reader::Status;
 use rtps_serial::{Report, SerialEngine};
 use rtps_shards::NoGate;
@@ -93,26 +93,19 @@ fn datagrams(alloc: Global, count: u32) -> Result<Vec<Vec<u8>>, AllocError> {
 
 /// Three readers: a reliable one of the first writer, and one of each kind of all three writers.
 fn config(alloc: Global) -> Result<Config, AllocError> {
-    let mut config = Config {
-        own: GuidPrefix([0x0b; 12]),
-        readers: Vec::new(alloc),
-        fixed: Vec::new(alloc),
-    };
+    let mut config = Config::new(alloc, GuidPrefix([0x0b; 12]));
     for rank in [0, 1, 2] {
         let mut reader = reader_config(alloc, rank)?;
         if rank == 2 {
             reader.requested.policies.reliability = Reliability::BestEffort;
         }
-        config.readers.push(reader)?;
+        config.add_reader(reader)?;
         for writer in 0..if rank == 0 { 1 } else { 3 } {
-            config.fixed.push(FixedMatch {
-                rank: u32::from(rank),
-                writer: Guid {
-                    prefix: GuidPrefix([0x0a; 12]),
-                    entity: EntityId([0, 0, writer, 2]),
-                },
-                locators: Locators::new(Vec::new(alloc)),
-            })?;
+            let writer = Guid {
+                prefix: GuidPrefix([0x0a; 12]),
+                entity: EntityId([0, 0, writer, 2]),
+            };
+            config.add_fixed(u32::from(rank), writer, Locators::new(Vec::new(alloc)))?;
         }
     }
     Ok(config)

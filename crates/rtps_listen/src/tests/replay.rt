@@ -8,7 +8,6 @@ use crate::asked::Asked;
 use crate::config::config_of;
 use crate::fault::ListenFault;
 use crate::options::{Options, SamplesOptions};
-use crate::prefix::writer_of;
 use crate::words::read_words;
 use dds_qos::{Durability, Ownership, Reliability};
 use rtps_discovery::check;
@@ -155,27 +154,25 @@ fn lines_of_samples(rt: HostRuntime) -> Result<(), Fail> {
     Ok(())
 }
 
-#[test]
-fn writers(rt: HostRuntime) {
-    assert_eq!(rt; writer_of(THEIRS), Some(WRITER));
-    assert_eq!(rt; writer_of("0102030405060708090A0BAC00AB0102"), Some(WRITER));
-    for text in [
-        "",
-        OURS,
-        "0102030405060708090a0bac00ab010",
-        "0102030405060708090a0bac00ab01020",
-        "0102030405060708090a0bac00ab010x",
-    ] {
-        assert_eq!(rt; writer_of(text), None, "{text}");
-    }
-}
-
 /// Options that are refused, and by which fault. The faults are in the order in which they are found.
-const REFUSED: [(bool, &str, Option<&str>, ListenFault); 6] = [
+const REFUSED: [(bool, &str, Option<&str>, ListenFault); 8] = [
     (false, "0b", Some("0b"), ListenFault::BadPrefix),
     (true, "0b", Some("0b"), ListenFault::BadPrefix),
     (true, THEIRS, None, ListenFault::BadPrefix),
+    // A character that is no digit.
+    (
+        true,
+        "xbcdef000000000000000012",
+        None,
+        ListenFault::BadPrefix,
+    ),
     (true, OURS, Some(OURS), ListenFault::BadWriter),
+    (
+        true,
+        OURS,
+        Some("0102030405060708090a0bac00ab010x"),
+        ListenFault::BadWriter,
+    ),
     // A reader with a key.
     (
         true,

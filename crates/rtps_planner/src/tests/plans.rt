@@ -2,8 +2,7 @@
 
 use super::place;
 use crate::*;
-use dds_qos::Requested;
-use rtps_discovery::{Config, Discovery, FixedMatch, ReaderConfig, check};
+use rtps_discovery::{Config, Discovery, ReaderConfig, check};
 use rtps_receiver::{Body, Event, HeartbeatFrag};
 use rtps_types::{EntityId, Guid, GuidPrefix, Locators, Number};
 use std::alloc::{AllocError, Global};
@@ -28,27 +27,13 @@ fn add_reader(
     rank: u32,
     entity: EntityId,
 ) -> Result<(), AllocError> {
-    config.fixed.push(FixedMatch {
-        rank,
-        writer: WRITER,
-        locators: Locators::new(Vec::new(alloc)),
-    })?;
-    config.readers.push(ReaderConfig {
-        entity,
-        topic: String::from_str(alloc, "Square")?,
-        type_name: String::from_str(alloc, "ShapeType")?,
-        requested: Requested::new(alloc),
-    })?;
-    Ok(())
+    config.add_fixed(rank, WRITER, Locators::new(Vec::new(alloc)))?;
+    config.add_reader(ReaderConfig::new(alloc, entity, "Square", "ShapeType")?)
 }
 
 /// Two readers that are matched with the writer.
 pub(super) fn two_readers(alloc: Global) -> Result<Config, AllocError> {
-    let mut config = Config {
-        own: GuidPrefix([0x0b; 12]),
-        readers: Vec::new(alloc),
-        fixed: Vec::new(alloc),
-    };
+    let mut config = Config::new(alloc, GuidPrefix([0x0b; 12]));
     add_reader(alloc, &mut config, 0, FIRST)?;
     add_reader(alloc, &mut config, 1, SECOND)?;
     Ok(config)

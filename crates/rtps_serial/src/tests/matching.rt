@@ -34,18 +34,14 @@ pub(super) enum Unlike {
 
 /// Two reliable readers and no fixed match.
 pub(super) fn two_unlike(alloc: Global, what: Unlike) -> Result<Config, Fail> {
-    let mut config = Config {
-        own: GuidPrefix([0x0b; 12]),
-        readers: Vec::new(alloc),
-        fixed: Vec::new(alloc),
-    };
+    let mut config = Config::new(alloc, GuidPrefix([0x0b; 12]));
     for (rank, topic, partition) in [(0, "Square", "A"), (1, "Circle", "B")] {
         let mut reader = reader_config(alloc, Reliability::Reliable, rank)?;
         match what {
             Unlike::Topics => reader.topic = String::from_str(alloc, topic)?,
             Unlike::Partitions => reader.requested.partitions = one_partition(alloc, partition)?,
         }
-        config.readers.push(reader)?;
+        config.add_reader(reader)?;
     }
     Ok(config)
 }

@@ -6,9 +6,9 @@ ghost use Rattle.rtps_discovery.specs.Config.{check_of};
 use super::starved::Starved;
 use super::{Failing, octets, text};
 use crate::{Pace, Setup, replay};
-use dds_qos::{Reliability, Requested};
+use dds_qos::Reliability;
 use dds_topic::Shapes;
-use rtps_discovery::{Config, FixedMatch, ReaderConfig, check};
+use rtps_discovery::{Config, ReaderConfig, check};
 use rtps_records::RunFault;
 use rtps_types::{EntityId, Guid, GuidPrefix, Locators};
 use std::alloc::Global;
@@ -59,42 +59,26 @@ pub(super) enum Given {
 
 /// A reader of squares, by its rank.
 fn reader_config(alloc: Global, reliability: Reliability, rank: u8) -> Result<ReaderConfig, Fail> {
-    let mut requested = Requested::new(alloc);
-    requested.policies.reliability = reliability;
-    Ok(ReaderConfig {
-        entity: EntityId([0, 0, rank.wrapping_add(1), 7]),
-        topic: String::from_str(alloc, "Square")?,
-        type_name: String::from_str(alloc, "ShapeType")?,
-        requested,
-    })
+    let entity = EntityId([0, 0, rank.wrapping_add(1), 7]);
+    let mut reader = ReaderConfig::new(alloc, entity, "Square", "ShapeType")?;
+    reader.requested.policies.reliability = reliability;
+    Ok(reader)
 }
 
 /// A configuration of these readers.
 pub(super) fn config_of(alloc: Global, given: Given) -> Result<Config, Fail>
     ensures { IfOk result (λ config. check_of config ≡ Ok tt) }
 {
-    let mut config = Config {
-        own: GuidPrefix([0x0b; 12]),
-        readers: Vec::new(alloc),
-        fixed: Vec::new(alloc),
-    };
+    let mut config = Config::new(alloc, GuidPrefix([0x0b; 12]));
     match given {
         Given::Fixed(reliability) => {
             for rank in 0..2u8 {
-                config
-                    .readers
-                    .push(reader_config(alloc, reliability, rank)?)?;
-                config.fixed.push(FixedMatch {
-                    rank: u32::from(rank),
-                    writer: WRITER,
-                    locators: Locators::new(Vec::new(alloc)),
-                })?;
+                config.add_reader(reader_config(alloc, reliability, rank)?)?;
+                config.add_fixed(u32::from(rank), WRITER, Locators::new(Vec::new(alloc)))?;
             }
         }
         Given::Unmatched => {
-            config
-                .readers
-                .push(reader_config(alloc, Reliability::Reliable, 0)?)?;
+            config.add_reader(reader_config(alloc, Reliability::Reliable, 0)?)?;
         }
     }
     match check(&config) {

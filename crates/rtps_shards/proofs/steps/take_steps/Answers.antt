@@ -29,10 +29,11 @@ loop-planned-preserved g c =
           let one = c.loop-planned.invariant.taken r given stands in
           let after = given ++ job_told decoding r done in
           let two : HasTaken f decoding (share (job_run r done) after (step_seen es step)) mid new
-          = rw c.loop-planned.invariant.same at (c.in_ok-take_step.ensures.taken (job_run r done) after one.stands) in
+          = subst (λ job. HasTaken f decoding (share (job_run r done) after job) mid new) c.step_of-step.ensures (rw c.loop-planned.invariant.same at (c.in_ok-take_step.ensures.taken (job_run r done) after one.stands)) in
           subst (λ job. HasTaken f decoding (share r given job) old new) (sym whole) (taken_more f decoding r given done (step_seen es step) old mid new one two);
       ranks = (c.take_step.ensures.ranks.0 ∙ c.loop-planned.invariant.ranks.0, c.take_step.ensures.ranks.1 ∙ c.loop-planned.invariant.ranks.1);
       same = c.take_step.ensures.same ∙ c.loop-planned.invariant.same;
+      nothing = c.in_ok-take_step.ensures.nothing;
     }
 
 pub returns-clause-taken : goal.returns-clause-taken

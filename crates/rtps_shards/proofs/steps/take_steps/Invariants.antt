@@ -1,5 +1,6 @@
 use Rattle.std.proofs.Common.{◌≡◌, List, map, take}
 use Rattle.rtps_receiver.specs.Events.{view}
+use Rattle.rtps_proxy.specs.Effects.{GivesNothing}
 use Rattle.rtps_reader.specs.declared.notice.Notice.{Notice}
 use Rattle.rtps_reader.specs.Reader.{Reader}
 use Rattle.rtps_reader.specs.Standing.{StandsAt}
@@ -14,4 +15,5 @@ invariant-loop-planned g l = record {
       → HasTaken g.C.Catalog.view (g.C.Catalog.decoding l.fn.decoder) (share r given (steps_seen (map view l.events) (take l.planned-index l.steps))) l.fn.done l.done;
   ranks : (l.done.rank ≡ l.fn.done.rank) × (l.done.state.rank ≡ l.fn.done.state.rank);
   same : l.decoder ≡ l.fn.decoder;
+  nothing : GivesNothing l.effects;
 }

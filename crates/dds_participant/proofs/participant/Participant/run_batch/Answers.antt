@@ -4,6 +4,7 @@ use Rattle.rtps_serial.specs.Outcome.{Adds}
 use Rattle.rtps_serial.specs.World.{World}
 use Rattle.dds_participant.specs.Kept.{ParticipantView}
 use Rattle.dds_participant.proofs.Taken.{adds_after, stands_after}
+use Rattle.dds_participant.proofs.Counting.{batch_counted}
 use Rattle.dds_participant.proofs.participant.Participant.run_batch.Goals as goal
 
 pub outcome_of-requires-clause-readers : goal.outcome_of-requires-clause-readers
@@ -37,3 +38,7 @@ pub returns-clause-adds : goal.returns-clause-adds
 returns-clause-adds g c earlier kept =
     adds_after g.C.Catalog.decoding earlier (map (λ d. d.now) c.args.datagrams.now) c.args.self.now c.admit.new.self c.run.new.self kept c.in_ok-admit.ensures.ok.2
     (λ (before after : World g.C.Catalog.Meaning). Adds g.C.Catalog.view before after c.in_ok-outcome.outcome) (λ w kept. c.in_ok-outcome.ensures w _ (c.in_ok-given.ensures.gives w kept))
+
+pub returns-clause-counts : goal.returns-clause-counts
+returns-clause-counts g c taken was =
+    batch_counted taken (length c.args.datagrams.now) c.args.self.now c.admit.new.self c.run.new.self c.finish.new.self was c.in_ok-admit.ensures.ok.2 c.run.ensures.same c.finish.ensures

@@ -5,6 +5,7 @@ use Rattle.dds_participant.specs.Given.{HoldsNothing, IsGiven}
 use Rattle.dds_participant.specs.Kept.{ParticipantView}
 use Rattle.dds_participant.proofs.Leaving.{left_alone, left_empty}
 use Rattle.dds_participant.proofs.Taken.{adds_after, stands_after}
+use Rattle.dds_participant.proofs.Counting.{batch_counted}
 use Rattle.dds_participant.proofs.participant.Participant.run_in_order.Goals as goal
 
 pub finish-requires-clause-readers : goal.finish-requires-clause-readers
@@ -38,3 +39,7 @@ returns-in_err-admit-clause-lists g c = left_alone c.from_residual.result c.in_e
 
 pub returns-in_err-given-clause-lists : goal.returns-in_err-given-clause-lists
 returns-in_err-given-clause-lists g c = left_empty c.from_residual-in_err-given.result c.args.given.now _ c.from_residual-in_err-given.ensures.1 (subst HoldsNothing (sym c.replace-lent.ensures.after) c.new.ensures)
+
+pub returns-clause-counts : goal.returns-clause-counts
+returns-clause-counts g c taken was =
+    batch_counted taken (length c.args.datagrams.now) c.args.self.now c.admit.new.self c.run.new.self c.finish.new.self was c.in_ok-admit.ensures.ok.2 c.run.ensures.same c.finish.ensures

@@ -38,8 +38,8 @@ take_whole-requires-clause-there g c =
 above_top : (r : BestEffortView) (f : FragmentView) (t : Bool) → t ≡ takes_above r f → t ≡ true → r.top < f.number
 above_top r f t is h = let over : ltb r.top f.number ≡ true = (and_both (ltb r.top f.number) _ (sym is ∙ h)).0 in grind (arith, nat_tests)
 
-pub receive-requires : goal.receive-requires
-receive-requires g c =
+pub receive-requires-clause-above : goal.receive-requires-clause-above
+receive-requires-clause-above g c =
     let over = above_top (best_effort_view c.args.self.now) (fragment_view c.args.fragment.now) c.takes.result c.takes.ensures c.if-not-takes.false in
     rw (c.in-Some.ensures.number ∙ c.get-number.ensures.value) over
 
@@ -47,7 +47,7 @@ pub returns-then-not-takes : goal.returns-then-not-takes
 returns-then-not-takes g c = λ past at.
     let f = fragment_view c.args.fragment.now in
     let left : takes_fragments (taken past) f ≡ false = sym (takes_then past f (best_effort_view c.args.self.now) at) ∙ sym c.takes.ensures ∙ c.if-not-takes.true in
-    receives_none past (frags_at c.args.time f) (left_none past c.args.time f left) _ _ at.top (at.pending ∙ sym (left_begun past c.args.time f left)) at.sound c.none.ensures.lost c.none.ensures.ready c.none.ensures.answer
+    receives_none past (frags_at c.args.time f) (left_none past c.args.time f left) _ _ at.top (at.pending ∙ sym (left_begun past c.args.time f left)) at.sound c.requires.lost c.requires.ready c.requires.answer
 
 pub returns-in-None : goal.returns-in-None
 returns-in-None g c = λ past at.
@@ -61,7 +61,7 @@ returns-in-None g c = λ past at.
     in
     receives_none past (frags_at c.args.time f) (taken_ready past c.args.time f takes_it ∙ ap listed (sym whole)) _ _ at.top
     (c.displace.ensures.left ∙ ap last_64 (c.in-None.ensures.none ∙ put_is) ∙ sym (taken_last past c.args.time f takes_it))
-    (c.displace.ensures.sound (c.take_whole.ensures.sound sound)) c.none-in-None.ensures.lost c.none-in-None.ensures.ready c.none-in-None.ensures.answer
+    (c.displace.ensures.sound (c.take_whole.ensures.sound sound)) c.requires.lost c.requires.ready c.requires.answer
 
 pub returns-in-Some : goal.returns-in-Some
 returns-in-Some g c = λ past at.
@@ -85,7 +85,7 @@ returns-in-Some g c = λ past at.
     ∙ ap (λ n. above n (brings past event)) (sym number)
     in
     receives past event s (taken_ready past c.args.time f takes_it ∙ ap listed (sym whole)) c.args.self.now.top (pending_views c.take_whole.new.pending.items) at.top left
-    (best_effort_view c.receive.new.self) c.receive.result c.receive.ensures.top c.receive.ensures.pending (c.receive.ensures.sound (c.take_whole.ensures.sound sound))
+    (best_effort_view c.receive.new.self) c.receive.new.effects c.receive.result c.receive.ensures.top c.receive.ensures.pending (c.receive.ensures.sound (c.take_whole.ensures.sound sound))
     c.receive.ensures.lost c.receive.ensures.ready c.receive.ensures.answer
   where
     not_itself : (m n : ℕ) → n ≡ m → ltb m n ≡ false

@@ -58,9 +58,9 @@ returns-in_default g c = λ pairing past at.
         frag_counts = at.frag_counts;
         nacks = at.nacks;
       };
-      lost = c.none.ensures.lost ∙ sym (lost_nothing past event refl);
-      ready = ap (map change_view) c.none.ensures.ready ∙ sym (none_ready past event same);
-      answer = rw c.none.ensures.answer refl;
+      lost = c.requires.lost ∙ sym (lost_nothing past event refl);
+      ready = ap (map change_view) c.requires.ready ∙ sym (none_ready past event same);
+      answer = rw c.requires.answer refl;
     }
 
 pub take_whole-requires-clause-place : goal.take_whole-requires-clause-place
@@ -126,9 +126,9 @@ returns-in_default-take_whole g c = λ pairing past at.
         frag_counts = at.frag_counts;
         nacks = at.nacks;
       };
-      lost = c.none-in_default-take_whole.ensures.lost ∙ sym (lost_nothing past event refl);
-      ready = ap (map change_view) c.none-in_default-take_whole.ensures.ready ∙ sym (none_ready past event same);
-      answer = rw c.none-in_default-take_whole.ensures.answer refl;
+      lost = c.requires.lost ∙ sym (lost_nothing past event refl);
+      ready = ap (map change_view) c.requires.ready ∙ sym (none_ready past event same);
+      answer = rw c.requires.answer refl;
     }
 
 pub returns : goal.returns
@@ -186,10 +186,10 @@ returns g c = λ pairing past at.
         frag_counts = at.frag_counts;
         nacks = at.nacks;
       };
-      lost = c.only_ready.ensures.lost ∙ sym (lost_nothing past event refl);
-      ready = ap (map change_view) c.only_ready.ensures.ready ∙ c.in_ok-release.ensures.taken
-          ∙ ap (λ xs. map change_view xs ++ front_below new.frontier (map change_view c.hold.new.held.items)) c.new-ready.ensures.items
+      lost = c.requires.lost ∙ sym (lost_nothing past event refl);
+      ready = c.in_ok-release.ensures.taken
+          ∙ ap (λ xs. map change_view xs ++ front_below new.frontier (map change_view c.hold.new.held.items)) c.requires.ready
           ∙ ap (front_below new.frontier) held_now ∙ front_is new.frontier (put s waiting) rises_now
           ∙ settle_ready past event new.frontier new.runs (put s waiting) after with_it;
-      answer = rw c.only_ready.ensures.answer refl;
+      answer = rw c.requires.answer refl;
     }

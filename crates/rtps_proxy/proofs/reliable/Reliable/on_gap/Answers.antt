@@ -20,7 +20,7 @@ returns g c = λ pairing time past at.
     let before : Shows past old.frontier old.runs = record { settled = at.settled; apart = apart_from old.frontier old.runs old.apart } in
     let after = names_shows past event old.frontier new.frontier old.runs new.runs before refl refl c.in_ok-add_named.ensures (apart_from new.frontier new.runs new.apart) in
     let keeps : (n : ℕ) → marks old.frontier old.runs n ≡ true → marks new.frontier new.runs n ≡ true = (λ n h. c.in_ok-add_named.ensures n ∙ ap (λ b. names event.body n || b) h ∙ or_true (names event.body n)) in
-    let none_first : map change_view c.new-ready.result.items ++ front_below new.frontier (map change_view c.args.self.now.held.items) ≡ front_below new.frontier (map change_view c.args.self.now.held.items) = rw c.new-ready.ensures.items refl in
+    let none_first : map change_view c.args.effects.now.ready.items ++ front_below new.frontier (map change_view c.args.self.now.held.items) ≡ front_below new.frontier (map change_view c.args.self.now.held.items) = rw c.requires.ready refl in
     record {
       stands = record {
         counts = at.counts;
@@ -34,7 +34,7 @@ returns g c = λ pairing time past at.
         frag_counts = at.frag_counts;
         nacks = at.nacks;
       };
-      lost = c.only_ready.ensures.lost ∙ sym (lost_nothing past event refl);
-      ready = ap (map change_view) c.only_ready.ensures.ready ∙ c.in_ok-release.ensures.taken ∙ none_first ∙ split_ready past event new.frontier new.runs (map change_view c.args.self.now.held.items) after.0 refl at.held;
-      answer = rw c.only_ready.ensures.answer refl;
+      lost = c.requires.lost ∙ sym (lost_nothing past event refl);
+      ready = c.in_ok-release.ensures.taken ∙ none_first ∙ split_ready past event new.frontier new.runs (map change_view c.args.self.now.held.items) after.0 refl at.held;
+      answer = rw c.requires.answer refl;
     }

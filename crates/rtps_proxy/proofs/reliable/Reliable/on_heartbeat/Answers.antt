@@ -43,9 +43,9 @@ returns-then-not-is_accepted g c = λ time past at.
         frag_counts = at.frag_counts;
         nacks = at.nacks;
       };
-      lost = c.none.ensures.lost ∙ sym (lost_nothing past event (refused_first past time h refused));
-      ready = ap (map change_view) c.none.ensures.ready ∙ sym (none_ready past event same);
-      answer = rw (c.none.ensures.answer, refused_answer past time h refused) refl;
+      lost = c.requires.lost ∙ sym (lost_nothing past event (refused_first past time h refused));
+      ready = ap (map change_view) c.requires.ready ∙ sym (none_ready past event same);
+      answer = rw (c.requires.answer, refused_answer past time h refused) refl;
     }
 
 pub returns : goal.returns
@@ -67,7 +67,7 @@ returns g c = λ time past at.
     let asks : Bool = not b.final_flag || (not b.liveliness && lacks (marks new.frontier new.runs) c.max-self.result) in
     let due : is_answered past event ≡ asks = answered_is past time h accepted new.frontier c.max-self.result new.runs after.0 announced in
     let begun : has_heartbeat past ≡ is_some c.args.self.now.accepted = at.begun in
-    let none_first : map change_view c.new-ready.result.items ++ front_below new.frontier waiting ≡ front_below new.frontier waiting = rw c.new-ready.ensures.items refl in
+    let none_first : map change_view c.args.effects.now.ready.items ++ front_below new.frontier waiting ≡ front_below new.frontier waiting = rw c.requires.ready refl in
     let lost_is : c.lost_below-lost.result ≡ lost past event = c.lost_below-lost.ensures ∙ rw (sym begun, c.get-first.ensures.value, beat_lost past time h accepted old.frontier old.runs before) refl in
     record {
       stands = subst (λ (k : ReliableView). ReliableStandsAt (event ∷ past) k) (sym c.in_ok-answer.ensures.kept) (record {

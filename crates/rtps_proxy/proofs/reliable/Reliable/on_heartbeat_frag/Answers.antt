@@ -65,9 +65,9 @@ returns-then-not-is_frag_accepted g c = λ time past at.
         frag_counts = λ next. ap (λ d. int_lt b.count next && d) (at.frag_counts next) ∙ refused_counts c.args.self.now.frag_accepted b.count next exceeded;
         nacks = nacks_counted past (is_some (asked_frags past h)) c.args.self.now.nacks c.args.self.now.nacks at.nacks (rw asked refl);
       };
-      lost = c.none.ensures.lost ∙ sym (lost_nothing past event refl);
-      ready = ap (map change_view) c.none.ensures.ready ∙ sym (none_ready past event (λ n. refl));
-      answer = rw (c.none.ensures.answer, asked) refl;
+      lost = c.requires.lost ∙ sym (lost_nothing past event refl);
+      ready = ap (map change_view) c.requires.ready ∙ sym (none_ready past event (λ n. refl));
+      answer = rw (c.requires.answer, asked) refl;
     }
 
 pub returns-in_default : goal.returns-in_default
@@ -92,9 +92,9 @@ returns-in_default g c = λ time past at.
         frag_counts = λ next. rw e (ap (λ d. int_lt b.count next && d) (at.frag_counts next) ∙ newer c.args.self.now.frag_accepted b.count next exceeded);
         nacks = nacks_counted past (is_some (asked_frags past h)) c.args.self.now.nacks c.args.self.now.nacks at.nacks (rw asked refl);
       };
-      lost = c.none-in_default.ensures.lost ∙ sym (lost_nothing past event refl);
-      ready = ap (map change_view) c.none-in_default.ensures.ready ∙ sym (none_ready past event (λ n. refl));
-      answer = rw (c.none-in_default.ensures.answer, asked) refl;
+      lost = c.requires.lost ∙ sym (lost_nothing past event refl);
+      ready = ap (map change_view) c.requires.ready ∙ sym (none_ready past event (λ n. refl));
+      answer = rw (c.requires.answer, asked) refl;
     }
 
 pub returns : goal.returns
@@ -119,7 +119,7 @@ returns g c = λ time past at.
         frag_counts = λ next. rw e (ap (λ d. int_lt b.count next && d) (at.frag_counts next) ∙ newer c.args.self.now.frag_accepted b.count next exceeded);
         nacks = nacks_counted past (is_some (asked_frags past h)) c.args.self.now.nacks ((c.args.self.now.nacks + 1) % 2 ^ 32) at.nacks (rw asked refl);
       };
-      lost = sym (lost_nothing past event refl);
-      ready = ap (map change_view) c.new.ensures.items ∙ sym (none_ready past event (λ n. refl));
+      lost = c.requires.lost ∙ sym (lost_nothing past event refl);
+      ready = ap (map change_view) c.requires.ready ∙ sym (none_ready past event (λ n. refl));
       answer = nack_sent (pairing c.args.config.now) past h c.args.self.now.nacks (frag_view c.in-Some.missing) _ asked at.nacks c.in_ok-reply.ensures;
     }

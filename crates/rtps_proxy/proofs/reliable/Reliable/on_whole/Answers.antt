@@ -39,9 +39,9 @@ returns-in_default g c = λ pairing past at.
         frag_counts = at.frag_counts;
         nacks = at.nacks;
       };
-      lost = c.none.ensures.lost ∙ sym (lost_nothing past event refl);
-      ready = ap (map change_view) c.none.ensures.ready ∙ sym (none_ready past event same);
-      answer = rw c.none.ensures.answer refl;
+      lost = c.requires.lost ∙ sym (lost_nothing past event refl);
+      ready = ap (map change_view) c.requires.ready ∙ sym (none_ready past event same);
+      answer = rw c.requires.answer refl;
     }
 
 pub returns-then-number-self : goal.returns-then-number-self
@@ -82,9 +82,9 @@ returns-then-number-self g c = λ pairing past at.
         frag_counts = at.frag_counts;
         nacks = at.nacks;
       };
-      lost = c.none-then-number-self.ensures.lost ∙ sym (lost_nothing past event refl);
-      ready = ap (map change_view) c.none-then-number-self.ensures.ready ∙ sym (none_yet past event (change_of c.args.time change) old.frontier new.frontier old.runs new.runs waiting takes_it behind);
-      answer = rw c.none-then-number-self.ensures.answer refl;
+      lost = c.requires.lost ∙ sym (lost_nothing past event refl);
+      ready = ap (map change_view) c.requires.ready ∙ sym (none_yet past event (change_of c.args.time change) old.frontier new.frontier old.runs new.runs waiting takes_it behind);
+      answer = rw c.requires.answer refl;
     }
 
 pub returns : goal.returns
@@ -110,7 +110,7 @@ returns g c = λ pairing past at.
     } in
     let keeps : (n : ℕ) → marks old.frontier old.runs n ≡ true → marks new.frontier new.runs n ≡ true = (λ n m. takes_it.adds n ∙ ap (λ d. (leb change.number n && ltb n (change.number + 1)) || d) m ∙ or_true (leb change.number n && ltb n (change.number + 1))) in
     let below : change.number < new.frontier = rw c.get-number.ensures.value at c.if-number-self.false in
-    let first : map change_view c.push.new.self.items ≡ change_of c.args.time change ∷ [] = rw (c.in_ok-push.ensures.items, c.new-ready.ensures.items, c.lent.ensures) refl in
+    let first : map change_view c.push.new.self.items ≡ change_of c.args.time change ∷ [] = rw (c.in_ok-push.ensures.items, c.requires.ready, c.lent.ensures) refl in
     record {
       stands = record {
         counts = at.counts;
@@ -124,7 +124,7 @@ returns g c = λ pairing past at.
         frag_counts = at.frag_counts;
         nacks = at.nacks;
       };
-      lost = c.only_ready.ensures.lost ∙ sym (lost_nothing past event refl);
-      ready = ap (map change_view) c.only_ready.ensures.ready ∙ c.in_ok-release.ensures.taken ∙ ap (λ (ss : List ChangeView). ss ++ front_below new.frontier waiting) first ∙ ready_at_once past event (change_of c.args.time change) old.frontier new.frontier old.runs new.runs waiting takes_it below;
-      answer = rw c.only_ready.ensures.answer refl;
+      lost = c.requires.lost ∙ sym (lost_nothing past event refl);
+      ready = c.in_ok-release.ensures.taken ∙ ap (λ (ss : List ChangeView). ss ++ front_below new.frontier waiting) first ∙ ready_at_once past event (change_of c.args.time change) old.frontier new.frontier old.runs new.runs waiting takes_it below;
+      answer = rw c.requires.answer refl;
     }

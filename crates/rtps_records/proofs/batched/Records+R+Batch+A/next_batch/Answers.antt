@@ -15,12 +15,12 @@ loop-self-init g c =
 
 pub overflow_add-self : goal.overflow_add-self
 overflow_add-self g c =
-    let next = more _ _ _ _ _ _ (records_in c.read.new.self) _ c.loop-self.invariant.so_far c.in-More.is c.in_ok-end.ensures in
+    let next = more _ _ _ _ _ _ (records_in c.read.new.self) _ c.loop-self.invariant.so_far c.in-More.is c.in_ok-end.ensures.reads in
     search (rules, next)
 
 pub loop-self-smaller : goal.loop-self-smaller
 loop-self-smaller g c =
-    let next = more _ _ _ _ _ _ (records_in c.read.new.self) _ c.loop-self.invariant.so_far c.in-More.is c.in_ok-end.ensures in
+    let next = more _ _ _ _ _ _ (records_in c.read.new.self) _ c.loop-self.invariant.so_far c.in-More.is c.in_ok-end.ensures.reads in
     let old = length-cut c.loop-self.self.buffer.lengths.items c.loop-self.self.buffer.octets.items in
     let new = length-cut c.read.new.self.lengths.items c.read.new.self.octets.items in
     let room : length c.loop-self.self.buffer.lengths.items < c.args.most = search rules in
@@ -28,7 +28,7 @@ loop-self-smaller g c =
 
 pub loop-self-preserved : goal.loop-self-preserved
 loop-self-preserved g c =
-    let next = more _ _ _ _ _ _ (records_in c.read.new.self) _ c.loop-self.invariant.so_far c.in-More.is c.in_ok-end.ensures in
+    let next = more _ _ _ _ _ _ (records_in c.read.new.self) _ c.loop-self.invariant.so_far c.in-More.is c.in_ok-end.ensures.reads in
     let old = length-cut c.loop-self.self.buffer.lengths.items c.loop-self.self.buffer.octets.items in
     let room : length c.loop-self.self.buffer.lengths.items < c.args.most = search rules in
     record {
@@ -39,12 +39,13 @@ loop-self-preserved g c =
 
 pub returns-in_default : goal.returns-in_default
 returns-in_default g c =
-    let reads = ends_here _ _ _ _ _ _ (records_in c.read.new.self) _ c.loop-self.invariant.so_far c.in_ok-end.ensures c.in_default.not-More in
+    let reads = ends_here _ _ _ _ _ _ (records_in c.read.new.self) _ c.loop-self.invariant.so_far c.in_ok-end.ensures.reads c.in_default.not-More in
     record {
       same_reader = c.loop-self.invariant.same_reader;
       reads = reads;
       few = omega (arith, reads.count, c.loop-self.invariant.so_far.count, c.loop-self.invariant.few);
       fault = tt;
+      refused = tt;
     }
 
 pub returns-else-has_room-clause-reads : goal.returns-else-has_room-clause-reads

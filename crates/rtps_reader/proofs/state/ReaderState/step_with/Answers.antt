@@ -1,6 +1,6 @@
 use Rattle.std.proofs.Common.{sym, subst}
 use Rattle.rtps_reader.specs.Standing.{StandsAt, kept_by}
-use Rattle.rtps_reader.proofs.state.ReaderState.step.Goals as goal
+use Rattle.rtps_reader.proofs.state.ReaderState.step_with.Goals as goal
 
 pub returns-clause-stands : goal.returns-clause-stands
 returns-clause-stands g c r given stands =

@@ -6,7 +6,7 @@ use Rattle.rtps_proxy.specs.Effects.{match_event}
 use Rattle.rtps_proxy.specs.Matches.{AllStand, IsSpentAt, extended}
 use Rattle.rtps_types.specs.Order.{guid_order}
 use Rattle.rtps_proxy.proofs.Matching.{matched, not_matched}
-use Rattle.rtps_proxy.proofs.matches.Matches.on_event.Goals as goal
+use Rattle.rtps_proxy.proofs.matches.Matches.on_event_into.Goals as goal
 
 pub returns-in_default-clause-stands : goal.returns-in_default-clause-stands
 returns-in_default-clause-stands g c ms all =
@@ -32,8 +32,8 @@ returns-clause-stands g c ms all =
     let some : lookup (λ k. is_eq (guid_order w k)) c.self.inside.proxies.entries ≡ Some c.in-Some.proxy.now = sym c.get_mut.ensures.value ∙ ap option_copied_mut c.in-Some.is in
     let kept : AllStand ms c.self.inside.proxies.entries = subst (AllStand ms) (sym c.self.view_is) all in
     let found = matched w e ms c.self.inside.proxies.entries c.in-Some.proxy.now kept some in
-    subst (AllStand (extended w e ms)) (sym (c.get_mut.follows.holds c.on_event.new.self).0)
-    (found.after c.on_event.new.self c.in_ok-effects.ensures.pairing (c.in_ok-effects.ensures.stands found.match.past found.stands))
+    subst (AllStand (extended w e ms)) (sym (c.get_mut.follows.holds c.on_event_into.new.self).0)
+    (found.after c.on_event_into.new.self c.in_ok-on_event_into.ensures.pairing (c.in_ok-on_event_into.ensures.stands found.match.past found.stands))
 
 pub returns-clause-effects : goal.returns-clause-effects
 returns-clause-effects g c ms all =
@@ -42,21 +42,21 @@ returns-clause-effects g c ms all =
     let some : lookup (λ k. is_eq (guid_order w k)) c.self.inside.proxies.entries ≡ Some c.in-Some.proxy.now = sym c.get_mut.ensures.value ∙ ap option_copied_mut c.in-Some.is in
     let kept : AllStand ms c.self.inside.proxies.entries = subst (AllStand ms) (sym c.self.view_is) all in
     let found = matched w e ms c.self.inside.proxies.entries c.in-Some.proxy.now kept some in
-    rw (found.is, found.pairing) (c.in_ok-effects.ensures.effects found.match.past found.stands)
+    rw (found.is, found.pairing) (c.in_ok-on_event_into.ensures.effects found.match.past found.stands)
 
-pub returns-in_err-effects-clause-err : goal.returns-in_err-effects-clause-err
-returns-in_err-effects-clause-err g c =
+pub returns-in_err-on_event_into-clause-err : goal.returns-in_err-on_event_into-clause-err
+returns-in_err-on_event_into-clause-err g c =
     let w = c.args.writer in
     let some : lookup (λ k. is_eq (guid_order w k)) c.self.inside.proxies.entries ≡ Some c.in-Some.proxy.now = sym c.get_mut.ensures.value ∙ ap option_copied_mut c.in-Some.is in
-    let spent : c.on_event.new.self.spent ≡ true = search rules in
-    let at : IsSpentAt w c.self.inside.proxies.entries (c.get_mut.follows.lender c.on_event.new.self).entries =
+    let spent : c.on_event_into.new.self.spent ≡ true = search rules in
+    let at : IsSpentAt w c.self.inside.proxies.entries (c.get_mut.follows.lender c.on_event_into.new.self).entries =
     record {
       was = c.in-Some.proxy.now;
-      kept = c.on_event.new.self;
+      kept = c.on_event_into.new.self;
       found = some;
-      pairing = c.on_event.ensures.pairing;
+      pairing = c.on_event_into.ensures.pairing;
       spent = spent;
-      others = (c.get_mut.follows.holds c.on_event.new.self).0;
+      others = (c.get_mut.follows.holds c.on_event_into.new.self).0;
     } in
-    let here : IsSpentAt w c.args.self.now (c.get_mut.follows.lender c.on_event.new.self).entries = subst (λ old. IsSpentAt w old (c.get_mut.follows.lender c.on_event.new.self).entries) c.self.view_is at in
+    let here : IsSpentAt w c.args.self.now (c.get_mut.follows.lender c.on_event_into.new.self).entries = subst (λ old. IsSpentAt w old (c.get_mut.follows.lender c.on_event_into.new.self).entries) c.self.view_is at in
     search rules
