@@ -34,16 +34,6 @@ later n i = omega arith
 module _ {M : Type 0} where
   -- ---- the entries at places
 
-  pub placed_above : (low n : ℕ) (row : List (Option (Entry M))) → low ≤ n → AllByRecursion (λ e. low ≤ e.0) (placed n row)
-  placed_above low n [] h = tt
-  placed_above low n (None ∷ row) h = placed_above low (suc n) row (omega (arith, h))
-  placed_above low n (Some e ∷ row) h = (h, placed_above low (suc n) row (omega (arith, h)))
-
-  pub placed_rising : (low n : ℕ) (row : List (Option (Entry M))) → low ≤ n → Rising low (placed n row)
-  placed_rising low n [] h = tt
-  placed_rising low n (None ∷ row) h = placed_rising low (suc n) row (omega (arith, h))
-  placed_rising low n (Some e ∷ row) h = (h, placed_rising (suc n) (suc n) row (omega arith))
-
   pub placed_last : (n : ℕ) (row : List (Option (Entry M))) (e : Entry M) → placed n (row ++ Some e ∷ []) ≡ placed n row ++ (n + length row, e) ∷ []
   placed_last n [] e = ap (λ m. (m, e) ∷ []) (sym (nothing_on n))
   placed_last n (None ∷ row) e = placed_last (suc n) row e ∙ ap (λ m. placed (suc n) row ++ (m, e) ∷ []) (one_on n (length row))

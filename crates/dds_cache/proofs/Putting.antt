@@ -22,9 +22,3 @@ not_before false false added was is = refl
 pub put_where : (read there added : Bool) → added ≡ true → added ≡ (not read && not there) → (new old put : List ℕ) → new ≡ (if read then old else put) → new ≡ put
 put_where true there added was is new old put so = let bad : false ≡ true = sym is ∙ was in absurd cc
 put_where false there added was is new old put so = so
-
--- a pair that joined wasn't there
-pub joined_where : (value there joined : Bool) → joined ≡ true → joined ≡ (value && not there) → there ≡ false
-joined_where true true joined was is = let bad : false ≡ true = sym is ∙ was in absurd cc
-joined_where true false joined was is = refl
-joined_where false there joined was is = let bad : false ≡ true = sym is ∙ was in absurd cc

@@ -42,9 +42,6 @@ with_number n i = record i { numbers = insert_key nat_cmp i.numbers n }
 abbrev pub with_numbers : List ℕ → InstanceView → InstanceView
 with_numbers ns i = record i { numbers = ns }
 
-abbrev pub without_number : ℕ → InstanceView → InstanceView
-without_number n i = record i { numbers = remove_key (is_number n) i.numbers }
-
 -- an entry of it was read, and stays; it was taken
 abbrev pub seen : InstanceView → InstanceView
 seen i = record i { is_new = false }
