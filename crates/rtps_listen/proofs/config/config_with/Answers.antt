@@ -9,6 +9,6 @@ loop-rank-preserved c = (
   rw c.match_with.ensures.others.1
       (readers_more _ _ c.in_ok-reader.reader _ _ _ c.in_ok-add_reader.ensures.added c.loop-rank.invariant.1 c.in_ok-reader.ensures),
   c.in_ok-match_with.ensures.fixed
-  ∙ rw c.add_reader.ensures.others.1 (ap (λ fixed. fixed ++ match_at c.args.writer c.loop-rank.rank) c.loop-rank.invariant.2)
-  ∙ sym (matches_more c.args.writer c.loop-rank.rank),
+      ∙ rw c.add_reader.ensures.others.1 (ap (λ fixed. fixed ++ match_at c.args.writer c.loop-rank.rank) c.loop-rank.invariant.2)
+      ∙ sym (matches_more c.args.writer c.loop-rank.rank),
 )
