@@ -7,9 +7,9 @@ written: a body changes no contract, so the goals of its callers stay what they 
 answers against them. Without answers a function waits for those that it calls, so they are not tried together. Edits
 whose functions wait for others that were edited are tried again, without those that were refused. What leaves a doubt
 is tried alone, by a check of the whole crate: an edit outside a function's body, one in several functions, and one that
-was not refused among others. An edit of a function that another's proof names is never among others. Where an edit that is
-tried alone has a function in `refused_by.txt`, a check of this one comes first, and one of the whole crate only where it is
-still proved.
+was not refused among others. An edit of a function that another's proof names is never among others. An edit that has a
+function in `refused_by.txt` is tried alone: a check of this function comes first, and one of the whole crate only where it
+is still proved. A check of the whole crate names the function that belongs there.
 """
 
 import re
@@ -17,6 +17,8 @@ from dataclasses import dataclass
 
 MOST_AT_ONCE = 10
 FUNCTION = re.compile(r"( *)(?:pub(?:\([a-z]+\))? )?(?:const )?fn (\w+)")
+OF_OTHERS = re.compile(r"which (is|are) not proved|rests on|waits for")
+"""What the checker says of a function whose proof hangs on that of another."""
 PROOF_NAMES = re.compile(r"has no field|is not in scope|has no `|was not admitted|was rejected")
 
 
@@ -202,13 +204,14 @@ def reach_of(folder):
 
 
 def groups_of(edits, folder):
-    """Edits in groups to be tried in one check each, and those that are tried alone by a check of the whole crate. A
-    function of a group reaches another one only where answers to its own goals are written."""
+    """Edits in groups to be tried in one check each, and those that are tried alone: where it is known which function
+    refuses it, and where no one function holds it. A function of a group reaches another one only where answers to its
+    own goals are written."""
     own, groups, whole, reach = [], [], [], reach_of(folder)
     waits = {function: found for function, found in reach.items() if not is_answered(function, folder)}
     for edit in edits:
         edit.function = function_of(edit, folder)
-        if edit.function is None:
+        if edit.function is None or edit.by:
             whole.append(edit)
         elif is_named_elsewhere(edit.function, folder):
             own.append([edit])
@@ -240,7 +243,7 @@ def said_in_group(edit, crate, lines):
     proof = re.compile(rf"(\./)?{edit.function.folder()}/\w+\.antt:\d+:\d+: error: (.*)")
     faults = [found[2] for found in map(proof.match, lines) if found]
     own = [fault for fault in faults if not PROOF_NAMES.search(fault)]
-    if re.search(r"which (is|are) not proved|rests on|waits for", said[0]):
+    if OF_OTHERS.search(said[0]):
         is_own = said[0].startswith("not proved") and any(re.match("`[^`]+`: ", fault) for fault in own)
         return "refused" if is_own else "waits"
     return "refused" if "did not prove" in said[0] or own else "doubt"
@@ -274,13 +277,20 @@ def is_refused_by(edit, status, lines):
     return status == 1 and is_said and not unreadable(edit, lines)
 
 
+def refuser_in(lines):
+    """The first function of which a check says that it is not proved, whatever others do; none where there is none."""
+    said = (re.match(r"fn (\S+): (?:no proof|not proved)(.*)", line) for line in lines)
+    return next((found[1] for found in said if found and not OF_OTHERS.search(found[2])), "")
+
+
 def judge_alone(edit, status, lines):
     """Whether the checker refuses a crate with this edit alone, and what to say of it."""
     fault = unreadable(edit, lines)
     if fault:
         return False, f"BAD EDIT: the edited text can't be read, so no contract was tried: {fault[:200]}"
     if status == 1 and "logic=not-proved" in lines:
-        return True, "refused"
+        by = refuser_in(lines)
+        return True, f"refused by {by}" if by else "refused"
     if status == 0:
         return False, "NOT REFUSED: the crate is still proved with this edit"
     return False, f"BAD EDIT: the check ended with status {status} and judged nothing"

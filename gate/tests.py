@@ -314,6 +314,12 @@ class Edits(Repository):
         groups, whole = edits.groups_of([step, *self.three()], self.crate("low").folder)
         self.assertEqual((2, [step]), (len(groups), whole))
 
+    def test_an_edit_whose_refuser_is_known_is_tried_alone(self):
+        first, follows, one = edits_in(self)
+        one.by = "low::one"
+        groups, whole = edits.groups_of([first, follows, one], self.crate("low").folder)
+        self.assertEqual(([[first, follows]], [one]), (groups, whole))
+
     def test_what_waits_is_tried_again_without_what_was_refused(self):
         first, follows, one = edits_in(self)
         self.assertEqual(([first, one], [follows], []), edits.after_group([first, follows, one], "low", LINES))
@@ -323,7 +329,8 @@ class Edits(Repository):
 
     def test_alone_the_checker_decides(self):
         edit = next(self.three())
-        self.assertTrue(edits.judge_alone(edit, 1, LINES)[0])
+        self.assertEqual((True, "refused by low::Header::first"), edits.judge_alone(edit, 1, LINES))
+        self.assertEqual((True, "refused"), edits.judge_alone(edit, 1, ["logic=not-proved"]))
         self.assertFalse(edits.judge_alone(edit, 0, ["logic=proved functions=3"])[0])
         self.assertFalse(edits.judge_alone(edit, 2, [])[0])
         self.assertFalse(edits.judge_alone(edit, 1, ["src/lib.rt:8:9: error[unknown-name]: cannot find value"])[0])
