@@ -29,7 +29,7 @@ SECONDS = 120
 
 
 def octets(path):
-    """The octets that a file tells in hex."""
+    """The octets that a file has in hex."""
     return bytes.fromhex("".join(line.split("#")[0] for line in path.read_text(encoding="ascii").splitlines()))
 
 

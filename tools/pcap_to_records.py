@@ -10,7 +10,7 @@ together, and takes the place of the fragment that completes it.
 
 Frames may be Ethernet (with VLAN tags), BSD loopback, Linux cooked (both versions) or raw IPv4. What was left out, and
 why, is counted on standard error. The status is 0; 2 for a bad line; 3 where the capture can't be read to its end: what
-stands before the fault is written.
+comes before the fault is written.
 """
 
 import argparse
@@ -221,7 +221,7 @@ def datagram_in(octets):
 # ---- all of it
 
 class Choice:
-    """Which datagrams are wanted: those to one of these addresses and to one of these ports; none stands for any."""
+    """Which datagrams are wanted: those to one of these addresses and to one of these ports; none means any."""
 
     def __init__(self, addresses=(), ports=()):
         self.addresses = {ipaddress.IPv4Address(address).packed for address in addresses}
@@ -279,17 +279,23 @@ def address(text):
 
 
 def main(words):
-    parser = argparse.ArgumentParser(prog="pcap_to_records", usage=__doc__)
-    parser.add_argument("--to", type=address, action="append", default=[])
-    parser.add_argument("--port", type=int, action="append", default=[])
-    parser.add_argument("capture")
-    parser.add_argument("records")
+    about, _, more = __doc__.partition("\n\n    tools/pcap_to_records.py ")
+    parser = argparse.ArgumentParser(
+        prog="pcap_to_records.py", description=about, epilog=more.partition("\n\n")[2],
+        formatter_class=argparse.RawDescriptionHelpFormatter,
+    )
+    parser.add_argument("--to", type=address, action="append", default=[], metavar="ADDRESS",
+                        help="only datagrams to this IPv4 address; may be given several times")
+    parser.add_argument("--port", type=int, action="append", default=[], metavar="PORT",
+                        help="only datagrams to this port; may be given several times")
+    parser.add_argument("capture", metavar="CAPTURE", help="a pcap or pcapng file, '-' for standard input")
+    parser.add_argument("records", metavar="RECORDS", help="the record file to write, '-' for standard output")
     line = parser.parse_args(words)
     try:
         with opened(line.capture, "rb", sys.stdin) as stream, opened(line.records, "wb", sys.stdout) as out:
             return convert(stream, out, Choice(line.to, line.port), sys.stderr)
     except OSError as fault:
-        print(f"pcap_to_records: {fault}", file=sys.stderr)
+        print(f"pcap_to_records: {fault.filename or line.capture}: {fault.strerror or fault}", file=sys.stderr)
         return 3
 
 

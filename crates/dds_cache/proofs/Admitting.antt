@@ -1,4 +1,4 @@
--- What a cache keeps once an entry came: it was put, its instance was told, and the oldest left where there were too many.
+-- What a cache keeps once an entry came: it was put, its instance took it in, and the oldest left where there were too many.
 use Rattle.std.proofs.Common.{◌≡◌, ℕ, suc, ◌+◌, ◌<◌, ◌≤◌, Bool, true, false, List, [], ◌∷◌, ◌++◌, drop, length, Some, None, refl, sym, ap, ◌∙◌, subst, arith}
 use Rattle.std.specs.BTreeSet.{insert_key}
 use Rattle.std.specs.List.{list_any}

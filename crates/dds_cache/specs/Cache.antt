@@ -23,6 +23,7 @@ abbrev pub IsHistory : History → Type 0
 IsHistory (KeepLast n) = (1 ≤ n) × (n ≤ 65536)
 IsHistory KeepAll = Unit {0}
 
+-- what a cache has: its entries, and which instances are new (DDS 1.4, 2.2.2.5.1.4)
 pub record Cached (M : Type 0) : Type 0 where
   -- in the order in which they were accepted
   pub entries : List (Entry M)
@@ -55,6 +56,7 @@ entry_by place w kind.Unmatched = []
 entry_by place w (kind.Incompatible policy) = []
 entry_by place w (kind.Lost count) = []
 
+-- an entry is of an instance
 abbrev pub is_of : {M : Type 0} → KeyHash → Entry M → Bool
 is_of k e = same_key e.key k
 
@@ -69,6 +71,7 @@ abbrev pub kept_by : {M : Type 0} → History → KeyHash → List (Entry M) →
 kept_by (KeepLast n) k es = if nat_lt n (length (filter (is_of k) es)) then without_oldest k es else es
 kept_by KeepAll k es = es
 
+-- the entry that a notice makes comes after all others, if it makes one
 abbrev pub with_entry : {M : Type 0} → History → List (Entry M) → List (Entry M) → List (Entry M)
 with_entry keep es [] = es
 with_entry keep es (e ∷ more) = kept_by keep e.key (es ++ e ∷ [])
@@ -85,6 +88,7 @@ first_by p max [] = []
 first_by p zero (e ∷ es) = []
 first_by p (suc max) (e ∷ es) = if p e then e ∷ first_by p max es else first_by p (suc max) es
 
+-- an entry that is read now
 abbrev pub marked : {M : Type 0} → Entry M → Entry M
 marked e = record e { is_read = true }
 
@@ -108,6 +112,7 @@ is_new_behind past n before k =
 abbrev pub is_new_after : {M : Type 0} → List (Entry M) → Bool → KeyHash → Bool
 is_new_after answers before k = before && not (list_any (is_of k) answers)
 
+-- what a cache has after a notice was accepted, or entries were read or taken
 abbrev pub cached_after : {M : Type 0} → History → List (Done M) → Cached M → Done M → Cached M
 cached_after keep past c (Accepted n) = record {
   entries = with_entry keep c.entries (entry_by n.place n.writer n.what);

@@ -21,6 +21,7 @@ pub data About : Type 0 where
 abbrev pub about_key : Bool → About → About
 about_key b a = if b then a else Nothing
 
+-- what a notice says of the instance of a key
 abbrev pub told_about : {M : Type 0} → KeyHash → NoticeKind M → About
 told_about k (kind.Sample n t (body.Value h v)) = about_key (same_key h k) AValue
 told_about k (kind.Sample n t (body.Disposed h)) = about_key (same_key h k) ADisposal
@@ -53,6 +54,7 @@ live_by ADisposal by_it ended before = before
 live_by AnUnregistration by_it ended before = not by_it && before
 live_by Nothing by_it ended before = not (by_it && ended) && before
 
+-- a writer is live in an instance, after all that was done
 abbrev pub is_live : {M : Type 0} → List (Done M) → KeyHash → Guid → Bool
 is_live [] k w = false
 is_live (Accepted n ∷ past) k w =
@@ -77,6 +79,7 @@ disposed_by ADisposal before = true
 disposed_by AnUnregistration before = before
 disposed_by Nothing before = before
 
+-- an instance is disposed, after all that was done
 abbrev pub is_disposed : {M : Type 0} → List (Done M) → KeyHash → Bool
 is_disposed [] k = false
 is_disposed (Accepted n ∷ past) k = disposed_by (told_about k n.what) (is_disposed past k)

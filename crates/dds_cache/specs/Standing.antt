@@ -151,6 +151,7 @@ writers_in k live = length (filter (λ p. is_key k p.1) live)
 abbrev pub AreSized : List Pair → Type 0
 AreSized live = AllByRecursion (λ p. length p.1.0 ≡ 16) live
 
+-- a cache keeps what follows from all that was done with it: the same entries and states, by other lists
 pub record StandsBy {M : Type 0} (past : List (Done M)) (p : Parts M) : Type 0 where
   pub entries : map (λ e. e.1) p.entries ≡ (cached p.keep past).entries
   pub rising : Rising 0 p.entries
@@ -163,5 +164,6 @@ pub record StandsBy {M : Type 0} (past : List (Done M)) (p : Parts M) : Type 0 w
   pub live : (k : KeyHash) (w : Guid) → list_any (is_pair (w, k)) p.live ≡ is_live past k w
   pub sized : AreSized p.live
 
+-- and so does the code's cache, seen by its parts
 abbrev pub StandsAt : {M : Type 0} → List (Done M) → CacheView M → Type 0
 StandsAt past kept = StandsBy past (parts_in kept)

@@ -44,7 +44,7 @@ impl<V, A: Allocator> Model for DataReader<V, A> {
 impl<V: Drop, A: Allocator + Copy> DataReader<V, A> {
     ghost use Rattle.dds_cache.specs.After.{WasReadFrom, ends_read};
 
-    /// An empty cache. No memory is taken.
+    /// An empty cache that keeps so much of each instance (DDS 1.4, 2.2.3.18). No memory is taken.
     pub fn new(alloc: A, keep: History) -> DataReader<V, A>
         requires { IsHistory keep }
         ensures stands { StandsAt [] result }

@@ -3,7 +3,9 @@
 /// Whether a call answered the entry before (DDS 1.4, 2.2.2.5.1.2, `sample_state`).
 #[derive(Clone, Copy, Debug, PartialEq, Eq)]
 pub enum SampleState {
+    /// One did.
     Read,
+    /// None did.
     NotRead,
 }
 
@@ -11,7 +13,9 @@ pub enum SampleState {
 /// (DDS 1.4, 2.2.2.5.1.4, `view_state`).
 #[derive(Clone, Copy, Debug, PartialEq, Eq)]
 pub enum ViewState {
+    /// None was.
     New,
+    /// One was.
     NotNew,
 }
 

@@ -34,7 +34,7 @@ batch_more decoding config earlier batch index e =
     ∙ world_run-append decoding (first_world config) (events_from config.own 0 earlier) (events_from config.own (0 + length earlier) batch)
     ∙ ap (λ n. world_run decoding (run decoding config earlier) (events_from config.own n batch)) same
 
--- what stands at some datagrams keeps the world of their run
+-- a participant that stands at some datagrams keeps the world of their run
 pub keeps : {C M : Type 0} (decoding : C → Decoding M) (earlier : List (List ℕ)) (engine : EngineView C) → StandsAt decoding earlier engine → Keeps (run_by decoding engine earlier) engine
 keeps decoding earlier engine kept = record {
   known = kept.known;
@@ -48,7 +48,7 @@ some_of [] rank below = absurd (omega (arith, below))
 some_of (s ∷ states) rank below = s
 
 module _ {C M : Type 0} (decoding : C → Decoding M) (earlier batch : List (List ℕ)) (old admitted ran : ParticipantView C) (kept : StandsAt decoding earlier old.engine) (is : admitted ≡ failing old) where
-  -- the batch is run over the world that stands
+  -- the batch is run over the world that is kept
   world_next : (P : World M → Type 0) → ((w : World M) → Keeps w admitted.engine → P (world_run (decoding admitted.engine.catalog) w (events_from admitted.engine.config.own admitted.engine.index batch)))
       → P (run_by decoding old.engine (earlier ++ batch))
   world_next P f =

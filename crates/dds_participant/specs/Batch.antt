@@ -1,4 +1,4 @@
--- A batch of datagrams, over the world that stands before it.
+-- A batch of datagrams, over the world before it.
 use Rattle.std.specs.Prelude.{◌≡◌, ℕ, ◌+◌, ◌<◌, false, true, List, length, slice_index_or}
 use Rattle.rtps_receiver.specs.Events.{EventView}
 use Rattle.rtps_discovery.specs.Kept.{IsKnown}

@@ -4,6 +4,7 @@ use Rattle.rtps_serial.specs.declared.errors.EngineError.{EngineError}
 use Rattle.rtps_serial.specs.declared.errors.EngineError.TheVariants.{NoMemory, Failed, Spent}
 use Rattle.rtps_serial.specs.Standing.{EngineView, datagram_limit}
 
+-- what a participant keeps, without where it lies in memory
 pub record ParticipantView (C : Type 0) : Type 0 where
   -- what an engine of one thread keeps
   pub engine : EngineView C

@@ -64,7 +64,8 @@ impl<C: Catalog> Model for Participant<C> {
 
 impl<C: Catalog> Participant<C> {
     /// A participant for this configuration: its readers with their fixed matches, to which nothing
-    /// came yet.
+    /// came yet. [`StartError::Config`] exactly where [`check`] refuses the configuration, else an
+    /// error is a refused growth.
     #[tactic(auto, unfolding(rtps_serial::specs::Standing::Starts))]
     pub fn new(alloc: Global, config: Config, catalog: C) -> Result<Participant<C>, StartError>
         ensures starts { Starts (check_of config) result }

@@ -153,7 +153,7 @@ const EXPECTED: [Line; 6] = [
     (Some(1), 2, Said::Answer),
 ];
 
-/// How a reader with one match and one sample stands that lost so many numbers.
+/// The status of a reader with one match and one sample that lost so many numbers.
 fn status(lost_total: u32) -> Option<Status> {
     Some(Status {
         matched_total: 1,

@@ -50,20 +50,25 @@ abbrev pub order_kind : DestinationOrder → ℕ
 order_kind order.ByReceptionTimestamp = 0
 order_kind order.BySourceTimestamp = 1
 
+-- what is offered promises at least as much
 abbrev pub at_least : ℕ → ℕ → Bool
 at_least offered requested = not (nat_lt offered requested)
 
+-- a length of time that is offered is no longer
 abbrev pub at_most : Duration → Duration → Bool
 at_most offered requested = not (is_gt (duration_order offered requested))
 
+-- what is asked for is offered
 abbrev pub where_asked : Bool → Bool → Bool
 where_asked offered requested = offered || not requested
 
+-- the scope is as large, and coherent and ordered access are offered where they are asked for (DDS 1.4, 2.2.3.6)
 abbrev pub presentation_met : Presentation → Presentation → Bool
 presentation_met o r =
     at_least (scope_kind o.access_scope) (scope_kind r.access_scope)
     && (where_asked o.coherent_access r.coherent_access && where_asked o.ordered_access r.ordered_access)
 
+-- the kind promises as much, and the lease is no longer (DDS 1.4, 2.2.3.11)
 abbrev pub liveliness_met : Liveliness → Liveliness → Bool
 liveliness_met o r =
     at_least (liveliness_kind o.kind) (liveliness_kind r.kind) && at_most o.lease_duration r.lease_duration
@@ -81,6 +86,7 @@ policies_met o r =
     ∷ (12, at_least (order_kind o.destination_order) (order_kind r.destination_order))
     ∷ []
 
+-- the first id of those that aren't met
 abbrev pub first_unmet : List (ℕ × Bool) → Option ℕ
 first_unmet [] = None
 first_unmet ((id, met) ∷ rest) = if met then first_unmet rest else Some id

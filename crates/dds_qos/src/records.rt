@@ -16,14 +16,14 @@ use rtps_params::ParamList;
 use rtps_types::Duration;
 use std::alloc::{AllocError, Allocator, Global};
 
-/// What a reader asks for.
+/// What a reader asks for (DDS 1.4, 2.2.3).
 #[derive(Debug, Drop)]
 pub struct Requested<A: Allocator = Global> {
     pub policies: Policies,
     pub partitions: Partitions<A>,
 }
 
-/// What a writer offers.
+/// What a writer offers (DDS 1.4, 2.2.3).
 #[derive(Debug, Drop)]
 pub struct Offered<A: Allocator = Global> {
     pub policies: Policies,
@@ -57,7 +57,8 @@ pub(crate) fn defaults(reliability: Reliability) -> Policies
 }
 
 impl<A: Allocator> Requested<A> {
-    /// What a reader asks for where it gives no policy. No memory is taken.
+    /// What a reader asks for where it gives no policy: best effort, among others (DDS 1.4, 2.2.3). No
+    /// memory is taken.
     pub fn new(alloc: A) -> Requested<A>
         ensures policies { result.policies ≡ default_policies BestEffort }
         ensures partitions { result.partitions ≡ [] }
@@ -70,7 +71,8 @@ impl<A: Allocator> Requested<A> {
 }
 
 impl<A: Allocator> Offered<A> {
-    /// What a writer offers where it gives no policy. No memory is taken.
+    /// What a writer offers where it gives no policy: it is reliable, among others (DDS 1.4, 2.2.3). No
+    /// memory is taken.
     pub fn new(alloc: A) -> Offered<A>
         ensures policies { result.policies ≡ default_policies Reliable }
         ensures partitions { result.partitions ≡ [] }
@@ -83,7 +85,7 @@ impl<A: Allocator> Offered<A> {
 }
 
 /// What the record of a writer offers, a copy of its own (DDSI-RTPS 9.6.3). `Malformed` where a
-/// parameter of the record is, whether an offer uses it or not.
+/// parameter of the record is, whether an offer uses it or not; `NoMemory` where the copy is refused.
 pub fn offered_from<A: Allocator + Copy>(
     alloc: A,
     list: &ParamList<'_>,
@@ -99,7 +101,8 @@ pub fn offered_from<A: Allocator + Copy>(
     })
 }
 
-/// The partitions that a record names, as a copy; none where it names none.
+/// The partitions that a record names, as a copy; none where it names none. An error is a refused
+/// growth.
 pub fn partitions_in<A: Allocator + Copy>(
     alloc: A,
     names: Option<Strings<'_>>,

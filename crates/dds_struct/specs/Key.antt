@@ -34,5 +34,6 @@ is_short t = at_most_16 (greatest_end t 0)
 abbrev pub hash_of_octets : Bool → List ℕ → KeyHash
 hash_of_octets short octets = record { 0 = if short then take 16 octets ++ replicate (16 - length octets) 0 else md5 octets }
 
+-- the hash of a key: by the octets of its big-endian representation
 abbrev pub key_hash : (t : CdrType) → ValueOf t → KeyHash
 key_hash t key = hash_of_octets (is_short t) (written t 0 Big key)

@@ -32,7 +32,7 @@ ok_pair x y v r a b whole first second one two =
     let other : y ≡ v.1 = cc (second, two) in
     whole ∙ ap Ok (one_pair x y v same other)
 
--- what was read stands there
+-- what was read is there
 pub found_in : (t : CdrType) (c ahead : Cursor) (x : ValueOf t) (r : Result (ValueOf t) CdrFault) → r ≡ Ok x → Is t c ahead r → Takes t c ahead x
 found_in t c ahead x (Ok y) same is =
     let one : y ≡ x = cc same in

@@ -1,4 +1,4 @@
--- The value of a type that stands where a reader is, and where the reader is after it (DDSI-RTPS 10, CORBA CDR 9.3).
+-- The value of a type that is read where a reader is, and where the reader is after it (DDSI-RTPS 10, CORBA CDR 9.3).
 use Rattle.std.specs.Prelude.{◌≡◌, ℕ, zero, suc, ◌<◌, ◌≤◌, List, [], ◌∷◌, length, Result, Ok, Err, Bool, true, ◌&&◌, nat_lt}
 use Rattle.std.specs.Int.{byte_len}
 use Rattle.rtps_cdr.specs.declared.fault.CdrFault.{CdrFault}
@@ -59,7 +59,7 @@ is_plain (Octets count) = true
 is_plain (Both s t) = is_plain s && is_plain t
 is_plain (Sequence t) = is_plain t
 
--- where a reader is after a read: behind what was read, or where it was
+-- where a reader is after a read: after what was read, or where it was
 abbrev pub settled : {A : Type 0} → Result A CdrFault → Cursor → Cursor → Cursor
 settled (Ok v) ahead c = ahead
 settled (Err f) ahead c = c

@@ -1,4 +1,4 @@
-//! What can stand in a key.
+//! What can be part of a key.
 
 ghost use Rattle.std.specs.Prelude.{◌≡◌, OnOk};
 ghost use Rattle.rtps_cdr.specs.declared.fault.CdrFault.{CdrFault};
@@ -12,7 +12,7 @@ use dds_topic::CatalogError;
 use rtps_cdr::{CdrReader, CdrWriter};
 use std::alloc::{AllocError, Allocator, Global};
 
-/// A type whose values can be written where a writer stands (CORBA CDR 9.3).
+/// A type whose values can be written where a writer is (CORBA CDR 9.3).
 pub trait KeyMember: Member {
     /// Writes the value. After want of memory a front of it may be written.
     fn write<A: Allocator>(&self, writer: &mut CdrWriter<A>) -> Result<(), AllocError>
@@ -89,7 +89,7 @@ impl<S: KeyMember, T: KeyMember> KeyMember for (S, T) {
 
 /// Reads a value of a type, and writes it.
 ///
-/// `Unread::Malformed` says that no value of the type stands there, and then nothing is written.
+/// `Unread::Malformed` says that no value of the type is there, and then nothing is written.
 pub fn copy_member<K: KeyMember, A: Allocator>(
     alloc: Global,
     reader: &mut CdrReader<'_>,

@@ -1,4 +1,4 @@
-//! What can stand in a struct: numbers, truth values, texts, and sequences of such.
+//! What can be part of a struct: numbers, truth values, texts, and sequences of such.
 
 ghost use Rattle.std.specs.Prelude.{◌≡◌, OnOk, map};
 ghost use Rattle.std.specs.Int.{w8, w16, w32, w64};
@@ -11,7 +11,7 @@ use dds_topic::CatalogError;
 use rtps_cdr::CdrReader;
 use std::alloc::Global;
 
-/// A type whose values are read where a reader stands (CORBA CDR 9.3).
+/// A type whose values are read where a reader is (CORBA CDR 9.3).
 ///
 /// A struct of one's own is one too: it reads its members one after the other.
 pub trait Member: Sized + Drop {
@@ -23,7 +23,7 @@ pub trait Member: Sized + Drop {
 
     /// Reads a value, and moves the reader after it.
     ///
-    /// `Unread::Malformed` says that no value of the type stands there.
+    /// `Unread::Malformed` says that no value of the type is there.
     fn read(alloc: Global, reader: &mut CdrReader<'_>) -> Result<Self, CatalogError>
         ensures value { Gives view result (readable (value cdr reader.old)) }
         ensures moves { OnOk result (reader.new ≡ behind cdr reader.old) };

@@ -1,6 +1,7 @@
 //! A struct that is the data type of a topic.
 
 ghost use Rattle.std.specs.Prelude.{◌≡◌, ◌++◌, ℕ, List, true, OnOk};
+ghost use Rattle.std.specs.Io.{StartsWith};
 ghost use Rattle.dds_topic.specs.Answer.{Gives};
 ghost use Rattle.rtps_cdr.specs.Cdr.{CdrType, ValueOf};
 ghost use Rattle.rtps_cdr.specs.Writing.{Fits, appended};
@@ -29,7 +30,7 @@ pub trait Structure: Sized + Drop {
 
     /// Reads a value, member by member.
     ///
-    /// `Unread::Malformed` says that no value of the type stands there.
+    /// `Unread::Malformed` says that no value of the type is there.
     fn read(alloc: Global, reader: &mut CdrReader<'_>) -> Result<Self, CatalogError>
         ensures { Gives view result (readable (value cdr reader.old)) };
 
@@ -44,7 +45,7 @@ pub trait Structure: Sized + Drop {
 
     /// Reads a key, and writes it; [`copy_member`](crate::copy_member) does so.
     ///
-    /// `Unread::Malformed` says that no key stands there.
+    /// `Unread::Malformed` says that no key is there.
     fn copy_key<A: Allocator>(
         alloc: Global,
         reader: &mut CdrReader<'_>,
@@ -55,7 +56,8 @@ pub trait Structure: Sized + Drop {
 
     /// Adds what is printed of the value in a line, in ASCII and without a line end.
     fn push_text<A: Allocator>(&self, out: &mut Vec<u8, A>) -> Result<(), AllocError>
-        ensures { OnOk result (out.new.items ≡ out.old.items ++ text (view self.now)) };
+        ensures ok { OnOk result (out.new.items ≡ out.old.items ++ text (view self.now)) }
+        ensures keeps { StartsWith out.new.items out.old.items };
 
     // Each number of the key takes octets.
     ghost key_is_plain: { is_plain key_cdr ≡ true };

@@ -1,6 +1,7 @@
 //! What a data type has to answer.
 
 ghost use Rattle.std.specs.Prelude.{◌≡◌, ◌++◌, ℕ, List, Ok, IfOk, OnOk};
+ghost use Rattle.std.specs.Io.{StartsWith};
 ghost use Rattle.dds_topic.specs.Answer.{Gives};
 ghost use Rattle.dds_topic.specs.Decoding.{Decoding};
 
@@ -79,8 +80,9 @@ pub trait TextCatalog: Catalog {
         out: &mut Vec<u8, A>,
         value: &Self::Value,
     ) -> Result<(), AllocError>
-        ensures { OnOk result (out.new.items ≡ out.old.items
-            ++ Self.text_of self.now (Self.view value.now)) };
+        ensures ok { OnOk result (out.new.items ≡ out.old.items
+            ++ Self.text_of self.now (Self.view value.now)) }
+        ensures keeps { StartsWith out.new.items out.old.items };
 
     /// The same in memory of its own.
     fn text(&self, alloc: Global, value: &Self::Value) -> Result<Vec<u8>, AllocError>

@@ -1,6 +1,7 @@
 //! The type of the Shapes demo.
 
 ghost use Rattle.std.specs.Prelude.{◌≡◌, ◌≤◌, ◌++◌, ◌+◌, ◌^◌, ◌<◌, length, Ok, IfOk, OnOk};
+ghost use Rattle.std.specs.Io.{StartsWith};
 ghost use Rattle.rtps_cdr.specs.Cdr.{Text};
 ghost use Rattle.rtps_cdr.specs.Writing.{written};
 ghost use Rattle.dds_topic.specs.Answer.{Gives};
@@ -83,7 +84,8 @@ pub(crate) fn hash_of(color: &str) -> KeyHash
 
 /// Adds the text of a shape: its color in hex, where it is and its size.
 fn push_shape<A: Allocator>(out: &mut Vec<u8, A>, shape: &Shape) -> Result<(), AllocError>
-    ensures { OnOk result (out.new.items ≡ out.old.items ++ shape_text (shape_view shape.now)) }
+    ensures ok { OnOk result (out.new.items ≡ out.old.items ++ shape_text (shape_view shape.now)) }
+    ensures keeps { StartsWith out.new.items out.old.items }
 {
     push_hex(out, shape.color.as_str().as_bytes())?;
     push_octet(out, b' ')?;

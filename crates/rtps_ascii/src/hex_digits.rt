@@ -1,6 +1,7 @@
 //! Octets in hex.
 
 ghost use Rattle.std.specs.Prelude.{◌≡◌, ◌*◌, ◌<◌, ◌≤◌, ◌++◌, OnOk, length, slice_index};
+ghost use Rattle.std.specs.Io.{StartsWith};
 ghost use Rattle.hex.specs.Hex.{encode_lower, lower_digits};
 ghost use Rattle.rtps_ascii.specs.Hex.{hex_text};
 
@@ -12,7 +13,8 @@ const SHORT: usize = 16;
 
 /// Adds octets in hex, in lower case; a dash where there are none.
 pub fn push_hex<A: Allocator>(out: &mut Vec<u8, A>, octets: &[u8]) -> Result<(), AllocError>
-    ensures { OnOk result (out.new.items ≡ out.old.items ++ hex_text octets.now) }
+    ensures ok { OnOk result (out.new.items ≡ out.old.items ++ hex_text octets.now) }
+    ensures keeps { StartsWith out.new.items out.old.items }
 {
     if octets.is_empty() {
         return push_octet(out, b'-');
@@ -30,7 +32,8 @@ pub fn push_hex_array<const N: usize, A: Allocator>(
     out: &mut Vec<u8, A>,
     octets: &[u8; N],
 ) -> Result<(), AllocError>
-    ensures { OnOk result (out.new.items ≡ out.old.items ++ hex_text octets.now) }
+    ensures ok { OnOk result (out.new.items ≡ out.old.items ++ hex_text octets.now) }
+    ensures keeps { StartsWith out.new.items out.old.items }
 {
     if N == 0 || N > SHORT {
         return push_hex(out, octets);
@@ -43,7 +46,8 @@ pub fn push_hex_array<const N: usize, A: Allocator>(
 /// Adds the digits of names and the like, each looked up: they are too few for more to be made at once.
 fn push_short<A: Allocator>(out: &mut Vec<u8, A>, octets: &[u8]) -> Result<(), AllocError>
     requires { length octets.now ≤ 16 }
-    ensures { OnOk result (out.new.items ≡ out.old.items ++ encode_lower octets.now) }
+    ensures ok { OnOk result (out.new.items ≡ out.old.items ++ encode_lower octets.now) }
+    ensures keeps { StartsWith out.new.items out.old.items }
 {
     let mut digits = [0u8; 2 * SHORT];
     let end = 2 * octets.len();
@@ -56,7 +60,8 @@ fn push_short<A: Allocator>(out: &mut Vec<u8, A>, octets: &[u8]) -> Result<(), A
 /// Adds the digits of payloads, in their place at once.
 #[inline(never)]
 fn push_long<A: Allocator>(out: &mut Vec<u8, A>, octets: &[u8]) -> Result<(), AllocError>
-    ensures { OnOk result (out.new.items ≡ out.old.items ++ encode_lower octets.now) }
+    ensures ok { OnOk result (out.new.items ≡ out.old.items ++ encode_lower octets.now) }
+    ensures keeps { StartsWith out.new.items out.old.items }
 {
     let start = out.len();
     let Some(count) = octets.len().checked_mul(2) else {

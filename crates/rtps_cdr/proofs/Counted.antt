@@ -20,11 +20,11 @@ record IsCounted {A : Type 0} (P : ℕ → ℕ → List ℕ → A → Type 0) (a
   counts : IsNumber Free 4 at e front count
   body : P count (at + length front) back v
 
--- a body that stands at a place, and where it ends
+-- a body at a place, and where it ends
 abbrev Stands : {A : Type 0} → (ℕ → ℕ → List ℕ → A → Type 0) → ℕ → List ℕ → ℕ → A × ℕ → Type 0
 Stands P count octets at x = (back : List ℕ) × (rest : List ℕ) × (drop at octets ≡ back ++ rest) × P count at back x.0 × (x.1 ≡ at + length back)
 
--- what stands after a count, by its function
+-- what is after a count, by its function
 record BodyReads {A : Type 0} (P : ℕ → ℕ → List ℕ → A → Type 0) (count : ℕ) (octets : List ℕ) (at : ℕ) (r : Read A) : Type 0 where
   found : (x : A × ℕ) → r ≡ Ok x → Stands P count octets at x
   only : (v : A) (back rest : List ℕ) → drop at octets ≡ back ++ rest → P count at back v → r ≡ Ok (v, at + length back)
@@ -127,7 +127,7 @@ text_of_found body after n x l h = by_tests body after n x l (slice_index body (
   by_tests body after n x l true e false f h = absurd (cc (h))
   by_tests body after n x l false e b f h = absurd (cc (h))
 
--- the body of a text, wherever it stands
+-- the body of a text, wherever it is
 abbrev IsBody : ℕ → ℕ → List ℕ → List ℕ → Type 0
 IsBody count at back text = IsTextBody count back text
 

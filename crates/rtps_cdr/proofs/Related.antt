@@ -196,7 +196,7 @@ bool_law c = by_read c (number_in 1 c) (unsigned_law 1 c (omega arith)) where
         absurd (cc (k.0));
   }
 
--- ---- octets as they stand
+-- ---- octets as they are
 
 octets_law_at : (n : ℕ) (c : Cursor) (b : Bool) → c.position ≤ length c.octets → nat_le (c.position + n) (length c.octets) ≡ b →
     let r : Read (List ℕ) = if b then Ok (take n (drop c.position c.octets), c.position + n) else Err Short in

@@ -17,7 +17,7 @@ joined_at s t c at after x y first second =
       behind = second.behind ∙ ap (placed c) (rw (place, length-append first.front second.front) (omega arith));
     }
 
--- values of which the second stands after the first are those of a struct
+-- values of which the second comes after the first are those of a struct
 pub members_joined : (s t : CdrType) (c middle after : Cursor) (x : ValueOf s) (y : ValueOf t) → Takes s c middle x → Takes t middle after y → Takes (Both s t) c after (x, y)
 members_joined s t c middle after x y first second =
     let P : Cursor → Type 0 = λ m. Takes s c m x → Takes t m after y → Takes (Both s t) c after (x, y) in

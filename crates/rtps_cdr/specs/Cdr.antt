@@ -25,7 +25,7 @@ ValueOf (Octets count) = List ℕ
 ValueOf (Both s t) = ValueOf s × ValueOf t
 ValueOf (Sequence t) = List (ValueOf t)
 
--- what may stand in a gap: anything, as in reading, or zeros alone, as in writing
+-- what may be in a gap: anything, as in reading, or zeros alone, as in writing
 pub data Gaps : Type 0 where
   Free : Gaps
   Zeros : Gaps

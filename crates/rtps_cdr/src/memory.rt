@@ -2,5 +2,5 @@
 
 use std::alloc::AllocError;
 
-/// The allocator refused a growth.
+/// The allocator refused a growth. It is the allocator's own error under another name.
 pub type NoMemory = AllocError;

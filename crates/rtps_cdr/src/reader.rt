@@ -39,7 +39,8 @@ impl<'a> Model for CdrReader<'a> {
 }
 
 impl<'a> CdrReader<'a> {
-    /// A reader at the first octet. Every number that it reads has its octets in that order.
+    /// A reader at the first octet, from which alignment is counted. Every number that it reads has
+    /// its octets in that order.
     pub fn new(octets: &'a [u8], endian: Endian) -> CdrReader<'a>
         ensures { result ≡ start endian octets.entry.now }
     {
@@ -72,7 +73,7 @@ impl<'a> CdrReader<'a> {
         }
     }
 
-    /// Reads a number of 8 bits.
+    /// Reads a number of 8 bits. `Short` where no octet is left.
     pub fn read_u8(&mut self) -> Result<u8, CdrFault>
         ensures value { result ≡ value_of (number_in 1 self.old) }
         ensures moves { self.new ≡ moved self.old (number_in 1 self.old) }
@@ -94,7 +95,7 @@ impl<'a> CdrReader<'a> {
         }
     }
 
-    /// Reads a number of 16 bits, aligned to 2 octets.
+    /// Reads a number of 16 bits, aligned to 2 octets (CORBA CDR 9.3.1.1).
     pub fn read_u16(&mut self) -> Result<u16, CdrFault>
         ensures value { result ≡ value_of (number_in 2 self.old) }
         ensures moves { self.new ≡ moved self.old (number_in 2 self.old) }
@@ -116,7 +117,7 @@ impl<'a> CdrReader<'a> {
         }
     }
 
-    /// Reads a number of 32 bits, aligned to 4 octets.
+    /// Reads a number of 32 bits, aligned to 4 octets (CORBA CDR 9.3.1.1).
     pub fn read_u32(&mut self) -> Result<u32, CdrFault>
         ensures value { result ≡ value_of (number_in 4 self.old) }
         ensures moves { self.new ≡ moved self.old (number_in 4 self.old) }
@@ -138,7 +139,7 @@ impl<'a> CdrReader<'a> {
         }
     }
 
-    /// Reads a number of 64 bits, aligned to 8 octets.
+    /// Reads a number of 64 bits, aligned to 8 octets (CORBA CDR 9.3.1.1).
     pub fn read_u64(&mut self) -> Result<u64, CdrFault>
         ensures value { result ≡ value_of (number_in 8 self.old) }
         ensures moves { self.new ≡ moved self.old (number_in 8 self.old) }
@@ -160,7 +161,7 @@ impl<'a> CdrReader<'a> {
         }
     }
 
-    /// Reads a truth value. `BadBool` where its octet is neither 0 nor 1.
+    /// Reads a truth value. `BadBool` where its octet is neither 0 nor 1 (CORBA CDR 9.3.1.5).
     pub fn read_bool(&mut self) -> Result<bool, CdrFault>
         ensures value { result ≡ value_of (bool_in self.old) }
         ensures moves { self.new ≡ moved self.old (bool_in self.old) }
@@ -170,7 +171,8 @@ impl<'a> CdrReader<'a> {
         self.settle(read)
     }
 
-    /// Reads how many items a sequence has. It is not compared with the octets that are left.
+    /// Reads how many items a sequence has, aligned to 4 octets (CORBA CDR 9.3.2.5). It is not
+    /// compared with the octets that are left.
     pub fn read_len(&mut self) -> Result<u32, CdrFault>
         ensures value { result ≡ value_of (number_in 4 self.old) }
         ensures moves { self.new ≡ moved self.old (number_in 4 self.old) }
@@ -205,7 +207,7 @@ impl<'a> CdrReader<'a> {
         self.settle(read)
     }
 
-    /// Reads that many octets as they are, with no gap before them.
+    /// Reads that many octets as they are, with no gap before them. `Short` where fewer are left.
     #[tactic(auto, using(crate::proofs::Related::seen_value, crate::proofs::Related::seen_moved))]
     pub fn read_octets(&mut self, count: usize) -> Result<&'a [u8], CdrFault>
         ensures value { seen result ≡ value_of (octets_in count self.old) }

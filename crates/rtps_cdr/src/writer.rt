@@ -40,7 +40,7 @@ impl<A: Allocator> CdrWriter<A> {
         }
     }
 
-    /// What was written.
+    /// What was written, from the first octet on.
     pub fn finish(self) -> Vec<u8, A>
         ensures { result.items ≡ self.octets }
     {
@@ -158,7 +158,8 @@ impl<A: Allocator> CdrWriter<A> {
         self.append(1, &[u8::from(value)])
     }
 
-    /// Writes how many items a sequence has, of which each is then to be written.
+    /// Writes how many items a sequence has, aligned to 4 octets; each is then to be written (CORBA
+    /// CDR 9.3.2.5).
     pub fn write_len(&mut self, count: u32) -> Result<(), AllocError>
         ensures value { self.new
             ≡ (if is_ok result then appended (Unsigned 4) count self.old else self.old) }
@@ -167,7 +168,7 @@ impl<A: Allocator> CdrWriter<A> {
         self.write_u32(count)
     }
 
-    /// Writes a text: its length, which counts its NUL, the text and the NUL.
+    /// Writes a text: its length, which counts its NUL, the text and the NUL (CORBA CDR 9.3.2.7).
     #[tactic(auto, using(crate::proofs::Written::text_writes))]
     pub fn write_string(&mut self, text: &str) -> Result<(), AllocError>
         requires { length text.now + 1 < 2 ^ 32 }

@@ -273,7 +273,7 @@ told_refuses k g ls policy (Refused q) (Refused p) n y = by_test (q == p) refl
 
 -- ---- the pairs
 
--- what a pair is told, where it isn't fixed
+-- what is reported of a pair, where it isn't fixed
 pub record IsTold (fixed : List (ℕ × Guid)) (k : ℕ) (g : Guid) (ls : List Locator) (a b : Standing) (c : ChangeAt) : Type 0 where
   pub free : is_fixed fixed k g ≡ false
   pub given : Contains (told k g ls a b) c
@@ -347,7 +347,7 @@ in_rows before after k (q ∷ qs) (r ∷ rs) c h =
     by_part (inl here) others = by_rows before after k (q ∷ qs) (r ∷ rs) qs rs q r c refl refl (λ i. refl) (λ i. refl) (inl here)
     by_part (inr later) others = by_rows before after k (q ∷ qs) (r ∷ rs) qs rs q r c refl refl (λ i. refl) (λ i. refl) (inr (others later))
 
--- where there is no reader nothing is told
+-- where there is no reader nothing is reported
 nobody_hears : (before after : Known) (n : ℕ) (c : ChangeAt) → Contains (row before after (guids before after) n None None) c → ⊥
 nobody_hears before after n c h =
     let one = among (λ g. at_pair before.fixed n g (locators_at after g) Apart Apart) (guids before after) c h in

@@ -18,7 +18,7 @@ use Rattle.rtps_discovery.specs.OneWriter.{column}
 use Rattle.rtps_discovery.proofs.Guids.{guid_total}
 use Rattle.rtps_discovery.proofs.SortedKeys.{InOrder, any_tied, not_in_both, sorted_both}
 
--- nothing is told where nothing becomes
+-- nothing is reported where nothing becomes
 told_same : (k : ℕ) (g : Guid) (ls : List Locator) (s : Standing) → told k g ls s s ≡ []
 told_same k g ls Apart = refl
 told_same k g ls Joined = refl

@@ -1,4 +1,4 @@
--- Pairing an event is for: discovery alone, or the readers that are matched with its writer (DDSI-RTPS 8.3.4, 8.5).
+-- Whom an event is for: discovery alone, or the readers that are matched with its writer (DDSI-RTPS 8.3.4, 8.5).
 use Rattle.std.specs.Prelude.{List, [], ◌∷◌, Bool, not, ◌&&◌, ◌||◌, ◌↔◌, IsTrue, IsFalse}
 use Rattle.std.specs.List.{list_any}
 use Rattle.std.specs.Str.{bytes_eq}
@@ -18,6 +18,7 @@ announcers =
     ∷ record { 0 = 0x00 ∷ 0x00 ∷ 0x04 ∷ 0xc2 ∷ [] }
     ∷ []
 
+-- the events of the announcers are discovery's alone
 abbrev pub is_discovery : EntityId → Bool
 is_discovery writer = list_any (λ a. bytes_eq writer.0 a.0) announcers
 
@@ -40,5 +41,6 @@ pub record IsAddressed (is_matched : Guid → Bool) (entity : EntityId) (e : Eve
 abbrev pub is_addressed : (Guid → Bool) → EntityId → EventView → Bool
 is_addressed is_matched entity e = not (is_discovery e.writer) && (is_matched (writer_of e) && is_for e.reader entity)
 
+-- the test holds exactly where the event goes to the reader
 abbrev pub AddressedIsTested : Type 0
 AddressedIsTested = (is_matched : Guid → Bool) (entity : EntityId) (e : EventView) → IsTrue (is_addressed is_matched entity e) ↔ IsAddressed is_matched entity e

@@ -96,11 +96,13 @@ abbrev pub endpoint_of : GuidPrefix → (EntityId → Bool) → Option Guid → 
 endpoint_of source is_kind named =
     option_and_then (λ (g : Guid). when (bytes_eq g.prefix.0 source.0 && is_kind g.entity) g) named
 
+-- a writer of the participant that sends, named by the record or the end, else by the key hash
 abbrev pub writer_said : GuidPrefix → Option KeyHash → Said → Option Announcement
 writer_said source hash (Announces s) =
     option_and_then (λ g. option_map (Offers g) (offer_of s)) (endpoint_of source is_writer (or_hash s.endpoint hash))
 writer_said source hash (Ends named) = option_map Withdraws (endpoint_of source is_writer (or_hash named hash))
 
+-- and a reader in the same way; of what it asks for only that it gives topic and type counts
 abbrev pub reader_said : GuidPrefix → Option KeyHash → Said → Option Announcement
 reader_said source hash (Announces s) =
     option_and_then (λ g. option_map (λ offer. Asks g) (offer_of s)) (endpoint_of source is_reader (or_hash s.endpoint hash))

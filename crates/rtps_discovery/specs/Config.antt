@@ -51,13 +51,13 @@ abbrev pub has_twice : {T : Type 0} → (T → T → Bool) → List T → Bool
 has_twice is_same [] = false
 has_twice is_same (x ∷ xs) = list_any (is_same x) xs || has_twice is_same xs
 
--- whether a fault stands in a configuration, whatever else stands in it
+-- whether a configuration has a fault, whatever others it has
 abbrev pub has_fault : ConfigFault → Config → Bool
 has_fault Readers c = length c.readers.items == 0 || nat_lt 256 (length c.readers.items)
 has_fault BadReader c = list_any is_bad_reader c.readers.items || has_twice is_same_entity c.readers.items
 has_fault BadFixed c = list_any (is_bad_fixed c.own (length c.readers.items)) c.fixed.items || has_twice is_same_pair c.fixed.items
 
--- a configuration is taken exactly where no fault stands; else the first one is reported
+-- a configuration is taken exactly where it has no fault; else the first one is reported
 unfoldable pub check_of : Config → Result (Unit {0}) ConfigFault
 check_of c =
     if has_fault Readers c then Err Readers else
@@ -75,5 +75,6 @@ pub record IsFaultless (c : Config) : Type 0 where
   pub good_fixed : All (λ m. IsFalse (is_bad_fixed c.own (length c.readers.items) m)) c.fixed.items
   pub pairs_differ : AllPairs (λ a b. IsFalse (is_same_pair a b)) c.fixed.items
 
+-- the configurations that are taken are those without a fault
 abbrev pub TakenIsFaultless : Type 0
 TakenIsFaultless = (c : Config) → (check_of c ≡ Ok tt) ↔ IsFaultless c

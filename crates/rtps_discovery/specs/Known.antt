@@ -33,6 +33,7 @@ pub record Participant : Type 0 where
   pub locators : List Locator
   pub lease : Duration
 
+-- all that is known, of the others and of our own readers
 pub record Known : Type 0 where
   pub own : GuidPrefix
   -- by rank; none where a reader went
@@ -49,6 +50,7 @@ pub record Known : Type 0 where
 abbrev pub prefix_order : GuidPrefix → GuidPrefix → Ordering
 prefix_order a b = octet_order a.0 b.0
 
+-- what is known of a writer, a participant, and the reader of ours with a rank
 abbrev pub writer_at : Known → Guid → Option Offer
 writer_at k g = lookup (is_at g) k.writers
 
@@ -76,9 +78,11 @@ by_fault (Some policy) = Refused policy
 abbrev pub is_near : Wish → Offer → Bool
 is_near r w = bytes_eq r.topic w.topic && (bytes_eq r.type_name w.type_name && share_partition w.partitions r.partitions)
 
+-- how a reader is with a writer: apart, or joined or refused by the first policy that isn't met
 abbrev pub standing_of : Wish → Offer → Standing
 standing_of r w = if is_near r w then by_fault (first_fault w.policies r.policies) else Apart
 
+-- the same where one of them may not be there
 abbrev pub standing : Option Wish → Option Offer → Standing
 standing (Some r) (Some w) = standing_of r w
 standing (Some r) None = Apart
@@ -102,6 +106,7 @@ own_or [] None = []
 own_or [] (Some p) = p.locators
 own_or (l ∷ ls) p = l ∷ ls
 
+-- where answers to a writer go that offers this, if it offers anything
 abbrev pub locators_for : Known → GuidPrefix → Option Offer → List Locator
 locators_for k prefix None = []
 locators_for k prefix (Some w) = own_or w.locators (participant_at k prefix)

@@ -9,5 +9,6 @@ pub record AreMatched (k : Known) (g : Guid) : Type 0 where
   pub exact : (rank : ℕ) → Contains (matched_ranks k g) rank ↔ ((rank < length k.readers) × (is_matched k rank g ≡ true))
   pub rising : AllPairs (λ a b. a < b) (matched_ranks k g)
 
+-- so it is at each writer, whatever is known
 abbrev pub RanksAreMatched : Type 0
 RanksAreMatched = (k : Known) (g : Guid) → AreMatched k g

@@ -48,6 +48,7 @@ abbrev pub named_match : EventView → Option Match → Option Match
 named_match e None = None
 named_match e (Some m) = if is_for e.reader m.pairing.reader then Some m else None
 
+-- the match of ours with the announcer that sends, where the event names our builtin reader or none
 abbrev pub announcer_of : Known → EventView → Option Match
 announcer_of k e = named_match e (match_with (writer_of e) k.announcers)
 
@@ -58,6 +59,7 @@ detector_of writer =
     if bytes_eq writer.0 subscriptions_writer.0 then Some subscriptions_reader else
     None
 
+-- what the changes say that are ready then, in order
 abbrev pub ready_records : EventView → Option Match → List Announcement
 ready_records e None = []
 ready_records e (Some m) =
@@ -75,6 +77,7 @@ abbrev pub answer_by : EventView → Option Match → Option ReplyView
 answer_by e None = None
 answer_by e (Some m) = answer_of m.pairing m.past (match_event_of e)
 
+-- what is answered to an event of an announcer
 abbrev pub answered : Known → EventView → Option ReplyView
 answered k e = answer_by e (announcer_of k e)
 
@@ -87,5 +90,6 @@ noted k e =
 abbrev pub known_by : Known → EventView → Known
 known_by k e = known_run (noted k e) (announcements k e)
 
+-- and what it changes for our readers, record by record
 abbrev pub changes_by : Known → EventView → List ChangeAt
 changes_by k e = changes_run (noted k e) (announcements k e)

@@ -36,9 +36,11 @@ list_in payload =
 abbrev pub is_end : ℕ → Bool
 is_end status = not (status % 4 == 0)
 
+-- a payload as a record; nothing where it is none, or malformed
 abbrev pub record_in : List ℕ → Option Said
 record_in payload = option_map Announces (option_and_then settings_of (list_in payload))
 
+-- a payload as what names an end, by the last parameter of this id
 abbrev pub end_in : ℕ → List ℕ → Option Said
 end_in id payload = option_map Ends (option_and_then (guid_named id) (list_in payload))
 
@@ -53,5 +55,6 @@ said_by id form.Nothing false payload = None
 said_by id form.Nothing true payload = Some (Ends None)
 said_by id form.Other ends payload = None
 
+-- what a change of an announcer says, by its form, its status bits and its payload
 unfoldable pub said_in : ℕ → ChangeInfo → List ℕ → Option Said
 said_in id info payload = said_by id info.form (is_end info.status) payload

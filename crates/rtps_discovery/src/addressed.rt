@@ -1,4 +1,4 @@
-//! Pairing an event of a datagram is for.
+//! Whom an event of a datagram is for.
 
 ghost use Rattle.std.specs.Prelude.{◌≡◌};
 ghost use Rattle.rtps_discovery.specs.Addressed.{is_discovery, is_for};

@@ -19,11 +19,11 @@ pub enum Becomes<A: Allocator = Global> {
     Match(Guid, Locators<A>),
     /// A match ends.
     Unmatch(Guid),
-    /// They would be matched, but for the policy with this id.
+    /// They would be matched, but for the policy with this id (DDS 1.4, 2.3.3).
     Refuse(Guid, u32),
 }
 
-/// What a reader of ours hears of a writer.
+/// What a reader of ours hears of a writer (DDS 1.4, 2.2.4.1).
 #[derive(Debug, Drop)]
 pub struct MatchChange<A: Allocator = Global> {
     /// The rank of the reader.

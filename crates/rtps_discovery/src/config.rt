@@ -1,4 +1,4 @@
-//! What an application asks of discovery: its readers, and the matches that stand from the start.
+//! What an application asks of discovery: its readers, and the matches that there are from the start.
 
 ghost use Rattle.std.specs.Prelude.{◌≡◌, ◌∷◌, ◌++◌, [], IfOk, OnErr, OnOk};
 
@@ -9,6 +9,8 @@ use std::alloc::{AllocError, Global};
 /// A reader. Its rank is its place among the readers of its configuration, from 0 on.
 #[derive(Debug, Drop)]
 pub struct ReaderConfig {
+    /// Its own part of its guid; its last octet is 07, or 04 of a topic without key (DDSI-RTPS
+    /// 9.3.1.2).
     pub entity: EntityId,
     pub topic: String,
     pub type_name: String,
@@ -48,7 +50,7 @@ impl ReaderConfig {
     }
 }
 
-/// A match that stands from the start, and that no announcement makes or ends.
+/// A match that there is from the start, and that no announcement makes or ends.
 #[derive(Debug, Drop)]
 pub struct FixedMatch {
     /// The rank of the reader.
@@ -94,7 +96,7 @@ impl Config {
         }
     }
 
-    /// Puts a match that stands from the start after the others: of the reader of this rank with a
+    /// Puts a match that there is from the start after the others: of the reader of this rank with a
     /// writer, and where answers to it go. `AllocError` where memory is refused, and then the
     /// locators are let go and the configuration asks for what it did.
     pub fn add_fixed(

@@ -53,9 +53,9 @@ impl<A: Allocator + Copy> Discovery<A> {
         Ok(Discovery { spent: false, held })
     }
 
-    /// Takes an event in: what an announcer says is applied record by record, and any other event
-    /// changes nothing. After a refused growth each later call answers out of memory and changes
-    /// nothing.
+    /// Takes an event in, and gives what our readers hear and what is answered (DDSI-RTPS 8.5.3,
+    /// 8.5.4): what an announcer says is applied record by record, and any other event changes
+    /// nothing. After a refused growth each later call answers out of memory and changes nothing.
     pub fn step(&mut self, alloc: A, event: &Event<'_>) -> Result<DiscoveryEffects<A>, AllocError>
         ensures known { (k : Known) → IsKnown k self.old.kept
             → OnOk result (IsKnown (known_by k (view event.now)) self.new.kept) }
@@ -69,6 +69,7 @@ impl<A: Allocator + Copy> Discovery<A> {
         if self.spent {
             return Err(AllocError);
         }
+        // Spent until the event is taken in: a `?` leaves it so.
         self.spent = true;
         let effects = self.held.take(alloc, event)?;
         self.spent = false;
@@ -96,7 +97,7 @@ impl<A: Allocator + Copy> Discovery<A> {
         Ok(pairs)
     }
 
-    /// Our readers by rank, `None` where one went; at most 256.
+    /// Our readers by rank, at most 256; `None` would stand for one that went, and none goes today.
     pub fn readers(&self) -> &[Option<Reader<A>>]
         ensures known { result.now ≡ self.now.kept.readers }
         ensures few { length result.now ≤ 256 }

@@ -9,14 +9,15 @@ use dds_qos::Ownership;
 use rtps_types::{EntityId, GuidPrefix};
 use thiserror::Error;
 
-/// Why a configuration isn't taken: the first cause in this order.
+/// Why a configuration isn't taken: the first cause in this order (DDSI-RTPS 9.3.1.2 for kinds of
+/// entities).
 #[derive(Clone, Copy, Debug, PartialEq, Eq, Error)]
 pub enum ConfigFault {
     /// There is no reader, or there are more than 256.
     #[error("there is no reader, or there are more than 256")]
     Readers,
     /// A reader whose kind, the last octet of its entity, is neither 04 nor 07 (DDSI-RTPS 9.3.1.2),
-    /// an entity that stands twice, or a reader that doesn't share ownership.
+    /// an entity that two readers have, or a reader that doesn't share ownership.
     #[error("a reader isn't taken")]
     BadReader,
     /// A fixed match with a rank that no reader has, with a writer whose kind is neither 02 nor 03

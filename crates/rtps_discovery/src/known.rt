@@ -147,7 +147,7 @@ impl<A: Allocator> Participant<A> {
         self.locators.as_slice()
     }
 
-    /// How long it may keep silent.
+    /// How long it may keep silent (DDSI-RTPS 8.5.3). Nobody is forgotten for silence.
     pub fn lease(&self) -> Duration
         ensures { result ≡ self.now.lease }
     {

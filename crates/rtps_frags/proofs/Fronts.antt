@@ -1,5 +1,5 @@
 -- Fragments after those at the front.
-use Rattle.std.proofs.Common.{◌≡◌, ℕ, suc, ◌+◌, ◌-◌, ◌<◌, ◌≤◌, Bool, true, false, ◌&&◌, cond, List, [], ◌∷◌, ◌++◌, length, take, drop, refl, sym, ◌∙◌, ap, subst, arith, ltb, leb, inl, inr, Option, Some, None}
+use Rattle.std.proofs.Common.{◌≡◌, ℕ, suc, ◌+◌, ◌-◌, ◌<◌, ◌≤◌, Bool, true, false, ◌&&◌, cond, List, [], ◌∷◌, ◌++◌, length, take, drop, refl, sym, ◌∙◌, ap, arith, ltb, leb, inl, inr, Option, Some, None}
 use Rattle.std.specs.Prelude.{is_some}
 use Rattle.std.specs.BTreeMap.{insert_entry}
 use Rattle.std.specs.Ordering.{nat_cmp}
@@ -8,9 +8,9 @@ use Rattle.std.proofs.lemmas.List.{drop-append-le, length-append, length-drop, t
 use Rattle.std.proofs.Math.Seq.{drop-append-add}
 use Rattle.rtps_frags.specs.declared.sizes.Sizes.{Sizes}
 use Rattle.rtps_frags.specs.Fragments.{before, fragment_in, last_of, length_of, upto}
-use Rattle.rtps_frags.specs.Runs.{AreApart, AreKept, Fits, Run, Runs, covers, in_runs, kept_at, starts_at, within}
+use Rattle.rtps_frags.specs.Runs.{AreApart, AreKept, Fits, Runs, covers, in_runs, kept_at, starts_at, within}
 use Rattle.rtps_frags.proofs.Cuts.{before_first, before_rises, goes_on, low_end, upto_rises}
-use Rattle.rtps_frags.proofs.Runs.{IsFree, insert_all, insert_apart, insert_finds, kept_is, or_none, weaken}
+use Rattle.rtps_frags.proofs.Runs.{IsFree, insert_all, insert_apart, insert_finds, kept_is, or_none}
 
 -- runs of which none begins with a fragment, or has one of some, are after these
 pub behind_one : (rs : Runs) (low : ℕ) → AreApart low rs → starts_at low rs ≡ false → AreApart (suc low) rs
@@ -115,69 +115,25 @@ module _ (z : Sizes) (cut : 0 < z.fragment) (next count : ℕ) (front octets : L
             )
       ]
 
-  -- a run that begins there is found as it was
-  pub joined_finds : (rs : Runs) (k : ℕ) → kept_at z (next + count) (front ++ octets) rs k ≡ kept_at z next front ((next, record { count = count; octets = octets }) ∷ rs) k
-  joined_finds rs k = front_finds rs k ∙ swapped (leb next k && ltb k (next + count)) (leb 1 k && ltb k next) (let both : ((leb next k && ltb k (next + count)) && (leb 1 k && ltb k next)) ≡ false = grind (arith, nat_tests) in both)
-    where
-      swapped : (b c : Bool) → (b && c) ≡ false
-          → cond b (Some (fragment_in z next octets k)) (cond c (Some (fragment_in z 1 front k)) (in_runs z rs k)) ≡ cond c (Some (fragment_in z 1 front k)) (cond b (Some (fragment_in z next octets k)) (in_runs z rs k))
-      swapped true true h = absurd cc
-      swapped true false h = refl
-      swapped false c h = refl
-
--- a run that begins there goes to the front
-pub join_kept : (z : Sizes) (cut : 0 < z.fragment) (next : ℕ) (front : List ℕ) (run : Run) (rs : Runs) → AreKept z next next front ((next, run) ∷ rs) → AreKept z (next + run.count) (next + run.count) (front ++ run.octets) rs
-join_kept z cut next front run rs kept =
-    let begun = kept.begun in
-    let end : next + run.count ≤ suc (last_of z) = kept.fits.0.0 in
-    record {
-      begun = omega (arith, begun);
-      reached = end;
-      full = longer z cut next run.count front run.octets begun kept.apart.1 end kept.full kept.fits.0.1;
-      apart = kept.apart.2;
-      fits = kept.fits.1;
-    }
-
-pub join_same : (z : Sizes) (cut : 0 < z.fragment) (next : ℕ) (front : List ℕ) (run : Run) (rs : Runs) → AreKept z next next front ((next, run) ∷ rs) → (k : ℕ) → kept_at z (next + run.count) (front ++ run.octets) rs k ≡ kept_at z next front ((next, run) ∷ rs) k
-join_same z cut next front run rs kept k = joined_finds z cut next run.count front run.octets kept.begun kept.apart.1 kept.fits.0.0 kept.full kept.fits.0.1 rs k
-
--- where it has to wait no more, the front is after it
-pub join_left : (z : Sizes) (next : ℕ) (front : List ℕ) (run : Run) (rs : Runs) → AreKept z next next front ((next, run) ∷ rs) → AreKept z (suc next) next front rs
-join_left z next front run rs kept =
-    let some : 0 < run.count = kept.apart.1 in
-    record { begun = kept.begun; reached = kept.reached; full = kept.full; apart = weaken rs (next + run.count) (suc next) kept.apart.2 (omega arith); fits = kept.fits.1 }
-
-pub join_done : (z : Sizes) (next : ℕ) (front : List ℕ) (rs : Runs) → AreKept z next next front rs → starts_at next rs ≡ false → AreKept z (suc next) next front rs
-join_done z next front rs kept none = record { begun = kept.begun; reached = kept.reached; full = kept.full; apart = behind_one rs next kept.apart none; fits = kept.fits }
+-- a run that begins with the least missing fragment
+pub first_of : (z : Sizes) (next count : ℕ) (front octets : List ℕ) (rs : Runs) (k : ℕ)
+    → cond (leb next k && ltb k (next + count)) (Some (fragment_in z next octets k)) (kept_at z next front rs k) ≡ kept_at z next front ((next, record { count = count; octets = octets }) ∷ rs) k
+first_of z next count front octets rs k = swapped (leb next k && ltb k (next + count)) (leb 1 k && ltb k next) (let both : ((leb next k && ltb k (next + count)) && (leb 1 k && ltb k next)) ≡ false = grind (arith, nat_tests) in both)
+  where
+    swapped : (b c : Bool) → (b && c) ≡ false
+        → cond b (Some (fragment_in z next octets k)) (cond c (Some (fragment_in z 1 front k)) (in_runs z rs k)) ≡ cond c (Some (fragment_in z 1 front k)) (cond b (Some (fragment_in z next octets k)) (in_runs z rs k))
+    swapped true true h = absurd cc
+    swapped true false h = refl
+    swapped false c h = refl
 
 -- fragments of which none is there
 module _ (z : Sizes) (cut : 0 < z.fragment) (next : ℕ) (front : List ℕ) (rs : Runs) (kept : AreKept z (suc next) next front rs) (start count : ℕ) (octets : List ℕ)
     (first : 1 ≤ start) (some : 1 ≤ count) (within_it : start + count ≤ last_of z + 1) (fit : length octets ≡ length_of z start count)
     (none : (k : ℕ) → start ≤ k → k < start + count → kept_at z next front rs k ≡ None) where
-  free : IsFree start (record { count = count; octets = octets }) some rs
+  pub free : IsFree start (record { count = count; octets = octets }) some rs
   free k le l = (not_covered z next front rs k (none k le l)).1
 
-  pub first_put : start ≡ next → AreKept z (next + count) (next + count) (front ++ octets) rs
-  first_put same =
-      let fit_here : length octets ≡ length_of z next count = subst (λ n. length octets ≡ length_of z n count) same fit in
-      let within_here : next + count ≤ suc (last_of z) = omega (arith, same, within_it) in
-      let begun = kept.begun in
-      record {
-        begun = omega (arith, begun);
-        reached = within_here;
-        full = longer z cut next count front octets begun some within_here kept.full fit_here;
-        apart = behind_free rs (suc next) (next + count) kept.apart (λ k le l. free k (omega (arith, same, le)) (omega (arith, same, l)));
-        fits = kept.fits;
-      }
-
-  pub first_finds : start ≡ next → (k : ℕ) → kept_at z (next + count) (front ++ octets) rs k ≡ cond (leb start k && ltb k (start + count)) (Some (fragment_in z start octets k)) (kept_at z next front rs k)
-  first_finds same k =
-      let fit_here : length octets ≡ length_of z next count = subst (λ n. length octets ≡ length_of z n count) same fit in
-      let within_here : next + count ≤ suc (last_of z) = omega (arith, same, within_it) in
-      let there : kept_at z (next + count) (front ++ octets) rs k ≡ cond (leb next k && ltb k (next + count)) (Some (fragment_in z next octets k)) (kept_at z next front rs k) = front_finds z cut next count front octets kept.begun some within_here kept.full fit_here rs k in
-      subst (λ n. kept_at z (next + count) (front ++ octets) rs k ≡ cond (leb n k && ltb k (n + count)) (Some (fragment_in z n octets k)) (kept_at z next front rs k)) (sym same) there
-
-  later : (start ≡ next → ⊥) → suc next ≤ start
+  pub later : (start ≡ next → ⊥) → suc next ≤ start
   later differ =
       let out : (leb 1 start && ltb start next) ≡ false = (not_covered z next front rs start (none start (omega arith) (omega arith))).0 in
       elim (leb_tells (suc start) next) [

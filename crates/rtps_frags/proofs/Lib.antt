@@ -1,8 +1,11 @@
 pub mod Cuts
+pub mod Places
 pub mod Runs
 pub mod Ahead
 pub mod Fronts
 pub mod Longer
+pub mod Placed
+pub mod Stored
 pub mod Adding
 pub mod Listed
 pub mod Puts

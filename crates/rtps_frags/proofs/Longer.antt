@@ -3,19 +3,23 @@ use Rattle.std.proofs.Common.{◌≡◌, ℕ, suc, ◌+◌, ◌-◌, ◌<◌, �
 use Rattle.std.specs.BTreeMap.{insert_entry}
 use Rattle.std.specs.List.{AllByRecursion}
 use Rattle.std.specs.Map.{lookup, remove_entry, set_value}
-use Rattle.std.specs.Ordering.{nat_cmp}
+use Rattle.std.specs.Ordering.{is_eq, nat_cmp}
 use Rattle.std.proofs.lemmas.Bool.Decides.{nat_tests, leb_tells, eqb_tells}
 use Rattle.std.proofs.lemmas.List.{drop-append-le, length-append, length-drop, take-append-le}
 use Rattle.std.proofs.Math.Seq.{drop-append-add}
 use Rattle.rtps_frags.specs.declared.sizes.Sizes.{Sizes}
 use Rattle.rtps_frags.specs.Fragments.{before, fragment_in, last_of, length_of, upto}
-use Rattle.rtps_frags.specs.Longer.{longer_by, starts}
+use Rattle.rtps_frags.specs.Longer.{longer_by}
 use Rattle.rtps_frags.specs.Runs.{AreApart, AreKept, Fits, Run, Runs, covers, end_of, in_runs, kept_at, within}
 use Rattle.rtps_frags.proofs.Cuts.{before_rises, goes_on, low_end, upto_rises}
 use Rattle.rtps_frags.proofs.Fronts.{later_finds, later_put, none_from}
 use Rattle.rtps_frags.proofs.Runs.{none_below, some_is, weaken}
 
-starts_tells : (s x : ℕ) → ((starts s x ≡ true) × (s ≡ x)) ⊎ ((starts s x ≡ false) × (s ≡ x → ⊥))
+-- a run starts with a fragment
+abbrev pub starts : ℕ → ℕ → Bool
+starts k start = is_eq (nat_cmp k start)
+
+pub starts_tells : (s x : ℕ) → ((starts s x ≡ true) × (s ≡ x)) ⊎ ((starts s x ≡ false) × (s ≡ x → ⊥))
 starts_tells s x =
     elim (leb_tells (suc s) x) [
       | inl w ↦ inr (rw w.0 refl, λ e. absurd (omega (arith, w.1, e)))
@@ -25,7 +29,7 @@ starts_tells s x =
       ]
     ]
 
-same_some : {X : Type 0} (x y : X) → Some x ≡ Some y → x ≡ y
+pub same_some : {X : Type 0} (x y : X) → Some x ≡ Some y → x ≡ y
 same_some x y e = cc
 
 -- a run that is taken out
@@ -297,3 +301,35 @@ set_is k low (r ∷ rs) was run h found =
           rw (w.0, late, apart) (ap (λ (l : Runs). r ∷ l) (set_is k (end_of r) rs was run h.2 (rw w.0 at found)))
           )
     ]
+
+-- the run that starts with a fragment ends before so many others, and is made longer by them
+pub record IsExtended (first start count : ℕ) (octets : List ℕ) (old new : Runs) : Type 0 where
+  pub run : Run
+  pub found : lookup (starts first) old ≡ Some run
+  pub ends : first + run.count ≡ start
+  pub put : new ≡ set_value (starts first) old (longer_by run count octets)
+
+-- what is there where the last run is made longer
+module _ (z : Sizes) (cut : 0 < z.fragment) (next : ℕ) (front : List ℕ) (old new : Runs) (kept : AreKept z (suc next) next front old) (latest start count : ℕ) (octets : List ℕ)
+    (some : 1 ≤ count) (within_it : start + count ≤ last_of z + 1) (fits : length octets ≡ length_of z start count)
+    (none : (k : ℕ) → start ≤ k → k < start + count → kept_at z next front old k ≡ None) (e : IsExtended latest start count octets old new) where
+  put : new ≡ insert_entry nat_cmp (left latest e.run old) latest (longer_by e.run count octets)
+  put = e.put ∙ sym (set_is latest (suc next) old e.run (longer_by e.run count octets) kept.apart e.found)
+
+  fit : length octets ≡ length_of z (latest + e.run.count) count
+  fit = subst (λ n. length octets ≡ length_of z n count) (sym e.ends) fits
+
+  none_after : (k : ℕ) → latest + e.run.count ≤ k → k < latest + e.run.count + count → kept_at z next front old k ≡ None
+  none_after k le l = let ends : latest + e.run.count ≡ start = e.ends in none k (omega (arith, ends, le)) (omega (arith, ends, l))
+
+  reaches : latest + e.run.count + count ≤ last_of z + 1
+  reaches = let ends : latest + e.run.count ≡ start = e.ends in omega (arith, ends, within_it)
+
+  pub extended_kept : AreKept z (suc next) next front new
+  extended_kept = subst (λ (rs : Runs). AreKept z (suc next) next front rs) (sym put) (longer_put z cut next front old kept latest e.run e.found count octets some reaches fit none_after)
+
+  pub extended_finds : (k : ℕ) → kept_at z next front new k ≡ cond (leb start k && ltb k (start + count)) (Some (fragment_in z start octets k)) (kept_at z next front old k)
+  extended_finds k =
+      ap (λ (rs : Runs). kept_at z next front rs k) put
+      ∙ subst (λ n. kept_at z next front (insert_entry nat_cmp (left latest e.run old) latest (longer_by e.run count octets)) k ≡ cond (leb n k && ltb k (n + count)) (Some (fragment_in z n octets k)) (kept_at z next front old k)) e.ends
+      (longer_finds z cut next front old kept latest e.run e.found count octets some reaches fit none_after k)

@@ -103,11 +103,11 @@ module _ (k : ℕ) (run : Run) (some : 0 < run.count) where
   abbrev pub IsFree : Runs → Type 0
   IsFree rs = (j : ℕ) → k ≤ j → j < k + run.count → covers rs j ≡ false
 
-  free_behind : (x : ℕ × Run) (rs : Runs) → IsFree (x ∷ rs) → IsFree rs
+  pub free_behind : (x : ℕ × Run) (rs : Runs) → IsFree (x ∷ rs) → IsFree rs
   free_behind x rs h j le l = (or_none (within j x) (covers rs j) (h j le l)).1
 
   -- it is before a run, or after
-  clear : (x : ℕ × Run) (rs : Runs) → 0 < x.1.count → IsFree (x ∷ rs) → (k + run.count ≤ x.0) ⊎ (end_of x ≤ k)
+  pub clear : (x : ℕ × Run) (rs : Runs) → 0 < x.1.count → IsFree (x ∷ rs) → (k + run.count ≤ x.0) ⊎ (end_of x ≤ k)
   clear x rs more h =
       elim (leb_tells (k + run.count) x.0) [
         | inl w ↦ inl w.1

@@ -3,6 +3,7 @@ pub mod Missing
 pub mod Runs
 pub mod Kept
 pub mod Payload
+pub mod Buffer
 pub mod Parts
 pub mod Spans
 pub mod Longer

@@ -106,7 +106,8 @@ impl<A: Allocator> Assembly<A> {
         if self.spent || self.sizes.is_empty() {
             return false;
         }
-        self.parts.front.len() == self.sizes.sample as usize
+        // The octets before the least missing fragment are all.
+        self.sizes.upto(self.parts.next - 1) == self.sizes.sample as usize
     }
 
     /// What is missing up to a fragment, and up to the sample's last one: from the least missing one
@@ -127,7 +128,7 @@ impl<A: Allocator> Assembly<A> {
         ensures payload { result ≡ payload_of self.there }
         ensures size { length result ≡ self.sizes.sample }
     {
-        Octets::new(self.parts.front)
+        Octets::new(self.parts.buffer)
     }
 }
 

@@ -3,6 +3,7 @@
 #![tactic(auto)]
 
 mod assembly;
+mod buffer;
 mod fault;
 pub mod laws;
 mod parts;

@@ -1,18 +1,20 @@
 //! The octets of a sample that came, each where it belongs.
 
-ghost use Rattle.std.specs.Prelude.{◌≡◌, ◌+◌, ◌++◌, ◌-◌, ◌<◌, ◌≤◌, ◌^◌, ℕ, ◌&&◌, nat_le, nat_lt, if◌then◌else◌, length, IfNone, IfOk, IfSome, OnErr, OnOk, Option, List, Some, None, false, true};
+ghost use Rattle.std.specs.Prelude.{◌≡◌, ◌+◌, ◌-◌, ◌*◌, ◌<◌, ◌≤◌, ◌^◌, ℕ, ◌&&◌, nat_le, nat_lt, if◌then◌else◌, length, IfNone, IfOk, IfSome, OnErr, OnOk, Option, List, Some, None, false, true};
 ghost use Rattle.std.specs.Option.{option_map, option_or};
 ghost use Rattle.rtps_types.specs.Named.{set_naming};
 ghost use Rattle.rtps_types.specs.Numbers.{failing_from};
 ghost use Rattle.rtps_types.specs.Sets.{frag_view};
 ghost use Rattle.rtps_frags.specs.declared.sizes.Sizes.{Sizes};
-ghost use Rattle.rtps_frags.specs.Fragments.{fragment_in, last_of, length_of};
+ghost use Rattle.rtps_frags.specs.Buffer.{AreStored};
+ghost use Rattle.rtps_frags.specs.Fragments.{before, fragment_in, last_of, length_of};
 ghost use Rattle.rtps_frags.specs.Missing.{missing_by};
-ghost use Rattle.rtps_frags.specs.Parts.{IsJoinable, IsKept, holds, part_at};
+ghost use Rattle.rtps_frags.specs.Parts.{AreAway, ArePut, IsJoinable, IsKept, holds, part_at};
 ghost use Rattle.rtps_frags.specs.Runs.{AreApart, Runs, begins_behind, begun_by, covers, starts_at};
 ghost use Rattle.rtps_frags.specs.Spans.{IsAhead};
-ghost use Rattle.rtps_frags.specs.Longer.{IsExtended};
+ghost use Rattle.rtps_frags.specs.Longer.{longer_by};
 
+use crate::buffer::{append, make_room, put_at};
 use crate::sizes::Sizes;
 use rtps_types::{FragSet, set_bit};
 use std::alloc::{AllocError, Allocator};
@@ -25,6 +27,7 @@ use std::ops::Bound;
 #[derive(Drop)]
 pub(crate) struct Chunk<A: Allocator> {
     count: u32,
+    /// Their octets, or none where these lie at their place in the buffer.
     octets: Vec<u8, A>,
 }
 
@@ -54,8 +57,11 @@ struct Span {
 /// What came of a sample.
 #[derive(Drop)]
 pub(crate) struct Parts<A: Allocator> {
-    /// The octets of the fragments before the least one that is missing.
-    pub front: Vec<u8, A>,
+    /// Octets at their places in the sample: those of the fragments before the least one that is
+    /// missing, and behind them those of chunks, with holes between.
+    pub buffer: Vec<u8, A>,
+    /// How many octets of the buffer came. The others are in holes.
+    pub there: usize,
     /// The least fragment that is missing, or the one after the last.
     pub next: u32,
     /// Those after it, by the first of each chunk.
@@ -119,22 +125,27 @@ fn next_span<A: Allocator>(
     }
 }
 
-/// Appends octets. Where there is no room for them, it is made for sixteen times as many as there are
-/// then, or for the most that there will be.
-fn append<A: Allocator>(
-    front: &mut Vec<u8, A>,
-    most: usize,
-    octets: &[u8],
+/// The room that is made for octets of a sample where there is none: for sixteen times as many, or for
+/// all.
+fn room(sizes: Sizes, length: usize) -> usize {
+    length.saturating_mul(16).min(sizes.sample as usize)
+}
+
+/// Puts a piece at the end of a chunk with octets of its own.
+fn lengthen<A: Allocator>(
+    chunk: &mut Chunk<A>,
+    sizes: Sizes,
+    piece: Piece<'_>,
 ) -> Result<(), AllocError>
-    ensures ok { OnOk result (front.new.items ≡ front.old.items ++ octets.now) }
-    ensures err { OnErr result (front.new.items ≡ front.old.items) }
+    requires { chunk.old.count + piece.count < 2 ^ 32 }
+    ensures ok { OnOk result
+        (chunk.new ≡ longer_by chunk.old piece.entry.count piece.entry.octets.now) }
+    ensures err { OnErr result (chunk.new ≡ chunk.old) }
 {
-    let length = front.len() + octets.len();
-    if front.capacity() < length {
-        let room = length.saturating_mul(16).min(most).max(length);
-        front.reserve_exact(room - front.len())?;
-    }
-    front.extend_from_slice(octets)
+    let length = chunk.octets.len() + piece.octets.len();
+    append(&mut chunk.octets, room(sizes, length), piece.octets)?;
+    chunk.count += piece.count;
+    Ok(())
 }
 
 impl<A: Allocator + Copy> Parts<A> {
@@ -144,7 +155,8 @@ impl<A: Allocator + Copy> Parts<A> {
         ensures none { (z : Sizes) (k : ℕ) → part_at z result k ≡ None }
     {
         Parts {
-            front: Vec::new(alloc),
+            buffer: Vec::new(alloc),
+            there: 0,
             next: 1,
             early: BTreeMap::new(alloc),
             latest: 0,
@@ -174,7 +186,8 @@ impl<A: Allocator> Parts<A> {
 }
 
 impl<A: Allocator + Copy> Parts<A> {
-    /// Moves the chunks that begin where the front ends to its end.
+    /// Counts the chunks that begin with the least missing fragment to those before it. Only the octets
+    /// of a chunk that has its own are moved.
     fn join(&mut self, sizes: Sizes) -> Result<(), AllocError>
         requires cut { 0 < sizes.fragment }
         requires small { sizes.sample ≤ 67108864 }
@@ -187,13 +200,39 @@ impl<A: Allocator + Copy> Parts<A> {
             let Some((_, chunk)) = self.early.pop_first() else {
                 break;
             };
-            append(
-                &mut self.front,
-                sizes.sample as usize,
-                chunk.octets.as_slice(),
-            )?;
-            self.next += chunk.count;
+            if chunk.octets.is_empty() {
+                self.next += chunk.count;
+            } else {
+                self.put_next(sizes, chunk.count, chunk.octets.as_slice())?;
+            }
         }
+        Ok(())
+    }
+
+    /// Puts fragments from the least missing one on, in octets that are just theirs.
+    fn put_next(&mut self, sizes: Sizes, count: u32, octets: &[u8]) -> Result<(), AllocError>
+        requires cut { 0 < sizes.fragment }
+        requires small { sizes.sample ≤ 67108864 }
+        requires some { 1 ≤ count }
+        requires within { self.old.next + count ≤ last_of sizes + 1 }
+        requires fits { length octets.now ≡ length_of sizes self.old.next count }
+        requires free { AreStored sizes (self.old.next + count) self.old.next self.old.there
+            self.old.buffer.items self.old.early.entries }
+        ensures ok { OnOk result (IsJoinable sizes self.new) }
+        ensures err { OnErr result (IsKept sizes self.new) }
+        ensures put { OnOk result
+            (ArePut sizes self.old self.new self.old.next count octets.now) }
+        ensures early { self.new.early.entries ≡ self.old.early.entries }
+    {
+        let there = self.there + octets.len();
+        put_at(
+            &mut self.buffer,
+            room(sizes, there),
+            sizes.before(self.next),
+            octets,
+        )?;
+        self.there = there;
+        self.next += count;
         Ok(())
     }
 
@@ -212,25 +251,20 @@ impl<A: Allocator + Copy> Parts<A> {
         requires cut { 0 < sizes.fragment }
         requires small { sizes.sample ≤ 67108864 }
         requires kept { IsKept sizes self.old }
-        requires first { 1 ≤ piece.start }
-        requires some { 1 ≤ piece.count }
-        requires within { piece.start + piece.count ≤ last_of sizes + 1 }
-        requires fits { length piece.octets.now ≡ length_of sizes piece.start piece.count }
-        requires none { (k : ℕ) → piece.start ≤ k → k < piece.start + piece.count →
-            part_at sizes self.old k ≡ None }
+        requires free { AreAway sizes self.old piece.start piece.count piece.octets.now }
         ensures kept { IsKept sizes self.new }
-        ensures put { OnOk result ((k : ℕ) → part_at sizes self.new k
-            ≡ (if nat_le piece.entry.start k && nat_lt k (piece.entry.start + piece.entry.count)
-            then Some (fragment_in sizes piece.entry.start piece.entry.octets.now k)
-            else part_at sizes self.old k)) }
+        ensures put { OnOk result (ArePut sizes self.old self.new
+            piece.entry.start piece.entry.count piece.entry.octets.now) }
     {
         if piece.start == self.next {
-            append(&mut self.front, sizes.sample as usize, piece.octets)?;
-            self.next += piece.count;
+            self.put_next(sizes, piece.count, piece.octets)?;
             return self.join(sizes);
         }
         if self.extend_latest(sizes, piece)? {
             return Ok(());
+        }
+        if self.has_place(sizes, piece) {
+            return self.put_in_place(alloc, sizes, piece);
         }
         let chunk = Chunk {
             count: piece.count,
@@ -241,18 +275,65 @@ impl<A: Allocator + Copy> Parts<A> {
         Ok(())
     }
 
+    /// Whether the buffer's holes, once a piece is at its place, are no longer than what came. So the
+    /// buffer goes by the octets that came, whatever place a piece names.
+    fn has_place(&self, sizes: Sizes, piece: Piece<'_>) -> bool
+        requires cut { 0 < sizes.fragment }
+        requires small { sizes.sample ≤ 67108864 }
+        requires kept { IsKept sizes self.now }
+        requires free { AreAway sizes self.now piece.start piece.count piece.octets.now }
+        ensures { result ≡ nat_le (before sizes piece.entry.start + length piece.entry.octets.now)
+            (2 * (self.now.there + length piece.entry.octets.now)) }
+    {
+        let length = piece.octets.len();
+        sizes.before(piece.start) + length <= 2 * (self.there + length)
+    }
+
+    /// Puts a piece at its place in the buffer. The room is made first, so that a chunk never names
+    /// octets that aren't there.
+    fn put_in_place(&mut self, alloc: A, sizes: Sizes, piece: Piece<'_>) -> Result<(), AllocError>
+        requires cut { 0 < sizes.fragment }
+        requires small { sizes.sample ≤ 67108864 }
+        requires kept { IsKept sizes self.old }
+        requires free { AreAway sizes self.old piece.start piece.count piece.octets.now }
+        requires later { self.old.next < piece.start }
+        requires few { before sizes piece.start + length piece.octets.now
+            ≤ 2 * (self.old.there + length piece.octets.now) }
+        ensures kept { IsKept sizes self.new }
+        ensures put { OnOk result (ArePut sizes self.old self.new
+            piece.entry.start piece.entry.count piece.entry.octets.now) }
+    {
+        let at = sizes.before(piece.start);
+        let there = self.there + piece.octets.len();
+        let room = room(sizes, there);
+        make_room(&mut self.buffer, room, at + piece.octets.len())?;
+        let chunk = Chunk {
+            count: piece.count,
+            octets: Vec::new(alloc),
+        };
+        self.latest = piece.start;
+        self.early.insert(piece.start, chunk)?;
+        put_at(&mut self.buffer, room, at, piece.octets)?;
+        self.there = there;
+        Ok(())
+    }
+
     /// Puts fragments at the end of the chunk that was put last, where it ends before them; and says
     /// whether it does.
     fn extend_latest(&mut self, sizes: Sizes, piece: Piece<'_>) -> Result<bool, AllocError>
-        requires { piece.start + piece.count < 2 ^ 32 }
-        ensures extended { IfOk result (λ ends. ends ≡ true → IsExtended self.old.latest piece.entry.start
-            piece.entry.count piece.entry.octets.now self.old.early.entries
-            self.new.early.entries) }
+        requires cut { 0 < sizes.fragment }
+        requires small { sizes.sample ≤ 67108864 }
+        requires kept { IsKept sizes self.old }
+        requires free { AreAway sizes self.old piece.start piece.count piece.octets.now }
+        ensures kept { IsKept sizes self.new }
+        ensures put { IfOk result (λ ends. ends ≡ true → ArePut sizes self.old self.new
+            piece.entry.start piece.entry.count piece.entry.octets.now) }
         ensures apart { IfOk result (λ ends. ends ≡ false
             → self.new.early.entries ≡ self.old.early.entries) }
-        ensures err { OnErr result (self.new.early.entries ≡ self.old.early.entries) }
-        ensures front { (self.new.front.items ≡ self.old.front.items)
-            × (self.new.next ≡ self.old.next) }
+        ensures same { IfOk result (λ ends. ends ≡ false
+            → (self.new.buffer.items ≡ self.old.buffer.items)
+            × (self.new.there ≡ self.old.there)) }
+        ensures next { self.new.next ≡ self.old.next }
     {
         let Some(chunk) = self.early.get_mut(&self.latest) else {
             return Ok(false);
@@ -260,7 +341,18 @@ impl<A: Allocator + Copy> Parts<A> {
         if piece.start < self.latest || piece.start - self.latest != chunk.count {
             return Ok(false);
         }
-        append(&mut chunk.octets, sizes.sample as usize, piece.octets)?;
+        if !chunk.octets.is_empty() {
+            lengthen(chunk, sizes, piece)?;
+            return Ok(true);
+        }
+        let there = self.there + piece.octets.len();
+        put_at(
+            &mut self.buffer,
+            room(sizes, there),
+            sizes.before(piece.start),
+            piece.octets,
+        )?;
+        self.there = there;
         chunk.count += piece.count;
         Ok(true)
     }

@@ -16,7 +16,7 @@ use Rattle.std.proofs.lemmas.Slice.Eq.{bytes_eq-Decides}
 use Rattle.rtps_listen.specs.Options.{are_digits, is_set, number_in, number_of}
 use Rattle.rtps_listen.specs.Line.{with_sizes, with_names, with_flags, dump_app, replay_app, samples_app, live_app, printing_app, listen_app}
 
--- the commands are ones whose matches clap tells
+-- the commands are ones whose matches clap gives
 pub listen_simple : is_simple listen_app ≡ true
 unfolding with_sizes with_names with_flags dump_app replay_app samples_app live_app printing_app listen_app
 listen_simple = refl

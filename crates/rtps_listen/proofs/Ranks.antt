@@ -38,7 +38,7 @@ each_rank_passes p f zero b some same = absurd (omega arith)
 each_rank_passes p f (suc n) true some same = rw (same 0 (omega arith)) refl
 each_rank_passes p f (suc n) false some same = no_rank_passes p f 0 (suc n) (λ k above below. same k (omega arith))
 
--- items that differ by their ranks don't stand twice
+-- items that differ by their ranks aren't listed twice
 pub ranks_differ : {X : Type 0} (same : X → X → Bool) (f : ℕ → X) (a n : ℕ) → ((i j : ℕ) → i < j → same (f i) (f j) ≡ false) → has_twice same (map f (range_with_len a n)) ≡ false
 ranks_differ same f a zero differ = refl
 ranks_differ same f a (suc n) differ =

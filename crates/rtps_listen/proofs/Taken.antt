@@ -65,7 +65,7 @@ fixed_fault own (Some writer) n some =
 answer : Bool → Bool → Bool → Result (Unit {0}) ConfigFault
 answer a b c = if a then Err Readers else if b then Err BadReader else if c then Err BadFixed else Ok tt
 
--- what is told where only the writer can be at fault
+-- what is reported where only the writer can be at fault
 abbrev pub told : Bool → Result (Unit {0}) ConfigFault
 told b = if b then Err BadFixed else Ok tt
 

@@ -38,7 +38,7 @@ one_to most n = if nat_le 1 n && nat_le n most then n else 1
 abbrev pub up_to : ℕ → ℕ → ℕ
 up_to most n = if nat_le n most then n else 0
 
--- the options are those that stand in these rows
+-- the options are those in these rows
 pub record AreOptions (options : Options) (rows : List Row) : Type 0 where
   pub file : options.file.now ≡ text_or (codes "file") (codes "-") rows
   pub readers : options.readers ≡ one_to 8 (number_in (codes "readers") rows)

@@ -36,7 +36,7 @@ fn dump_command<'a>(alloc: Global) -> Result<Command<'a>, AllocError>
     ensures { IfOk result (λ c. IsPlainApp c line.dump_app) }
 {
     Command::new(alloc, "dump")
-        .about("Prints the events in a record file")
+        .about("Prints a line for each event in a record file")
         .arg(file(alloc))?
         .arg(own(alloc))
 }
@@ -48,7 +48,7 @@ fn replay_command<'a>(alloc: Global) -> Result<Command<'a>, AllocError>
     with_options(
         alloc,
         Command::new(alloc, "replay")
-            .about("Runs readers over a record file, and prints what they answer")
+            .about("Runs readers over a record file, and prints what they report and answer")
             .arg(file(alloc))?,
     )
 }
@@ -60,7 +60,7 @@ fn samples_command<'a>(alloc: Global) -> Result<Command<'a>, AllocError>
     with_options(
         alloc,
         Command::new(alloc, "samples")
-            .about("Runs readers over a record file, and prints what they keep")
+            .about("Runs readers over a record file, and prints what is in their caches at the end")
             .arg(file(alloc))?
             .arg(keep(alloc))?,
     )
@@ -71,7 +71,7 @@ fn live_command<'a>(alloc: Global) -> Result<Command<'a>, AllocError>
     ensures { IfOk result (λ c. IsPlainApp c line.live_app) }
 {
     let command = Command::new(alloc, "listen")
-        .about("Runs readers on a domain of this machine")
+        .about("Runs readers on a domain of this machine (not built yet)")
         .arg(domain(alloc))?
         .arg(count(alloc))?
         .arg(turns(alloc))?;
@@ -136,7 +136,7 @@ fn own<'a>(alloc: Global) -> Arg<'a>
 {
     Arg::new(alloc, "own")
         .value_name("HEX")
-        .help("The prefix of this participant")
+        .help("The prefix of the participant that reads, 24 hex digits")
         .long("own")
         .default_value(OWN)
 }
@@ -146,7 +146,7 @@ fn workers<'a>(alloc: Global) -> Arg<'a>
 {
     Arg::new(alloc, "workers")
         .value_name("COUNT")
-        .help("How many threads run readers")
+        .help("How many threads share the run, 1 to 64; its text is the same")
         .long("workers")
         .value_parser(value_parser!(u32).range(1..65))
         .default_value("1")
@@ -157,7 +157,7 @@ fn batch<'a>(alloc: Global) -> Arg<'a>
 {
     Arg::new(alloc, "batch")
         .value_name("COUNT")
-        .help("How many datagrams are taken at a time")
+        .help("How many datagrams are taken at a time, 1 to 4096; the text is the same")
         .long("batch")
         .value_parser(value_parser!(u32).range(1..4097))
         .default_value("256")
@@ -168,7 +168,7 @@ fn readers<'a>(alloc: Global) -> Arg<'a>
 {
     Arg::new(alloc, "readers")
         .value_name("COUNT")
-        .help("How many readers there are")
+        .help("How many readers there are, 1 to 8")
         .long("readers")
         .value_parser(value_parser!(u32).range(1..9))
         .default_value("1")
@@ -179,7 +179,7 @@ fn keep<'a>(alloc: Global) -> Arg<'a>
 {
     Arg::new(alloc, "keep")
         .value_name("COUNT")
-        .help("How many entries are kept of an instance, 0 for all")
+        .help("How many entries are kept of an instance, 1 to 65536, or 0 for all")
         .long("keep")
         .value_parser(value_parser!(u32).range(0..65_537))
         .default_value("0")
@@ -190,7 +190,7 @@ fn topic<'a>(alloc: Global) -> Arg<'a>
 {
     Arg::new(alloc, "topic")
         .value_name("TEXT")
-        .help("The topic of the readers")
+        .help("The topic of the readers, whose type is ShapeType")
         .long("topic")
         .default_value(TOPIC)
 }
@@ -200,7 +200,7 @@ fn fixed<'a>(alloc: Global) -> Arg<'a>
 {
     Arg::new(alloc, "fixed")
         .value_name("HEX")
-        .help("A writer that is matched from the start")
+        .help("A writer that each reader is matched with from the start, 32 hex digits")
         .long("fixed")
 }
 
@@ -208,7 +208,7 @@ fn best_effort<'a>(alloc: Global) -> Arg<'a>
     ensures { IsPlainRule result line.best_effort_rule }
 {
     Arg::new(alloc, "best-effort")
-        .help("Readers ask for nothing again")
+        .help("Readers take what comes, and ask for nothing again")
         .long("best-effort")
         .action(ArgAction::SetTrue)
 }
@@ -217,7 +217,7 @@ fn raw<'a>(alloc: Global) -> Arg<'a>
     ensures { IsPlainRule result line.raw_rule }
 {
     Arg::new(alloc, "raw")
-        .help("Values are printed as octets")
+        .help("Values are printed as octets, of whatever type")
         .long("raw")
         .action(ArgAction::SetTrue)
 }
@@ -226,7 +226,7 @@ fn summary<'a>(alloc: Global) -> Arg<'a>
     ensures { IsPlainRule result line.summary_rule }
 {
     Arg::new(alloc, "summary")
-        .help("Matches and counts are printed at the end")
+        .help("Matches and statuses are printed at the end")
         .long("summary")
         .action(ArgAction::SetTrue)
 }
@@ -236,7 +236,7 @@ fn domain<'a>(alloc: Global) -> Arg<'a>
 {
     Arg::new(alloc, "domain")
         .value_name("DOMAIN")
-        .help("The domain to listen in")
+        .help("The domain to listen in, 0 to 232")
         .long("domain")
         .value_parser(value_parser!(u16).range(0..233))
         .required(true)
@@ -247,7 +247,7 @@ fn count<'a>(alloc: Global) -> Arg<'a>
 {
     Arg::new(alloc, "count")
         .value_name("COUNT")
-        .help("How many datagrams to take")
+        .help("How many datagrams to take, 1 to 65536")
         .long("count")
         .value_parser(value_parser!(u32).range(1..65_537))
         .required(true)
@@ -258,7 +258,7 @@ fn turns<'a>(alloc: Global) -> Arg<'a>
 {
     Arg::new(alloc, "turns")
         .value_name("COUNT")
-        .help("How many times to wait for datagrams")
+        .help("How many times to wait for datagrams, 1 to 100000")
         .long("turns")
         .value_parser(value_parser!(u32).range(1..100_001))
         .default_value("600")

@@ -24,14 +24,14 @@ front_shortens e (a ∷ b ∷ c ∷ d ∷ more) p rest h =
     let less = headed_shortens e (number e 2 (a ∷ b ∷ [])) (number e 2 (c ∷ d ∷ [])) more p rest h in
     omega arith
 
--- the reading after n octets is that of the octets that stand there
+-- the reading after n octets is that of the octets that are there
 behind_is : (e : Endian) (n : ℕ) (octets : List ℕ) → reading_behind e n octets ≡ reading e (drop n octets)
 unfolding reading_behind
 behind_is e zero octets = refl
 behind_is e (suc n) [] = refl
 behind_is e (suc n) (x ∷ more) = behind_is e n more
 
--- what stands at the front, and then what others gives after it
+-- what is at the front, and then what others gives after it
 abbrev pub by_rest : Read → (List ℕ → Reading) → Reading
 by_rest (Err f) others = record { parameters = []; outcome = Err f }
 by_rest (Ok (None, rest)) others = record { parameters = []; outcome = Ok rest }
@@ -43,12 +43,12 @@ leaves false false short p more rest others = refl
 leaves false true true p more rest others = refl
 leaves false true false p more rest others = refl
 
--- a parameter leaves what stands after its value
+-- a parameter leaves what is after its value
 headed_leaves : (e : Endian) (id len : ℕ) (more : List ℕ) (others : List ℕ → Reading) → go_on (headed e id len more) (others (drop len more)) ≡ by_rest (headed e id len more) others
 headed_leaves e id len more others =
     leaves (id == 1) (len % 4 == 0) (ltb (length more) len) (record { id = id; value = take len more }) more (drop len more) others
 
--- the reading, by what stands at the front
+-- the reading, by what is at the front
 pub reading_goes_on : (e : Endian) (octets : List ℕ) → reading e octets ≡ by_rest (front_of e octets) (reading e)
 unfolding reading_behind front_of
 reading_goes_on e [] = refl
@@ -68,7 +68,7 @@ reading_end e octets rest h = reading_goes_on e octets ∙ rw h refl
 pub reading_fault : (e : Endian) (octets : List ℕ) (f : ParamFault) → front_of e octets ≡ Err f → reading e octets ≡ record { parameters = []; outcome = Err f }
 reading_fault e octets f h = reading_goes_on e octets ∙ rw h refl
 
--- what stands at rest decides what the list of all octets is
+-- what is at rest decides what the list of all octets is
 pub record Leads (e : Endian) (octets rest : List ℕ) : Type 0 where
   pub outcome : (reading e rest).outcome ≡ (reading e octets).outcome
   pub shorter : length rest ≤ length octets

@@ -6,10 +6,12 @@ ghost use Rattle.rtps_params.specs.Reading.{LeavesLess, front_of, seen};
 use crate::ids::SENTINEL;
 use rtps_types::{Endian, get_u16};
 
-/// A parameter; its value is aligned as in the list (DDSI-RTPS 9.4.2.11).
+/// A parameter (DDSI-RTPS 9.4.2.11).
 #[derive(Clone, Copy, Debug)]
 pub struct Param<'a> {
+    /// One of [`ids`](crate::ids), or any other.
     pub id: u16,
+    /// As many octets as its length says, a multiple of four: the value, and what fills it up.
     pub value: &'a [u8],
 }
 
@@ -31,10 +33,12 @@ pub enum Front<'a> {
     Param(Param<'a>, &'a [u8]),
     /// The end of the list.
     End(&'a [u8]),
+    /// Neither is there.
     Fault(ParamFault),
 }
 
-/// Reads what octets begin with: for whoever takes a list one parameter at a time.
+/// Reads what octets begin with, by the byte order of their list: for whoever takes a list one
+/// parameter at a time. No memory is taken.
 #[tactic(auto, unfolding(crate::specs::Reading::front_of))]
 pub fn read_front(octets: &[u8], endian: Endian) -> Front<'_>
     ensures value { seen result ≡ front_of endian octets.now }

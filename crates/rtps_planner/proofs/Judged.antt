@@ -82,7 +82,7 @@ module _ {V A : Type 0} where
       by_test true same none rest = absurd (omega (arith, none))
       by_test false same none rest = rest none ∙ get_or-set_other lists o.0 rank o.1.notices other (λ (e : rank ≡ o.0). eqb-false o.0 rank same (sym e))
 
-  -- the notices of an output stand in the place of its rank, where no other output is of that rank
+  -- the notices of an output are in the place of its rank, where no other output is of that rank
   pub moved_at : (lists : List (Vec (Notice V) A)) (outputs : List (ℕ × Output V A)) (k : ℕ) (o : ℕ × Output V A) (other : Vec (Notice V) A)
       → o.0 < length lists → nat_lt 1 (times o.0 (ranks_of outputs)) ≡ false → k < length outputs → get_or outputs k o ≡ o → get_or (lists_with lists outputs) o.0 other ≡ o.1.notices
   moved_at lists [] k o other inside once below is = absurd (omega (arith, below))

@@ -114,7 +114,7 @@ AreRising (p ∷ ps) = AllByRecursion (λ q. not_after q p ≡ false) ps × AreR
 abbrev pub StandAmong : List Place → List (Place × ReplyView) → Type 0
 StandAmong places answers = All (λ s. list_any (same_place s.0) places ≡ true) answers
 
--- An outcome has the outputs of a batch: the notices of each output stand as they are in the place of
+-- An outcome has the outputs of a batch: the notices of each output are as they were in the place of
 -- its rank, and a reader without a job has none; and the answers are those of the parts, merged by
 -- whatever places the events of the batch have, which are those of the answers too.
 pub record IsGathered {V A : Type 0} (rest : Rest A) (outputs : List (ℕ × Output V A))

@@ -20,6 +20,9 @@ use rtps_serial::{Answer, push_by};
 use rtps_types::{EntityId, Guid, Place, Reply};
 use std::alloc::{AllocError, Allocator, Global};
 
+/// For so many steps room is made at first.
+const FIRST_ROOM: usize = 32;
+
 /// One step of a job.
 #[derive(Debug, Drop)]
 pub struct PlannedStep<A: Allocator = Global> {
@@ -28,6 +31,27 @@ pub struct PlannedStep<A: Allocator = Global> {
     /// What becomes of a match, where the event announces that. Where there is none the reader
     /// takes the event in.
     pub change: Option<Box<Becomes<A>, A>>,
+}
+
+/// Makes room for one more step of the reader of a rank, where there is none: for four times as many
+/// as there are, since they are moved each time.
+fn make_room<A: Allocator>(
+    lists: &mut Vec<Vec<PlannedStep<A>, A>, A>,
+    rank: u32,
+) -> Result<(), AllocError>
+    ensures count { length lists.new.items ≡ length lists.old.items }
+    ensures same { (at : ℕ) (other : _) → at < length lists.old.items
+        → (slice_index_or lists.new.items at other).items
+        ≡ (slice_index_or lists.old.items at other).items }
+{
+    let Some(steps) = lists.get_mut(rank as usize) else {
+        return Ok(());
+    };
+    let count = steps.len();
+    if count == steps.capacity() {
+        steps.reserve(count.saturating_mul(3).max(FIRST_ROOM))?;
+    }
+    Ok(())
 }
 
 /// Puts a step after those of the reader of a rank; there is none for a rank past the last.
@@ -39,6 +63,7 @@ pub(crate) fn add_step<A: Allocator>(
     ensures { (es : List EventView) → OnOk result (Grow es lists.old.items lists.new.items
         (λ at. if rank == at then step_seen es step else [])) }
 {
+    make_room(lists, rank)?;
     push_by(lists, rank, step)
 }
 

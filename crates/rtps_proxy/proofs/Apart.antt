@@ -44,7 +44,7 @@ starts_behind low [] h k d l = absurd (omega arith)
 starts_behind low (r ∷ rs) h zero d l = h.0
 starts_behind low (r ∷ rs) h (suc k) d l = let a = h.0 in let b = h.1.0 in let rest : end_of r < start_of (get_or rs k d) = starts_behind (end_of r) rs h.1.1 k d (omega arith) in omega arith
 
--- a run behind a place begins behind the ends of those before it
+-- a run after a place begins after the ends of those before it
 pub ends_before : (low : ℕ) (rs : List Run) → AreApart low rs → (at k : ℕ) (d : Run) → at ≤ k → k < length rs → EndBelow (start_of (get_or rs k d)) (take at rs)
 ends_before low [] h at k d le l = absurd (omega arith)
 ends_before low (r ∷ rs) h zero k d le l = tt
@@ -128,7 +128,7 @@ none_before f n (r ∷ rs) h le =
     let c : leb n (value_of r.1) ≡ false = grind (arith, nat_tests) in
     rw (c, rest) (neither (leb (value_of r.0) n))
 
--- runs behind a number don't hold it, nor any number below
+-- runs after a number don't hold it, nor any number below
 pub none_behind : (low n : ℕ) (rs : List Run) → AreApart low rs → n ≤ low → list_any (within n) rs ≡ false
 none_behind low n [] h le = refl
 none_behind low n (r ∷ rs) h le =
@@ -180,7 +180,7 @@ added_between f start end from n next at rs run joined is some starts stops join
     swapped true false c = refl
     swapped false b c = refl
 
--- whether a number is in the first run that ends behind it
+-- whether a number is in the first run that ends after it
 pub found_in : (low : ℕ) (rs : List Run) (at n : ℕ) (d : Run) → AreApart low rs → EndBelow (n + 1) (take at rs) → AllByRecursion (λ r. n + 1 ≤ end_of r) (drop at rs) → list_any (within n) rs ≡ (ltb at (length rs) && leb (start_of (get_or rs at d)) n)
 found_in low [] zero n d apart ends reaches = refl
 found_in low [] (suc at) n d apart ends reaches = let none : ltb (suc at) 0 ≡ false = grind (arith, nat_tests) in rw none refl
@@ -209,7 +209,7 @@ found_in low (r ∷ rs) (suc at) n d apart ends reaches =
 pub contains_is : (f : ℕ) (rs : List Run) (n : ℕ) → f ≤ n → marks f rs n ≡ list_any (within n) rs
 contains_is f rs n le = let above : ltb n f ≡ false = grind (arith, nat_tests) in rw above refl
 
--- no run ends behind it
+-- no run ends after it
 pub found_none : (rs : List Run) (at n : ℕ) → EndBelow (n + 1) (take at rs) → length rs ≤ at → list_any (within n) rs ≡ false
 found_none rs at n ends all =
     let whole : EndBelow (n + 1) rs = rw (take_all at rs all) at ends in
@@ -219,7 +219,7 @@ pub end_more : (n m : ℕ) (rs : List Run) → n ≤ m → EndBelow n rs → End
 end_more n m [] le h = tt
 end_more n m (r ∷ rs) le h = let a = h.0 in (omega arith, end_more n m rs le h.1)
 
--- where a run reaches a number, so do those behind it
+-- where a run reaches a number, so do those after it
 pub reach_all : (low n : ℕ) (rs : List Run) (at : ℕ) (e : Run) → AreApart low rs → (at < length rs → n ≤ end_of (get_or rs at e)) → AllByRecursion (λ r. n ≤ end_of r) (drop at rs)
 reach_all low n rs at e apart reaches =
     all_back (λ r. n ≤ end_of r) rs at (λ k d le l.
@@ -227,7 +227,7 @@ reach_all low n rs at e apart reaches =
     let here : n ≤ end_of (get_or rs at e) = reaches (omega arith) in
     omega arith)
 
--- and the next one begins behind its end
+-- and the next one begins after its end
 pub next_behind : (low : ℕ) (rs : List Run) (at : ℕ) (d e : Run) → AreApart low rs → suc at < length rs → end_of (get_or rs at e) < end_of (get_or rs (suc at) d)
 next_behind low [] at d e apart l = absurd (omega arith)
 next_behind low (r ∷ rs) zero d e apart l = apart_end (end_of r) rs apart.1.1 zero d (omega arith)
@@ -243,7 +243,7 @@ first_reaches n rs at d l h = let e = next_of rs at d l in (rw e at h).0
 count_step : (p q : ℕ → Bool) (n x y : ℕ) (a b : Bool) → p n ≡ a → q n ≡ b → count_failing p n ≡ x + count_failing q n → cond a 0 1 + x ≡ y + cond b 0 1 → count_failing p (suc n) ≡ y + count_failing q (suc n)
 count_step p q n x y a b e f so_far sum = rw (e, f) (omega arith)
 
--- what is missing before the first run, and behind it
+-- what is missing before the first run, and after it
 count_split : (f : ℕ) (r : Run) (rs : List Run) → f < start_of r → start_of r < end_of r → AreApart (end_of r) rs → (n : ℕ) → count_failing (marks f (r ∷ rs)) n ≡ (min (start_of r) n - f) + count_failing (marks (end_of r) rs) n
 count_split f r rs first some apart zero = omega arith
 count_split f r rs first some apart (suc n) =

@@ -56,7 +56,7 @@ module _ (past : List MatchEvent) (time : Option Timestamp) (h : HeartbeatView) 
   pub refused_answers : answers (beat_at time h ∷ past) ≡ answers past
   refused_answers = rw refused refl
 
--- the counts that are accepted behind one that isn't are the same
+-- the counts that are accepted after one that isn't are the same
 pub refused_counts : (greatest : Option ℤ) (count next : ℤ) → exceeds greatest count ≡ false → (int_lt count next && exceeds greatest next) ≡ exceeds greatest next
 refused_counts None count next h = absurd cc
 refused_counts (Some greatest) count next h = grind (arith, ints)
@@ -65,7 +65,7 @@ pub has_greatest : (greatest : Option ℤ) (count : ℤ) → exceeds greatest co
 has_greatest None count h = absurd cc
 has_greatest (Some greatest) count h = refl
 
--- to count behind what all pass, or from the beginning, is the same
+-- to count after what all pass, or from the beginning, is the same
 count_max : (p : ℕ → Bool) (a b : ℕ) → ((k : ℕ) → k < a → p k ≡ true) → count_failing p (max a b) ≡ count_failing p b
 count_max p a b h =
     elim (leb_tells a b) [

@@ -9,12 +9,12 @@ use Rattle.rtps_proxy.specs.Received.{frontier_of}
 use Rattle.rtps_proxy.specs.Runs.{AreApart, AreRuns, marks, within}
 use Rattle.rtps_proxy.proofs.Frontier.{frontier_is}
 
--- a reliable state stands for a reliable reader
+-- a reliable state is that of a reliable reader
 pub reliable_only : (past : List MatchEvent) (b : Bool) (r : ReliableView) → StateStandsAt past b (Reliable r) → (b ≡ true) × ReliableStandsAt past r
 reliable_only past true r h = (refl, h)
 reliable_only past false r h = absurd h
 
--- the runs behind the frontier are the greatest ones of settled numbers
+-- the runs above the frontier are the greatest ones of settled numbers
 pub runs_are : (past : List MatchEvent) (b : Bool) (r : ReliableView) → StateStandsAt past b (Reliable r) → AreApart r.frontier r.runs → AreRuns past r.runs
 runs_are past b r at apart =
     let both = reliable_only past b r at in

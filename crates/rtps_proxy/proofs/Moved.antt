@@ -11,14 +11,14 @@ replaced rs at next j lt le =
     let within : at < length rs = omega arith in
     rw (take_more_set rs at j within, drop-set-lt next rs at j lt) (append_assoc (take at rs) (j ∷ []) (drop next rs))
 
--- behind some room, a list with one run for those from at on and before next
+-- after some room, a list with one run for those from at on and before next
 pub behind_room : (room at next : ℕ) (rs : List Run) (j : Run) → room + at ≤ length rs → drop room (take (room + at) rs ++ j ∷ drop (room + next) rs) ≡ take at (drop room rs) ++ j ∷ drop next (drop room rs)
 behind_room room at next rs j le =
     let long : length (take (room + at) rs) ≡ room + at = length-take-le (room + at) rs le in
     drop-append-le room (take (room + at) rs) (j ∷ drop (room + next) rs) (omega arith)
     ∙ ap₂ (λ (a b : List Run). a ++ j ∷ b) (drop-take room at rs) (sym (drop-drop next room rs))
 
--- count runs moved down by one, and a run behind them
+-- count runs moved down by one, and a run after them
 pub moved_down : (place count : ℕ) (rs : List Run) (j : Run) → place + count < length rs
     → drop place (set (paste rs place (drop (place + 1) rs) count) (place + count) j) ≡ take count (drop (place + 1) rs) ++ j ∷ drop (place + 1 + count) rs
 moved_down place count rs j lt =

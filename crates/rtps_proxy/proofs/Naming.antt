@@ -18,7 +18,7 @@ use Rattle.rtps_proxy.specs.Replies.{nack_of, reply_of, set_of}
 use Rattle.rtps_proxy.specs.Runs.{AreApart, Run, marks}
 use Rattle.rtps_proxy.proofs.Standing.{lacks_is, marks_at}
 
--- flag F stands exactly where no bit reaches a number
+-- flag F is set exactly where no bit reaches a number
 no_bits : (p : ℕ → Bool) (base announced : ℕ) → p base ≡ false → eqb (bits_of base (failing_from p base (min 256 (announced + 1 - base)))) 0 ≡ ltb announced base
 no_bits p base announced fails =
     elim (leb_tells (suc announced) base) [

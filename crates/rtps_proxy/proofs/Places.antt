@@ -11,7 +11,7 @@ use Rattle.rtps_proxy.specs.Fragments.{Begun, grown, opened, with_fragments_of}
 use Rattle.rtps_proxy.specs.Pending.{are_sound, found_at, pending_view, pending_views, place_in}
 
 module _ {A : Type 0} (n : ℕ) where
-  -- what stands at the place
+  -- what is at the place
   abbrev at_place : Pending A → Option Begun
   at_place p = cond (eqb (value_of p.number) n) (Some (pending_view p)) None
 

@@ -65,7 +65,7 @@ frontier_rises f rs f' rs' keeps apart =
       | inr w ↦ (let both : true ≡ false = sym (keeps f' (marks_below f rs f' w.1)) ∙ marks_at f' rs' apart in absurd cc)
     ]
 
--- those that wait behind an event, in order, are split by the new frontier
+-- those that wait after an event, in order, are split by the new frontier
 pub settle_ready : (past : List MatchEvent) (event : MatchEvent) (f' : ℕ) (rs' : List Run) (waiting : List ChangeView) → Shows (event ∷ past) f' rs' → waiting ≡ in_order (filter (λ s. not (is_covered past s.number)) (received (event ∷ past))) → filter (is_below f') waiting ≡ ready past event
 settle_ready past event f' rs' waiting shows' is =
     ap (filter (is_below f')) is

@@ -59,7 +59,7 @@ or_taken false true true got = refl
 or_taken false true false got = refl
 or_taken false false here got = refl
 
--- what a proxy keeps before and behind a change that is taken
+-- what a proxy keeps before and after a change that is taken
 pub record Takes (past : List MatchEvent) (event : MatchEvent) (s : ChangeView) (f f' : ℕ) (rs rs' : List Run) (waiting : List ChangeView) : Type 0 where
   pub before : Shows past f rs
   pub got : received (event ∷ past) ≡ s ∷ received past

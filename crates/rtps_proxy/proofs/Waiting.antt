@@ -44,7 +44,7 @@ module _ {A : Type 0} where
       let rest : IsPlace n at (map change_view ts) = place_from n ts at (λ k d l. before (suc k) d (omega arith)) (λ k d le l. behind (suc k) d (omega arith) (omega arith)) (omega arith) in
       ((lesser, rest.0), rest.1)
 
-  -- behind all, where the last one has a lesser number
+  -- after all, where the last one has a lesser number
   pub place_behind : (n : ℕ) (hs : List (Change A)) (d : Change A) → IsRising (map change_view hs) → (1 ≤ length hs → value_of (get_or hs (length hs - 1) d).number < n) → IsPlace n (length hs) (map change_view hs)
   place_behind n hs d rising last =
       place_from n hs (length hs) (λ k e l.
@@ -62,7 +62,7 @@ module _ {A : Type 0} where
       let least : n ≤ value_of (get_or hs 0 e).number = rw same first in
       grind (arith, nat_tests)) (omega arith)
 
-  -- a change put behind those with a lesser number
+  -- a change put after those with a lesser number
   pub put_at : (hs : List (Change A)) (c : Change A) (at : ℕ) → IsPlace (value_of c.number) at (map change_view hs) → map change_view (take at hs ++ c ∷ drop at hs) ≡ put (change_view c) (map change_view hs)
   put_at [] c zero place = refl
   put_at [] c (suc at) place = refl

@@ -35,6 +35,7 @@ is_answered_by past e (Heartbeat h) = asks past e h
 is_answered_by past e (Gap g) = false
 is_answered_by past e (HeartbeatFrag h) = false
 
+-- an event of a match is answered: an accepted heartbeat that asks
 abbrev pub is_answered : List MatchEvent → MatchEvent → Bool
 is_answered past e = is_answered_by past e e.body
 
@@ -43,6 +44,7 @@ abbrev pub answers : List MatchEvent → ℕ
 answers [] = 0
 answers (e ∷ past) = if is_answered past e then answers past + 1 else answers past
 
+-- the answer to an event, if it is answered: what is missing once the event came
 abbrev pub answer : List MatchEvent → MatchEvent → Option Acknack
 answer past e =
     if is_answered past e then Some (acknack_by (is_settled (e ∷ past)) (frontier_of (e ∷ past)) (announced_of (e ∷ past)) (answers past)) else None

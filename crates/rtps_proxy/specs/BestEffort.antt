@@ -1,4 +1,4 @@
--- What a best-effort reader takes and presents of a match (DDSI-RTPS 8.4.11, 8.4.14.1).
+-- What a best-effort reader takes and presents of a match (DDSI-RTPS 8.4.12, 8.4.14.1).
 use Rattle.std.specs.Prelude.{ℕ, ◌-◌, Bool, ◌&&◌, ◌==◌, nat_lt, List, [], ◌∷◌, length, filter, Option, if◌then◌else◌}
 use Rattle.rtps_types.specs.declared.time.Timestamp.{Timestamp}
 use Rattle.rtps_receiver.specs.EventBody.{EventBody, FragmentView, Whole, Fragment, Heartbeat, Gap, HeartbeatFrag}
@@ -48,9 +48,11 @@ abbrev pub with_ready : List Begun → ℕ → List ChangeView → Taken
 with_ready bs top [] = record { top = top; begun = bs }
 with_ready bs top (s ∷ ss) = record { top = s.number; begun = above s.number bs }
 
+-- what was taken once an event came
 abbrev pub taken_after : Taken → MatchEvent → Taken
 taken_after t e = with_ready (begun_by t e.time e.body) t.top (ready_by t e.time e.body)
 
+-- what was taken of a history, the newest event first
 abbrev pub taken : List MatchEvent → Taken
 taken [] = record { top = 0; begun = [] }
 taken (e ∷ past) = taken_after (taken past) e
@@ -63,6 +65,7 @@ top_of past = (taken past).top
 abbrev pub standing : List MatchEvent → List Begun
 standing past = (taken past).begun
 
+-- the change that an event makes ready, if it makes one ready
 abbrev pub ready : List MatchEvent → MatchEvent → List ChangeView
 ready past e = ready_by (taken past) e.time e.body
 
@@ -71,5 +74,6 @@ abbrev pub skipped : ℕ → List ChangeView → ℕ
 skipped top [] = 0
 skipped top (s ∷ ss) = if top == 0 then 0 else s.number - top - 1
 
+-- how many numbers an event shows to be lost
 abbrev pub lost : List MatchEvent → MatchEvent → ℕ
 lost past e = skipped (top_of past) (ready past e)

@@ -12,6 +12,7 @@ pub record MatchEvent : Type 0 where
   pub time : Option Timestamp
   pub body : EventBody
 
+-- an event as one of its match
 abbrev pub match_event_of : EventView → MatchEvent
 match_event_of e = record { time = e.time; body = e.body }
 
@@ -22,6 +23,7 @@ pub record ChangeView : Type 0 where
   pub info : ChangeInfo
   pub payload : List ℕ
 
+-- the change that a DATA brings
 abbrev pub change_of : Option Timestamp → WholeView → ChangeView
 change_of time c = record { number = c.number; time = time; info = c.info; payload = c.payload }
 
@@ -33,6 +35,7 @@ is_new_in (Heartbeat h) count = int_lt h.count count
 is_new_in (Gap g) count = true
 is_new_in (HeartbeatFrag h) count = true
 
+-- a heartbeat with this count is accepted after a history
 abbrev pub is_new : List MatchEvent → ℤ → Bool
 is_new [] count = true
 is_new (e ∷ past) count = is_new_in e.body count && is_new past count

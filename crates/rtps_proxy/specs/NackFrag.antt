@@ -40,5 +40,6 @@ pub record Nack : Type 0 where
 abbrev pub nack_by : ℕ → ℕ → NumberSet → Nack
 nack_by number earlier missing = record { number = number; missing = missing; count = (earlier + 1) % 2 ^ 32 }
 
+-- the answer to a heartbeat of fragments, if it is answered
 abbrev pub nack : List MatchEvent → HeartbeatFragView → Option Nack
 nack past h = option_map (nack_by h.number (nacks past)) (asked_frags past h)

@@ -40,6 +40,7 @@ IsFragment n z k octets (Heartbeat h) = ⊥
 IsFragment n z k octets (Gap g) = ⊥
 IsFragment n z k octets (HeartbeatFrag h) = ⊥
 
+-- a DATA_FRAG of the match brought it
 abbrev pub BringsFragment : List MatchEvent → ℕ → Sizes → ℕ → List ℕ → Type 0
 BringsFragment [] n z k octets = ⊥
 BringsFragment (e ∷ past) n z k octets = IsFragment n z k octets e.body ⊎ BringsFragment past n z k octets
@@ -52,6 +53,7 @@ IsToldBy z s time (Heartbeat h) = ⊥
 IsToldBy z s time (Gap g) = ⊥
 IsToldBy z s time (HeartbeatFrag h) = ⊥
 
+-- a DATA_FRAG of the match said so
 abbrev pub IsTold : List MatchEvent → Sizes → ChangeView → Type 0
 IsTold [] z s = ⊥
 IsTold (e ∷ past) z s = IsToldBy z s e.time e.body ⊎ IsTold past z s

@@ -34,6 +34,7 @@ takes_fragments t past f =
 abbrev pub with_begun : Taken → List Begun → ℕ → Taken
 with_begun t bs n = record { changes = whole_at n bs ++ t.changes; begun = bs }
 
+-- what was taken once an event came
 abbrev pub taken_after : Taken → List MatchEvent → MatchEvent → Taken
 taken_after t past e = by_body e.body
   where
@@ -44,6 +45,7 @@ taken_after t past e = by_body e.body
     by_body (Gap g) = t
     by_body (HeartbeatFrag h) = t
 
+-- what was taken of a history, the newest event first
 abbrev pub taken : List MatchEvent → Taken
 taken [] = record { changes = []; begun = [] }
 taken (e ∷ past) = taken_after (taken past) past e
@@ -52,15 +54,19 @@ taken (e ∷ past) = taken_after (taken past) past e
 abbrev pub received : List MatchEvent → List ChangeView
 received past = (taken past).changes
 
+-- the samples of which fragments came and whose numbers aren't settled
 abbrev pub standing : List MatchEvent → List Begun
 standing past = standing_by (taken past) past
 
+-- nothing more is awaited of a number
 abbrev pub is_settled : List MatchEvent → ℕ → Bool
 is_settled past = is_settled_by (received past) past
 
+-- all numbers up to it are settled
 abbrev pub is_covered : List MatchEvent → ℕ → Bool
 is_covered past = is_covered_by (received past) past
 
+-- the changes that wait for lesser numbers
 abbrev pub held : List MatchEvent → List ChangeView
 held past = held_by (received past) past
 

@@ -10,7 +10,7 @@ use Rattle.rtps_proxy.specs.Kept.{ReliableView, BestEffortView, StateView, Pairi
 use Rattle.rtps_proxy.specs.Received as reliable
 use Rattle.rtps_proxy.specs.Replies.{reply, reply_view}
 
--- a best-effort reader's step (DDSI-RTPS 8.4.11): what is kept then, and what the event gives
+-- a best-effort reader's step (DDSI-RTPS 8.4.12): what is kept then, and what the event gives
 pub record BestEffortStep {A : Type 0} (past : List MatchEvent) (event : MatchEvent) (kept : BestEffortView) (effects : Effects A) : Type 0 where
   pub stands : BestEffortStandsAt (event ∷ past) kept
   pub lost : effects.lost ≡ best.lost past event

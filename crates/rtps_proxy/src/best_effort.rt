@@ -1,4 +1,4 @@
-//! What a best-effort reader keeps of one writer (DDSI-RTPS 8.4.11).
+//! What a best-effort reader keeps of one writer (DDSI-RTPS 8.4.12).
 
 ghost use Rattle.std.specs.Prelude.{◌≡◌, ◌<◌, [], ◌∷◌, None, map, true, OnOk};
 ghost use Rattle.rtps_types.specs.Number.{value_of};

@@ -11,7 +11,7 @@ use rtps_types::{Number, Octets, Timestamp};
 use rtps_wire::ChangeInfo;
 use std::alloc::{Allocator, Global};
 
-/// The octets of a payload.
+/// The octets of a payload, its encapsulation first.
 #[derive(Debug, Drop)]
 pub enum Payload<'a, A: Allocator = Global> {
     /// Where the datagram lies that brought them.
@@ -20,7 +20,7 @@ pub enum Payload<'a, A: Allocator = Global> {
     Kept(Octets<A>),
 }
 
-/// A change, with the time of the event that brought it.
+/// A change, with the time of the event that brought it (DDSI-RTPS 8.2.2, `CacheChange`).
 #[derive(Debug, Drop)]
 pub struct Change<'a, A: Allocator = Global> {
     pub number: Number,

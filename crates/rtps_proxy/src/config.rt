@@ -3,7 +3,7 @@
 use rtps_types::{EntityId, Guid, GuidPrefix, Locators};
 use std::alloc::{Allocator, Global};
 
-/// The match that a proxy is made for, and where answers go.
+/// The match that a proxy is made for, and where answers go (DDSI-RTPS 8.4.10.4).
 #[derive(Debug, Drop)]
 pub struct ProxyConfig<A: Allocator = Global> {
     /// Our participant.

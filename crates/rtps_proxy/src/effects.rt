@@ -9,19 +9,19 @@ use std::alloc::{AllocError, Allocator, Global};
 /// Why an event could not be taken in: the allocator refused a growth, now or at an earlier event.
 pub type ProxyError = AllocError;
 
-/// What an event gives, in this order.
+/// What an event gives: what is reported of it in this order, and what is answered.
 #[derive(Debug, Drop)]
 pub struct Effects<'a, A: Allocator = Global> {
-    /// How many numbers are given up.
+    /// How many numbers are given up (DDS 1.4, 2.2.4.1, SAMPLE_LOST).
     pub lost: u64,
     /// The changes that are ready now, by rising number.
     pub ready: Vec<Change<'a, A>, A>,
-    /// What is said to the writer.
+    /// The ACKNACK or NACK_FRAG that is to be sent to the writer.
     pub answer: Option<Reply<A>>,
 }
 
 impl<'a, A: Allocator> Effects<'a, A> {
-    /// Nothing happens, as long as nothing is put in.
+    /// Nothing happens, as long as nothing is put in. No memory is taken.
     pub fn none(alloc: A) -> Effects<'a, A>
         ensures lost { result.lost ≡ 0 }
         ensures ready { result.ready.items ≡ [] }

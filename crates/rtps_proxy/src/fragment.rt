@@ -106,6 +106,7 @@ impl<A: Allocator + Copy> Reliable<A> {
             (match_event time (body.Fragment fragment.now)) (given_in effects.new result) }
     {
         let number = fragment.number.get();
+        // `at` is the number's place among the samples in parts, `place` its place among the runs.
         let at = place_of(self.pending.as_slice(), number);
         let Some(place) = self.place_for_fragments(at, fragment) else {
             return Ok(());

@@ -116,6 +116,7 @@ impl<A: Allocator + Copy> Reliable<A> {
         let lost = self.lost_below(first);
         self.accepted = Some(heartbeat.count);
         self.announced = self.announced.max(heartbeat.last);
+        // Nothing below the first number is awaited any more.
         self.settled.add(0, first)?;
         give_up(&mut self.pending, &self.settled);
         release(&mut self.held, self.settled.frontier, &mut effects.ready)?;

@@ -15,7 +15,10 @@ use rtps_types::{Number, Timestamp};
 use std::alloc::{AllocError, Allocator, Global};
 use std::marker::Model;
 
-/// What a reader keeps of one writer that it is matched with.
+/// What a reader keeps of one writer that it is matched with (DDSI-RTPS 8.4.10.4, `WriterProxy`).
+///
+/// Each call that takes an event in gives what follows from all events of the match. Its only error is
+/// a refused growth: the proxy is spent then, and each later call answers so and changes nothing.
 #[derive(Drop)]
 pub struct WriterProxy<A: Allocator = Global> {
     config: ProxyConfig<A>,
@@ -56,8 +59,8 @@ fn begun<A: Allocator + Copy>(
 }
 
 impl<A: Allocator + Copy> WriterProxy<A> {
-    /// The proxy of a match that begins: nothing has come yet. It takes no memory before something
-    /// comes. `AllocError` where memory is refused.
+    /// The proxy of a match that begins: nothing has come yet. An error would be a refused growth, but
+    /// no memory is taken before something comes.
     pub fn new(alloc: A, config: ProxyConfig<A>) -> Result<WriterProxy<A>, ProxyError>
         ensures stands { IfOk result (StandsAt []) }
         ensures pairing { IfOk result (λ proxy. proxy.pairing ≡ pairing config) }
@@ -101,6 +104,7 @@ impl<A: Allocator + Copy> WriterProxy<A> {
         if self.spent {
             return Err(AllocError);
         }
+        // Spent until the event is taken in: each `?` on the way leaves it so.
         self.spent = true;
         let mut state = begun(alloc, self.config.reliable, self.state.take())?;
         state

@@ -150,7 +150,9 @@ impl<A: Allocator> Settled<A> {
         }
     }
 
-    /// The place of a number that isn't in the set.
+    /// The place of a number: how many runs end below it with a number between. `None` where the number
+    /// is in the set. The run at the place may touch the number from below; then the next one is
+    /// looked at too.
     pub fn place_of(&self, number: u64) -> Option<usize>
         requires { number ≤ 2 ^ 62 + 1 }
         ensures missing { is_some result ≡ not (marks self.now.frontier self.now.runs number) }

@@ -74,6 +74,7 @@ impl<A: Allocator + Copy> Reliable<A> {
         };
         self.settled.add_at(at, number, number + 1)?;
         give_up(&mut self.pending, &self.settled);
+        // The frontier is above the number now just where the number was the frontier.
         if number >= self.settled.frontier {
             hold(&mut self.held, Change::kept(alloc, time, whole)?)?;
             return Ok(());

@@ -25,16 +25,19 @@ encapsulated payload =
     then Err Encapsulation
     else Ok (slice_index payload 0 * 256 + slice_index payload 1, drop 4 payload)
 
+-- what is made of kind and body, unless there are too few octets for them
 abbrev pub unpacked : {B : Type 0} → Result (ℕ × List ℕ) UnreadCode
     → (ℕ → List ℕ → Result B UnreadCode) → Result B UnreadCode
 unpacked (Err u) f = Err u
 unpacked (Ok p) f = f p.0 p.1
 
+-- the hash of a value's key, if there is a value
 abbrev pub hashed_by : {M : Type 0} → (M → KeyHash) → Result M UnreadCode
     → Result KeyHash UnreadCode
 hashed_by hash (Ok m) = Ok (hash m)
 hashed_by hash (Err u) = Err u
 
+-- the key hash that was sent with the change
 abbrev pub inline_key : Option KeyHash → Result KeyHash UnreadCode
 inline_key (Some h) = Ok h
 inline_key None = Err NoKey
@@ -57,6 +60,7 @@ key_for decoding sent form.Key payload = unpacked (encapsulated payload) decodin
 key_for decoding sent form.Other payload = Err NonStandard
 key_for decoding sent form.Nothing payload = inline_key sent
 
+-- a value with the hash of its key, or why there is none
 abbrev pub valued : {M : Type 0} → (M → KeyHash) → Result M UnreadCode → Body M
 valued hash (Ok m) = body.Value (hash m) m
 valued hash (Err u) = body.Unread u

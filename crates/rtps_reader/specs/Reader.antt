@@ -30,6 +30,7 @@ ready_at m e = ready_of m.pairing.reliable m.past e
 abbrev pub answer_at : Match → MatchEvent → Option ReplyView
 answer_at m e = answer_of m.pairing m.past e
 
+-- a reader, by all that it was asked to do
 pub record Reader : Type 0 where
   -- our participant, and the reader's own part of its guid
   pub own : GuidPrefix
@@ -72,6 +73,7 @@ abbrev pub loses : {M : Type 0} → Place → Guid → ℕ → List (Notice M)
 loses place w count =
     if count == 0 then [] else record { place = place; writer = w; what = kind.Lost count } ∷ []
 
+-- what an event of a writer makes a reader report, where it is matched with it
 abbrev pub told_of : {M : Type 0} → Decoding M → Place → Guid → MatchEvent → Option Match
     → List (Notice M)
 told_of decoding place w e None = []
@@ -94,6 +96,7 @@ abbrev pub placed : Place → Option ReplyView → List (Place × ReplyView)
 placed place None = []
 placed place (Some sent) = (place, sent) ∷ []
 
+-- and what it makes the reader send
 abbrev pub sent_of : Place → MatchEvent → Option Match → List (Place × ReplyView)
 sent_of place e None = []
 sent_of place e (Some m) = placed place (answer_at m e)

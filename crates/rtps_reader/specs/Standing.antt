@@ -15,6 +15,7 @@ use Rattle.rtps_reader.specs.declared.status.Status.{Status}
 use Rattle.rtps_reader.specs.Reader.{Facts, Reader}
 use Rattle.rtps_reader.specs.Status.{capped, status_of}
 
+-- what a reader's state keeps, without where it lies in memory
 pub record ReaderView : Type 0 where
   pub rank : ℕ
   pub spent : Bool

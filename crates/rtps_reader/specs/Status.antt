@@ -10,10 +10,12 @@ use Rattle.rtps_reader.specs.Reader.{Reader}
 abbrev pub capped : ℕ → ℕ
 capped n = min n 2147483647
 
+-- a notice presents a sample
 abbrev pub is_sample : {M : Type 0} → NoticeKind M → Bool
 is_sample (Sample number time body) = true
 is_sample kind = false
 
+-- a notice says that a match began
 abbrev pub is_beginning : {M : Type 0} → NoticeKind M → Bool
 is_beginning Matched = true
 is_beginning kind = false
@@ -32,6 +34,7 @@ refused_in kind = []
 abbrev pub count_of : {M : Type 0} → (NoticeKind M → Bool) → List (Notice M) → ℕ
 count_of test given = length (filter (λ n. test n.what) given)
 
+-- how many numbers these notices say are lost
 abbrev pub lost_by : {M : Type 0} → List (Notice M) → ℕ
 lost_by given = sum (map (λ n. lost_in n.what) given)
 
@@ -40,6 +43,7 @@ abbrev pub refused_by : {M : Type 0} → List (Notice M) → List ℕ
 refused_by [] = []
 refused_by (n ∷ given) = refused_in n.what ++ refused_by given
 
+-- the last of some policies
 abbrev pub last_of : List ℕ → Option ℕ
 last_of [] = None
 last_of (p ∷ []) = Some p

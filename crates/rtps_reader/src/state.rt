@@ -25,7 +25,7 @@ use std::marker::Model;
 /// A reader could not take a step: the allocator refused a growth, now or at an earlier step.
 pub type ReaderError = AllocError;
 
-/// A reader: its matches, and what is counted of it.
+/// A reader: its matches, and what is counted of it (DDSI-RTPS 8.4.10; DDS 1.4, 2.2.4.1).
 #[derive(Drop)]
 pub struct ReaderState<A: Allocator = Global> {
     /// A growth was refused: a step may have been taken by half.
@@ -42,7 +42,9 @@ impl<A: Allocator> Model for ReaderState<A> {
 }
 
 impl<A: Allocator + Copy> ReaderState<A> {
-    /// A reader at the start, which has its fixed matches and has counted them.
+    /// A reader at the start, which has its fixed matches and has counted them. `rank` is its place
+    /// among the readers of the participant `own`, `entity` its part of its guid; a reliable one asks
+    /// for what is missing. An error is a refused growth.
     pub fn new(
         alloc: A,
         rank: u32,
@@ -63,7 +65,7 @@ impl<A: Allocator + Copy> ReaderState<A> {
 
     /// Takes one step, and adds what it gives after what is in `output`. Of an event of a writer
     /// that the reader is matched with it gives what was lost, then the samples that are ready, and
-    /// what is said to the writer; of any other event nothing. Pairing an event is for is tested
+    /// what is said to the writer; of any other event nothing. Whom an event is for is tested
     /// before: the reader is given only what is for it.
     ///
     /// When a step is out of memory the reader is spent, and what the step gave before is left in
@@ -135,6 +137,7 @@ impl<A: Allocator + Copy> ReaderState<A> {
         if self.spent {
             return Err(AllocError);
         }
+        // Spent until the step is taken: a `?` leaves it so.
         self.spent = true;
         self.reader.step(alloc, decoder, step, effects, output)?;
         self.spent = false;
@@ -155,7 +158,8 @@ impl<A: Allocator + Copy> ReaderState<A> {
         self.reader.entity
     }
 
-    /// Adds its matches to a set, each as its rank and the writer.
+    /// Adds its matches to a set, each as its rank and the writer. A refused growth may leave some of
+    /// them in it.
     pub fn add_matches(&self, matches: &mut BTreeSet<(u32, Guid), A>) -> Result<(), ReaderError>
         ensures { OnOk result (matches.new.keys
             ≡ with_writers matches.old.keys self.now.rank (keys_of self.now.matches)) }
@@ -167,7 +171,8 @@ impl<A: Allocator + Copy> ReaderState<A> {
         Ok(())
     }
 
-    /// How the reader stands with its writers, by all that it gave out.
+    /// The status of the reader, by all that it gave out: its matches now, and totals since its start
+    /// (DDS 1.4, 2.2.4.1).
     pub fn status(&self) -> Status
         ensures { result ≡ self.now.status }
     {

@@ -10,6 +10,7 @@ use rtps_types::{Guid, Locator, Place, Timestamp};
 /// One step of a reader, at a place of the run.
 #[derive(Clone, Copy, Debug)]
 pub struct Step<'a> {
+    /// The event that asks it.
     pub place: Place,
     pub what: StepKind<'a>,
 }

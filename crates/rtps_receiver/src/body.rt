@@ -7,7 +7,7 @@ ghost use Rattle.rtps_receiver.specs.EventBody.{are_taken};
 use rtps_types::{Number, SnSet};
 use rtps_wire::ChangeInfo;
 
-/// What an event brings.
+/// What an event brings, by the kind of its submessage (DDSI-RTPS 8.3.7).
 #[derive(Clone, Copy, Debug)]
 pub enum Body<'a> {
     Whole(Whole<'a>),
@@ -50,6 +50,7 @@ pub struct Heartbeat {
     pub first: Number,
     /// The greatest number that it has, or `first - 1` where it has none; at most 2^62.
     pub last: u64,
+    /// Rises from one heartbeat to the next.
     pub count: i32,
     /// An answer is not asked for.
     pub final_flag: bool,
@@ -73,5 +74,6 @@ pub struct HeartbeatFrag {
     pub number: Number,
     /// The last fragment that it has, at least 1.
     pub last: u32,
+    /// Rises from one of these to the next.
     pub count: i32,
 }

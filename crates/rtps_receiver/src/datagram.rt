@@ -37,9 +37,9 @@ impl<'a> Model for Events<'a> {
 }
 
 impl<'a> Events<'a> {
-    /// Begins with the first event of a datagram, as the participant `own` sees it. `index` is the
-    /// datagram's place in the run, counted from 0. A bad header gives no events, and so does what
-    /// comes after the first invalid submessage.
+    /// Begins with the first event of a datagram of at most 65,507 octets, as the participant `own`
+    /// sees it. `index` is the datagram's place in the run, counted from 0. A bad header gives no
+    /// events, and so does what comes after the first invalid submessage.
     pub fn new(own: GuidPrefix, index: u64, octets: &'a [u8]) -> Events<'a>
         requires { length octets.now ≤ 65507 }
         ensures { result ≡ events_of own index octets.now }

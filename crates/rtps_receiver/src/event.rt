@@ -3,7 +3,8 @@
 use crate::body::Body;
 use rtps_types::{EntityId, GuidPrefix, Place, Timestamp};
 
-/// A submessage that is addressed to us, with what the submessages before it say of it.
+/// A submessage that is addressed to us, with what the submessages before it say of it (DDSI-RTPS
+/// 8.3.4).
 #[derive(Clone, Copy, Debug)]
 pub struct Event<'a> {
     /// Its place in the run.

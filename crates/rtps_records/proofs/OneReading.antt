@@ -18,7 +18,7 @@ frame_same r s x y p q e =
       sym (drop-append_seam r x) ∙ ap (drop (length r)) tails ∙ ap (λ k. drop k (s ++ y)) len ∙ drop-append_seam s y,
     )
 
--- nothing ends where a whole record stands
+-- nothing ends where a whole record is
 no_end : (f : Option RunFault) (n : ℕ) (x r y : List ℕ) → x ≡ frame r ++ y → length r ≤ 65507 → n < 4294967295 → EndsBy f n x → ⊥
 no_end None n x r y e small few h = let bad : [] ≡ frame r ++ y = sym h.1 ∙ e in cc
 no_end (Some (CutRecord at)) n x r y e small few h =
@@ -71,7 +71,7 @@ records_first (r ∷ rs) (s ∷ ss) n x y g p q e few k =
     let rest = records_first rs ss (n + 1) x y g p.1 q.1 both.1 (omega arith) (subst (λ i. EndsBy g i y) up k) in
     (rest.0, ap (λ t. t ∷ ss) (sym both.0) ∙ ap (λ l. r ∷ l) rest.1)
 
--- one end stands at one place
+-- there is one end at one place
 ends_same : (n : ℕ) (x : List ℕ) (f g : Option RunFault) → EndsBy f n x → EndsBy g n x → f ≡ g
 ends_same n x None None h k = refl
 ends_same n x None (Some (CutRecord at)) h k = let none = ap length h.1 in let some = k.2.0 in absurd (omega arith)

@@ -162,7 +162,7 @@ cut_first : (text : List (List ℕ) → List ℕ) (before after old : Option (Li
 unfolding WroteRead
 cut_first text before after old part = (part.0, part.1, inl (part.2, Keeps-refl old))
 
--- the run stops at a fault that stands after the records
+-- the run stops at a fault after the records
 pub stops_here : (text : List (List ℕ) → List ℕ) (fault : RunFault) (before now after old new : Option (List ℕ)) (n : ℕ) → Finished text before now old new n → FaultHere fault n now after
     → Stops text fault before after old new
 unfolding Stops

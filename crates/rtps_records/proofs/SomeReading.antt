@@ -12,7 +12,7 @@ use Rattle.rtps_records.specs.RecordFile.{magic, frame, told_length, EndsBy, IsR
 abbrev IsOctet : ℕ → Type 0
 IsOctet octet = octet < 256
 
--- a reading of what stands from record n on
+-- a reading of what is there from record n on
 record Parse (n : ℕ) (xs : List ℕ) : Type 0 where
   records : List (List ℕ)
   rest : List ℕ
@@ -21,7 +21,7 @@ record Parse (n : ℕ) (xs : List ℕ) : Type 0 where
   each : AllByRecursion IsRecord records
   ends : EndsBy fault (n + length records) rest
 
--- no record stands here
+-- no record is here
 stops : (n : ℕ) (xs : List ℕ) (fault : Option RunFault) → EndsBy fault n xs → Parse n xs
 stops n xs fault h = record {
   records = [];

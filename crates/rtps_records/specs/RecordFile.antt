@@ -21,14 +21,14 @@ IsRecord octets = length octets ≤ 65507
 abbrev pub told_length : List ℕ → ℕ
 told_length octets = from_be_bytes w32 (take 4 octets)
 
--- some octets stand here, and they end before the record that they begin does
+-- some octets are here, and they end before the record that they begin does
 abbrev pub IsCut : List ℕ → Type 0
 IsCut octets = (0 < length octets) × ((length octets < 4) ⊎ ((told_length octets ≤ 65507) × (length octets < 4 + told_length octets)))
 
 abbrev pub IsTooLong : List ℕ → Type 0
 IsTooLong octets = (4 ≤ length octets) × (65507 < told_length octets)
 
--- n records were read, and the file ends here, or the first fault stands here
+-- n records were read, and the file ends here, or the first fault is here
 abbrev pub EndsBy : Option RunFault → ℕ → List ℕ → Type 0
 EndsBy None n rest = (n ≤ 4294967295) × (rest ≡ [])
 EndsBy (Some (CutRecord at)) n rest = (at ≡ n) × (n < 4294967295) × IsCut rest
@@ -55,7 +55,7 @@ IsOther octets = (more : List ℕ) → ¬ (octets ≡ magic ++ more)
 abbrev pub IsPartial : ℕ → List ℕ → Type 0
 IsPartial n octets = (octets ≡ []) ⊎ ((n < 4294967295) × IsCut octets)
 
--- the fault that stands before the records
+-- the fault before the records
 abbrev pub FaultFirst : RunFault → Option (List ℕ) → Option (List ℕ) → Type 0
 FaultFirst CannotRead before after = (taken : List ℕ) × Consumes before after taken × (length taken < 4)
 FaultFirst NotRecordFile before after = IfSome before IsOther
@@ -65,7 +65,7 @@ FaultFirst TooManyRecords before after = ⊥
 FaultFirst CannotWrite before after = ⊥
 FaultFirst NoMemory before after = ⊥
 
--- the fault that stands after n records
+-- the fault after n records
 abbrev pub FaultHere : RunFault → ℕ → Option (List ℕ) → Option (List ℕ) → Type 0
 FaultHere CannotRead n before after = (taken : List ℕ) × Consumes before after taken × IsPartial n taken
 FaultHere NotRecordFile n before after = ⊥

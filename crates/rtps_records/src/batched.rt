@@ -12,7 +12,8 @@ use std::alloc::{AllocError, Allocator};
 use std::io::Read;
 
 impl<'a, R: Read, A: Allocator + Copy> Records<'a, R, Batch<A>> {
-    /// The records that are to be read from a reader, many at a time; first [`Records::open`] them.
+    /// The records that are to be read from a reader, many at a time; first [`Records::open`] them. An
+    /// error is a refused growth.
     pub fn in_batches(alloc: A, reader: &'a mut R) -> Result<Records<'a, R, Batch<A>>, AllocError>
         ensures same_reader { IfOk result (λ records. records.reader.ghost_name ≡
             reader.entry.ghost_name) }
@@ -57,7 +58,7 @@ impl<R: Read, A: Allocator> Records<'_, R, Batch<A>> {
         Ok(BatchEnd::More)
     }
 
-    /// The records that were read last, in order.
+    /// The records that were read last, in order. An error is a refused growth.
     pub fn batch<B: Allocator>(&self, alloc: B) -> Result<Vec<&[u8], B>, AllocError>
         ensures { IfOk result (λ records.
             map (λ octets. octets.now) records.items ≡ records_in self.now.buffer) }

@@ -4,7 +4,7 @@ ghost use Rattle.std.specs.Prelude.{◌≡◌, IfOk, vec_len};
 
 use std::alloc::{AllocError, Allocator, Global};
 
-/// The greatest length of a record, in octets.
+/// The greatest length of a record, in octets: that of a UDP payload over IPv4.
 pub const MAX_LEN: usize = 65_507;
 
 /// Room for the longest record.

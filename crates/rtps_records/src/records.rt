@@ -71,7 +71,8 @@ impl<'a, R: Read, A: Allocator> Records<'a, R, Buffer<A>> {
     ghost use Rattle.rtps_records.specs.contracts.buffer.Buffer.{the_row as buffer_row};
     ghost use Rattle.rtps_records.specs.contracts.records.Records.{the_row};
 
-    /// The records that are to be read from a reader; first [`Records::open`] them.
+    /// The records that are to be read from a reader, one by one; first [`Records::open`] them. An
+    /// error is a refused growth.
     pub fn new(alloc: A, reader: &'a mut R) -> Result<Records<'a, R, Buffer<A>>, AllocError>
         ensures same_reader { IfOk result (λ records. records.reader.ghost_name ≡
             reader.entry.ghost_name) }
@@ -175,7 +176,7 @@ pub(crate) fn read_record<R: Read>(
     Ok(Some(told))
 }
 
-/// The length that four octets tell, of which they are the one spelling.
+/// The length that four octets spell, of which they are the one spelling.
 fn length_of(head: &[u8; 4]) -> u32
     ensures told { result ≡ from_be_bytes w32 head.now }
     ensures spelled { to_be_bytes w32 result ≡ head.now }

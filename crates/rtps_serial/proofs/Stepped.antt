@@ -40,7 +40,7 @@ pub no_notice : (M : Type 0) (rank k : ℕ) (ss : List (Place × ReplyView)) →
 no_notice M rank k [] = refl
 no_notice M rank k (s ∷ ss) = no_notice M rank k ss
 
--- the notices of a step are those that its reader tells
+-- the notices of a step are those that its reader gives
 pub told_at_step : {M : Type 0} (d : Decoding M) (place : Place) (rank : ℕ) (r : Reader) (what : StepView) → notices_by rank (puts_at d place rank r what) ≡ tells d r place what
 told_at_step {M} d place rank r what =
     notices_by-append rank (map (NoticeOf rank) (tells d r place what)) (map (sent_by rank) (sends r place what))

@@ -87,7 +87,7 @@ came_number [] s all b = absurd b
 came_number (e ∷ es) s all (inl is) = is_sample_of e.time e.body s all.0 is
 came_number (e ∷ es) s all (inr rest) = came_number es s all.1 rest
 
--- and so has one that they were told of
+-- and so has one that they heard of
 is_told_by : (z : Sizes) (time : Option Timestamp) (b : EventBody) (s : ChangeView) → HasNumber b → IsToldBy z s time b → IsNumber s.number
 is_told_by z time (Whole c) s has is = absurd is
 is_told_by z time (Fragment f) s has is = subst IsNumber is.0 has

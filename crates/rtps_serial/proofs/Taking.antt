@@ -47,7 +47,7 @@ shows_first decoding engine count shown all =
           (λ k s r less. ap (λ l. get_or l k s) shown ∙ get_or-map (λ (r : ReaderView). r.status) engine.readers k r s less) rank other (omega (arith, below, whole));
     }
 
--- what stands at a list of datagrams keeps the world of its run, which put out nothing since
+-- an engine that stands at a list of datagrams keeps the world of its run, which put out nothing since
 pub run_stands : {C V M A : Type 0} (view : V → M) (decoding : C → Decoding M) (datagrams : List (List ℕ)) (engine : EngineView C) → StandsAt decoding datagrams engine
     → WorldStands {A = A} view (run_by decoding engine datagrams) (run_by decoding engine datagrams).put engine.discovery.kept engine.readers []
 run_stands view decoding datagrams engine kept = record {
@@ -60,7 +60,7 @@ run_stands view decoding datagrams engine kept = record {
   };
 }
 
--- the run after one datagram more, where what is reported stands after the events of that datagram
+-- the run after one datagram more, where what is reported comes after the events of that datagram
 next_stands : {C V M A : Type 0} (view : V → M) (decoding : C → Decoding M) (datagrams : List (List ℕ)) (octets : List ℕ) (old admitted stepped : EngineView C) (reports : List (Report V A)) → StandsAt decoding datagrams old
     → admitted ≡ record old { failed = true }
     → ((w : World M) → WorldStands {A = A} view w w.put admitted.discovery.kept admitted.readers []

@@ -18,6 +18,7 @@ use Rattle.rtps_serial.specs.World.{World, world_after}
 abbrev pub entity_of : List ReaderConfig → ℕ → EntityId
 entity_of readers rank = slice_index_or (map (λ r. r.entity) readers) rank unknown_entity
 
+-- a reliability asks for what is missing (DDS 1.4, 2.2.3.14)
 abbrev pub is_reliable : Reliability → Bool
 is_reliable BestEffort = false
 is_reliable Reliable = true

@@ -42,6 +42,7 @@ matches_below readers zero = []
 matches_below readers (suc rank) =
     with_writers (matches_below readers rank) rank (map (λ m. m.pairing.writer) (readers rank).matches)
 
+-- all matches, ordered by rank and then by writer
 abbrev pub matches_seen : {M : Type 0} → World M → List (ℕ × Guid)
 matches_seen w = matches_below w.readers (reader_count w)
 

@@ -21,6 +21,7 @@ use Rattle.rtps_serial.specs.Run.{run}
 use Rattle.rtps_serial.specs.Seen.{notices_by, reader_count, status_at}
 use Rattle.rtps_serial.specs.World.{ReportView, World}
 
+-- what an engine keeps, without where it lies in memory
 pub record EngineView (C : Type 0) : Type 0 where
   pub catalog : C
   pub config : Config
@@ -38,6 +39,7 @@ pub record StandsFor {M : Type 0} (r : Reader) (given : List (Notice M)) (rank :
   pub stands : reader.StandsAt r given state
   pub ranked : state.rank ≡ rank
 
+-- each state keeps the reader of its rank, which gave out the notices of that rank
 abbrev pub AllStandBy : {M : Type 0} → (ℕ → Reader) → (ℕ → List (Notice M)) → List ReaderView
     → Type 0
 AllStandBy readers given states =

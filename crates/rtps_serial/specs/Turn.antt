@@ -30,6 +30,7 @@ turn_order a b =
     ordering_then (place_order a.place b.place)
     (ordering_then (option_cmp nat_cmp a.rank b.rank) (kind_order a.kind b.kind))
 
+-- when a report comes
 abbrev pub turn_of : {V A : Type 0} → Report V A → Turn
 turn_of (report.Notice rank notice) =
     record { place = notice.place; rank = Some rank; kind = kind.Notice }

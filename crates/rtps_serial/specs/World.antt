@@ -27,6 +27,7 @@ pub data ReportView (M : Type 0) : Type 0 where
   NoticeOf : ℕ → Notice M → ReportView M
   AnswerOf : AnswerView → ReportView M
 
+-- all that is known, all readers, and all that was put out since the start, in order
 pub record World (M : Type 0) : Type 0 where
   pub known : Known
   -- each reader by its rank, counted from 0; there are as many as are known
@@ -66,6 +67,7 @@ answer_put place None = []
 answer_put place (Some s) =
     AnswerOf (record { place = place; rank = None; to = s.to; octets = s.octets }) ∷ []
 
+-- what discovery puts out at an event: its answer, if there is one
 abbrev pub discovery_puts : {M : Type 0} → Known → EventView → List (ReportView M)
 discovery_puts k e = if is_discovery e.writer then answer_put e.place (answered k e) else []
 

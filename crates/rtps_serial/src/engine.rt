@@ -65,7 +65,8 @@ impl<C: Catalog, A: Allocator> Model for SerialEngine<C, A> {
 
 impl<C: Catalog> SerialEngine<C> {
     /// An engine for this configuration: its readers with their fixed matches, to which nothing
-    /// came yet. Values come from `alloc`.
+    /// came yet. Values come from `alloc`. [`StartError::Config`] exactly where
+    /// [`check`](rtps_discovery::check) refuses the configuration, else an error is a refused growth.
     pub fn new(alloc: Global, config: Config, catalog: C) -> Result<SerialEngine<C>, StartError>
         ensures starts { Starts (check_of config) result }
         ensures same { IfOk result (λ e. (e.catalog ≡ catalog) × (e.config ≡ config)) }
@@ -97,7 +98,7 @@ impl<C: Catalog> SerialEngine<C> {
 }
 
 impl<C: Catalog, A: Allocator + Copy> SerialEngine<C, A> {
-    /// The same over any allocator. Values come from `values`.
+    /// The same as [`SerialEngine::new`] over any allocator. Values come from `values`.
     #[tactic(auto, unfolding(crate::specs::Standing::Starts))]
     pub fn new_in(
         alloc: A,

@@ -19,7 +19,7 @@ pub struct Answer<A: Allocator = Global> {
     pub octets: Octets<A>,
 }
 
-/// What a datagram gives.
+/// What a datagram or a batch of them gives.
 #[derive(Debug, Drop)]
 pub struct Outcome<V, A: Allocator = Global> {
     /// The notices of each reader, by its rank, in the order of their causes.
@@ -30,8 +30,8 @@ pub struct Outcome<V, A: Allocator = Global> {
     ghost ranked: { vec_len notices ≤ 2 ^ 32 },
 }
 
-/// One thing that a datagram gives, for those who want all in the order in which it came: by place,
-/// then by rank, and of one reader its notices before its answer.
+/// One thing that a datagram or a batch gives, for those who want all in the order in which it came:
+/// by place, then by rank, and of one reader its notices before its answer.
 #[derive(Debug, Drop)]
 pub enum Report<V, A: Allocator = Global> {
     /// The reader of this rank reports something.

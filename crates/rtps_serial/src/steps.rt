@@ -201,7 +201,7 @@ pub(crate) fn take_events<C: Catalog, A: Allocator + Copy>(
     Ok(())
 }
 
-/// The matches of all readers, which stand by rank: a rank and a writer each. An error is a refused
+/// The matches of all readers, which are by rank: a rank and a writer each. An error is a refused
 /// growth.
 pub fn all_matches<C: Catalog, A: Allocator + Copy>(
     alloc: A,

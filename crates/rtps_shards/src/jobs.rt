@@ -11,7 +11,7 @@ use std::alloc::Global;
 #[derive(Drop)]
 pub struct Batch<'a, C, G> {
     pub catalog: &'a C,
-    /// Told as each job begins and ends.
+    /// Called as each job begins and ends.
     pub gate: &'a G,
     /// All events of the batch, into which the steps of the jobs point.
     pub events: &'a [Event<'a>],

@@ -2,6 +2,7 @@
 use Rattle.std.proofs.Common.{◌≡◌, ℕ, suc, ◌+◌, ◌<◌, nat_lt, arith, Option, None, Some, Result, Ok, Err, OnErr, OnOk, IfErr, subst, List, [], ◌∷◌, ◌++◌, Bool, true, false, if◌then◌else◌, sym, ap, ◌∙◌, append-nil, append_assoc, inl, inr, length, refl, take, drop, take-append-drop}
 use Rattle.std.specs.List.{flat_map}
 use Rattle.std.proofs.lemmas.Grind.{flat_map-append}
+use Rattle.std.specs.Io.{StartsWith}
 use Rattle.std.proofs.lemmas.List.{append_cancel_left}
 use Rattle.rtps_discovery.specs.declared.config.Config.{Config}
 use Rattle.dds_topic.specs.Decoding.{Decoding}
@@ -26,6 +27,10 @@ use Rattle.rtps_text.specs.Replayed.{HasSaid, put_line, replay_text, status_line
 pub front_more : (a b c x : List ℕ) → IsFront a b → c ≡ b ++ x → IsFront a c
 front_more a b c x f e = (f.0 ++ x, e ∙ ap (λ l. l ++ x) f.1 ∙ append_assoc a f.0 x)
 
+-- what a text begins with, and what stands behind that
+grown : (whole front : List ℕ) → StartsWith whole front → whole ≡ front ++ drop (length front) whole
+grown whole front e = sym (take-append-drop (length front) whole) ∙ ap (λ l. l ++ drop (length front) whole) e
+
 -- without a summary nothing is left to say
 pub ends_plain : {C M : Type 0} (text : C → M → List ℕ) (decoding : C → Decoding M) (engine : EngineView C) (summary : Bool) (old : List ℕ) → summary ≡ false
     → Ends (λ records said. HasSaid text decoding records said engine) (text_by text decoding engine summary) old old
@@ -35,16 +40,18 @@ ends_plain text decoding engine false old e = ([], sym (append-nil old), λ reco
 
 -- the summary is all that is left to say
 pub ends_summed : {C M : Type 0} (text : C → M → List ℕ) (decoding : C → Decoding M) (engine : EngineView C) (summary : Bool) (old new : List ℕ) → summary ≡ true
-    → IsFront old new → ((records : List (List ℕ)) → StandsAt decoding records engine → new ≡ old ++ summary_text (run_by decoding engine records))
+    → StartsWith new old → ((records : List (List ℕ)) → StandsAt decoding records engine → new ≡ old ++ summary_text (run_by decoding engine records))
     → Ends (λ records said. HasSaid text decoding records said engine) (text_by text decoding engine summary) old new
 unfolding Ends
-ends_summed text decoding engine false old new e front sums = absurd (let bad : false ≡ true = e in cc)
-ends_summed text decoding engine true old new e front sums = (
-  front.0,
-  front.1,
-  λ records said h. ap (λ l. l ++ summary_text (run_by decoding engine records)) (sym h.lines)
-      ∙ ap (λ l. said ++ l) (append_cancel_left old (summary_text (run_by decoding engine records)) front.0 (sym (sums records h.stands) ∙ front.1)),
-)
+ends_summed text decoding engine false old new e keeps sums = absurd (let bad : false ≡ true = e in cc)
+ends_summed text decoding engine true old new e keeps sums =
+    let more = drop (length old) new in
+    let front = grown new old keeps in (
+      more,
+      front,
+      λ records said h. ap (λ l. l ++ summary_text (run_by decoding engine records)) (sym h.lines)
+          ∙ ap (λ l. said ++ l) (append_cancel_left old (summary_text (run_by decoding engine records)) more (sym (sums records h.stands) ∙ front)),
+    )
 
 -- the run over these events goes on where that over those ends
 abbrev GoesOn : {M : Type 0} → Decoding M → World M → List EventView → List EventView → Type 0
@@ -99,9 +106,9 @@ same_stop text decoding a b k l s t r before after old new e f g h =
     (subst (λ c. IfErr r (λ fault. Stops (replay_text (text c) (decoding c) k s) fault before after old new)) e h))
 
 -- two facts of a result that is Ok, one of them for every list of datagrams, and what follows from both
-pub on_ok_both : {X E : Type 0} {P Q : Type 0} {S F : List (List ℕ) → Type 0} (r : Result X E) → OnOk r P → ((records : List (List ℕ)) → S records → OnOk r (F records)) → (P → ((records : List (List ℕ)) → S records → F records) → Q) → OnOk r Q
-on_ok_both (Ok x) p f h = h p f
-on_ok_both (Err e) p f h = tt
+pub on_ok_all : {X E : Type 0} {Q : Type 0} {S F : List (List ℕ) → Type 0} (r : Result X E) → ((records : List (List ℕ)) → S records → OnOk r (F records)) → (((records : List (List ℕ)) → S records → F records) → Q) → OnOk r Q
+on_ok_all (Ok x) f h = h f
+on_ok_all (Err e) f h = tt
 
 -- the status of one rank more
 pub statuses_more : {M : Type 0} (w : World M) (n : ℕ) (status : Option Status) → n < reader_count w → status ≡ status_seen w n → status_lines w n ++ status_text n status ≡ status_lines w (n + 1)

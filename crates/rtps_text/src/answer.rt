@@ -1,6 +1,7 @@
 //! The line of an answer.
 
 ghost use Rattle.std.specs.Prelude.{◌≡◌, ◌++◌, OnOk};
+ghost use Rattle.std.specs.Io.{StartsWith};
 ghost use Rattle.rtps_text.specs.Told.{answer_line};
 
 use crate::context::push_place;
@@ -17,7 +18,9 @@ pub fn push_answer<A: Allocator>(
     to: &[Locator],
     octets: &[u8],
 ) -> Result<(), AllocError>
-    ensures { OnOk result (out.new.items ≡ out.old.items ++ answer_line place to.now octets.now) }
+    ensures ok { OnOk result (out.new.items ≡ out.old.items ++
+        answer_line place to.now octets.now) }
+    ensures keeps { StartsWith out.new.items out.old.items }
 {
     push_place(out, place)?;
     push_word(out, " answer ")?;

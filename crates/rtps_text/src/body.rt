@@ -1,6 +1,7 @@
 //! An event's body as text, by its kind.
 
 ghost use Rattle.std.specs.Prelude.{◌≡◌, ◌++◌, OnOk};
+ghost use Rattle.std.specs.Io.{StartsWith};
 ghost use Rattle.rtps_receiver.specs.Views.{body_view};
 ghost use Rattle.rtps_text.specs.Line.{body_text, flags_text, form_word, fragment_text, gap_text, hash_text, heartbeat_frag_text, heartbeat_text, pieces_text, whole_text};
 ghost use Rattle.rtps_receiver.specs.Views.{fragment_view, gap_view, heartbeat_frag_view, heartbeat_view, whole_view};
@@ -17,7 +18,8 @@ pub(crate) fn push_body<A: Allocator>(
     out: &mut Vec<u8, A>,
     body: &Body<'_>,
 ) -> Result<(), AllocError>
-    ensures { OnOk result (out.new.items ≡ out.old.items ++ body_text (body_view body.now)) }
+    ensures ok { OnOk result (out.new.items ≡ out.old.items ++ body_text (body_view body.now)) }
+    ensures keeps { StartsWith out.new.items out.old.items }
 {
     match body {
         Body::Whole(whole) => push_whole(out, whole),
@@ -51,7 +53,8 @@ fn flags(final_flag: bool, liveliness: bool) -> &'static str
 }
 
 fn push_form<A: Allocator>(out: &mut Vec<u8, A>, form: Form) -> Result<(), AllocError>
-    ensures { OnOk result (out.new.items ≡ out.old.items ++ form_word form) }
+    ensures ok { OnOk result (out.new.items ≡ out.old.items ++ form_word form) }
+    ensures keeps { StartsWith out.new.items out.old.items }
 {
     push_word(out, word(form))
 }
@@ -61,14 +64,16 @@ fn push_flags<A: Allocator>(
     final_flag: bool,
     liveliness: bool,
 ) -> Result<(), AllocError>
-    ensures { OnOk result (out.new.items ≡ out.old.items ++ flags_text final_flag liveliness) }
+    ensures ok { OnOk result (out.new.items ≡ out.old.items ++ flags_text final_flag liveliness) }
+    ensures keeps { StartsWith out.new.items out.old.items }
 {
     push_word(out, flags(final_flag, liveliness))
 }
 
 /// Adds a key hash in hex, or a dash for none.
 fn push_hash<A: Allocator>(out: &mut Vec<u8, A>, hash: Option<KeyHash>) -> Result<(), AllocError>
-    ensures { OnOk result (out.new.items ≡ out.old.items ++ hash_text hash) }
+    ensures ok { OnOk result (out.new.items ≡ out.old.items ++ hash_text hash) }
+    ensures keeps { StartsWith out.new.items out.old.items }
 {
     let Some(hash) = hash else {
         return push_octet(out, b'-');
@@ -77,7 +82,8 @@ fn push_hash<A: Allocator>(out: &mut Vec<u8, A>, hash: Option<KeyHash>) -> Resul
 }
 
 fn push_whole<A: Allocator>(out: &mut Vec<u8, A>, whole: &Whole<'_>) -> Result<(), AllocError>
-    ensures { OnOk result (out.new.items ≡ out.old.items ++ whole_text (whole_view whole.now)) }
+    ensures ok { OnOk result (out.new.items ≡ out.old.items ++ whole_text (whole_view whole.now)) }
+    ensures keeps { StartsWith out.new.items out.old.items }
 {
     push_word(out, "data ")?;
     push_number(out, whole.number.get())?;
@@ -96,8 +102,9 @@ fn push_pieces<A: Allocator>(
     out: &mut Vec<u8, A>,
     fragment: &Fragment<'_>,
 ) -> Result<(), AllocError>
-    ensures { OnOk result (out.new.items ≡ out.old.items ++
+    ensures ok { OnOk result (out.new.items ≡ out.old.items ++
         pieces_text (fragment_view fragment.now)) }
+    ensures keeps { StartsWith out.new.items out.old.items }
 {
     push_number(out, u64::from(fragment.start))?;
     push_octet(out, b' ')?;
@@ -116,8 +123,9 @@ fn push_fragment<A: Allocator>(
     out: &mut Vec<u8, A>,
     fragment: &Fragment<'_>,
 ) -> Result<(), AllocError>
-    ensures { OnOk result (out.new.items ≡ out.old.items ++
+    ensures ok { OnOk result (out.new.items ≡ out.old.items ++
         fragment_text (fragment_view fragment.now)) }
+    ensures keeps { StartsWith out.new.items out.old.items }
 {
     push_word(out, "frag ")?;
     push_number(out, fragment.number.get())?;
@@ -133,8 +141,9 @@ fn push_heartbeat<A: Allocator>(
     out: &mut Vec<u8, A>,
     heartbeat: &Heartbeat,
 ) -> Result<(), AllocError>
-    ensures { OnOk result (out.new.items ≡ out.old.items ++
+    ensures ok { OnOk result (out.new.items ≡ out.old.items ++
         heartbeat_text (heartbeat_view heartbeat.now)) }
+    ensures keeps { StartsWith out.new.items out.old.items }
 {
     push_word(out, "heartbeat ")?;
     push_number(out, heartbeat.first.get())?;
@@ -147,7 +156,8 @@ fn push_heartbeat<A: Allocator>(
 }
 
 fn push_gap<A: Allocator>(out: &mut Vec<u8, A>, gap: &Gap) -> Result<(), AllocError>
-    ensures { OnOk result (out.new.items ≡ out.old.items ++ gap_text (gap_view gap.now)) }
+    ensures ok { OnOk result (out.new.items ≡ out.old.items ++ gap_text (gap_view gap.now)) }
+    ensures keeps { StartsWith out.new.items out.old.items }
 {
     push_word(out, "gap ")?;
     push_number(out, gap.start.get())?;
@@ -161,8 +171,9 @@ fn push_heartbeat_frag<A: Allocator>(
     out: &mut Vec<u8, A>,
     heartbeat: &HeartbeatFrag,
 ) -> Result<(), AllocError>
-    ensures { OnOk result (out.new.items ≡ out.old.items ++
+    ensures ok { OnOk result (out.new.items ≡ out.old.items ++
         heartbeat_frag_text (heartbeat_frag_view heartbeat.now)) }
+    ensures keeps { StartsWith out.new.items out.old.items }
 {
     push_word(out, "heartbeat-frag ")?;
     push_number(out, heartbeat.number.get())?;

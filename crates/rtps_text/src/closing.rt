@@ -1,7 +1,7 @@
 //! What comes after the last line of a run: its matches, and the status of each reader.
 
 ghost use Rattle.std.specs.Prelude.{◌≡◌, ◌++◌, List, OnOk, ℕ};
-ghost use Rattle.rtps_records.specs.Text.{IsFront};
+ghost use Rattle.std.specs.Io.{StartsWith};
 ghost use Rattle.rtps_serial.specs.Seen.{reader_count};
 ghost use Rattle.rtps_serial.specs.Standing.{StandsAt, run_by};
 ghost use Rattle.rtps_text.specs.Replayed.{match_lines, status_lines, status_text, summary_text};
@@ -20,10 +20,11 @@ pub(crate) fn push_summary<C: Catalog, A: Allocator>(
     alloc: Global,
     participant: &Participant<C>,
 ) -> Result<(), AllocError>
-    ensures grows { OnOk result (IsFront out.old.items out.new.items) }
     ensures sums { (datagrams : List (List ℕ))
-        → StandsAt C.decoding datagrams participant.now.engine → OnOk result (out.new.items ≡ out.old.items ++
+        → StandsAt C.decoding datagrams participant.now.engine
+        → OnOk result (out.new.items ≡ out.old.items ++
         summary_text (run_by C.decoding participant.now.engine datagrams)) }
+    ensures keeps { StartsWith out.new.items out.old.items }
 {
     let Ok(matches) = participant.matches(alloc) else {
         return Err(AllocError);
@@ -37,7 +38,8 @@ fn push_all_matches<A: Allocator>(
     out: &mut Vec<u8, A>,
     matches: &BTreeSet<(u32, Guid)>,
 ) -> Result<(), AllocError>
-    ensures { OnOk result (out.new.items ≡ out.old.items ++ match_lines matches.now.keys) }
+    ensures ok { OnOk result (out.new.items ≡ out.old.items ++ match_lines matches.now.keys) }
+    ensures keeps { StartsWith out.new.items out.old.items }
 {
     for pair in matches.iter() {
         push_match(out, pair.0, pair.1)?;
@@ -50,11 +52,12 @@ fn push_statuses<C: Catalog, A: Allocator>(
     out: &mut Vec<u8, A>,
     participant: &Participant<C>,
 ) -> Result<(), AllocError>
-    ensures grows { OnOk result (IsFront out.old.items out.new.items) }
     ensures lines { (datagrams : List (List ℕ))
-        → StandsAt C.decoding datagrams participant.now.engine → OnOk result (out.new.items ≡ out.old.items ++
+        → StandsAt C.decoding datagrams participant.now.engine
+        → OnOk result (out.new.items ≡ out.old.items ++
         status_lines (run_by C.decoding participant.now.engine datagrams)
         (reader_count (run_by C.decoding participant.now.engine datagrams))) }
+    ensures keeps { StartsWith out.new.items out.old.items }
 {
     for rank in 0..participant.readers() {
         push_status_of(out, rank, participant.status(rank))?;
@@ -68,7 +71,8 @@ fn push_status_of<A: Allocator>(
     rank: u32,
     status: Option<Status>,
 ) -> Result<(), AllocError>
-    ensures { OnOk result (out.new.items ≡ out.old.items ++ status_text rank status) }
+    ensures ok { OnOk result (out.new.items ≡ out.old.items ++ status_text rank status) }
+    ensures keeps { StartsWith out.new.items out.old.items }
 {
     match status {
         Some(status) => push_status(out, rank, &status),

@@ -1,6 +1,7 @@
 //! What comes before an event's body: its place and its context.
 
 ghost use Rattle.std.specs.Prelude.{◌≡◌, ◌++◌, OnOk, length};
+ghost use Rattle.std.specs.Io.{StartsWith};
 ghost use Rattle.std.specs.Int.{w32, to_be_bytes};
 ghost use Rattle.rtps_ascii.specs.Hex.{hex_text};
 ghost use Rattle.rtps_receiver.specs.Events.{view};
@@ -13,7 +14,8 @@ use std::alloc::{AllocError, Allocator};
 
 /// Adds a place, as datagram and submessage with a colon between.
 pub(crate) fn push_place<A: Allocator>(out: &mut Vec<u8, A>, place: Place) -> Result<(), AllocError>
-    ensures { OnOk result (out.new.items ≡ out.old.items ++ place_text place) }
+    ensures ok { OnOk result (out.new.items ≡ out.old.items ++ place_text place) }
+    ensures keeps { StartsWith out.new.items out.old.items }
 {
     push_number(out, place.datagram)?;
     push_octet(out, b':')?;
@@ -25,7 +27,8 @@ pub(crate) fn push_time<A: Allocator>(
     out: &mut Vec<u8, A>,
     time: Option<Timestamp>,
 ) -> Result<(), AllocError>
-    ensures { OnOk result (out.new.items ≡ out.old.items ++ time_text time) }
+    ensures ok { OnOk result (out.new.items ≡ out.old.items ++ time_text time) }
+    ensures keeps { StartsWith out.new.items out.old.items }
 {
     let Some(time) = time else {
         return push_octet(out, b'-');
@@ -54,7 +57,8 @@ pub(crate) fn push_context<A: Allocator>(
     out: &mut Vec<u8, A>,
     event: &Event<'_>,
 ) -> Result<(), AllocError>
-    ensures { OnOk result (out.new.items ≡ out.old.items ++ context_text (view event.now)) }
+    ensures ok { OnOk result (out.new.items ≡ out.old.items ++ context_text (view event.now)) }
+    ensures keeps { StartsWith out.new.items out.old.items }
 {
     push_place(out, event.place)?;
     push_octet(out, b' ')?;

@@ -1,6 +1,7 @@
 //! The line of an entry that left a reader's cache.
 
 ghost use Rattle.std.specs.Prelude.{◌≡◌, ◌++◌, OnOk};
+ghost use Rattle.std.specs.Io.{StartsWith};
 ghost use Rattle.rtps_text.specs.Line.{◌then◌};
 ghost use Rattle.rtps_text.specs.Entries.{change_text, content_text, content_view, entry_line, instance_word, sample_view, sample_word, states_text, view_word};
 
@@ -21,8 +22,9 @@ pub fn push_entry<C: TextCatalog, A: Allocator, B: Allocator + Copy>(
     rank: u32,
     entry: &Taken<C::Value>,
 ) -> Result<(), AllocError>
-    ensures { OnOk result (out.new.items ≡ out.old.items ++
+    ensures ok { OnOk result (out.new.items ≡ out.old.items ++
         entry_line (C.text_of catalog.now) rank (sample_view C.view entry.now)) }
+    ensures keeps { StartsWith out.new.items out.old.items }
 {
     push_change(out, last, rank, entry)?;
     push_octet(out, b' ')?;
@@ -39,7 +41,8 @@ fn push_change<V, A: Allocator, B: Allocator + Copy>(
     rank: u32,
     entry: &Taken<V>,
 ) -> Result<(), AllocError>
-    ensures { OnOk result (out.new.items ≡ out.old.items ++ change_text rank entry.now) }
+    ensures ok { OnOk result (out.new.items ≡ out.old.items ++ change_text rank entry.now) }
+    ensures keeps { StartsWith out.new.items out.old.items }
 {
     push_word(out, "entry ")?;
     push_number(out, u64::from(rank))?;
@@ -84,7 +87,8 @@ fn push_states<A: Allocator>(
     view: ViewState,
     instance: InstanceState,
 ) -> Result<(), AllocError>
-    ensures { OnOk result (out.new.items ≡ out.old.items ++ states_text sample view instance) }
+    ensures ok { OnOk result (out.new.items ≡ out.old.items ++ states_text sample view instance) }
+    ensures keeps { StartsWith out.new.items out.old.items }
 {
     push_word(out, sample_word(sample))?;
     push_octet(out, b' ')?;
@@ -100,8 +104,9 @@ fn push_content<C: TextCatalog, A: Allocator>(
     key: KeyHash,
     body: &Content<C::Value>,
 ) -> Result<(), AllocError>
-    ensures { OnOk result (out.new.items ≡ out.old.items ++
+    ensures ok { OnOk result (out.new.items ≡ out.old.items ++
         content_text (C.text_of catalog.now) key (content_view C.view body.now)) }
+    ensures keeps { StartsWith out.new.items out.old.items }
 {
     match body {
         Content::Value(value) => push_value(out, catalog, value),

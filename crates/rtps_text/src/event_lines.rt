@@ -1,6 +1,7 @@
 //! The lines of a datagram's events.
 
 ghost use Rattle.std.specs.Prelude.{◌≡◌, ◌≤◌, ◌++◌, OnOk, length};
+ghost use Rattle.std.specs.Io.{StartsWith};
 ghost use Rattle.rtps_text.specs.EventLines.{lines_of};
 
 use crate::line::push_line;
@@ -17,7 +18,8 @@ pub(crate) fn push_events<A: Allocator>(
     datagram: &[u8],
 ) -> Result<(), AllocError>
     requires { length datagram.now ≤ 65507 }
-    ensures { OnOk result (out.new.items ≡ out.old.items ++ lines_of own index datagram.now) }
+    ensures ok { OnOk result (out.new.items ≡ out.old.items ++ lines_of own index datagram.now) }
+    ensures keeps { StartsWith out.new.items out.old.items }
 {
     for event in Events::new(own, u64::from(index), datagram) {
         push_line(out, &event)?;

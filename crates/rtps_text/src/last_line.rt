@@ -1,6 +1,7 @@
 //! What the last line said of its place, its writer and its change: most lines in a row say the same.
 
 ghost use Rattle.std.specs.Prelude.{◌≡◌, ◌++◌, OnOk};
+ghost use Rattle.std.specs.Io.{StartsWith};
 ghost use Rattle.std.specs.Option.{ForSome};
 ghost use Rattle.std.specs.Fmt.{decimal};
 ghost use Rattle.rtps_types.specs.Number.{value_of};
@@ -48,7 +49,8 @@ impl<A: Allocator + Copy> LastLine<A> {
         out: &mut Vec<u8, B>,
         place: Place,
     ) -> Result<(), AllocError>
-        ensures { OnOk result (out.new.items ≡ out.old.items ++ place_text place) }
+        ensures ok { OnOk result (out.new.items ≡ out.old.items ++ place_text place) }
+        ensures keeps { StartsWith out.new.items out.old.items }
     {
         if self.place != Some(place) {
             self.place = None;
@@ -65,7 +67,8 @@ impl<A: Allocator + Copy> LastLine<A> {
         out: &mut Vec<u8, B>,
         writer: Guid,
     ) -> Result<(), AllocError>
-        ensures { OnOk result (out.new.items ≡ out.old.items ++ guid_text writer) }
+        ensures ok { OnOk result (out.new.items ≡ out.old.items ++ guid_text writer) }
+        ensures keeps { StartsWith out.new.items out.old.items }
     {
         if self.writer != Some(writer) {
             self.writer = None;
@@ -83,8 +86,9 @@ impl<A: Allocator + Copy> LastLine<A> {
         number: Number,
         time: Option<Timestamp>,
     ) -> Result<(), AllocError>
-        ensures { OnOk result (out.new.items ≡ out.old.items ++
+        ensures ok { OnOk result (out.new.items ≡ out.old.items ++
             (decimal (value_of number) then time_text time)) }
+        ensures keeps { StartsWith out.new.items out.old.items }
     {
         if self.change != Some((number, time)) {
             self.change = None;
@@ -102,8 +106,9 @@ fn push_dated<A: Allocator>(
     number: Number,
     time: Option<Timestamp>,
 ) -> Result<(), AllocError>
-    ensures { OnOk result (out.new.items ≡ out.old.items ++
+    ensures ok { OnOk result (out.new.items ≡ out.old.items ++
         (decimal (value_of number) then time_text time)) }
+    ensures keeps { StartsWith out.new.items out.old.items }
 {
     push_number(out, number.get())?;
     push_octet(out, b' ')?;

@@ -1,6 +1,7 @@
 //! The line of an event.
 
 ghost use Rattle.std.specs.Prelude.{◌≡◌, ◌++◌, OnOk};
+ghost use Rattle.std.specs.Io.{StartsWith};
 ghost use Rattle.rtps_receiver.specs.Events.{view};
 ghost use Rattle.rtps_text.specs.Line.{line_of};
 
@@ -12,7 +13,8 @@ use std::alloc::{AllocError, Allocator};
 
 /// Adds the line of an event, with its end.
 pub fn push_line<A: Allocator>(out: &mut Vec<u8, A>, event: &Event<'_>) -> Result<(), AllocError>
-    ensures { OnOk result (out.new.items ≡ out.old.items ++ line_of (view event.now)) }
+    ensures ok { OnOk result (out.new.items ≡ out.old.items ++ line_of (view event.now)) }
+    ensures keeps { StartsWith out.new.items out.old.items }
 {
     push_context(out, event)?;
     push_octet(out, b' ')?;

@@ -1,6 +1,7 @@
 //! Addresses, alone and in a row.
 
 ghost use Rattle.std.specs.Prelude.{◌≡◌, ◌++◌, OnOk};
+ghost use Rattle.std.specs.Io.{StartsWith};
 ghost use Rattle.rtps_text.specs.Told.{address_text, locator_text, locators_text, more_locators};
 
 use rtps_ascii::{push_number, push_octet};
@@ -12,7 +13,8 @@ pub(crate) fn push_locators<A: Allocator>(
     out: &mut Vec<u8, A>,
     locators: &[Locator],
 ) -> Result<(), AllocError>
-    ensures { OnOk result (out.new.items ≡ out.old.items ++ locators_text locators.now) }
+    ensures ok { OnOk result (out.new.items ≡ out.old.items ++ locators_text locators.now) }
+    ensures keeps { StartsWith out.new.items out.old.items }
 {
     let Some((first, rest)) = locators.split_first() else {
         return push_octet(out, b'-');
@@ -23,7 +25,8 @@ pub(crate) fn push_locators<A: Allocator>(
 
 /// Adds locators after others, each after a comma.
 fn push_more<A: Allocator>(out: &mut Vec<u8, A>, locators: &[Locator]) -> Result<(), AllocError>
-    ensures { OnOk result (out.new.items ≡ out.old.items ++ more_locators locators.now) }
+    ensures ok { OnOk result (out.new.items ≡ out.old.items ++ more_locators locators.now) }
+    ensures keeps { StartsWith out.new.items out.old.items }
 {
     for locator in locators {
         push_octet(out, b',')?;
@@ -34,7 +37,8 @@ fn push_more<A: Allocator>(out: &mut Vec<u8, A>, locators: &[Locator]) -> Result
 
 /// Adds an address and its port, with a colon between.
 fn push_locator<A: Allocator>(out: &mut Vec<u8, A>, locator: &Locator) -> Result<(), AllocError>
-    ensures { OnOk result (out.new.items ≡ out.old.items ++ locator_text locator.now) }
+    ensures ok { OnOk result (out.new.items ≡ out.old.items ++ locator_text locator.now) }
+    ensures keeps { StartsWith out.new.items out.old.items }
 {
     push_address(out, locator.address)?;
     push_octet(out, b':')?;
@@ -43,7 +47,8 @@ fn push_locator<A: Allocator>(out: &mut Vec<u8, A>, locator: &Locator) -> Result
 
 /// Adds the octets of an address with dots between.
 fn push_address<A: Allocator>(out: &mut Vec<u8, A>, address: [u8; 4]) -> Result<(), AllocError>
-    ensures { OnOk result (out.new.items ≡ out.old.items ++ address_text address) }
+    ensures ok { OnOk result (out.new.items ≡ out.old.items ++ address_text address) }
+    ensures keeps { StartsWith out.new.items out.old.items }
 {
     push_number(out, u64::from(address[0]))?;
     push_octet(out, b'.')?;

@@ -1,6 +1,7 @@
 //! The line of what a reader reports.
 
 ghost use Rattle.std.specs.Prelude.{◌≡◌, ◌++◌, OnOk};
+ghost use Rattle.std.specs.Io.{StartsWith};
 ghost use Rattle.std.specs.Fmt.{decimal};
 ghost use Rattle.rtps_reader.specs.Notices.{kind_view, notice_view};
 ghost use Rattle.rtps_text.specs.Line.{◌then◌};
@@ -23,8 +24,9 @@ pub fn push_notice<C: TextCatalog, A: Allocator, B: Allocator + Copy>(
     rank: u32,
     notice: &Notice<C::Value>,
 ) -> Result<(), AllocError>
-    ensures { OnOk result (out.new.items ≡ out.old.items ++
+    ensures ok { OnOk result (out.new.items ≡ out.old.items ++
         heard_line (C.text_of catalog.now) rank (notice_view C.view notice.now)) }
+    ensures keeps { StartsWith out.new.items out.old.items }
 {
     last.push_place(out, notice.place)?;
     push_word(out, " reader ")?;
@@ -42,8 +44,9 @@ fn push_kind<C: TextCatalog, A: Allocator, B: Allocator + Copy>(
     writer: Guid,
     what: &NoticeKind<C::Value>,
 ) -> Result<(), AllocError>
-    ensures { OnOk result (out.new.items ≡ out.old.items ++
+    ensures ok { OnOk result (out.new.items ≡ out.old.items ++
         notice_text (C.text_of catalog.now) writer (kind_view C.view what.now)) }
+    ensures keeps { StartsWith out.new.items out.old.items }
 {
     match what {
         NoticeKind::Sample { number, time, body } => {
@@ -69,7 +72,8 @@ fn push_about<A: Allocator, B: Allocator + Copy>(
     word: &str,
     writer: Guid,
 ) -> Result<(), AllocError>
-    ensures { OnOk result (out.new.items ≡ out.old.items ++ (word.now then guid_text writer)) }
+    ensures ok { OnOk result (out.new.items ≡ out.old.items ++ (word.now then guid_text writer)) }
+    ensures keeps { StartsWith out.new.items out.old.items }
 {
     push_word(out, word)?;
     push_octet(out, b' ')?;
@@ -84,8 +88,9 @@ fn push_counted<A: Allocator, B: Allocator + Copy>(
     writer: Guid,
     number: u64,
 ) -> Result<(), AllocError>
-    ensures { OnOk result (out.new.items ≡ out.old.items ++
+    ensures ok { OnOk result (out.new.items ≡ out.old.items ++
         (word.now then guid_text writer then decimal number)) }
+    ensures keeps { StartsWith out.new.items out.old.items }
 {
     push_about(out, last, word, writer)?;
     push_octet(out, b' ')?;

@@ -1,6 +1,7 @@
 //! Numbers in a row.
 
 ghost use Rattle.std.specs.Prelude.{◌≡◌, ◌++◌, OnOk};
+ghost use Rattle.std.specs.Io.{StartsWith};
 ghost use Rattle.rtps_types.specs.NumberSet.{members};
 ghost use Rattle.rtps_types.specs.Sets.{sn_view};
 ghost use Rattle.rtps_text.specs.Line.{numbers_text};
@@ -14,8 +15,9 @@ pub(crate) fn push_members<A: Allocator>(
     out: &mut Vec<u8, A>,
     set: &SnSet,
 ) -> Result<(), AllocError>
-    ensures { OnOk result (out.new.items ≡ out.old.items ++
+    ensures ok { OnOk result (out.new.items ≡ out.old.items ++
         numbers_text (members (sn_view set.now))) }
+    ensures keeps { StartsWith out.new.items out.old.items }
 {
     let mut members = set.members();
     match members.next() {

@@ -13,6 +13,7 @@ use dds_topic::TextCatalog;
 use rtps_records::{Lines, RunFault};
 use std::alloc::{AllocError, Allocator, Global};
 use std::io::Write;
+use std::mem;
 
 /// Adds the lines of what a batch gave, place by place, and writes them as they fill. The cursors
 /// say how much of it was printed before.
@@ -47,13 +48,32 @@ pub(crate) fn print_places<C: TextCatalog, W: Write, B: Allocator + Copy>(
     Ok(())
 }
 
-/// Adds texts, one after the other, and writes them as they fill.
+/// Adds a text at the end of another, without a copy where the other is empty. What is left in its
+/// place is no part of either.
+fn add_text(whole: &mut Vec<u8>, text: &mut Vec<u8>) -> Result<(), AllocError>
+    ensures ok { OnOk result (whole.new.items ≡ whole.old.items ++ text.old.items) }
+    ensures err { OnErr result (whole.new.items ≡ whole.old.items) }
+{
+    if whole.is_empty() {
+        mem::swap(whole, text);
+        return Ok(());
+    }
+    whole.append(text)
+}
+
+/// Keeps a text for its memory. Where the list of such texts finds no room it is let go.
+fn keep(spare: &mut Vec<Vec<u8>>, text: Vec<u8>) {
+    let _kept = spare.push(text);
+}
+
+/// Adds texts, one after the other, and writes them as they fill. Then they are spare.
 ///
 /// `CannotWrite` where a write fails, and `NoMemory`, also where there was none for a text; a front
 /// of the texts may have been written then.
 pub(crate) fn print_texts<W: Write>(
     lines: &mut Lines<'_, W>,
     texts: Vec<Result<Vec<u8>, AllocError>>,
+    spare: &mut Vec<Vec<u8>>,
 ) -> Result<(), RunFault>
     ensures same_writer { lines.new.writer.ghost_name ≡ lines.old.writer.ghost_name }
     ensures ok { (whole : List ℕ) → AreTexts texts.items whole → OnOk result (Moves
@@ -66,8 +86,9 @@ pub(crate) fn print_texts<W: Write>(
 {
     for made in texts {
         let mut text = made?;
-        lines.text.append(&mut text)?;
+        add_text(&mut lines.text, &mut text)?;
         lines.write_if_full()?;
+        keep(spare, text);
     }
     Ok(())
 }

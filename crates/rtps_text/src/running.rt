@@ -1,6 +1,7 @@
 //! A run in batches, and the lines of what they give.
 
 ghost use Rattle.std.specs.Prelude.{◌≡◌, ◌≤◌, ◌⊎◌, ◌++◌, [], All, IfErr, IfOk, List, OnErr, OnOk, length, map, ℕ};
+ghost use Rattle.std.specs.Io.{StartsWith};
 ghost use Rattle.rtps_records.specs.Runs.{Closes, ClosesNot, Moves, PutsFront};
 ghost use Rattle.rtps_records.specs.Text.{Ends};
 ghost use Rattle.rtps_records.specs.declared.fault.RunFault.TheVariants.{CannotWrite, NoMemory};
@@ -34,6 +35,8 @@ pub(crate) struct RunLines<C: TextCatalog> {
     pub given: Given<C::Value>,
     /// What the last line began with.
     pub last: LastLine,
+    /// Texts of workers that were written; their memory serves for the next ones.
+    spare: Vec<Vec<u8>>,
     /// Where what a batch gives is kept while it is printed.
     pub alloc: Global,
     /// How the run is cut, and shared among workers.
@@ -76,6 +79,7 @@ where
             participant,
             given: Given::new(alloc),
             last: LastLine::none(alloc),
+            spare: Vec::new(alloc),
             alloc,
             pace,
             summary,
@@ -174,23 +178,25 @@ where
 
     /// Prints what the last batch gave, which workers spell.
     fn print_shared<W: Write, T: Threads + Sync>(
-        &self,
+        &mut self,
         rt: &T,
         workers: usize,
         lines: &mut Lines<'_, W>,
     ) -> Result<(), RunFault>
         requires { 1 ≤ workers }
+        ensures same { (self.new.participant ≡ self.old.participant)
+            × (self.new.summary ≡ self.old.summary) × (self.new.pace ≡ self.old.pace) }
         ensures same_writer { lines.new.writer.ghost_name ≡ lines.old.writer.ghost_name }
-        ensures ok { AreByPlace C.view self.now.given → OnOk result (Moves
+        ensures ok { AreByPlace C.view self.old.given → OnOk result (Moves
             (W.contents lines.old.writer.now) (W.contents lines.new.writer.now)
-            (lines.old.text.items ++ all_lines (C.text_of self.now.participant.engine.catalog)
-            C.view self.now.given (length self.now.participant.engine.statuses))
+            (lines.old.text.items ++ all_lines (C.text_of self.old.participant.engine.catalog)
+            C.view self.old.given (length self.old.participant.engine.statuses))
             lines.new.text.items) }
         ensures fault { IfErr result (λ fault. (fault ≡ CannotWrite) ⊎ (fault ≡ NoMemory)) }
-        ensures front { AreByPlace C.view self.now.given → OnErr result (PutsFront
+        ensures front { AreByPlace C.view self.old.given → OnErr result (PutsFront
             (W.contents lines.old.writer.now) (W.contents lines.new.writer.now)
-            (lines.old.text.items ++ all_lines (C.text_of self.now.participant.engine.catalog)
-            C.view self.now.given (length self.now.participant.engine.statuses))) }
+            (lines.old.text.items ++ all_lines (C.text_of self.old.participant.engine.catalog)
+            C.view self.old.given (length self.old.participant.engine.statuses))) }
     {
         let spelling = Spelling {
             alloc: self.alloc,
@@ -198,15 +204,17 @@ where
             given: &self.given,
             readers: self.participant.readers(),
         };
-        print_texts(lines, spelling.texts(rt, workers)?)
+        let texts = spelling.texts(rt, workers, &mut self.spare)?;
+        print_texts(lines, texts, &mut self.spare)
     }
 
     /// Adds the summary where it is asked for.
     fn finish<A: Allocator>(&self, out: &mut Vec<u8, A>) -> Result<(), AllocError>
-        ensures { OnOk result (Ends
+        ensures ok { OnOk result (Ends
             (λ records said. HasSaid C.text_of C.decoding records said self.now.participant.engine)
             (text_by C.text_of C.decoding self.now.participant.engine self.now.summary)
             out.old.items out.new.items) }
+        ensures keeps { StartsWith out.new.items out.old.items }
     {
         if !self.summary {
             return Ok(());

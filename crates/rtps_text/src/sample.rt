@@ -1,6 +1,7 @@
 //! What a change is presented as, as text.
 
 ghost use Rattle.std.specs.Prelude.{◌≡◌, ◌++◌, OnOk, codes};
+ghost use Rattle.std.specs.Io.{StartsWith};
 ghost use Rattle.std.specs.Fmt.{decimal};
 ghost use Rattle.dds_topic.specs.Answer.{code_of};
 ghost use Rattle.rtps_reader.specs.Body.{body_map};
@@ -20,8 +21,9 @@ pub(crate) fn push_presented<C: TextCatalog, A: Allocator>(
     catalog: &C,
     body: &Body<C::Value>,
 ) -> Result<(), AllocError>
-    ensures { OnOk result (out.new.items ≡ out.old.items ++
+    ensures ok { OnOk result (out.new.items ≡ out.old.items ++
         sample_text (C.text_of catalog.now) (body_map C.view body.now)) }
+    ensures keeps { StartsWith out.new.items out.old.items }
 {
     match body {
         Body::Value(_, value) => push_value(out, catalog, value),
@@ -36,8 +38,9 @@ pub(crate) fn push_value<C: TextCatalog, A: Allocator>(
     catalog: &C,
     value: &C::Value,
 ) -> Result<(), AllocError>
-    ensures { OnOk result (out.new.items ≡ out.old.items ++
+    ensures ok { OnOk result (out.new.items ≡ out.old.items ++
         (codes "value" then C.text_of catalog.now (C.view value.now))) }
+    ensures keeps { StartsWith out.new.items out.old.items }
 {
     push_word(out, "value ")?;
     catalog.push_text(out, value)
@@ -49,7 +52,8 @@ pub(crate) fn push_ended<A: Allocator>(
     word: &str,
     hash: KeyHash,
 ) -> Result<(), AllocError>
-    ensures { OnOk result (out.new.items ≡ out.old.items ++ (word.now then hex_text hash.0)) }
+    ensures ok { OnOk result (out.new.items ≡ out.old.items ++ (word.now then hex_text hash.0)) }
+    ensures keeps { StartsWith out.new.items out.old.items }
 {
     push_word(out, word)?;
     push_octet(out, b' ')?;
@@ -57,8 +61,9 @@ pub(crate) fn push_ended<A: Allocator>(
 }
 
 fn push_unread<A: Allocator>(out: &mut Vec<u8, A>, unread: Unread) -> Result<(), AllocError>
-    ensures { OnOk result (out.new.items ≡ out.old.items ++
+    ensures ok { OnOk result (out.new.items ≡ out.old.items ++
         (codes "unread" then decimal (code_of unread))) }
+    ensures keeps { StartsWith out.new.items out.old.items }
 {
     push_word(out, "unread ")?;
     push_number(out, u64::from(unread.code()))

@@ -1,6 +1,7 @@
 //! What readers keep of a run over a whole record file: a line for each entry of their caches.
 
 ghost use Rattle.std.specs.Prelude.{◌≡◌, ◌≤◌, ◌⊎◌, ◌++◌, [], IfErr, IfOk, List, None, OnErr, OnOk, if◌then◌else◌, length, ℕ};
+ghost use Rattle.std.specs.Io.{StartsWith};
 ghost use Rattle.std.specs.Io.KnownBytes.{Appends};
 ghost use Rattle.rtps_records.specs.Runs.{PutsFront, WroteAll};
 ghost use Rattle.rtps_records.specs.declared.fault.RunFault.TheVariants.{CannotWrite, NoMemory};
@@ -135,9 +136,11 @@ fn push_asked<C: TextCatalog, A: Allocator>(
 ) -> Result<(), AllocError>
 where
     C::Value: Sync,
-    ensures { (records : List (List ℕ)) → StandsAt C.decoding records run.now.participant.engine
+    ensures ok { (records : List (List ℕ))
+        → StandsAt C.decoding records run.now.participant.engine
         → OnOk result (out.new.items ≡ out.old.items ++ (if run.now.summary
         then summary_text (run_by C.decoding run.now.participant.engine records) else [])) }
+    ensures keeps { StartsWith out.new.items out.old.items }
 {
     if !run.summary {
         return Ok(());

@@ -1,6 +1,7 @@
 //! The lines of what a batch gave, place by place.
 
 ghost use Rattle.std.specs.Prelude.{◌≡◌, ◌+◌, ◌≤◌, ◌++◌, ◌∷◌, IfOk, List, OnOk, drop, filter, length, map, not};
+ghost use Rattle.std.specs.Io.{StartsWith};
 ghost use Rattle.std.specs.List.Sorted.{IsPartitionedBy};
 ghost use Rattle.rtps_reader.specs.Notices.{answer_view, notice_view};
 ghost use Rattle.rtps_serial.specs.World.{NoticeOf};
@@ -53,6 +54,7 @@ fn push_notices<C: TextCatalog, A: Allocator, B: Allocator + Copy>(
     ensures lines { OnOk result (out.new.items ≡ out.old.items ++
         put_lines (C.text_of catalog.now) (map (NoticeOf spot.0)
         (first_notices spot.1 (map (notice_view C.view) notices.now)))) }
+    ensures keeps { StartsWith out.new.items out.old.items }
 {
     let (rank, place) = spot;
     let mut count = 0;
@@ -77,6 +79,7 @@ fn push_replies<A: Allocator>(
         length (first_answers place (map answer_view replies.now))) }
     ensures lines { OnOk result (out.new.items ≡ out.old.items ++
         answer_lines (first_answers place (map answer_view replies.now))) }
+    ensures keeps { StartsWith out.new.items out.old.items }
 {
     let mut count = 0;
     for (at, reply) in replies {
@@ -100,6 +103,7 @@ fn push_said<A: Allocator>(
         length (first_answers place (map said_view answers.now))) }
     ensures lines { OnOk result (out.new.items ≡ out.old.items ++
         answer_lines (first_answers place (map said_view answers.now))) }
+    ensures keeps { StartsWith out.new.items out.old.items }
 {
     let mut count = 0;
     for answer in answers {
@@ -185,6 +189,7 @@ impl Cursor {
         ensures lines { OnOk result (out.new.items ≡ out.old.items ++
             lists_lines (C.text_of catalog.now) (map (notice_view C.view) output.now.notices.items)
             (map answer_view output.now.answers.items) place self) }
+        ensures keeps { StartsWith out.new.items out.old.items }
         ensures moves { IfOk result (λ c. c ≡
             lists_after (map (notice_view C.view) output.now.notices.items)
             (map answer_view output.now.answers.items) place self) }
@@ -210,6 +215,7 @@ impl Cursor {
     ) -> Result<Cursor, AllocError>
         ensures lines { OnOk result (out.new.items ≡ out.old.items ++
             part_lines (C.text_of catalog.now) (parts_given C.view given.now) place self) }
+        ensures keeps { StartsWith out.new.items out.old.items }
         ensures moves { IfOk result (λ c. c ≡
             cursor_after (parts_given C.view given.now) place self) }
     {
@@ -277,6 +283,7 @@ impl Cursors {
             ++ (answer_lines (next_said (parts_given C.view given.now) place self.old.said)
             ++ parts_lines (C.text_of catalog.now) (parts_given C.view given.now) place
             self.old.readers.items)) }
+        ensures keeps { StartsWith out.new.items out.old.items }
     {
         self.said += push_said(out, place, rest(&given.answers, self.said))?;
         for at in 0..self.readers.len() {

@@ -1,6 +1,7 @@
 //! The lines of a reader's matches and of its status.
 
 ghost use Rattle.std.specs.Prelude.{◌≡◌, ◌++◌, OnOk};
+ghost use Rattle.std.specs.Io.{StartsWith};
 ghost use Rattle.rtps_text.specs.Told.{match_line, matches_text, policy_text, status_line};
 
 use crate::guid::push_guid;
@@ -15,7 +16,8 @@ pub fn push_match<A: Allocator>(
     rank: u32,
     writer: Guid,
 ) -> Result<(), AllocError>
-    ensures { OnOk result (out.new.items ≡ out.old.items ++ match_line rank writer) }
+    ensures ok { OnOk result (out.new.items ≡ out.old.items ++ match_line rank writer) }
+    ensures keeps { StartsWith out.new.items out.old.items }
 {
     push_word(out, "match ")?;
     push_number(out, u64::from(rank))?;
@@ -30,7 +32,8 @@ pub fn push_status<A: Allocator>(
     rank: u32,
     status: &Status,
 ) -> Result<(), AllocError>
-    ensures { OnOk result (out.new.items ≡ out.old.items ++ status_line rank status.now) }
+    ensures ok { OnOk result (out.new.items ≡ out.old.items ++ status_line rank status.now) }
+    ensures keeps { StartsWith out.new.items out.old.items }
 {
     push_word(out, "status ")?;
     push_number(out, u64::from(rank))?;
@@ -45,7 +48,8 @@ pub fn push_status<A: Allocator>(
 
 /// Adds the totals and the number of matches, and the policy that was reported last.
 fn push_matches<A: Allocator>(out: &mut Vec<u8, A>, status: &Status) -> Result<(), AllocError>
-    ensures { OnOk result (out.new.items ≡ out.old.items ++ matches_text status.now) }
+    ensures ok { OnOk result (out.new.items ≡ out.old.items ++ matches_text status.now) }
+    ensures keeps { StartsWith out.new.items out.old.items }
 {
     push_number(out, u64::from(status.matched_total))?;
     push_octet(out, b' ')?;
@@ -58,7 +62,8 @@ fn push_matches<A: Allocator>(out: &mut Vec<u8, A>, status: &Status) -> Result<(
 
 /// Adds a policy by its id, or a dash for none.
 fn push_policy<A: Allocator>(out: &mut Vec<u8, A>, policy: Option<u32>) -> Result<(), AllocError>
-    ensures { OnOk result (out.new.items ≡ out.old.items ++ policy_text policy) }
+    ensures ok { OnOk result (out.new.items ≡ out.old.items ++ policy_text policy) }
+    ensures keeps { StartsWith out.new.items out.old.items }
 {
     let Some(policy) = policy else {
         return push_octet(out, b'-');

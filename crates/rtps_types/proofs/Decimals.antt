@@ -50,7 +50,7 @@ no_colon (b ∷ text) digits =
 pub number_shown : ShownNumbersAreRead
 number_shown n bounds = decimal_shown 1 (2 ^ 62) n bounds.0 bounds.1 (omega (arith, bounds.1))
 
--- a place is read of what stands before and behind its colon
+-- a place is read of what is before and after its colon
 place_from : (text : List ℕ) (p : Place) → has 58 text ≡ true → decimal_in 0 (2 ^ 64 - 1) (before 58 text) ≡ Ok p.datagram
     → decimal_in 0 (2 ^ 32 - 1) (behind 58 text) ≡ Ok p.submessage → place_in text ≡ Ok p
 place_from text p colon first last =

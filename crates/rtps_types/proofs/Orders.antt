@@ -10,7 +10,7 @@ then_again Less p q = refl
 then_again Equal p q = refl
 then_again Greater p q = refl
 
--- where the fronts are as long as each other, they decide before what stands after them
+-- where the fronts are as long as each other, they decide before what comes after them
 pub octet_order_append : (a b c d : List ℕ) → length a ≡ length c → octet_order (a ++ b) (c ++ d) ≡ ordering_then (octet_order a c) (octet_order b d)
 octet_order_append [] b [] d h = refl
 octet_order_append [] b (y ∷ ys) d h = absurd (omega arith)

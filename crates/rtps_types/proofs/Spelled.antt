@@ -24,7 +24,7 @@ shifted c a b = sym (nat_cmp_is (c + a) (c + b) (nat_cmp a b) (moved (nat_cmp a 
     moved Equal e = ap (λ n. c + n) e
     moved Greater l = let h : b < a = l in let r : c + b < c + a = omega arith in r
 
--- a greater digit decides before all that stands behind it
+-- a greater digit decides before all that comes after it
 digit_below : (u v a b m : ℕ) → u < v → a < m → u * m + a < v * m + b
 digit_below u v a b m l below =
     let step : (u + 1) * m ≤ v * m = mul-le-mul_right m (omega arith) in

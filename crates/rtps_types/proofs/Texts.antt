@@ -15,7 +15,7 @@ use Rattle.rtps_types.specs.Order.{guid_octets}
 pub octets_read : (n : ℕ) (text : List ℕ) → length text ≡ 2 * n → octets_in n text ≡ all_digits (decode_sized text n)
 octets_read n text count = rw (decode_sized-twice text n count) grind (arith, count)
 
--- what stands before and behind the first separator
+-- what is before and after the first separator
 pub halves_of : (c : ℕ) (text : List ℕ) (r : Option (Bor (List ℕ) × Bor (List ℕ))) → IsSplitOnceResult c text r → c < 128
     → MatchOption r (has c text ≡ false) (λ x. (has c text ≡ true) × (x.0.now ≡ before c text) × (x.1.now ≡ behind c text))
 halves_of c text None split small =
@@ -29,7 +29,7 @@ octets_shown n octets count fits =
     let digits = length-encode_with lower_digits octets in
     octets_read n (encode_lower octets) (omega (arith, digits, count)) ∙ ap all_digits (decode_sized-encode_lower octets n count fits)
 
--- where the first separator stands
+-- where the first separator is
 cut_place : (c : ℕ) (front back : List ℕ) → list_all (λ b. not (b == c)) front ≡ true → position_or_len (λ b. b == c) (front ++ (c ∷ back)) ≡ length front
 cut_place c [] back none = grind (arith)
 cut_place c (b ∷ front) back none =

@@ -25,6 +25,7 @@ abbrev pub made_of : {S T : Type 0} → (S → T) → Result S TextFault → Res
 made_of make (Ok part) = Ok (make part)
 made_of make (Err e) = Err e
 
+-- a participant, an entity, an endpoint and a key hash are read so (DDSI-RTPS 9.3.1, 9.6.4.8)
 abbrev pub prefix_in : List ℕ → Result GuidPrefix TextFault
 prefix_in text = made_of (λ octets. record { 0 = octets }) (octets_in 12 text)
 
@@ -41,7 +42,7 @@ guid_in text = made_of guid_of (octets_in 16 text)
 abbrev pub hash_in : List ℕ → Result KeyHash TextFault
 hash_in text = made_of (λ octets. record { 0 = octets }) (octets_in 16 text)
 
--- whether a character stands in a text, and what is before and behind the first one
+-- whether a character is in a text, and what is before and after the first one
 abbrev pub has : ℕ → List ℕ → Bool
 has c text = nat_lt (position_or_len (λ b. b == c) text) (length text)
 

@@ -14,7 +14,8 @@ pub enum Endian {
     Little,
 }
 
-/// The 16-bit number in the two octets at `at`, or `None` where they are not all there.
+/// The 16-bit number in the two octets at `at`, counted from 0, or `None` where they are not all there
+/// (DDSI-RTPS 9.3.2).
 pub fn get_u16(octets: &[u8], at: usize, endian: Endian) -> Option<u16>
     ensures { result ≡ number_at endian 2 octets.now at }
 {
@@ -28,7 +29,8 @@ pub fn get_u16(octets: &[u8], at: usize, endian: Endian) -> Option<u16>
     })
 }
 
-/// The 32-bit number in the four octets at `at`, or `None` where they are not all there.
+/// The 32-bit number in the four octets at `at`, or `None` where they are not all there (DDSI-RTPS
+/// 9.3.2).
 pub fn get_u32(octets: &[u8], at: usize, endian: Endian) -> Option<u32>
     ensures { result ≡ number_at endian 4 octets.now at }
 {
@@ -75,7 +77,7 @@ pub fn get_octets<const N: usize>(octets: &[u8], at: usize) -> Option<[u8; N]>
     octets.get(at..)?.first_chunk::<N>().copied()
 }
 
-/// Puts octets in at `at`, over as many others.
+/// Puts octets in at `at`, over as many others, which have to be there.
 #[tactic(auto, using(crate::proofs::Puts::puts_outside))]
 pub fn put_octets(octets: &mut [u8], at: usize, field: &[u8])
     requires { at + length field.now ≤ length octets.old }
@@ -85,7 +87,7 @@ pub fn put_octets(octets: &mut [u8], at: usize, field: &[u8])
     octets[at..at + field.len()].copy_from_slice(field);
 }
 
-/// Puts a 16-bit number into the two octets at `at`.
+/// Puts a 16-bit number into the two octets at `at`, which have to be there (DDSI-RTPS 9.3.2).
 pub fn put_u16(octets: &mut [u8], at: usize, endian: Endian, value: u16)
     requires { at + 2 ≤ length octets.old }
     ensures octets { octets.new ≡ put_at at (spelled endian 2 value) octets.old }
@@ -100,7 +102,7 @@ pub fn put_u16(octets: &mut [u8], at: usize, endian: Endian, value: u16)
     put_octets(octets, at, &field);
 }
 
-/// Puts a 32-bit number into the four octets at `at`.
+/// Puts a 32-bit number into the four octets at `at`, which have to be there (DDSI-RTPS 9.3.2).
 pub fn put_u32(octets: &mut [u8], at: usize, endian: Endian, value: u32)
     requires { at + 4 ≤ length octets.old }
     ensures octets { octets.new ≡ put_at at (spelled endian 4 value) octets.old }
@@ -115,7 +117,7 @@ pub fn put_u32(octets: &mut [u8], at: usize, endian: Endian, value: u32)
     put_octets(octets, at, &field);
 }
 
-/// Puts a 64-bit number into the eight octets at `at`.
+/// Puts a 64-bit number into the eight octets at `at`, which have to be there (DDSI-RTPS 9.3.2).
 pub fn put_u64(octets: &mut [u8], at: usize, endian: Endian, value: u64)
     requires { at + 8 ≤ length octets.old }
     ensures octets { octets.new ≡ put_at at (spelled endian 8 value) octets.old }
@@ -130,7 +132,8 @@ pub fn put_u64(octets: &mut [u8], at: usize, endian: Endian, value: u64)
     put_octets(octets, at, &field);
 }
 
-/// Puts a sequence number into the eight octets at `at`, its high half first in either order.
+/// Puts a sequence number into the eight octets at `at`, which have to be there: its high half first in
+/// either order (DDSI-RTPS 9.4.2.5).
 pub fn put_sn(octets: &mut [u8], at: usize, endian: Endian, value: i64)
     requires { at + 8 ≤ length octets.old }
     ensures octets { octets.new ≡ put_at at (spelled_sn endian value) octets.old }

@@ -34,7 +34,7 @@ impl<A: Allocator> Model for Locators<A> {
     ghost view = { λ l. if l.is_single then l.single else l.items.items };
 }
 
-/// What stands where no locator is kept apart.
+/// What is there where no locator is kept apart.
 const NO_LOCATOR: Locator = Locator {
     port: 0,
     address: [0; 4],

@@ -79,7 +79,7 @@ fn names_offset(words: &[u32; 8], offset: u32) -> bool
     words[(offset / 32) as usize] & (1 << (31 - offset % 32)) != 0
 }
 
-/// Sets the bit of an offset in the words of a set.
+/// Sets the bit of an offset, 0 to 255, in the words of a set (DDSI-RTPS 9.4.2.6).
 pub fn set_bit(words: &mut [u32; 8], offset: u32)
     requires { offset < 256 }
     ensures { words.new ≡ with_bit words.old offset }
@@ -87,7 +87,7 @@ pub fn set_bit(words: &mut [u32; 8], offset: u32)
     words[(offset / 32) as usize] |= 1 << (31 - offset % 32);
 }
 
-/// The numbers that a set names, from the least on.
+/// The numbers that a set names, from the least on, one by one. No memory is taken.
 #[derive(Drop)]
 pub struct Members {
     base: u64,

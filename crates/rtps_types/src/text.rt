@@ -18,10 +18,11 @@ mod numbers;
 mod tests;
 mod times;
 
-/// Why a text isn't read as a value. Of two parts the first one is read first.
+/// Why a text isn't read as an identity, a number, a place or a moment. Of two parts the first one is
+/// read first.
 #[derive(Clone, Copy, Debug, PartialEq, Eq, Error)]
 pub enum TextFault {
-    /// The character that stands between two parts isn't there.
+    /// The character between two parts isn't there.
     #[error("the separator is missing")]
     Separator,
     /// An identity or a part of a moment hasn't two digits for each of its octets.
@@ -46,7 +47,7 @@ fn read_octets<const N: usize>(text: &str) -> Result<[u8; N], TextFault>
     <[u8; N] as FromHex>::from_hex(text).map_err(|_| TextFault::Digit)
 }
 
-/// What stands before and behind the first separator of a text.
+/// What is before and after the first separator of a text.
 #[tactic(auto, using(crate::proofs::Texts::halves_of))]
 fn halves(text: &str, separator: u8) -> Result<(&str, &str), TextFault>
     requires { separator < 128 }

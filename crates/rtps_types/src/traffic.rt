@@ -11,7 +11,7 @@ pub struct WriterFacts<A: Allocator = Global> {
     pub locators: Locators<A>,
 }
 
-/// An answering datagram.
+/// An answering datagram: an ACKNACK or a NACK_FRAG (DDSI-RTPS 8.3.7.1, 8.3.7.11).
 #[derive(Debug, Drop)]
 pub struct Reply<A: Allocator = Global> {
     /// Where it goes.

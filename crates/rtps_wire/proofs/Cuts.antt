@@ -40,7 +40,7 @@ short_items (x ∷ y ∷ z ∷ w ∷ more) h = absurd (omega arith)
 none_first : (cut whole : List Item) (octets : List ℕ) → cut ≡ [] → AreFirst cut whole octets
 none_first cut whole octets h = record { first = []; others = whole; last = []; of_whole = refl; of_cut = h; ran = tt }
 
--- what stands last in octets stands last after others too
+-- what is last in octets is last after others too
 last_behind : (last : List Item) (front octets : List ℕ) → IsLast last octets → IsLast last (front ++ octets)
 last_behind [] front octets h = tt
 last_behind (i ∷ []) front octets h = record {
@@ -88,7 +88,7 @@ front_stated id flags a b more r h =
     let test : ltb (length more) (number (endian_of flags) 2 (a ∷ b ∷ [])) ≡ false = le-ltb _ _ h in
     rw (r, test) refl
 
--- both begin with the same submessage, and after it stands a cut of what stands after it in the whole
+-- both begin with the same submessage, and after it comes a cut of what comes after it in the whole
 same_front : (id flags : ℕ) (cut whole front rest rest' : List ℕ) (o : Option Content) → front_of cut ≡ item_of id flags o rest' → front_of whole ≡ item_of id flags o rest → cut ≡ front ++ rest' → AreFirst (items_of rest') (items_of rest) rest' → AreFirst (items_of cut) (items_of whole) cut
 same_front id flags cut whole front rest rest' None h w text f = none_first _ _ _ (fault_items cut Invalid h)
 same_front id flags cut whole front rest rest' (Some c) h w text f =

@@ -44,7 +44,7 @@ words_again (w ∷ ws) rest small =
 
 -- ---- fields at their places
 
--- octets stay as they are where a field is put in that stands there
+-- octets stay as they are where a field is put in that is there already
 put_self : (at : ℕ) (front field rest : List ℕ) → length front ≡ at → put_at at field (front ++ (field ++ rest)) ≡ front ++ (field ++ rest)
 put_self at front field rest h =
     let place : length (front ++ field) ≡ at + length field = omega (arith, length-append front field) in

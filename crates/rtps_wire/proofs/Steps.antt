@@ -29,14 +29,14 @@ front_shortens (id ∷ flags ∷ a ∷ b ∷ more) i rest h =
     let less = body_leaves id flags (body_length id (number (endian_of flags) 2 (a ∷ b ∷ [])) (length more)) more i rest h in
     omega arith
 
--- the reading after n octets is that of the octets that stand there
+-- the reading after n octets is that of the octets that are there
 behind_is : (n : ℕ) (octets : List ℕ) → reading_behind n octets ≡ reading (drop n octets)
 unfolding reading_behind
 behind_is zero octets = refl
 behind_is (suc n) [] = refl
 behind_is (suc n) (x ∷ more) = behind_is n more
 
--- what stands at the front, and then what others gives after it
+-- what is at the front, and then what others gives after it
 abbrev pub by_rest : Read → (List ℕ → Reading) → Reading
 by_rest (Err f) others = record { items = []; fault = Some f }
 by_rest (Ok None) others = record { items = []; fault = None }
@@ -50,11 +50,11 @@ long_or_not : (b : Bool) (id flags : ℕ) (o : Option Content) (after : List ℕ
 long_or_not true id flags o after others = refl
 long_or_not false id flags o after others = item_rest id flags o after others
 
--- a body leaves what stands after it
+-- a body leaves what is after it
 body_rest : (id flags len : ℕ) (rest : List ℕ) (others : List ℕ → Reading) → go_on (body_of id flags len rest) (others (drop len rest)) ≡ by_rest (body_of id flags len rest) others
 body_rest id flags len rest others = long_or_not (ltb (length rest) len) id flags (parts_of id flags (take len rest)) (drop len rest) others
 
--- the reading, by what stands at the front
+-- the reading, by what is at the front
 pub reading_goes_on : (octets : List ℕ) → reading octets ≡ by_rest (front_of octets) reading
 unfolding reading_behind front_of
 reading_goes_on [] = refl

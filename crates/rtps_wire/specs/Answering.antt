@@ -34,6 +34,7 @@ word_count s = (s.bits + 31) / 32
 abbrev pub sent_words : NumberSet → List ℕ
 sent_words s = take (word_count s) s.words
 
+-- and their octets
 abbrev pub spelled_words : List ℕ → List ℕ
 spelled_words words = flat_map (spelled Little 4) words
 
@@ -46,6 +47,7 @@ abbrev pub acknack_body : AckNack → List ℕ
 acknack_body a =
     a.reader.entity.0 ++ a.writer.entity.0 ++ spelled_sn Little (pos a.missing.base) ++ spelled Little 4 a.missing.bits ++ spelled_words (sent_words (sn_view a.missing)) ++ spelled Little 4 a.count
 
+-- the datagram of an ACKNACK
 unfoldable pub acknack_octets : AckNack → List ℕ
 acknack_octets a = answering a.reader.prefix a.writer.prefix 0x06 (acknack_flags (sn_view a.missing)) (acknack_body a)
 
@@ -54,11 +56,13 @@ abbrev pub nack_frag_body : NackFrag → List ℕ
 nack_frag_body a =
     a.reader.entity.0 ++ a.writer.entity.0 ++ spelled_sn Little (pos (value_of a.number)) ++ spelled Little 4 a.missing.base ++ spelled Little 4 a.missing.bits ++ spelled_words (sent_words (frag_view a.missing)) ++ spelled Little 4 a.count
 
+-- the datagram of a NACK_FRAG
 unfoldable pub nack_frag_octets : NackFrag → List ℕ
 nack_frag_octets a = answering a.reader.prefix a.writer.prefix 0x12 1 (nack_frag_body a)
 
 -- ---- what is read of them
 
+-- the header of what we send
 abbrev pub our_header : GuidPrefix → Header
 our_header own = record { version = 2 ∷ 5 ∷ []; vendor = 0 ∷ 0 ∷ []; prefix = own }
 

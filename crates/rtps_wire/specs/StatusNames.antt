@@ -1,6 +1,7 @@
 -- What the last octet of a status info says of an instance (DDSI-RTPS 9.6.4.9): bit 1 is for disposed, bit 2 for unregistered.
 use Rattle.std.specs.Prelude.{ℕ, ◌%◌, ◌==◌, List, codes, if◌then◌else◌}
 
+-- its name, by these two bits
 abbrev pub status_name : ℕ → List ℕ
 status_name status =
     if status % 4 == 0 then codes "alive"

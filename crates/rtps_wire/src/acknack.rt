@@ -10,7 +10,7 @@ use crate::kinds::{ACKNACK, ACKNACK_FINAL, LITTLE};
 use rtps_types::{Guid, Octets, SnSet};
 use std::alloc::{AllocError, Allocator};
 
-/// What an ACKNACK says to a writer.
+/// What an ACKNACK says to a writer (DDSI-RTPS 8.3.7.1).
 #[derive(Clone, Copy, Debug)]
 pub struct AckNack {
     /// The reader that answers.
@@ -23,8 +23,9 @@ pub struct AckNack {
     pub count: u32,
 }
 
-/// The datagram with which a reader answers a writer's heartbeat; flag F is set where `missing` has
-/// no offset. It fails only where memory runs out.
+/// The datagram with which a reader answers a writer's heartbeat (DDSI-RTPS 8.3.7.1, 9.4.5.2): header,
+/// INFO_DST and ACKNACK, all little-endian. Flag F is set where `missing` has no offset. An error is a
+/// refused growth.
 pub fn write_acknack<A: Allocator>(alloc: A, answer: AckNack) -> Result<Octets<A>, AllocError>
     ensures octets { IfOk result (λ octets. octets ≡ acknack_octets answer) }
     ensures message { IfOk result (λ octets. IsOnly octets

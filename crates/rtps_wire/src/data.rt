@@ -9,7 +9,7 @@ use crate::inline_qos::{InlineQos, read_inline_qos};
 use crate::kinds::{DATA_KEY, DATA_NON_STANDARD, DATA_VALUE, INLINE_QOS};
 use rtps_types::{Endian, EntityId, KeyHash, get_u16};
 
-/// What a change carries.
+/// What a change carries, by the flags D, K and N of its DATA (DDSI-RTPS 9.4.5.3).
 #[derive(Clone, Copy, Debug, PartialEq, Eq)]
 pub enum Form {
     /// A serialized value.
@@ -22,7 +22,8 @@ pub enum Form {
     Nothing,
 }
 
-/// What comes with a change besides its number and its payload.
+/// What comes with a change besides its number and its payload: its flags, and what its inline QoS says
+/// of the instance (DDSI-RTPS 9.6.4.8, 9.6.4.9).
 #[derive(Clone, Copy, Debug, PartialEq, Eq)]
 pub struct ChangeInfo {
     pub form: Form,
@@ -50,7 +51,7 @@ impl ChangeInfo {
     }
 }
 
-/// The fields of a DATA.
+/// The fields of a DATA (DDSI-RTPS 8.3.7.2, 9.4.5.3).
 #[derive(Clone, Copy, Debug)]
 pub struct Data<'a> {
     pub reader: EntityId,

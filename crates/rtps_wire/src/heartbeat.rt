@@ -7,7 +7,7 @@ use crate::fields::{get_count, get_entity, get_natural, get_positive};
 use crate::kinds::{HEARTBEAT_FINAL, HEARTBEAT_LIVELINESS};
 use rtps_types::{Endian, EntityId};
 
-/// The fields of a HEARTBEAT.
+/// The fields of a HEARTBEAT (DDSI-RTPS 8.3.7.5, 9.4.5.6).
 #[derive(Clone, Copy, Debug, PartialEq, Eq)]
 pub struct Heartbeat {
     pub reader: EntityId,

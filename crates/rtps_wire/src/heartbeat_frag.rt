@@ -6,7 +6,7 @@ ghost use Rattle.rtps_wire.specs.HeartbeatFrag.{heartbeat_frag_of};
 use crate::fields::{get_count, get_entity, get_positive};
 use rtps_types::{Endian, EntityId, get_u32};
 
-/// The fields of a HEARTBEAT_FRAG.
+/// The fields of a HEARTBEAT_FRAG (DDSI-RTPS 8.3.7.6, 9.4.5.7).
 #[derive(Clone, Copy, Debug, PartialEq, Eq)]
 pub struct HeartbeatFrag {
     pub reader: EntityId,

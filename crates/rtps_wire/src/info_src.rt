@@ -6,7 +6,7 @@ ghost use Rattle.rtps_wire.specs.Info.{source_of};
 use crate::fields::get_prefix;
 use rtps_types::{GuidPrefix, get_octets};
 
-/// The fields of an INFO_SRC; its version and vendor aren't judged.
+/// The fields of an INFO_SRC (DDSI-RTPS 8.3.7.9, 9.4.5.10); its version and vendor aren't judged.
 #[derive(Clone, Copy, Debug, PartialEq, Eq)]
 pub struct InfoSource {
     pub version: [u8; 2],

@@ -5,7 +5,7 @@ ghost use Rattle.rtps_wire.specs.Header.{header_of};
 
 use rtps_types::{GuidPrefix, get_octets};
 
-/// Who sent a message, and by which version of the protocol.
+/// Who sent a message, and by which version of the protocol (DDSI-RTPS 8.3.3, 9.4.4).
 #[derive(Clone, Copy, Debug, PartialEq, Eq)]
 pub struct Header {
     /// Major and minor; the major one is 2.
@@ -27,7 +27,8 @@ pub enum HeaderFault {
     Version,
 }
 
-/// The header at the front of a message, or the first fault that it has.
+/// The header in the first 20 octets of a message, or the first fault that it has (DDSI-RTPS 8.3.3). No
+/// memory is taken.
 pub fn read_header(octets: &[u8]) -> Result<Header, HeaderFault>
     ensures { result ≡ header_of octets.now }
 {

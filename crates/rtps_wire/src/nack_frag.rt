@@ -9,7 +9,7 @@ use crate::kinds::{LITTLE, NACK_FRAG};
 use rtps_types::{FragSet, Guid, Number, Octets};
 use std::alloc::{AllocError, Allocator};
 
-/// What a NACK_FRAG says to a writer.
+/// What a NACK_FRAG says to a writer (DDSI-RTPS 8.3.7.11).
 #[derive(Clone, Copy, Debug)]
 pub struct NackFrag {
     /// The reader that answers.
@@ -24,7 +24,8 @@ pub struct NackFrag {
     pub count: u32,
 }
 
-/// The datagram with which a reader asks a writer for fragments. It fails only where memory runs out.
+/// The datagram with which a reader asks a writer for fragments (DDSI-RTPS 8.3.7.11, 9.4.5.13): header,
+/// INFO_DST and NACK_FRAG, all little-endian. An error is a refused growth.
 pub fn write_nack_frag<A: Allocator>(alloc: A, answer: NackFrag) -> Result<Octets<A>, AllocError>
     ensures octets { IfOk result (λ octets. octets ≡ nack_frag_octets answer) }
     ensures message { IfOk result (λ octets. IsOnly octets

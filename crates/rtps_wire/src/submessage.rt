@@ -17,16 +17,17 @@ use crate::kinds::{
 };
 use rtps_types::{GuidPrefix, Timestamp};
 
-/// A valid submessage, whose payload stays where the datagram lies.
+/// A valid submessage, whose payload stays where the datagram lies (DDSI-RTPS 8.3.4).
 #[derive(Clone, Copy, Debug)]
 pub struct Submessage<'a> {
     /// Its kind (DDSI-RTPS 9.4.5.1.1).
     pub id: u8,
+    /// As they came; flag E is the lowest bit.
     pub flags: u8,
     pub parts: Parts<'a>,
 }
 
-/// What a submessage says, by its kind.
+/// What a submessage says, by its kind (DDSI-RTPS 8.3.7).
 #[derive(Clone, Copy, Debug)]
 pub enum Parts<'a> {
     /// Nothing (8.3.7.12).

@@ -124,7 +124,7 @@ fn trace(report: &Report<Shape>) -> Trace {
     (line(report), report.turn().place.submessage, sum)
 }
 
-/// What comes of a run: what was put out, in order, how each reader stands, and the matches.
+/// What comes of a run: what was put out, in order, the status of each reader, and the matches.
 type Run = (Vec<Trace>, [Option<Status>; 3], BTreeSet<(u32, Guid)>);
 
 /// Puts the traces of reports after those that are there.

@@ -62,7 +62,7 @@ fn refused_growths_plan_nothing(rt: HostRuntime) -> Result<(), Fail> {
     let events = six_events(rt.alloc())?;
     let (mut refused, mut planned) = (false, false);
     for step in 1..65 {
-        match jobs_in(rt.alloc(), &config, &events, step * 64)? {
+        match jobs_in(rt.alloc(), &config, &events, step * 256)? {
             0 => refused = true,
             2 => planned = true,
             _ => return Err(Fail::new("a job is lost")),

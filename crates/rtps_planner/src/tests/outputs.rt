@@ -17,7 +17,7 @@ pub(super) struct Given<'a> {
     pub answers: &'a [u32],
 }
 
-/// A notice that tells nothing but a count.
+/// A notice that reports nothing but a count.
 fn notice(count: u64) -> Notice<u8> {
     Notice {
         place: place(1),
@@ -159,7 +159,7 @@ fn outputs_that_were_not_planned_are_refused(rt: HostRuntime) -> Result<(), Fail
         fault(alloc, &[last, first, stranger]),
         Some(GatherFault::Stranger)
     );
-    // The first of the faults is told.
+    // The first of the faults is reported.
     assert_eq!(rt;
         fault(alloc, &[first, first, stranger]),
         Some(GatherFault::Missing)

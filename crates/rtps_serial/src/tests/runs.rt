@@ -1,4 +1,4 @@
-//! What engines report, and how they stand then.
+//! What engines report, and their statuses then.
 
 ghost use Rattle.std.specs.Prelude.{◌≤◌, length};
 
@@ -109,7 +109,7 @@ const IN_FRAGMENTS: [Row; 1] = [(
     ],
 )];
 
-/// How a reader with one match stands that lost so many numbers and presented so many samples.
+/// The status of a reader with one match that lost so many numbers and presented so many samples.
 fn status(lost_total: u32, samples: u32) -> Option<Status> {
     Some(Status {
         matched_total: 1,

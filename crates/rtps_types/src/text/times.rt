@@ -1,4 +1,4 @@
-//! Moments in hex, as they stand in a message, and lengths of time in decimal.
+//! Moments in hex, as they are in a message, and lengths of time in decimal.
 
 ghost use Rattle.std.specs.Prelude.{◌≡◌, Some, length};
 ghost use Rattle.std.specs.Fmt.{WritesOnOk};

@@ -5,8 +5,8 @@ use Rattle.rtps_text.specs.Line.{hash_text}
 use Rattle.rtps_ascii.proofs.Appended.{added_is_joined}
 use Rattle.rtps_text.proofs.body.push_pieces.Goals as goal
 
-pub returns : goal.returns
-returns g c = on_ok_weaker c.push_hash.result (λ e. rw e (rw c.in_ok-push_octet-5.ensures (rw c.in_ok-push_hex.ensures (rw c.in_ok-push_octet-4.ensures (rw c.in_ok-push_number-4.ensures (rw c.in_ok-push_octet-3.ensures (rw c.in_ok-push_number-3.ensures (rw c.in_ok-push_octet-2.ensures (rw c.in_ok-push_number-2.ensures (rw c.in_ok-push_octet.ensures (rw c.in_ok-push_number.ensures (rw c.from-4.ensures (rw c.from-3.ensures (rw c.from-2.ensures (rw c.from.ensures (added_is_joined _ (decimal c.args.fragment.now.start) (
+pub returns-clause-ok : goal.returns-clause-ok
+returns-clause-ok g c = on_ok_weaker c.push_hash.result (λ e. rw e (rw c.in_ok-push_octet-5.ensures.ok (rw c.in_ok-push_hex.ensures.ok (rw c.in_ok-push_octet-4.ensures.ok (rw c.in_ok-push_number-4.ensures.ok (rw c.in_ok-push_octet-3.ensures.ok (rw c.in_ok-push_number-3.ensures.ok (rw c.in_ok-push_octet-2.ensures.ok (rw c.in_ok-push_number-2.ensures.ok (rw c.in_ok-push_octet.ensures.ok (rw c.in_ok-push_number.ensures.ok (rw c.from-4.ensures (rw c.from-3.ensures (rw c.from-2.ensures (rw c.from.ensures (added_is_joined _ (decimal c.args.fragment.now.start) (
     (codes " ")
     ∷ (decimal c.args.fragment.now.count)
     ∷ (codes " ")
@@ -17,4 +17,4 @@ returns g c = on_ok_weaker c.push_hash.result (λ e. rw e (rw c.in_ok-push_octet
     ∷ (hex_text c.args.fragment.now.payload.now)
     ∷ (codes " ")
     ∷ (hash_text c.args.fragment.now.info.hash)
-    ∷ []))))))))))))))))) c.push_hash.ensures
+    ∷ []))))))))))))))))) c.push_hash.ensures.ok

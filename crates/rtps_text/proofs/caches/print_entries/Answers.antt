@@ -11,7 +11,7 @@ pub returns-in_err-write_if_full-clause-front : goal.returns-in_err-write_if_ful
 returns-in_err-write_if_full-clause-front g c =
     let next = entry_more (sample_view g.C.Catalog.view) (entry_line (g.C.Catalog.text_of c.args.catalog.now) c.args.rank) c.args.entries.now c.loop-entry.entry-index c.entry-item.result (search rules) (search rules) in
     let so_far = subst (Printed _ _ _ c.loop-entry.lines.text.items) next c.loop-entry.invariant.so_far in
-    on_err _ (printed_front _ _ _ _ _ _ (printed_more _ _ _ _ _ _ c.push_entry.new.out.items so_far c.in_ok-push_entry.ensures) c.in_err-write_if_full.ensures.front)
+    on_err _ (printed_front _ _ _ _ _ _ (printed_more _ _ _ _ _ _ c.push_entry.new.out.items so_far c.in_ok-push_entry.ensures.ok) c.in_err-write_if_full.ensures.front)
 
 pub loop-entry-preserved : goal.loop-entry-preserved
 loop-entry-preserved g c =
@@ -19,5 +19,5 @@ loop-entry-preserved g c =
     let so_far = subst (Printed _ _ _ c.loop-entry.lines.text.items) next c.loop-entry.invariant.so_far in
     record {
       same_writer = search rules;
-      so_far = printed_spilled _ _ _ _ _ _ _ (printed_more _ _ _ _ _ _ c.push_entry.new.out.items so_far c.in_ok-push_entry.ensures) c.in_ok-write_if_full.ensures.ok;
+      so_far = printed_spilled _ _ _ _ _ _ _ (printed_more _ _ _ _ _ _ c.push_entry.new.out.items so_far c.in_ok-push_entry.ensures.ok) c.in_ok-write_if_full.ensures.ok;
     }

@@ -1,23 +1,24 @@
 use Rattle.std.proofs.Common.{◌≡◌, ◌++◌, ◌<◌, ◌∙◌, append_assoc, ap, arith, length, rules, sym}
+use Rattle.rtps_ascii.proofs.Kept.{still_starts}
 use Rattle.rtps_serial.proofs.Running.{run_count}
 use Rattle.rtps_serial.specs.Seen.{reader_count}
 use Rattle.rtps_serial.specs.Standing.{run_by}
 use Rattle.rtps_text.specs.Replayed.{status_lines, status_text}
-use Rattle.rtps_text.proofs.Run.{front_more, statuses_more}
+use Rattle.rtps_text.proofs.Run.{statuses_more}
 use Rattle.rtps_text.proofs.closing.push_statuses.Goals as goal
 
 pub loop-rank-preserved : goal.loop-rank-preserved
 loop-rank-preserved g c = record {
-  grows = front_more _ c.loop-rank.out.items _ _ c.loop-rank.invariant.grows c.in_ok-push_status_of.ensures;
   tells = λ datagrams stands.
       let engine = c.args.participant.now.engine in
       let world = run_by g.C.Catalog.decoding engine datagrams in
       let rank = c.loop-rank.rank in
       let less : rank < length c.args.participant.now.engine.statuses = search rules in
       let below : rank < reader_count world = omega (arith, less, stands.shows.count, run_count (g.C.Catalog.decoding engine.catalog) engine.config datagrams) in
-      c.in_ok-push_status_of.ensures ∙ ap (λ l. l ++ status_text rank c.status.result) (c.loop-rank.invariant.tells datagrams stands)
+      c.in_ok-push_status_of.ensures.ok ∙ ap (λ l. l ++ status_text rank c.status.result) (c.loop-rank.invariant.tells datagrams stands)
       ∙ append_assoc c.args.out.now.items (status_lines world rank) (status_text rank c.status.result)
       ∙ ap (λ l. c.args.out.now.items ++ l) (statuses_more world rank c.status.result below (c.status.ensures datagrams stands.shows));
+  keeps = still_starts _ _ _ c.in_ok-push_status_of.ensures.keeps c.loop-rank.invariant.keeps;
 }
 
 pub returns-clause-lines : goal.returns-clause-lines

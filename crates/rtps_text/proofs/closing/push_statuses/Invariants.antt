@@ -1,5 +1,5 @@
 use Rattle.std.proofs.Common.{◌≡◌, ◌++◌, List, ℕ}
-use Rattle.rtps_records.specs.Text.{IsFront}
+use Rattle.std.specs.Io.{StartsWith}
 use Rattle.rtps_serial.specs.Standing.{StandsAt, run_by}
 use Rattle.rtps_text.specs.Replayed.{status_lines}
 use Rattle.rtps_text.proofs.closing.push_statuses.Given as goal
@@ -7,7 +7,7 @@ use Rattle.rtps_text.proofs.closing.push_statuses.Given as goal
 -- the lines of the statuses so far
 abbrev pub invariant-loop-rank : goal.invariant-loop-rank
 invariant-loop-rank g l = record {
-  grows : IsFront l.fn.out.items l.out.items;
   tells : (datagrams : List (List ℕ)) → StandsAt g.C.Catalog.decoding datagrams l.participant.engine
       → l.out.items ≡ l.fn.out.items ++ status_lines (run_by g.C.Catalog.decoding l.participant.engine datagrams) l.rank;
+  keeps : StartsWith l.out.items l.fn.out.items;
 }

@@ -60,7 +60,7 @@ loop-octets-preserved g c =
       same_reader = c.next.follows.holds-at-none.0 ∙ c.loop-octets.invariant.same_reader;
       same_writer = search rules;
       few = omega (arith, next.1, next.2);
-      so_far = rw next.2 (spilled _ _ _ _ _ _ _ _ _ (one_more _ _ _ _ _ _ _ _ _ _ _ c.loop-octets.invariant.so_far next.3 next.0 (says_one_more _ _ _ _ _ (rw c.count-number.ensures at c.in_ok-push_events-in-Ok-Some.ensures))) c.in_ok-write_if_full.ensures.ok);
+      so_far = rw next.2 (spilled _ _ _ _ _ _ _ _ _ (one_more _ _ _ _ _ _ _ _ _ _ _ c.loop-octets.invariant.so_far next.3 next.0 (says_one_more _ _ _ _ _ (rw c.count-number.ensures at c.in_ok-push_events-in-Ok-Some.ensures.ok))) c.in_ok-write_if_full.ensures.ok);
     }
 
 pub returns-in_err-write_if_full-clause-fault : goal.returns-in_err-write_if_full-clause-fault
@@ -68,5 +68,5 @@ returns-in_err-write_if_full-clause-fault g c =
     let next = is_record _ _ _ _ _ _ _ c.next.follows.holds-at-none.1 c.in-Ok-Some.is c.in-Ok-Some.field-0-is in
     at_fault _ _ _ c.from_residual-in_err-write_if_full.ensures.1
     (stops_writing _ _ _ _ _ _ _ _ _ _ _ _ (omega (arith, next.1)) c.in_err-write_if_full.ensures.fault
-    (one_more _ _ _ _ _ _ _ _ _ _ _ c.loop-octets.invariant.so_far next.3 next.0 (says_one_more _ _ _ _ _ (rw c.count-number.ensures at c.in_ok-push_events-in-Ok-Some.ensures)))
+    (one_more _ _ _ _ _ _ _ _ _ _ _ c.loop-octets.invariant.so_far next.3 next.0 (says_one_more _ _ _ _ _ (rw c.count-number.ensures at c.in_ok-push_events-in-Ok-Some.ensures.ok)))
     (texts_begin _) (λ records. refl) c.in_err-write_if_full.ensures.front)

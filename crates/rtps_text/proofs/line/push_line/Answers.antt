@@ -6,9 +6,9 @@ use Rattle.rtps_text.specs.Line.{body_text, context_text}
 use Rattle.rtps_ascii.proofs.Appended.{added_is_joined}
 use Rattle.rtps_text.proofs.line.push_line.Goals as goal
 
-pub returns : goal.returns
-returns g c = on_ok_weaker c.push_octet-2.result (λ e. rw e (rw c.in_ok-push_body.ensures (rw c.in_ok-push_octet.ensures (rw c.in_ok-push_context.ensures (added_is_joined _ (context_text (view c.args.event.now)) (
+pub returns-clause-ok : goal.returns-clause-ok
+returns-clause-ok g c = on_ok_weaker c.push_octet-2.result (λ e. rw e (rw c.in_ok-push_body.ensures.ok (rw c.in_ok-push_octet.ensures.ok (rw c.in_ok-push_context.ensures.ok (added_is_joined _ (context_text (view c.args.event.now)) (
     (codes " ")
     ∷ (body_text (body_view c.args.event.now.body))
     ∷ (codes "\n")
-    ∷ [])))))) c.push_octet-2.ensures
+    ∷ [])))))) c.push_octet-2.ensures.ok

@@ -7,8 +7,8 @@ use Rattle.rtps_text.proofs.printing.print_texts.Goals as goal
 pub returns-in_err-text-clause-front : goal.returns-in_err-text-clause-front
 returns-in_err-text-clause-front g c = λ whole at. on_err _ (printed_stop _ _ _ _ _ (c.loop-made.invariant.so_far whole at).2)
 
-pub returns-in_err-append-clause-front : goal.returns-in_err-append-clause-front
-returns-in_err-append-clause-front g c = λ whole at. on_err _ (printed_stop _ _ _ _ _ (c.loop-made.invariant.so_far whole at).2)
+pub returns-in_err-add_text-clause-front : goal.returns-in_err-add_text-clause-front
+returns-in_err-add_text-clause-front g c = λ whole at. on_err _ (printed_stop _ _ _ _ _ (c.loop-made.invariant.so_far whole at).2)
 
 pub returns-in_err-write_if_full-clause-front : goal.returns-in_err-write_if_full-clause-front
 returns-in_err-write_if_full-clause-front g c = λ whole at.
@@ -16,8 +16,8 @@ returns-in_err-write_if_full-clause-front g c = λ whole at.
     let t = c.in_ok-text.text in
     let taken : c.loop-made.made-iterator.rest.items ≡ c.in-Some.made ∷ c.next.new.self.rest.items = search rules in
     let next = texts_next _ c.next.new.self.rest.items t p.0 (taken ∙ ap (λ made. made ∷ c.next.new.self.rest.items) c.in_ok-text.was) p.1 in
-    let appended : c.append.new.self.items ≡ c.loop-made.lines.text.items ++ t.items = search rules in
-    on_err _ (printed_front _ _ _ _ _ _ (printed_more _ _ _ c.loop-made.lines.text.items t.items next.0 c.append.new.self.items (subst (Printed _ _ _ c.loop-made.lines.text.items) next.1 p.2) appended) c.in_err-write_if_full.ensures.front)
+    let appended : c.add_text.new.whole.items ≡ c.loop-made.lines.text.items ++ t.items = search rules in
+    on_err _ (printed_front _ _ _ _ _ _ (printed_more _ _ _ c.loop-made.lines.text.items t.items next.0 c.add_text.new.whole.items (subst (Printed _ _ _ c.loop-made.lines.text.items) next.1 p.2) appended) c.in_err-write_if_full.ensures.front)
 
 pub loop-made-preserved : goal.loop-made-preserved
 loop-made-preserved g c = record {
@@ -27,10 +27,10 @@ loop-made-preserved g c = record {
       let t = c.in_ok-text.text in
       let taken : c.loop-made.made-iterator.rest.items ≡ c.in-Some.made ∷ c.next.new.self.rest.items = search rules in
       let next = texts_next _ c.next.new.self.rest.items t p.0 (taken ∙ ap (λ made. made ∷ c.next.new.self.rest.items) c.in_ok-text.was) p.1 in
-      let appended : c.append.new.self.items ≡ c.loop-made.lines.text.items ++ t.items = search rules in (
+      let appended : c.add_text.new.whole.items ≡ c.loop-made.lines.text.items ++ t.items = search rules in (
         next.0,
         next.2,
-        printed_spilled _ _ _ _ _ _ _ (printed_more _ _ _ c.loop-made.lines.text.items t.items next.0 c.append.new.self.items (subst (Printed _ _ _ c.loop-made.lines.text.items) next.1 p.2) appended) c.in_ok-write_if_full.ensures.ok,
+        printed_spilled _ _ _ _ _ _ _ (printed_more _ _ _ c.loop-made.lines.text.items t.items next.0 c.add_text.new.whole.items (subst (Printed _ _ _ c.loop-made.lines.text.items) next.1 p.2) appended) c.in_ok-write_if_full.ensures.ok,
       );
 }
 

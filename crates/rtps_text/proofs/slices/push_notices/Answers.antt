@@ -1,4 +1,5 @@
 use Rattle.std.proofs.Common.{arith, rules, ap, length}
+use Rattle.rtps_ascii.proofs.Kept.{still_starts}
 use Rattle.rtps_reader.specs.Notices.{notice_view}
 use Rattle.rtps_text.proofs.Fronts.{is_other, is_same, line_more, lines_stop, notices_more, notices_stop}
 use Rattle.rtps_text.proofs.slices.push_notices.Goals as goal
@@ -22,5 +23,6 @@ loop-notice-preserved g c =
     record {
       at = search rules;
       count = omega (arith, c.loop-notice.invariant.count, ap length more);
-      lines = line_more (g.C.Catalog.text_of c.args.catalog.now) c.args.spot.0 (notice_view g.C.Catalog.view c.notice-item.result) _ _ _ _ _ _ more c.in_ok-push_notice.ensures c.loop-notice.invariant.lines;
+      lines = line_more (g.C.Catalog.text_of c.args.catalog.now) c.args.spot.0 (notice_view g.C.Catalog.view c.notice-item.result) _ _ _ _ _ _ more c.in_ok-push_notice.ensures.ok c.loop-notice.invariant.lines;
+      keeps = still_starts _ _ _ c.in_ok-push_notice.ensures.keeps c.loop-notice.invariant.keeps;
     }

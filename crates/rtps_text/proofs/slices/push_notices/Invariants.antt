@@ -1,4 +1,5 @@
 use Rattle.std.proofs.Common.{◌≡◌, ◌++◌, ◌+◌, length, map, drop}
+use Rattle.std.specs.Io.{StartsWith}
 use Rattle.rtps_reader.specs.Notices.{notice_view}
 use Rattle.rtps_serial.specs.World.{NoticeOf}
 use Rattle.rtps_text.specs.Replayed.{put_lines}
@@ -11,4 +12,5 @@ invariant-loop-notice g l = record {
   count : l.count + length (first_notices l.place (map (notice_view g.C.Catalog.view) (drop l.notice-index l.notices))) ≡ length (first_notices l.place (map (notice_view g.C.Catalog.view) l.notices));
   lines : l.out.items ++ put_lines (g.C.Catalog.text_of l.catalog) (map (NoticeOf l.rank) (first_notices l.place (map (notice_view g.C.Catalog.view) (drop l.notice-index l.notices))))
       ≡ l.fn.out.items ++ put_lines (g.C.Catalog.text_of l.catalog) (map (NoticeOf l.rank) (first_notices l.place (map (notice_view g.C.Catalog.view) l.notices)));
+  keeps : StartsWith l.out.items l.fn.out.items;
 }

@@ -1,4 +1,5 @@
 use Rattle.std.proofs.Common.{◌≡◌, ◌++◌, ◌+◌, length, map, drop}
+use Rattle.std.specs.Io.{StartsWith}
 use Rattle.rtps_reader.specs.Notices.{answer_view}
 use Rattle.rtps_text.specs.Slices.{answer_lines, first_answers}
 use Rattle.rtps_text.proofs.slices.push_replies.Given as goal
@@ -9,4 +10,5 @@ invariant-loop-at g l = record {
   count : l.count + length (first_answers l.place (map answer_view (drop l.at-index l.replies))) ≡ length (first_answers l.place (map answer_view l.replies));
   lines : l.out.items ++ answer_lines (first_answers l.place (map answer_view (drop l.at-index l.replies)))
       ≡ l.fn.out.items ++ answer_lines (first_answers l.place (map answer_view l.replies));
+  keeps : StartsWith l.out.items l.fn.out.items;
 }

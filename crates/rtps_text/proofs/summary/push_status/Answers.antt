@@ -4,8 +4,8 @@ use Rattle.rtps_text.specs.Told.{matches_text}
 use Rattle.rtps_ascii.proofs.Appended.{added_is_joined}
 use Rattle.rtps_text.proofs.summary.push_status.Goals as goal
 
-pub returns : goal.returns
-returns g c = on_ok_weaker c.push_octet-4.result (λ e. rw e (rw c.in_ok-push_number-3.ensures (rw c.in_ok-push_octet-3.ensures (rw c.in_ok-push_number-2.ensures (rw c.in_ok-push_octet-2.ensures (rw c.in_ok-push_matches.ensures (rw c.in_ok-push_octet.ensures (rw c.in_ok-push_number.ensures (rw c.in_ok-push_word.ensures (rw c.from-3.ensures (rw c.from-2.ensures (rw c.from.ensures (added_is_joined _ (codes "status ") (
+pub returns-clause-ok : goal.returns-clause-ok
+returns-clause-ok g c = on_ok_weaker c.push_octet-4.result (λ e. rw e (rw c.in_ok-push_number-3.ensures.ok (rw c.in_ok-push_octet-3.ensures.ok (rw c.in_ok-push_number-2.ensures.ok (rw c.in_ok-push_octet-2.ensures.ok (rw c.in_ok-push_matches.ensures.ok (rw c.in_ok-push_octet.ensures.ok (rw c.in_ok-push_number.ensures.ok (rw c.in_ok-push_word.ensures.ok (rw c.from-3.ensures (rw c.from-2.ensures (rw c.from.ensures (added_is_joined _ (codes "status ") (
     (decimal c.args.rank)
     ∷ (codes " ")
     ∷ (matches_text c.args.status.now)
@@ -14,4 +14,4 @@ returns g c = on_ok_weaker c.push_octet-4.result (λ e. rw e (rw c.in_ok-push_nu
     ∷ (codes " ")
     ∷ (decimal c.args.status.now.samples)
     ∷ (codes "\n")
-    ∷ [])))))))))))))) c.push_octet-4.ensures
+    ∷ [])))))))))))))) c.push_octet-4.ensures.ok

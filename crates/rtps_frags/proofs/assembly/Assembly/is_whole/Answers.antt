@@ -1,4 +1,5 @@
 use Rattle.std.proofs.Common.{◌≡◌, Bool, false, not, sym, ◌∙◌, ◌==◌, ap, ltb}
+use Rattle.rtps_frags.specs.Buffer.{front_in, runs_in}
 use Rattle.rtps_frags.specs.Fragments.{There, has_all, is_empty, last_of}
 use Rattle.rtps_frags.specs.Kept.{has_come}
 use Rattle.rtps_frags.specs.Parts.{there_in}
@@ -15,7 +16,7 @@ returns g c =
     let a = c.self.inside in
     let p = a.parts in
     let some : is_empty a.sizes ≡ false = sym c.is_empty.ensures ∙ c.if-is_empty.false in
-    ap (λ n. n == a.sizes.sample) (c.len.ensures ∙ p.front.ok.0)
-    ∙ full_is a.sizes p.next p.front.items p.early.entries c.self.invariant (some_octets a.sizes (ap not some))
-    ∙ come_is a.sizes (there_in a.sizes p) a.spent (ltb (last_of a.sizes) p.next) c.if-self.false some (whole_is a.sizes p.next p.front.items p.early.entries c.self.invariant)
+    ap (λ n. n == a.sizes.sample) (c.upto.ensures ∙ sym c.self.invariant.kept.full)
+    ∙ full_is a.sizes p.next (front_in a.sizes p.next p.buffer.items) (runs_in a.sizes p.buffer.items p.early.entries) c.self.invariant.kept (some_octets a.sizes (ap not some))
+    ∙ come_is a.sizes (there_in a.sizes p) a.spent (ltb (last_of a.sizes) p.next) c.if-self.false some (whole_is a.sizes p.next (front_in a.sizes p.next p.buffer.items) (runs_in a.sizes p.buffer.items p.early.entries) c.self.invariant.kept)
     ∙ ap has_come c.self.view_is

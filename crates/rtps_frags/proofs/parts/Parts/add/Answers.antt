@@ -1,4 +1,4 @@
-use Rattle.std.proofs.Common.{◌≡◌, ℕ, ◌+◌, ◌<◌, ◌≤◌, ◌∙◌, ap, arith}
+use Rattle.std.proofs.Common.{◌≡◌, ℕ, suc, ◌+◌, ◌-◌, ◌<◌, ◌≤◌, ◌∙◌, ap, arith}
 use Rattle.std.specs.Prelude.{is_some}
 use Rattle.rtps_frags.specs.Fragments.{fragment_in}
 use Rattle.rtps_frags.specs.declared.parts.Parts.{Parts}
@@ -6,20 +6,36 @@ use Rattle.rtps_frags.specs.declared.sizes.Sizes.{Sizes}
 use Rattle.rtps_frags.specs.Parts.{holds, part_at}
 use Rattle.rtps_frags.proofs.Adding.{found_as, put_added, there_added}
 use Rattle.rtps_frags.proofs.Fronts.{none_from}
-use Rattle.rtps_frags.proofs.Runs.{kept_is}
+use Rattle.rtps_frags.proofs.Placed.{apart_in}
+use Rattle.rtps_frags.proofs.Stored.{stored_is}
 use Rattle.rtps_frags.proofs.parts.Parts.add.Goals as goal
 
 is_held : {A : Type 0} (z : Sizes) (p : Parts A) (k : ℕ) → is_some (part_at z p k) ≡ holds p k
-is_held z p k = kept_is z p.next p.front.items p.early.entries k
+is_held z p k = stored_is z p.next p.buffer.items p.early.entries k
 
-pub put-requires-clause-none : goal.put-requires-clause-none
-put-requires-clause-none g c = λ k le l.
+pub stretch_from-is_there-requires-clause-apart : goal.stretch_from-is_there-requires-clause-apart
+stretch_from-is_there-requires-clause-apart g c =
+    let p = c.loop-at.self in
+    (suc p.next, apart_in c.args.sizes p.buffer.items p.early.entries (suc p.next) c.loop-at.invariant.kept.kept.apart)
+
+pub put-requires-clause-free : goal.put-requires-clause-free
+put-requires-clause-free g c =
     let z = c.args.sizes in
-    let low : c.loop-at.at ≤ k = omega (arith, c.part.ensures.start, le) in
-    let goes = c.stretch_from-is_there.ensures.goes in
-    let until : c.min-until.result ≤ c.stretch_from-is_there.result.1 = omega (arith, c.min-until.ensures) in
-    let high : k < c.stretch_from-is_there.result.1 = omega (arith, c.part.ensures.start, c.part.ensures.count, c.min-until.ensures, goes, c.loop-at-test.true, l) in
-    none_from (part_at z c.loop-at.self k) (is_held z c.loop-at.self k ∙ c.stretch_from-is_there.ensures.same k low high ∙ c.if-not-is_there.true)
+    let start : c.part.result.start ≡ c.loop-at.at = c.part.ensures.start in
+    let count : c.part.result.count ≡ c.min-until.result - c.loop-at.at = c.part.ensures.count in
+    let test : c.loop-at.at < c.args.piece.start + c.args.piece.count = c.loop-at-test.true in
+    let goes : c.loop-at.at < c.stretch_from-is_there.result.1 = c.stretch_from-is_there.ensures.goes in
+    let low : c.args.piece.start ≤ c.loop-at.at = c.loop-at.invariant.low in
+    record {
+      first = omega (arith, start, low, c.requires.first);
+      some = omega (arith, count, c.min-until.ensures, goes, test);
+      within = omega (arith, start, count, c.min-until.ensures, goes, test, c.requires.within);
+      fits = rw (start, count) c.part.ensures.fits;
+      none = λ k le l.
+          let from : c.loop-at.at ≤ k = omega (arith, start, le) in
+          let high : k < c.stretch_from-is_there.result.1 = omega (arith, start, count, c.min-until.ensures, goes, test, l) in
+          none_from (part_at z c.loop-at.self k) (is_held z c.loop-at.self k ∙ c.stretch_from-is_there.ensures.same k from high ∙ c.if-not-is_there.true);
+    }
 
 pub loop-at-preserved-in_ok-put : goal.loop-at-preserved-in_ok-put
 loop-at-preserved-in_ok-put g c =

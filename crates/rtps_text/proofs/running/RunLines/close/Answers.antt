@@ -8,8 +8,8 @@ returns-in_err-finish-clause-fault g c = at_fault _ _ _ c.from_residual.ensures.
 
 pub returns-clause-ok : goal.returns-clause-ok
 returns-clause-ok g c =
-    on_ok_then c.close.result (closes _ _ _ _ _ _ c.in_ok-finish.ensures) c.close.ensures.ok
+    on_ok_then c.close.result (closes _ _ _ _ _ _ c.in_ok-finish.ensures.ok) c.close.ensures.ok
 
 pub returns-clause-fault : goal.returns-clause-fault
 returns-clause-fault g c =
-    closes_if _ _ _ _ _ _ c.close.result c.in_ok-finish.ensures c.close.ensures.fault c.close.ensures.front
+    closes_if _ _ _ _ _ _ c.close.result c.in_ok-finish.ensures.ok c.close.ensures.fault c.close.ensures.front

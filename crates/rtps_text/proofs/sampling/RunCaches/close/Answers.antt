@@ -25,7 +25,7 @@ returns-clause-ok g c = λ records kept.
     let world = run_by g.C.Catalog.decoding run.participant.engine records in
     let whole = all_text g.C.Catalog.text_of g.C.Catalog.view g.C.Catalog.decoding run.participant.engine run.summary c.args.self.now.keep records c.args.self.now.caches.items _ _ kept c.catalog-catalog.ensures refl in
     let printed = entries_printed _ _ _ _ _ _ _ c.requires.empty (c.in_ok-print_caches.ensures.ok _ world.put kept.heard) whole in
-    on_ok_then c.close.result (all_written _ _ _ _ _ _ _ printed (c.in_ok-push_asked.ensures records kept.stands)) c.close.ensures.ok
+    on_ok_then c.close.result (all_written _ _ _ _ _ _ _ printed (c.in_ok-push_asked.ensures.ok records kept.stands)) c.close.ensures.ok
 
 pub returns-clause-front : goal.returns-clause-front
 returns-clause-front g c = λ records kept.
@@ -33,4 +33,4 @@ returns-clause-front g c = λ records kept.
     let world = run_by g.C.Catalog.decoding run.participant.engine records in
     let whole = all_text g.C.Catalog.text_of g.C.Catalog.view g.C.Catalog.decoding run.participant.engine run.summary c.args.self.now.keep records c.args.self.now.caches.items _ _ kept c.catalog-catalog.ensures refl in
     let printed = entries_printed _ _ _ _ _ _ _ c.requires.empty (c.in_ok-print_caches.ensures.ok _ world.put kept.heard) whole in
-    on_err_then c.close.result (front_written _ _ _ _ _ _ _ printed (c.in_ok-push_asked.ensures records kept.stands)) c.close.ensures.front
+    on_err_then c.close.result (front_written _ _ _ _ _ _ _ printed (c.in_ok-push_asked.ensures.ok records kept.stands)) c.close.ensures.front

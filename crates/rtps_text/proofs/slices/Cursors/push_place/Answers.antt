@@ -1,4 +1,5 @@
 use Rattle.std.proofs.Common.{◌≡◌, ◌<◌, drop, length, get_or, refl, rules, ap, ◌∙◌}
+use Rattle.rtps_ascii.proofs.Kept.{still_starts}
 use Rattle.dds_participant.specs.Given.{parts_given}
 use Rattle.rtps_text.proofs.Fronts.{moved_more, parts_more, said_first}
 use Rattle.rtps_text.proofs.slices.Cursors.push_place.Goals as goal
@@ -13,6 +14,7 @@ loop-at-init g c =
       said = first.0;
       moved = first.1;
       lines = first.2;
+      keeps = c.in_ok-self.ensures.keeps;
     }
 
 pub loop-at-preserved : goal.loop-at-preserved
@@ -27,4 +29,5 @@ loop-at-preserved g c =
       said = c.loop-at.invariant.said;
       moved = moved_more parts c.args.place whole cursors c.loop-at.at cursor c.in_ok-self-2.field-0 below here c.in_ok-self-2.ensures.moves c.loop-at.invariant.moved;
       lines = parts_more (g.C.Catalog.text_of c.args.catalog.now) parts c.args.place whole cursors c.loop-at.at cursor _ _ _ _ below here c.loop-at.invariant.moved c.loop-at.invariant.lines c.in_ok-self-2.ensures.lines;
+      keeps = still_starts _ _ _ c.in_ok-self-2.ensures.keeps c.loop-at.invariant.keeps;
     }

@@ -1,4 +1,5 @@
 use Rattle.std.proofs.Common.{◌≡◌, ◌+◌, ◌++◌, length, take}
+use Rattle.std.specs.Io.{StartsWith}
 use Rattle.dds_participant.specs.Given.{parts_given}
 use Rattle.rtps_text.specs.Slices.{answer_lines, next_said, parts_lines}
 use Rattle.rtps_text.proofs.Fronts.{AreMoved}
@@ -10,4 +11,5 @@ invariant-loop-at g l = record {
   moved : AreMoved (parts_given g.C.Catalog.view l.given) l.place l.fn.self.readers.items l.self.readers.items l.at;
   lines : l.out.items ≡ l.fn.out.items ++ (answer_lines (next_said (parts_given g.C.Catalog.view l.given) l.place l.fn.self.said)
       ++ parts_lines (g.C.Catalog.text_of l.catalog) (parts_given g.C.Catalog.view l.given) l.place (take l.at l.fn.self.readers.items));
+  keeps : StartsWith l.out.items l.fn.out.items;
 }

@@ -1,5 +1,4 @@
-use Rattle.std.proofs.Common.{◌≡◌, ◌*◌, ◌<◌, ◌≤◌, length, rules, sym, subst, ◌/◌, ◌%◌, ◌+◌, min}
-use Rattle.std.proofs.lemmas.Grind.{div_ceil_times}
+use Rattle.std.proofs.Common.{◌≡◌, ◌*◌, ◌<◌, ◌≤◌, ap, drop, length, rules, sym, subst, take, ◌∙◌}
 use Rattle.dds_participant.specs.Given.{parts_given}
 use Rattle.rtps_text.proofs.Sliced.{chunk_text, if_ok_both, pieces}
 use Rattle.rtps_text.proofs.spelling.Spelling.texts.Goals as goal
@@ -12,13 +11,16 @@ returns g c = λ by.
     let xs = c.as_slice-places.result.now in
     let whole = c.as_slice-places.ensures.value in
     let size = c.max-size.result in
-    let some : 0 < size = search rules in
-    if_ok_both c.map_chunks.result c.map_chunks.ensures.len c.map_chunks.ensures.each (λ texts len each.
-    let counted : length texts.items ≡ length xs / size + min 1 (length xs % size) = search rules in
+    let slices = c.in_ok-slices.slices.items in
+    if_ok_both c.map_vec.result c.map_vec.ensures.len c.map_vec.ensures.each (λ texts len each.
+    let counted : length texts.items ≡ length slices = search rules in
     let few : length given.places.items ≤ length texts.items * size =
-    subst (λ n. length given.places.items ≤ n * size) (sym counted) (subst (λ ps. length ps ≤ (length xs / size + min 1 (length xs % size)) * size) whole (div_ceil_times (length xs) size some).0) in
+    subst (λ n. length given.places.items ≤ n * size) (sym counted) (subst (λ ps. length ps ≤ length slices * size) whole c.in_ok-slices.ensures.all) in
     pieces text (parts_given g.C.Catalog.view given) count size texts.items given.places.items
     (λ n d l.
-    let chunk = (each n d l).1 in
-    chunk_text text g.C.Catalog.view given count xs chunk.argument.now size n _ whole chunk.argument_is.value (λ slice. chunk.call slice by))
+    let within : n < length slices = subst (λ m. n < m) counted l in
+    let made = (each n d within).1 in
+    let slice = made.job in
+    let is : slice.places.now ≡ take size (drop (n * size) xs) = ap (λ s. s.places.now) (sym (made.job_is slice)) ∙ c.in_ok-slices.ensures.each n slice within in
+    chunk_text text g.C.Catalog.view given count xs slice.places.now size n _ whole is (λ part. made.call.met part by))
     few)
