@@ -14,7 +14,7 @@ use std::alloc::{AllocError, Allocator, Global};
 
 /// A type whose values can be written where a writer is (CORBA CDR 9.3).
 pub trait KeyMember: Member {
-    /// Writes the value. After want of memory a front of it may be written.
+    /// Writes the value. Where memory runs out a front of it may be written.
     fn write<A: Allocator>(&self, writer: &mut CdrWriter<A>) -> Result<(), AllocError>
         ensures { OnOk result (writer.new
             ≡ appended Self.cdr (Self.view self.now) writer.old) };

@@ -19,7 +19,7 @@ name_of Malformed = codes "Malformed"
 name_of NonStandard = codes "NonStandard"
 name_of NoKey = codes "NoKey"
 
--- want of memory may come whatever is meant; another cause is the one that is meant
+-- memory may run out whatever is meant; another cause is the one that is meant
 abbrev pub Fails : {M : Type 0} → CatalogError → Result M UnreadCode → Type 0
 Fails errors.NoMemory meaning = Unit {0}
 Fails (errors.Unread u) meaning = meaning ≡ Err u

@@ -97,7 +97,7 @@ impl<A: Allocator + Copy> Discovery<A> {
         Ok(pairs)
     }
 
-    /// Our readers by rank, at most 256; `None` would stand for one that went, and none goes today.
+    /// Our readers by rank, at most 256; `None` would mean one that went, and none goes today.
     pub fn readers(&self) -> &[Option<Reader<A>>]
         ensures known { result.now ≡ self.now.kept.readers }
         ensures few { length result.now ≤ 256 }

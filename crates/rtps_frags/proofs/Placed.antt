@@ -140,7 +140,7 @@ module _ (z : Sizes) where
   if_none_le [] n = omega arith
   if_none_le (x ∷ xs) n = omega arith
 
-  -- no more than the sample has behind the fragments before them
+  -- no more than the sample has after the fragments before them
   pub placed_within : (cut : 0 < z.fragment) (buffer : List ℕ) (rs : Runs) (low : ℕ) → 1 ≤ low → AreApart low (runs_in z buffer rs) → AllByRecursion (Fits z) (runs_in z buffer rs) → placed z rs + upto z (low - 1) ≤ z.sample
   placed_within cut buffer [] low one h all = omega arith
   placed_within cut buffer (r ∷ rs) low one h all =

@@ -46,7 +46,7 @@ put_within at octets old fits = record {
         ∙ sym (stretch_is k n old)
     others k n (inr le) = ap (λ (xs : List ℕ). take n xs) (drop-put_mid at (length octets) old octets k le (omega (arith, fits)) refl)
 
--- what was put behind the end, after zeros
+-- what was put past the end, after zeros
 put_behind : (at : ℕ) (octets old zeros new : List ℕ) → length (old ++ zeros) ≡ max (length old) (at + length octets) → IsPutAt at octets (old ++ zeros) new → IsPutAt at octets old new
 put_behind at octets old zeros new size put = record {
   there = put.there;

@@ -50,7 +50,7 @@ module _ (z : Sizes) (cut : 0 < z.fragment) (next there : ℕ) (buffer : List �
     filled = h.filled;
   }
 
-  -- as they are where the fragments before the runs are told anew, and where no run begins with the least missing one
+  -- as they are where the fragments before the runs are named anew, and where no run begins with the least missing one
   pub weakened : (low high : ℕ) → AreStored z high next there buffer rs → low ≤ high → AreStored z low next there buffer rs
   weakened low high h le = from_low high low h (weaken (runs_in z buffer rs) high low h.kept.apart le)
 
@@ -182,7 +182,7 @@ module _ (z : Sizes) (cut : 0 < z.fragment) (next there : ℕ) (buffer : List �
         rw front_is (front_finds z cut next run.count (front_in z next buffer) (octets_in z buffer (next, run)) h.kept.begun first_some h.kept.fits.0.0 h.kept.full first_fits (runs_in z buffer rs) k)
         ∙ first_of z next run.count (front_in z next buffer) (octets_in z buffer (next, run)) (runs_in z buffer rs) k
 
--- fragments behind the least missing one of which none is there
+-- fragments after the least missing one of which none is there
 module _ (z : Sizes) (cut : 0 < z.fragment) (next there : ℕ) (buffer : List ℕ) (rs : Runs) (h : AreStored z (suc next) next there buffer rs) (start count : ℕ) (octets : List ℕ) (new : AreNew z next buffer rs start count octets) where
   within_it : start + count ≤ last_of z + 1
   within_it = let within = new.within in omega (arith, within)
@@ -278,7 +278,7 @@ module _ (z : Sizes) (cut : 0 < z.fragment) (next there : ℕ) (buffer : List �
           ≡ cond (leb start k && ltb k (start + count)) (Some (fragment_in z start octets k)) (stored_at z next buffer rs k)
       placed_put k = rw (front_same, placed_runs) (run_finds k)
 
-  -- they are put behind the run that starts with a fragment, which ends before them
+  -- they are put after the run that starts with a fragment, which ends before them
   module _ (first : ℕ) (run : Run) (found : lookup (starts first) rs ≡ Some run) (ends : first + run.count ≡ start) where
     low : (suc next ≤ first) × (0 < run.count)
     low = low_one first run rs (suc next) found (apart_in z buffer rs (suc next) h.kept.apart)

@@ -8,7 +8,7 @@ use Rattle.rtps_frags.specs.Runs.{AreKept, Run, Runs, kept_at}
 abbrev pub stretch : ℕ → ℕ → List ℕ → List ℕ
 stretch at n octets = take n (drop at octets)
 
--- octets were put at a place: they are there, and stretches before and behind them stay
+-- octets were put at a place: they are there, and stretches before and after them stay
 pub record IsPutAt (at : ℕ) (octets old new : List ℕ) : Type 0 where
   pub there : stretch at (length octets) new ≡ octets
   pub others : (k n : ℕ) → length (stretch k n old) ≡ n → (k + n ≤ at) ⊎ (at + length octets ≤ k) → stretch k n new ≡ stretch k n old

@@ -5,7 +5,7 @@ ghost use Rattle.rtps_frags.specs.Buffer.{IsPutAt};
 
 use std::alloc::{AllocError, Allocator};
 
-/// Makes room for so many octets. Where there is none, it is made for as many as are told first, or for
+/// Makes room for so many octets. Where there is none, it is made for as many as are named first, or for
 /// just these.
 pub(crate) fn make_room<A: Allocator>(
     buffer: &mut Vec<u8, A>,
@@ -37,7 +37,7 @@ pub(crate) fn append<A: Allocator>(
     buffer.extend_from_slice(octets)
 }
 
-/// Puts zeros behind the end, up to a place.
+/// Puts zeros after the end, up to a place.
 fn fill_up<A: Allocator>(buffer: &mut Vec<u8, A>, room: usize, end: usize) -> Result<(), AllocError>
     ensures enough { end ≤ vec_capacity buffer.old → IsOk result }
     ensures ok { OnOk result
@@ -51,7 +51,7 @@ fn fill_up<A: Allocator>(buffer: &mut Vec<u8, A>, room: usize, end: usize) -> Re
     buffer.resize(end, 0)
 }
 
-/// Puts octets at a place. It may be the end, or behind it.
+/// Puts octets at a place. It may be the end, or past it.
 pub(crate) fn put_at<A: Allocator>(
     buffer: &mut Vec<u8, A>,
     room: usize,

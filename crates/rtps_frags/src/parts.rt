@@ -58,7 +58,7 @@ struct Span {
 #[derive(Drop)]
 pub(crate) struct Parts<A: Allocator> {
     /// Octets at their places in the sample: those of the fragments before the least one that is
-    /// missing, and behind them those of chunks, with holes between.
+    /// missing, and after them those of chunks, with holes between.
     pub buffer: Vec<u8, A>,
     /// How many octets of the buffer came. The others are in holes.
     pub there: usize,

@@ -95,7 +95,7 @@ PrintsBy t file old new (Err (Run fault)) = ((fault ≡ NoMemory) × Keeps old n
 PrintsBy t file old new (Err fault) = ⊥
 
 -- What is written of the file that is asked for: what its task makes of it. What is refused before leaves nothing written; so
--- does want of memory there, and a file that can't be opened.
+-- does memory that runs out there, and a file that can't be opened.
 unfoldable pub Prints : Asked → Option (List ℕ) → Option (List ℕ) → Option (List ℕ) → Result (Unit {0}) ListenFault → Type 0
 Prints a file old new result =
     (IsErr result × IfErr result IsFirst × Keeps old new) ⊎ ((t : Task) × IsTaskOf a t × PrintsBy t file old new result)

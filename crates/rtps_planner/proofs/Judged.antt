@@ -129,7 +129,7 @@ module _ {V A : Type 0} where
       by_test true rest = ap suc rest
       by_test false rest = rest
 
--- want of memory, where nothing is wrong
+-- memory ran out, where nothing is wrong
 pub refused : {X : Type 0} (wrong : Option GatherFault) (r : Result X GatherFault) → wrong ≡ None → IsErrAnd r (λ e. e ≡ fault.NoMemory) → IsJudged wrong r
 unfolding IsJudged
 refused wrong (Ok x) none h = absurd h

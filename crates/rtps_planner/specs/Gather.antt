@@ -49,7 +49,7 @@ fault_of planned given =
     else (if list_any (λ rank. not (is_among planned rank)) given then Some fault.Stranger
     else None))
 
--- an error is what is wrong; where nothing is, it is want of memory
+-- an error is what is wrong; where nothing is, memory ran out
 unfoldable pub IsJudged : {X : Type 0} → Option GatherFault → Result X GatherFault → Type 0
 IsJudged wrong (Ok x) = wrong ≡ None
 IsJudged wrong (Err e) = (wrong ≡ Some e) ⊎ ((wrong ≡ None) × (e ≡ fault.NoMemory))

@@ -232,7 +232,7 @@ put_front said text whole before now old mid new n kept few p fronts same put = 
       (subst (IsFront (p.written ++ kept)) (same (p.records ++ more)) (fronts p.records more (p.written ++ kept) p.says))),
 )
 
--- the run stops at a write fault, and for want of memory
+-- the run stops at a write fault, and where memory runs out
 pub stops_writing : (said : List (List ℕ) → List ℕ → Type 0) (text whole : List (List ℕ) → List ℕ) (before now after old mid new : Option (List ℕ)) (n : ℕ) (kept : List ℕ) (fault : RunFault)
     → n ≤ 4294967295 → fault ≡ CannotWrite → Progress said before now old mid n kept → SaidIsFront said text → ((records : List (List ℕ)) → text records ≡ whole records) → PutsFront mid new kept
     → Stops whole fault before after old new

@@ -27,7 +27,7 @@ use Rattle.rtps_text.specs.Replayed.{HasSaid, put_line, replay_text, status_line
 pub front_more : (a b c x : List ℕ) → IsFront a b → c ≡ b ++ x → IsFront a c
 front_more a b c x f e = (f.0 ++ x, e ∙ ap (λ l. l ++ x) f.1 ∙ append_assoc a f.0 x)
 
--- what a text begins with, and what stands behind that
+-- what a text begins with, and what comes after that
 grown : (whole front : List ℕ) → StartsWith whole front → whole ≡ front ++ drop (length front) whole
 grown whole front e = sym (take-append-drop (length front) whole) ∙ ap (λ l. l ++ drop (length front) whole) e
 

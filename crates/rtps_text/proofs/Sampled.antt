@@ -153,7 +153,7 @@ late text TooManyRecords before after old new h = h
 nothing_front : (whole : List (List ℕ) → List ℕ) (records more : List (List ℕ)) (words : List ℕ) → words ≡ [] → IsFront words (whole (records ++ more))
 nothing_front whole records more words e = (whole (records ++ more), ap (λ w. w ++ whole (records ++ more)) (sym e))
 
--- want of memory before anything was said
+-- memory ran out before anything was said
 pub stops_silent : {C V M : Type 0} (f : V → M) (decoding : C → Decoding M) (history : History) (engine : EngineView C) (caches : List (CacheView V)) (whole : List (List ℕ) → List ℕ) (first now after old mid : Option (List ℕ)) (n : ℕ) (fault : RunFault)
     → n ≤ 4294967295 → Progress (IsSilent f decoding history engine caches) first now old mid n [] → fault ≡ NoMemory → StopsLate whole fault first after old mid
 stops_silent f decoding history engine caches whole first now after old mid n fault few p is =
