@@ -118,8 +118,8 @@ impl<C: Catalog> Participant<C> {
     ///
     /// What is in the lists is dropped. For the next batch they are lent again as they are: each
     /// reader's lists are emptied by the worker that runs its job, and no memory is taken anew for
-    /// what they have room for. A refusal that changes nothing leaves them as they were, and want
-    /// of memory leaves them empty.
+    /// what they have room for. A refusal that changes nothing leaves them as they were; where
+    /// memory runs out they are empty after it.
     #[tactic(auto, unfolding(crate::specs::Kept::TakesBatch, crate::specs::Kept::RefusesBatch))]
     pub fn run_in_order<G: Gate, R: Threads + Sync>(
         &mut self,
