@@ -1,9 +1,0 @@
-use Rattle.std.proofs.Common.{◌≡◌, ◌++◌, drop}
-use Rattle.dds_participant.specs.Given.{parts_given}
-use Rattle.rtps_text.specs.Slices.{places_lines}
-use Rattle.rtps_text.proofs.spelling.Spelling.text_from.Given as goal
-
-abbrev pub invariant-loop-place : goal.invariant-loop-place
-invariant-loop-place g l =
-    l.text.items ++ places_lines (g.C.Catalog.text_of l.self.catalog.now) (parts_given g.C.Catalog.view l.self.given.now) (drop l.place-index l.places) l.cursors.said l.cursors.readers.items
-    ≡ places_lines (g.C.Catalog.text_of l.self.catalog.now) (parts_given g.C.Catalog.view l.self.given.now) l.places l.fn.cursors.said l.fn.cursors.readers.items
