@@ -18,11 +18,6 @@ module _ (was now : ℕ → Option (List ℕ)) (brings : ℕ → List ℕ) (star
   abbrev pub Added : ℕ → Type 0
   Added at = (k : ℕ) → now k ≡ option_or (was k) (cond (leb start k && ltb k at) (Some (brings k)) None)
 
-pub none_added : (was : ℕ → Option (List ℕ)) (brings : ℕ → List ℕ) (start : ℕ) → Added was was brings start start
-none_added was brings start k =
-    let out : (leb start k && ltb k start) ≡ false = grind (arith, nat_tests) in
-    rw out (sym (or_right (was k)))
-
 module _ (was now : ℕ → Option (List ℕ)) (brings : ℕ → List ℕ) (start at until : ℕ) (low : start ≤ at) (more : at < until) (so_far : Added was now brings start at) where
   beyond : (k : ℕ) → at ≤ k → now k ≡ was k
   beyond k le =

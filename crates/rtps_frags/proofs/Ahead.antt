@@ -1,8 +1,8 @@
 -- A walk through runs, from a fragment on.
-use Rattle.std.proofs.Common.{◌≡◌, ℕ, ◌+◌, ◌<◌, ◌≤◌, Bool, true, false, ◌&&◌, ◌||◌, [], ◌∷◌, refl, ◌∙◌, arith, ltb, leb}
+use Rattle.std.proofs.Common.{◌≡◌, ℕ, ◌+◌, ◌<◌, Bool, true, false, ◌&&◌, ◌||◌, refl, ◌∙◌, arith, ltb, leb}
 use Rattle.std.proofs.lemmas.Bool.Decides.{nat_tests}
 use Rattle.rtps_frags.specs.declared.parts.Span.{Span}
-use Rattle.rtps_frags.specs.Runs.{AreApart, Run, Runs, covers, end_of}
+use Rattle.rtps_frags.specs.Runs.{AreApart, Runs, covers}
 use Rattle.rtps_frags.specs.Spans.{IsAhead}
 use Rattle.rtps_frags.proofs.Runs.{none_below, weaken}
 
@@ -12,31 +12,6 @@ ahead_from base runs apart = record {
   same = λ k le. let none : (leb base k && ltb k base) ≡ false = grind (arith, nat_tests) in rw none refl;
   apart = weaken runs (base + 1) base apart (omega arith);
 }
-
--- no run is left
-pub ahead_of_none : (runs : Runs) (at limit : ℕ) (span : Span) → at < limit → span.end ≤ at → IsAhead runs at span [] → IsAhead runs at (record { start = limit; end = limit }) []
-ahead_of_none runs at limit span l passed h = record {
-  reached = omega arith;
-  same = λ k le.
-      let before : (leb span.start k && ltb k span.end) ≡ false = grind (arith, nat_tests) in
-      let none : (leb limit k && ltb k limit) ≡ false = grind (arith, nat_tests) in
-      rw none (rw before at (h.same k le));
-  apart = tt;
-}
-
--- the first of those that are left
-pub ahead_of_first : (runs : Runs) (at : ℕ) (span : Span) (r : ℕ × Run) (rs : Runs) → span.end ≤ at → IsAhead runs at span (r ∷ rs) → (at < end_of r) × IsAhead runs at (record { start = r.0; end = end_of r }) rs
-ahead_of_first runs at span r rs passed h =
-    let reached = h.reached in
-    let first : span.end ≤ r.0 = h.apart.0 in
-    let some : 0 < r.1.count = h.apart.1 in (
-      omega arith,
-      record {
-        reached = omega arith;
-        same = λ k le. let before : (leb span.start k && ltb k span.end) ≡ false = grind (arith, nat_tests) in rw before at (h.same k le);
-        apart = h.apart.2;
-      },
-    )
 
 -- a fragment before the end of the span is there where it isn't before the start
 pub here : (runs : Runs) (at : ℕ) (span : Span) (left : Runs) → at < span.end → IsAhead runs at span left → covers runs at ≡ leb span.start at

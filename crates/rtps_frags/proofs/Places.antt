@@ -1,8 +1,7 @@
 -- A buffer in which octets lie at their places.
 use Rattle.std.proofs.Common.{◌≡◌, ℕ, zero, suc, ◌+◌, ◌-◌, ◌≤◌, ◌⊎◌, List, ◌++◌, length, take, drop, refl, sym, ◌∙◌, ap, subst, arith, inl, inr, max}
-use Rattle.std.proofs.lemmas.List.{append-nil, drop-append-le, drop-take, drop_all, length-append, length-drop, length-take, take-append-le, take_all, drop_at}
+use Rattle.std.proofs.lemmas.List.{append-nil, drop-append-le, drop-take, drop_all, length-append, length-drop, length-take, take-append-le, take_all}
 use Rattle.std.proofs.lemmas.Slice.{between-put_mid, drop-put_mid, take-put_mid_below}
-use Rattle.std.proofs.Math.Seq.{take-length}
 use borrow.Rule.Slice.PartMut.{put_mid}
 use Rattle.rtps_frags.specs.Buffer.{IsPutAt, stretch}
 
@@ -13,13 +12,6 @@ stretch_before k (suc n) old more e =
     let some : suc n ≤ length (drop k old) = omega (arith, length-take (suc n) (drop k old), e) in
     let rest : length (drop k old) ≡ length old - k = length-drop k old in
     ap (λ (xs : List ℕ). take (suc n) xs) (drop-append-le k old more (omega (arith, some, rest))) ∙ take-append-le (suc n) (drop k old) more some
-
-pub put_end : (octets old : List ℕ) → IsPutAt (length old) octets old (old ++ octets)
-put_end octets old = record {
-  there = ap (λ (xs : List ℕ). take (length octets) xs) (drop_at old octets (length old) refl) ∙ take-length octets;
-  others = λ k n e _. stretch_before k n old octets e;
-  size = length-append old octets ∙ omega arith;
-}
 
 -- a stretch is the end of a front
 stretch_is : (k n : ℕ) (xs : List ℕ) → stretch k n xs ≡ drop k (take (k + n) xs)
