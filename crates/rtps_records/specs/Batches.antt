@@ -1,5 +1,5 @@
 -- The records of a batch, one after the other, and what the reading of a batch comes to.
-use Rattle.std.specs.Prelude.{◌≡◌, ℕ, ◌+◌, ◌<◌, ◌≤◌, List, Option, length}
+use Rattle.std.specs.Prelude.{◌≡◌, ℕ, ◌+◌, ◌<◌, ◌≤◌, ◌⊎◌, List, Option, length}
 use Rattle.std.specs.Io.KnownBytes.{Consumes, IsAtEnd}
 use Rattle.std.specs.List.{AllByRecursion, flat_map}
 use Rattle.rtps_records.specs.RecordFile.{FaultHere, IsRecord, frame}
@@ -11,6 +11,10 @@ use Rattle.rtps_records.specs.declared.batch_end.BatchEnd.TheVariants.{End, Faul
 -- the records of a batch
 abbrev pub records_in : {A : Type 0} → Batch A → List (List ℕ)
 records_in b = cut b.lengths.items b.octets.items
+
+-- a batch has this many records, or no room for a longest one after them
+abbrev pub IsFull : {A : Type 0} → ℕ → Batch A → Type 0
+IsFull most b = (length (records_in b) ≡ most) ⊎ (1048576 < b.used + 65507)
 
 -- What comes after m records that were read: more of the file, of which nothing was read; its end; or
 -- its first fault. A batch after which more may come has a record.

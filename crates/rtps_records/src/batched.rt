@@ -1,7 +1,8 @@
 //! The records of a record file, many at a time.
 
 ghost use Rattle.std.specs.Prelude.{◌≡◌, ◌≤◌, IfErr, IfOk, OnErr, OnOk, length, map};
-ghost use Rattle.rtps_records.specs.Batches.{HasRead, ReadsBatch, records_in};
+ghost use Rattle.rtps_records.specs.Batches.{HasRead, IsFull, ReadsBatch, records_in};
+ghost use Rattle.rtps_records.specs.declared.batch_end.BatchEnd.TheVariants.{More};
 ghost use Rattle.rtps_records.specs.declared.fault.RunFault.TheVariants.{NoMemory};
 
 use crate::batch::Batch;
@@ -43,6 +44,7 @@ impl<R: Read, A: Allocator> Records<'_, R, Batch<A>> {
             (R.remaining self.old.reader.now) (R.remaining self.new.reader.now)
             self.old.count self.new.count (records_in self.new.buffer)) }
         ensures few { OnOk result (length (records_in self.new.buffer) ≤ most) }
+        ensures full { IfOk result (λ end. end ≡ More → IsFull most self.new.buffer) }
         ensures fault { IfErr result (λ fault. fault ≡ NoMemory) }
         ensures refused { OnErr result (HasRead
             (R.remaining self.old.reader.now) (R.remaining self.new.reader.now)

@@ -1,4 +1,4 @@
-use Rattle.std.proofs.Common.{◌≤◌, ◌<◌, arith, rules, refl, length}
+use Rattle.std.proofs.Common.{◌≤◌, ◌<◌, inl, inr, arith, rules, refl, length}
 use Rattle.rtps_records.specs.Batches.{records_in}
 use Rattle.rtps_records.proofs.Batching.{ends_here, fresh, full, more, some_used}
 use Rattle.rtps_records.proofs.Cuts.{length-cut}
@@ -44,6 +44,7 @@ returns-in_default g c =
       same_reader = c.loop-self.invariant.same_reader;
       reads = reads;
       few = omega (arith, reads.count, c.loop-self.invariant.so_far.count, c.loop-self.invariant.few);
+      full = λ is. absurd (c.in_default.not-More is);
       fault = tt;
       refused = tt;
     }
@@ -57,3 +58,12 @@ returns-after-loop-self-clause-reads g c =
     let old = length-cut c.loop-self.self.buffer.lengths.items c.loop-self.self.buffer.octets.items in
     let all : c.args.most ≤ length c.loop-self.self.buffer.lengths.items = search rules in
     full _ _ _ _ _ c.loop-self.invariant.so_far (omega (arith, old, all, c.requires.some))
+
+pub returns-else-has_room-clause-full : goal.returns-else-has_room-clause-full
+returns-else-has_room-clause-full g c = λ is. inr (search rules)
+
+pub returns-after-loop-self-clause-full : goal.returns-after-loop-self-clause-full
+returns-after-loop-self-clause-full g c = λ is.
+    let old = length-cut c.loop-self.self.buffer.lengths.items c.loop-self.self.buffer.octets.items in
+    let all : c.args.most ≤ length c.loop-self.self.buffer.lengths.items = search rules in
+    inl (omega (arith, old, all, c.loop-self.invariant.few))
