@@ -1,6 +1,6 @@
 //! The lines of what a batch gave, place by place.
 
-ghost use Rattle.std.specs.Prelude.{◌≡◌, ◌+◌, ◌≤◌, ◌++◌, ◌∷◌, IfOk, List, OnOk, drop, filter, length, map, not};
+ghost use Rattle.std.specs.Prelude.{◌≡◌, ◌+◌, ◌≤◌, ◌++◌, ◌∷◌, [], IfOk, List, OnOk, drop, false, filter, length, map, not};
 ghost use Rattle.std.specs.Io.{StartsWith};
 ghost use Rattle.std.specs.List.Sorted.{IsPartitionedBy};
 ghost use Rattle.rtps_reader.specs.Notices.{answer_view, notice_view};
@@ -154,6 +154,27 @@ fn rest<T>(items: &[T], from: usize) -> &[T]
     items.get(from..).unwrap_or(&[])
 }
 
+/// Whether the first of these notices is given out at a place.
+fn is_noticed<C: TextCatalog>(notices: &[Notice<C::Value>], place: Place) -> bool
+    ensures { result ≡ false
+        → first_notices place (map (notice_view C.view) notices.now) ≡ [] }
+{
+    match notices.first() {
+        Some(notice) => notice.place == place,
+        None => false,
+    }
+}
+
+/// Whether the first of these answers is sent at a place.
+fn is_answered(replies: &[(Place, Reply)], place: Place) -> bool
+    ensures { result ≡ false → first_answers place (map answer_view replies.now) ≡ [] }
+{
+    match replies.first() {
+        Some(reply) => reply.0 == place,
+        None => false,
+    }
+}
+
 impl Cursor {
     /// All that the reader of a rank gave before a place is printed.
     fn at<C: TextCatalog>(rank: u32, given: &Given<C::Value>, place: Place) -> Cursor
@@ -195,8 +216,12 @@ impl Cursor {
             (map answer_view output.now.answers.items) place self) }
     {
         let notices = rest(&output.notices, self.notices);
+        let replies = rest(&output.answers, self.answers);
+        if !is_noticed::<C>(notices, place) && !is_answered(replies, place) {
+            return Ok(self);
+        }
         let told = push_notices(out, last, catalog, (self.rank, place), notices)?;
-        let sent = push_replies(out, place, rest(&output.answers, self.answers))?;
+        let sent = push_replies(out, place, replies)?;
         Ok(Cursor {
             rank: self.rank,
             notices: self.notices + told,
