@@ -133,7 +133,8 @@ impl<C: Catalog> Participant<C> {
         }
     }
 
-    /// What is known of the others, as the run knows it after the last batch that was taken.
+    /// What is known of the others, as the run knows it after the last batch that was taken; once a
+    /// batch has been out of memory, it may know more.
     pub fn discovery(&self) -> &Discovery
         ensures { (datagrams : List (List ℕ)) → StandsAt C.decoding datagrams self.now.engine
             → IsKnown (run_by C.decoding self.now.engine datagrams).known result.now.kept }

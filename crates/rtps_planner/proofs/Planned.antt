@@ -40,15 +40,6 @@ grow_by_step es old new rank s count pushed = record {
   steps = λ at other below. step_more es (rank == at) (get_or old at other).items (get_or new at other).items s (pushed at other below);
 }
 
--- lists with the same items: nothing is added
-pub grow_by_none : {A : Type 0} (es : List EventView) (old new : List (Vec (PlannedStep A) A)) → length new ≡ length old
-    → ((at : ℕ) (other : Vec (PlannedStep A) A) → at < length old → (get_or new at other).items ≡ (get_or old at other).items)
-    → Grow es old new (λ at. [])
-grow_by_none es old new count same = record {
-  count = count;
-  steps = λ at other below. ap (steps_seen es) (same at other below) ∙ sym (append-nil (steps_seen es (get_or old at other).items));
-}
-
 -- nothing is added, and more is
 pub grow_not : {A : Type 0} (es : List EventView) (old : List (Vec (PlannedStep A) A)) (added : ℕ → Job) → ((rank : ℕ) → added rank ≡ []) → Grow es old old added
 grow_not es old added none = record {

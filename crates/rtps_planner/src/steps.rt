@@ -16,7 +16,7 @@ ghost use Rattle.rtps_planner.specs.Plan.{Grow, IsPlanned, discovery_sending, is
 
 use rtps_discovery::{Becomes, Discovery, MatchChange, Reader, is_discovery, is_for};
 use rtps_receiver::Event;
-use rtps_serial::{Answer, push_by};
+use rtps_serial::Answer;
 use rtps_types::{EntityId, Guid, Place, Reply};
 use std::alloc::{AllocError, Allocator, Global};
 
@@ -33,16 +33,18 @@ pub struct PlannedStep<A: Allocator = Global> {
     pub change: Option<Box<Becomes<A>, A>>,
 }
 
-/// Makes room for one more step of the reader of a rank, where there is none: for four times as many
-/// as there are, since they are moved each time.
-fn make_room<A: Allocator>(
+/// Puts a step after those in the list of a rank; there is none for a rank past the last. Where the
+/// list is full, room is made for four times as many, since they are moved each time.
+fn push_step<A: Allocator>(
     lists: &mut Vec<Vec<PlannedStep<A>, A>, A>,
     rank: u32,
+    step: PlannedStep<A>,
 ) -> Result<(), AllocError>
     ensures count { length lists.new.items ≡ length lists.old.items }
-    ensures same { (at : ℕ) (other : _) → at < length lists.old.items
+    ensures pushed { OnOk result ((at : ℕ) (other : _) → at < length lists.old.items
         → (slice_index_or lists.new.items at other).items
-        ≡ (slice_index_or lists.old.items at other).items }
+        ≡ (if rank == at then (slice_index_or lists.old.items at other).items
+        ++ step ∷ [] else (slice_index_or lists.old.items at other).items)) }
 {
     let Some(steps) = lists.get_mut(rank as usize) else {
         return Ok(());
@@ -51,6 +53,7 @@ fn make_room<A: Allocator>(
     if count == steps.capacity() {
         steps.reserve(count.saturating_mul(3).max(FIRST_ROOM))?;
     }
+    steps.push(step)?;
     Ok(())
 }
 
@@ -63,8 +66,7 @@ pub(crate) fn add_step<A: Allocator>(
     ensures { (es : List EventView) → OnOk result (Grow es lists.old.items lists.new.items
         (λ at. if rank == at then step_seen es step else [])) }
 {
-    make_room(lists, rank)?;
-    push_by(lists, rank, step)
+    push_step(lists, rank, step)
 }
 
 /// Puts what becomes of matches after the steps of the readers that hear of it.

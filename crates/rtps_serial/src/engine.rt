@@ -278,7 +278,8 @@ impl<C: Catalog, A: Allocator + Copy> SerialEngine<C, A> {
         }
     }
 
-    /// What is known of the others, as the run knows it after the last datagram that was taken.
+    /// What is known of the others, as the run knows it after the last datagram that was taken; once
+    /// a datagram has been out of memory, it may know more.
     pub fn discovery(&self) -> &Discovery<A>
         ensures { (datagrams : List (List ℕ)) → StandsAt C.decoding datagrams self.now
             → IsKnown (run_by C.decoding self.now datagrams).known result.now.kept }
