@@ -289,8 +289,8 @@ impl<A: Allocator + Copy> Parts<A> {
         sizes.before(piece.start) + length <= 2 * (self.there + length)
     }
 
-    /// Puts a piece at its place in the buffer. The room is made first, so that a chunk never names
-    /// octets that aren't there.
+    /// Puts a piece at its place in the buffer, as the latest. The room is made first, so that a
+    /// chunk never names octets that aren't there.
     fn put_in_place(&mut self, alloc: A, sizes: Sizes, piece: Piece<'_>) -> Result<(), AllocError>
         requires cut { 0 < sizes.fragment }
         requires small { sizes.sample ≤ 67108864 }
@@ -302,6 +302,7 @@ impl<A: Allocator + Copy> Parts<A> {
         ensures kept { IsKept sizes self.new }
         ensures put { OnOk result (ArePut sizes self.old self.new
             piece.entry.start piece.entry.count piece.entry.octets.now) }
+        ensures latest { OnOk result (self.new.latest ≡ piece.entry.start) }
     {
         let at = sizes.before(piece.start);
         let there = self.there + piece.octets.len();
