@@ -1,18 +1,19 @@
 -- The steps of a plan, one after the other.
 use Rattle.std.proofs.Common.{◌≡◌, ℕ, zero, suc, ◌<◌, ◌≤◌, arith, ◌==◌, ◌&&◌, List, [], ◌∷◌, ◌++◌, length, map, Bool, true, false, if◌then◌else◌, Option, Some, None, get_or, refl, sym, ap, ◌∙◌, subst, append_assoc, append-nil, ◌+◌}
-use Rattle.std.specs.Prelude.{filter, option_to_list, replicate}
+use Rattle.std.specs.Prelude.{Box, box_value, drop, filter, option_to_list, replicate, set, take}
 use Rattle.std.specs.List.{slice_get}
 use Rattle.std.specs.Option.{option_map}
 use Rattle.std.specs.declared.vec.Vec.{Vec}
 use Rattle.std.proofs.lemmas.Grind.{flat_map-append}
-use Rattle.std.proofs.lemmas.List.{get_or-replicate, length-replicate, map-append}
+use Rattle.std.proofs.lemmas.List.{get_or-drop, get_or-replicate, length-drop, length-replicate, length-set, map-append, map_push, set-get_or, take_all, take_more, take_more_set}
 use Rattle.std.proofs.lemmas.List.Elements.{filter-append}
-use Rattle.std.proofs.lemmas.Option.{slice_get-get_or}
+use Rattle.std.proofs.lemmas.Option.{get_or_from_slice_get, slice_get-get_or, slice_get_within}
 use Rattle.rtps_types.specs.declared.place.Place.{Place}
 use Rattle.rtps_receiver.specs.Events.{EventView}
+use Rattle.rtps_discovery.specs.declared.changes.Becomes.{Becomes}
 use Rattle.rtps_discovery.specs.declared.changes.MatchChange.{MatchChange}
 use Rattle.rtps_discovery.specs.Changes.{ChangeAt}
-use Rattle.rtps_discovery.specs.Seen.{change_seen}
+use Rattle.rtps_discovery.specs.Seen.{becomes_seen, change_seen}
 use Rattle.rtps_discovery.specs.Addressed.{is_discovery, writer_of}
 use Rattle.rtps_discovery.specs.Kept.{matched_ranks}
 use Rattle.rtps_discovery.specs.Known.{Known, Wish, is_fixed, is_matched, reader_at, writer_at}
@@ -23,22 +24,40 @@ use Rattle.rtps_serial.specs.Steps.{ReaderStep, step_by}
 use Rattle.rtps_serial.proofs.Hearing.{announced_doings, asked_from}
 use Rattle.rtps_serial.specs.World.{addressed_to, changes_for, doing_of, doings}
 use Rattle.rtps_planner.specs.declared.steps.PlannedStep.{PlannedStep}
+use Rattle.rtps_planner.specs.declared.steps.PlannedStep.TheVariants as step
 use Rattle.rtps_planner.specs.Job.{Job, discovery_answer}
-use Rattle.rtps_planner.specs.Plan.{Grow, asked_of, is_named, step_seen, steps_seen, taken_at}
+use Rattle.rtps_planner.specs.Plan.{Grow, is_named, step_seen, steps_seen, taken_at, taken_in}
 
--- one step more, where the test says that it is of the rank
-pub step_more : {A : Type 0} (es : List EventView) (b : Bool) (old new : List (PlannedStep A)) (s : PlannedStep A) → new ≡ (if b then old ++ s ∷ [] else old)
-    → steps_seen es new ≡ steps_seen es old ++ (if b then step_seen es s else [])
-step_more es true old new s e = ap (steps_seen es) e ∙ flat_map-append (step_seen es) old (s ∷ []) ∙ ap (λ l. steps_seen es old ++ l) (append-nil (step_seen es s))
-step_more es false old new s e = ap (steps_seen es) e ∙ sym (append-nil (steps_seen es old))
+-- one step more
+pub step_more : {A : Type 0} (es : List EventView) (old : List (PlannedStep A)) (s : PlannedStep A) → steps_seen es (old ++ s ∷ []) ≡ steps_seen es old ++ step_seen es s
+step_more es old s = flat_map-append (step_seen es) old (s ∷ []) ∙ ap (λ l. steps_seen es old ++ l) (append-nil (step_seen es s))
 
-pub grow_by_step : {A : Type 0} (es : List EventView) (old new : List (Vec (PlannedStep A) A)) (rank : ℕ) (s : PlannedStep A) → length new ≡ length old
-    → ((at : ℕ) (other : Vec (PlannedStep A) A) → at < length old → (get_or new at other).items ≡ (if rank == at then (get_or old at other).items ++ s ∷ [] else (get_or old at other).items))
-    → Grow es old new (λ at. if rank == at then step_seen es s else [])
-grow_by_step es old new rank s count pushed = record {
-  count = count;
-  steps = λ at other below. step_more es (rank == at) (get_or old at other).items (get_or new at other).items s (pushed at other below);
-}
+-- one event more, after those from one on
+pub takes_more : (es : List EventView) (e : EventView) (first more event : ℕ) → slice_get es event ≡ Some e → event ≡ first + (more + 1)
+    → map taken_in (take (more + 1 + 1) (drop first es)) ≡ map taken_in (take (more + 1) (drop first es)) ++ taken_in e ∷ []
+takes_more es e first more event is at =
+    let rest = drop first es in
+    let inside : event < length es = slice_get_within es event e is in
+    let below : more + 1 < length rest = omega (arith, inside, at, length-drop first es) in
+    let here : get_or rest (more + 1) e ≡ e = get_or-drop first es (more + 1) e ∙ ap (λ i. get_or es i e) (sym at) ∙ get_or_from_slice_get es event e e is in
+    ap (map taken_in) (take_more rest (more + 1) e below ∙ ap (λ d. take (more + 1) rest ++ d ∷ []) here) ∙ map_push taken_in (take (more + 1) rest) e
+
+-- a last step that asks more, and one that is kept
+pub last_more : {A : Type 0} (es : List EventView) (xs : List (PlannedStep A)) (i : ℕ) (last new : PlannedStep A) (added : Job) → length xs ≡ i + 1 → get_or xs i last ≡ last → step_seen es new ≡ step_seen es last ++ added
+    → steps_seen es (set xs i new) ≡ steps_seen es xs ++ added
+last_more {A} es xs i last new added whole is more =
+    let inside : i < length xs = omega (arith, whole) in
+    let front = take i xs in
+    let was : xs ≡ front ++ last ∷ [] = sym (take_all (i + 1) xs (omega (arith, whole))) ∙ take_more xs i last inside ∙ ap (λ s. front ++ s ∷ []) is in
+    let now : set xs i new ≡ front ++ new ∷ [] = sym (take_all (i + 1) (set xs i new) (omega (arith, whole, length-set xs i new))) ∙ take_more_set xs i new inside in
+    ap (steps_seen es) now
+    ∙ step_more es front new
+    ∙ ap (λ l. steps_seen es front ++ l) more
+    ∙ sym (append_assoc (steps_seen es front) (step_seen es last) added)
+    ∙ ap (λ l. l ++ added) (sym (step_more es front last) ∙ ap (steps_seen es) (sym was))
+
+pub last_kept : {X : Type 0} (xs : List X) (i : ℕ) (last new : X) → get_or xs i last ≡ last → new ≡ last → set xs i new ≡ xs
+last_kept xs i last new is kept = ap (set xs i) (kept ∙ sym is) ∙ set-get_or xs i last
 
 -- nothing is added, and more is
 pub grow_not : {A : Type 0} (es : List EventView) (old : List (Vec (PlannedStep A) A)) (added : ℕ → Job) → ((rank : ℕ) → added rank ≡ []) → Grow es old old added
@@ -82,17 +101,20 @@ change_more {A} es e event (d ∷ ds) c s rank is = by_test (d.rank == rank) (ch
     by_test true rest = ap (λ l. (e.place, doing_of (change_seen d).what) ∷ l) rest
     by_test false rest = rest
 
--- a step, by its event
-abbrev one_step : {A : Type 0} → PlannedStep A → Option EventView → Job
-one_step s o = option_to_list (option_map (λ e. (e.place, asked_of e s.change)) o)
+-- what a step of one event asks, and of one change
+pub takes_one : (es : List EventView) (e : EventView) (event : ℕ) → slice_get es event ≡ Some e → map taken_in (take (0 + 1) (drop event es)) ≡ taken_in e ∷ []
+takes_one es e event is =
+    let rest = drop event es in
+    let inside : event < length es = slice_get_within es event e is in
+    let below : 0 < length rest = omega (arith, inside, length-drop event es) in
+    let here : get_or rest 0 e ≡ e = get_or-drop event es 0 e ∙ ap (λ i. get_or es i e) (omega arith) ∙ get_or_from_slice_get es event e e is in
+    ap (map taken_in) (take_more rest 0 e below ∙ ap (λ d. d ∷ []) here)
 
-pub step_at : {A : Type 0} (es : List EventView) (e : EventView) (s : PlannedStep A) → slice_get es s.event ≡ Some e → step_seen es s ≡ (e.place, asked_of e s.change) ∷ []
-step_at es e s is = ap (one_step s) is
+pub hears_one : {A : Type 0} (es : List EventView) (e : EventView) (event : ℕ) (what : Box (Becomes A) A) → slice_get es event ≡ Some e
+    → step_seen es (step.Change event what) ≡ (e.place, doing_of (becomes_seen (box_value what))) ∷ []
+hears_one es e event what is = ap (λ (o : Option EventView). option_to_list (option_map (λ (d : EventView). (d.place, doing_of (becomes_seen (box_value what)))) o)) is
 
 -- ---- an event, for the readers of some ranks
-
-abbrev pub taken : EventView → Place × StepView
-taken e = (e.place, asks_of e)
 
 -- one rank more
 pub rank_more : (e : EventView) (readers : List (Option Wish)) (ranks : List ℕ) (r : ℕ) (rank : ℕ)
@@ -113,10 +135,10 @@ rank_more e readers ranks r rank =
 
 -- a rank that is named, and one that isn't
 pub rank_named : (e : EventView) (readers : List (Option Wish)) (r : ℕ) (rank : ℕ) → is_named e.reader (reader_at readers r) ≡ true
-    → (if r == rank then taken e ∷ [] else []) ≡ taken_at e readers (r ∷ []) rank
+    → (if r == rank then taken_in e ∷ [] else []) ≡ taken_at e readers (r ∷ []) rank
 rank_named e readers r rank is = rw is (by_test (r == rank))
   where
-    by_test : (b : Bool) → (if b then taken e ∷ [] else []) ≡ map (λ what. (e.place, what)) (map (λ (s : ReaderStep). s.what) (if b then step_by r (asks_of e) ∷ [] else []))
+    by_test : (b : Bool) → (if b then taken_in e ∷ [] else []) ≡ map (λ what. (e.place, what)) (map (λ (s : ReaderStep). s.what) (if b then step_by r (asks_of e) ∷ [] else []))
     by_test true = refl
     by_test false = refl
 

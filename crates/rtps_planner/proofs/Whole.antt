@@ -1,11 +1,11 @@
 -- A whole batch: one event more, and the jobs of the readers that have steps.
 use Rattle.std.proofs.Common.{◌≡◌, ◌==◌, false, true≢false, ℕ, suc, ◌<◌, ◌+◌, arith, List, [], ◌∷◌, ◌++◌, length, map, Some, get_or, refl, sym, ap, ◌∙◌, subst, append_assoc, append-nil}
-use Rattle.std.specs.Prelude.{replicate}
+use Rattle.std.specs.Prelude.{drop, replicate, take}
 use Rattle.std.specs.List.{slice_get}
 use Rattle.std.specs.declared.vec.Vec.{Vec}
 use Rattle.std.proofs.Math.Seq.{get_or-append_seam}
-use Rattle.std.proofs.lemmas.List.{get_or_append_left, length-append, length-map, length-replicate, map-append, map_push, nil_from_length}
-use Rattle.std.proofs.lemmas.Option.{slice_get-get_or}
+use Rattle.std.proofs.lemmas.List.{get_or_append_left, length-append, length-drop, length-map, length-replicate, length-take, map-append, map_push, nil_from_length}
+use Rattle.std.proofs.lemmas.Option.{slice_get-get_or, slice_get_within}
 use Rattle.rtps_receiver.specs.Events.{EventView}
 use Rattle.rtps_discovery.specs.Kept.{IsKnown, HeldView}
 use Rattle.rtps_discovery.specs.Known.{Known}
@@ -14,9 +14,10 @@ use Rattle.rtps_serial.proofs.Routed.{readers_stay}
 use Rattle.rtps_planner.specs.Job.{Job, discovery_answer, discovery_answers, job_of, known_after_events}
 use Rattle.rtps_planner.specs.declared.jobs.Job as plan_job
 use Rattle.rtps_planner.specs.declared.steps.PlannedStep.{PlannedStep}
+use Rattle.rtps_planner.specs.declared.steps.PlannedStep.TheVariants as step
 use Rattle.rtps_planner.specs.declared.steps.Planning.{Planning}
-use Rattle.rtps_planner.specs.Plan.{AreAllPlanned, AreSteps, Grow, IsPlanned, discovery_sending, job_at, job_seen, jobs_by, steps_seen}
-use Rattle.rtps_planner.proofs.Planned.{step_at}
+use Rattle.rtps_planner.specs.Plan.{AreAllPlanned, AreSteps, Grow, IsPlanned, discovery_sending, job_at, job_seen, jobs_by, step_seen, steps_seen, taken_in}
+use Rattle.rtps_planner.proofs.Planned.{hears_one}
 
 -- ---- one event more
 
@@ -46,18 +47,33 @@ readers_stay_all k (e ∷ es) = readers_stay_all (known_after_event k e) es ∙ 
 
 -- ---- steps
 
+-- the event that a step begins with
+abbrev first_of : {A : Type 0} → PlannedStep A → ℕ
+first_of (step.TakeIn first more) = first
+first_of (step.Change event what) = event
+
+-- something is asked by a step whose first event is there
+some_asked : {A : Type 0} (es : List EventView) (e : EventView) (s : PlannedStep A) → slice_get es (first_of s) ≡ Some e → 0 < length (step_seen es s)
+some_asked es e (step.TakeIn first more) is =
+    let rest = drop first es in
+    let some : 0 < length rest = omega (arith, slice_get_within es first e is, length-drop first es) in
+    let taken = length-take (more + 1) rest in
+    omega (arith, length-map (take (more + 1) rest) taken_in, taken, some)
+some_asked es e (step.Change event what) is = omega (arith, ap length (hears_one es e event what is))
+
 -- there are no steps where nothing is seen of them, whatever events there are besides
 no_steps : {A : Type 0} (all : List EventView) (i : ℕ) (e : EventView) → i < length all → get_or all i e ≡ e → (steps : List (PlannedStep A))
     → ((es : List EventView) → slice_get es i ≡ Some e → steps_seen es steps ≡ []) → steps ≡ []
 no_steps all i e below is [] none = refl
 no_steps all i e below is (s ∷ ss) none =
-    let more : List EventView = replicate (s.event + 1) e in
+    let first = first_of s in
+    let more : List EventView = replicate (first + 1) e in
     let es : List EventView = all ++ more in
-    let long : s.event < length es = omega (arith, length-append all more, length-replicate (s.event + 1) e) in
+    let long : first < length es = omega (arith, length-append all more, length-replicate (first + 1) e) in
     let fits : i < length es = omega (arith, length-append all more, below) in
     let at : slice_get es i ≡ Some e = slice_get-get_or es i e fits ∙ ap Some (get_or_append_left all more e i below ∙ is) in
-    let seen = step_at es (get_or es s.event e) s (slice_get-get_or es s.event e long) in
-    absurd (omega (arith, ap length (ap (λ l. l ++ steps_seen es ss) (sym seen) ∙ none es at)))
+    let some = some_asked es (get_or es first e) s (slice_get-get_or es first e long) in
+    absurd (omega (arith, length-append (step_seen es s) (steps_seen es ss), ap length (none es at), some))
 
 front_nil : {X : Type 0} (xs ys : List X) → xs ++ ys ≡ [] → xs ≡ []
 front_nil xs ys e = nil_from_length xs (omega (arith, length-append xs ys, ap length e))

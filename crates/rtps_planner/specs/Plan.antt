@@ -1,13 +1,13 @@
 -- The jobs of a plan, whose steps point into the batch's list of events.
-use Rattle.std.specs.Prelude.{◌≡◌, ℕ, zero, suc, [], ◌∷◌, Bool, false, ◌<◌, List, ◌++◌, length, map, filter, ◌==◌, Option, Some, None, Box, box_value, option_to_list, slice_index_or}
+use Rattle.std.specs.Prelude.{◌≡◌, ℕ, zero, suc, ◌+◌, [], ◌∷◌, Bool, false, ◌<◌, List, ◌++◌, length, map, filter, take, drop, ◌==◌, Option, Some, None, box_value, option_to_list, slice_index_or}
 use Rattle.std.specs.List.{flat_map, slice_get}
 use Rattle.std.specs.Option.{option_map}
 use Rattle.std.specs.declared.vec.Vec.{Vec}
 use Rattle.rtps_types.specs.declared.identity.EntityId.{EntityId}
 use Rattle.rtps_receiver.specs.Events.{EventView}
 use Rattle.rtps_discovery.specs.Addressed.{is_for}
+use Rattle.rtps_discovery.specs.Changes as changes
 use Rattle.rtps_discovery.specs.Known.{Known, Wish, reader_at}
-use Rattle.rtps_discovery.specs.declared.changes.Becomes.{Becomes}
 use Rattle.rtps_discovery.specs.Seen.{becomes_seen}
 use Rattle.rtps_reader.specs.Steps.{StepView, asks_of}
 use Rattle.rtps_serial.specs.Steps.{step_by}
@@ -18,20 +18,26 @@ use Rattle.rtps_types.specs.declared.place.Place.{Place}
 use Rattle.rtps_discovery.specs.Kept.{IsKnown, HeldView}
 use Rattle.rtps_planner.specs.declared.steps.Planning.{Planning}
 use Rattle.rtps_planner.specs.declared.steps.PlannedStep.{PlannedStep}
+use Rattle.rtps_planner.specs.declared.steps.PlannedStep.TheVariants as step
 use Rattle.rtps_planner.specs.declared.jobs.Job as plan_job
 use Rattle.rtps_planner.specs.declared.jobs.Plan.{Plan}
 use Rattle.rtps_planner.specs.Job.{Job, discovery_answer, discovery_answers, job_of, known_after_events}
 
--- what a step asks at its event: what becomes of a match, or to take the event in
-abbrev pub asked_of : {A : Type 0} → EventView → Option (Box (Becomes A) A) → StepView
-asked_of e None = asks_of e
-asked_of e (Some change) = doing_of (becomes_seen (box_value change))
+-- an event that a reader takes in
+abbrev pub taken_in : EventView → Place × StepView
+taken_in e = (e.place, asks_of e)
 
--- a step, by the events that it points into; nothing where there is no such event
+-- to hear what becomes of a match, at the event of an index; nothing where there is no such event
+abbrev pub heard_at : List EventView → ℕ → changes.Becomes → Job
+heard_at es event what =
+    option_to_list (option_map (λ e. (e.place, doing_of what)) (slice_get es event))
+
+-- what a step asks, by the events that it points into; nothing where there are none
 abbrev pub step_seen : {A : Type 0} → List EventView → PlannedStep A → Job
-step_seen es s =
-    option_to_list (option_map (λ e. (e.place, asked_of e s.change)) (slice_get es s.event))
+step_seen es (step.TakeIn first more) = map taken_in (take (more + 1) (drop first es))
+step_seen es (step.Change event what) = heard_at es event (becomes_seen (box_value what))
 
+-- what the steps of a job ask, one after the other
 abbrev pub steps_seen : {A : Type 0} → List EventView → List (PlannedStep A) → Job
 steps_seen es steps = flat_map (step_seen es) steps
 

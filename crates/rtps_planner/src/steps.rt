@@ -1,6 +1,6 @@
 //! The steps of readers at one event.
 
-ghost use Rattle.std.specs.Prelude.{◌≡◌, ℕ, ◌<◌, ◌==◌, ◌++◌, [], ◌∷◌, List, OnOk, IfOk, if◌then◌else◌, length, map, slice_index_or, Some, true};
+ghost use Rattle.std.specs.Prelude.{◌≡◌, ℕ, ◌<◌, ◌==◌, ◌++◌, [], ◌∷◌, List, OnOk, IfOk, if◌then◌else◌, length, map, Some, true, false};
 ghost use Rattle.std.specs.List.{slice_get};
 ghost use Rattle.std.specs.Option.{option_map};
 ghost use Rattle.rtps_discovery.specs.Addressed as addressed;
@@ -12,7 +12,7 @@ ghost use Rattle.rtps_proxy.specs.Replies.{reply_view};
 ghost use Rattle.rtps_reader.specs.Reader.{placed};
 ghost use Rattle.rtps_serial.specs.Outcome.{answer_view};
 ghost use Rattle.rtps_serial.specs.World.{changes_for};
-ghost use Rattle.rtps_planner.specs.Plan.{Grow, IsPlanned, discovery_sending, is_named, step_seen, taken_at};
+ghost use Rattle.rtps_planner.specs.Plan.{Grow, IsPlanned, discovery_sending, is_named, step_seen, steps_seen, taken_at, taken_in};
 
 use rtps_discovery::{Becomes, Discovery, MatchChange, Reader, is_discovery, is_for};
 use rtps_receiver::Event;
@@ -23,32 +23,29 @@ use std::alloc::{AllocError, Allocator, Global};
 /// For so many steps room is made at first.
 const FIRST_ROOM: usize = 32;
 
-/// One step of a job.
+/// One step of a job, by the indices of events in the batch's list.
 #[derive(Debug, Drop)]
-pub struct PlannedStep<A: Allocator = Global> {
-    /// The index, in the batch's list of events, of the event that asks it.
-    pub event: usize,
-    /// What becomes of a match, where the event announces that. Where there is none the reader
-    /// takes the event in.
-    pub change: Option<Box<Becomes<A>, A>>,
+pub enum PlannedStep<A: Allocator = Global> {
+    /// The reader takes in the event at an index, and so many more that follow it there.
+    TakeIn {
+        first: usize,
+        more: usize,
+    },
+    /// The reader hears what becomes of a match, which the event at this index announces.
+    Change {
+        event: usize,
+        what: Box<Becomes<A>, A>,
+    },
 }
 
-/// Puts a step after those in the list of a rank; there is none for a rank past the last. Where the
-/// list is full, room is made for four times as many, since they are moved each time.
+/// Puts a step after the others. Where the list is full, room is made for four times as many, since
+/// they are moved each time.
 fn push_step<A: Allocator>(
-    lists: &mut Vec<Vec<PlannedStep<A>, A>, A>,
-    rank: u32,
+    steps: &mut Vec<PlannedStep<A>, A>,
     step: PlannedStep<A>,
 ) -> Result<(), AllocError>
-    ensures count { length lists.new.items ≡ length lists.old.items }
-    ensures pushed { OnOk result ((at : ℕ) (other : _) → at < length lists.old.items
-        → (slice_index_or lists.new.items at other).items
-        ≡ (if rank == at then (slice_index_or lists.old.items at other).items
-        ++ step ∷ [] else (slice_index_or lists.old.items at other).items)) }
+    ensures { OnOk result (steps.new.items ≡ steps.old.items ++ step ∷ []) }
 {
-    let Some(steps) = lists.get_mut(rank as usize) else {
-        return Ok(());
-    };
     let count = steps.len();
     if count == steps.capacity() {
         steps.reserve(count.saturating_mul(3).max(FIRST_ROOM))?;
@@ -57,8 +54,63 @@ fn push_step<A: Allocator>(
     Ok(())
 }
 
+/// Lets a step take in the event at this index too, where that follows its events, and tells
+/// whether it does.
+fn lengthen<A: Allocator>(step: &mut PlannedStep<A>, event: usize) -> bool
+    ensures kept { result ≡ false → step.new ≡ step.old }
+    ensures longer { (es : List EventView) (e : EventView) → slice_get es event ≡ Some e
+        → result ≡ true → step_seen es step.new ≡ step_seen es step.old ++ taken_in e ∷ [] }
+{
+    match step {
+        PlannedStep::TakeIn { first, more } => {
+            if event <= *first || event - *first - 1 != *more {
+                return false;
+            }
+            *more = event - *first;
+            true
+        }
+        PlannedStep::Change { .. } => false,
+    }
+}
+
+/// Lets the event at this index be taken in after the other steps.
+fn take_in<A: Allocator>(steps: &mut Vec<PlannedStep<A>, A>, event: usize) -> Result<(), AllocError>
+    ensures { (es : List EventView) (e : EventView) → slice_get es event ≡ Some e → OnOk result
+        (steps_seen es steps.new.items ≡ steps_seen es steps.old.items ++ taken_in e ∷ []) }
+{
+    if let Some(last) = steps.last_mut() {
+        if lengthen(last, event) {
+            return Ok(());
+        }
+    }
+    push_step(
+        steps,
+        PlannedStep::TakeIn {
+            first: event,
+            more: 0,
+        },
+    )
+}
+
+/// Lets the reader of a rank take in the event at this index; there is none for a rank past the
+/// last.
+fn take_in_at<A: Allocator>(
+    lists: &mut Vec<Vec<PlannedStep<A>, A>, A>,
+    rank: u32,
+    event: usize,
+) -> Result<(), AllocError>
+    ensures { (es : List EventView) (e : EventView) → slice_get es event ≡ Some e
+        → OnOk result (Grow es lists.old.items lists.new.items
+        (λ at. if rank == at then taken_in e ∷ [] else [])) }
+{
+    match lists.get_mut(rank as usize) {
+        Some(steps) => take_in(steps, event),
+        None => Ok(()),
+    }
+}
+
 /// Puts a step after those of the reader of a rank; there is none for a rank past the last.
-pub(crate) fn add_step<A: Allocator>(
+fn add_step<A: Allocator>(
     lists: &mut Vec<Vec<PlannedStep<A>, A>, A>,
     rank: u32,
     step: PlannedStep<A>,
@@ -66,11 +118,14 @@ pub(crate) fn add_step<A: Allocator>(
     ensures { (es : List EventView) → OnOk result (Grow es lists.old.items lists.new.items
         (λ at. if rank == at then step_seen es step else [])) }
 {
-    push_step(lists, rank, step)
+    match lists.get_mut(rank as usize) {
+        Some(steps) => push_step(steps, step),
+        None => Ok(()),
+    }
 }
 
 /// Puts what becomes of matches after the steps of the readers that hear of it.
-pub(crate) fn add_changes<A: Allocator + Copy>(
+fn add_changes<A: Allocator + Copy>(
     lists: &mut Vec<Vec<PlannedStep<A>, A>, A>,
     alloc: A,
     event: usize,
@@ -81,11 +136,8 @@ pub(crate) fn add_changes<A: Allocator + Copy>(
         map (λ what. (e.place, what)) (changes_for rank (map change_seen changes.items)))) }
 {
     for change in changes {
-        let step = PlannedStep {
-            event,
-            change: Some(Box::new(alloc, change.what)?),
-        };
-        add_step(lists, change.rank, step)?;
+        let what = Box::new(alloc, change.what)?;
+        add_step(lists, change.rank, PlannedStep::Change { event, what })?;
     }
     Ok(())
 }
@@ -101,8 +153,8 @@ fn is_named<A: Allocator>(readers: &[Option<Reader<A>>], rank: u32, reader: Enti
     }
 }
 
-/// Puts an event after the steps of the readers of these ranks, where its reader id names them.
-pub(crate) fn add_event<A: Allocator>(
+/// Lets the readers of these ranks take in the event at this index, where its reader id names them.
+fn add_event<A: Allocator>(
     lists: &mut Vec<Vec<PlannedStep<A>, A>, A>,
     readers: &[Option<Reader<A>>],
     ranks: &[u32],
@@ -115,11 +167,7 @@ pub(crate) fn add_event<A: Allocator>(
 {
     for rank in ranks {
         if is_named(readers, *rank, reader) {
-            let step = PlannedStep {
-                event,
-                change: None,
-            };
-            add_step(lists, *rank, step)?;
+            take_in_at(lists, *rank, event)?;
         }
     }
     Ok(())

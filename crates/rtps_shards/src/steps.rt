@@ -1,17 +1,19 @@
 //! The steps of a job.
 
-ghost use Rattle.std.specs.Prelude.{◌≡◌, List, OnOk, map, option_to_list};
+ghost use Rattle.std.specs.Prelude.{◌≡◌, List, OnOk, drop, map, option_to_list, take, ◌+◌};
+ghost use Rattle.rtps_discovery.specs.Seen.{becomes_seen};
 ghost use Rattle.rtps_receiver.specs.Events.{view};
 ghost use Rattle.rtps_proxy.specs.Effects.{GivesNothing};
 ghost use Rattle.rtps_reader.specs.declared.notice.Notice.{Notice};
 ghost use Rattle.rtps_reader.specs.Reader.{Reader};
 ghost use Rattle.rtps_reader.specs.Standing.{StandsAt};
 ghost use Rattle.rtps_reader.specs.Steps.{asked};
-ghost use Rattle.rtps_planner.specs.Plan.{step_seen, steps_seen};
+ghost use Rattle.rtps_planner.specs.Plan.{heard_at, steps_seen, taken_in};
 ghost use Rattle.rtps_shards.specs.Results.{HasTaken, share};
 
 use crate::jobs::JobResult;
 use dds_topic::{Catalog, Decoder};
+use rtps_discovery::Becomes;
 use rtps_planner::PlannedStep;
 use rtps_proxy::Effects;
 use rtps_reader::Step;
@@ -19,19 +21,25 @@ use rtps_receiver::Event;
 use rtps_serial::asked_by;
 use std::alloc::{AllocError, Global};
 
-/// What a planned step asks of its reader; nothing where there is no such event.
-fn step_of<'a>(events: &'a [Event<'a>], planned: &'a PlannedStep) -> Option<Step<'a>>
-    ensures { map (λ s. (s.place, asked s.what)) (option_to_list result)
-        ≡ step_seen (map view events.now) planned.now }
+/// The event at an index and so many more that follow it, as far as there are any.
+fn stretch<'a>(events: &'a [Event<'a>], first: usize, more: usize) -> &'a [Event<'a>]
+    ensures { result.now ≡ take (more + 1) (drop first events.now) }
 {
-    let event = events.get(planned.event)?;
-    match &planned.change {
-        None => Some(Step::of_event(event)),
-        Some(change) => Some(Step {
-            place: event.place,
-            what: asked_by(change),
-        }),
-    }
+    let rest = events.get(first..).unwrap_or(&[]);
+    &rest[..more.saturating_add(1).min(rest.len())]
+}
+
+/// The step in which a reader hears what becomes of a match, which the event at an index announces;
+/// none where there is no such event.
+fn change_at<'a>(events: &'a [Event<'a>], event: usize, what: &'a Becomes) -> Option<Step<'a>>
+    ensures { map (λ s. (s.place, asked s.what)) (option_to_list result)
+        ≡ heard_at (map view events.now) event (becomes_seen what.now) }
+{
+    let event = events.get(event)?;
+    Some(Step {
+        place: event.place,
+        what: asked_by(what),
+    })
 }
 
 /// Has a reader take a step, if there is one. What the step gives is added to the output.
@@ -60,6 +68,29 @@ fn take_step<'a, C: Catalog>(
     Ok(())
 }
 
+/// Has a reader take in events, one after the other. What they give is added to the output.
+fn take_events<'a, C: Catalog>(
+    alloc: Global,
+    decoder: &mut Decoder<C>,
+    events: &'a [Event<'a>],
+    effects: &mut Effects<'a>,
+    done: &mut JobResult<C::Value>,
+) -> Result<(), AllocError>
+    requires { GivesNothing effects.old }
+    ensures taken { (r : Reader) (given : List (Notice C.Meaning)) → StandsAt r given done.old.state
+        → OnOk result (HasTaken C.view (C.decoding decoder.old)
+        (share r given (map taken_in (map view events.now))) done.old done.new) }
+    ensures ranks { (done.new.rank ≡ done.old.rank)
+        × (done.new.state.rank ≡ done.old.state.rank) }
+    ensures same { decoder.new ≡ decoder.old }
+    ensures nothing { OnOk result (GivesNothing effects.new) }
+{
+    for event in events {
+        take_step(alloc, decoder, Some(Step::of_event(event)), effects, done)?;
+    }
+    Ok(())
+}
+
 /// Has a reader take the steps of its job, one after the other. What they give is added to the
 /// output.
 pub(crate) fn take_steps<'a, C: Catalog>(
@@ -78,8 +109,16 @@ pub(crate) fn take_steps<'a, C: Catalog>(
 {
     let mut effects = Effects::none(alloc);
     for planned in steps {
-        let step = step_of(events, planned);
-        take_step(alloc, decoder, step, &mut effects, done)?;
+        match planned {
+            PlannedStep::TakeIn { first, more } => {
+                let events = stretch(events, *first, *more);
+                take_events(alloc, decoder, events, &mut effects, done)?;
+            }
+            PlannedStep::Change { event, what } => {
+                let step = change_at(events, *event, what);
+                take_step(alloc, decoder, step, &mut effects, done)?;
+            }
+        }
     }
     Ok(())
 }

@@ -73,13 +73,13 @@ fn three(alloc: Global) -> Result<Vec<Event<'static>>, AllocError> {
     Ok(events)
 }
 
-/// The job of a rank, to take in the events at these indices.
+/// The job of a rank, to take in the events at these indices, each by a step of its own.
 fn job(alloc: Global, rank: u32, indices: &[usize]) -> Result<Job, AllocError> {
     let mut steps = Vec::new(alloc);
-    for event in indices {
-        steps.push(PlannedStep {
-            event: *event,
-            change: None,
+    for first in indices {
+        steps.push(PlannedStep::TakeIn {
+            first: *first,
+            more: 0,
         })?;
     }
     Ok(Job { rank, steps })

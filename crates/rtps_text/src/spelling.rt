@@ -1,6 +1,6 @@
 //! The lines of a batch, made by several workers: each makes those of neighbouring places.
 
-ghost use Rattle.std.specs.Prelude.{◌≡◌, ◌++◌, ◌*◌, ◌<◌, ◌≤◌, IfOk, OnOk, drop, length, slice_index_or, take, ℕ};
+ghost use Rattle.std.specs.Prelude.{◌≡◌, ◌++◌, ◌+◌, ◌*◌, ◌<◌, ◌≤◌, IfOk, OnOk, drop, length, slice_index_or, take, ℕ};
 ghost use Rattle.std.specs.Io.{StartsWith};
 ghost use Rattle.dds_participant.specs.Given.{parts_given};
 ghost use Rattle.rtps_text.specs.Slices.{AreByPlace, AreTexts, IsSliceOf, merged_lines, places_lines};
@@ -52,6 +52,7 @@ fn cut<'a>(
 ) -> Result<Vec<Slice<'a>>, AllocError>
     requires { 0 < size }
     ensures all { IfOk result (λ slices. length places.now ≤ length slices.items * size) }
+    ensures few { IfOk result (λ slices. length slices.items * size < length places.now + size) }
     ensures each { IfOk result (λ slices. (n : ℕ) (other : _) → n < length slices.items
         → (slice_index_or slices.items n other).places.now
         ≡ take size (drop (n * size) places.now)) }
@@ -116,7 +117,8 @@ where
         spare: &mut Vec<Vec<u8>>,
     ) -> Result<Vec<Result<Vec<u8>, AllocError>>, AllocError>
         requires { 1 ≤ workers }
-        ensures { AreByPlace C.view self.now.given.now → IfOk result (λ texts.
+        ensures few { IfOk result (λ texts. length texts.items ≤ workers) }
+        ensures lines { AreByPlace C.view self.now.given.now → IfOk result (λ texts.
             AreTexts texts.items (merged_lines (C.text_of self.now.catalog.now) C.view
             self.now.given.now self.now.readers self.now.given.now.places.items)) }
     {

@@ -69,12 +69,23 @@ pub(super) fn six_events(alloc: Global) -> Result<Vec<Event<'static>>, Fail> {
     Ok(events)
 }
 
-/// Whether a job takes in these events, in this order.
-fn takes(job: &Job, rank: u32, events: &[usize]) -> bool {
+/// Whether a step takes in these events: the first by its index, and how many more.
+fn is_taking(step: &PlannedStep, events: (usize, usize)) -> bool {
+    match step {
+        PlannedStep::TakeIn { first, more } => (*first, *more) == events,
+        PlannedStep::Change { .. } => false,
+    }
+}
+
+/// Whether a job takes in these events, in this order, step by step.
+fn takes(job: &Job, rank: u32, steps: &[(usize, usize)]) -> bool {
     job.rank == rank
-        && job.steps.len() == events.len()
-        && job.steps.iter().zip(events).all(|(step, event)| step.event == *event
-            && step.change.is_none())
+        && job.steps.len() == steps.len()
+        && job
+            .steps
+            .iter()
+            .zip(steps)
+            .all(|(step, events)| is_taking(step, *events))
 }
 
 /// Whether the plan is that of the six events.
@@ -82,8 +93,8 @@ fn is_of_six(plan: Plan) -> bool {
     let [first, second] = plan.jobs.as_slice() else {
         return false;
     };
-    takes(first, 0, &[0, 1, 2, 3, 4, 5])
-        && takes(second, 1, &[2, 5])
+    takes(first, 0, &[(0, 5)])
+        && takes(second, 1, &[(2, 0), (5, 0)])
         && plan.rest.readers == 2
         && plan.rest.ranks.as_slice() == [0, 1].as_slice()
         && plan.rest.answers.is_empty()

@@ -1,10 +1,11 @@
-use Rattle.std.proofs.Common.{◌≡◌, ◌++◌, ◌∙◌, ◌∷◌, [], append-nil, append_assoc, ap, refl, rules, Some, if◌then◌else◌, ◌==◌, subst, sym}
+use Rattle.std.proofs.Common.{◌≡◌, ◌++◌, ◌∙◌, ◌∷◌, [], append-nil, append_assoc, ap, refl, rules, if◌then◌else◌, ◌==◌, subst, sym}
 use Rattle.std.proofs.lemmas.List.{nil_from_length}
 use Rattle.rtps_discovery.specs.Seen.{becomes_seen, change_seen}
 use Rattle.rtps_serial.specs.World.{doing_of}
 use Rattle.rtps_planner.specs.declared.steps.PlannedStep.{PlannedStep}
+use Rattle.rtps_planner.specs.declared.steps.PlannedStep.TheVariants as step
 use Rattle.rtps_planner.specs.Plan.{Grow, step_seen}
-use Rattle.rtps_planner.proofs.Planned.{change_more, changes_asked_at, grow_more, grow_not, step_at}
+use Rattle.rtps_planner.proofs.Planned.{change_more, changes_asked_at, grow_more, grow_not, hears_one}
 use Rattle.rtps_planner.proofs.steps.add_changes.Goals as goal
 
 pub loop-change-init : goal.loop-change-init
@@ -23,9 +24,9 @@ loop-change-preserved g c =
     let taken : c.loop-change.change-iterator.rest.items ≡ change ∷ c.next.new.self.rest.items = search rules in
     record {
       grows = λ es e is.
-          let step : PlannedStep g.row.A.Denot = record { event = c.args.event; change = Some c.in_ok-new.field-0 } in
+          let step : PlannedStep g.row.A.Denot = step.Change c.args.event c.in_ok-what.what in
           let one : step_seen es step ≡ (e.place, doing_of (change_seen change).what) ∷ []
-          = step_at es e step is ∙ ap (λ b. (e.place, doing_of (becomes_seen b)) ∷ []) c.in_ok-new.ensures.ok in
+          = hears_one es e c.args.event c.in_ok-what.what is ∙ ap (λ b. (e.place, doing_of (becomes_seen b)) ∷ []) c.in_ok-what.ensures.ok in
           grow_more es old mid new (changes_asked_at e.place done) (λ at. if change.rank == at then step_seen es step else []) (changes_asked_at e.place (done ++ change ∷ []))
           (λ rank. change_more es e c.args.event done change step rank one) (c.loop-change.invariant.grows es e is) (c.in_ok-add_step.ensures es);
       left = c.loop-change.invariant.left ∙ ap (λ l. done ++ l) taken ∙ sym (append_assoc done (change ∷ []) c.next.new.self.rest.items);

@@ -1,11 +1,10 @@
-use Rattle.std.proofs.Common.{◌≡◌, ◌<◌, ◌+◌, ◌==◌, ◌++◌, ◌∷◌, [], ◌∙◌, None, ap, arith, get_or, if◌then◌else◌, length, refl, subst, sym, take, true, false}
+use Rattle.std.proofs.Common.{◌≡◌, ◌<◌, ◌+◌, ◌==◌, ◌++◌, ◌∷◌, [], ◌∙◌, ap, arith, get_or, if◌then◌else◌, length, refl, subst, sym, take, true, false}
 use Rattle.std.proofs.lemmas.List.{take_all, take_more}
 use Rattle.rtps_discovery.specs.Known.{reader_at}
-use Rattle.rtps_planner.specs.declared.steps.PlannedStep.{PlannedStep}
-use Rattle.rtps_planner.specs.Plan.{Grow, is_named, step_seen, taken_at}
-use Rattle.rtps_planner.proofs.Planned.{grow_more, grow_not, rank_more, rank_named, rank_unnamed, step_at}
+use Rattle.rtps_planner.specs.Plan.{Grow, is_named, taken_at, taken_in}
+use Rattle.rtps_planner.proofs.Planned.{grow_more, grow_not, rank_more, rank_named, rank_unnamed}
 use Rattle.rtps_planner.proofs.steps.add_event.Goals as goal
-use Rattle.rtps_planner.proofs.steps.add_event.Goals.{then-is_named+in_ok-add_step, else-is_named}
+use Rattle.rtps_planner.proofs.steps.add_event.Goals.{then-is_named+in_ok-take_in_at, else-is_named}
 
 pub loop-rank-preserved : goal.loop-rank-preserved
 loop-rank-preserved g c =
@@ -18,15 +17,14 @@ loop-rank-preserved g c =
     let less : i < length ranks = omega (arith, c.loop-rank-test.true) in
     let more : take (i + 1) ranks ≡ take i ranks ++ rank ∷ [] = take_more ranks i 0 less in
     elim c.if-is_named.branch [
-      | then-is_named+in_ok-add_step b ↦ record {
+      | then-is_named+in_ok-take_in_at b ↦ record {
         grows = λ es e is same.
-            let step : PlannedStep g.row.A.Denot = record { event = c.args.event; change = None } in
             let named : is_named e.reader (reader_at readers rank) ≡ true = ap (λ r. is_named r (reader_at readers rank)) same ∙ sym c.is_named.ensures ∙ b.if-is_named.true in
             rw b.lists-is
-            (grow_more es old mid b.add_step.new.lists.items (taken_at e readers (take i ranks)) (λ at. if rank == at then step_seen es step else []) (taken_at e readers (take (i + 1) ranks))
-            (λ at. ap (λ l. taken_at e readers (take i ranks) at ++ l) (ap (λ l. if rank == at then l else []) (step_at es e step is) ∙ rank_named e readers rank at named)
+            (grow_more es old mid b.take_in_at.new.lists.items (taken_at e readers (take i ranks)) (λ at. if rank == at then taken_in e ∷ [] else []) (taken_at e readers (take (i + 1) ranks))
+            (λ at. ap (λ l. taken_at e readers (take i ranks) at ++ l) (rank_named e readers rank at named)
             ∙ rank_more e readers (take i ranks) rank at ∙ ap (λ l. taken_at e readers l at) (sym more))
-            (c.loop-rank.invariant.grows es e is same) (b.in_ok-add_step.ensures es));
+            (c.loop-rank.invariant.grows es e is same) (b.in_ok-take_in_at.ensures es e is));
       }
       | else-is_named b ↦ record {
         grows = λ es e is same.

@@ -1,12 +1,20 @@
-use Rattle.std.proofs.Common.{◌≡◌, ◌+◌, ◌<◌, ◌++◌, ◌∷◌, [], ◌∙◌, ap, append-nil, get_or, length, map, rules, subst, sym, take}
+use Rattle.std.proofs.Common.{◌≡◌, ℕ, List, ◌+◌, ◌<◌, ◌++◌, ◌∷◌, [], ◌∙◌, ap, append-nil, get_or, length, map, rules, subst, sym, take}
 use Rattle.std.proofs.lemmas.Grind.{flat_map-append}
-use Rattle.std.proofs.lemmas.List.{take_all, take_more}
+use Rattle.std.specs.Prelude.{drop}
+use Rattle.std.proofs.lemmas.List.{drop-map, take-map, take_all, take_more}
+use Rattle.rtps_receiver.specs.declared.event.Event.{Event}
 use Rattle.rtps_receiver.specs.Events.{view}
+use Rattle.rtps_discovery.specs.Seen.{becomes_seen}
 use Rattle.rtps_planner.specs.Job.{job_run, job_told}
-use Rattle.rtps_planner.specs.Plan.{step_seen, steps_seen}
+use Rattle.rtps_planner.specs.Plan.{heard_at, step_seen, steps_seen, taken_in}
 use Rattle.rtps_shards.specs.Results.{HasTaken, share}
 use Rattle.rtps_shards.proofs.Taking.{taken_more}
 use Rattle.rtps_shards.proofs.steps.take_steps.Goals as goal
+use Rattle.rtps_shards.proofs.steps.take_steps.Goals.{in-TakeIn+in_ok-take_events-in-TakeIn, in-Change+in_ok-take_step-in-Change}
+
+-- what is seen of so many events from one on
+taken_view : (events : List Event) (first count : ℕ) → map view (take count (drop first events)) ≡ take count (drop first (map view events))
+taken_view events first count = sym (take-map view count (drop first events)) ∙ ap (take count) (sym (drop-map view first events))
 
 pub loop-planned-preserved : goal.loop-planned-preserved
 loop-planned-preserved g c =
@@ -23,18 +31,39 @@ loop-planned-preserved g c =
     = ap (steps_seen es) (take_more steps i step below ∙ ap (λ s. take i steps ++ s ∷ []) here) ∙ flat_map-append (step_seen es) (take i steps) (step ∷ []) ∙ ap (λ l. done ++ l) (append-nil (step_seen es step)) in
     let old = c.args.done.now in
     let mid = c.loop-planned.done in
-    let new = c.take_step.new.done in
-    record {
-      taken = λ r given stands.
-          let one = c.loop-planned.invariant.taken r given stands in
-          let after = given ++ job_told decoding r done in
-          let two : HasTaken f decoding (share (job_run r done) after (step_seen es step)) mid new
-          = subst (λ job. HasTaken f decoding (share (job_run r done) after job) mid new) c.step_of-step.ensures (rw c.loop-planned.invariant.same at (c.in_ok-take_step.ensures.taken (job_run r done) after one.stands)) in
-          subst (λ job. HasTaken f decoding (share r given job) old new) (sym whole) (taken_more f decoding r given done (step_seen es step) old mid new one two);
-      ranks = (c.take_step.ensures.ranks.0 ∙ c.loop-planned.invariant.ranks.0, c.take_step.ensures.ranks.1 ∙ c.loop-planned.invariant.ranks.1);
-      same = c.take_step.ensures.same ∙ c.loop-planned.invariant.same;
-      nothing = c.in_ok-take_step.ensures.nothing;
-    }
+    elim c.match-planned.branch [
+      | in-TakeIn+in_ok-take_events-in-TakeIn w ↦
+        let first = w.in-TakeIn.first in
+        let more = w.in-TakeIn.more in
+        let seen : map taken_in (map view w.stretch-events.result.now) ≡ step_seen es step
+        = ap (λ l. map taken_in (map view l)) w.stretch-events.ensures ∙ ap (map taken_in) (taken_view c.args.events.now first (more + 1)) ∙ ap (step_seen es) (sym w.in-TakeIn.is) in
+        record {
+          taken = λ r given stands.
+              let one = c.loop-planned.invariant.taken r given stands in
+              let after = given ++ job_told decoding r done in
+              let two : HasTaken f decoding (share (job_run r done) after (step_seen es step)) mid w.take_events.new.done
+              = subst (λ job. HasTaken f decoding (share (job_run r done) after job) mid w.take_events.new.done) seen
+              (rw c.loop-planned.invariant.same at (w.in_ok-take_events-in-TakeIn.ensures.taken (job_run r done) after one.stands)) in
+              rw w.done-is (subst (λ job. HasTaken f decoding (share r given job) old w.take_events.new.done) (sym whole) (taken_more f decoding r given done (step_seen es step) old mid w.take_events.new.done one two));
+          ranks = rw w.done-is (w.take_events.ensures.ranks.0 ∙ c.loop-planned.invariant.ranks.0, w.take_events.ensures.ranks.1 ∙ c.loop-planned.invariant.ranks.1);
+          same = w.decoder-is ∙ w.take_events.ensures.same ∙ c.loop-planned.invariant.same;
+          nothing = rw w.effects-is w.in_ok-take_events-in-TakeIn.ensures.nothing;
+        }
+      | in-Change+in_ok-take_step-in-Change w ↦
+        let seen = w.change_at-step.ensures ∙ ap (λ what. heard_at es w.in-Change.event (becomes_seen what)) w.deref.ensures ∙ ap (step_seen es) (sym w.in-Change.is) in
+        record {
+          taken = λ r given stands.
+              let one = c.loop-planned.invariant.taken r given stands in
+              let after = given ++ job_told decoding r done in
+              let two : HasTaken f decoding (share (job_run r done) after (step_seen es step)) mid w.take_step.new.done
+              = subst (λ job. HasTaken f decoding (share (job_run r done) after job) mid w.take_step.new.done) seen
+              (rw c.loop-planned.invariant.same at (w.in_ok-take_step-in-Change.ensures.taken (job_run r done) after one.stands)) in
+              rw w.done-is (subst (λ job. HasTaken f decoding (share r given job) old w.take_step.new.done) (sym whole) (taken_more f decoding r given done (step_seen es step) old mid w.take_step.new.done one two));
+          ranks = rw w.done-is (w.take_step.ensures.ranks.0 ∙ c.loop-planned.invariant.ranks.0, w.take_step.ensures.ranks.1 ∙ c.loop-planned.invariant.ranks.1);
+          same = w.decoder-is ∙ w.take_step.ensures.same ∙ c.loop-planned.invariant.same;
+          nothing = rw w.effects-is w.in_ok-take_step-in-Change.ensures.nothing;
+        }
+    ]
 
 pub returns-clause-taken : goal.returns-clause-taken
 returns-clause-taken g c r given stands =

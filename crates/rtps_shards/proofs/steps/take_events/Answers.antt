@@ -1,0 +1,48 @@
+use Rattle.std.proofs.Common.{◌≡◌, ◌+◌, ◌<◌, ◌++◌, ◌∷◌, [], ◌∙◌, ap, get_or, length, map, option_to_list, rules, subst, sym, take, Some}
+use Rattle.std.proofs.lemmas.List.{map_push, take_all, take_more}
+use Rattle.rtps_receiver.specs.Events.{view}
+use Rattle.rtps_reader.specs.Steps.{asked}
+use Rattle.rtps_planner.specs.Job.{job_run, job_told}
+use Rattle.rtps_planner.specs.Plan.{taken_in}
+use Rattle.rtps_shards.specs.Results.{HasTaken, share}
+use Rattle.rtps_shards.proofs.Taking.{taken_more}
+use Rattle.rtps_shards.proofs.steps.take_events.Goals as goal
+
+pub loop-event-preserved : goal.loop-event-preserved
+loop-event-preserved g c =
+    let f = g.C.Catalog.view in
+    let decoding = g.C.Catalog.decoding c.args.decoder.now in
+    let events = c.args.events.now in
+    let i = c.loop-event.event-index in
+    let event = c.event-item.result in
+    let below : i < length events = search rules in
+    let here : get_or events i event ≡ event = search rules in
+    let done = map taken_in (map view (take i events)) in
+    let one = taken_in (view event) ∷ [] in
+    let whole : map taken_in (map view (take (i + 1) events)) ≡ done ++ one
+    = ap (λ l. map taken_in (map view l)) (take_more events i event below ∙ ap (λ s. take i events ++ s ∷ []) here)
+    ∙ ap (map taken_in) (map_push view (take i events) event)
+    ∙ map_push taken_in (map view (take i events)) (view event) in
+    let asks : map (λ s. (s.place, asked s.what)) (option_to_list (Some c.of_event.result)) ≡ one
+    = ap (λ place. (place, asked c.of_event.result.what) ∷ []) c.of_event.ensures.place ∙ ap (λ what. ((view event).place, what) ∷ []) c.of_event.ensures.what in
+    let old = c.args.done.now in
+    let mid = c.loop-event.done in
+    let new = c.take_step.new.done in
+    record {
+      taken = λ r given stands.
+          let first = c.loop-event.invariant.taken r given stands in
+          let after = given ++ job_told decoding r done in
+          let second : HasTaken f decoding (share (job_run r done) after one) mid new
+          = subst (λ job. HasTaken f decoding (share (job_run r done) after job) mid new) asks (rw c.loop-event.invariant.same at (c.in_ok-take_step.ensures.taken (job_run r done) after first.stands)) in
+          subst (λ job. HasTaken f decoding (share r given job) old new) (sym whole) (taken_more f decoding r given done one old mid new first second);
+      ranks = (c.take_step.ensures.ranks.0 ∙ c.loop-event.invariant.ranks.0, c.take_step.ensures.ranks.1 ∙ c.loop-event.invariant.ranks.1);
+      same = c.take_step.ensures.same ∙ c.loop-event.invariant.same;
+      nothing = c.in_ok-take_step.ensures.nothing;
+    }
+
+pub returns-clause-taken : goal.returns-clause-taken
+returns-clause-taken g c r given stands =
+    let f = g.C.Catalog.view in
+    let decoding = g.C.Catalog.decoding c.args.decoder.now in
+    let whole : take c.loop-event.event-index c.args.events.now ≡ c.args.events.now = take_all c.loop-event.event-index c.args.events.now c.loop-event-test.false in
+    subst (λ events. HasTaken f decoding (share r given (map taken_in (map view events))) c.args.done.now c.loop-event.done) whole (c.loop-event.invariant.taken r given stands)
