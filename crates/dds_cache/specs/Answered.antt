@@ -13,9 +13,11 @@ use Rattle.dds_cache.specs.Calls.{Done}
 use Rattle.dds_cache.specs.Cache.{Cached, cached, first_by, meets}
 use Rattle.dds_cache.specs.Instances.{state_of}
 
+-- the sample state of an entry, by whether a call answered it before
 abbrev pub sample_state : Bool → SampleState
 sample_state was_read = if was_read then Read else NotRead
 
+-- the view state of an entry, by whether its instance is new
 abbrev pub view_state : Bool → ViewState
 view_state is_new = if is_new then New else NotNew
 

@@ -17,6 +17,7 @@ use Rattle.dds_cache.specs.Standing.{InstanceView, Parts, alive_in, count_in, di
 
 -- ---- what becomes of an instance
 
+-- an instance as it is made: new, not disposed, with no live writers and no entries
 abbrev pub fresh : InstanceView
 fresh = record { is_disposed = false; is_new = true; live = 0; numbers = [] }
 
@@ -29,6 +30,7 @@ valued joined i = record {
   numbers = i.numbers;
 }
 
+-- a disposal came
 abbrev pub disposed : InstanceView → InstanceView
 disposed i = record i { is_disposed = true }
 
@@ -36,9 +38,11 @@ disposed i = record i { is_disposed = true }
 abbrev pub left : InstanceView → InstanceView
 left i = record i { live = i.live - 1 }
 
+-- it has one more entry, of this number
 abbrev pub with_number : ℕ → InstanceView → InstanceView
 with_number n i = record i { numbers = insert_key nat_cmp i.numbers n }
 
+-- its entries have these numbers
 abbrev pub with_numbers : List ℕ → InstanceView → InstanceView
 with_numbers ns i = record i { numbers = ns }
 
@@ -72,11 +76,13 @@ pub record IsSame {M : Type 0} (old new : Parts M) : Type 0 where
 
 -- ---- what a call answers
 
+-- an entry meets a condition, by what is known of its instance
 abbrev pub passes : {M : Type 0} → (KeyHash → Option InstanceView) → Condition → ℕ × Entry M → Bool
 passes find flags e =
     (not flags.not_read || not e.1.is_read)
     && ((not flags.new || new_in (find e.1.key)) && (not flags.alive || alive_in (find e.1.key)))
 
+-- an entry as it is chosen: its number, its instance, and its states before the call
 abbrev pub chosen_by : {M : Type 0} → (KeyHash → Option InstanceView) → ℕ × Entry M → Chosen
 chosen_by find e = record {
   number = e.0;
@@ -141,9 +147,11 @@ take_shown [] es = []
 take_shown (c ∷ cs) es =
     with_shown c (lookup (is_number c.number) es) (take_shown cs (remove_entry (is_number c.number) es))
 
+-- an instance, once this entry of it was read
 abbrev pub read_each : Chosen → InstanceView → InstanceView
 read_each c = seen
 
+-- an instance, once this entry of it was taken
 abbrev pub spend_each : Chosen → InstanceView → InstanceView
 spend_each c = spent c.number
 
