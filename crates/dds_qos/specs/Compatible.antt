@@ -28,24 +28,29 @@ durability_kind durability.TransientLocal = 1
 durability_kind durability.Transient = 2
 durability_kind durability.Persistent = 3
 
+-- the scopes of access by how much they cover, as they are numbered in messages
 abbrev pub scope_kind : AccessScope → ℕ
 scope_kind scope.Instance = 0
 scope_kind scope.Topic = 1
 scope_kind scope.Group = 2
 
+-- the kinds of ownership as they are numbered in messages
 abbrev pub ownership_kind : Ownership → ℕ
 ownership_kind ownership.Shared = 0
 ownership_kind ownership.Exclusive = 1
 
+-- the kinds of liveliness by how much they promise, as they are numbered in messages
 abbrev pub liveliness_kind : LivelinessKind → ℕ
 liveliness_kind liveliness.Automatic = 0
 liveliness_kind liveliness.ManualByParticipant = 1
 liveliness_kind liveliness.ManualByTopic = 2
 
+-- the kinds of reliability by how much they promise, as they are numbered in messages
 abbrev pub reliability_kind : Reliability → ℕ
 reliability_kind reliability.BestEffort = 1
 reliability_kind reliability.Reliable = 2
 
+-- the kinds of destination order by how much they promise, as they are numbered in messages
 abbrev pub order_kind : DestinationOrder → ℕ
 order_kind order.ByReceptionTimestamp = 0
 order_kind order.BySourceTimestamp = 1

@@ -38,6 +38,7 @@ is_sound_by id c =
     if id == 0x0071 then is_some (status_in c) else
     true
 
+-- a parameter whose value has the form of its id
 abbrev pub is_sound : Endian → Parameter → Bool
 is_sound e p = is_sound_by p.id (start e p.value)
 

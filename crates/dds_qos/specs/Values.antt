@@ -36,11 +36,13 @@ only (Err fault) = None
 abbrev pub kind_then : {X Y : Type 0} → Cursor → (ℕ → Option X) → (X → Cursor → Option Y) → Option Y
 kind_then c kinds f = then_read c (number_in 4 c) (λ n after. option_and_then (λ x. f x after) (kinds n))
 
+-- the kind that a number of 32 bits stands for; None where it stands for none
 abbrev pub kind_in : {X : Type 0} → Cursor → (ℕ → Option X) → Option X
 kind_in c kinds = option_and_then kinds (only (number_in 4 c))
 
 -- ---- the kinds, by their numbers (DDSI-RTPS 9.6.3)
 
+-- the kind of durability with this number, if there is one
 abbrev pub durability_of : ℕ → Option Durability
 durability_of n =
     if n == 0 then Some durability.Volatile else
@@ -49,6 +51,7 @@ durability_of n =
     if n == 3 then Some durability.Persistent else
     None
 
+-- the scope of access with this number, if there is one
 abbrev pub scope_of : ℕ → Option AccessScope
 scope_of n =
     if n == 0 then Some scope.Instance else
@@ -56,12 +59,14 @@ scope_of n =
     if n == 2 then Some scope.Group else
     None
 
+-- the kind of ownership with this number, if there is one
 abbrev pub ownership_of : ℕ → Option Ownership
 ownership_of n =
     if n == 0 then Some ownership.Shared else
     if n == 1 then Some ownership.Exclusive else
     None
 
+-- the kind of liveliness with this number, if there is one
 abbrev pub liveliness_of : ℕ → Option LivelinessKind
 liveliness_of n =
     if n == 0 then Some liveliness.Automatic else
@@ -69,24 +74,29 @@ liveliness_of n =
     if n == 2 then Some liveliness.ManualByTopic else
     None
 
+-- the kind of reliability with this number, if there is one
 abbrev pub reliability_of : ℕ → Option Reliability
 reliability_of n =
     if n == 1 then Some reliability.BestEffort else
     if n == 2 then Some reliability.Reliable else
     None
 
+-- the kind of destination order with this number, if there is one
 abbrev pub order_of : ℕ → Option DestinationOrder
 order_of n =
     if n == 0 then Some order.ByReceptionTimestamp else
     if n == 1 then Some order.BySourceTimestamp else
     None
 
+-- the kind of durability that a value says
 abbrev pub durability_in : Cursor → Option Durability
 durability_in c = kind_in c durability_of
 
+-- the kind of ownership that a value says
 abbrev pub ownership_in : Cursor → Option Ownership
 ownership_in c = kind_in c ownership_of
 
+-- the kind of destination order that a value says
 abbrev pub order_in : Cursor → Option DestinationOrder
 order_in c = kind_in c order_of
 
@@ -100,6 +110,7 @@ topic_in c = only (text_in c)
 abbrev pub names_in : Cursor → Option (List (List ℕ))
 names_in c = only (texts_in c)
 
+-- a number of 32 bits
 abbrev pub number_of : Cursor → Option ℕ
 number_of c = only (number_in 4 c)
 
@@ -141,6 +152,7 @@ kept_locator kind port octets =
     then option_map (λ (address : List ℕ). record { port = port; address = address }) (octets_at 4 octets 12)
     else None
 
+-- a kind, a port and sixteen octets: the locator, if it is one that is kept
 unfoldable pub locator_in : Cursor → Option (Option Locator)
 locator_in c =
     then_read c (number_in 4 c) (λ kind after_kind. then_read after_kind (number_in 4 after_kind) (λ port after.
@@ -155,5 +167,6 @@ guid_of octets =
     (octets_at 4 octets 12))
     (octets_at 12 octets 0)
 
+-- the guid that sixteen octets name
 unfoldable pub guid_in : Cursor → Option Guid
 guid_in c = option_and_then guid_of (only (octets_in 16 c))
