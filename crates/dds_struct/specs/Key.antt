@@ -8,10 +8,12 @@ use Rattle.rtps_types.specs.declared.identity.KeyHash.{KeyHash}
 use Rattle.rtps_cdr.specs.Cdr.{CdrType, Unsigned, Signed, Boolean, Text, Octets, Both, Sequence, ValueOf, padding}
 use Rattle.rtps_cdr.specs.Writing.{written}
 
+-- where a value ends that comes after another, if each has an end that its type says
 abbrev pub end_after : Option ℕ → (ℕ → Option ℕ) → Option ℕ
 end_after None f = None
 end_after (Some at) f = f at
 
+-- there is a greatest size, and it is at most 16 octets
 abbrev pub at_most_16 : Option ℕ → Bool
 at_most_16 None = false
 at_most_16 (Some size) = nat_le size 16

@@ -13,6 +13,7 @@ unfoldable pub items : {A : Type 0} → (Cursor → Result A CdrFault) → (Curs
 items read behind zero c = Ok []
 items read behind (suc n) c = and_then (read c) (λ x. and_then (items read behind n (behind c)) (λ xs. Ok (x ∷ xs)))
 
+-- where a reader is after so many items
 unfoldable pub behind_items : (Cursor → Cursor) → ℕ → Cursor → Cursor
 behind_items behind zero c = c
 behind_items behind (suc n) c = behind_items behind n (behind c)
