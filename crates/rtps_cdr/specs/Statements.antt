@@ -1,4 +1,4 @@
--- What holds of the representation as a whole.
+-- What holds of the representation as a whole (CORBA CDR 9.3.1.1, 9.3.2.2).
 use Rattle.std.specs.Prelude.{◌≡◌, ℕ, ℤ, ◌+◌, ◌<◌, ◌^◌, List, [], ◌∷◌, ◌++◌, length, Bool, Result, Ok}
 use Rattle.std.specs.Int.{Width, byte_len}
 use Rattle.rtps_types.specs.declared.field.Endian.{Endian}
