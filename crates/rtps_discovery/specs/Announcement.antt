@@ -51,6 +51,7 @@ abbrev pub has_bit : ℕ → Option ℕ → Bool
 has_bit bit None = true
 has_bit bit (Some set) = set / 2 ^ bit % 2 == 1
 
+-- what the record of a participant says of it
 abbrev pub facts_of : Settings → Facts
 facts_of s = record {
   metatraffic = s.metatraffic_unicast;
@@ -67,9 +68,11 @@ offer_by s (Some topic) None = None
 offer_by s (Some topic) (Some name) =
     Some (record { topic = topic; type_name = name; policies = s.policies; partitions = s.partitions; locators = s.unicast })
 
+-- what the record of a writer or a reader says of it, where topic and type are given
 abbrev pub offer_of : Settings → Option Offer
 offer_of s = offer_by s s.topic s.type_name
 
+-- a value, where something holds
 abbrev pub when : {X : Type 0} → Bool → X → Option X
 when holds x = if holds then Some x else None
 

@@ -1,4 +1,5 @@
--- The changes of what is known, in the words of sets: differences of the pairs that are matched, and of those that are refused.
+-- The changes of what is known, in the words of sets: differences of the pairs that are matched,
+-- and of those that are refused (DDSI-RTPS 8.5.4.4; DDS 1.4, 2.2.4.1).
 use Rattle.std.specs.Prelude.{◌≡◌, ℕ, List, Bool, false, true, ◌↔◌, AllPairs, Contains, IsTrue}
 use Rattle.std.specs.List.Sorted.{IsStrictlySortedBy}
 use Rattle.std.specs.Map.{keys_of}
@@ -29,6 +30,7 @@ abbrev pub ends_first : Becomes → Becomes → Bool
 ends_first (Unmatches g) (Refuses h policy) = true
 ends_first a b = false
 
+-- one comes before the other by this order, or is equal by it and comes before otherwise
 abbrev pub first_by : Ordering → Bool → Bool
 first_by Less otherwise = true
 first_by Equal otherwise = otherwise

@@ -30,6 +30,7 @@ pub record HeldView : Type 0 where
   pub remote_readers : List Guid
   pub ranks : List (Guid × List ℕ)
 
+-- what contracts see of what discovery keeps
 abbrev pub kept : {A : Type 0} → held.Held A → HeldView
 kept h = record {
   own = h.own;
@@ -46,6 +47,7 @@ kept h = record {
 abbrev pub ranks_at : Guid → List (Guid × List ℕ) → List ℕ
 ranks_at g ranks = unwrap_or (lookup (is_at g) ranks) []
 
+-- what is known of a participant, if it is known
 abbrev pub participant_in : GuidPrefix → List (GuidPrefix × Participant) → Option Participant
 participant_in p participants = lookup (λ q. is_eq (prefix_order p q)) participants
 
@@ -54,6 +56,7 @@ abbrev pub locators_by : HeldView → GuidPrefix → Option Offer → List Locat
 locators_by d prefix None = []
 locators_by d prefix (Some w) = own_or w.locators (participant_in prefix d.participants)
 
+-- a fixed match joins the reader of a rank to this writer
 abbrev pub fixed_at : HeldView → Guid → ℕ → Bool
 fixed_at d g = has_rank (ranks_at g d.fixed)
 

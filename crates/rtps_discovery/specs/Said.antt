@@ -12,6 +12,7 @@ use Rattle.rtps_wire.specs.declared.data.Form.{Form}
 use Rattle.rtps_wire.specs.declared.data.Form.TheVariants as form
 use Rattle.dds_qos.specs.Settings.{Settings, guid_named, settings_of}
 
+-- what a change of an announcer says: a record, or that something ends
 pub data Said : Type 0 where
   Announces : Settings → Said
   -- and what it names, if it names what ends
@@ -21,6 +22,7 @@ pub data Said : Type 0 where
 abbrev pub order_of : ℕ → Option Endian
 order_of kind = if kind == 0x0002 then Some Big else if kind == 0x0003 then Some Little else None
 
+-- a list that was read without a fault
 abbrev pub if_list : Result Contents ParamFault → Option Contents
 if_list (Ok list) = Some list
 if_list (Err fault) = None

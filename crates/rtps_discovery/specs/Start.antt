@@ -8,6 +8,7 @@ use Rattle.rtps_discovery.specs.declared.config.Config.{Config}
 use Rattle.rtps_discovery.specs.Known.{Known, Wish, is_fixed}
 use Rattle.rtps_discovery.specs.OneWriter.{matched_from}
 
+-- a reader of the configuration, and what it asks for
 abbrev pub wish_of : ReaderConfig → Wish
 wish_of r = record {
   entity = r.entity;
@@ -17,9 +18,11 @@ wish_of r = record {
   partitions = r.requested.partitions;
 }
 
+-- the same, as a reader that is there
 abbrev pub reader_of : ReaderConfig → Option Wish
 reader_of r = Some (wish_of r)
 
+-- the rank and the writer of a fixed match
 abbrev pub pair_of : FixedMatch → ℕ × Guid
 pair_of m = (m.rank, m.writer)
 
