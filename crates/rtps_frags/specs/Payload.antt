@@ -1,4 +1,4 @@
--- The payload of a sample of which all fragments came.
+-- The payload of a sample of which all fragments came (DDSI-RTPS 8.4.14.1).
 use Rattle.std.specs.Prelude.{◌≡◌, ℕ, ◌+◌, ◌-◌, ◌<◌, ◌≤◌, List, [], ◌∷◌, length, None, true}
 use Rattle.std.specs.List.{AllByRecursion}
 use Rattle.rtps_frags.specs.declared.sizes.Sizes.{Sizes}
