@@ -13,6 +13,7 @@ pub record Parameter : Type 0 where
   pub id : ℕ
   pub value : List ℕ
 
+-- what contracts see of a parameter
 abbrev pub view : Param → Parameter
 view p = record { id = p.id; value = p.value.now }
 
@@ -37,6 +38,7 @@ front_of e (a ∷ b ∷ []) = Err Short
 front_of e (a ∷ b ∷ c ∷ []) = Err Short
 front_of e (a ∷ b ∷ c ∷ d ∷ more) = headed e (number e 2 (a ∷ b ∷ [])) (number e 2 (c ∷ d ∷ [])) more
 
+-- what contracts see of what the code read at the front
 abbrev pub seen : Front → Read
 seen (code.Param p after) = Ok (Some (view p), after.now)
 seen (code.End after) = Ok (None, after.now)
@@ -70,6 +72,7 @@ reading_behind e zero (a ∷ b ∷ c ∷ []) = record { parameters = []; outcome
 reading_behind e zero (a ∷ b ∷ c ∷ d ∷ more) =
     go_on (headed e (number e 2 (a ∷ b ∷ [])) (number e 2 (c ∷ d ∷ [])) more) (reading_behind e (number e 2 (c ∷ d ∷ [])) more)
 
+-- the one reading of octets as a parameter list
 abbrev pub reading : Endian → List ℕ → Reading
 reading e octets = reading_behind e 0 octets
 
@@ -94,5 +97,6 @@ answer e octets ps (Err fault) = Err fault
 answer e octets ps (Ok rest) =
     Ok (record { endian = e; parameters = filter is_shown ps; used = length octets - length rest })
 
+-- what is answered of octets: the list that they begin with, or its first fault
 abbrev pub contents : Endian → List ℕ → Result Contents ParamFault
 contents e octets = answer e octets (reading e octets).parameters (reading e octets).outcome
