@@ -28,6 +28,7 @@ acknack_by settled base announced earlier =
 abbrev pub asks : List MatchEvent → MatchEvent → HeartbeatView → Bool
 asks past e h = is_new past h.count && (not h.final_flag || (not h.liveliness && is_incomplete (e ∷ past)))
 
+-- of what an event may bring, only a heartbeat that asks is answered
 abbrev pub is_answered_by : List MatchEvent → MatchEvent → EventBody → Bool
 is_answered_by past e (Whole c) = false
 is_answered_by past e (Fragment f) = false

@@ -1,4 +1,4 @@
--- What a proxy keeps of a history, and what it gives at an event.
+-- What a proxy keeps of a history, and what it gives at an event (DDSI-RTPS 8.4.10.4, 8.4.12).
 use Rattle.std.specs.Prelude.{◌≡◌, ℕ, ◌%◌, ◌^◌, Bool, true, false, List, [], ◌∷◌, map, Result, Ok, Err, IfOk, IsErr, OnErr, OnOk, Option, Some, None, if◌then◌else◌, is_some, ℤ, int_lt}
 use Rattle.std.specs.Option.{option_map}
 use Rattle.rtps_types.specs.declared.time.Timestamp.{Timestamp}

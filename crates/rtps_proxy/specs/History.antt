@@ -48,10 +48,12 @@ is_new_frag_in (Heartbeat h) count = true
 is_new_frag_in (Gap g) count = true
 is_new_frag_in (HeartbeatFrag h) count = int_lt h.count count
 
+-- a heartbeat of fragments with this count is accepted after a history
 abbrev pub is_new_frag : List MatchEvent → ℤ → Bool
 is_new_frag [] count = true
 is_new_frag (e ∷ past) count = is_new_frag_in e.body count && is_new_frag past count
 
+-- an event brings a heartbeat
 abbrev pub is_heartbeat : EventBody → Bool
 is_heartbeat (Whole c) = false
 is_heartbeat (Fragment f) = false
@@ -76,6 +78,7 @@ abbrev pub first_of : List MatchEvent → ℕ
 first_of [] = 1
 first_of (e ∷ past) = first_after past (first_of past) e.body
 
+-- what an event makes of the announced number, after those before it
 abbrev pub announced_after : List MatchEvent → ℕ → EventBody → ℕ
 announced_after past announced (Whole c) = announced
 announced_after past announced (Fragment f) = announced

@@ -20,6 +20,7 @@ pub record Match : Type 0 where
 abbrev pub fresh : Pairing → Match
 fresh w = record { pairing = w; past = [] }
 
+-- two guids are the same
 abbrev pub same_guid : Guid → Guid → Bool
 same_guid a b = bytes_eq a.prefix.0 b.prefix.0 && bytes_eq a.entity.0 b.entity.0
 
@@ -71,6 +72,7 @@ abbrev pub given_where : {A : Type 0} → Bool → Effects A → Option (Effects
 given_where false effects = None
 given_where true effects = Some effects
 
+-- two guids are the same, by their order
 abbrev pub is_at : Guid → Guid → Bool
 is_at w g = is_eq (guid_order w g)
 

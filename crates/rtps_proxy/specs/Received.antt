@@ -87,10 +87,12 @@ in_order (s ∷ ss) = put s (in_order ss)
 abbrev pub ready : List MatchEvent → MatchEvent → List ChangeView
 ready past e = in_order (filter (λ s. is_covered (e ∷ past) s.number && not (is_covered past s.number)) (received (e ∷ past)))
 
+-- the greatest of some numbers, and 0 where there are none
 abbrev pub max_of : List ℕ → ℕ
 max_of [] = 0
 max_of (n ∷ ns) = max n (max_of ns)
 
+-- what an event brings settles no number above this
 abbrev pub greatest_in : EventBody → ℕ
 greatest_in (Whole c) = c.number
 greatest_in (Fragment f) = f.number

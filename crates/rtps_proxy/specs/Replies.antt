@@ -20,6 +20,7 @@ pub record ReplyView : Type 0 where
   pub to : List Locator
   pub octets : List ℕ
 
+-- what contracts see of a datagram that answers
 abbrev pub reply_view : {A : Type 0} → Reply A → ReplyView
 reply_view r = record { to = r.to; octets = r.octets }
 

@@ -10,6 +10,7 @@ use Rattle.rtps_proxy.specs.Received.{frontier_of, is_settled}
 abbrev pub Run : Type 0
 Run = Number × Number
 
+-- the first number of a run
 abbrev pub start_of : Run → ℕ
 start_of r = value_of r.0
 
