@@ -47,6 +47,7 @@ first_of (HeartbeatFrag h) = h.number
 abbrev pub taken : AddressedBody → Option AddressedBody
 taken a = if nat_le 1 (first_of a.body) && list_all is_taken (numbers_of a.body) then Some a else None
 
+-- what is addressed, if anything is and it is taken
 abbrev pub taken_of : Option AddressedBody → Option AddressedBody
 taken_of None = None
 taken_of (Some a) = taken a

@@ -26,6 +26,7 @@ pub record EventView : Type 0 where
   pub reader : EntityId
   pub body : EventBody
 
+-- what contracts see of an event
 abbrev pub view : Event → EventView
 view e = record { place = e.place; source = e.source; time = e.time; writer = e.writer; reader = e.reader; body = body_view e.body }
 
