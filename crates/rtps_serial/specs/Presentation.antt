@@ -89,6 +89,7 @@ pub record Stretch (M : Type 0) : Type 0 where
   pub since : Since
   pub samples : List (Shown M)
 
+-- the stretch of these samples, since then
 abbrev pub stretch : {M : Type 0} → Since → List (Shown M) → Stretch M
 stretch since samples = record { since = since; samples = samples }
 
