@@ -36,9 +36,11 @@ entity_in text = made_of (λ octets. record { 0 = octets }) (octets_in 4 text)
 abbrev pub guid_of : List ℕ → Guid
 guid_of octets = record { prefix = record { 0 = take 12 octets }; entity = record { 0 = drop 12 octets } }
 
+-- the endpoint that a text is read as
 abbrev pub guid_in : List ℕ → Result Guid TextFault
 guid_in text = made_of guid_of (octets_in 16 text)
 
+-- the key hash that a text is read as
 abbrev pub hash_in : List ℕ → Result KeyHash TextFault
 hash_in text = made_of (λ octets. record { 0 = octets }) (octets_in 16 text)
 
