@@ -74,6 +74,7 @@ answer_items to id flags = record { id = 0x0e; flags = 1; content = Destination 
 abbrev pub read_words : NumberSet → List ℕ
 read_words s = sent_words s ++ replicate (8 - word_count s) 0
 
+-- a set as a writer reads it
 abbrev pub read_set : NumberSet → NumberSet
 read_set s = record { base = s.base; bits = s.bits; words = read_words s }
 

@@ -22,6 +22,7 @@ pub record DataFragView : Type 0 where
   pub info : ChangeInfo
   pub payload : List ℕ
 
+-- what contracts see of a DATA_FRAG
 abbrev pub frag_view : DataFrag → DataFragView
 frag_view d = record { reader = d.reader; writer = d.writer; number = d.number; start = d.start; count = d.count; size = d.size; sample = d.sample; info = d.info; payload = d.payload.now }
 
