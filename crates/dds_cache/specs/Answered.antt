@@ -44,7 +44,8 @@ shown_by past c e =
 abbrev pub answered_by : {M : Type 0} → List (Done M) → Cached M → ℕ → Condition → List (Sample M)
 answered_by past c max flags = map (shown_by past c) (first_by (meets past c flags) max c.entries)
 
--- what a call answers of a cache that keeps so much, after all that was done before (DDS 1.4, 2.2.2.5.3)
+-- what a call answers of a cache that keeps so much, after all that was done before
+-- (DDS 1.4, 2.2.2.5.3)
 abbrev pub answered : {M : Type 0} → History → List (Done M) → ℕ → Condition → List (Sample M)
 answered keep past max flags = answered_by past (cached keep past) max flags
 

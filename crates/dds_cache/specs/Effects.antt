@@ -120,8 +120,8 @@ abbrev pub looked : {M : Type 0} → List (ℕ × Entry M) → List ℕ → List
 looked es [] = []
 looked es (n ∷ ns) = with_found n (lookup (is_number n) es) (looked es ns)
 
--- the first so many of some entries that pass a test are added, as they are chosen, and so many more
--- are wanted
+-- the first so many of some entries that pass a test are added, as they are chosen, and so many
+-- more are wanted
 abbrev pub AddsFirst : {C E : Type 0} → (E → Bool) → (E → C) → ℕ → List E → List C → List C → ℕ → Type 0
 AddsFirst p f max es old new left =
     (new ≡ old ++ map f (first_by p max es)) × (left ≡ max - length (first_by p max es))

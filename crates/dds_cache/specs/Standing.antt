@@ -169,7 +169,8 @@ writers_in k live = length (filter (λ p. is_key k p.1) live)
 abbrev pub AreSized : List Pair → Type 0
 AreSized live = AllByRecursion (λ p. length p.1.0 ≡ 16) live
 
--- a cache keeps what follows from all that was done with it: the same entries and states, by other lists
+-- a cache keeps what follows from all that was done with it: the same entries and states, by other
+-- lists
 pub record StandsBy {M : Type 0} (past : List (Done M)) (p : Parts M) : Type 0 where
   pub entries : map (λ e. e.1) p.entries ≡ (cached p.keep past).entries
   pub rising : Rising 0 p.entries
