@@ -1,4 +1,5 @@
--- Whether what a writer offers meets what a reader asks for, policy by policy (DDS 1.4, 2.2.3, and the ids of its table of policies).
+-- Whether what a writer offers meets what a reader asks for, policy by policy (DDS 1.4, 2.2.3, and
+-- the ids of its table of policies).
 use Rattle.std.specs.Prelude.{ℕ, nat_lt, ◌==◌, List, [], ◌∷◌, Option, Some, None, Bool, not, ◌&&◌, ◌||◌, if◌then◌else◌}
 use Rattle.std.specs.List.{list_any}
 use Rattle.std.specs.Str.{bytes_eq}
@@ -67,7 +68,8 @@ at_most offered requested = not (is_gt (duration_order offered requested))
 abbrev pub where_asked : Bool → Bool → Bool
 where_asked offered requested = offered || not requested
 
--- the scope is as large, and coherent and ordered access are offered where they are asked for (DDS 1.4, 2.2.3.6)
+-- the scope is as large, and coherent and ordered access are offered where they are asked for
+-- (DDS 1.4, 2.2.3.6)
 abbrev pub presentation_met : Presentation → Presentation → Bool
 presentation_met o r =
     at_least (scope_kind o.access_scope) (scope_kind r.access_scope)

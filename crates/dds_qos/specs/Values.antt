@@ -1,4 +1,5 @@
--- How the value of a parameter is read: as CDR, aligned from its first octet; octets after it are ignored (DDSI-RTPS 9.4.2.11).
+-- How the value of a parameter is read: as CDR, aligned from its first octet; octets after it are
+-- ignored (DDSI-RTPS 9.4.2.11).
 use Rattle.std.specs.Prelude.{ℕ, ◌==◌, nat_le, ◌&&◌, List, Option, Some, None, option_and_then, if◌then◌else◌, Ok, Err}
 use Rattle.std.specs.Option.{option_map}
 use Rattle.std.specs.Int.{w32}
@@ -32,7 +33,8 @@ abbrev pub only : {X : Type 0} → Read X → Option X
 only (Ok x) = Some x.0
 only (Err fault) = None
 
--- a number of 32 bits that stands for a kind, and then what comes after it; None where it stands for none
+-- a number of 32 bits that stands for a kind, and then what comes after it; None where it stands
+-- for none
 abbrev pub kind_then : {X Y : Type 0} → Cursor → (ℕ → Option X) → (X → Cursor → Option Y) → Option Y
 kind_then c kinds f = then_read c (number_in 4 c) (λ n after. option_and_then (λ x. f x after) (kinds n))
 
@@ -128,7 +130,8 @@ unfoldable pub duration_in : Cursor → Option Duration
 duration_in c =
     then_read c (signed_in w32 c) (λ s after. option_map (λ f. record { seconds = s; fraction = f }) (only (number_in 4 after)))
 
--- the kind, and the longest time that a write may block, which is judged and not used (DDS 1.4, 2.2.3.14)
+-- the kind, and the longest time that a write may block, which is judged and not used
+-- (DDS 1.4, 2.2.3.14)
 unfoldable pub reliability_in : Cursor → Option Reliability
 reliability_in c = kind_then c reliability_of (λ k after. option_map (λ blocking. k) (duration_in after))
 
@@ -144,8 +147,8 @@ presentation_in c =
     option_map (λ ordered. record { access_scope = s; coherent_access = coherent; ordered_access = ordered })
     (only (bool_in after))))
 
--- a UDP address over IPv4, kind 1, with a port of 16 bits that isn't 0: its address is the last four of sixteen
--- octets; any other locator is dropped (DDSI-RTPS 9.3.2.4)
+-- a UDP address over IPv4, kind 1, with a port of 16 bits that isn't 0: its address is the last
+-- four of sixteen octets; any other locator is dropped (DDSI-RTPS 9.3.2.4)
 abbrev pub kept_locator : ℕ → ℕ → List ℕ → Option Locator
 kept_locator kind port octets =
     if kind == 1 && (nat_le 1 port && nat_le port 65535)
