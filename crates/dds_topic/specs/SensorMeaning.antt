@@ -1,5 +1,6 @@
--- An example of a type with two key fields: struct Sensor { @key unsigned long station; @key unsigned long channel;
--- long value; }. Its key has 8 octets, so they are the hash, with zeros after them (DDSI-RTPS 9.6.4.8).
+-- An example of a type with two key fields: struct Sensor { @key unsigned long station;
+-- @key unsigned long channel; long value; }. Its key has 8 octets, so they are the hash, with zeros
+-- after them (DDSI-RTPS 9.6.4.8).
 use Rattle.std.proofs.Common.{◌≡◌, ℕ, ℤ, ◌<◌, ◌^◌, ◌++◌, List, [], replicate, Result, Ok, refl, arith}
 use Rattle.std.specs.Int.{w32}
 use Rattle.rtps_types.specs.declared.field.Endian.TheVariants.{Big, Little}
