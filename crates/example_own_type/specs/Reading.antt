@@ -1,4 +1,5 @@
--- struct Reading { @key unsigned long station; unsigned long long taken; string place; sequence<short> levels; };
+-- struct Reading { @key unsigned long station; unsigned long long taken; string place;
+-- sequence<short> levels; };
 use Rattle.std.specs.Prelude.{ℕ, List, ◌++◌, codes, length}
 use Rattle.std.specs.Int.{w16}
 use Rattle.std.specs.Fmt.{decimal}
