@@ -154,8 +154,8 @@ abbrev pub IsFound : (t : CdrType) → Cursor → Cursor → Result (ValueOf t) 
 IsFound t c after (Ok v) = Takes t c after v
 IsFound t c after (Err f) = after ≡ c
 
--- what is read is related, and the reader moves to its end or stays at a fault; what is related is read, so a fault
--- comes only where nothing is
+-- what is read is related, and the reader moves to its end or stays at a fault; what is related is
+-- read, so a fault comes only where nothing is
 pub record Reads (t : CdrType) (c after : Cursor) (answer : Result (ValueOf t) CdrFault) : Type 0 where
   pub found : IsFound t c after answer
   pub only : (v : ValueOf t) (behind : Cursor) → Takes t c behind v → (answer ≡ Ok v) × (after ≡ behind)
