@@ -32,8 +32,8 @@ pub record Offer : Type 0 where
   pub partitions : List (List ℕ)
   pub locators : List Locator
 
--- what one record says, or one end: a participant comes, or speaks again; participants leave; a writer or a reader comes, or
--- changes, or goes
+-- what one record says, or one end: a participant comes, or speaks again; participants leave; a
+-- writer or a reader comes, or changes, or goes
 pub data Announcement : Type 0 where
   Comes : GuidPrefix → Facts → Announcement
   Leave : List GuidPrefix → Announcement
@@ -46,7 +46,8 @@ pub data Announcement : Type 0 where
 abbrev pub default_lease : Duration
 default_lease = record { seconds = pos 100; fraction = 0 }
 
--- a bit of the set of builtin endpoints; all are there where the set isn't given (DDSI-RTPS 9.3.2.12)
+-- a bit of the set of builtin endpoints; all are there where the set isn't given
+-- (DDSI-RTPS 9.3.2.12)
 abbrev pub has_bit : ℕ → Option ℕ → Bool
 has_bit bit None = true
 has_bit bit (Some set) = set / 2 ^ bit % 2 == 1

@@ -69,8 +69,8 @@ check_of c =
     if has_fault BadFixed c then Err BadFixed else
     Ok tt
 
--- a configuration without a fault: enough readers and not too many, each of them good, no entity twice, and the same of the
--- fixed matches
+-- a configuration without a fault: enough readers and not too many, each of them good, no entity
+-- twice, and the same of the fixed matches
 pub record IsFaultless (c : Config) : Type 0 where
   pub some_reader : 1 ≤ length c.readers.items
   pub readers_at_most : length c.readers.items ≤ 256

@@ -40,9 +40,10 @@ first_by Greater otherwise = false
 abbrev pub comes_before : ChangeAt → ChangeAt → Bool
 comes_before a b = first_by (nat_cmp a.rank b.rank) (first_by (guid_order (writer_in a.what) (writer_in b.what)) (ends_first a.what b.what))
 
--- Matches begin at the pairs that are matched after and weren't before, with the locators that are known then; they end at those
--- that were matched before and aren't after; refusals are reported that are new, or of another policy. Where the writers known after are in order,
--- so are the changes.
+-- Matches begin at the pairs that are matched after and weren't before, with the locators that are
+-- known then; they end at those that were matched before and aren't after; refusals are reported
+-- that are new, or of another policy. Where the writers known after are in order, so are the
+-- changes.
 pub record AreDifferences (before after : Known) : Type 0 where
   pub begin : (rank : ℕ) (g : Guid) (ls : List Locator) →
       Contains (changes before after) (at rank (Matches g ls))

@@ -1,5 +1,5 @@
--- What a participant knows of the others (DDSI-RTPS 8.5): participants, writers and readers, and how its own readers are with
--- the writers.
+-- What a participant knows of the others (DDSI-RTPS 8.5): participants, writers and readers, and
+-- how its own readers are with the writers.
 use Rattle.std.specs.Prelude.{ℕ, zero, suc, ◌==◌, List, [], ◌∷◌, filter, Option, Some, None, Bool, true, false, not, ◌&&◌, ◌||◌, if◌then◌else◌, is_some}
 use Rattle.std.specs.List.{list_any}
 use Rattle.std.specs.Map.{lookup, remove_entry}
@@ -145,7 +145,8 @@ subscriptions_writer = record { 0 = 0x00 ∷ 0x00 ∷ 0x04 ∷ 0xc2 ∷ [] }
 abbrev pub subscriptions_reader : EntityId
 subscriptions_reader = record { 0 = 0x00 ∷ 0x00 ∷ 0x04 ∷ 0xc7 ∷ [] }
 
--- a builtin reader of ours is matched with the writer of a participant that announces to it, and it is reliable
+-- a builtin reader of ours is matched with the writer of a participant that announces to it, and it
+-- is reliable
 abbrev pub announcer : GuidPrefix → GuidPrefix → EntityId → EntityId → List Locator → Match
 announcer own p writer reader locators = record {
   pairing = record {
@@ -172,8 +173,9 @@ with_announcers own p f ms =
 abbrev pub is_of : List GuidPrefix → GuidPrefix → Bool
 is_of gone p = list_any (λ q. bytes_eq q.0 p.0) gone
 
--- The first record of a participant makes it known, with its announcers; a later one changes its default locators and its
--- lease alone. With a participant go its announcers, its writers and its readers.
+-- The first record of a participant makes it known, with its announcers; a later one changes its
+-- default locators and its lease alone. With a participant go its announcers, its writers and its
+-- readers.
 abbrev pub known_after : Known → Announcement → Known
 known_after k (Comes p f) = record k {
   participants = insert_entry prefix_order k.participants p (record { locators = f.locators; lease = f.lease });

@@ -27,7 +27,8 @@ abbrev pub if_list : Result Contents ParamFault → Option Contents
 if_list (Ok list) = Some list
 if_list (Err fault) = None
 
--- the parameter list of a payload: two octets of encapsulation, two of options, which say nothing, and then the list
+-- the parameter list of a payload: two octets of encapsulation, two of options, which say nothing,
+-- and then the list
 abbrev pub list_in : List ℕ → Option Contents
 list_in payload =
     option_and_then
@@ -46,8 +47,9 @@ record_in payload = option_map Announces (option_and_then settings_of (list_in p
 abbrev pub end_in : ℕ → List ℕ → Option Said
 end_in id payload = option_map Ends (option_and_then (guid_named id) (list_in payload))
 
--- by the form of the change, and by whether something ends; id is the parameter that names what an end is of. An end
--- without a payload names nothing. A key payload that ends nothing says nothing, and no form of the standard neither
+-- by the form of the change, and by whether something ends; id is the parameter that names what an
+-- end is of. An end without a payload names nothing. A key payload that ends nothing says nothing,
+-- and no form of the standard neither
 abbrev pub said_by : ℕ → Form → Bool → List ℕ → Option Said
 said_by id form.Value false payload = record_in payload
 said_by id form.Value true payload = end_in id payload

@@ -1,4 +1,5 @@
--- What is known at the start (DDSI-RTPS 8.5): our readers, and the matches that there are from the start.
+-- What is known at the start (DDSI-RTPS 8.5): our readers, and the matches that there are from the
+-- start.
 use Rattle.std.specs.Prelude.{ℕ, List, [], Option, Some, None, map}
 use Rattle.std.specs.String.{string_bytes}
 use Rattle.rtps_types.specs.declared.identity.Guid.{Guid}
