@@ -6,7 +6,8 @@ use Rattle.rtps_types.specs.Numbers.{failing_from, first_failing}
 use Rattle.rtps_frags.specs.declared.sizes.Sizes.{Sizes}
 use Rattle.rtps_frags.specs.Fragments.{There, has, is_empty, last_of}
 
--- where a fragment up to `end` isn't there: from the least of these on, those of 256 fragments that aren't
+-- where a fragment up to `end` isn't there: from the least of these on, those of 256 fragments that
+-- aren't
 abbrev pub missing_from : (ℕ → Bool) → ℕ → ℕ → Option NumberSet
 missing_from is_there least end = if nat_lt end least then None else Some (set_naming least (failing_from is_there least (min 256 (end + 1 - least))))
 

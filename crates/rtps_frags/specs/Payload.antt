@@ -25,7 +25,8 @@ pub record IsPartOf (z : Sizes) (payload : List ℕ) (p : Part) : Type 0 where
   pub faultless : fault_of z p.start p.count (length p.octets) ≡ None
   pub same : (k : ℕ) → p.start ≤ k → k < p.start + p.count → fragment_in z p.start p.octets k ≡ fragment_in z 1 payload k
 
--- parts of one payload, in any order and however often, give that payload as soon as all fragments are there
+-- parts of one payload, in any order and however often, give that payload as soon as all fragments
+-- are there
 abbrev pub AnyOrderGivesThePayload : Type 0
 AnyOrderGivesThePayload =
     (z : Sizes) (payload : List ℕ) (parts : List Part) → length payload ≡ z.sample → AllByRecursion (IsPartOf z payload) parts

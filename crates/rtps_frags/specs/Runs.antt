@@ -1,4 +1,5 @@
--- Fragments that are kept where they came: those before the least missing one in one piece, and runs after it.
+-- Fragments that are kept where they came: those before the least missing one in one piece, and
+-- runs after it.
 use Rattle.std.specs.Prelude.{◌≡◌, ℕ, zero, suc, ◌+◌, ◌-◌, ◌<◌, ◌≤◌, Bool, false, ◌&&◌, ◌==◌, List, [], ◌∷◌, length, nat_lt, nat_le, Option, Some, None, filter, if◌then◌else◌}
 use Rattle.std.specs.List.{list_any, AllByRecursion}
 use Rattle.rtps_frags.specs.declared.sizes.Sizes.{Sizes}
