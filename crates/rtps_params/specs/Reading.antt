@@ -21,7 +21,8 @@ view p = record { id = p.id; value = p.value.now }
 abbrev pub Read : Type 0
 Read = Result (Option Parameter × List ℕ) ParamFault
 
--- a parameter, where its length is a multiple of four and so much is left; the length is judged first
+-- a parameter, where its length is a multiple of four and so much is left; the length is judged
+-- first
 abbrev pub parameter_of : ℕ → ℕ → List ℕ → Read
 parameter_of id len more =
     if len % 4 == 0 then (if nat_lt (length more) len then Err Short else Ok (Some (record { id = id; value = take len more }), drop len more)) else Err OddLength
@@ -50,7 +51,8 @@ LeavesLess octets (code.Param p after) = length after.now < length octets
 LeavesLess octets (code.End after) = length after.now < length octets
 LeavesLess octets (code.Fault f) = Unit {0}
 
--- the parameters before the end or before the first fault, padding too; then what comes after the end, or the fault
+-- the parameters before the end or before the first fault, padding too; then what comes after the
+-- end, or the fault
 pub record Reading : Type 0 where
   pub parameters : List Parameter
   pub outcome : Result (List ℕ) ParamFault
@@ -84,8 +86,8 @@ is_shown p = not (p.id == 0)
 abbrev pub shown : Endian → List ℕ → List Parameter
 shown e octets = filter is_shown (reading e octets).parameters
 
--- a list that was read without a fault: the byte order of its numbers, its parameters, and how many octets it takes,
--- its end included
+-- a list that was read without a fault: the byte order of its numbers, its parameters, and how many
+-- octets it takes, its end included
 pub record Contents : Type 0 where
   pub endian : Endian
   pub parameters : List Parameter
