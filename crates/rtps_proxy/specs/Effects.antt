@@ -74,8 +74,8 @@ pub record AreEffects {A : Type 0} (pairing : Pairing) (past : List MatchEvent) 
   pub ready : map change_view effects.ready.items ≡ ready_of pairing.reliable past event
   pub answer : option_map reply_view effects.answer ≡ answer_of pairing past event
 
--- How an event is taken in: what is kept then follows from it too, and it gives what it must; a refused growth leaves the proxy
--- spent. One that is spent refuses each event, and nothing changes.
+-- How an event is taken in: what is kept then follows from it too, and it gives what it must; a
+-- refused growth leaves the proxy spent. One that is spent refuses each event, and nothing changes.
 pub record TakesIn {A E : Type 0} (old new : ProxyView) (event : MatchEvent) (result : Result (Effects A) E) : Type 0 where
   pub stands : (past : List MatchEvent) → StandsAt past old → OnOk result (StandsAt (event ∷ past) new)
   pub effects : (past : List MatchEvent) → StandsAt past old → IfOk result (AreEffects old.pairing past event)

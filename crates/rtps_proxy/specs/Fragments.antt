@@ -8,7 +8,8 @@ use Rattle.rtps_frags.specs.declared.sizes.Sizes.{Sizes}
 use Rattle.rtps_frags.specs.Fragments.{There, fault_of, is_whole, payload_of, with_fragments}
 use Rattle.rtps_proxy.specs.History.{ChangeView}
 
--- a sample of which fragments were taken: what the first DATA_FRAG of it that was taken said, and the fragments that are there
+-- a sample of which fragments were taken: what the first DATA_FRAG of it that was taken said, and
+-- the fragments that are there
 pub record Begun : Type 0 where
   pub number : ℕ
   pub time : Option Timestamp

@@ -34,9 +34,10 @@ pub record Pairing : Type 0 where
 abbrev pub pairing : {A : Type 0} → ProxyConfig A → Pairing
 pairing c = record { own = c.own; writer = c.writer; reader = c.reader; reliable = c.reliable; locators = c.locators }
 
--- what is kept for a reliable reader: the greatest count of a heartbeat that was accepted, the announced number, the settled
--- numbers as those below a frontier and runs, the held changes in order, the samples whose fragments are awaited and whether
--- each growth of them was granted, the number of answers, and the same of heartbeats of fragments
+-- what is kept for a reliable reader: the greatest count of a heartbeat that was accepted, the
+-- announced number, the settled numbers as those below a frontier and runs, the held changes in
+-- order, the samples whose fragments are awaited and whether each growth of them was granted, the
+-- number of answers, and the same of heartbeats of fragments
 pub record ReliableView : Type 0 where
   pub accepted : Option ℤ
   pub announced : ℕ
@@ -81,8 +82,8 @@ abbrev pub counts_answer : Bool → ReliableView → ReliableView
 counts_answer is_answered r =
     record r { answers = if is_answered then (r.answers + 1) % 2 ^ 32 else r.answers }
 
--- what is kept for a best-effort reader: the greatest number that was received, the samples above it
--- whose fragments are awaited, and whether each growth of them was granted
+-- what is kept for a best-effort reader: the greatest number that was received, the samples above
+-- it whose fragments are awaited, and whether each growth of them was granted
 pub record BestEffortView : Type 0 where
   pub top : ℕ
   pub begun : List Begun

@@ -1,4 +1,5 @@
--- The matches of a reader (DDSI-RTPS 8.4.10): between whom each is, and what came for it since it began.
+-- The matches of a reader (DDSI-RTPS 8.4.10): between whom each is, and what came for it since it
+-- began.
 use Rattle.std.specs.Prelude.{◌≡◌, List, [], ◌∷◌, filter, Option, Some, None, Bool, false, true, not, ◌&&◌, if◌then◌else◌}
 use Rattle.std.specs.Map.{lookup, set_value}
 use Rattle.std.specs.Str.{bytes_eq}
@@ -35,7 +36,8 @@ extended w e [] = []
 extended w e (m ∷ ms) =
     if same_guid m.pairing.writer w then record { pairing = m.pairing; past = e ∷ m.past } ∷ ms else m ∷ extended w e ms
 
--- a match begins, in the place of one that was there with its writer; matches are in the order of their writers
+-- a match begins, in the place of one that was there with its writer; matches are in the order of
+-- their writers
 abbrev pub begun : Match → List Match → List Match
 begun m [] = m ∷ []
 begun m (n ∷ ms) =
