@@ -35,7 +35,8 @@ numbers_of (Heartbeat h) = h.first ∷ h.last ∷ []
 numbers_of (Gap g) = g.start ∷ g.list.base ∷ members g.list
 numbers_of (HeartbeatFrag h) = h.number ∷ []
 
--- the number of its change, or the first that it speaks of; it is at least 1 in any valid submessage
+-- the number of its change, or the first that it speaks of; it is at least 1 in any valid
+-- submessage
 abbrev pub first_of : EventBody → ℕ
 first_of (Whole c) = c.number
 first_of (Fragment f) = f.number
