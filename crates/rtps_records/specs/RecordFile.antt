@@ -1,4 +1,5 @@
--- A record file: four octets of magic, and records of a 32-bit length and that many octets, to the end.
+-- A record file: four octets of magic, and records of a 32-bit length and that many octets, to the
+-- end.
 use Rattle.std.specs.Prelude.{◌≡◌, ℕ, ◌+◌, ◌<◌, ◌≤◌, List, [], ◌∷◌, ◌++◌, ◌⊎◌, length, take, Option, Some, None, IfSome}
 use Rattle.std.specs.Io.KnownBytes.{Consumes}
 use Rattle.std.specs.List.{flat_map, AllByRecursion}
@@ -54,7 +55,8 @@ Reads octets records fault = (rest : List ℕ) × Holds octets records rest × E
 abbrev pub IsOther : List ℕ → Type 0
 IsOther octets = (more : List ℕ) → ¬ (octets ≡ magic ++ more)
 
--- what was read after n records holds no whole record; after the greatest number of records it is nothing
+-- what was read after n records holds no whole record; after the greatest number of records it is
+-- nothing
 abbrev pub IsPartial : ℕ → List ℕ → Type 0
 IsPartial n octets = (octets ≡ []) ⊎ ((n < 4294967295) × IsCut octets)
 
