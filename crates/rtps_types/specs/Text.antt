@@ -1,4 +1,5 @@
--- The texts that are read as identities: the octets of DDSI-RTPS 9.3.1 and 9.6.4.8, two hex digits of either case for each.
+-- The texts that are read as identities: the octets of DDSI-RTPS 9.3.1 and 9.6.4.8, two hex digits
+-- of either case for each.
 use Rattle.std.specs.Prelude.{◌≡◌, ℕ, ◌*◌, ◌==◌, nat_lt, Bool, List, take, drop, length, Result, Ok, Err, if◌then◌else◌}
 use Rattle.std.specs.List.{after_first, before_first, position_or_len}
 use Rattle.hex.specs.declared.error.FromHexError.{FromHexError}
