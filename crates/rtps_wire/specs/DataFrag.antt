@@ -30,7 +30,8 @@ frag_view d = record { reader = d.reader; writer = d.writer; number = d.number; 
 abbrev pub frag_form_of : ℕ → Form
 frag_form_of flags = if has 8 flags then Other else if has 4 flags then Key else Value
 
--- octetsToInlineQos counts from just after itself; invalid below 28 and past the end, and where the fragments begin with number 0
+-- octetsToInlineQos counts from just after itself; invalid below 28 and past the end, and where the
+-- fragments begin with number 0
 unfoldable pub data_frag_of : ℕ → Endian → List ℕ → Option DataFragView
 data_frag_of flags e body = do
   offset ← number_at e 2 body 2

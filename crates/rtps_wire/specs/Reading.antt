@@ -1,4 +1,5 @@
--- How the octets after a message's header are read, one submessage after the other (DDSI-RTPS 8.3.4.1, 9.4.5.1).
+-- How the octets after a message's header are read, one submessage after the other
+-- (DDSI-RTPS 8.3.4.1, 9.4.5.1).
 use Rattle.std.specs.Prelude.{◌≡◌, ℕ, zero, suc, List, [], ◌∷◌, length, take, drop, Option, Some, None, Result, Ok, Err, Bool, not, ◌&&◌, ◌||◌, nat_lt, ◌==◌, if◌then◌else◌}
 use Rattle.std.specs.Iterator.{YieldsFirstBy}
 use Rattle.rtps_types.specs.Field.{number}

@@ -53,7 +53,8 @@ parts_view code.Skipped = Skipped
 abbrev pub view : Submessage → Item
 view s = record { id = s.id; flags = s.flags; content = parts_view s.parts }
 
--- the table of submessages: what a body says, if it has the form of its kind; a kind that isn't in the table is skipped
+-- the table of submessages: what a body says, if it has the form of its kind; a kind that isn't in
+-- the table is skipped
 unfoldable pub parts_of : ℕ → ℕ → List ℕ → Option Content
 parts_of id flags body =
     if id == 0x01 then Some Pad else
