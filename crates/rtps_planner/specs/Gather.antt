@@ -76,6 +76,7 @@ sends_of (o ∷ os) =
 abbrev pub answer_turn : AnswerView → Turn
 answer_turn s = record { place = s.place; rank = s.rank; kind = kind.Answer }
 
+-- when an answer of an outcome comes
 abbrev pub turn_of : {A : Type 0} → Answer A → Turn
 turn_of a = answer_turn (answer_view a)
 
