@@ -20,9 +20,11 @@ put_line text (AnswerOf answer) = answer_line answer.place answer.to answer.octe
 abbrev pub put_lines : {M : Type 0} → (M → List ℕ) → List (ReportView M) → List ℕ
 put_lines text put = flat_map (put_line text) put
 
+-- the line of each match, in order
 abbrev pub match_lines : List (ℕ × Guid) → List ℕ
 match_lines matches = flat_map (λ m. match_line m.0 m.1) matches
 
+-- the line of the status of the reader of a rank, if there is one
 abbrev pub status_text : ℕ → Option Status → List ℕ
 status_text rank None = []
 status_text rank (Some status) = status_line rank status
