@@ -101,7 +101,7 @@ judged_at find flags n (Some e) = if passes find flags (n, e) then Some (chosen_
 abbrev pub shown_as : {M : Type 0} → Entry M → Chosen → Sample M
 shown_as e c = shown e c.sample c.view c.instance
 
--- the entry with a number is read; it leaves
+-- the entry with a number is read, and stays
 abbrev pub mark_one : {M : Type 0} → ℕ → List (ℕ × Entry M) → List (ℕ × Entry M)
 mark_one n [] = []
 mark_one n (e ∷ es) = if is_number n e.0 then (e.0, marked e.1) ∷ es else e ∷ mark_one n es
@@ -111,11 +111,12 @@ abbrev pub each : (Chosen → InstanceView → InstanceView) → List Chosen →
 each f [] k o = o
 each f (c ∷ cs) k o = each f cs k (if is_key c.key k then option_map (f c) o else o)
 
--- the entries of these numbers
+-- the entry with a number, if there is one, before others
 abbrev pub with_found : {M : Type 0} → ℕ → Option (Entry M) → List (ℕ × Entry M) → List (ℕ × Entry M)
 with_found n None es = es
 with_found n (Some e) es = (n, e) ∷ es
 
+-- the entries of these numbers
 abbrev pub looked : {M : Type 0} → List (ℕ × Entry M) → List ℕ → List (ℕ × Entry M)
 looked es [] = []
 looked es (n ∷ ns) = with_found n (lookup (is_number n) es) (looked es ns)
@@ -137,11 +138,12 @@ abbrev pub take_each : {M : Type 0} → List Chosen → List (ℕ × Entry M) �
 take_each [] es = es
 take_each (c ∷ cs) es = take_each cs (remove_entry (is_number c.number) es)
 
--- what is handed over
+-- an entry with the states that it was chosen with, if it is there, before others
 abbrev pub with_shown : {M : Type 0} → Chosen → Option (Entry M) → List (Sample M) → List (Sample M)
 with_shown c None samples = samples
 with_shown c (Some e) samples = shown_as e c ∷ samples
 
+-- what is handed over as the chosen entries are taken
 abbrev pub take_shown : {M : Type 0} → List Chosen → List (ℕ × Entry M) → List (Sample M)
 take_shown [] es = []
 take_shown (c ∷ cs) es =
