@@ -121,11 +121,12 @@ sequence_in read c = followed_by (number_in 4 c) (λ count behind. items_in read
 abbrev pub texts_in : Cursor → Read (List (List ℕ))
 texts_in c = sequence_in text_in c
 
--- the texts that are left, where all of them can be read
+-- the items of a list that was read; none after a fault
 abbrev pub list_of : {A : Type 0} → Read (List A) → List A
 list_of (Ok x) = x.0
 list_of (Err f) = []
 
+-- the texts that are left, where all of them can be read
 abbrev pub texts_left : ℕ → Cursor → List (List ℕ)
 texts_left n c = list_of (items_in text_in n c)
 
