@@ -121,7 +121,7 @@ locators_at k g = locators_for k g.prefix (writer_at k g)
 
 -- ---- what is known after an announcement
 
--- our builtin readers, and the writers of a participant that announce to them (DDSI-RTPS 9.3.1.3)
+-- the announcer of a participant itself (DDSI-RTPS 9.3.1.3 has it and the five ids after it)
 abbrev pub spdp_writer : EntityId
 spdp_writer = record { 0 = 0x00 ∷ 0x01 ∷ 0x00 ∷ 0xc2 ∷ [] }
 
