@@ -38,7 +38,8 @@ status_lines w (suc rank) = status_lines w rank ++ status_line rank (status_at w
 abbrev pub summary_text : {M : Type 0} → World M → List ℕ
 summary_text w = match_lines (matches_seen w) ++ status_lines w (reader_count w)
 
--- the text of these records: what the run of one thread puts out, and after it the summary where it is asked for
+-- the text of these records: what the run of one thread puts out, and after it the summary where it
+-- is asked for
 abbrev pub replay_text : {M : Type 0} → (M → List ℕ) → Decoding M → Config → Bool → List (List ℕ) → List ℕ
 replay_text text decoding config summary records =
     put_lines text (run decoding config records).put ++ (if summary then summary_text (run decoding config records) else [])
