@@ -13,9 +13,11 @@ use Rattle.dds_cache.specs.Calls.{Done}
 use Rattle.dds_cache.specs.Cache.{Cached, cached, first_by, meets}
 use Rattle.dds_cache.specs.Instances.{state_of}
 
+-- the sample state of an entry, by whether a call answered it before
 abbrev pub sample_state : Bool → SampleState
 sample_state was_read = if was_read then Read else NotRead
 
+-- the view state of an entry, by whether its instance is new
 abbrev pub view_state : Bool → ViewState
 view_state is_new = if is_new then New else NotNew
 
@@ -42,7 +44,8 @@ shown_by past c e =
 abbrev pub answered_by : {M : Type 0} → List (Done M) → Cached M → ℕ → Condition → List (Sample M)
 answered_by past c max flags = map (shown_by past c) (first_by (meets past c flags) max c.entries)
 
--- what a call answers of a cache that keeps so much, after all that was done before (DDS 1.4, 2.2.2.5.3)
+-- what a call answers of a cache that keeps so much, after all that was done before
+-- (DDS 1.4, 2.2.2.5.3)
 abbrev pub answered : {M : Type 0} → History → List (Done M) → ℕ → Condition → List (Sample M)
 answered keep past max flags = answered_by past (cached keep past) max flags
 

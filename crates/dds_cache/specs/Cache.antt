@@ -92,12 +92,14 @@ first_by p (suc max) (e ∷ es) = if p e then e ∷ first_by p max es else first
 abbrev pub marked : {M : Type 0} → Entry M → Entry M
 marked e = record e { is_read = true }
 
+-- the list in which the first so many that pass a test are read
 abbrev pub marked_by : {M : Type 0} → (Entry M → Bool) → ℕ → List (Entry M) → List (Entry M)
 marked_by p max [] = []
 marked_by p zero (e ∷ es) = e ∷ es
 marked_by p (suc max) (e ∷ es) =
     if p e then marked e ∷ marked_by p max es else e ∷ marked_by p (suc max) es
 
+-- the list without the first so many that pass a test
 abbrev pub left_by : {E : Type 0} → (E → Bool) → ℕ → List E → List E
 left_by p max [] = []
 left_by p zero (e ∷ es) = e ∷ es
@@ -127,6 +129,7 @@ cached_after keep past c (WasTaken max flags) = record {
   is_new = λ k. is_new_after (first_by (meets past c flags) max c.entries) (c.is_new k) k;
 }
 
+-- what a cache has after all that was done with it, the newest first
 abbrev pub cached : {M : Type 0} → History → List (Done M) → Cached M
 cached keep [] = record { entries = []; is_new = λ k. true }
 cached keep (d ∷ past) = cached_after keep past (cached keep past) d

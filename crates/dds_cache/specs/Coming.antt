@@ -21,6 +21,7 @@ use Rattle.dds_cache.specs.declared.index.Index.{Index}
 use Rattle.dds_cache.specs.Effects.{ChangesAt, disposed, fresh, valued, with_number, with_numbers}
 use Rattle.dds_cache.specs.Standing.{InstanceView, Pair, Parts, count_in, is_key, is_number, is_pair, known_at, numbers_in, pair_order, writers_in}
 
+-- an entry has a value; else it is a disposal
 abbrev pub is_value_of : {M : Type 0} → Content M → Bool
 is_value_of (content.Value v) = true
 is_value_of content.Disposed = false
@@ -42,6 +43,7 @@ does (kind.Lost count) = coming.ChangesNothing
 abbrev pub joins : Bool → Pair → List Pair → Bool
 joins is_value p live = is_value && not (list_any (is_pair p) live)
 
+-- the live writers after a value or a disposal came: that of a value is among them
 abbrev pub joined_by : Bool → Pair → List Pair → List Pair
 joined_by is_value p live = if joins is_value p live then insert_key pair_order live p else live
 
@@ -57,6 +59,7 @@ abbrev pub or_fresh : Option InstanceView → InstanceView
 or_fresh None = fresh
 or_fresh (Some i) = i
 
+-- what is known of an instance is changed so, and it is made where it isn't known
 abbrev pub made : (InstanceView → InstanceView) → Option InstanceView → Option InstanceView
 made f o = Some (f (or_fresh o))
 
@@ -72,10 +75,12 @@ kept_numbers most ns = if nat_lt most (length ns) then drop 1 ns else ns
 abbrev pub given_up : ℕ → List ℕ → Option ℕ
 given_up most ns = if nat_lt most (length ns) then slice_get ns 0 else None
 
+-- an instance with the number of an entry that came, where the last so many are kept
 abbrev pub counted : History → ℕ → InstanceView → InstanceView
 counted (KeepLast most) n i = with_numbers (kept_numbers most (insert_key nat_cmp i.numbers n)) i
 counted KeepAll n i = i
 
+-- the number of the entry that has to leave as one comes, if one has to
 abbrev pub leaving : History → ℕ → List ℕ → Option ℕ
 leaving (KeepLast most) n ns = given_up most (insert_key nat_cmp ns n)
 leaving KeepAll n ns = None

@@ -22,9 +22,11 @@ pub record Ends {M : Type 0} (n : Notice M) (leaves : Pair → Bool) : Type 0 wh
 abbrev pub uncounted : Option InstanceView → Option InstanceView
 uncounted o = option_map (λ (i : InstanceView). let j : InstanceView = record i { live = 0 } in j) o
 
+-- of each instance the same is known as before, but for that count
 abbrev pub KeepsRest : (KeyHash → Option InstanceView) → (KeyHash → Option InstanceView) → Type 0
 KeepsRest old new = (k : KeyHash) → uncounted (new k) ≡ uncounted (old k)
 
+-- of each instance the writers that are live in it are counted
 abbrev pub AreCounted : (KeyHash → Option InstanceView) → List Pair → Type 0
 AreCounted find live = (k : KeyHash) → count_in (find k) ≡ writers_in k live
 

@@ -17,6 +17,7 @@ use Rattle.dds_cache.specs.Standing.{InstanceView, Parts, alive_in, count_in, di
 
 -- ---- what becomes of an instance
 
+-- an instance as it is made: new, not disposed, with no live writers and no entries
 abbrev pub fresh : InstanceView
 fresh = record { is_disposed = false; is_new = true; live = 0; numbers = [] }
 
@@ -29,6 +30,7 @@ valued joined i = record {
   numbers = i.numbers;
 }
 
+-- a disposal came
 abbrev pub disposed : InstanceView → InstanceView
 disposed i = record i { is_disposed = true }
 
@@ -36,9 +38,11 @@ disposed i = record i { is_disposed = true }
 abbrev pub left : InstanceView → InstanceView
 left i = record i { live = i.live - 1 }
 
+-- it has one more entry, of this number
 abbrev pub with_number : ℕ → InstanceView → InstanceView
 with_number n i = record i { numbers = insert_key nat_cmp i.numbers n }
 
+-- its entries have these numbers
 abbrev pub with_numbers : List ℕ → InstanceView → InstanceView
 with_numbers ns i = record i { numbers = ns }
 
@@ -72,11 +76,13 @@ pub record IsSame {M : Type 0} (old new : Parts M) : Type 0 where
 
 -- ---- what a call answers
 
+-- an entry meets a condition, by what is known of its instance
 abbrev pub passes : {M : Type 0} → (KeyHash → Option InstanceView) → Condition → ℕ × Entry M → Bool
 passes find flags e =
     (not flags.not_read || not e.1.is_read)
     && ((not flags.new || new_in (find e.1.key)) && (not flags.alive || alive_in (find e.1.key)))
 
+-- an entry as it is chosen: its number, its instance, and its states before the call
 abbrev pub chosen_by : {M : Type 0} → (KeyHash → Option InstanceView) → ℕ × Entry M → Chosen
 chosen_by find e = record {
   number = e.0;
@@ -95,7 +101,7 @@ judged_at find flags n (Some e) = if passes find flags (n, e) then Some (chosen_
 abbrev pub shown_as : {M : Type 0} → Entry M → Chosen → Sample M
 shown_as e c = shown e c.sample c.view c.instance
 
--- the entry with a number is read; it leaves
+-- the entry with a number is read, and stays
 abbrev pub mark_one : {M : Type 0} → ℕ → List (ℕ × Entry M) → List (ℕ × Entry M)
 mark_one n [] = []
 mark_one n (e ∷ es) = if is_number n e.0 then (e.0, marked e.1) ∷ es else e ∷ mark_one n es
@@ -105,17 +111,18 @@ abbrev pub each : (Chosen → InstanceView → InstanceView) → List Chosen →
 each f [] k o = o
 each f (c ∷ cs) k o = each f cs k (if is_key c.key k then option_map (f c) o else o)
 
--- the entries of these numbers
+-- the entry with a number, if there is one, before others
 abbrev pub with_found : {M : Type 0} → ℕ → Option (Entry M) → List (ℕ × Entry M) → List (ℕ × Entry M)
 with_found n None es = es
 with_found n (Some e) es = (n, e) ∷ es
 
+-- the entries of these numbers
 abbrev pub looked : {M : Type 0} → List (ℕ × Entry M) → List ℕ → List (ℕ × Entry M)
 looked es [] = []
 looked es (n ∷ ns) = with_found n (lookup (is_number n) es) (looked es ns)
 
--- the first so many of some entries that pass a test are added, as they are chosen, and so many more
--- are wanted
+-- the first so many of some entries that pass a test are added, as they are chosen, and so many
+-- more are wanted
 abbrev pub AddsFirst : {C E : Type 0} → (E → Bool) → (E → C) → ℕ → List E → List C → List C → ℕ → Type 0
 AddsFirst p f max es old new left =
     (new ≡ old ++ map f (first_by p max es)) × (left ≡ max - length (first_by p max es))
@@ -131,19 +138,22 @@ abbrev pub take_each : {M : Type 0} → List Chosen → List (ℕ × Entry M) �
 take_each [] es = es
 take_each (c ∷ cs) es = take_each cs (remove_entry (is_number c.number) es)
 
--- what is handed over
+-- an entry with the states that it was chosen with, if it is there, before others
 abbrev pub with_shown : {M : Type 0} → Chosen → Option (Entry M) → List (Sample M) → List (Sample M)
 with_shown c None samples = samples
 with_shown c (Some e) samples = shown_as e c ∷ samples
 
+-- what is handed over as the chosen entries are taken
 abbrev pub take_shown : {M : Type 0} → List Chosen → List (ℕ × Entry M) → List (Sample M)
 take_shown [] es = []
 take_shown (c ∷ cs) es =
     with_shown c (lookup (is_number c.number) es) (take_shown cs (remove_entry (is_number c.number) es))
 
+-- an instance, once this entry of it was read
 abbrev pub read_each : Chosen → InstanceView → InstanceView
 read_each c = seen
 
+-- an instance, once this entry of it was taken
 abbrev pub spend_each : Chosen → InstanceView → InstanceView
 spend_each c = spent c.number
 

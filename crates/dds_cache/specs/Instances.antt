@@ -18,6 +18,7 @@ pub data About : Type 0 where
   AnUnregistration : About
   Nothing : About
 
+-- what is said of an instance, where the notice is of that instance
 abbrev pub about_key : Bool → About → About
 about_key b a = if b then a else Nothing
 
@@ -40,6 +41,7 @@ is_end kind.Unmatched = true
 is_end (kind.Incompatible policy) = false
 is_end (kind.Lost count) = false
 
+-- a value came
 abbrev pub is_value : About → Bool
 is_value AValue = true
 is_value ADisposal = false
@@ -90,11 +92,14 @@ is_disposed (WasTaken max c ∷ past) k = is_disposed past k
 abbrev pub state_by : Bool → Bool → InstanceState
 state_by is_gone is_written = if is_gone then Disposed else if is_written then Alive else NoWriters
 
+-- the state of an instance, after all that was done
 abbrev pub state_of : {M : Type 0} → List (Done M) → KeyHash → InstanceState
 state_of past k = state_by (is_disposed past k) (has_live past k)
 
+-- not disposed, and with a live writer
 abbrev pub alive_by : Bool → Bool → Bool
 alive_by is_gone is_written = not is_gone && is_written
 
+-- an instance is alive, after all that was done
 abbrev pub is_alive : {M : Type 0} → List (Done M) → KeyHash → Bool
 is_alive past k = alive_by (is_disposed past k) (has_live past k)

@@ -12,6 +12,7 @@ use Rattle.dds_cache.specs.declared.entry.Sample.{Sample}
 use Rattle.dds_cache.specs.Effects.{shown_as}
 use Rattle.dds_cache.specs.Standing.{is_number}
 
+-- a value that is lent, as the value itself; a disposal stays as it is
 abbrev pub lent_content : {M : Type 0} → Content (Bor M) → Content M
 lent_content (content.Value v) = content.Value v.now
 lent_content content.Disposed = content.Disposed
@@ -38,9 +39,11 @@ answer_at es c = option_map (λ e. shown_as e c) (lookup (is_number c.number) es
 abbrev pub answers_in : {M A : Type 0} → Answers M A → List (Option (Sample M))
 answers_in a = map (answer_at a.entries.entries) a.answered.items
 
+-- where there is no place there is nothing, as at a place that is empty
 abbrev pub joined : {X : Type 0} → Option (Option X) → Option X
 joined None = None
 joined (Some o) = o
 
+-- the answer at a place, if there is one
 abbrev pub nth_answer : {X : Type 0} → List (Option X) → ℕ → Option X
 nth_answer answers at = joined (slice_get answers at)

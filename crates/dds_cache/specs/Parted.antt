@@ -21,6 +21,7 @@ pub record Told (M : Type 0) : Type 0 where
   pub time : Option Timestamp
   pub body : Content M
 
+-- an entry, without its states
 abbrev pub told : {M : Type 0} → Entry M → Told M
 told e = record {
   place = e.place;
@@ -30,6 +31,7 @@ told e = record {
   body = e.body;
 }
 
+-- a sample that was answered, without its states
 abbrev pub told_by : {M : Type 0} → Sample M → Told M
 told_by s = record {
   place = s.place;

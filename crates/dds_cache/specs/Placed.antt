@@ -23,6 +23,7 @@ pub record ShelfView (M : Type 0) : Type 0 where
   pub places : ℕ
   pub capacity : ℕ
 
+-- what contracts see of entries without a place, and of a row that begins with this number
 abbrev pub shelf_view : {M : Type 0} → ℕ → List (ℕ × Entry M) → List (Option (Entry M)) → ℕ → ShelfView M
 shelf_view first old row capacity = record {
   next = first + length row;
@@ -39,6 +40,7 @@ pub record HasRoom {M : Type 0} (s : ShelfView M) : Type 0 where
 
 -- ---- what is done to a row
 
+-- there is an entry, and no call answered it
 abbrev pub is_unread : {M : Type 0} → Option (Entry M) → Bool
 is_unread None = false
 is_unread (Some e) = not e.is_read
@@ -65,6 +67,7 @@ abbrev pub with_settled : {M : Type 0} → ℕ → Option (Entry M) → List (�
 with_settled n None es = es
 with_settled n (Some e) es = insert_entry nat_cmp es n e
 
+-- its number is then among the unread ones, if it is an entry that no call answered
 abbrev pub with_unread : {M : Type 0} → ℕ → Option (Entry M) → List ℕ → List ℕ
 with_unread n None ns = ns
 with_unread n (Some e) ns = if e.is_read then ns else insert_key nat_cmp ns n

@@ -26,15 +26,19 @@ key_order a b = octet_order a.0 b.0
 abbrev pub Pair : Type 0
 Pair = Guid × KeyHash
 
+-- pairs are ordered by writer, and then by instance
 abbrev pub pair_order : Pair → Pair → Ordering
 pair_order a b = ordering_then (guid_order a.0 b.0) (key_order a.1 b.1)
 
+-- two key hashes are the same
 abbrev pub is_key : KeyHash → KeyHash → Bool
 is_key k h = is_eq (key_order k h)
 
+-- two pairs are the same
 abbrev pub is_pair : Pair → Pair → Bool
 is_pair p q = is_eq (pair_order p q)
 
+-- two numbers are the same
 abbrev pub is_number : ℕ → ℕ → Bool
 is_number n m = is_eq (nat_cmp n m)
 
@@ -47,6 +51,7 @@ pub record InstanceView : Type 0 where
   -- the numbers of its entries, where the last so many are kept
   pub numbers : List ℕ
 
+-- what contracts see of what is known of an instance
 abbrev pub known : {A : Type 0} → Instance A → InstanceView
 known i = record {
   is_disposed = i.is_disposed;
@@ -55,6 +60,7 @@ known i = record {
   numbers = i.numbers.keys;
 }
 
+-- what is known of the instance of a key, if it is known
 abbrev pub known_at : {A : Type 0} → List (KeyHash × Instance A) → KeyHash → Option InstanceView
 known_at is k = option_map known (lookup (is_key k) is)
 
@@ -75,6 +81,7 @@ pub record Parts (M : Type 0) : Type 0 where
   pub find : KeyHash → Option InstanceView
   pub live : List Pair
 
+-- what is kept, with a function that finds an instance in it
 abbrev pub parts_in : {M : Type 0} → CacheView M → Parts M
 parts_in kept = record {
   keep = kept.keep;
@@ -84,6 +91,7 @@ parts_in kept = record {
   live = kept.live;
 }
 
+-- the same of the code's index and shelf
 abbrev pub parts : {A M : Type 0} → Index A → ShelfView M → Parts M
 parts index shelf = record {
   keep = index.keep;
@@ -93,6 +101,7 @@ parts index shelf = record {
   live = index.live.keys;
 }
 
+-- what the code's index and shelf keep, as contracts see it
 abbrev pub kept : {A M : Type 0} → Index A → ShelfView M → CacheView M
 kept index shelf = record {
   keep = index.keep;
@@ -104,22 +113,27 @@ kept index shelf = record {
 
 -- ---- what is known of an instance, and of one that isn't known
 
+-- it is disposed; one that isn't known is not
 abbrev pub disposed_in : Option InstanceView → Bool
 disposed_in None = false
 disposed_in (Some i) = i.is_disposed
 
+-- it is new, and so is one that isn't known
 abbrev pub new_in : Option InstanceView → Bool
 new_in None = true
 new_in (Some i) = i.is_new
 
+-- how many writers are live in it, and none in one that isn't known
 abbrev pub count_in : Option InstanceView → ℕ
 count_in None = 0
 count_in (Some i) = i.live
 
+-- the numbers of its entries, and none of one that isn't known
 abbrev pub numbers_in : Option InstanceView → List ℕ
 numbers_in None = []
 numbers_in (Some i) = i.numbers
 
+-- it is alive: not disposed, and with a live writer
 abbrev pub alive_in : Option InstanceView → Bool
 alive_in o = alive_by (disposed_in o) (nat_lt 0 (count_in o))
 
@@ -130,15 +144,19 @@ abbrev pub Rising : {E : Type 0} → ℕ → List (ℕ × E) → Type 0
 Rising low [] = Unit {0}
 Rising low (e ∷ es) = (low ≤ e.0) × Rising (suc e.0) es
 
+-- no call answered the entry yet
 abbrev pub not_yet : {M : Type 0} → ℕ × Entry M → Bool
 not_yet e = not e.1.is_read
 
+-- the numbers of entries
 abbrev pub numbers : {E : Type 0} → List (ℕ × E) → List ℕ
 numbers es = map (λ e. e.0) es
 
+-- an entry is of an instance
 abbrev pub of_key : {M : Type 0} → KeyHash → ℕ × Entry M → Bool
 of_key k e = is_of k e.1
 
+-- the numbers of an instance's entries, where the last so many are kept; else none
 abbrev pub numbers_kept : {M : Type 0} → History → KeyHash → List (ℕ × Entry M) → List ℕ
 numbers_kept (KeepLast n) k es = numbers (filter (of_key k) es)
 numbers_kept KeepAll k es = []
@@ -151,7 +169,8 @@ writers_in k live = length (filter (λ p. is_key k p.1) live)
 abbrev pub AreSized : List Pair → Type 0
 AreSized live = AllByRecursion (λ p. length p.1.0 ≡ 16) live
 
--- a cache keeps what follows from all that was done with it: the same entries and states, by other lists
+-- a cache keeps what follows from all that was done with it: the same entries and states, by other
+-- lists
 pub record StandsBy {M : Type 0} (past : List (Done M)) (p : Parts M) : Type 0 where
   pub entries : map (λ e. e.1) p.entries ≡ (cached p.keep past).entries
   pub rising : Rising 0 p.entries

@@ -17,6 +17,7 @@ use Rattle.rtps_shards.specs.Results.{IsDone, IsReady, Share, given_done, rank_o
 use Rattle.dds_participant.specs.declared.readers.Paired.{Paired}
 use Rattle.dds_participant.specs.declared.readers.Parted.{Parted}
 
+-- the rank of the reader that a state keeps
 abbrev pub state_rank : ReaderView → ℕ
 state_rank s = s.rank
 
@@ -42,9 +43,11 @@ pub record ArePaired {V M : Type 0} (f : V → M) (es : List EventView) (decodin
   pub work : All (IsReady es shares) p.work.items
   pub idle : All (IsDone f decoding shares) p.idle.items
 
+-- the state of a reader once its job is done
 abbrev pub state_of : {V : Type 0} → JobResult V → ReaderView
 state_of x = x.state
 
+-- what a reader gives out and sends over its job
 abbrev pub output_of : {V : Type 0} → JobResult V → Output V Global
 output_of x = x.output
 

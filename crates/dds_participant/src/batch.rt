@@ -67,8 +67,9 @@ impl<C: Catalog> Participant<C> {
     /// Takes the next datagrams, at most 4,096 of at most 65,507 octets each, and gives the notices
     /// of each reader and what is to be sent, as [`rtps_serial::SerialEngine::take`] gives them of
     /// one datagram after another. The readers' jobs are run by so many workers, 1 to 64, of which
-    /// the caller is one; `gate` is called as each job begins and ends. Where there is more than one
-    /// worker, more than 1 MiB of datagrams are decoded on as many threads as there are processors.
+    /// the caller is one; `gate` is called as each job begins and ends. Where there is more than
+    /// one worker, more than 1 MiB of datagrams are decoded on as many threads as there are
+    /// processors.
     ///
     /// When a batch is out of memory, on whichever worker, nothing of it is given, and the
     /// participant has failed: from then on it answers [`EngineError::Failed`], and its statuses

@@ -1,4 +1,5 @@
--- Whether what a writer offers meets what a reader asks for, policy by policy (DDS 1.4, 2.2.3, and the ids of its table of policies).
+-- Whether what a writer offers meets what a reader asks for, policy by policy (DDS 1.4, 2.2.3, and
+-- the ids of its table of policies).
 use Rattle.std.specs.Prelude.{ℕ, nat_lt, ◌==◌, List, [], ◌∷◌, Option, Some, None, Bool, not, ◌&&◌, ◌||◌, if◌then◌else◌}
 use Rattle.std.specs.List.{list_any}
 use Rattle.std.specs.Str.{bytes_eq}
@@ -28,24 +29,29 @@ durability_kind durability.TransientLocal = 1
 durability_kind durability.Transient = 2
 durability_kind durability.Persistent = 3
 
+-- the scopes of access by how much they cover, as they are numbered in messages
 abbrev pub scope_kind : AccessScope → ℕ
 scope_kind scope.Instance = 0
 scope_kind scope.Topic = 1
 scope_kind scope.Group = 2
 
+-- the kinds of ownership as they are numbered in messages
 abbrev pub ownership_kind : Ownership → ℕ
 ownership_kind ownership.Shared = 0
 ownership_kind ownership.Exclusive = 1
 
+-- the kinds of liveliness by how much they promise, as they are numbered in messages
 abbrev pub liveliness_kind : LivelinessKind → ℕ
 liveliness_kind liveliness.Automatic = 0
 liveliness_kind liveliness.ManualByParticipant = 1
 liveliness_kind liveliness.ManualByTopic = 2
 
+-- the kinds of reliability by how much they promise, as they are numbered in messages
 abbrev pub reliability_kind : Reliability → ℕ
 reliability_kind reliability.BestEffort = 1
 reliability_kind reliability.Reliable = 2
 
+-- the kinds of destination order by how much they promise, as they are numbered in messages
 abbrev pub order_kind : DestinationOrder → ℕ
 order_kind order.ByReceptionTimestamp = 0
 order_kind order.BySourceTimestamp = 1
@@ -62,7 +68,8 @@ at_most offered requested = not (is_gt (duration_order offered requested))
 abbrev pub where_asked : Bool → Bool → Bool
 where_asked offered requested = offered || not requested
 
--- the scope is as large, and coherent and ordered access are offered where they are asked for (DDS 1.4, 2.2.3.6)
+-- the scope is as large, and coherent and ordered access are offered where they are asked for
+-- (DDS 1.4, 2.2.3.6)
 abbrev pub presentation_met : Presentation → Presentation → Bool
 presentation_met o r =
     at_least (scope_kind o.access_scope) (scope_kind r.access_scope)

@@ -1,4 +1,5 @@
--- What holds where a reader or a writer gives no policy: the defaults of DDS 1.4, section 2.2.3, and of DDSI-RTPS 9.6.3.
+-- What holds where a reader or a writer gives no policy: the defaults of DDS 1.4, section 2.2.3,
+-- and of DDSI-RTPS 9.6.3.
 use Rattle.std.specs.Prelude.{pos, false}
 use Rattle.rtps_types.specs.declared.time.Duration.{Duration}
 use Rattle.dds_qos.specs.declared.policies.Durability.TheVariants.{Volatile}

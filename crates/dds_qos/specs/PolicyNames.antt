@@ -1,4 +1,5 @@
--- The names of the policies that readers and writers are compared by, without their suffix `QosPolicy` (DDS 1.4, 2.2.3, and the ids of 2.3.3).
+-- The names of the policies that readers and writers are compared by, without their suffix
+-- `QosPolicy` (DDS 1.4, 2.2.3, and the ids of 2.3.3).
 use Rattle.std.specs.Prelude.{ℕ, ◌==◌, List, Option, Some, None, codes, if◌then◌else◌}
 
 -- the name of the policy of an id; none of any other id

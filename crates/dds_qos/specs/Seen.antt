@@ -7,6 +7,7 @@ use Rattle.dds_qos.specs.declared.fault.Malformed.{Malformed}
 use Rattle.dds_qos.specs.declared.settings.Settings.{Settings}
 use Rattle.dds_qos.specs.Settings as settings
 
+-- what contracts see of a text, if there is one
 abbrev pub text_seen : Option (Bor (List ℕ)) → Option (List ℕ)
 text_seen t = option_map (λ (text : Bor (List ℕ)). text.now) t
 
@@ -15,6 +16,7 @@ abbrev pub names_seen : Option (List (List ℕ)) → List (List ℕ)
 names_seen None = []
 names_seen (Some names) = names
 
+-- what contracts see of what a record says
 abbrev pub settings_seen : Settings → settings.Settings
 settings_seen s = record {
   lease = s.lease;

@@ -38,6 +38,7 @@ is_sound_by id c =
     if id == 0x0071 then is_some (status_in c) else
     true
 
+-- a parameter whose value has the form of its id
 abbrev pub is_sound : Endian → Parameter → Bool
 is_sound e p = is_sound_by p.id (start e p.value)
 
@@ -50,8 +51,8 @@ last id read e (p ∷ ps) x = last id read e ps (if p.id == id then unwrap_or (r
 abbrev pub as_some : {X : Type 0} → (Cursor → Option X) → Cursor → Option (Option X)
 as_some read c = option_map (λ x. Some x) (read c)
 
--- the guid that the last parameter of an id names, if there is one; None where a parameter of that id, be it the last or
--- not, names none. Nothing else of the list is judged.
+-- the guid that the last parameter of an id names, if there is one; None where a parameter of that
+-- id, be it the last or not, names none. Nothing else of the list is judged.
 abbrev pub guid_named : ℕ → Contents → Option (Option Guid)
 guid_named id list =
     if list_all (λ p. not (p.id == id) || is_some (guid_in (start list.endian p.value))) list.parameters
@@ -124,8 +125,8 @@ settings_after e ps s = record {
   builtin_endpoints = last 0x0058 (as_some number_of) e ps s.builtin_endpoints;
 }
 
--- what the record of a list says; None where one of its parameters is malformed, used or not, and whether or not it
--- comes again
+-- what the record of a list says; None where one of its parameters is malformed, used or not, and
+-- whether or not it comes again
 unfoldable pub settings_of : Contents → Option Settings
 settings_of list =
     if list_all (is_sound list.endian) list.parameters

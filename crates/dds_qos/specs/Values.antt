@@ -1,4 +1,5 @@
--- How the value of a parameter is read: as CDR, aligned from its first octet; octets after it are ignored (DDSI-RTPS 9.4.2.11).
+-- How the value of a parameter is read: as CDR, aligned from its first octet; octets after it are
+-- ignored (DDSI-RTPS 9.4.2.11).
 use Rattle.std.specs.Prelude.{ℕ, ◌==◌, nat_le, ◌&&◌, List, Option, Some, None, option_and_then, if◌then◌else◌, Ok, Err}
 use Rattle.std.specs.Option.{option_map}
 use Rattle.std.specs.Int.{w32}
@@ -32,15 +33,18 @@ abbrev pub only : {X : Type 0} → Read X → Option X
 only (Ok x) = Some x.0
 only (Err fault) = None
 
--- a number of 32 bits that stands for a kind, and then what comes after it; None where it stands for none
+-- a number of 32 bits that stands for a kind, and then what comes after it; None where it stands
+-- for none
 abbrev pub kind_then : {X Y : Type 0} → Cursor → (ℕ → Option X) → (X → Cursor → Option Y) → Option Y
 kind_then c kinds f = then_read c (number_in 4 c) (λ n after. option_and_then (λ x. f x after) (kinds n))
 
+-- the kind that a number of 32 bits stands for; None where it stands for none
 abbrev pub kind_in : {X : Type 0} → Cursor → (ℕ → Option X) → Option X
 kind_in c kinds = option_and_then kinds (only (number_in 4 c))
 
 -- ---- the kinds, by their numbers (DDSI-RTPS 9.6.3)
 
+-- the kind of durability with this number, if there is one
 abbrev pub durability_of : ℕ → Option Durability
 durability_of n =
     if n == 0 then Some durability.Volatile else
@@ -49,6 +53,7 @@ durability_of n =
     if n == 3 then Some durability.Persistent else
     None
 
+-- the scope of access with this number, if there is one
 abbrev pub scope_of : ℕ → Option AccessScope
 scope_of n =
     if n == 0 then Some scope.Instance else
@@ -56,12 +61,14 @@ scope_of n =
     if n == 2 then Some scope.Group else
     None
 
+-- the kind of ownership with this number, if there is one
 abbrev pub ownership_of : ℕ → Option Ownership
 ownership_of n =
     if n == 0 then Some ownership.Shared else
     if n == 1 then Some ownership.Exclusive else
     None
 
+-- the kind of liveliness with this number, if there is one
 abbrev pub liveliness_of : ℕ → Option LivelinessKind
 liveliness_of n =
     if n == 0 then Some liveliness.Automatic else
@@ -69,24 +76,29 @@ liveliness_of n =
     if n == 2 then Some liveliness.ManualByTopic else
     None
 
+-- the kind of reliability with this number, if there is one
 abbrev pub reliability_of : ℕ → Option Reliability
 reliability_of n =
     if n == 1 then Some reliability.BestEffort else
     if n == 2 then Some reliability.Reliable else
     None
 
+-- the kind of destination order with this number, if there is one
 abbrev pub order_of : ℕ → Option DestinationOrder
 order_of n =
     if n == 0 then Some order.ByReceptionTimestamp else
     if n == 1 then Some order.BySourceTimestamp else
     None
 
+-- the kind of durability that a value says
 abbrev pub durability_in : Cursor → Option Durability
 durability_in c = kind_in c durability_of
 
+-- the kind of ownership that a value says
 abbrev pub ownership_in : Cursor → Option Ownership
 ownership_in c = kind_in c ownership_of
 
+-- the kind of destination order that a value says
 abbrev pub order_in : Cursor → Option DestinationOrder
 order_in c = kind_in c order_of
 
@@ -100,6 +112,7 @@ topic_in c = only (text_in c)
 abbrev pub names_in : Cursor → Option (List (List ℕ))
 names_in c = only (texts_in c)
 
+-- a number of 32 bits
 abbrev pub number_of : Cursor → Option ℕ
 number_of c = only (number_in 4 c)
 
@@ -117,7 +130,8 @@ unfoldable pub duration_in : Cursor → Option Duration
 duration_in c =
     then_read c (signed_in w32 c) (λ s after. option_map (λ f. record { seconds = s; fraction = f }) (only (number_in 4 after)))
 
--- the kind, and the longest time that a write may block, which is judged and not used (DDS 1.4, 2.2.3.14)
+-- the kind, and the longest time that a write may block, which is judged and not used
+-- (DDS 1.4, 2.2.3.14)
 unfoldable pub reliability_in : Cursor → Option Reliability
 reliability_in c = kind_then c reliability_of (λ k after. option_map (λ blocking. k) (duration_in after))
 
@@ -133,14 +147,15 @@ presentation_in c =
     option_map (λ ordered. record { access_scope = s; coherent_access = coherent; ordered_access = ordered })
     (only (bool_in after))))
 
--- a UDP address over IPv4, kind 1, with a port of 16 bits that isn't 0: its address is the last four of sixteen
--- octets; any other locator is dropped (DDSI-RTPS 9.3.2.4)
+-- a UDP address over IPv4, kind 1, with a port of 16 bits that isn't 0: its address is the last
+-- four of sixteen octets; any other locator is dropped (DDSI-RTPS 9.3.2.4)
 abbrev pub kept_locator : ℕ → ℕ → List ℕ → Option Locator
 kept_locator kind port octets =
     if kind == 1 && (nat_le 1 port && nat_le port 65535)
     then option_map (λ (address : List ℕ). record { port = port; address = address }) (octets_at 4 octets 12)
     else None
 
+-- a kind, a port and sixteen octets: the locator, if it is one that is kept
 unfoldable pub locator_in : Cursor → Option (Option Locator)
 locator_in c =
     then_read c (number_in 4 c) (λ kind after_kind. then_read after_kind (number_in 4 after_kind) (λ port after.
@@ -155,5 +170,6 @@ guid_of octets =
     (octets_at 4 octets 12))
     (octets_at 12 octets 0)
 
+-- the guid that sixteen octets name
 unfoldable pub guid_in : Cursor → Option Guid
 guid_in c = option_and_then guid_of (only (octets_in 16 c))

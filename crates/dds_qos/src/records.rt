@@ -57,8 +57,8 @@ pub(crate) fn defaults(reliability: Reliability) -> Policies
 }
 
 impl<A: Allocator> Requested<A> {
-    /// What a reader asks for where it gives no policy: best effort, among others (DDS 1.4, 2.2.3). No
-    /// memory is taken.
+    /// What a reader asks for where it gives no policy: best effort, among others (DDS 1.4, 2.2.3).
+    /// No memory is taken.
     pub fn new(alloc: A) -> Requested<A>
         ensures policies { result.policies ≡ default_policies BestEffort }
         ensures partitions { result.partitions ≡ [] }
@@ -71,8 +71,8 @@ impl<A: Allocator> Requested<A> {
 }
 
 impl<A: Allocator> Offered<A> {
-    /// What a writer offers where it gives no policy: it is reliable, among others (DDS 1.4, 2.2.3). No
-    /// memory is taken.
+    /// What a writer offers where it gives no policy: it is reliable, among others
+    /// (DDS 1.4, 2.2.3). No memory is taken.
     pub fn new(alloc: A) -> Offered<A>
         ensures policies { result.policies ≡ default_policies Reliable }
         ensures partitions { result.partitions ≡ [] }
@@ -85,7 +85,8 @@ impl<A: Allocator> Offered<A> {
 }
 
 /// What the record of a writer offers, a copy of its own (DDSI-RTPS 9.6.3). `Malformed` where a
-/// parameter of the record is, whether an offer uses it or not; `NoMemory` where the copy is refused.
+/// parameter of the record is, whether an offer uses it or not; `NoMemory` where the copy is
+/// refused.
 pub fn offered_from<A: Allocator + Copy>(
     alloc: A,
     list: &ParamList<'_>,

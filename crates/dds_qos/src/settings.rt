@@ -68,9 +68,9 @@ pub fn guid_named(list: &ParamList<'_>, id: u16) -> Result<Option<Guid>, Malform
 }
 
 impl<'a> Settings<'a> {
-    /// What a record says (DDSI-RTPS 8.5.3, 8.5.4). Every parameter that is known is judged, whether
-    /// it is used or not, and whether or not it comes again; parameters of other ids say nothing. No
-    /// memory is taken.
+    /// What a record says (DDSI-RTPS 8.5.3, 8.5.4). Every parameter that is known is judged,
+    /// whether it is used or not, and whether or not it comes again; parameters of other ids say
+    /// nothing. No memory is taken.
     #[tactic(auto, unfolding(crate::specs::Settings::settings_of))]
     pub fn read(list: &ParamList<'a>) -> Result<Settings<'a>, Malformed>
         ensures { said result ≡ settings_of list.now }

@@ -1,5 +1,5 @@
--- The hash of a key (DDSI-RTPS 9.6.4.8): the big-endian CDR of the key, with zeros after it, where its greatest size is at
--- most 16 octets; else the MD5 of that CDR.
+-- The hash of a key (DDSI-RTPS 9.6.4.8): the big-endian CDR of the key, with zeros after it, where
+-- its greatest size is at most 16 octets; else the MD5 of that CDR.
 use Rattle.std.specs.Prelude.{ℕ, ◌+◌, ◌-◌, List, ◌++◌, length, take, replicate, Bool, true, false, nat_le, if◌then◌else◌, Option, None, Some}
 use Rattle.std.specs.Int.{byte_len}
 use Rattle.md5.specs.Md5.{md5}
@@ -8,15 +8,18 @@ use Rattle.rtps_types.specs.declared.identity.KeyHash.{KeyHash}
 use Rattle.rtps_cdr.specs.Cdr.{CdrType, Unsigned, Signed, Boolean, Text, Octets, Both, Sequence, ValueOf, padding}
 use Rattle.rtps_cdr.specs.Writing.{written}
 
+-- where a value ends that comes after another, if each has an end that its type says
 abbrev pub end_after : Option ℕ → (ℕ → Option ℕ) → Option ℕ
 end_after None f = None
 end_after (Some at) f = f at
 
+-- there is a greatest size, and it is at most 16 octets
 abbrev pub at_most_16 : Option ℕ → Bool
 at_most_16 None = false
 at_most_16 (Some size) = nat_le size 16
 
--- where a value ends at the latest that begins at a place; texts and sequences have no end that their type says
+-- where a value ends at the latest that begins at a place; texts and sequences have no end that
+-- their type says
 abbrev pub greatest_end : CdrType → ℕ → Option ℕ
 greatest_end (Unsigned size) at = Some (at + padding size at + size)
 greatest_end (Signed w) at = Some (at + padding (byte_len w) at + byte_len w)

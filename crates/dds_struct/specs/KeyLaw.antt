@@ -17,5 +17,6 @@ value_again t v plain fits =
     let again = reads_again t [] [] Little v (settled (value t c) (behind t c) c) (value t c) fits (lawful t plain c (omega arith)) in
     rw append-nil at (again.0)
 
+-- what is read of the payload that was written of a key is the hash of that key
 pub key_again : (t : CdrType) (v : ValueOf t) → is_plain t ≡ true → Fits t v → (decoding_of t t (λ x. x)).hash_of_key 1 (key_body t v) ≡ Ok (key_hash t v)
 key_again t v plain fits = rw (value_again t v plain fits) refl

@@ -25,6 +25,7 @@ right_of : (a b : Bool) → (a && b) ≡ true → b ≡ true
 right_of true b same = same
 right_of false b same = absurd (cc same)
 
+-- the value that is read of a type is what the octets stand for, and what they stand for is read
 pub lawful : (t : CdrType) → is_plain t ≡ true → (c : Cursor) → Within c → Is t c (behind t c) (value t c)
 lawful (Unsigned size) plain c within = one_read (Unsigned size) c (number_in size c) (unsigned_law size c (positive size plain))
 lawful (Signed w) plain c within = one_read (Signed w) c (signed_in w c) (signed_law w c (positive (byte_len w) plain))

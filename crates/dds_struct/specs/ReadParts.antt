@@ -10,6 +10,7 @@ use Rattle.rtps_cdr.proofs.Structs.{members_joined, members_parted}
 use Rattle.rtps_cdr.proofs.Sequences.{items_joined, items_parted}
 use Rattle.dds_struct.specs.Value.{items, behind_items, settled}
 
+-- a reader is within its octets
 abbrev pub Within : Cursor → Type 0
 Within c = c.position ≤ length c.octets
 

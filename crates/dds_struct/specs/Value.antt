@@ -1,4 +1,5 @@
--- The value of a type that is read where a reader is, and where the reader is after it (DDSI-RTPS 10, CORBA CDR 9.3).
+-- The value of a type that is read where a reader is, and where the reader is after it
+-- (DDSI-RTPS 10, CORBA CDR 9.3).
 use Rattle.std.specs.Prelude.{◌≡◌, ℕ, zero, suc, ◌<◌, ◌≤◌, List, [], ◌∷◌, length, Result, Ok, Err, Bool, true, ◌&&◌, nat_lt}
 use Rattle.std.specs.Int.{byte_len}
 use Rattle.rtps_cdr.specs.declared.fault.CdrFault.{CdrFault}
@@ -13,6 +14,7 @@ unfoldable pub items : {A : Type 0} → (Cursor → Result A CdrFault) → (Curs
 items read behind zero c = Ok []
 items read behind (suc n) c = and_then (read c) (λ x. and_then (items read behind n (behind c)) (λ xs. Ok (x ∷ xs)))
 
+-- where a reader is after so many items
 unfoldable pub behind_items : (Cursor → Cursor) → ℕ → Cursor → Cursor
 behind_items behind zero c = c
 behind_items behind (suc n) c = behind_items behind n (behind c)

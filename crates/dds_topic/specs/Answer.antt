@@ -1,4 +1,4 @@
--- What a catalog answers, unless memory runs out.
+-- What a catalog answers, unless memory runs out (DDS 1.4, 2.2.2.5).
 use Rattle.std.specs.Prelude.{◌≡◌, ℕ, List, codes, Result, Ok, Err}
 use Rattle.dds_topic.specs.declared.unread.Unread.{Unread as UnreadCode}
 use Rattle.dds_topic.specs.declared.unread.Unread.TheVariants.{Encapsulation, Malformed, NonStandard, NoKey}

@@ -3,6 +3,7 @@ use Rattle.std.specs.Prelude.{ℕ, List, Result}
 use Rattle.rtps_types.specs.declared.identity.KeyHash.{KeyHash}
 use Rattle.dds_topic.specs.declared.unread.Unread.{Unread}
 
+-- what a data type makes of octets: what bodies mean, and the hashes of keys
 pub record Decoding (M : Type 0) : Type 0 where
   -- what a body means, by the kind of its encapsulation
   pub meaning : ℕ → List ℕ → Result M Unread

@@ -9,6 +9,7 @@ pub record RawMeaning : Type 0 where
   pub kind : ℕ
   pub body : List ℕ
 
+-- what contracts see of a payload as it is
 abbrev pub raw_view : {A : Type 0} → RawValue A → RawMeaning
 raw_view v = record { kind = v.kind; body = v.body.items }
 

@@ -1,5 +1,6 @@
--- An example of a type with two key fields: struct Sensor { @key unsigned long station; @key unsigned long channel;
--- long value; }. Its key has 8 octets, so they are the hash, with zeros after them (DDSI-RTPS 9.6.4.8).
+-- An example of a type with two key fields: struct Sensor { @key unsigned long station;
+-- @key unsigned long channel; long value; }. Its key has 8 octets, so they are the hash, with zeros
+-- after them (DDSI-RTPS 9.6.4.8).
 use Rattle.std.proofs.Common.{◌≡◌, ℕ, ℤ, ◌<◌, ◌^◌, ◌++◌, List, [], replicate, Result, Ok, refl, arith}
 use Rattle.std.specs.Int.{w32}
 use Rattle.rtps_types.specs.declared.field.Endian.TheVariants.{Big, Little}
@@ -15,27 +16,35 @@ use Rattle.dds_topic.specs.declared.unread.Unread.{Unread as UnreadCode}
 use Rattle.dds_topic.specs.declared.unread.Unread.TheVariants as unread
 use Rattle.dds_topic.specs.Decoding.{Decoding}
 
+-- the type of the key, by its members in order
 abbrev pub key_type : CdrType
 key_type = Both (Unsigned 4) (Unsigned 4)
 
+-- a reader after a number of 32 bits; after a fault it is where it was
 abbrev pub after_number : Cursor → Cursor
 after_number c = moved c (number_in 4 c)
 
+-- a station and a channel, where a reader is
 abbrev pub key_in : Cursor → Result (ℕ × ℕ) UnreadCode
 key_in c = after_read unread.Malformed (value_of (number_in 4 c)) (λ station. after_read unread.Malformed (value_of (number_in 4 (after_number c))) (λ channel. Ok (station, channel)))
 
+-- a station, a channel and a value, where a reader is
 abbrev pub sensor_in : Cursor → Result (ℕ × ℕ × ℤ) UnreadCode
 sensor_in c = and_then (key_in c) (λ key. after_read unread.Malformed (value_of (signed_in w32 (after_number (after_number c)))) (λ value. Ok (key.0, key.1, value)))
 
+-- the octets of a sensor's key as a key payload
 abbrev pub key_of : ℕ × ℕ × ℤ → List ℕ
 key_of s = written key_type 0 Little (s.0, s.1)
 
+-- the hash of a station and a channel
 abbrev pub hash_of : ℕ → ℕ → KeyHash
 hash_of station channel = record { 0 = written key_type 0 Big (station, channel) ++ replicate 8 0 }
 
+-- the hash of the key that the body of a key payload spells
 abbrev pub sensor_hash_of_key : ℕ → List ℕ → Result KeyHash UnreadCode
 sensor_hash_of_key kind body = and_then (order_by kind) (λ e. and_then (key_in (start e body)) (λ key. Ok (hash_of key.0 key.1)))
 
+-- what the type makes of octets
 abbrev pub sensor_decoding : Decoding (ℕ × ℕ × ℤ)
 sensor_decoding = record {
   meaning = λ kind body. and_then (order_by kind) (λ e. sensor_in (start e body));

@@ -11,6 +11,7 @@ use Rattle.rtps_cdr.proofs.Again.{each_again}
 use Rattle.dds_topic.specs.declared.shape.Shape.{Shape}
 use Rattle.dds_topic.specs.ShapeMeaning.{shape_view, color_key, color_hash, shape_hash_of_key}
 
+-- what is read of the payload that was written of a shape's color is the hash of that color
 pub shape_key_again : {A : Type 0} (v : Shape A) → shape_hash_of_key 1 (color_key (shape_view v).color) ≡ Ok (color_hash (shape_view v).color)
 shape_key_again v =
     let color : List ℕ = v.color in

@@ -1,4 +1,4 @@
--- What the bodies of the Shapes demo mean.
+-- What the bodies of the Shapes demo mean (DDSI-RTPS 9.6.4.8, 10).
 use Rattle.std.specs.Prelude.{ℕ, ℤ, List, ◌++◌, length, Result, Ok, Err, nat_lt, if◌then◌else◌, codes}
 use Rattle.std.specs.Int.{w32}
 use Rattle.std.specs.Fmt.{signed_decimal}
@@ -23,12 +23,15 @@ pub record ShapeMeaning : Type 0 where
   pub y : ℤ
   pub size : ℤ
 
+-- what contracts see of a shape
 abbrev pub shape_view : {A : Type 0} → Shape A → ShapeMeaning
 shape_view s = record { color = s.color; x = s.x; y = s.y; size = s.size }
 
+-- a reader after a text; after a fault it is where it was
 abbrev pub behind_text : Cursor → Cursor
 behind_text c = moved c (text_in c)
 
+-- a reader after a signed number of 32 bits; after a fault it is where it was
 abbrev pub behind_long : Cursor → Cursor
 behind_long c = moved c (signed_in w32 c)
 
@@ -44,6 +47,7 @@ numbers_of color c =
     after_read Malformed (value_of (signed_in w32 (behind_long (behind_long c)))) (λ size.
     Ok (record { color = color; x = x; y = y; size = size }))))
 
+-- a shape, where a reader is: its color, and the three numbers
 unfoldable pub shape_in : Cursor → Result ShapeMeaning UnreadCode
 shape_in c = and_then (color_of c) (λ color. numbers_of color (behind_text c))
 
@@ -59,9 +63,11 @@ color_key color = written Text 0 Little color
 abbrev pub color_hash : List ℕ → KeyHash
 color_hash color = record { 0 = md5 (written Text 0 Big color) }
 
+-- the hash of the color that the body of a key payload spells
 abbrev pub shape_hash_of_key : ℕ → List ℕ → Result KeyHash UnreadCode
 shape_hash_of_key kind body = and_then (order_by kind) (λ e. and_then (color_of (start e body)) (λ color. Ok (color_hash color)))
 
+-- what the Shapes demo makes of octets
 abbrev pub shape_decoding : Decoding ShapeMeaning
 shape_decoding = record { meaning = shape_meaning; hash = λ s. color_hash s.color; hash_of_key = shape_hash_of_key }
 

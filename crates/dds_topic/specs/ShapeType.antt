@@ -1,5 +1,5 @@
--- The type of the Shapes demo, as the representation has it: struct ShapeType { string<128> color; long x; long y;
--- long shapesize; }.
+-- The type of the Shapes demo, as the representation has it: struct ShapeType { string<128> color;
+-- long x; long y; long shapesize; } (DDSI-RTPS 9.6.4.8, 10).
 use Rattle.std.specs.Prelude.{◌≡◌, ℕ, ◌<◌, ◌≤◌, List, length, Result, Ok, Err}
 use Rattle.std.specs.Int.{w32}
 use Rattle.rtps_types.specs.declared.field.Endian.TheVariants.{Big, Little}
@@ -10,13 +10,16 @@ use Rattle.dds_topic.specs.ShapeMeaning.{ShapeMeaning, shape_meaning, shape_hash
 use Rattle.dds_topic.specs.declared.unread.Unread.{Unread as UnreadCode}
 use Rattle.dds_topic.specs.declared.unread.Unread.TheVariants.{Encapsulation, Malformed}
 
+-- the type of a shape, by its members in order
 abbrev pub shape_type : CdrType
 shape_type = Both Text (Both (Signed w32) (Both (Signed w32) (Signed w32)))
 
+-- a shape as a value of that type
 abbrev pub members : ShapeMeaning → ValueOf shape_type
 members s = (s.color, (s.x, (s.y, s.size)))
 
--- a front of the octets stands for the shape, as one value of its type, and its color is short enough
+-- a front of the octets stands for the shape, as one value of its type, and its color is short
+-- enough
 pub record IsShape (c : Cursor) (s : ShapeMeaning) : Type 0 where
   pub short : length s.color ≤ 128
   pub behind : Cursor
@@ -30,11 +33,13 @@ pub record IsKey (c : Cursor) (hash : KeyHash) : Type 0 where
   pub stands : Takes Text c behind color
   pub hashed : hash ≡ color_hash color
 
+-- what is answered stands there, or else it is malformed
 abbrev pub IsAnswer : {A : Type 0} → (A → Type 0) → Result A UnreadCode → Type 0
 IsAnswer is (Ok v) = is v
 IsAnswer is (Err u) = u ≡ Malformed
 
--- what is answered stands there, and what stands there is answered; so malformed is only what stands for nothing
+-- what is answered stands there, and what stands there is answered; so malformed is only what
+-- stands for nothing
 pub record Answers {A : Type 0} (is : A → Type 0) (answer : Result A UnreadCode) : Type 0 where
   pub found : IsAnswer is answer
   pub only : (v : A) → is v → answer ≡ Ok v

@@ -11,9 +11,9 @@ use std::alloc::{AllocError, Allocator, Global};
 
 /// One data type: how its payloads are decoded, and how its values are told apart.
 ///
-/// Unless it is out of memory, each answer is a function of its input, which the catalog names: what
-/// a body means and the hashes of keys (`decoding`), and the octets of a value's key (`key`). Two
-/// values are the same where they mean the same.
+/// Unless it is out of memory, each answer is a function of its input, which the catalog names:
+/// what a body means and the hashes of keys (`decoding`), and the octets of a value's key (`key`).
+/// Two values are the same where they mean the same.
 ///
 /// A body is what follows the four octets of the encapsulation, and `kind` is the first two of
 /// those, the high one first (DDSI-RTPS 10.2): 0 is CDR_BE, 1 is CDR_LE.

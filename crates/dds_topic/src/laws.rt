@@ -2,14 +2,15 @@
 
 ghost use Rattle.dds_topic.specs.ShapeType.{BodiesAreShapes, PayloadsAreKeys};
 
-/// What [`Shapes`](crate::Shapes) makes of a body: the shape that its front stands for, as one value of
-/// the struct `ShapeType` in the byte order of the encapsulation, and malformed where there is none.
+/// What [`Shapes`](crate::Shapes) makes of a body: the shape that its front stands for, as one
+/// value of the struct `ShapeType` in the byte order of the encapsulation, and malformed where
+/// there is none.
 pub fn bodies_are_shapes()
     ensures { BodiesAreShapes }
 {}
 
-/// What [`Shapes`](crate::Shapes) makes of a key payload: the hash of the color that its front stands
-/// for, and malformed where there is none.
+/// What [`Shapes`](crate::Shapes) makes of a key payload: the hash of the color that its front
+/// stands for, and malformed where there is none.
 pub fn payloads_are_keys()
     ensures { PayloadsAreKeys }
 {}

@@ -1,10 +1,12 @@
--- struct Reading { @key unsigned long station; unsigned long long taken; string place; sequence<short> levels; };
+-- struct Reading { @key unsigned long station; unsigned long long taken; string place;
+-- sequence<short> levels; };
 use Rattle.std.specs.Prelude.{ℕ, List, ◌++◌, codes, length}
 use Rattle.std.specs.Int.{w16}
 use Rattle.std.specs.Fmt.{decimal}
 use Rattle.rtps_ascii.specs.Hex.{hex_text}
 use Rattle.rtps_cdr.specs.Cdr.{CdrType, Unsigned, Signed, Text, Both, Sequence, ValueOf}
 
+-- the type of a reading, as the representation has it
 abbrev pub reading_cdr : CdrType
 reading_cdr = Both (Unsigned 4) (Both (Unsigned 8) (Both Text (Sequence (Signed w16))))
 

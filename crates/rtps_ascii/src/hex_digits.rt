@@ -25,8 +25,8 @@ pub fn push_hex<A: Allocator>(out: &mut Vec<u8, A>, octets: &[u8]) -> Result<(),
     push_long(out, octets)
 }
 
-/// Adds a number of octets that is known beforehand, as those of identities, as [`push_hex`] does. All
-/// digits are made at once, so this is put into the caller.
+/// Adds a number of octets that is known beforehand, as those of identities, as [`push_hex`] does.
+/// All digits are made at once, so this is put into the caller.
 #[inline(always)]
 pub fn push_hex_array<const N: usize, A: Allocator>(
     out: &mut Vec<u8, A>,
@@ -43,7 +43,8 @@ pub fn push_hex_array<const N: usize, A: Allocator>(
     out.extend_from_slice(&digits[..2 * N])
 }
 
-/// Adds the digits of names and the like, each looked up: they are too few for more to be made at once.
+/// Adds the digits of names and the like, each looked up: they are too few for more to be made at
+/// once.
 fn push_short<A: Allocator>(out: &mut Vec<u8, A>, octets: &[u8]) -> Result<(), AllocError>
     requires { length octets.now ≤ 16 }
     ensures ok { OnOk result (out.new.items ≡ out.old.items ++ encode_lower octets.now) }
@@ -75,8 +76,8 @@ fn push_long<A: Allocator>(out: &mut Vec<u8, A>, octets: &[u8]) -> Result<(), Al
     Ok(())
 }
 
-/// Spells octets out, two digits each. No digit is looked up in a table, so a compiler can make many
-/// of them at once.
+/// Spells octets out, two digits each. No digit is looked up in a table, so a compiler can make
+/// many of them at once.
 #[inline(always)]
 fn spell(octets: &[u8], digits: &mut [u8])
     requires { length digits.old ≡ 2 * length octets.now }

@@ -1,11 +1,13 @@
--- The common data representation: which octets stand for which value, at a place and in a byte order
--- (CORBA CDR 9.3, DDSI-RTPS 10). Places are counted from the first octet after the encapsulation.
+-- The common data representation: which octets stand for which value, at a place and in a byte
+-- order (CORBA CDR 9.3, DDSI-RTPS 10). Places are counted from the first octet after the
+-- encapsulation.
 use Rattle.std.specs.Prelude.{◌≡◌, ◌≤◌, ℕ, zero, suc, ℤ, ◌+◌, ◌-◌, ◌%◌, List, [], ◌∷◌, ◌++◌, length, replicate, Bool, if◌then◌else◌, IsUtf8}
 use Rattle.std.specs.Int.{Width, byte_len, cast_signed}
 use Rattle.rtps_types.specs.declared.field.Endian.{Endian}
 use Rattle.rtps_types.specs.Field.{number}
 
--- the types: primitives by their size in octets, texts, octets as they are, structs member by member, and sequences
+-- the types: primitives by their size in octets, texts, octets as they are, structs member by
+-- member, and sequences
 pub data CdrType : Type 0 where
   Unsigned : (size : ℕ) → CdrType
   Signed : (width : Width) → CdrType
@@ -44,7 +46,8 @@ abbrev pub IsGap : Gaps → ℕ → List ℕ → Type 0
 IsGap Free n gap = length gap ≡ n
 IsGap Zeros n gap = gap ≡ replicate n 0
 
--- a number of that many octets, aligned to its size: a gap, and a field that spells it (CORBA CDR 9.3.1)
+-- a number of that many octets, aligned to its size: a gap, and a field that spells it
+-- (CORBA CDR 9.3.1)
 pub record IsNumber (g : Gaps) (size at : ℕ) (e : Endian) (octets : List ℕ) (n : ℕ) : Type 0 where
   pub gap : List ℕ
   pub field : List ℕ
@@ -53,7 +56,8 @@ pub record IsNumber (g : Gaps) (size at : ℕ) (e : Endian) (octets : List ℕ) 
   pub full : length field ≡ size
   pub spells : number e size field ≡ n
 
--- after a length of 0 comes nothing; else a UTF-8 text, and its NUL, which the length counts (CORBA CDR 9.3.2.7)
+-- after a length of 0 comes nothing; else a UTF-8 text, and its NUL, which the length counts
+-- (CORBA CDR 9.3.2.7)
 abbrev pub IsTextBody : ℕ → List ℕ → List ℕ → Type 0
 IsTextBody zero octets text = (octets ≡ []) × (text ≡ [])
 IsTextBody (suc n) octets text = (octets ≡ text ++ 0 ∷ []) × (length text ≡ n) × IsUtf8 text
@@ -72,8 +76,8 @@ abbrev pub AreAll : {A : Type 0} → (ℕ → List ℕ → A → Type 0) → ℕ
 AreAll is at octets [] = octets ≡ []
 AreAll is at octets (x ∷ xs) = (front : List ℕ) × (back : List ℕ) × (octets ≡ front ++ back) × is at front x × AreAll is (at + length front) back xs
 
--- octets at a place stand for a value of a type; a struct has no alignment of its own (CORBA CDR 9.3.2.2), and a
--- sequence is a count and its items (CORBA CDR 9.3.2.5)
+-- octets at a place stand for a value of a type; a struct has no alignment of its own
+-- (CORBA CDR 9.3.2.2), and a sequence is a count and its items (CORBA CDR 9.3.2.5)
 abbrev pub IsCdr : Gaps → (t : CdrType) → ℕ → Endian → List ℕ → ValueOf t → Type 0
 IsCdr g (Unsigned size) at e octets n = IsNumber g size at e octets n
 IsCdr g (Signed w) at e octets z = (n : ℕ) × IsNumber g (byte_len w) at e octets n × (z ≡ cast_signed w n)

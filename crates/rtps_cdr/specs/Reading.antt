@@ -1,4 +1,4 @@
--- What each read of a reader gives, and where it leaves the reader.
+-- What each read of a reader gives, and where it leaves the reader (DDSI-RTPS 10.2).
 use Rattle.std.specs.Prelude.{◌≡◌, ℕ, zero, suc, ℤ, ◌+◌, ◌-◌, List, [], ◌∷◌, ◌++◌, length, take, drop, Bool, true, false, if◌then◌else◌, nat_le, ◌==◌, Result, Ok, Err, slice_index}
 use Rattle.std.specs.Str.{is_utf8}
 use Rattle.std.specs.Borrow.{Bor}
@@ -70,6 +70,7 @@ octets_from n octets at = if nat_le (at + n) (length octets) then Ok (take n (dr
 abbrev pub bool_of : ℕ → ℕ → Read Bool
 bool_of n after = if n == 0 then Ok (false, after) else if n == 1 then Ok (true, after) else Err BadBool
 
+-- the truth value at a place
 abbrev pub bool_from : Endian → List ℕ → ℕ → Read Bool
 bool_from e octets at = followed_by (number_from 1 e octets at) bool_of
 
@@ -90,15 +91,19 @@ text_from e octets at = followed_by (number_from 4 e octets at) (λ count behind
 abbrev pub number_in : ℕ → Cursor → Read ℕ
 number_in size c = number_from size c.endian c.octets c.position
 
+-- a signed number, where a reader is
 abbrev pub signed_in : Width → Cursor → Read ℤ
 signed_in w c = mapped (cast_signed w) (number_in (byte_len w) c)
 
+-- a truth value, where a reader is
 abbrev pub bool_in : Cursor → Read Bool
 bool_in c = bool_from c.endian c.octets c.position
 
+-- a text, where a reader is
 abbrev pub text_in : Cursor → Read (List ℕ)
 text_in c = text_from c.endian c.octets c.position
 
+-- that many octets as they are, where a reader is
 abbrev pub octets_in : ℕ → Cursor → Read (List ℕ)
 octets_in n c = octets_from n c.octets c.position
 
@@ -112,14 +117,16 @@ items_in read (suc n) c =
 abbrev pub sequence_in : {A : Type 0} → (Cursor → Read A) → Cursor → Read (List A)
 sequence_in read c = followed_by (number_in 4 c) (λ count behind. items_in read count (placed c behind))
 
+-- a sequence of texts
 abbrev pub texts_in : Cursor → Read (List (List ℕ))
 texts_in c = sequence_in text_in c
 
--- the texts that are left, where all of them can be read
+-- the items of a list that was read; none after a fault
 abbrev pub list_of : {A : Type 0} → Read (List A) → List A
 list_of (Ok x) = x.0
 list_of (Err f) = []
 
+-- the texts that are left, where all of them can be read
 abbrev pub texts_left : ℕ → Cursor → List (List ℕ)
 texts_left n c = list_of (items_in text_in n c)
 
@@ -128,6 +135,7 @@ abbrev pub seen : Result (Bor (List ℕ)) CdrFault → Result (List ℕ) CdrFaul
 seen (Ok x) = Ok x.now
 seen (Err f) = Err f
 
+-- the same of a text with the place after it
 abbrev pub place_seen : Result (Bor (List ℕ) × ℕ) CdrFault → Read (List ℕ)
 place_seen (Ok x) = Ok (x.0.now, x.1)
 place_seen (Err f) = Err f
@@ -142,12 +150,13 @@ pub record Takes (t : CdrType) (c after : Cursor) (v : ValueOf t) : Type 0 where
   pub stands : IsCdr Free t c.position c.endian front v
   pub behind : after ≡ placed c (c.position + length front)
 
+-- what was read stands there, and the reader is at its end; after a fault it is where it was
 abbrev pub IsFound : (t : CdrType) → Cursor → Cursor → Result (ValueOf t) CdrFault → Type 0
 IsFound t c after (Ok v) = Takes t c after v
 IsFound t c after (Err f) = after ≡ c
 
--- what is read is related, and the reader moves to its end or stays at a fault; what is related is read, so a fault
--- comes only where nothing is
+-- what is read is related, and the reader moves to its end or stays at a fault; what is related is
+-- read, so a fault comes only where nothing is
 pub record Reads (t : CdrType) (c after : Cursor) (answer : Result (ValueOf t) CdrFault) : Type 0 where
   pub found : IsFound t c after answer
   pub only : (v : ValueOf t) (behind : Cursor) → Takes t c behind v → (answer ≡ Ok v) × (after ≡ behind)

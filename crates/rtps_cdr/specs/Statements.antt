@@ -1,4 +1,4 @@
--- What holds of the representation as a whole.
+-- What holds of the representation as a whole (CORBA CDR 9.3.1.1, 9.3.2.2).
 use Rattle.std.specs.Prelude.{◌≡◌, ℕ, ℤ, ◌+◌, ◌<◌, ◌^◌, List, [], ◌∷◌, ◌++◌, length, Bool, Result, Ok}
 use Rattle.std.specs.Int.{Width, byte_len}
 use Rattle.rtps_types.specs.declared.field.Endian.{Endian}
@@ -49,7 +49,8 @@ before front e t v rest = record { octets = front ++ (written t (length front) e
 abbrev pub behind : List ℕ → Endian → (t : CdrType) → ValueOf t → ℕ
 behind front e t v = length front + length (written t (length front) e v)
 
--- whatever reads values of a type as the relation has them, reads what was written, and moves after it
+-- whatever reads values of a type as the relation has them, reads what was written, and moves after
+-- it
 abbrev pub WrittenIsReadAgain : Type 0
 WrittenIsReadAgain = (t : CdrType) (front rest : List ℕ) (e : Endian) (v : ValueOf t) (after : Cursor) (answer : Result (ValueOf t) CdrFault) → Fits t v →
     Reads t (before front e t v rest) after answer → (answer ≡ Ok v) × (after ≡ placed (before front e t v rest) (behind front e t v))

@@ -1,4 +1,4 @@
--- What each write of a writer adds at the end.
+-- What each write of a writer adds at the end (DDSI-RTPS 10.2).
 use Rattle.std.specs.Prelude.{◌≡◌, ℕ, ◌+◌, ◌^◌, ◌<◌, List, [], ◌∷◌, ◌++◌, length, replicate, if◌then◌else◌, IsUtf8}
 use Rattle.std.specs.List.{AllByRecursion}
 use Rattle.std.specs.Int.{byte_len, cast_unsigned}

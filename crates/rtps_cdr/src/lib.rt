@@ -2,7 +2,8 @@
 //! written into a buffer, in either byte order.
 //!
 //! What octets stand for is the relation `IsCdr` of `specs/Cdr.antt`. Alignment is counted from the
-//! first octet that a reader or a writer has, which is the one after the encapsulation of a payload.
+//! first octet that a reader or a writer has, which is the one after the encapsulation of a
+//! payload.
 #![tactic(auto)]
 
 mod fault;

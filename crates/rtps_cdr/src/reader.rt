@@ -183,8 +183,9 @@ impl<'a> CdrReader<'a> {
 
     /// Reads a text, and gives it without its NUL (CORBA CDR 9.3.2.7).
     ///
-    /// Its length counts the NUL; a length of 0 is the empty text too, with no NUL. `BadString` where
-    /// the last octet is not NUL, else `NotUtf8` where the others are not UTF-8. They may hold a NUL.
+    /// Its length counts the NUL; a length of 0 is the empty text too, with no NUL. `BadString`
+    /// where the last octet is not NUL, else `NotUtf8` where the others are not UTF-8. They may
+    /// hold a NUL.
     #[tactic(auto, using(crate::proofs::Related::seen_value, crate::proofs::Related::seen_moved))]
     pub fn read_string(&mut self) -> Result<&'a str, CdrFault>
         ensures value { seen result ≡ value_of (text_in self.old) }

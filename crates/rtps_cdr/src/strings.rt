@@ -10,11 +10,11 @@ use crate::value::{text_at, u32_at};
 use rtps_types::Endian;
 use std::marker::Model;
 
-/// The texts of a sequence, one after the other, as [`CdrReader::read_strings`](crate::CdrReader::read_strings)
-/// gives them.
+/// The texts of a sequence, one after the other, as
+/// [`CdrReader::read_strings`](crate::CdrReader::read_strings) gives them.
 ///
-/// None of them is faulty, since the whole sequence was looked at when it was read. They lie where the
-/// octets lie, so no memory is taken.
+/// None of them is faulty, since the whole sequence was looked at when it was read. They lie where
+/// the octets lie, so no memory is taken.
 #[derive(Drop)]
 pub struct Strings<'a> {
     octets: &'a [u8],

@@ -1,4 +1,5 @@
--- Whom an event is for: discovery alone, or the readers that are matched with its writer (DDSI-RTPS 8.3.4, 8.5).
+-- Whom an event is for: discovery alone, or the readers that are matched with its writer
+-- (DDSI-RTPS 8.3.4, 8.5).
 use Rattle.std.specs.Prelude.{List, [], ◌∷◌, Bool, not, ◌&&◌, ◌||◌, ◌↔◌, IsTrue, IsFalse}
 use Rattle.std.specs.List.{list_any}
 use Rattle.std.specs.Str.{bytes_eq}
@@ -10,7 +11,8 @@ use Rattle.rtps_receiver.specs.Events.{EventView}
 abbrev pub unknown_entity : EntityId
 unknown_entity = record { 0 = 0x00 ∷ 0x00 ∷ 0x00 ∷ 0x00 ∷ [] }
 
--- ENTITYID_SPDP_BUILTIN_PARTICIPANT_ANNOUNCER, and of SEDP the PUBLICATIONS and SUBSCRIPTIONS announcers (DDSI-RTPS 9.3.1.3)
+-- ENTITYID_SPDP_BUILTIN_PARTICIPANT_ANNOUNCER, and of SEDP the PUBLICATIONS and SUBSCRIPTIONS
+-- announcers (DDSI-RTPS 9.3.1.3)
 abbrev pub announcers : List EntityId
 announcers =
     record { 0 = 0x00 ∷ 0x01 ∷ 0x00 ∷ 0xc2 ∷ [] }
@@ -30,8 +32,8 @@ is_for reader entity = bytes_eq reader.0 unknown_entity.0 || bytes_eq reader.0 e
 abbrev pub writer_of : EventView → Guid
 writer_of e = record { prefix = e.source; entity = e.writer }
 
--- An event goes to a reader where it isn't discovery's alone, where the reader is matched at that moment with its writer, and
--- where its reader id is for the reader.
+-- An event goes to a reader where it isn't discovery's alone, where the reader is matched at that
+-- moment with its writer, and where its reader id is for the reader.
 pub record IsAddressed (is_matched : Guid → Bool) (entity : EntityId) (e : EventView) : Type 0 where
   pub others : IsFalse (is_discovery e.writer)
   pub matched : IsTrue (is_matched (writer_of e))

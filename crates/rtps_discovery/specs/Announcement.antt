@@ -32,8 +32,8 @@ pub record Offer : Type 0 where
   pub partitions : List (List ℕ)
   pub locators : List Locator
 
--- what one record says, or one end: a participant comes, or speaks again; participants leave; a writer or a reader comes, or
--- changes, or goes
+-- what one record says, or one end: a participant comes, or speaks again; participants leave; a
+-- writer or a reader comes, or changes, or goes
 pub data Announcement : Type 0 where
   Comes : GuidPrefix → Facts → Announcement
   Leave : List GuidPrefix → Announcement
@@ -46,11 +46,13 @@ pub data Announcement : Type 0 where
 abbrev pub default_lease : Duration
 default_lease = record { seconds = pos 100; fraction = 0 }
 
--- a bit of the set of builtin endpoints; all are there where the set isn't given (DDSI-RTPS 9.3.2.12)
+-- a bit of the set of builtin endpoints; all are there where the set isn't given
+-- (DDSI-RTPS 9.3.2.12)
 abbrev pub has_bit : ℕ → Option ℕ → Bool
 has_bit bit None = true
 has_bit bit (Some set) = set / 2 ^ bit % 2 == 1
 
+-- what the record of a participant says of it
 abbrev pub facts_of : Settings → Facts
 facts_of s = record {
   metatraffic = s.metatraffic_unicast;
@@ -67,9 +69,11 @@ offer_by s (Some topic) None = None
 offer_by s (Some topic) (Some name) =
     Some (record { topic = topic; type_name = name; policies = s.policies; partitions = s.partitions; locators = s.unicast })
 
+-- what the record of a writer or a reader says of it, where topic and type are given
 abbrev pub offer_of : Settings → Option Offer
 offer_of s = offer_by s s.topic s.type_name
 
+-- a value, where something holds
 abbrev pub when : {X : Type 0} → Bool → X → Option X
 when holds x = if holds then Some x else None
 

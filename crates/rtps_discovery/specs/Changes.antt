@@ -1,4 +1,5 @@
--- What a change of the known things changes for our readers: set differences of the matches and of the refusals.
+-- What a change of the known things changes for our readers: set differences of the matches and of
+-- the refusals (DDS 1.4, 2.2.4.1).
 use Rattle.std.specs.Prelude.{ℕ, ◌+◌, ◌==◌, List, [], ◌∷◌, ◌++◌, if◌then◌else◌, Option, None}
 use Rattle.std.specs.List.{flat_map}
 use Rattle.std.specs.Map.{keys_of}
@@ -15,10 +16,12 @@ pub data Becomes : Type 0 where
   Unmatches : Guid → Becomes
   Refuses : Guid → ℕ → Becomes
 
+-- what becomes of the reader of a rank and a writer
 pub record ChangeAt : Type 0 where
   pub rank : ℕ
   pub what : Becomes
 
+-- this becomes of the reader of that rank and a writer
 abbrev pub at : ℕ → Becomes → ChangeAt
 at rank what = record { rank = rank; what = what }
 
@@ -34,6 +37,7 @@ told k g ls (Refused q) Apart = []
 told k g ls (Refused q) Joined = at k (Matches g ls) ∷ []
 told k g ls (Refused q) (Refused p) = if q == p then [] else at k (Refuses g p) ∷ []
 
+-- what a reader hears of a writer; nothing, where a fixed match joins them
 abbrev pub at_pair : List (ℕ × Guid) → ℕ → Guid → List Locator → Standing → Standing → List ChangeAt
 at_pair fixed k g ls before after = if is_fixed fixed k g then [] else told k g ls before after
 
@@ -46,6 +50,7 @@ both (x ∷ xs) ys = insert_key guid_order (both xs ys) x
 abbrev pub row : Known → Known → List Guid → ℕ → Option Wish → Option Wish → List ChangeAt
 row before after gs k q r = flat_map (λ g. at_pair before.fixed k g (locators_at after g) (standing q (writer_at before g)) (standing r (writer_at after g))) gs
 
+-- what the readers hear, from this rank on; they were those and are now these
 abbrev pub rows : Known → Known → List Guid → ℕ → List (Option Wish) → List (Option Wish) → List ChangeAt
 rows before after gs k [] [] = []
 rows before after gs k [] (r ∷ rs) = row before after gs k None r ++ rows before after gs (k + 1) [] rs
@@ -61,6 +66,7 @@ abbrev pub known_run : Known → List Announcement → Known
 known_run k [] = k
 known_run k (a ∷ more) = known_run (known_after k a) more
 
+-- what announcements one after the other change for our readers
 abbrev pub changes_run : Known → List Announcement → List ChangeAt
 changes_run k [] = []
 changes_run k (a ∷ more) = changes k (known_after k a) ++ changes_run (known_after k a) more

@@ -1,4 +1,4 @@
--- The faults of a configuration, each by itself, and which of them is reported.
+-- The faults of a configuration, each by itself, and which of them is reported (DDSI-RTPS 9.3.1.2).
 use Rattle.std.specs.Prelude.{◌≡◌, ℕ, ◌≤◌, ◌==◌, nat_le, nat_lt, List, [], ◌∷◌, length, slice_index, Bool, true, false, not, ◌&&◌, ◌||◌, if◌then◌else◌, Result, Ok, Err, All, AllPairs, IsFalse, ◌↔◌}
 use Rattle.std.specs.List.{list_any}
 use Rattle.std.specs.Str.{bytes_eq}
@@ -25,6 +25,7 @@ is_reader e = kind_of e == 0x04 || kind_of e == 0x07
 abbrev pub is_writer : EntityId → Bool
 is_writer e = kind_of e == 0x02 || kind_of e == 0x03
 
+-- the ownership isn't shared
 abbrev pub is_exclusive : Ownership → Bool
 is_exclusive Shared = false
 is_exclusive Exclusive = true
@@ -37,12 +38,15 @@ is_bad_reader r = not (is_reader r.entity) || is_exclusive r.requested.policies.
 abbrev pub is_bad_fixed : GuidPrefix → ℕ → FixedMatch → Bool
 is_bad_fixed own readers m = nat_le readers m.rank || (not (is_writer m.writer.entity) || bytes_eq own.0 m.writer.prefix.0)
 
+-- two readers have the same entity
 abbrev pub is_same_entity : ReaderConfig → ReaderConfig → Bool
 is_same_entity a b = bytes_eq a.entity.0 b.entity.0
 
+-- two guids are the same
 abbrev pub is_same_guid : Guid → Guid → Bool
 is_same_guid a b = bytes_eq a.prefix.0 b.prefix.0 && bytes_eq a.entity.0 b.entity.0
 
+-- two fixed matches join the same reader and writer
 abbrev pub is_same_pair : FixedMatch → FixedMatch → Bool
 is_same_pair a b = a.rank == b.rank && is_same_guid a.writer b.writer
 
@@ -65,8 +69,8 @@ check_of c =
     if has_fault BadFixed c then Err BadFixed else
     Ok tt
 
--- a configuration without a fault: enough readers and not too many, each of them good, no entity twice, and the same of the
--- fixed matches
+-- a configuration without a fault: enough readers and not too many, each of them good, no entity
+-- twice, and the same of the fixed matches
 pub record IsFaultless (c : Config) : Type 0 where
   pub some_reader : 1 ≤ length c.readers.items
   pub readers_at_most : length c.readers.items ≤ 256

@@ -1,4 +1,5 @@
--- The changes of what is known, in the words of sets: differences of the pairs that are matched, and of those that are refused.
+-- The changes of what is known, in the words of sets: differences of the pairs that are matched,
+-- and of those that are refused (DDSI-RTPS 8.5.4.4; DDS 1.4, 2.2.4.1).
 use Rattle.std.specs.Prelude.{◌≡◌, ℕ, List, Bool, false, true, ◌↔◌, AllPairs, Contains, IsTrue}
 use Rattle.std.specs.List.Sorted.{IsStrictlySortedBy}
 use Rattle.std.specs.Map.{keys_of}
@@ -29,6 +30,7 @@ abbrev pub ends_first : Becomes → Becomes → Bool
 ends_first (Unmatches g) (Refuses h policy) = true
 ends_first a b = false
 
+-- one comes before the other by this order, or is equal by it and comes before otherwise
 abbrev pub first_by : Ordering → Bool → Bool
 first_by Less otherwise = true
 first_by Equal otherwise = otherwise
@@ -38,9 +40,10 @@ first_by Greater otherwise = false
 abbrev pub comes_before : ChangeAt → ChangeAt → Bool
 comes_before a b = first_by (nat_cmp a.rank b.rank) (first_by (guid_order (writer_in a.what) (writer_in b.what)) (ends_first a.what b.what))
 
--- Matches begin at the pairs that are matched after and weren't before, with the locators that are known then; they end at those
--- that were matched before and aren't after; refusals are reported that are new, or of another policy. Where the writers known after are in order,
--- so are the changes.
+-- Matches begin at the pairs that are matched after and weren't before, with the locators that are
+-- known then; they end at those that were matched before and aren't after; refusals are reported
+-- that are new, or of another policy. Where the writers known after are in order, so are the
+-- changes.
 pub record AreDifferences (before after : Known) : Type 0 where
   pub begin : (rank : ℕ) (g : Guid) (ls : List Locator) →
       Contains (changes before after) (at rank (Matches g ls))

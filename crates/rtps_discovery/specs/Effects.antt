@@ -1,4 +1,4 @@
--- What an event gives to discovery.
+-- What an event gives to discovery (DDSI-RTPS 8.5).
 use Rattle.std.specs.Prelude.{◌≡◌, List, Option, map}
 use Rattle.std.specs.Option.{option_map}
 use Rattle.rtps_receiver.specs.Events.{EventView}

@@ -18,8 +18,8 @@ use Rattle.rtps_discovery.specs.Known.{Known, Participant, Wish, is_fixed, known
 use Rattle.rtps_discovery.specs.OneWriter.{column, has_rank, matched_from}
 use Rattle.rtps_discovery.specs.declared.held.Held as held
 
--- Lists by their keys, in order: what is known; and by writers the ranks of the readers that are matched with them from the
--- start, and of those that are matched with them now.
+-- Lists by their keys, in order: what is known; and by writers the ranks of the readers that are
+-- matched with them from the start, and of those that are matched with them now.
 pub record HeldView : Type 0 where
   pub own : GuidPrefix
   pub readers : List (Option Wish)
@@ -30,6 +30,7 @@ pub record HeldView : Type 0 where
   pub remote_readers : List Guid
   pub ranks : List (Guid × List ℕ)
 
+-- what contracts see of what discovery keeps
 abbrev pub kept : {A : Type 0} → held.Held A → HeldView
 kept h = record {
   own = h.own;
@@ -46,6 +47,7 @@ kept h = record {
 abbrev pub ranks_at : Guid → List (Guid × List ℕ) → List ℕ
 ranks_at g ranks = unwrap_or (lookup (is_at g) ranks) []
 
+-- what is known of a participant, if it is known
 abbrev pub participant_in : GuidPrefix → List (GuidPrefix × Participant) → Option Participant
 participant_in p participants = lookup (λ q. is_eq (prefix_order p q)) participants
 
@@ -54,10 +56,12 @@ abbrev pub locators_by : HeldView → GuidPrefix → Option Offer → List Locat
 locators_by d prefix None = []
 locators_by d prefix (Some w) = own_or w.locators (participant_in prefix d.participants)
 
+-- a fixed match joins the reader of a rank to this writer
 abbrev pub fixed_at : HeldView → Guid → ℕ → Bool
 fixed_at d g = has_rank (ranks_at g d.fixed)
 
--- what the readers hear where a writer offers this now, or nothing any more; and the ranks of those that are matched with it then
+-- what the readers hear where a writer offers this now, or nothing any more; and the ranks of those
+-- that are matched with it then
 abbrev pub heard_of : HeldView → Guid → Option Offer → List ChangeAt
 heard_of d g after = column (fixed_at d g) g (locators_by d g.prefix after) (lookup (is_at g) d.writers) after 0 d.readers
 
@@ -88,7 +92,8 @@ pub record IsKnown (k : Known) (d : HeldView) : Type 0 where
   pub remote_readers : d.remote_readers ≡ k.remote_readers
   pub ranks : (g : Guid) → ranks_at g d.ranks ≡ matched_ranks k g
 
--- An announcement is applied: what is kept then is what is known after it, and what it changes comes after the earlier changes.
+-- An announcement is applied: what is kept then is what is known after it, and what it changes
+-- comes after the earlier changes.
 pub record Applies (a : Announcement) (old new : HeldView) (earlier all : List ChangeAt) : Type 0 where
   pub known : (k : Known) → IsKnown k old → IsKnown (known_after k a) new
   pub changes : (k : Known) → IsKnown k old → all ≡ earlier ++ changes k (known_after k a)

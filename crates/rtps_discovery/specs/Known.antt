@@ -1,5 +1,5 @@
--- What a participant knows of the others (DDSI-RTPS 8.5): participants, writers and readers, and how its own readers are with
--- the writers.
+-- What a participant knows of the others (DDSI-RTPS 8.5): participants, writers and readers, and
+-- how its own readers are with the writers.
 use Rattle.std.specs.Prelude.{ℕ, zero, suc, ◌==◌, List, [], ◌∷◌, filter, Option, Some, None, Bool, true, false, not, ◌&&◌, ◌||◌, if◌then◌else◌, is_some}
 use Rattle.std.specs.List.{list_any}
 use Rattle.std.specs.Map.{lookup, remove_entry}
@@ -47,6 +47,7 @@ pub record Known : Type 0 where
   pub writers : List (Guid × Offer)
   pub remote_readers : List Guid
 
+-- participants are ordered by the octets of their prefixes
 abbrev pub prefix_order : GuidPrefix → GuidPrefix → Ordering
 prefix_order a b = octet_order a.0 b.0
 
@@ -70,6 +71,7 @@ pub data Standing : Type 0 where
   Joined : Standing
   Refused : ℕ → Standing
 
+-- joined where no policy is at fault, else refused by that one
 abbrev pub by_fault : Option ℕ → Standing
 by_fault None = Joined
 by_fault (Some policy) = Refused policy
@@ -88,11 +90,13 @@ standing (Some r) (Some w) = standing_of r w
 standing (Some r) None = Apart
 standing None w = Apart
 
+-- a reader and a writer are joined
 abbrev pub is_joined : Standing → Bool
 is_joined Apart = false
 is_joined Joined = true
 is_joined (Refused policy) = false
 
+-- the reader of a rank and a writer are matched from the start
 abbrev pub is_fixed : List (ℕ × Guid) → ℕ → Guid → Bool
 is_fixed fixed rank g = list_any (λ p. p.0 == rank && same_guid p.1 g) fixed
 
@@ -111,31 +115,38 @@ abbrev pub locators_for : Known → GuidPrefix → Option Offer → List Locator
 locators_for k prefix None = []
 locators_for k prefix (Some w) = own_or w.locators (participant_at k prefix)
 
+-- where answers to a writer go, by what is known of it
 abbrev pub locators_at : Known → Guid → List Locator
 locators_at k g = locators_for k g.prefix (writer_at k g)
 
 -- ---- what is known after an announcement
 
--- our builtin readers, and the writers of a participant that announce to them (DDSI-RTPS 9.3.1.3)
+-- the announcer of a participant itself (DDSI-RTPS 9.3.1.3 has it and the five ids after it)
 abbrev pub spdp_writer : EntityId
 spdp_writer = record { 0 = 0x00 ∷ 0x01 ∷ 0x00 ∷ 0xc2 ∷ [] }
 
+-- our builtin reader to which participants announce themselves
 abbrev pub spdp_reader : EntityId
 spdp_reader = record { 0 = 0x00 ∷ 0x01 ∷ 0x00 ∷ 0xc7 ∷ [] }
 
+-- the announcer of a participant's writers
 abbrev pub publications_writer : EntityId
 publications_writer = record { 0 = 0x00 ∷ 0x00 ∷ 0x03 ∷ 0xc2 ∷ [] }
 
+-- our builtin reader to which writers are announced
 abbrev pub publications_reader : EntityId
 publications_reader = record { 0 = 0x00 ∷ 0x00 ∷ 0x03 ∷ 0xc7 ∷ [] }
 
+-- the announcer of a participant's readers
 abbrev pub subscriptions_writer : EntityId
 subscriptions_writer = record { 0 = 0x00 ∷ 0x00 ∷ 0x04 ∷ 0xc2 ∷ [] }
 
+-- our builtin reader to which readers are announced
 abbrev pub subscriptions_reader : EntityId
 subscriptions_reader = record { 0 = 0x00 ∷ 0x00 ∷ 0x04 ∷ 0xc7 ∷ [] }
 
--- a builtin reader of ours is matched with the writer of a participant that announces to it, and it is reliable
+-- a builtin reader of ours is matched with the writer of a participant that announces to it, and it
+-- is reliable
 abbrev pub announcer : GuidPrefix → GuidPrefix → EntityId → EntityId → List Locator → Match
 announcer own p writer reader locators = record {
   pairing = record {
@@ -148,19 +159,23 @@ announcer own p writer reader locators = record {
   past = [];
 }
 
+-- the match with an announcer begins, where the participant has that announcer
 abbrev pub where_announced : Bool → Match → List Match → List Match
 where_announced announces m ms = if announces then begun m ms else ms
 
+-- a match begins with each announcer of endpoints that a participant has
 abbrev pub with_announcers : GuidPrefix → GuidPrefix → Facts → List Match → List Match
 with_announcers own p f ms =
     where_announced f.announces_readers (announcer own p subscriptions_writer subscriptions_reader f.metatraffic)
     (where_announced f.announces_writers (announcer own p publications_writer publications_reader f.metatraffic) ms)
 
+-- a participant is among these
 abbrev pub is_of : List GuidPrefix → GuidPrefix → Bool
 is_of gone p = list_any (λ q. bytes_eq q.0 p.0) gone
 
--- The first record of a participant makes it known, with its announcers; a later one changes its default locators and its
--- lease alone. With a participant go its announcers, its writers and its readers.
+-- The first record of a participant makes it known, with its announcers; a later one changes its
+-- default locators and its lease alone. With a participant go its announcers, its writers and its
+-- readers.
 abbrev pub known_after : Known → Announcement → Known
 known_after k (Comes p f) = record k {
   participants = insert_entry prefix_order k.participants p (record { locators = f.locators; lease = f.lease });

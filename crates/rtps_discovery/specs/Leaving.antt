@@ -11,6 +11,7 @@ use Rattle.rtps_discovery.specs.Known.{Wish, is_of, standing}
 use Rattle.rtps_discovery.specs.OneWriter.{has_rank, met}
 use Rattle.rtps_discovery.specs.declared.gone.Gone.{Gone}
 
+-- the endpoint of a participant that has this entity
 abbrev pub endpoint : GuidPrefix → EntityId → Guid
 endpoint p e = record { prefix = p; entity = e }
 

@@ -1,4 +1,5 @@
--- The matches of all our readers as a set of pairs (DDSI-RTPS 8.5.4.4): the rank of a reader, and a writer.
+-- The matches of all our readers as a set of pairs (DDSI-RTPS 8.5.4.4): the rank of a reader, and a
+-- writer.
 use Rattle.std.specs.Prelude.{◌≡◌, ℕ, ◌<◌, length, true, List, [], ◌∷◌, ◌↔◌, Contains}
 use Rattle.std.specs.BTreeSet.{insert_key}
 use Rattle.std.specs.List.Sorted.{IsStrictlySortedBy}

@@ -23,7 +23,8 @@ participant_guid = 0x0050
 abbrev pub endpoint_guid : ℕ
 endpoint_guid = 0x005a
 
--- a change of the participants' announcer: each DATA counts, whatever its number, and nothing else of that writer does
+-- a change of the participants' announcer: each DATA counts, whatever its number, and nothing else
+-- of that writer does
 abbrev pub participant_in : GuidPrefix → GuidPrefix → EventBody → Option Announcement
 participant_in own source (Whole c) =
     option_and_then (participant_said own source c.info.hash) (said_in participant_guid c.info c.payload)

@@ -12,6 +12,7 @@ use Rattle.rtps_wire.specs.declared.data.Form.{Form}
 use Rattle.rtps_wire.specs.declared.data.Form.TheVariants as form
 use Rattle.dds_qos.specs.Settings.{Settings, guid_named, settings_of}
 
+-- what a change of an announcer says: a record, or that something ends
 pub data Said : Type 0 where
   Announces : Settings → Said
   -- and what it names, if it names what ends
@@ -21,11 +22,13 @@ pub data Said : Type 0 where
 abbrev pub order_of : ℕ → Option Endian
 order_of kind = if kind == 0x0002 then Some Big else if kind == 0x0003 then Some Little else None
 
+-- a list that was read without a fault
 abbrev pub if_list : Result Contents ParamFault → Option Contents
 if_list (Ok list) = Some list
 if_list (Err fault) = None
 
--- the parameter list of a payload: two octets of encapsulation, two of options, which say nothing, and then the list
+-- the parameter list of a payload: two octets of encapsulation, two of options, which say nothing,
+-- and then the list
 abbrev pub list_in : List ℕ → Option Contents
 list_in payload =
     option_and_then
@@ -44,8 +47,9 @@ record_in payload = option_map Announces (option_and_then settings_of (list_in p
 abbrev pub end_in : ℕ → List ℕ → Option Said
 end_in id payload = option_map Ends (option_and_then (guid_named id) (list_in payload))
 
--- by the form of the change, and by whether something ends; id is the parameter that names what an end is of. An end
--- without a payload names nothing. A key payload that ends nothing says nothing, and no form of the standard neither
+-- by the form of the change, and by whether something ends; id is the parameter that names what an
+-- end is of. An end without a payload names nothing. A key payload that ends nothing says nothing,
+-- and no form of the standard neither
 abbrev pub said_by : ℕ → Form → Bool → List ℕ → Option Said
 said_by id form.Value false payload = record_in payload
 said_by id form.Value true payload = end_in id payload

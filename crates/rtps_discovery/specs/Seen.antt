@@ -19,10 +19,12 @@ use Rattle.rtps_discovery.specs.declared.said.Said.{Said}
 use Rattle.rtps_discovery.specs.declared.said.Said.TheVariants as code
 use Rattle.rtps_discovery.specs.Said as said
 
+-- what contracts see of what a change of an announcer says
 abbrev pub said_seen : Said → said.Said
 said_seen (code.Announces s) = said.Announces (settings_seen s)
 said_seen (code.Ends named) = said.Ends named
 
+-- what contracts see of what a participant says of itself
 abbrev pub facts_seen : Facts → announcement.Facts
 facts_seen f = record {
   metatraffic = f.metatraffic;
@@ -32,6 +34,7 @@ facts_seen f = record {
   announces_readers = f.announces_readers;
 }
 
+-- what contracts see of what a writer offers, or a reader asks for
 abbrev pub offer_seen : Offer → announcement.Offer
 offer_seen o = record {
   topic = o.topic.now;
@@ -41,6 +44,7 @@ offer_seen o = record {
   locators = o.locators;
 }
 
+-- what contracts see of an announcement
 abbrev pub announcement_seen : Announcement → announcement.Announcement
 announcement_seen (announced.Comes p f) = announcement.Comes p (facts_seen f)
 announcement_seen (announced.Leaves p) = announcement.Leave (p ∷ [])
@@ -49,16 +53,19 @@ announcement_seen (announced.Withdraws g) = announcement.Withdraws g
 announcement_seen (announced.Asks g) = announcement.Asks g
 announcement_seen (announced.AsksNoMore g) = announcement.AsksNoMore g
 
+-- what contracts see of how a reader is with a writer
 abbrev pub standing_seen : Standing → known.Standing
 standing_seen stands.Apart = known.Apart
 standing_seen stands.Joined = known.Joined
 standing_seen (stands.Refused policy) = known.Refused policy
 
+-- what contracts see of what becomes of a reader and a writer
 abbrev pub becomes_seen : {A : Type 0} → Becomes A → changes.Becomes
 becomes_seen (becoming.Match g locators) = changes.Matches g locators
 becomes_seen (becoming.Unmatch g) = changes.Unmatches g
 becomes_seen (becoming.Refuse g policy) = changes.Refuses g policy
 
+-- what contracts see of what becomes of the reader of a rank and a writer
 abbrev pub change_seen : {A : Type 0} → MatchChange A → changes.ChangeAt
 change_seen c = record { rank = c.rank; what = becomes_seen c.what }
 

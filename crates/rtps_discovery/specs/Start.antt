@@ -1,4 +1,5 @@
--- What is known at the start (DDSI-RTPS 8.5): our readers, and the matches that there are from the start.
+-- What is known at the start (DDSI-RTPS 8.5): our readers, and the matches that there are from the
+-- start.
 use Rattle.std.specs.Prelude.{ℕ, List, [], Option, Some, None, map}
 use Rattle.std.specs.String.{string_bytes}
 use Rattle.rtps_types.specs.declared.identity.Guid.{Guid}
@@ -8,6 +9,7 @@ use Rattle.rtps_discovery.specs.declared.config.Config.{Config}
 use Rattle.rtps_discovery.specs.Known.{Known, Wish, is_fixed}
 use Rattle.rtps_discovery.specs.OneWriter.{matched_from}
 
+-- a reader of the configuration, and what it asks for
 abbrev pub wish_of : ReaderConfig → Wish
 wish_of r = record {
   entity = r.entity;
@@ -17,9 +19,11 @@ wish_of r = record {
   partitions = r.requested.partitions;
 }
 
+-- the same, as a reader that is there
 abbrev pub reader_of : ReaderConfig → Option Wish
 reader_of r = Some (wish_of r)
 
+-- the rank and the writer of a fixed match
 abbrev pub pair_of : FixedMatch → ℕ × Guid
 pair_of m = (m.rank, m.writer)
 

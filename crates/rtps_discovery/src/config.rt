@@ -1,4 +1,5 @@
-//! What an application asks of discovery: its readers, and the matches that there are from the start.
+//! What an application asks of discovery: its readers, and the matches that there are from the
+//! start.
 
 ghost use Rattle.std.specs.Prelude.{◌≡◌, ◌∷◌, ◌++◌, [], IfOk, OnErr, OnOk};
 
@@ -22,8 +23,8 @@ impl ReaderConfig {
     ghost use Rattle.rtps_discovery.specs.Start.{wish_of};
     ghost use Rattle.rtps_discovery.specs.Asking.{first_wish, reliably};
 
-    /// A reader of a topic and a type, with copies of their names, that asks for what holds where no
-    /// policy is given (DDS 1.4, 2.2.3), so a best-effort one without partitions. `AllocError`
+    /// A reader of a topic and a type, with copies of their names, that asks for what holds where
+    /// no policy is given (DDS 1.4, 2.2.3), so a best-effort one without partitions. `AllocError`
     /// where memory for the names is refused.
     pub fn new(
         alloc: Global,
@@ -96,8 +97,8 @@ impl Config {
         }
     }
 
-    /// Puts a match that there is from the start after the others: of the reader of this rank with a
-    /// writer, and where answers to it go. `AllocError` where memory is refused, and then the
+    /// Puts a match that there is from the start after the others: of the reader of this rank with
+    /// a writer, and where answers to it go. `AllocError` where memory is refused, and then the
     /// locators are let go and the configuration asks for what it did.
     pub fn add_fixed(
         &mut self,

@@ -18,9 +18,9 @@ pub fn taken_is_faultless()
 
 /// Whatever is known before and after: a match begins at exactly the pairs of a reader and a writer
 /// that are matched after and weren't before, and ends at those that were matched before and aren't
-/// after; a refusal is reported exactly where it is new or of another policy. Where the writers that
-/// are known after are in the order of their octets, the changes are in order too: by rank, then by
-/// writer, and an end before a refusal.
+/// after; a refusal is reported exactly where it is new or of another policy. Where the writers
+/// that are known after are in the order of their octets, the changes are in order too: by rank,
+/// then by writer, and an end before a refusal.
 pub fn changes_are_differences()
     ensures { ChangesAreDifferences }
 {}

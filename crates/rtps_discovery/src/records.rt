@@ -141,8 +141,8 @@ impl<A: Allocator + Copy> Held<A> {
         Ok(())
     }
 
-    /// Applies what an event of the participants' announcer says, and gives what our readers hear of
-    /// it.
+    /// Applies what an event of the participants' announcer says, and gives what our readers hear
+    /// of it.
     fn hear_participant(
         &mut self,
         alloc: A,

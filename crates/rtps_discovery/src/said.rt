@@ -24,8 +24,9 @@ pub(crate) enum Said<'a> {
     Ends(Option<Guid>),
 }
 
-/// The parameter list of a payload, after an encapsulation of four octets: two of a kind, and two of
-/// options, which only have to be there. `None` where the kind is another, or the list has a fault.
+/// The parameter list of a payload, after an encapsulation of four octets: two of a kind, and two
+/// of options, which only have to be there. `None` where the kind is another, or the list has a
+/// fault.
 fn list_in(payload: &[u8]) -> Option<ParamList<'_>>
     ensures { result ≡ said.list_in payload.now }
 {

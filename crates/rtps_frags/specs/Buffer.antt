@@ -23,18 +23,21 @@ abbrev pub own_or : List ℕ → List ℕ → List ℕ
 own_or [] placed = placed
 own_or (octet ∷ octets) placed = octet ∷ octets
 
+-- the octets of a run, its own or those at its place in the buffer
 abbrev pub octets_in : Sizes → List ℕ → ℕ × Run → List ℕ
 octets_in z buffer r = own_or r.1.octets (stretch (before z r.0) (length_of z r.0 r.1.count) buffer)
 
+-- the runs, each with its octets, wherever they lie
 abbrev pub runs_in : Sizes → List ℕ → Runs → Runs
 runs_in z buffer [] = []
 runs_in z buffer (r ∷ rs) = (r.0, record { count = r.1.count; octets = octets_in z buffer r }) ∷ runs_in z buffer rs
 
--- how many octets of the buffer runs have
+-- a run that has no octets of its own has so many in the buffer, and any other has none
 abbrev pub if_none : List ℕ → ℕ → ℕ
 if_none [] n = n
 if_none (octet ∷ octets) n = 0
 
+-- how many octets of the buffer runs have
 abbrev pub placed : Sizes → Runs → ℕ
 placed z [] = 0
 placed z (r ∷ rs) = if_none r.1.octets (length_of z r.0 r.1.count) + placed z rs

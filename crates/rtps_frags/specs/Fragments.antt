@@ -47,6 +47,7 @@ fault_of z start count octets =
 abbrev pub There : Type 0
 There = List (ℕ × List ℕ)
 
+-- fragment k is there
 abbrev pub has : There → ℕ → Bool
 has there k = list_any (λ f. f.0 == k) there
 

@@ -6,6 +6,7 @@ use Rattle.rtps_frags.specs.declared.fault.AddError.TheVariants.{Fault, NoMemory
 use Rattle.rtps_frags.specs.declared.fault.FragFault.{FragFault}
 use Rattle.rtps_frags.specs.Fragments.{There, is_whole, with_fragments}
 
+-- an assembly: how its sample is cut, the fragments that are there, and whether it is spent
 pub record AssemblyView : Type 0 where
   pub sizes : Sizes
   pub there : There

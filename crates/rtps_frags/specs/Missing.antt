@@ -6,10 +6,12 @@ use Rattle.rtps_types.specs.Numbers.{failing_from, first_failing}
 use Rattle.rtps_frags.specs.declared.sizes.Sizes.{Sizes}
 use Rattle.rtps_frags.specs.Fragments.{There, has, is_empty, last_of}
 
--- where a fragment up to `end` isn't there: from the least of these on, those of 256 fragments that aren't
+-- where a fragment up to `end` isn't there: from the least of these on, those of 256 fragments that
+-- aren't
 abbrev pub missing_from : (ℕ → Bool) → ℕ → ℕ → Option NumberSet
 missing_from is_there least end = if nat_lt end least then None else Some (set_naming least (failing_from is_there least (min 256 (end + 1 - least))))
 
+-- the missing fragments up to `end`: those of 256 from the least of them on
 unfoldable pub missing_by : (ℕ → Bool) → ℕ → Option NumberSet
 missing_by is_there end = missing_from is_there (first_failing is_there 1 end) end
 

@@ -14,6 +14,7 @@ IsKept z p = AreStored z (suc p.next) p.next p.there p.buffer.items p.early.entr
 abbrev pub IsJoinable : {A : Type 0} → Sizes → Parts A → Type 0
 IsJoinable z p = AreStored z p.next p.next p.there p.buffer.items p.early.entries
 
+-- a fragment, where the parts have it
 abbrev pub part_at : {A : Type 0} → Sizes → Parts A → ℕ → Option (List ℕ)
 part_at z p = stored_at z p.next p.buffer.items p.early.entries
 
@@ -21,6 +22,7 @@ part_at z p = stored_at z p.next p.buffer.items p.early.entries
 abbrev pub holds : {A : Type 0} → Parts A → ℕ → Bool
 holds p k = (nat_le 1 k && nat_lt k p.next) || covers p.early.entries k
 
+-- the fragments that are there, by rising number, each with its octets
 abbrev pub there_in : {A : Type 0} → Sizes → Parts A → There
 there_in z p = there_of z p.next (front_in z p.next p.buffer.items) (runs_in z p.buffer.items p.early.entries)
 

@@ -1,4 +1,4 @@
--- The payload of a sample of which all fragments came.
+-- The payload of a sample of which all fragments came (DDSI-RTPS 8.4.14.1).
 use Rattle.std.specs.Prelude.{◌≡◌, ℕ, ◌+◌, ◌-◌, ◌<◌, ◌≤◌, List, [], ◌∷◌, length, None, true}
 use Rattle.std.specs.List.{AllByRecursion}
 use Rattle.rtps_frags.specs.declared.sizes.Sizes.{Sizes}
@@ -25,7 +25,8 @@ pub record IsPartOf (z : Sizes) (payload : List ℕ) (p : Part) : Type 0 where
   pub faultless : fault_of z p.start p.count (length p.octets) ≡ None
   pub same : (k : ℕ) → p.start ≤ k → k < p.start + p.count → fragment_in z p.start p.octets k ≡ fragment_in z 1 payload k
 
--- parts of one payload, in any order and however often, give that payload as soon as all fragments are there
+-- parts of one payload, in any order and however often, give that payload as soon as all fragments
+-- are there
 abbrev pub AnyOrderGivesThePayload : Type 0
 AnyOrderGivesThePayload =
     (z : Sizes) (payload : List ℕ) (parts : List Part) → length payload ≡ z.sample → AllByRecursion (IsPartOf z payload) parts

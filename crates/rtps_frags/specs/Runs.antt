@@ -1,4 +1,5 @@
--- Fragments that are kept where they came: those before the least missing one in one piece, and runs after it.
+-- Fragments that are kept where they came: those before the least missing one in one piece, and
+-- runs after it.
 use Rattle.std.specs.Prelude.{◌≡◌, ℕ, zero, suc, ◌+◌, ◌-◌, ◌<◌, ◌≤◌, Bool, false, ◌&&◌, ◌==◌, List, [], ◌∷◌, length, nat_lt, nat_le, Option, Some, None, filter, if◌then◌else◌}
 use Rattle.std.specs.List.{list_any, AllByRecursion}
 use Rattle.rtps_frags.specs.declared.sizes.Sizes.{Sizes}
@@ -13,12 +14,15 @@ pub record Run : Type 0 where
 abbrev pub Runs : Type 0
 Runs = List (ℕ × Run)
 
+-- the number after the last fragment of a run
 abbrev pub end_of : ℕ × Run → ℕ
 end_of r = r.0 + r.1.count
 
+-- fragment k is in a run
 abbrev pub within : ℕ → ℕ × Run → Bool
 within k r = nat_le r.0 k && nat_lt k (end_of r)
 
+-- fragment k is in one of the runs
 abbrev pub covers : Runs → ℕ → Bool
 covers runs k = list_any (within k) runs
 
@@ -60,6 +64,7 @@ pub record AreKept (z : Sizes) (low next : ℕ) (front : List ℕ) (runs : Runs)
 abbrev pub kept_at : Sizes → ℕ → List ℕ → Runs → ℕ → Option (List ℕ)
 kept_at z next front runs k = if nat_le 1 k && nat_lt k next then Some (fragment_in z 1 front k) else in_runs z runs k
 
+-- a fragment, if it is there, before others
 abbrev pub listed_by : Option (List ℕ) → ℕ → There → There
 listed_by None k there = there
 listed_by (Some octets) k there = (k, octets) ∷ there

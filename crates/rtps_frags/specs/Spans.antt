@@ -3,7 +3,8 @@ use Rattle.std.specs.Prelude.{◌≡◌, ℕ, ◌≤◌, ◌&&◌, ◌||◌, nat
 use Rattle.rtps_frags.specs.declared.parts.Span.{Span}
 use Rattle.rtps_frags.specs.Runs.{AreApart, Runs, covers}
 
--- from fragment `at` on the runs have the fragments of a span, and those of the runs that are left, which are after it
+-- from fragment `at` on the runs have the fragments of a span, and those of the runs that are left,
+-- which are after it
 pub record IsAhead (runs : Runs) (at : ℕ) (span : Span) (left : Runs) : Type 0 where
   pub reached : at ≤ span.end
   pub same : (k : ℕ) → at ≤ k → covers runs k ≡ ((nat_le span.start k && nat_lt k span.end) || covers left k)

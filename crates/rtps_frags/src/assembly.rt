@@ -55,10 +55,10 @@ impl<A: Allocator + Copy> Assembly<A> {
         }
     }
 
-    /// Takes in `count` fragments from `start` on, with which the octets begin; what follows them is
-    /// ignored, and a fragment that is there stays as it is. Fragments with a fault are not taken, and
-    /// nothing changes. After a refused growth the assembly is spent: each later call answers so, and
-    /// changes nothing.
+    /// Takes in `count` fragments from `start` on, with which the octets begin; what follows them
+    /// is ignored, and a fragment that is there stays as it is. Fragments with a fault are not
+    /// taken, and nothing changes. After a refused growth the assembly is spent: each later call
+    /// answers so, and changes nothing.
     pub fn add(&mut self, alloc: A, start: u32, count: u16, payload: &[u8]) -> Result<(), AddError>
         ensures ok { OnOk result (self.new ≡ with_part self.old start count payload.now) }
         ensures faultless { OnOk result
@@ -110,8 +110,8 @@ impl<A: Allocator> Assembly<A> {
         self.sizes.upto(self.parts.next - 1) == self.sizes.sample as usize
     }
 
-    /// What is missing up to a fragment, and up to the sample's last one: from the least missing one
-    /// on, those of 256 that are. None where nothing is.
+    /// What is missing up to a fragment, and up to the sample's last one: from the least missing
+    /// one on, those of 256 that are. None where nothing is.
     pub fn missing_up_to(&self, last: u32) -> Option<FragSet>
         ensures { option_map frag_view result ≡ missing self.now.sizes self.now.there last }
     {

@@ -5,8 +5,8 @@ ghost use Rattle.rtps_frags.specs.Buffer.{IsPutAt};
 
 use std::alloc::{AllocError, Allocator};
 
-/// Makes room for so many octets. Where there is none, it is made for as many as are named first, or for
-/// just these.
+/// Makes room for so many octets. Where there is none, it is made for as many as are named first,
+/// or for just these.
 pub(crate) fn make_room<A: Allocator>(
     buffer: &mut Vec<u8, A>,
     room: usize,

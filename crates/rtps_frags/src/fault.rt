@@ -48,8 +48,8 @@ impl From<AllocError> for AddError {
 /// The greatest sample that is put together.
 const MAX_SAMPLE: u32 = 67_108_864;
 
-/// What is wrong with `count` fragments from `start` on in so many octets: the first fault of these,
-/// a size of 0, a sample that is too large, no such fragments, too few octets.
+/// What is wrong with `count` fragments from `start` on in so many octets: the first fault of
+/// these, a size of 0, a sample that is too large, no such fragments, too few octets.
 #[tactic(auto, unfolding(crate::specs::Fragments::fault_of))]
 pub fn fault_in(sizes: Sizes, start: u32, count: u16, octets: usize) -> Option<FragFault>
     ensures { result ≡ fault_of sizes start count octets }

@@ -97,8 +97,8 @@ fn start_behind<A: Allocator>(early: &BTreeMap<u32, Chunk<A>, A>, at: u32) -> u6
     }
 }
 
-/// The next fragments that are there, where those of the last chunk lie before a fragment. After all
-/// chunks none is there up to a limit.
+/// The next fragments that are there, where those of the last chunk lie before a fragment. After
+/// all chunks none is there up to a limit.
 fn next_span<A: Allocator>(
     chunks: &mut Iter<'_, u32, Chunk<A>>,
     last: Span,
@@ -125,8 +125,8 @@ fn next_span<A: Allocator>(
     }
 }
 
-/// The room that is made for octets of a sample where there is none: for sixteen times as many, or for
-/// all.
+/// The room that is made for octets of a sample where there is none: for sixteen times as many, or
+/// for all.
 fn room(sizes: Sizes, length: usize) -> usize {
     length.saturating_mul(16).min(sizes.sample as usize)
 }
@@ -186,8 +186,8 @@ impl<A: Allocator> Parts<A> {
 }
 
 impl<A: Allocator + Copy> Parts<A> {
-    /// Counts the chunks that begin with the least missing fragment to those before it. Only the octets
-    /// of a chunk that has its own are moved.
+    /// Counts the chunks that begin with the least missing fragment to those before it. Only the
+    /// octets of a chunk that has its own are moved.
     fn join(&mut self, sizes: Sizes) -> Result<(), AllocError>
         requires cut { 0 < sizes.fragment }
         requires small { sizes.sample ≤ 67108864 }
@@ -275,8 +275,8 @@ impl<A: Allocator + Copy> Parts<A> {
         Ok(())
     }
 
-    /// Whether the buffer's holes, once a piece is at its place, are no longer than what came. So the
-    /// buffer goes by the octets that came, whatever place a piece names.
+    /// Whether the buffer's holes, once a piece is at its place, are no longer than what came. So
+    /// the buffer goes by the octets that came, whatever place a piece names.
     fn has_place(&self, sizes: Sizes, piece: Piece<'_>) -> bool
         requires cut { 0 < sizes.fragment }
         requires small { sizes.sample ≤ 67108864 }
@@ -319,8 +319,8 @@ impl<A: Allocator + Copy> Parts<A> {
         Ok(())
     }
 
-    /// Puts fragments at the end of the chunk that was put last, where it ends before them; and says
-    /// whether it does.
+    /// Puts fragments at the end of the chunk that was put last, where it ends before them; and
+    /// says whether it does.
     fn extend_latest(&mut self, sizes: Sizes, piece: Piece<'_>) -> Result<bool, AllocError>
         requires cut { 0 < sizes.fragment }
         requires small { sizes.sample ≤ 67108864 }

@@ -3,8 +3,8 @@
 ghost use Rattle.std.specs.Prelude.{◌≡◌, ◌+◌, ◌-◌, ◌<◌, ◌≤◌};
 ghost use Rattle.rtps_frags.specs.Fragments.{before, is_empty, is_outside, last_of, length_of, upto};
 
-/// How many octets a sample has, and how many each of its fragments has but the last, which may have
-/// fewer.
+/// How many octets a sample has, and how many each of its fragments has but the last, which may
+/// have fewer.
 #[derive(Clone, Copy, Debug, PartialEq, Eq)]
 pub struct Sizes {
     pub sample: u32,
@@ -43,8 +43,8 @@ impl Sizes {
         (fragment as usize * usize::from(self.fragment)).min(self.sample as usize)
     }
 
-    /// Whether there are no such fragments: the octets before the last of them are all that the sample
-    /// has, which takes no division.
+    /// Whether there are no such fragments: the octets before the last of them are all that the
+    /// sample has, which takes no division.
     pub(crate) fn is_outside(self, start: u32, count: u16) -> bool
         requires { 0 < self.fragment }
         ensures { result ≡ is_outside self start count }

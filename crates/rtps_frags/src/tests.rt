@@ -72,8 +72,8 @@ fn a_sample_without_octets_never_comes(rt: HostRuntime) {
     assert!(rt; uncut.missing_up_to(9).is_none());
 }
 
-/// Fragments 3, 2 and 1 of a sample, of which the first is kept apart and the second at its place, and
-/// whether it came; `None` where memory ran out.
+/// Fragments 3, 2 and 1 of a sample, of which the first is kept apart and the second at its place,
+/// and whether it came; `None` where memory ran out.
 fn serves<A: Allocator + Copy>(alloc: A, sample: &mut Assembly<A>) -> Option<bool> {
     if sample.add(alloc, 3, 1, b"ef").is_err() {
         return None;

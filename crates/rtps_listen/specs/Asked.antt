@@ -15,10 +15,12 @@ abbrev pub IsDump : Option (Text × List Row) → Type 0
 IsDump None = Unit {0}
 IsDump (Some found) = found.0 ≡ codes "dump"
 
+-- the subcommand is `replay`
 abbrev pub IsReplay : Option (Text × List Row) → Type 0
 IsReplay None = ⊥
 IsReplay (Some found) = found.0 ≡ codes "replay"
 
+-- the subcommand is `samples`
 abbrev pub IsSamples : Option (Text × List Row) → Type 0
 IsSamples None = ⊥
 IsSamples (Some found) = found.0 ≡ codes "samples"
@@ -28,6 +30,7 @@ abbrev pub rows_behind : Option (Text × List Row) → List Row
 rows_behind None = []
 rows_behind (Some found) = found.1
 
+-- this is what the words ask for, by the subcommand and by what was found after it
 unfoldable pub Asks : Asked → Option (Text × List Row) → Type 0
 Asks (Dump file own) found =
     IsDump found × (file.now ≡ text_or (codes "file") (codes "-") (rows_behind found)) × (own.now ≡ text_or (codes "own") own_text (rows_behind found))

@@ -21,7 +21,8 @@ use Rattle.rtps_listen.specs.declared.options.Options.{Options}
 use Rattle.rtps_listen.specs.declared.fault.ListenFault.{ListenFault}
 use Rattle.rtps_listen.specs.declared.fault.ListenFault.TheVariants.{BadPrefix, BadWriter, Run}
 
--- the entity of the reader of a rank: readers with a key (DDSI-RTPS 9.3.1.2) that are counted from 1
+-- the entity of the reader of a rank: readers with a key (DDSI-RTPS 9.3.1.2) that are counted
+-- from 1
 abbrev pub entity_of : ℕ → EntityId
 entity_of rank = record { 0 = 0x00 ∷ 0x00 ∷ (rank + 1) ∷ 0x07 ∷ [] }
 
@@ -30,7 +31,8 @@ abbrev pub reliability_of : Bool → Reliability
 reliability_of true = BestEffort
 reliability_of false = Reliable
 
--- the reader of a rank: it has the type of the Shapes demo, and its other policies are what holds where none is given
+-- the reader of a rank: it has the type of the Shapes demo, and its other policies are what holds
+-- where none is given
 abbrev pub reader_of : Text → Reliability → ℕ → Wish
 reader_of topic reliability rank = record {
   entity = entity_of rank;

@@ -1,4 +1,5 @@
--- Participants and writers as the command line writes them: their octets (DDSI-RTPS 9.3.1) in hex digits of either case.
+-- Participants and writers as the command line writes them: their octets (DDSI-RTPS 9.3.1) in hex
+-- digits of either case.
 use Rattle.std.specs.Prelude.{◌≡◌, IsOk, Ok}
 use Rattle.clap.specs.Words.{Text}
 use Rattle.rtps_types.specs.Text.{guid_in, prefix_in}

@@ -30,7 +30,8 @@ number_of text = if are_digits (without_leading_plus text) then digits_value 10 
 abbrev pub number_in : Text → List Row → ℕ
 number_in name rows = option_map_or number_of (one_of name rows) 0
 
--- a number from 1 to the greatest; clap lets no other through, which its definition of what was found doesn't repeat
+-- a number from 1 to the greatest; clap lets no other through, which its definition of what was
+-- found doesn't repeat
 abbrev pub one_to : ℕ → ℕ → ℕ
 one_to most n = if nat_le 1 n && nat_le n most then n else 1
 

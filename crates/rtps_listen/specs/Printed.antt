@@ -27,8 +27,8 @@ use Rattle.rtps_listen.specs.declared.options.SamplesOptions.{SamplesOptions}
 use Rattle.rtps_listen.specs.declared.task.Task.{Task}
 use Rattle.rtps_listen.specs.declared.task.Task.TheVariants as task
 
--- the text of these records: the lines of their events; or those of a run over them, or of what its readers keep, whose samples are
--- shapes of the Shapes demo, or with `--raw` octets
+-- the text of these records: the lines of their events; or those of a run over them, or of what its
+-- readers keep, whose samples are shapes of the Shapes demo, or with `--raw` octets
 unfoldable pub task_text : Task → List (List ℕ) → List ℕ
 task_text (task.Dump own) records = text_of (lines_of own) records
 task_text (task.Replay setup) records = replay_text shape_text shape_decoding setup.config setup.summary records
@@ -56,7 +56,8 @@ IsRunOf options setup = IsConfigOf options setup.config × (setup.summary ≡ op
 abbrev pub AreKeptBy : {C : Type 0} → SamplesOptions → CacheSetup C → Type 0
 AreKeptBy samples setup = IsRunOf samples.options setup.run × (setup.keep ≡ history_of samples.keep)
 
--- the task is what is asked for: by `--own` whose events they are; by the options the readers, `--raw`, `--summary` and `--keep`
+-- the task is what is asked for: by `--own` whose events they are; by the options the readers,
+-- `--raw`, `--summary` and `--keep`
 unfoldable pub IsTaskOf : Asked → Task → Type 0
 IsTaskOf (asked.Dump file own) (task.Dump prefix) = WritesPrefix own.now prefix
 IsTaskOf (asked.Dump file own) t = ⊥
@@ -87,15 +88,15 @@ file_of (asked.Replay options) = options.file.now
 file_of (asked.Samples samples) = samples.options.file.now
 file_of asked.Other = []
 
--- What a task writes of a file with these octets: all of its text, or what a fault leaves. Want of memory before it is read leaves
--- nothing written.
+-- What a task writes of a file with these octets: all of its text, or what a fault leaves. Want of
+-- memory before it is read leaves nothing written.
 unfoldable pub PrintsBy : Task → Option (List ℕ) → Option (List ℕ) → Option (List ℕ) → Result (Unit {0}) ListenFault → Type 0
 PrintsBy t file old new (Ok u) = WroteAll (task_text t) file old new None
 PrintsBy t file old new (Err (Run fault)) = ((fault ≡ NoMemory) × Keeps old new) ⊎ ((after : Option (List ℕ)) × TaskStops t fault file after old new)
 PrintsBy t file old new (Err fault) = ⊥
 
--- What is written of the file that is asked for: what its task makes of it. What is refused before leaves nothing written; so
--- does memory that runs out there, and a file that can't be opened.
+-- What is written of the file that is asked for: what its task makes of it. What is refused before
+-- leaves nothing written; so does memory that runs out there, and a file that can't be opened.
 unfoldable pub Prints : Asked → Option (List ℕ) → Option (List ℕ) → Option (List ℕ) → Result (Unit {0}) ListenFault → Type 0
 Prints a file old new result =
     (IsErr result × IfErr result IsFirst × Keeps old new) ⊎ ((t : Task) × IsTaskOf a t × PrintsBy t file old new result)

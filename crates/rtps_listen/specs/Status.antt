@@ -26,6 +26,7 @@ abbrev pub status_after : Failure → ℕ
 status_after (Line error) = 2
 status_after (Fault fault) = status_of fault
 
+-- what the line of a fault says
 abbrev pub fault_text : ListenFault → List ℕ
 fault_text NoText = codes "a word is not text"
 fault_text NotBuilt = codes "not built"

@@ -88,8 +88,9 @@ fn writer_in(fixed: Option<&str>) -> Result<Option<Guid>, ListenFault>
     Ok(Some(writer))
 }
 
-/// The configuration that the options ask for, which discovery takes. The readers of options are good
-/// ones, so that a fault of [`check`] is one of the writer; memory is taken before it is judged.
+/// The configuration that the options ask for, which discovery takes. The readers of options are
+/// good ones, so that a fault of [`check`] is one of the writer; memory is taken before it is
+/// judged.
 pub fn config_of(alloc: Global, options: &Options<'_>) -> Result<Config, ListenFault>
     ensures refused { Refuses options.now result }
     ensures cause { IfErr result (IsCause options.now) }

@@ -264,8 +264,8 @@ fn turns<'a>(alloc: Global) -> Arg<'a>
         .default_value("600")
 }
 
-/// What clap finds in the words. This and the fault where the line is a bad one are functions of the
-/// words; where memory runs out, that is answered in their place.
+/// What clap finds in the words. This and the fault where the line is a bad one are functions of
+/// the words; where memory runs out, that is answered in their place.
 pub fn found<'a, S: AsStr>(alloc: Global, words: &'a [S]) -> Result<ArgMatches<'a>, Error>
     ensures matches { IfOk result (HasMatchesOf line.listen_app (map S.text words.entry.now)) }
     ensures fails { FailsBy (fault_of line.listen_app (map S.text words.entry.now)) result }

@@ -13,6 +13,7 @@ pub record Parameter : Type 0 where
   pub id : ℕ
   pub value : List ℕ
 
+-- what contracts see of a parameter
 abbrev pub view : Param → Parameter
 view p = record { id = p.id; value = p.value.now }
 
@@ -20,7 +21,8 @@ view p = record { id = p.id; value = p.value.now }
 abbrev pub Read : Type 0
 Read = Result (Option Parameter × List ℕ) ParamFault
 
--- a parameter, where its length is a multiple of four and so much is left; the length is judged first
+-- a parameter, where its length is a multiple of four and so much is left; the length is judged
+-- first
 abbrev pub parameter_of : ℕ → ℕ → List ℕ → Read
 parameter_of id len more =
     if len % 4 == 0 then (if nat_lt (length more) len then Err Short else Ok (Some (record { id = id; value = take len more }), drop len more)) else Err OddLength
@@ -37,6 +39,7 @@ front_of e (a ∷ b ∷ []) = Err Short
 front_of e (a ∷ b ∷ c ∷ []) = Err Short
 front_of e (a ∷ b ∷ c ∷ d ∷ more) = headed e (number e 2 (a ∷ b ∷ [])) (number e 2 (c ∷ d ∷ [])) more
 
+-- what contracts see of what the code read at the front
 abbrev pub seen : Front → Read
 seen (code.Param p after) = Ok (Some (view p), after.now)
 seen (code.End after) = Ok (None, after.now)
@@ -48,7 +51,8 @@ LeavesLess octets (code.Param p after) = length after.now < length octets
 LeavesLess octets (code.End after) = length after.now < length octets
 LeavesLess octets (code.Fault f) = Unit {0}
 
--- the parameters before the end or before the first fault, padding too; then what comes after the end, or the fault
+-- the parameters before the end or before the first fault, padding too; then what comes after the
+-- end, or the fault
 pub record Reading : Type 0 where
   pub parameters : List Parameter
   pub outcome : Result (List ℕ) ParamFault
@@ -70,6 +74,7 @@ reading_behind e zero (a ∷ b ∷ c ∷ []) = record { parameters = []; outcome
 reading_behind e zero (a ∷ b ∷ c ∷ d ∷ more) =
     go_on (headed e (number e 2 (a ∷ b ∷ [])) (number e 2 (c ∷ d ∷ [])) more) (reading_behind e (number e 2 (c ∷ d ∷ [])) more)
 
+-- the one reading of octets as a parameter list
 abbrev pub reading : Endian → List ℕ → Reading
 reading e octets = reading_behind e 0 octets
 
@@ -81,8 +86,8 @@ is_shown p = not (p.id == 0)
 abbrev pub shown : Endian → List ℕ → List Parameter
 shown e octets = filter is_shown (reading e octets).parameters
 
--- a list that was read without a fault: the byte order of its numbers, its parameters, and how many octets it takes,
--- its end included
+-- a list that was read without a fault: the byte order of its numbers, its parameters, and how many
+-- octets it takes, its end included
 pub record Contents : Type 0 where
   pub endian : Endian
   pub parameters : List Parameter
@@ -94,5 +99,6 @@ answer e octets ps (Err fault) = Err fault
 answer e octets ps (Ok rest) =
     Ok (record { endian = e; parameters = filter is_shown ps; used = length octets - length rest })
 
+-- what is answered of octets: the list that they begin with, or its first fault
 abbrev pub contents : Endian → List ℕ → Result Contents ParamFault
 contents e octets = answer e octets (reading e octets).parameters (reading e octets).outcome

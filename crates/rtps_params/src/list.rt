@@ -29,8 +29,9 @@ impl<'a> Model for ParamList<'a> {
 }
 
 impl<'a> ParamList<'a> {
-    /// Checks the whole list, up to its end; octets may follow. `endian` is the order of its ids and
-    /// lengths. The refusal is the first fault that is met from left to right. No memory is taken.
+    /// Checks the whole list, up to its end; octets may follow. `endian` is the order of its ids
+    /// and lengths. The refusal is the first fault that is met from left to right. No memory is
+    /// taken.
     #[tactic(auto, using(crate::proofs::Steps::leads_on, crate::proofs::Steps::leads_end, crate::proofs::Steps::leads_fault, crate::proofs::Steps::front_shortens))]
     pub fn new(octets: &'a [u8], endian: Endian) -> Result<ParamList<'a>, ParamFault>
         // The answer is what the grammar says of these octets, and the grammar says nothing else.

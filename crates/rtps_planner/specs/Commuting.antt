@@ -56,12 +56,15 @@ pub record Parts (M : Type 0) : Type 0 where
   pub told : ℕ → List (Notice M)
   pub sent : ℕ → List (Place × ReplyView)
 
+-- two places are the same
 abbrev pub same_place : Place → Place → Bool
 same_place a b = a.datagram == b.datagram && a.submessage == b.submessage
 
+-- the answers at a place, in their order
 abbrev pub answers_at : Place → List (Place × ReplyView) → List (Place × ReplyView)
 answers_at place answers = filter (λ s. same_place s.0 place) answers
 
+-- the notices at a place, in their order
 abbrev pub notices_at : {M : Type 0} → Place → List (Notice M) → List (Notice M)
 notices_at place notices = filter (λ n. same_place n.place place) notices
 

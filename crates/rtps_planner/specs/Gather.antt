@@ -1,5 +1,5 @@
--- How the outputs of a batch's jobs are put together (DDSI-RTPS 8.4.10): which outputs are refused, and
--- what comes of the others.
+-- How the outputs of a batch's jobs are put together (DDSI-RTPS 8.4.10): which outputs are refused,
+-- and what comes of the others.
 use Rattle.std.specs.Prelude.{◌≡◌, ◌⊎◌, ℕ, ◌<◌, ◌==◌, nat_lt, not, Bool, List, [], ◌∷◌, ◌++◌, length, map, filter, Option, Some, None, Result, Ok, Err, if◌then◌else◌, set, slice_index_or, true, false}
 use Rattle.std.specs.List.{All, AllByRecursion, Contains, list_any}
 use Rattle.std.specs.List.Sorted.{IsSortedByKey, IsStableByKey}
@@ -76,6 +76,7 @@ sends_of (o ∷ os) =
 abbrev pub answer_turn : AnswerView → Turn
 answer_turn s = record { place = s.place; rank = s.rank; kind = kind.Answer }
 
+-- when an answer of an outcome comes
 abbrev pub turn_of : {A : Type 0} → Answer A → Turn
 turn_of a = answer_turn (answer_view a)
 
@@ -114,9 +115,9 @@ AreRising (p ∷ ps) = AllByRecursion (λ q. not_after q p ≡ false) ps × AreR
 abbrev pub StandAmong : List Place → List (Place × ReplyView) → Type 0
 StandAmong places answers = All (λ s. list_any (same_place s.0) places ≡ true) answers
 
--- An outcome has the outputs of a batch: the notices of each output are as they were in the place of
--- its rank, and a reader without a job has none; and the answers are those of the parts, merged by
--- whatever places the events of the batch have, which are those of the answers too.
+-- An outcome has the outputs of a batch: the notices of each output are as they were in the place
+-- of its rank, and a reader without a job has none; and the answers are those of the parts, merged
+-- by whatever places the events of the batch have, which are those of the answers too.
 pub record IsGathered {V A : Type 0} (rest : Rest A) (outputs : List (ℕ × Output V A))
     (outcome : Outcome V A) : Type 0 where
   pub readers : length outcome.notices.items ≡ rest.readers

@@ -10,7 +10,8 @@ use Rattle.rtps_proxy.specs.Received.{frontier_of, is_settled}
 abbrev pub is_incomplete : List MatchEvent → Bool
 is_incomplete past = lacks (is_settled past) (announced_of past)
 
--- what asks for missing numbers: a base, those of the 256 numbers from it on that are missing, how many bits reach the greatest, and whether none is
+-- what asks for missing numbers: a base, those of the 256 numbers from it on that are missing, how
+-- many bits reach the greatest, and whether none is
 pub record Acknack : Type 0 where
   pub base : ℕ
   pub members : List ℕ
@@ -18,16 +19,19 @@ pub record Acknack : Type 0 where
   pub final : Bool
   pub count : ℕ
 
--- the answer, where these are the settled numbers, the least other number, the announced number and the number of earlier answers
+-- the answer, where these are the settled numbers, the least other number, the announced number and
+-- the number of earlier answers
 abbrev pub acknack_by : (ℕ → Bool) → ℕ → ℕ → ℕ → Acknack
 acknack_by settled base announced earlier =
     let members = failing_from settled base (min 256 (announced + 1 - base))
     in record { base = base; members = members; bits = bits_of base members; final = not (lacks settled announced); count = (earlier + 1) % 2 ^ 32 }
 
--- an accepted heartbeat is answered where it isn't final, or isn't about liveliness and something is missing
+-- an accepted heartbeat is answered where it isn't final, or isn't about liveliness and something
+-- is missing
 abbrev pub asks : List MatchEvent → MatchEvent → HeartbeatView → Bool
 asks past e h = is_new past h.count && (not h.final_flag || (not h.liveliness && is_incomplete (e ∷ past)))
 
+-- of what an event may bring, only a heartbeat that asks is answered
 abbrev pub is_answered_by : List MatchEvent → MatchEvent → EventBody → Bool
 is_answered_by past e (Whole c) = false
 is_answered_by past e (Fragment f) = false

@@ -1,4 +1,4 @@
--- What a proxy keeps of a history, and what it gives at an event.
+-- What a proxy keeps of a history, and what it gives at an event (DDSI-RTPS 8.4.10.4, 8.4.12).
 use Rattle.std.specs.Prelude.{◌≡◌, ℕ, ◌%◌, ◌^◌, Bool, true, false, List, [], ◌∷◌, map, Result, Ok, Err, IfOk, IsErr, OnErr, OnOk, Option, Some, None, if◌then◌else◌, is_some, ℤ, int_lt}
 use Rattle.std.specs.Option.{option_map}
 use Rattle.rtps_types.specs.declared.time.Timestamp.{Timestamp}
@@ -74,8 +74,8 @@ pub record AreEffects {A : Type 0} (pairing : Pairing) (past : List MatchEvent) 
   pub ready : map change_view effects.ready.items ≡ ready_of pairing.reliable past event
   pub answer : option_map reply_view effects.answer ≡ answer_of pairing past event
 
--- How an event is taken in: what is kept then follows from it too, and it gives what it must; a refused growth leaves the proxy
--- spent. One that is spent refuses each event, and nothing changes.
+-- How an event is taken in: what is kept then follows from it too, and it gives what it must; a
+-- refused growth leaves the proxy spent. One that is spent refuses each event, and nothing changes.
 pub record TakesIn {A E : Type 0} (old new : ProxyView) (event : MatchEvent) (result : Result (Effects A) E) : Type 0 where
   pub stands : (past : List MatchEvent) → StandsAt past old → OnOk result (StandsAt (event ∷ past) new)
   pub effects : (past : List MatchEvent) → StandsAt past old → IfOk result (AreEffects old.pairing past event)

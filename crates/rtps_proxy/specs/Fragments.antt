@@ -8,7 +8,8 @@ use Rattle.rtps_frags.specs.declared.sizes.Sizes.{Sizes}
 use Rattle.rtps_frags.specs.Fragments.{There, fault_of, is_whole, payload_of, with_fragments}
 use Rattle.rtps_proxy.specs.History.{ChangeView}
 
--- a sample of which fragments were taken: what the first DATA_FRAG of it that was taken said, and the fragments that are there
+-- a sample of which fragments were taken: what the first DATA_FRAG of it that was taken said, and
+-- the fragments that are there
 pub record Begun : Type 0 where
   pub number : ℕ
   pub time : Option Timestamp
@@ -16,9 +17,11 @@ pub record Begun : Type 0 where
   pub sizes : Sizes
   pub there : There
 
+-- the sizes that a DATA_FRAG gives: of the sample, and of each fragment
 abbrev pub sizes_of : FragmentView → Sizes
 sizes_of f = record { sample = f.sample; fragment = f.size }
 
+-- a DATA_FRAG has a fault
 abbrev pub is_faulty : FragmentView → Bool
 is_faulty f = is_some (fault_of (sizes_of f) f.start f.count (length f.payload))
 
@@ -35,6 +38,7 @@ abbrev pub begun_at : ℕ → List Begun → Option Begun
 begun_at n [] = None
 begun_at n (b ∷ bs) = if b.number == n then Some b else begun_at n bs
 
+-- fragments of a number were taken
 abbrev pub is_begun : List Begun → ℕ → Bool
 is_begun bs n = list_any (λ b. b.number == n) bs
 
@@ -50,6 +54,7 @@ with_fragments_of time f (b ∷ bs) =
 abbrev pub is_cut_so : Sizes → Sizes → Bool
 is_cut_so y z = y.sample == z.sample && y.fragment == z.fragment
 
+-- a DATA_FRAG has the sizes that were given before, if any were
 abbrev pub fits_in : Option Begun → FragmentView → Bool
 fits_in None f = true
 fits_in (Some b) f = is_cut_so b.sizes (sizes_of f)
@@ -58,6 +63,7 @@ fits_in (Some b) f = is_cut_so b.sizes (sizes_of f)
 abbrev pub fits : List Begun → FragmentView → Bool
 fits bs f = not (is_faulty f) && fits_in (begun_at f.number bs) f
 
+-- the change that the fragments which are there make
 abbrev pub sample_in : Begun → ChangeView
 sample_in b = record { number = b.number; time = b.time; info = b.info; payload = payload_of b.there }
 
@@ -66,5 +72,6 @@ abbrev pub whole_of : Option Begun → List ChangeView
 whole_of None = []
 whole_of (Some b) = if is_whole b.sizes b.there then sample_in b ∷ [] else []
 
+-- the sample of a number among these, where each of its fragments is there
 abbrev pub whole_at : ℕ → List Begun → List ChangeView
 whole_at n bs = whole_of (begun_at n bs)

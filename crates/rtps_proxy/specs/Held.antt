@@ -12,9 +12,11 @@ IsRising (s ∷ ss) = AllByRecursion (λ t. s.number ≤ t.number) ss × IsRisin
 abbrev pub IsPlace : ℕ → ℕ → List ChangeView → Type 0
 IsPlace n at ss = AllByRecursion (λ s. s.number < n) (take at ss) × AllByRecursion (λ s. n ≤ s.number) (drop at ss)
 
+-- a change has a number below n
 abbrev pub is_below : ℕ → ChangeView → Bool
 is_below n s = nat_lt s.number n
 
+-- a change has a number that isn't below n
 abbrev pub not_below : ℕ → ChangeView → Bool
 not_below n s = not (is_below n s)
 

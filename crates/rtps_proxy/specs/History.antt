@@ -1,4 +1,5 @@
--- What came for one match since it began (DDSI-RTPS 8.4.12). A history is the list of its events, the newest first; nothing is forgotten.
+-- What came for one match since it began (DDSI-RTPS 8.4.12). A history is the list of its events,
+-- the newest first; nothing is forgotten.
 use Rattle.std.specs.Prelude.{ℕ, max, Bool, true, false, ◌&&◌, ◌||◌, ◌==◌, nat_lt, nat_le, List, [], ◌∷◌, if◌then◌else◌, Option, ℤ, int_lt}
 use Rattle.std.specs.List.{list_any}
 use Rattle.rtps_types.specs.declared.time.Timestamp.{Timestamp}
@@ -27,7 +28,8 @@ pub record ChangeView : Type 0 where
 abbrev pub change_of : Option Timestamp → WholeView → ChangeView
 change_of time c = record { number = c.number; time = time; info = c.info; payload = c.payload }
 
--- the count is above those of all heartbeats so far, as signed 32-bit numbers: a heartbeat with it is accepted
+-- the count is above those of all heartbeats so far, as signed 32-bit numbers: a heartbeat with it
+-- is accepted
 abbrev pub is_new_in : EventBody → ℤ → Bool
 is_new_in (Whole c) count = true
 is_new_in (Fragment f) count = true
@@ -48,10 +50,12 @@ is_new_frag_in (Heartbeat h) count = true
 is_new_frag_in (Gap g) count = true
 is_new_frag_in (HeartbeatFrag h) count = int_lt h.count count
 
+-- a heartbeat of fragments with this count is accepted after a history
 abbrev pub is_new_frag : List MatchEvent → ℤ → Bool
 is_new_frag [] count = true
 is_new_frag (e ∷ past) count = is_new_frag_in e.body count && is_new_frag past count
 
+-- an event brings a heartbeat
 abbrev pub is_heartbeat : EventBody → Bool
 is_heartbeat (Whole c) = false
 is_heartbeat (Fragment f) = false
@@ -76,6 +80,7 @@ abbrev pub first_of : List MatchEvent → ℕ
 first_of [] = 1
 first_of (e ∷ past) = first_after past (first_of past) e.body
 
+-- what an event makes of the announced number, after those before it
 abbrev pub announced_after : List MatchEvent → ℕ → EventBody → ℕ
 announced_after past announced (Whole c) = announced
 announced_after past announced (Fragment f) = announced

@@ -30,12 +30,14 @@ pub record Pairing : Type 0 where
   pub reliable : Bool
   pub locators : List Locator
 
+-- what contracts see of the match that a proxy is made for
 abbrev pub pairing : {A : Type 0} → ProxyConfig A → Pairing
 pairing c = record { own = c.own; writer = c.writer; reader = c.reader; reliable = c.reliable; locators = c.locators }
 
--- what is kept for a reliable reader: the greatest count of a heartbeat that was accepted, the announced number, the settled
--- numbers as those below a frontier and runs, the held changes in order, the samples whose fragments are awaited and whether
--- each growth of them was granted, the number of answers, and the same of heartbeats of fragments
+-- what is kept for a reliable reader: the greatest count of a heartbeat that was accepted, the
+-- announced number, the settled numbers as those below a frontier and runs, the held changes in
+-- order, the samples whose fragments are awaited and whether each growth of them was granted, the
+-- number of answers, and the same of heartbeats of fragments
 pub record ReliableView : Type 0 where
   pub accepted : Option ℤ
   pub announced : ℕ
@@ -48,6 +50,7 @@ pub record ReliableView : Type 0 where
   pub frag_accepted : Option ℤ
   pub nacks : ℕ
 
+-- what contracts see of what is kept for a reliable reader
 abbrev pub reliable_view : {A : Type 0} → kept.Reliable A → ReliableView
 reliable_view r = record { accepted = r.accepted; announced = r.announced; frontier = r.settled.frontier; runs = r.settled.runs; held = map change_view r.held.items; begun = pending_views r.pending.items; sound = are_sound r.pending.items; answers = r.answers; frag_accepted = r.frag_accepted; nacks = r.nacks }
 
@@ -79,13 +82,14 @@ abbrev pub counts_answer : Bool → ReliableView → ReliableView
 counts_answer is_answered r =
     record r { answers = if is_answered then (r.answers + 1) % 2 ^ 32 else r.answers }
 
--- what is kept for a best-effort reader: the greatest number that was received, the samples above it
--- whose fragments are awaited, and whether each growth of them was granted
+-- what is kept for a best-effort reader: the greatest number that was received, the samples above
+-- it whose fragments are awaited, and whether each growth of them was granted
 pub record BestEffortView : Type 0 where
   pub top : ℕ
   pub begun : List Begun
   pub sound : Bool
 
+-- what contracts see of what is kept for a best-effort reader
 abbrev pub best_effort_view : {A : Type 0} → newest.BestEffort A → BestEffortView
 best_effort_view b = record { top = b.top; begun = pending_views b.pending.items; sound = are_sound b.pending.items }
 
@@ -96,6 +100,7 @@ takes_above r f =
     && ((nat_lt 0 (place_in f.number r.begun) || (nat_lt (length r.begun) 64 || is_some (found_at f.number r.begun)))
     && fits_found r.begun f)
 
+-- what is kept of what came, by whether the reader is reliable
 pub data StateView : Type 0 where
   BestEffort : BestEffortView → StateView
   Reliable : ReliableView → StateView
@@ -111,6 +116,7 @@ abbrev pub state_first : Bool → StateView
 state_first false = BestEffort best_effort_first
 state_first true = Reliable reliable_first
 
+-- what contracts see of what is kept of what came
 abbrev pub state_view : {A : Type 0} → State A → StateView
 state_view (code.BestEffort b) = BestEffort (best_effort_view b)
 state_view (code.Reliable r) = Reliable (reliable_view r)
@@ -120,6 +126,7 @@ abbrev pub state_since : {A : Type 0} → Bool → Option (Box (State A) A) → 
 state_since is_reliable None = state_first is_reliable
 state_since is_reliable (Some state) = state_view state.value
 
+-- a proxy: its match, whether it is spent, and what it keeps of what came
 pub record ProxyView : Type 0 where
   pub pairing : Pairing
   pub spent : Bool

@@ -1,4 +1,5 @@
--- The matches of a reader (DDSI-RTPS 8.4.10): between whom each is, and what came for it since it began.
+-- The matches of a reader (DDSI-RTPS 8.4.10): between whom each is, and what came for it since it
+-- began.
 use Rattle.std.specs.Prelude.{◌≡◌, List, [], ◌∷◌, filter, Option, Some, None, Bool, false, true, not, ◌&&◌, if◌then◌else◌}
 use Rattle.std.specs.Map.{lookup, set_value}
 use Rattle.std.specs.Str.{bytes_eq}
@@ -20,6 +21,7 @@ pub record Match : Type 0 where
 abbrev pub fresh : Pairing → Match
 fresh w = record { pairing = w; past = [] }
 
+-- two guids are the same
 abbrev pub same_guid : Guid → Guid → Bool
 same_guid a b = bytes_eq a.prefix.0 b.prefix.0 && bytes_eq a.entity.0 b.entity.0
 
@@ -34,7 +36,8 @@ extended w e [] = []
 extended w e (m ∷ ms) =
     if same_guid m.pairing.writer w then record { pairing = m.pairing; past = e ∷ m.past } ∷ ms else m ∷ extended w e ms
 
--- a match begins, in the place of one that was there with its writer; matches are in the order of their writers
+-- a match begins, in the place of one that was there with its writer; matches are in the order of
+-- their writers
 abbrev pub begun : Match → List Match → List Match
 begun m [] = m ∷ []
 begun m (n ∷ ms) =
@@ -71,6 +74,7 @@ abbrev pub given_where : {A : Type 0} → Bool → Effects A → Option (Effects
 given_where false effects = None
 given_where true effects = Some effects
 
+-- two guids are the same, by their order
 abbrev pub is_at : Guid → Guid → Bool
 is_at w g = is_eq (guid_order w g)
 

@@ -8,7 +8,8 @@ use Rattle.rtps_proxy.specs.Fragments.{Begun, begun_at}
 use Rattle.rtps_proxy.specs.History.{MatchEvent, is_new_frag}
 use Rattle.rtps_proxy.specs.Received.{is_settled, taken}
 
--- the fragments of a sample that are missing, up to one; up to its last one too, where a DATA_FRAG gave its sizes
+-- the fragments of a sample that are missing, up to one; up to its last one too, where a DATA_FRAG
+-- gave its sizes
 abbrev pub missing_at : Option Begun → ℕ → Option NumberSet
 missing_at None last = missing_by (λ k. false) last
 missing_at (Some b) last = missing b.sizes b.there last

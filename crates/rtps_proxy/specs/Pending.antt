@@ -8,9 +8,11 @@ use Rattle.rtps_proxy.specs.declared.pending.Pending.{Pending}
 use Rattle.rtps_proxy.specs.Fragments.{Begun, fits_in, is_faulty, sample_in}
 use Rattle.rtps_proxy.specs.History.{ChangeView}
 
+-- what contracts see of a sample whose fragments are awaited
 abbrev pub pending_view : {A : Type 0} → Pending A → Begun
 pending_view p = record { number = value_of p.number; time = p.time; info = p.info; sizes = p.sample.sizes; there = p.sample.there }
 
+-- what contracts see of the samples whose fragments are awaited
 abbrev pub pending_views : {A : Type 0} → List (Pending A) → List Begun
 pending_views = map pending_view
 
@@ -28,6 +30,7 @@ abbrev pub found_at : ℕ → List Begun → Option Begun
 found_at n [] = None
 found_at n (b ∷ bs) = if nat_lt b.number n then found_at n bs else if b.number == n then Some b else None
 
+-- a DATA_FRAG fits, where numbers rise
 abbrev pub fits_found : List Begun → FragmentView → Bool
 fits_found bs f = not (is_faulty f) && fits_in (found_at f.number bs) f
 

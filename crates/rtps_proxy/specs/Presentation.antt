@@ -1,4 +1,5 @@
--- Presentation in one match (DDSI-RTPS 8.4.12.3, 8.3.7): what a reliable reader presents, against what the writer's submessages say.
+-- Presentation in one match (DDSI-RTPS 8.4.12.3, 8.3.7): what a reliable reader presents, against
+-- what the writer's submessages say.
 use Rattle.std.specs.Prelude.{◌≡◌, ℕ, ◌+◌, ◌<◌, ◌≤◌, ◌⊎◌, ◌==◌, List, [], ◌∷◌, ◌++◌, length, Option, IsTrue}
 use Rattle.std.specs.List.{list_any, AllByRecursion}
 use Rattle.rtps_types.specs.declared.time.Timestamp.{Timestamp}
@@ -58,8 +59,8 @@ abbrev pub IsTold : List MatchEvent → Sizes → ChangeView → Type 0
 IsTold [] z s = ⊥
 IsTold (e ∷ past) z s = IsToldBy z s e.time e.body ⊎ IsTold past z s
 
--- DATA_FRAGs of the match, all cut alike, brought the sample: one says all but its payload, and each fragment of the payload
--- was brought by one, octet for octet
+-- DATA_FRAGs of the match, all cut alike, brought the sample: one says all but its payload, and
+-- each fragment of the payload was brought by one, octet for octet
 pub record IsPutTogether (past : List MatchEvent) (s : ChangeView) : Type 0 where
   pub sizes : Sizes
   pub whole : length s.payload ≡ sizes.sample
@@ -70,7 +71,8 @@ pub record IsPutTogether (past : List MatchEvent) (s : ChangeView) : Type 0 wher
 abbrev pub Brings : List MatchEvent → ChangeView → Type 0
 Brings past s = CameWhole past s ⊎ IsPutTogether past s
 
--- a GAP names the sequence number, or a HEARTBEAT that is accepted says that the first number available is above it
+-- a GAP names the sequence number, or a HEARTBEAT that is accepted says that the first number
+-- available is above it
 abbrev pub GivesUp : List MatchEvent → EventBody → ℕ → Type 0
 GivesUp past (Whole c) k = ⊥
 GivesUp past (Fragment f) k = ⊥

@@ -11,8 +11,8 @@ use Rattle.rtps_proxy.specs.Settled.{has_room_by, held_by, is_covered_by, is_set
 abbrev pub taken_by : List ChangeView → List MatchEvent → ChangeView → List ChangeView
 taken_by got past s = if not (is_settled_by got past s.number) && has_room_by got past s.number then s ∷ got else got
 
--- what was taken of a match: the changes that were received, the newest first, and by number the samples of which fragments
--- were; none leaves
+-- what was taken of a match: the changes that were received, the newest first, and by number the
+-- samples of which fragments were; none leaves
 pub record Taken : Type 0 where
   pub changes : List ChangeView
   pub begun : List Begun
@@ -21,11 +21,13 @@ pub record Taken : Type 0 where
 abbrev pub standing_by : Taken → List MatchEvent → List Begun
 standing_by t past = filter (λ b. not (is_settled_by t.changes past b.number)) t.begun
 
--- there is a seat for the fragments of a number that stands, or is the least one not settled, or where fewer than 64 stand
+-- there is a seat for the fragments of a number that stands, or is the least one not settled, or
+-- where fewer than 64 stand
 abbrev pub has_seat_by : Taken → List MatchEvent → ℕ → Bool
 has_seat_by t past n = is_begun t.begun n || (all_below (is_settled_by t.changes past) n || nat_lt (length (standing_by t past)) 64)
 
--- a DATA_FRAG is taken where it fits, its number isn't settled, and there is room for the change and a seat for its fragments
+-- a DATA_FRAG is taken where it fits, its number isn't settled, and there is room for the change
+-- and a seat for its fragments
 abbrev pub takes_fragments : Taken → List MatchEvent → FragmentView → Bool
 takes_fragments t past f =
     fits t.begun f && (not (is_settled_by t.changes past f.number) && (has_room_by t.changes past f.number && has_seat_by t past f.number))
@@ -70,7 +72,8 @@ is_covered past = is_covered_by (received past) past
 abbrev pub held : List MatchEvent → List ChangeView
 held past = held_by (received past) past
 
--- how many numbers weren't settled before an event and are now below the first number; the first heartbeat of a match counts none
+-- how many numbers weren't settled before an event and are now below the first number; the first
+-- heartbeat of a match counts none
 abbrev pub lost : List MatchEvent → MatchEvent → ℕ
 lost past e = if has_heartbeat past then count_failing (is_settled past) (first_of (e ∷ past)) else 0
 
@@ -83,14 +86,17 @@ abbrev pub in_order : List ChangeView → List ChangeView
 in_order [] = []
 in_order (s ∷ ss) = put s (in_order ss)
 
--- ready at an event are the received changes up to whose numbers all are settled now and were not before, in order
+-- ready at an event are the received changes up to whose numbers all are settled now and were not
+-- before, in order
 abbrev pub ready : List MatchEvent → MatchEvent → List ChangeView
 ready past e = in_order (filter (λ s. is_covered (e ∷ past) s.number && not (is_covered past s.number)) (received (e ∷ past)))
 
+-- the greatest of some numbers, and 0 where there are none
 abbrev pub max_of : List ℕ → ℕ
 max_of [] = 0
 max_of (n ∷ ns) = max n (max_of ns)
 
+-- what an event brings settles no number above this
 abbrev pub greatest_in : EventBody → ℕ
 greatest_in (Whole c) = c.number
 greatest_in (Fragment f) = f.number

@@ -1,4 +1,5 @@
--- The datagram that carries an answer to a writer: ACKNACK or NACK_FRAG (DDSI-RTPS 8.3.7.1, 8.3.7.11, 9.4.5.2, 9.4.5.13).
+-- The datagram that carries an answer to a writer: ACKNACK or NACK_FRAG (DDSI-RTPS 8.3.7.1,
+-- 8.3.7.11, 9.4.5.2, 9.4.5.13).
 use Rattle.std.specs.Prelude.{◌≡◌, ℕ, pos, ◌+◌, Bool, not, ◌&&◌, ◌==◌, nat_le, nat_lt, List, ◌++◌, replicate, if◌then◌else◌, Option, None}
 use Rattle.std.specs.List.{list_any}
 use Rattle.std.specs.Option.{option_map}
@@ -20,6 +21,7 @@ pub record ReplyView : Type 0 where
   pub to : List Locator
   pub octets : List ℕ
 
+-- what contracts see of a datagram that answers
 abbrev pub reply_view : {A : Type 0} → Reply A → ReplyView
 reply_view r = record { to = r.to; octets = r.octets }
 
@@ -36,7 +38,8 @@ acknack_body w a =
 unfoldable pub reply_of : Pairing → Acknack → ReplyView
 reply_of w a = record { to = w.locators; octets = answering w.own w.writer.prefix 0x06 (if a.final then 3 else 1) (acknack_body w a) }
 
--- an answer names just the numbers that are missing, up to the announced one, among the 256 from its base on
+-- an answer names just the numbers that are missing, up to the announced one, among the 256 from
+-- its base on
 abbrev pub NamesWhatIsMissing : Type 0
 NamesWhatIsMissing =
     (settled : ℕ → Bool) (base announced earlier n : ℕ) → list_any (λ m. m == n) (members (set_of (acknack_by settled base announced earlier)))

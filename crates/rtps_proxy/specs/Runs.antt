@@ -1,4 +1,5 @@
--- Runs of settled numbers, each by its first and its last number, and the set that they are with all numbers below a frontier.
+-- Runs of settled numbers, each by its first and its last number, and the set that they are with
+-- all numbers below a frontier.
 use Rattle.std.specs.Prelude.{◌≡◌, ℕ, ◌+◌, ◌-◌, ◌<◌, ◌≤◌, min, Bool, true, ◌&&◌, ◌||◌, List, [], ◌∷◌, length, take, drop, nat_lt, nat_le}
 use Rattle.std.specs.List.{list_any, AllByRecursion}
 use Rattle.rtps_types.specs.declared.number.Number.{Number}
@@ -10,6 +11,7 @@ use Rattle.rtps_proxy.specs.Received.{frontier_of, is_settled}
 abbrev pub Run : Type 0
 Run = Number × Number
 
+-- the first number of a run
 abbrev pub start_of : Run → ℕ
 start_of r = value_of r.0
 
@@ -25,7 +27,8 @@ within n r = nat_le (value_of r.0) n && nat_le n (value_of r.1)
 abbrev pub marks : ℕ → List Run → ℕ → Bool
 marks frontier runs n = nat_lt n frontier || list_any (within n) runs
 
--- runs in order, the first of them after a number, and each after the one before it with a number between them
+-- runs in order, the first of them after a number, and each after the one before it with a number
+-- between them
 abbrev pub AreApart : ℕ → List Run → Type 0
 AreApart low [] = Unit {0}
 AreApart low (r ∷ rs) = (low < start_of r) × ((start_of r < end_of r) × AreApart (end_of r) rs)
@@ -39,7 +42,8 @@ are_apart low (r ∷ rs) = nat_lt low (start_of r) && (nat_lt (start_of r) (end_
 abbrev pub EndBelow : ℕ → List Run → Type 0
 EndBelow n runs = AllByRecursion (λ r. end_of r < n) runs
 
--- the place of a number among runs: those before it end before the number, with a number between, and none from it on does
+-- the place of a number among runs: those before it end before the number, with a number between,
+-- and none from it on does
 pub record IsPlaceOf (n at : ℕ) (runs : List Run) : Type 0 where
   pub within : at ≤ length runs
   pub before : EndBelow n (take at runs)

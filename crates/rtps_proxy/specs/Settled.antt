@@ -1,4 +1,5 @@
--- Numbers of which nothing more is awaited (DDSI-RTPS 8.4.12.3), given the changes that were received.
+-- Numbers of which nothing more is awaited (DDSI-RTPS 8.4.12.3), given the changes that were
+-- received.
 use Rattle.std.specs.Prelude.{ℕ, suc, Bool, not, ◌||◌, ◌==◌, nat_lt, List, length, filter}
 use Rattle.std.specs.List.{list_any}
 use Rattle.rtps_proxy.specs.History.{MatchEvent, ChangeView, first_of, is_irrelevant}
@@ -16,6 +17,7 @@ is_covered_by got past n = all_below (is_settled_by got past) (suc n)
 abbrev pub held_by : List ChangeView → List MatchEvent → List ChangeView
 held_by got past = filter (λ s. not (is_covered_by got past s.number)) got
 
--- there is room for a number that is the least one not settled, or where fewer than 65,536 changes are held
+-- there is room for a number that is the least one not settled, or where fewer than 65,536 changes
+-- are held
 abbrev pub has_room_by : List ChangeView → List MatchEvent → ℕ → Bool
 has_room_by got past n = all_below (is_settled_by got past) n || nat_lt (length (held_by got past)) 65536

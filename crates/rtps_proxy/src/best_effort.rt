@@ -36,8 +36,8 @@ impl<A: Allocator + Copy> BestEffort<A> {
         }
     }
 
-    /// Takes in what an event brings, and puts what it gives into `effects`. All but changes, in one
-    /// piece or in fragments, is ignored.
+    /// Takes in what an event brings, and puts what it gives into `effects`. All but changes, in
+    /// one piece or in fragments, is ignored.
     pub fn on_event<'a>(
         &mut self,
         alloc: A,

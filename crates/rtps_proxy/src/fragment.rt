@@ -69,9 +69,9 @@ impl<A: Allocator + Copy> BestEffort<A> {
 }
 
 impl<A: Allocator + Copy> Reliable<A> {
-    /// The place among the runs of a DATA_FRAG's number, if it is taken: it fits, the change would be
-    /// taken, and its fragments are there, or it is the least number that isn't settled, or there is a
-    /// seat.
+    /// The place among the runs of a DATA_FRAG's number, if it is taken: it fits, the change would
+    /// be taken, and its fragments are there, or it is the least number that isn't settled, or
+    /// there is a seat.
     fn place_for_fragments(&self, at: usize, fragment: &Fragment<'_>) -> Option<usize>
         requires { at ≡ place_in (value_of fragment.now.number)
             (pending_views self.now.pending.items) }

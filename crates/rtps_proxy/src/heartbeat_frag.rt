@@ -79,8 +79,8 @@ impl<A: Allocator + Copy> Reliable<A> {
         Ok(Reply { to, octets })
     }
 
-    /// Takes in a heartbeat of fragments. One whose count isn't above those of all earlier ones does
-    /// nothing.
+    /// Takes in a heartbeat of fragments. One whose count isn't above those of all earlier ones
+    /// does nothing.
     pub fn on_heartbeat_frag<'a>(
         &mut self,
         alloc: A,

@@ -80,8 +80,8 @@ impl<A: Allocator + Copy> Matches<A> {
     }
 
     /// Gives an event to the match with its writer, and returns what the proxy makes of it; `None`
-    /// where there is no such match. A refused growth leaves the proxy of that writer spent, and the
-    /// others as they were.
+    /// where there is no such match. A refused growth leaves the proxy of that writer spent, and
+    /// the others as they were.
     pub fn on_event<'a>(
         &mut self,
         alloc: A,
@@ -103,9 +103,9 @@ impl<A: Allocator + Copy> Matches<A> {
     }
 
     /// Gives an event to the match with its writer as [`Matches::on_event`] does, and puts what the
-    /// proxy makes of it into effects that are lent and give nothing yet, so that nothing is moved on
-    /// the way; says whether there is such a match. After a refused growth the effects may have a part
-    /// of it.
+    /// proxy makes of it into effects that are lent and give nothing yet, so that nothing is moved
+    /// on the way; says whether there is such a match. After a refused growth the effects may have
+    /// a part of it.
     pub fn on_event_into<'a>(
         &mut self,
         alloc: A,

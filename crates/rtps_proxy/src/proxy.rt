@@ -17,8 +17,9 @@ use std::marker::Model;
 
 /// What a reader keeps of one writer that it is matched with (DDSI-RTPS 8.4.10.4, `WriterProxy`).
 ///
-/// Each call that takes an event in gives what follows from all events of the match. Its only error is
-/// a refused growth: the proxy is spent then, and each later call answers so and changes nothing.
+/// Each call that takes an event in gives what follows from all events of the match. Its only error
+/// is a refused growth: the proxy is spent then, and each later call answers so and changes
+/// nothing.
 #[derive(Drop)]
 pub struct WriterProxy<A: Allocator = Global> {
     config: ProxyConfig<A>,
@@ -59,8 +60,8 @@ fn begun<A: Allocator + Copy>(
 }
 
 impl<A: Allocator + Copy> WriterProxy<A> {
-    /// The proxy of a match that begins: nothing has come yet. An error would be a refused growth, but
-    /// no memory is taken before something comes.
+    /// The proxy of a match that begins: nothing has come yet. An error would be a refused growth,
+    /// but no memory is taken before something comes.
     pub fn new(alloc: A, config: ProxyConfig<A>) -> Result<WriterProxy<A>, ProxyError>
         ensures stands { IfOk result (StandsAt []) }
         ensures pairing { IfOk result (λ proxy. proxy.pairing ≡ pairing config) }
@@ -87,9 +88,9 @@ impl<A: Allocator + Copy> WriterProxy<A> {
         Ok(effects)
     }
 
-    /// Takes in what an event brings as [`WriterProxy::on_event`] does, and puts what the event gives
-    /// into effects that are lent, so that nothing is moved on the way. After a refused growth they
-    /// may have a part of it.
+    /// Takes in what an event brings as [`WriterProxy::on_event`] does, and puts what the event
+    /// gives into effects that are lent, so that nothing is moved on the way. After a refused
+    /// growth they may have a part of it.
     pub fn on_event_into<'a>(
         &mut self,
         alloc: A,
@@ -115,9 +116,9 @@ impl<A: Allocator + Copy> WriterProxy<A> {
         Ok(())
     }
 
-    /// Takes in a change in one piece (DDSI-RTPS 8.3.7.2). One that is ready at once stays where the
-    /// datagram lies; one that waits for earlier changes is copied, and there is room for 65,536 of
-    /// these.
+    /// Takes in a change in one piece (DDSI-RTPS 8.3.7.2). One that is ready at once stays where
+    /// the datagram lies; one that waits for earlier changes is copied, and there is room for
+    /// 65,536 of these.
     pub fn on_whole<'a>(
         &mut self,
         alloc: A,
@@ -154,9 +155,9 @@ impl<A: Allocator + Copy> WriterProxy<A> {
         self.on_event(alloc, time, &Body::Gap(*gap))
     }
 
-    /// Takes in fragments of a change (DDSI-RTPS 8.3.7.3). 64 changes may be put together at a time:
-    /// for a reliable reader besides the next one that is awaited, for a best-effort reader those of
-    /// the greatest numbers.
+    /// Takes in fragments of a change (DDSI-RTPS 8.3.7.3). 64 changes may be put together at a
+    /// time: for a reliable reader besides the next one that is awaited, for a best-effort reader
+    /// those of the greatest numbers.
     pub fn on_fragment<'a>(
         &mut self,
         alloc: A,
@@ -168,8 +169,8 @@ impl<A: Allocator + Copy> WriterProxy<A> {
         self.on_event(alloc, time, &Body::Fragment(*fragment))
     }
 
-    /// Takes in a heartbeat of fragments (DDSI-RTPS 8.3.7.6), and answers it where some are missing.
-    /// A best-effort reader ignores it.
+    /// Takes in a heartbeat of fragments (DDSI-RTPS 8.3.7.6), and answers it where some are
+    /// missing. A best-effort reader ignores it.
     pub fn on_heartbeat_frag<'a>(
         &mut self,
         alloc: A,
@@ -182,8 +183,8 @@ impl<A: Allocator + Copy> WriterProxy<A> {
         self.on_event(alloc, time, &Body::HeartbeatFrag(*heartbeat))
     }
 
-    /// The first and the last number of each run of settled numbers above the frontier, which is the
-    /// least number that isn't settled; none for a best-effort reader.
+    /// The first and the last number of each run of settled numbers above the frontier, which is
+    /// the least number that isn't settled; none for a best-effort reader.
     pub fn runs(&self) -> &[(Number, Number)]
         ensures reliable { (past : List MatchEvent) → StandsAt past self.now →
             self.now.pairing.reliable ≡ true → AreRuns past result.now }

@@ -1,6 +1,6 @@
-//! Runs of settled numbers, in a slice with room on either side. The frontier gives up the first ones
-//! where they are, and a run that comes or goes moves those on the side where there are fewer: most
-//! numbers come at one end or the other.
+//! Runs of settled numbers, in a slice with room on either side. The frontier gives up the first
+//! ones where they are, and a run that comes or goes moves those on the side where there are fewer:
+//! most numbers come at one end or the other.
 
 ghost use Rattle.std.specs.Prelude.{◌≡◌, ◌+◌, ◌-◌, ◌<◌, ◌≤◌, ◌∷◌, ◌++◌, [], if◌then◌else◌, is_ok, IfOk, OnErr, length, take, drop, vec_len};
 
@@ -107,7 +107,8 @@ fn cut<A: Allocator>(list: &mut Vec<(Number, Number), A>, from: usize, to: usize
     list.truncate(from + left);
 }
 
-/// The last place of the room before the runs. Where there is none, so much is made as there are runs.
+/// The last place of the room before the runs. Where there is none, so much is made as there are
+/// runs.
 fn place_before<A: Allocator>(
     list: &mut Vec<(Number, Number), A>,
     room: usize,
@@ -144,8 +145,8 @@ fn put_down<A: Allocator>(
     list[place + count] = run;
 }
 
-/// Puts a run in the place of those from `first` to `last`, where the last of them is, and moves the
-/// runs from `place` on and before `first` up to it.
+/// Puts a run in the place of those from `first` to `last`, where the last of them is, and moves
+/// the runs from `place` on and before `first` up to it.
 fn lift<A: Allocator>(
     list: &mut Vec<(Number, Number), A>,
     place: usize,

@@ -1,5 +1,5 @@
-//! The settled numbers of a match (DDSI-RTPS 8.4.12.3), in runs: numbers reach 2^62, so no step goes
-//! number by number.
+//! The settled numbers of a match (DDSI-RTPS 8.4.12.3), in runs: numbers reach 2^62, so no step
+//! goes number by number.
 
 ghost use Rattle.std.specs.Prelude.{◌≡◌, ℕ, ◌+◌, ◌^◌, ◌<◌, ◌≤◌, true, ◌&&◌, ◌||◌, nat_le, nat_lt, [], length, take, drop, not, is_some, IfSome, OnOk};
 ghost use Rattle.std.specs.Prelude.{min, max};
@@ -14,8 +14,8 @@ use crate::runs::Runs;
 use rtps_types::Number;
 use std::alloc::Allocator;
 
-/// A set of numbers: all below the frontier, which is not in it, and those in the runs, which are in
-/// order and don't touch one another.
+/// A set of numbers: all below the frontier, which is not in it, and those in the runs, which are
+/// in order and don't touch one another.
 #[derive(Drop)]
 pub(crate) struct Settled<A: Allocator> {
     pub frontier: u64,
@@ -61,8 +61,8 @@ fn first_reaching(runs: &[(Number, Number)], number: u64) -> usize
     runs.partition_point(|run| is_before(run, number))
 }
 
-/// The first run from `at` on that reaches a number, where those before it end before the number and
-/// none of the others ends before the number below it.
+/// The first run from `at` on that reaches a number, where those before it end before the number
+/// and none of the others ends before the number below it.
 pub(crate) fn next_reaching(runs: &[(Number, Number)], at: usize, number: u64) -> usize
     requires apart { (low : ℕ) × AreApart low runs.now }
     requires within { at ≤ length runs.now }
@@ -81,7 +81,8 @@ pub(crate) fn next_reaching(runs: &[(Number, Number)], at: usize, number: u64) -
     at
 }
 
-/// Whether a number is in the run at a place, if there is one, where it doesn't end before the number.
+/// Whether a number is in the run at a place, if there is one, where it doesn't end before the
+/// number.
 pub(crate) fn is_begun(runs: &[(Number, Number)], at: usize, number: u64) -> bool
     requires apart { (low : ℕ) × AreApart low runs.now }
     requires before { EndBelow (number + 1) (take at runs.now) }
@@ -150,9 +151,9 @@ impl<A: Allocator> Settled<A> {
         }
     }
 
-    /// The place of a number: how many runs end below it with a number between. `None` where the number
-    /// is in the set. The run at the place may touch the number from below; then the next one is
-    /// looked at too.
+    /// The place of a number: how many runs end below it with a number between. `None` where the
+    /// number is in the set. The run at the place may touch the number from below; then the next
+    /// one is looked at too.
     pub fn place_of(&self, number: u64) -> Option<usize>
         requires { number ≤ 2 ^ 62 + 1 }
         ensures missing { is_some result ≡ not (marks self.now.frontier self.now.runs number) }

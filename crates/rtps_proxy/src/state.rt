@@ -32,8 +32,8 @@ impl<A: Allocator + Copy> State<A> {
         }
     }
 
-    /// Takes in what an event brings, by whether the reader is reliable, and puts what it gives into
-    /// `effects`.
+    /// Takes in what an event brings, by whether the reader is reliable, and puts what it gives
+    /// into `effects`.
     pub fn on_event<'a>(
         &mut self,
         alloc: A,

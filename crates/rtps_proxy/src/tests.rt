@@ -59,9 +59,9 @@ enum What {
     HeartbeatFrag(u64),
 }
 
-/// What comes and what it gives: how many numbers are lost, the numbers of the changes that are ready,
-/// the runs that are then above the frontier, and the submessage of the answer; it is empty where
-/// there is none.
+/// What comes and what it gives: how many numbers are lost, the numbers of the changes that are
+/// ready, the runs that are then above the frontier, and the submessage of the answer; it is empty
+/// where there is none.
 type Row = (
     What,
     u64,

@@ -40,8 +40,8 @@ impl<A: Allocator + Copy> BestEffort<A> {
 }
 
 impl<A: Allocator + Copy> Reliable<A> {
-    /// The place of a number among the runs, if a change with it is taken: it isn't settled, and it is
-    /// the least such number or there is room.
+    /// The place of a number among the runs, if a change with it is taken: it isn't settled, and it
+    /// is the least such number or there is room.
     pub(crate) fn place_for(&self, number: u64) -> Option<usize>
         requires { number ≤ 2 ^ 62 }
         ensures taken { is_some result ≡ (not (marked (reliable_view self.now) number)

@@ -1,4 +1,4 @@
--- Matches in a set, which is ordered by rank and then by writer.
+-- Matches in a set, which is ordered by rank and then by writer (DDSI-RTPS 9.3.1).
 use Rattle.std.specs.Prelude.{ℕ, List, [], ◌∷◌}
 use Rattle.std.specs.BTreeSet.{insert_key}
 use Rattle.std.specs.Ordering.{nat_cmp, ordering_then}

@@ -7,6 +7,7 @@ use Rattle.rtps_reader.specs.declared.notice.NoticeKind.{NoticeKind}
 use Rattle.rtps_reader.specs.declared.notice.NoticeKind.TheVariants as kind
 use Rattle.rtps_reader.specs.Body.{body_map}
 
+-- what contracts see of what a notice reports, with what its value means
 abbrev pub kind_view : {V M : Type 0} → (V → M) → NoticeKind V → NoticeKind M
 kind_view f (kind.Sample number time body) = kind.Sample number time (body_map f body)
 kind_view f kind.Matched = kind.Matched
@@ -14,6 +15,7 @@ kind_view f kind.Unmatched = kind.Unmatched
 kind_view f (kind.Incompatible policy) = kind.Incompatible policy
 kind_view f (kind.Lost count) = kind.Lost count
 
+-- what contracts see of a notice, with what its value means
 abbrev pub notice_view : {V M : Type 0} → (V → M) → Notice V → Notice M
 notice_view f n = record { place = n.place; writer = n.writer; what = kind_view f n.what }
 

@@ -1,4 +1,5 @@
--- The status of a reader: its matches, and the notices that it gave out, counted (DDS 1.4, 2.2.4.1).
+-- The status of a reader: its matches, and the notices that it gave out, counted
+-- (DDS 1.4, 2.2.4.1).
 use Rattle.std.specs.Prelude.{ℕ, ◌+◌, Bool, true, false, List, [], ◌∷◌, ◌++◌, length, map, filter, sum, min, Option, Some, None}
 use Rattle.rtps_reader.specs.declared.notice.Notice.{Notice}
 use Rattle.rtps_reader.specs.declared.notice.NoticeKind.{NoticeKind}

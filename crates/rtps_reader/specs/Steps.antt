@@ -1,4 +1,4 @@
--- What a step asks of a reader, which is given only what is for it.
+-- What a step asks of a reader, which is given only what is for it (DDSI-RTPS 8.4.10.4).
 use Rattle.std.specs.Prelude.{ℕ, List}
 use Rattle.rtps_types.specs.declared.identity.Guid.{Guid}
 use Rattle.rtps_types.specs.declared.locator.Locator.{Locator}
@@ -17,6 +17,7 @@ pub data StepView : Type 0 where
   Ends : Guid → StepView
   Refused : Guid → ℕ → StepView
 
+-- what contracts see of what a step asks
 abbrev pub asked : StepKind → StepView
 asked (code.Event writer time body) = Takes writer (match_event time body.now)
 asked (code.Match writer locators) = Begins writer locators.now

@@ -30,8 +30,8 @@ pub fn matches_follow()
         ≡ (if same_guid writer other then None else match_with other r.matches) }
 {}
 
-/// Whatever a reader is asked to do, its matches are in the order of their writers, and none of them
-/// is with the writer of another.
+/// Whatever a reader is asked to do, its matches are in the order of their writers, and none of
+/// them is with the writer of another.
 pub fn matches_in_order()
     ensures { (own : GuidPrefix) (entity : EntityId) (is_reliable : Bool) (fixed : List Facts)
         (doings : List StepView)

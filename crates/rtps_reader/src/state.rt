@@ -43,8 +43,8 @@ impl<A: Allocator> Model for ReaderState<A> {
 
 impl<A: Allocator + Copy> ReaderState<A> {
     /// A reader at the start, which has its fixed matches and has counted them. `rank` is its place
-    /// among the readers of the participant `own`, `entity` its part of its guid; a reliable one asks
-    /// for what is missing. An error is a refused growth.
+    /// among the readers of the participant `own`, `entity` its part of its guid; a reliable one
+    /// asks for what is missing. An error is a refused growth.
     pub fn new(
         alloc: A,
         rank: u32,
@@ -158,8 +158,8 @@ impl<A: Allocator + Copy> ReaderState<A> {
         self.reader.entity
     }
 
-    /// Adds its matches to a set, each as its rank and the writer. A refused growth may leave some of
-    /// them in it.
+    /// Adds its matches to a set, each as its rank and the writer. A refused growth may leave some
+    /// of them in it.
     pub fn add_matches(&self, matches: &mut BTreeSet<(u32, Guid), A>) -> Result<(), ReaderError>
         ensures { OnOk result (matches.new.keys
             ≡ with_writers matches.old.keys self.now.rank (keys_of self.now.matches)) }
@@ -171,8 +171,8 @@ impl<A: Allocator + Copy> ReaderState<A> {
         Ok(())
     }
 
-    /// The status of the reader, by all that it gave out: its matches now, and totals since its start
-    /// (DDS 1.4, 2.2.4.1).
+    /// The status of the reader, by all that it gave out: its matches now, and totals since its
+    /// start (DDS 1.4, 2.2.4.1).
     pub fn status(&self) -> Status
         ensures { result ≡ self.now.status }
     {

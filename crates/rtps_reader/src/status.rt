@@ -7,8 +7,8 @@ ghost use Rattle.rtps_reader.specs.Status.{capped};
 use rtps_proxy::Effects;
 use std::alloc::Allocator;
 
-/// The status of a reader: its matches now, and totals since its start (DDS 1.4, 2.2.4.1). Totals stop
-/// at 2,147,483,647.
+/// The status of a reader: its matches now, and totals since its start (DDS 1.4, 2.2.4.1). Totals
+/// stop at 2,147,483,647.
 #[derive(Clone, Copy, Debug, PartialEq, Eq)]
 pub struct Status {
     /// How many matches began, the fixed ones too.

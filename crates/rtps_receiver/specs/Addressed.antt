@@ -35,7 +35,8 @@ numbers_of (Heartbeat h) = h.first ∷ h.last ∷ []
 numbers_of (Gap g) = g.start ∷ g.list.base ∷ members g.list
 numbers_of (HeartbeatFrag h) = h.number ∷ []
 
--- the number of its change, or the first that it speaks of; it is at least 1 in any valid submessage
+-- the number of its change, or the first that it speaks of; it is at least 1 in any valid
+-- submessage
 abbrev pub first_of : EventBody → ℕ
 first_of (Whole c) = c.number
 first_of (Fragment f) = f.number
@@ -47,6 +48,7 @@ first_of (HeartbeatFrag h) = h.number
 abbrev pub taken : AddressedBody → Option AddressedBody
 taken a = if nat_le 1 (first_of a.body) && list_all is_taken (numbers_of a.body) then Some a else None
 
+-- what is addressed, if anything is and it is taken
 abbrev pub taken_of : Option AddressedBody → Option AddressedBody
 taken_of None = None
 taken_of (Some a) = taken a

@@ -1,4 +1,5 @@
--- What the submessages before a submessage of the same datagram say of it (DDSI-RTPS 8.3.4). The nearest comes first.
+-- What the submessages before a submessage of the same datagram say of it (DDSI-RTPS 8.3.4). The
+-- nearest comes first.
 use Rattle.std.specs.Prelude.{List, [], ◌∷◌, Option, None, replicate, if◌then◌else◌}
 use Rattle.std.specs.Str.{bytes_eq}
 use Rattle.rtps_types.specs.declared.identity.GuidPrefix.{GuidPrefix}
@@ -21,7 +22,8 @@ destination_of own [] = own
 destination_of own (Destination p ∷ before) = resolved own p
 destination_of own (c ∷ before) = destination_of own before
 
--- the time of the last INFO_TS before it and after the last INFO_SRC, where there is one and it has a time
+-- the time of the last INFO_TS before it and after the last INFO_SRC, where there is one and it has
+-- a time
 abbrev pub time_of : List Content → Option Timestamp
 time_of [] = None
 time_of (Time t ∷ before) = t

@@ -1,4 +1,4 @@
--- What an event brings, without where its octets lie in memory.
+-- What an event brings, without where its octets lie in memory (DDSI-RTPS 8.3.7).
 use Rattle.std.specs.Prelude.{ℕ, ℤ, ◌^◌, List, ◌∷◌, Bool, nat_le}
 use Rattle.std.specs.List.{list_all}
 use Rattle.rtps_types.specs.NumberSet.{NumberSet, members}
@@ -47,6 +47,7 @@ pub record HeartbeatFragView : Type 0 where
   pub last : ℕ
   pub count : ℤ
 
+-- what an event brings, by its kind
 pub data EventBody : Type 0 where
   Whole : WholeView → EventBody
   Fragment : FragmentView → EventBody

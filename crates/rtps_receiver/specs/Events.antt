@@ -1,4 +1,5 @@
--- The events of a datagram (DDSI-RTPS 8.3.4): its valid submessages of five kinds that are addressed to us, each with its context.
+-- The events of a datagram (DDSI-RTPS 8.3.4): its valid submessages of five kinds that are
+-- addressed to us, each with its context.
 use Rattle.std.specs.Prelude.{ℕ, ◌+◌, List, [], ◌∷◌, ◌++◌, drop, Option, None, Result, Ok, Err, if◌then◌else◌, option_to_list}
 use Rattle.std.specs.Option.{option_map}
 use Rattle.std.specs.Str.{bytes_eq}
@@ -26,6 +27,7 @@ pub record EventView : Type 0 where
   pub reader : EntityId
   pub body : EventBody
 
+-- what contracts see of an event
 abbrev pub view : Event → EventView
 view e = record { place = e.place; source = e.source; time = e.time; writer = e.writer; reader = e.reader; body = body_view e.body }
 

@@ -1,4 +1,4 @@
--- The context as it is kept from one submessage to the next.
+-- The context as it is kept from one submessage to the next (DDSI-RTPS 8.3.4).
 use Rattle.std.specs.Prelude.{◌+◌, List, [], ◌∷◌, ◌++◌, Option, None, if◌then◌else◌, option_to_list}
 use Rattle.std.specs.Str.{bytes_eq}
 use Rattle.rtps_types.specs.declared.place.Place.{Place}
@@ -13,6 +13,7 @@ use Rattle.rtps_receiver.specs.Context.{destination_of, resolved, source_of, tim
 abbrev pub context_of : GuidPrefix → GuidPrefix → List Content → Context
 context_of own header before = record { own = own; source = source_of header before; destination = destination_of own before; time = time_of before }
 
+-- the context at the start of a message
 abbrev pub first_context : GuidPrefix → GuidPrefix → Context
 first_context own header = context_of own header []
 
@@ -34,6 +35,7 @@ abbrev pub event_in : Context → Place → Content → Option EventView
 event_in c place content =
     if bytes_eq c.destination.0 c.own.0 then happening place c.source c.time (taken_of (addressed content)) else None
 
+-- the place of the next submessage of the same datagram
 abbrev pub next_place : Place → Place
 next_place p = record p { submessage = p.submessage + 1 }
 

@@ -1,5 +1,5 @@
-//! What a submessage brings to readers, by its kind (DDSI-RTPS 8.3.7): nothing where it names a number
-//! above [`MAX_NUMBER`].
+//! What a submessage brings to readers, by its kind (DDSI-RTPS 8.3.7): nothing where it names a
+//! number above [`MAX_NUMBER`].
 
 ghost use Rattle.std.specs.Prelude.{◌≡◌};
 ghost use Rattle.std.specs.List.{list_all};

@@ -11,8 +11,8 @@ use std::alloc::{AllocError, Allocator};
 /// Why the events of a datagram could not be found: the allocator refused a growth.
 pub type ReceiverError = AllocError;
 
-/// Puts the events of one datagram, in order, after those that are there, as [`events`] finds them. A
-/// refused growth leaves those alone.
+/// Puts the events of one datagram, in order, after those that are there, as [`events`] finds them.
+/// A refused growth leaves those alone.
 ///
 /// Payloads stay where the datagram lies, which has at most 65,507 octets.
 pub fn add_events<'a, A: Allocator>(
@@ -39,7 +39,8 @@ pub fn add_events<'a, A: Allocator>(
 /// The events of one datagram, in order (DDSI-RTPS 8.3.4): its valid submessages of the five kinds
 /// that bring something to readers, where their destination is the participant `own` and they name
 /// no number above 2^62. `index` is the datagram's place in the run, counted from 0. A bad header
-/// gives none, and so does what comes after the first invalid submessage. An error is a refused growth.
+/// gives none, and so does what comes after the first invalid submessage. An error is a refused
+/// growth.
 ///
 /// Payloads stay where the datagram lies, which has at most 65,507 octets.
 pub fn events<A: Allocator>(

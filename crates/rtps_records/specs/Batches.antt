@@ -16,8 +16,8 @@ records_in b = cut b.lengths.items b.octets.items
 abbrev pub IsFull : {A : Type 0} → ℕ → Batch A → Type 0
 IsFull most b = (length (records_in b) ≡ most) ⊎ (1048576 < b.used + 65507)
 
--- What comes after m records that were read: more of the file, of which nothing was read; its end; or
--- its first fault. A batch after which more may come has a record.
+-- What comes after m records that were read: more of the file, of which nothing was read; its end;
+-- or its first fault. A batch after which more may come has a record.
 abbrev pub EndsBatch : BatchEnd → ℕ → List (List ℕ) → Option (List ℕ) → Option (List ℕ) → Type 0
 EndsBatch More m records here after = (0 < length records) × (after ≡ here)
 EndsBatch End m records here after = IsAtEnd here

@@ -4,6 +4,7 @@ use Rattle.std.specs.Fmt.{decimal}
 use Rattle.rtps_records.specs.declared.fault.RunFault.{RunFault}
 use Rattle.rtps_records.specs.declared.fault.RunFault.TheVariants.{CannotRead, NotRecordFile, CutRecord, RecordTooLong, TooManyRecords, CannotWrite, NoMemory}
 
+-- what the line of a fault says
 abbrev pub fault_text : RunFault → List ℕ
 fault_text CannotRead = codes "cannot read the file"
 fault_text NotRecordFile = codes "not an RDG1 file"

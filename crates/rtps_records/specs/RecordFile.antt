@@ -1,4 +1,5 @@
--- A record file: four octets of magic, and records of a 32-bit length and that many octets, to the end.
+-- A record file: four octets of magic, and records of a 32-bit length and that many octets, to the
+-- end.
 use Rattle.std.specs.Prelude.{◌≡◌, ℕ, ◌+◌, ◌<◌, ◌≤◌, List, [], ◌∷◌, ◌++◌, ◌⊎◌, length, take, Option, Some, None, IfSome}
 use Rattle.std.specs.Io.KnownBytes.{Consumes}
 use Rattle.std.specs.List.{flat_map, AllByRecursion}
@@ -14,6 +15,7 @@ magic = 82 ∷ 68 ∷ 71 ∷ 49 ∷ []
 abbrev pub frame : List ℕ → List ℕ
 frame octets = to_be_bytes w32 (length octets) ++ octets
 
+-- a record has at most 65,507 octets, as a UDP payload over IPv4 has
 abbrev pub IsRecord : List ℕ → Type 0
 IsRecord octets = length octets ≤ 65507
 
@@ -25,6 +27,7 @@ told_length octets = from_be_bytes w32 (take 4 octets)
 abbrev pub IsCut : List ℕ → Type 0
 IsCut octets = (0 < length octets) × ((length octets < 4) ⊎ ((told_length octets ≤ 65507) × (length octets < 4 + told_length octets)))
 
+-- a length is here that is greater than any record's
 abbrev pub IsTooLong : List ℕ → Type 0
 IsTooLong octets = (4 ≤ length octets) × (65507 < told_length octets)
 
@@ -48,10 +51,12 @@ pub record Holds (octets : List ℕ) (records : List (List ℕ)) (rest : List �
 abbrev pub Reads : List ℕ → List (List ℕ) → Option RunFault → Type 0
 Reads octets records fault = (rest : List ℕ) × Holds octets records rest × EndsBy fault (length records) rest
 
+-- the octets don't begin with the magic
 abbrev pub IsOther : List ℕ → Type 0
 IsOther octets = (more : List ℕ) → ¬ (octets ≡ magic ++ more)
 
--- what was read after n records holds no whole record; after the greatest number of records it is nothing
+-- what was read after n records holds no whole record; after the greatest number of records it is
+-- nothing
 abbrev pub IsPartial : ℕ → List ℕ → Type 0
 IsPartial n octets = (octets ≡ []) ⊎ ((n < 4294967295) × IsCut octets)
 

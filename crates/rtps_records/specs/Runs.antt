@@ -1,5 +1,5 @@
--- What a run leaves written, by the text of records, by what the reader had left before and after it, and by the writer's
--- contents before and after it.
+-- What a run leaves written, by the text of records, by what the reader had left before and after
+-- it, and by the writer's contents before and after it.
 use Rattle.std.specs.Prelude.{◌≡◌, ℕ, ◌<◌, ◌≤◌, List, [], ◌++◌, ◌⊎◌, length, take, Option, Some, IfSome}
 use Rattle.std.specs.Io.KnownBytes.{Appends, Consumes, Keeps}
 use Rattle.rtps_records.specs.declared.fault.RunFault.{RunFault}
@@ -7,31 +7,35 @@ use Rattle.rtps_records.specs.declared.fault.RunFault.TheVariants.{CannotRead, N
 use Rattle.rtps_records.specs.RecordFile.{Holds, Reads, IsOther, IsPartial}
 use Rattle.rtps_records.specs.Text.{IsFront}
 
--- the whole input is these records, and then the end or this fault; their text was written, and nothing else
+-- the whole input is these records, and then the end or this fault; their text was written, and
+-- nothing else
 unfoldable pub WroteAll : (List (List ℕ) → List ℕ) → Option (List ℕ) → Option (List ℕ) → Option (List ℕ) → Option RunFault → Type 0
 WroteAll text before old new fault = IfSome before (λ input. (records : List (List ℕ)) × Reads input records fault × Appends old new (text records))
 
--- A part of the input was read. The text of the records in it was written, and nothing else; less than the first four octets
--- has no text.
+-- A part of the input was read. The text of the records in it was written, and nothing else; less
+-- than the first four octets has no text.
 unfoldable pub WroteRead : (List (List ℕ) → List ℕ) → Option (List ℕ) → Option (List ℕ) → Option (List ℕ) → Option (List ℕ) → Type 0
 WroteRead text before after old new =
     (taken : List ℕ) × Consumes before after taken
     × (((length taken < 4) × Keeps old new)
     ⊎ ((records : List (List ℕ)) × (rest : List ℕ) × Holds taken records rest × IsPartial (length records) rest × Appends old new (text records)))
 
--- what was written is a front of the text of the whole input, whatever its records and its end are; where nothing was written it is too
+-- what was written is a front of the text of the whole input, whatever its records and its end are;
+-- where nothing was written it is too
 unfoldable pub WroteFront : (List (List ℕ) → List ℕ) → Option (List ℕ) → Option (List ℕ) → Option (List ℕ) → Type 0
 WroteFront text before old new =
     (put : List ℕ) × Appends old new put
     × IfSome before (λ input. (records : List (List ℕ)) (fault : Option RunFault) → Reads input records fault → IsFront put (text records))
 
--- A part of the input was read, as a read fault leaves it. What was written is a front of the text of the records in it.
+-- A part of the input was read, as a read fault leaves it. What was written is a front of the text
+-- of the records in it.
 unfoldable pub WroteReadFront : (List (List ℕ) → List ℕ) → Option (List ℕ) → Option (List ℕ) → Option (List ℕ) → Option (List ℕ) → Type 0
 WroteReadFront text before after old new =
     (taken : List ℕ) × Consumes before after taken
     × ((records : List (List ℕ)) × (rest : List ℕ) × (put : List ℕ) × Holds taken records rest × IsPartial (length records) rest × IsFront put (text records) × Appends old new put)
 
--- what a run leaves that stops at a fault; a write fault may come after a read fault, in whose place it is reported
+-- what a run leaves that stops at a fault; a write fault may come after a read fault, in whose
+-- place it is reported
 unfoldable pub Stops : (List (List ℕ) → List ℕ) → RunFault → Option (List ℕ) → Option (List ℕ) → Option (List ℕ) → Option (List ℕ) → Type 0
 Stops text NotRecordFile before after old new = IfSome before IsOther × Keeps old new
 Stops text CannotRead before after old new = WroteRead text before after old new
@@ -53,8 +57,8 @@ Moves old new octets left = (put : List ℕ) × Appends old new put × (octets �
 abbrev pub Spills : Option (List ℕ) → Option (List ℕ) → List ℕ → List ℕ → Type 0
 Spills old new before after = ((65536 ≤ length before) × Appends old new before × (after ≡ [])) ⊎ ((length before < 65536) × Keeps old new × (after ≡ before))
 
--- Some octets were written. Where the text of some records was said up to those that were kept back, they are these octets
--- and the rest of that text.
+-- Some octets were written. Where the text of some records was said up to those that were kept
+-- back, they are these octets and the rest of that text.
 unfoldable pub Closes : (List (List ℕ) → List ℕ → Type 0) → (List (List ℕ) → List ℕ) → Option (List ℕ) → Option (List ℕ) → List ℕ → Type 0
 Closes said text old new kept =
     (put : List ℕ) × Appends old new put

@@ -14,8 +14,9 @@ text_from line n (octets ∷ records) = line n octets ++ text_from line (n + 1) 
 abbrev pub text_of : (ℕ → List ℕ → List ℕ) → List (List ℕ) → List ℕ
 text_of line records = text_from line 0 records
 
--- What is added to a text for these records, of which the first has this number. What was said of which
--- records is given by `before` and `after`: the text grows by what is said of these records more.
+-- What is added to a text for these records, of which the first has this number. What was said of
+-- which records is given by `before` and `after`: the text grows by what is said of these records
+-- more.
 unfoldable pub Says : (List (List ℕ) → List ℕ → Type 0) → (List (List ℕ) → List ℕ → Type 0) → ℕ
     → List (List ℕ) → List ℕ → List ℕ → Type 0
 Says before after number more old new =

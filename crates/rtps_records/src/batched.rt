@@ -13,8 +13,8 @@ use std::alloc::{AllocError, Allocator};
 use std::io::Read;
 
 impl<'a, R: Read, A: Allocator + Copy> Records<'a, R, Batch<A>> {
-    /// The records that are to be read from a reader, many at a time; first [`Records::open`] them. An
-    /// error is a refused growth.
+    /// The records that are to be read from a reader, many at a time; first [`Records::open`] them.
+    /// An error is a refused growth.
     pub fn in_batches(alloc: A, reader: &'a mut R) -> Result<Records<'a, R, Batch<A>>, AllocError>
         ensures same_reader { IfOk result (λ records. records.reader.ghost_name ≡
             reader.entry.ghost_name) }
@@ -31,9 +31,9 @@ impl<'a, R: Read, A: Allocator + Copy> Records<'a, R, Batch<A>> {
 
 impl<R: Read, A: Allocator> Records<'_, R, Batch<A>> {
     /// Reads the next records in place of those that were read before: as many as `most`, fewer
-    /// where there is no room for a longest one after them, or up to the end of the file or its first
-    /// fault, which [`Records::next`] reports. Where it answers [`BatchEnd::More`] there is one at
-    /// least.
+    /// where there is no room for a longest one after them, or up to the end of the file or its
+    /// first fault, which [`Records::next`] reports. Where it answers [`BatchEnd::More`] there is
+    /// one at least.
     ///
     /// An error is always `NoMemory`. The records that were read until then are there, and no other
     /// record was read.

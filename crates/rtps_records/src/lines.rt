@@ -62,8 +62,8 @@ impl<'a, W: Write, A: Allocator> Lines<'a, W, Vec<u8, A>> {
         Ok(())
     }
 
-    /// Writes the text that was kept back, and flushes the writer. A fault is always `CannotWrite`; a
-    /// front of the text may have been written then. The text stays as it is.
+    /// Writes the text that was kept back, and flushes the writer. A fault is always `CannotWrite`;
+    /// a front of the text may have been written then. The text stays as it is.
     pub fn close(&mut self) -> Result<(), RunFault>
         ensures same_writer { self.new.writer.ghost_name ≡ self.old.writer.ghost_name }
         ensures ok { OnOk result (Appends (W.contents self.old.writer.now)

@@ -15,7 +15,8 @@ use crate::transfer::fill;
 use std::alloc::{AllocError, Allocator};
 use std::io::Read;
 
-/// The records of a file, in order. `B` is where one of them is kept while it is lent: a [`Buffer`].
+/// The records of a file, in order. `B` is where one of them is kept while it is lent: a
+/// [`Buffer`].
 pub struct Records<'a, R, B: Drop = Buffer> {
     pub(crate) reader: &'a mut R,
     pub(crate) buffer: B,
@@ -38,8 +39,8 @@ impl<R, B: Drop> Drop for Records<'_, R, B> {
 impl<R: Read, B: Drop> Records<'_, R, B> {
     /// Reads the four octets that a record file begins with.
     ///
-    /// `NotRecordFile` where it begins otherwise or ends before them, `CannotRead` where a read fails
-    /// before.
+    /// `NotRecordFile` where it begins otherwise or ends before them, `CannotRead` where a read
+    /// fails before.
     pub fn open(&mut self) -> Result<(), RunFault>
         ensures same_reader { self.new.reader.ghost_name ≡ self.old.reader.ghost_name }
         ensures count { self.new.count ≡ self.old.count }
@@ -107,8 +108,8 @@ impl<'a, R: Read, A: Allocator> Records<'a, R, Buffer<A>> {
         }
     }
 
-    /// Reads the next record into the front of the buffer, and gives its length in octets, or `None`
-    /// where the file ends.
+    /// Reads the next record into the front of the buffer, and gives its length in octets, or
+    /// `None` where the file ends.
     fn advance(&mut self) -> Result<Option<usize>, RunFault>
         ensures same_reader { self.new.reader.ghost_name ≡ self.old.reader.ghost_name }
         ensures count { IfOk result (λ next. OnSome next
@@ -132,8 +133,8 @@ impl<'a, R: Read, A: Allocator> Records<'a, R, Buffer<A>> {
     }
 }
 
-/// Reads the record after `number` others into the front of a buffer, and gives its length in octets,
-/// or `None` where the file ends.
+/// Reads the record after `number` others into the front of a buffer, and gives its length in
+/// octets, or `None` where the file ends.
 pub(crate) fn read_record<R: Read>(
     reader: &mut R,
     buffer: &mut [u8],

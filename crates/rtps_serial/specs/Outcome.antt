@@ -10,9 +10,11 @@ use Rattle.rtps_serial.specs.declared.outcome.Report.TheVariants as report
 use Rattle.rtps_serial.specs.Seen.{answers_in, notices_by, reader_count}
 use Rattle.rtps_serial.specs.World.{ReportView, NoticeOf, AnswerOf, AnswerView, World}
 
+-- what contracts see of an answer
 abbrev pub answer_view : {A : Type 0} → Answer A → AnswerView
 answer_view a = record { place = a.place; rank = a.rank; to = a.to; octets = a.octets }
 
+-- what contracts see of a notice of a reader, or an answer
 abbrev pub report_view : {V M A : Type 0} → (V → M) → Report V A → ReportView M
 report_view f (report.Notice rank notice) = NoticeOf rank (notice_view f notice)
 report_view f (report.Answer answer) = AnswerOf (answer_view answer)

@@ -50,8 +50,8 @@ events_for writer reader events = reverse (filter (is_addressed (same_guid write
 abbrev pub match_events_by : Place → List EventView → List MatchEvent
 match_events_by place events = map match_event_of (filter (λ e. not_after e.place place) events)
 
--- a DATA or DATA_FRAGs brought the sample: its sequence number, its time, and the body that the catalog
--- makes of what they carry
+-- a DATA or DATA_FRAGs brought the sample: its sequence number, its time, and the body that the
+-- catalog makes of what they carry
 pub record IsBrought {M : Type 0} (decoding : Decoding M) (past : List MatchEvent) (s : Shown M)
     : Type 0 where
   pub change : ChangeView
@@ -89,6 +89,7 @@ pub record Stretch (M : Type 0) : Type 0 where
   pub since : Since
   pub samples : List (Shown M)
 
+-- the stretch of these samples, since then
 abbrev pub stretch : {M : Type 0} → Since → List (Shown M) → Stretch M
 stretch since samples = record { since = since; samples = samples }
 

@@ -1,4 +1,5 @@
--- What is seen of a run: each reader's notices, the answers, the statuses and the matches.
+-- What is seen of a run: each reader's notices, the answers, the statuses and the matches
+-- (DDS 1.4, 2.2.4.1).
 use Rattle.std.specs.Prelude.{◌≡◌, ◌<◌, ℕ, zero, suc, List, [], ◌∷◌, map, Bool, ◌&&◌, Option, Some, None, nat_lt, ◌==◌, if◌then◌else◌, is_some, length}
 use Rattle.std.specs.List.{list_any}
 use Rattle.rtps_types.specs.declared.identity.Guid.{Guid}

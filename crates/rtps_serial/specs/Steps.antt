@@ -18,6 +18,7 @@ pub record ReaderStep : Type 0 where
   pub rank : ℕ
   pub what : StepView
 
+-- this is asked of the reader of that rank
 abbrev pub step_by : ℕ → StepView → ReaderStep
 step_by rank what = record { rank = rank; what = what }
 

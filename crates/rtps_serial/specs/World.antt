@@ -1,5 +1,5 @@
--- The world and its step (DDSI-RTPS 8.3.4, 8.4.10, 8.5): what is known of the others, every reader by
--- its rank, and all that was put out, in the order in which it came.
+-- The world and its step (DDSI-RTPS 8.3.4, 8.4.10, 8.5): what is known of the others, every reader
+-- by its rank, and all that was put out, in the order in which it came.
 use Rattle.std.specs.Prelude.{ℕ, zero, suc, List, [], ◌∷◌, ◌++◌, length, map, filter, Option, Some, None, ◌==◌, if◌then◌else◌}
 use Rattle.rtps_types.specs.declared.locator.Locator.{Locator}
 use Rattle.rtps_types.specs.declared.place.Place.{Place}

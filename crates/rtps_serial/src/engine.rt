@@ -66,7 +66,8 @@ impl<C: Catalog, A: Allocator> Model for SerialEngine<C, A> {
 impl<C: Catalog> SerialEngine<C> {
     /// An engine for this configuration: its readers with their fixed matches, to which nothing
     /// came yet. Values come from `alloc`. [`StartError::Config`] exactly where
-    /// [`check`](rtps_discovery::check) refuses the configuration, else an error is a refused growth.
+    /// [`check`](rtps_discovery::check) refuses the configuration, else an error is a refused
+    /// growth.
     pub fn new(alloc: Global, config: Config, catalog: C) -> Result<SerialEngine<C>, StartError>
         ensures starts { Starts (check_of config) result }
         ensures same { IfOk result (λ e. (e.catalog ≡ catalog) × (e.config ≡ config)) }
@@ -278,8 +279,8 @@ impl<C: Catalog, A: Allocator + Copy> SerialEngine<C, A> {
         }
     }
 
-    /// What is known of the others, as the run knows it after the last datagram that was taken; once
-    /// a datagram has been out of memory, it may know more.
+    /// What is known of the others, as the run knows it after the last datagram that was taken;
+    /// once a datagram has been out of memory, it may know more.
     pub fn discovery(&self) -> &Discovery<A>
         ensures { (datagrams : List (List ℕ)) → StandsAt C.decoding datagrams self.now
             → IsKnown (run_by C.decoding self.now datagrams).known result.now.kept }

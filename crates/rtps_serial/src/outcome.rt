@@ -30,8 +30,8 @@ pub struct Outcome<V, A: Allocator = Global> {
     ghost ranked: { vec_len notices ≤ 2 ^ 32 },
 }
 
-/// One thing that a datagram or a batch gives, for those who want all in the order in which it came:
-/// by place, then by rank, and of one reader its notices before its answer.
+/// One thing that a datagram or a batch gives, for those who want all in the order in which it
+/// came: by place, then by rank, and of one reader its notices before its answer.
 #[derive(Debug, Drop)]
 pub enum Report<V, A: Allocator = Global> {
     /// The reader of this rank reports something.

@@ -39,8 +39,8 @@ enum Sent {
     ForSecond(u8),
     /// HEARTBEAT of the numbers from the first to the last, with this count, for every reader.
     Heartbeat(u8, u8, u8),
-    /// DATA_FRAG of BLUE in two fragments, with number 1: for the readers whose entity ends so, this
-    /// fragment.
+    /// DATA_FRAG of BLUE in two fragments, with number 1: for the readers whose entity ends so,
+    /// this fragment.
     Fragment([u8; 2], u8),
 }
 

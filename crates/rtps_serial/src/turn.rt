@@ -48,9 +48,10 @@ impl<V, A: Allocator> Report<V, A> {
 }
 
 impl<V: Drop, A: Allocator + Copy> Outcome<V, A> {
-    /// All that it has, in the order in which a run of one thread puts it out: by place, then by rank,
-    /// and of one reader its notices before its answer. What comes at one turn, as the notices of one
-    /// reader at one place, keeps its order. An error is a refused growth, and the outcome is gone.
+    /// All that it has, in the order in which a run of one thread puts it out: by place, then by
+    /// rank, and of one reader its notices before its answer. What comes at one turn, as the
+    /// notices of one reader at one place, keeps its order. An error is a refused growth, and the
+    /// outcome is gone.
     pub fn in_order(self, alloc: A) -> Result<Vec<Report<V, A>, A>, AllocError>
         ensures { IfOk result (λ reports. AreInOrder self reports.items) }
     {

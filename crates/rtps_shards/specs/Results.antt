@@ -18,6 +18,7 @@ pub record Share (M : Type 0) : Type 0 where
   pub given : List (Notice M)
   pub job : Job
 
+-- a share, made of a reader, the notices that it gave out before, and its job
 abbrev pub share : {M : Type 0} → Reader → List (Notice M) → Job → Share M
 share reader given job = record { reader = reader; given = given; job = job }
 
@@ -54,8 +55,10 @@ pub record HasTaken {V M : Type 0} (f : V → M) (decoding : Decoding M) (s : Sh
   pub sent : map answer_view new.output.answers.items
       ≡ map answer_view old.output.answers.items ++ job_sent s.reader s.job
 
+-- the rank of the reader whose job it is
 abbrev pub rank_in : {V : Type 0} → ReaderJob V → ℕ
 rank_in x = x.job.rank
 
+-- the rank of the reader whose result it is
 abbrev pub rank_of : {V : Type 0} → JobResult V → ℕ
 rank_of x = x.rank

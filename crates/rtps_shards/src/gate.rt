@@ -1,7 +1,7 @@
 //! Watching jobs as they run.
 
-/// Is called as each job begins and ends, on the thread that runs it. Each `enter` of a job is followed
-/// by one `leave` of it, also where the job was out of memory.
+/// Is called as each job begins and ends, on the thread that runs it. Each `enter` of a job is
+/// followed by one `leave` of it, also where the job was out of memory.
 pub trait Gate: Sync {
     /// The job of the reader of this rank begins.
     fn enter(&self, rank: u32);

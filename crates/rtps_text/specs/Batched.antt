@@ -15,7 +15,8 @@ pub record IsSameRun {C V U : Type 0} (old new : RunLines C V U) : Type 0 where
   pub summary : new.summary ≡ old.summary
   pub pace : new.pace ≡ old.pace
 
--- after n records a batch of them was read, which makes them m, and this is what an engine gave of it
+-- after n records a batch of them was read, which makes them m, and this is what an engine gave of
+-- it
 pub record RunsBatch {C V M : Type 0} (f : V → M) (decoding : C → Decoding M)
     (before after : Option (List ℕ)) (n m : ℕ) (end : BatchEnd) (old new : EngineView C)
     (given : Given V) : Type 0 where

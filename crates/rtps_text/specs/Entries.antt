@@ -115,10 +115,12 @@ IsHistory-prop KeepAll = Unit-prop
 
 -- ---- by what values mean
 
+-- what contracts see of what an entry is, with what its value means
 abbrev pub content_view : {V M : Type 0} → (V → M) → Content V → Content M
 content_view f (content.Value v) = content.Value (f v)
 content_view f content.Disposed = content.Disposed
 
+-- what contracts see of an entry as a call answers it, with what its value means
 abbrev pub sample_view : {V M : Type 0} → (V → M) → Sample V → Sample M
 sample_view f s = record {
   place = s.place;

@@ -5,5 +5,6 @@ use Rattle.rtps_types.specs.declared.identity.GuidPrefix.{GuidPrefix}
 use Rattle.rtps_receiver.specs.Events.{events_of}
 use Rattle.rtps_text.specs.Line.{line_of}
 
+-- the lines of a datagram's events, by our own prefix and the datagram's number in the run
 abbrev pub lines_of : GuidPrefix → ℕ → List ℕ → List ℕ
 lines_of own index octets = flat_map line_of (events_of own index octets)

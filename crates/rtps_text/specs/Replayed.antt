@@ -20,9 +20,11 @@ put_line text (AnswerOf answer) = answer_line answer.place answer.to answer.octe
 abbrev pub put_lines : {M : Type 0} → (M → List ℕ) → List (ReportView M) → List ℕ
 put_lines text put = flat_map (put_line text) put
 
+-- the line of each match, in order
 abbrev pub match_lines : List (ℕ × Guid) → List ℕ
 match_lines matches = flat_map (λ m. match_line m.0 m.1) matches
 
+-- the line of the status of the reader of a rank, if there is one
 abbrev pub status_text : ℕ → Option Status → List ℕ
 status_text rank None = []
 status_text rank (Some status) = status_line rank status
@@ -36,7 +38,8 @@ status_lines w (suc rank) = status_lines w rank ++ status_line rank (status_at w
 abbrev pub summary_text : {M : Type 0} → World M → List ℕ
 summary_text w = match_lines (matches_seen w) ++ status_lines w (reader_count w)
 
--- the text of these records: what the run of one thread puts out, and after it the summary where it is asked for
+-- the text of these records: what the run of one thread puts out, and after it the summary where it
+-- is asked for
 abbrev pub replay_text : {M : Type 0} → (M → List ℕ) → Decoding M → Config → Bool → List (List ℕ) → List ℕ
 replay_text text decoding config summary records =
     put_lines text (run decoding config records).put ++ (if summary then summary_text (run decoding config records) else [])

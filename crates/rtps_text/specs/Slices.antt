@@ -21,9 +21,11 @@ abbrev pub front_at : {X : Type 0} → (X → Place) → Place → List X → Li
 front_at at place [] = []
 front_at at place (x ∷ xs) = if same_place (at x) place then x ∷ front_at at place xs else []
 
+-- the notices in front that are at a place
 abbrev pub first_notices : {M : Type 0} → Place → List (Notice M) → List (Notice M)
 first_notices place notices = front_at (λ n. n.place) place notices
 
+-- the answers in front that are at a place
 abbrev pub first_answers : Place → List (Place × ReplyView) → List (Place × ReplyView)
 first_answers place answers = front_at (λ s. s.0) place answers
 
@@ -51,6 +53,7 @@ lists_after told sent place c = record {
 abbrev pub part_lines : {M : Type 0} → (M → List ℕ) → Parts M → Place → Cursor → List ℕ
 part_lines text parts place c = lists_lines text (parts.told c.rank) (parts.sent c.rank) place c
 
+-- how much of a reader's lists is printed once its lines at a place are
 abbrev pub cursor_after : {M : Type 0} → Parts M → Place → Cursor → Cursor
 cursor_after parts place c = lists_after (parts.told c.rank) (parts.sent c.rank) place c
 
@@ -107,6 +110,7 @@ pub record IsLeft {M : Type 0} (parts : Parts M) (places : List Place) (c : Curs
   pub told : drop c.notices (parts.told c.rank) ≡ flat_map (λ p. notices_at p (parts.told c.rank)) places
   pub sent : drop c.answers (parts.sent c.rank) ≡ flat_map (λ p. answers_at p (parts.sent c.rank)) places
 
+-- the ranks below a count, rising
 abbrev pub ranks_below : ℕ → List ℕ
 ranks_below zero = []
 ranks_below (suc rank) = ranks_below rank ++ rank ∷ []

@@ -1,4 +1,5 @@
--- The lines of a run, beside those of its events: what readers heard of their writers, what was answered, which matches were made, and how each reader stands.
+-- The lines of a run, beside those of its events: what readers heard of their writers, what was
+-- answered, which matches were made, and how each reader stands.
 use Rattle.std.specs.Prelude.{ℕ, List, [], ◌∷◌, ◌++◌, slice_index, Option, Some, None, codes}
 use Rattle.std.specs.Fmt.{decimal}
 use Rattle.rtps_types.specs.declared.identity.Guid.{Guid}
@@ -19,7 +20,8 @@ use Rattle.rtps_text.specs.Line.{◌then◌, place_text, time_text}
 abbrev pub guid_text : Guid → List ℕ
 guid_text g = hex_text g.prefix.0 ++ hex_text g.entity.0
 
--- what a change is presented as (DDS 1.4, 2.2.2.5.1.3): a value, the end of an instance by the hash of its key, or why it is unread
+-- what a change is presented as (DDS 1.4, 2.2.2.5.1.3): a value, the end of an instance by the hash
+-- of its key, or why it is unread
 abbrev pub sample_text : {M : Type 0} → (M → List ℕ) → Body M → List ℕ
 sample_text text (body.Value h m) = codes "value" then text m
 sample_text text (body.Disposed h) = codes "disposed" then hex_text h.0
@@ -69,7 +71,8 @@ abbrev pub policy_text : Option ℕ → List ℕ
 policy_text None = codes "-"
 policy_text (Some policy) = decimal policy
 
--- how many matches there were and are, and how many writers offer too little, with the policy that was told last
+-- how many matches there were and are, and how many writers offer too little, with the policy that
+-- was told last
 abbrev pub matches_text : Status → List ℕ
 matches_text s = decimal s.matched_total then decimal s.matched_now then decimal s.incompatible_total then policy_text s.last_policy
 

@@ -1,4 +1,5 @@
-//! What the last line said of its place, its writer and its change: most lines in a row say the same.
+//! What the last line said of its place, its writer and its change: most lines in a row say the
+//! same.
 
 ghost use Rattle.std.specs.Prelude.{◌≡◌, ◌++◌, OnOk};
 ghost use Rattle.std.specs.Io.{StartsWith};

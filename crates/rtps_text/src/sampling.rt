@@ -37,9 +37,9 @@ struct RunCaches<C: TextCatalog> {
 
 /// Reads a record file to its end or its first fault, gives its datagrams to the readers of a
 /// configuration, batch after batch, and moves what each reader reports into a cache of its own.
-/// Then all entries are taken of each cache, by rank, and a line is written for each. With `summary`
-/// the matches and the status of each reader come after them. All of that comes also where a record
-/// has a fault.
+/// Then all entries are taken of each cache, by rank, and a line is written for each. With
+/// `summary` the matches and the status of each reader come after them. All of that comes also
+/// where a record has a fault.
 ///
 /// The file is never held as a whole, and neither is the text: the entries of the caches are, and
 /// besides them the records of a batch, 1 MiB at the most, what they give and some 64 KiB of text.

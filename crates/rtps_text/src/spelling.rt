@@ -32,8 +32,8 @@ struct Slice<'a> {
     text: Vec<u8>,
 }
 
-/// The slice of this index, counted from 0, of as many places as there are to one; the last may have
-/// fewer.
+/// The slice of this index, counted from 0, of as many places as there are to one; the last may
+/// have fewer.
 fn slice_at(places: &[Place], size: usize, index: usize) -> &[Place]
     requires { index * size < length places.now }
     ensures { result.now ≡ take size (drop (index * size) places.now) }

@@ -19,6 +19,7 @@ number_at e n octets at = if nat_le (at + n) (length octets) then Some (number e
 abbrev pub sequence_number : ℕ → ℕ → ℤ
 sequence_number high low = cast_signed w64 (high * 2 ^ 32 + low)
 
+-- the sequence number of eight octets at a place, where all of them are there
 abbrev pub sequence_number_at : Endian → List ℕ → ℕ → Option ℤ
 sequence_number_at e octets at =
     option_and_then (λ high. option_map (sequence_number high) (number_at e 4 octets (at + 4))) (number_at e 4 octets at)

@@ -21,6 +21,7 @@ bits_of base (n ∷ ns) = max (n + 1 - base) (bits_of base ns)
 abbrev pub set_naming : ℕ → List ℕ → NumberSet
 set_naming base ns = record { base = base; bits = bits_of base ns; words = with_bits base (replicate 8 0) ns }
 
--- those of up to 256 numbers from a base on that fail a test are just the members of the set that names them
+-- those of up to 256 numbers from a base on that fail a test are just the members of the set that
+-- names them
 abbrev pub NamesItsMembers : Type 0
 NamesItsMembers = (p : ℕ → Bool) (base count : ℕ) → count ≤ 256 → members (set_naming base (failing_from p base count)) ≡ failing_from p base count

@@ -3,6 +3,7 @@ use Rattle.std.specs.Prelude.{ℕ, max, min, ◌-◌, ◌^◌}
 use Rattle.std.proofs.Math.Nat.{le-add_right, le-max_left, max-le, min-le_right}
 use Rattle.rtps_types.specs.declared.number.Number.{Number}
 
+-- the value itself where a change may have that number, else the nearest one that it may have
 abbrev pub nearest : ℕ → Number
 nearest n = record {
   value = max 1 (min n (2 ^ 62));

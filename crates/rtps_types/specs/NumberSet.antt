@@ -1,4 +1,5 @@
--- Sets of numbers from a base on: a count of offsets, and a bit for each (DDSI-RTPS 9.4.2.6, 9.4.2.8).
+-- Sets of numbers from a base on: a count of offsets, and a bit for each (DDSI-RTPS 9.4.2.6,
+-- 9.4.2.8).
 use Rattle.std.specs.Prelude.{ℕ, ◌+◌, ◌-◌, ◌/◌, ◌%◌, ◌^◌, List, map, filter, Bool, not, ◌==◌, bit_and, slice_index}
 use Rattle.std.specs.List.{range_with_len}
 

@@ -10,7 +10,8 @@ use Rattle.rtps_types.specs.declared.text.TextFault.TheVariants.{Number, Separat
 use Rattle.rtps_types.specs.SequenceNumber.{IsNumber}
 use Rattle.rtps_types.specs.Text.{before, behind, has}
 
--- the number that digits write, where there are some, nothing else is there, and the number is in its range
+-- the number that digits write, where there are some, nothing else is there, and the number is in
+-- its range
 abbrev pub decimal_in : ℕ → ℕ → List ℕ → Result ℕ TextFault
 decimal_in least greatest text =
     if list_all is_ascii_digit text && (nat_lt 0 (length text) && (nat_le least (digits_value 10 text) && nat_le (digits_value 10 text) greatest))

@@ -1,4 +1,5 @@
--- Identities are ordered as their octets, the first of them first (DDSI-RTPS 9.3.1 maps them to octets).
+-- Identities are ordered as their octets, the first of them first (DDSI-RTPS 9.3.1 maps them to
+-- octets).
 use Rattle.std.specs.Prelude.{ℕ, List, ◌++◌}
 use Rattle.std.specs.declared.cmp.Ordering.{Ordering}
 use Rattle.std.specs.Ordering.{nat_cmp, ordering_then}

@@ -1,4 +1,5 @@
--- The places of submessages: they are taken one by one, in the order of their datagrams and of their message (DDSI-RTPS 8.3.4).
+-- The places of submessages: they are taken one by one, in the order of their datagrams and of
+-- their message (DDSI-RTPS 8.3.4).
 use Rattle.std.specs.declared.cmp.Ordering.{Ordering}
 use Rattle.std.specs.Ordering.{nat_cmp, ordering_then}
 use Rattle.rtps_types.specs.declared.place.Place.{Place}

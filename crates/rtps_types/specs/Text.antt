@@ -1,4 +1,5 @@
--- The texts that are read as identities: the octets of DDSI-RTPS 9.3.1 and 9.6.4.8, two hex digits of either case for each.
+-- The texts that are read as identities: the octets of DDSI-RTPS 9.3.1 and 9.6.4.8, two hex digits
+-- of either case for each.
 use Rattle.std.specs.Prelude.{◌≡◌, ℕ, ◌*◌, ◌==◌, nat_lt, Bool, List, take, drop, length, Result, Ok, Err, if◌then◌else◌}
 use Rattle.std.specs.List.{after_first, before_first, position_or_len}
 use Rattle.hex.specs.declared.error.FromHexError.{FromHexError}
@@ -36,9 +37,11 @@ entity_in text = made_of (λ octets. record { 0 = octets }) (octets_in 4 text)
 abbrev pub guid_of : List ℕ → Guid
 guid_of octets = record { prefix = record { 0 = take 12 octets }; entity = record { 0 = drop 12 octets } }
 
+-- the endpoint that a text is read as
 abbrev pub guid_in : List ℕ → Result Guid TextFault
 guid_in text = made_of guid_of (octets_in 16 text)
 
+-- the key hash that a text is read as
 abbrev pub hash_in : List ℕ → Result KeyHash TextFault
 hash_in text = made_of (λ octets. record { 0 = octets }) (octets_in 16 text)
 

@@ -1,4 +1,5 @@
--- Moments as text (DDSI-RTPS 9.3.2.1), two words of 32 bits in hex with a dot between; and lengths of time in decimal.
+-- Moments as text (DDSI-RTPS 9.3.2.1), two words of 32 bits in hex with a dot between; and lengths
+-- of time in decimal.
 use Rattle.std.specs.Prelude.{◌≡◌, ◌<◌, ℕ, suc, ◌+◌, ◌-◌, ◌*◌, ◌/◌, ◌%◌, ◌^◌, ◌==◌, ◌&&◌, false, ℤ, pos, negsuc, List, [], ◌++◌, codes, Result, Ok, Err, if◌then◌else◌}
 use Rattle.std.specs.Ordering.{int_eq}
 use Rattle.std.specs.Fmt.{decimal, format_spec, padded_integral}

@@ -14,8 +14,8 @@ pub enum Endian {
     Little,
 }
 
-/// The 16-bit number in the two octets at `at`, counted from 0, or `None` where they are not all there
-/// (DDSI-RTPS 9.3.2).
+/// The 16-bit number in the two octets at `at`, counted from 0, or `None` where they are not all
+/// there (DDSI-RTPS 9.3.2).
 pub fn get_u16(octets: &[u8], at: usize, endian: Endian) -> Option<u16>
     ensures { result ≡ number_at endian 2 octets.now at }
 {
@@ -132,8 +132,8 @@ pub fn put_u64(octets: &mut [u8], at: usize, endian: Endian, value: u64)
     put_octets(octets, at, &field);
 }
 
-/// Puts a sequence number into the eight octets at `at`, which have to be there: its high half first in
-/// either order (DDSI-RTPS 9.4.2.5).
+/// Puts a sequence number into the eight octets at `at`, which have to be there: its high half
+/// first in either order (DDSI-RTPS 9.4.2.5).
 pub fn put_sn(octets: &mut [u8], at: usize, endian: Endian, value: i64)
     requires { at + 8 ≤ length octets.old }
     ensures octets { octets.new ≡ put_at at (spelled_sn endian value) octets.old }

@@ -17,8 +17,8 @@ pub struct Locator {
 /// whatever room its memory has. Most peers name one, which needs no memory.
 #[derive(Debug, Drop)]
 pub struct Locators<A: Allocator = Global> {
-    /// The locator of a list of one. It isn't a variant of an enum, whose copies cost more than they
-    /// save: each answer has locators.
+    /// The locator of a list of one. It isn't a variant of an enum, whose copies cost more than
+    /// they save: each answer has locators.
     single: [Locator; 1],
     is_single: bool,
     /// The locators of any other list.

@@ -1,7 +1,7 @@
 //! Where a submessage is in the run.
 
-/// The place of a submessage in the run, ordered by datagram and then by submessage. No standard has
-/// it.
+/// The place of a submessage in the run, ordered by datagram and then by submessage. No standard
+/// has it.
 #[derive(Clone, Copy, PartialEq, Eq, PartialOrd, Ord, Hash)]
 pub struct Place {
     /// The datagram, counted over the whole run from 0.

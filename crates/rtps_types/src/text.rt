@@ -18,8 +18,8 @@ mod numbers;
 mod tests;
 mod times;
 
-/// Why a text isn't read as an identity, a number, a place or a moment. Of two parts the first one is
-/// read first.
+/// Why a text isn't read as an identity, a number, a place or a moment. Of two parts the first one
+/// is read first.
 #[derive(Clone, Copy, Debug, PartialEq, Eq, Error)]
 pub enum TextFault {
     /// The character between two parts isn't there.

@@ -1,4 +1,5 @@
--- The datagrams that answer a writer: ACKNACK (DDSI-RTPS 8.3.7.1, 9.4.5.2) and NACK_FRAG (8.3.7.11, 9.4.5.13).
+-- The datagrams that answer a writer: ACKNACK (DDSI-RTPS 8.3.7.1, 9.4.5.2) and NACK_FRAG (8.3.7.11,
+-- 9.4.5.13).
 use Rattle.std.specs.Prelude.{◌≡◌, ℕ, pos, ◌+◌, ◌-◌, ◌*◌, ◌/◌, List, [], ◌∷◌, ◌++◌, length, take, drop, replicate, Some, ◌==◌, if◌then◌else◌}
 use Rattle.std.specs.List.{flat_map}
 use Rattle.rtps_types.specs.declared.field.Endian.TheVariants.{Little}
@@ -18,7 +19,8 @@ use Rattle.rtps_wire.specs.Submessage.{Item, Destination, Skipped}
 
 -- ---- the octets
 
--- a message of ours begins with the header, of version 2.5 and no vendor, and INFO_DST with the participant that it goes to (8.3.3, 8.3.7.7, 9.4.4)
+-- a message of ours begins with the header, of version 2.5 and no vendor, and INFO_DST with the
+-- participant that it goes to (8.3.3, 8.3.7.7, 9.4.4)
 abbrev pub opened : GuidPrefix → GuidPrefix → List ℕ
 opened own to = protocol ++ (2 ∷ 5 ∷ 0 ∷ 0 ∷ []) ++ own.0 ++ (0x0e ∷ 1 ∷ 12 ∷ 0 ∷ []) ++ to.0
 
@@ -38,7 +40,8 @@ sent_words s = take (word_count s) s.words
 abbrev pub spelled_words : List ℕ → List ℕ
 spelled_words words = flat_map (spelled Little 4) words
 
--- flag E, 1, and flag F, 2, where the set has no offset, so that nothing is missing: then no answer is asked for
+-- flag E, 1, and flag F, 2, where the set has no offset, so that nothing is missing: then no answer
+-- is asked for
 abbrev pub acknack_flags : NumberSet → ℕ
 acknack_flags missing = if missing.bits == 0 then 3 else 1
 
@@ -74,6 +77,7 @@ answer_items to id flags = record { id = 0x0e; flags = 1; content = Destination 
 abbrev pub read_words : NumberSet → List ℕ
 read_words s = sent_words s ++ replicate (8 - word_count s) 0
 
+-- a set as a writer reads it
 abbrev pub read_set : NumberSet → NumberSet
 read_set s = record { base = s.base; bits = s.bits; words = read_words s }
 

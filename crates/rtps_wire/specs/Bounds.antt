@@ -9,7 +9,8 @@ pub record IsSet (s : NumberSet) : Type 0 where
   pub bits : s.bits ≤ 256
   pub members : All (λ n. (s.base ≤ n) × (n ≤ s.base + 255)) (members s)
 
--- numbers of changes and fragments are at least 1; a writer without changes says that its last is the one before its first
+-- numbers of changes and fragments are at least 1; a writer without changes says that its last is
+-- the one before its first
 abbrev pub HasBounds : Content → Type 0
 HasBounds Pad = Unit {0}
 HasBounds (HeartbeatOf h) = (1 ≤ h.first) × (h.first ≤ h.last + 1)

@@ -36,7 +36,8 @@ IsLast [] octets = Unit {0}
 IsLast (i ∷ []) octets = RunsToEnd i octets
 IsLast (i ∷ j ∷ is) octets = ⊥
 
--- the submessages of a cut are the first ones of the whole, but for one that ran to the end of the cut
+-- the submessages of a cut are the first ones of the whole, but for one that ran to the end of the
+-- cut
 pub record AreFirst (cut whole : List Item) (octets : List ℕ) : Type 0 where
   pub first : List Item
   pub others : List Item
@@ -45,7 +46,8 @@ pub record AreFirst (cut whole : List Item) (octets : List ℕ) : Type 0 where
   pub of_cut : cut ≡ first ++ last
   pub ran : IsLast last octets
 
--- the first n octets of a message have the same header; all submessages that end among them are read, and no others but for one that ran to the end
+-- the first n octets of a message have the same header; all submessages that end among them are
+-- read, and no others but for one that ran to the end
 pub record ReadsFirst (octets : List ℕ) (n : ℕ) (header : Header) (whole : List Item) : Type 0 where
   pub cut : List Item
   pub cause : Option SubmessageFault
@@ -53,7 +55,8 @@ pub record ReadsFirst (octets : List ℕ) (n : ℕ) (header : Header) (whole : L
   pub ended : KeepsWhatEnds (drop 20 octets) (n - 20) cut
   pub first : AreFirst cut whole (drop 20 (take n octets))
 
--- wherever a message is cut: fewer octets than its header are too short, and others are read as far as they go
+-- wherever a message is cut: fewer octets than its header are too short, and others are read as far
+-- as they go
 abbrev pub CutsReadFirst : Type 0
 CutsReadFirst =
     (octets : List ℕ) (n : ℕ) (header : Header) (whole : List Item) (fault : Option SubmessageFault) → IsMessage octets header whole fault

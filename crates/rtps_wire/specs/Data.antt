@@ -19,6 +19,7 @@ pub record DataView : Type 0 where
   pub info : ChangeInfo
   pub payload : List ℕ
 
+-- what contracts see of a DATA
 abbrev pub data_view : Data → DataView
 data_view d = record { reader = d.reader; writer = d.writer; number = d.number; info = d.info; payload = d.payload.now }
 

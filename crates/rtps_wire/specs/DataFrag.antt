@@ -22,6 +22,7 @@ pub record DataFragView : Type 0 where
   pub info : ChangeInfo
   pub payload : List ℕ
 
+-- what contracts see of a DATA_FRAG
 abbrev pub frag_view : DataFrag → DataFragView
 frag_view d = record { reader = d.reader; writer = d.writer; number = d.number; start = d.start; count = d.count; size = d.size; sample = d.sample; info = d.info; payload = d.payload.now }
 
@@ -29,7 +30,8 @@ frag_view d = record { reader = d.reader; writer = d.writer; number = d.number; 
 abbrev pub frag_form_of : ℕ → Form
 frag_form_of flags = if has 8 flags then Other else if has 4 flags then Key else Value
 
--- octetsToInlineQos counts from just after itself; invalid below 28 and past the end, and where the fragments begin with number 0
+-- octetsToInlineQos counts from just after itself; invalid below 28 and past the end, and where the
+-- fragments begin with number 0
 unfoldable pub data_frag_of : ℕ → Endian → List ℕ → Option DataFragView
 data_frag_of flags e body = do
   offset ← number_at e 2 body 2

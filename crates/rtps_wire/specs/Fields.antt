@@ -1,4 +1,5 @@
--- Words for reading the fields of a body, one after the other: a step that finds nothing ends the reading.
+-- Words for reading the fields of a body, one after the other: a step that finds nothing ends the
+-- reading.
 use Rattle.std.specs.Prelude.{ℕ, zero, suc, ℤ, pos, negsuc, List, length, drop, Option, Some, None, option_and_then, Bool, not, nat_le, ◌==◌, if◌then◌else◌, bit_and}
 use Rattle.std.specs.Int.{w32, cast_signed}
 use Rattle.std.specs.Option.{option_map}
@@ -8,6 +9,7 @@ use Rattle.rtps_types.specs.declared.identity.EntityId.{EntityId}
 use Rattle.rtps_types.specs.declared.identity.GuidPrefix.{GuidPrefix}
 use Rattle.rtps_types.specs.Field.{number_at, octets_at, sequence_number_at}
 
+-- a step of the reading, and then the next one, where the first found something
 infixl 10 ◌>>=◌
 abbrev pub ◌>>=◌ : {A B : Type 0} → Option A → (A → Option B) → Option B
 None >>= f = None

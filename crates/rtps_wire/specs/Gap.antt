@@ -15,6 +15,7 @@ pub record GapFields : Type 0 where
   pub start : ℕ
   pub list : NumberSet
 
+-- what contracts see of a GAP
 abbrev pub gap_view : Gap → GapFields
 gap_view g = record { reader = g.reader; writer = g.writer; start = g.start; list = sn_view g.list }
 

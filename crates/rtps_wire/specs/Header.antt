@@ -1,4 +1,5 @@
--- The first 20 octets of a message: `RTPS`, the version, the vendor, the prefix of the sender (DDSI-RTPS 8.3.3, 9.4.4).
+-- The first 20 octets of a message: `RTPS`, the version, the vendor, the prefix of the sender
+-- (DDSI-RTPS 8.3.3, 9.4.4).
 use Rattle.std.specs.Prelude.{ℕ, List, [], ◌∷◌, length, take, drop, Result, Ok, Err, nat_lt, nat_eq, ◌==◌, if◌then◌else◌, slice_index}
 use Rattle.std.specs.List.{starts_with}
 use Rattle.rtps_wire.specs.declared.message_header.Header.{Header}
@@ -9,7 +10,8 @@ use Rattle.rtps_wire.specs.declared.message_header.HeaderFault.TheVariants.{Shor
 abbrev pub protocol : List ℕ
 protocol = 82 ∷ 84 ∷ 80 ∷ 83 ∷ []
 
--- the header of a message, or the first of these faults: too short, no RTPS, another major version than 2
+-- the header of a message, or the first of these faults: too short, no RTPS, another major version
+-- than 2
 abbrev pub header_of : List ℕ → Result Header HeaderFault
 header_of octets =
     if nat_lt (length octets) 20 then Err Short else

@@ -1,4 +1,5 @@
--- INFO_TS and INFO_SRC: the time and the source of what follows (DDSI-RTPS 8.3.7.9, 8.3.7.10, 9.4.5.10, 9.4.5.11).
+-- INFO_TS and INFO_SRC: the time and the source of what follows (DDSI-RTPS 8.3.7.9, 8.3.7.10,
+-- 9.4.5.10, 9.4.5.11).
 use Rattle.std.specs.Prelude.{ℕ, List, Option, Some, None, if◌then◌else◌}
 use Rattle.rtps_types.specs.declared.field.Endian.{Endian}
 use Rattle.rtps_types.specs.declared.time.Timestamp.{Timestamp}

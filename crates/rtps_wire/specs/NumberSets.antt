@@ -14,7 +14,8 @@ words_in e (suc n) octets = number e 4 octets ∷ words_in e n (drop 4 octets)
 abbrev pub words_at : Endian → ℕ → List ℕ → ℕ → Option (List ℕ)
 words_at e n octets at = if nat_le (at + 4 * n) (length octets) then Some (words_in e n (drop at octets) ++ replicate (8 - n) 0) else None
 
--- a set of sequence numbers: bad where its base < 1, it has more than 256 bits, or words are missing
+-- a set of sequence numbers: bad where its base < 1, it has more than 256 bits, or words are
+-- missing
 unfoldable pub sn_set_at : Endian → List ℕ → ℕ → Option NumberSet
 sn_set_at e octets at = do
   base ← positive_at e octets at

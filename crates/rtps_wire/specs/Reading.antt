@@ -1,4 +1,5 @@
--- How the octets after a message's header are read, one submessage after the other (DDSI-RTPS 8.3.4.1, 9.4.5.1).
+-- How the octets after a message's header are read, one submessage after the other
+-- (DDSI-RTPS 8.3.4.1, 9.4.5.1).
 use Rattle.std.specs.Prelude.{◌≡◌, ℕ, zero, suc, List, [], ◌∷◌, length, take, drop, Option, Some, None, Result, Ok, Err, Bool, not, ◌&&◌, ◌||◌, nat_lt, ◌==◌, if◌then◌else◌}
 use Rattle.std.specs.Iterator.{YieldsFirstBy}
 use Rattle.rtps_types.specs.Field.{number}
@@ -39,6 +40,7 @@ front_of (id ∷ flags ∷ []) = Err Rest
 front_of (id ∷ flags ∷ a ∷ []) = Err Rest
 front_of (id ∷ flags ∷ a ∷ b ∷ rest) = body_of id flags (body_length id (number (endian_of flags) 2 (a ∷ b ∷ [])) (length rest)) rest
 
+-- what contracts see of what the code read at the front
 abbrev pub seen : Front → Read
 seen (code.Submessage s after) = Ok (Some (view s, after.now))
 seen code.End = Ok None
@@ -66,6 +68,7 @@ reading_behind zero (id ∷ flags ∷ a ∷ []) = record { items = []; fault = S
 reading_behind zero (id ∷ flags ∷ a ∷ b ∷ rest) =
     go_on (body_of id flags (body_length id (number (endian_of flags) 2 (a ∷ b ∷ [])) (length rest)) rest) (reading_behind (body_length id (number (endian_of flags) 2 (a ∷ b ∷ [])) (length rest)) rest)
 
+-- the one reading of the octets after a message's header
 abbrev pub reading : List ℕ → Reading
 reading octets = reading_behind 0 octets
 

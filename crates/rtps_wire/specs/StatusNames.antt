@@ -1,4 +1,5 @@
--- What the last octet of a status info says of an instance (DDSI-RTPS 9.6.4.9): bit 1 is for disposed, bit 2 for unregistered.
+-- What the last octet of a status info says of an instance (DDSI-RTPS 9.6.4.9): bit 1 is for
+-- disposed, bit 2 for unregistered.
 use Rattle.std.specs.Prelude.{ℕ, ◌%◌, ◌==◌, List, codes, if◌then◌else◌}
 
 -- its name, by these two bits

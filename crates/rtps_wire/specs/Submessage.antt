@@ -36,6 +36,7 @@ pub record Item : Type 0 where
   pub flags : ℕ
   pub content : Content
 
+-- what contracts see of what a submessage says
 abbrev pub parts_view : Parts → Content
 parts_view code.Pad = Pad
 parts_view (code.Heartbeat h) = HeartbeatOf h
@@ -48,10 +49,12 @@ parts_view (code.Data d) = Whole (data_view d)
 parts_view (code.DataFrag d) = Frag (frag_view d)
 parts_view code.Skipped = Skipped
 
+-- what contracts see of a submessage
 abbrev pub view : Submessage → Item
 view s = record { id = s.id; flags = s.flags; content = parts_view s.parts }
 
--- the table of submessages: what a body says, if it has the form of its kind; a kind that isn't in the table is skipped
+-- the table of submessages: what a body says, if it has the form of its kind; a kind that isn't in
+-- the table is skipped
 unfoldable pub parts_of : ℕ → ℕ → List ℕ → Option Content
 parts_of id flags body =
     if id == 0x01 then Some Pad else

@@ -23,9 +23,9 @@ pub struct AckNack {
     pub count: u32,
 }
 
-/// The datagram with which a reader answers a writer's heartbeat (DDSI-RTPS 8.3.7.1, 9.4.5.2): header,
-/// INFO_DST and ACKNACK, all little-endian. Flag F is set where `missing` has no offset. An error is a
-/// refused growth.
+/// The datagram with which a reader answers a writer's heartbeat (DDSI-RTPS 8.3.7.1, 9.4.5.2):
+/// header, INFO_DST and ACKNACK, all little-endian. Flag F is set where `missing` has no offset. An
+/// error is a refused growth.
 pub fn write_acknack<A: Allocator>(alloc: A, answer: AckNack) -> Result<Octets<A>, AllocError>
     ensures octets { IfOk result (λ octets. octets ≡ acknack_octets answer) }
     ensures message { IfOk result (λ octets. IsOnly octets
@@ -53,7 +53,8 @@ pub fn write_acknack<A: Allocator>(alloc: A, answer: AckNack) -> Result<Octets<A
     Ok(Octets::new(octets))
 }
 
-/// Flag F is set where the set has no offset, so that nothing is missing: no answer is asked for then.
+/// Flag F is set where the set has no offset, so that nothing is missing: no answer is asked for
+/// then.
 fn flags_of(missing: &SnSet) -> u8
     ensures { result ≡ acknack_flags (sn_view missing.now) }
 {

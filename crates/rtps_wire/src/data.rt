@@ -22,8 +22,8 @@ pub enum Form {
     Nothing,
 }
 
-/// What comes with a change besides its number and its payload: its flags, and what its inline QoS says
-/// of the instance (DDSI-RTPS 9.6.4.8, 9.6.4.9).
+/// What comes with a change besides its number and its payload: its flags, and what its inline QoS
+/// says of the instance (DDSI-RTPS 9.6.4.8, 9.6.4.9).
 #[derive(Clone, Copy, Debug, PartialEq, Eq)]
 pub struct ChangeInfo {
     pub form: Form,
@@ -59,7 +59,8 @@ pub struct Data<'a> {
     /// The number of the change, at least 1.
     pub number: u64,
     pub info: ChangeInfo,
-    /// What follows the inline QoS, the encapsulation first; empty where the flags announce no payload.
+    /// What follows the inline QoS, the encapsulation first; empty where the flags announce no
+    /// payload.
     pub payload: &'a [u8],
 }
 

@@ -9,8 +9,8 @@ use crate::fields::{get_entity, get_positive, get_rest};
 use crate::kinds::{DATA_FRAG_KEY, DATA_FRAG_NON_STANDARD};
 use rtps_types::{Endian, EntityId, get_u16, get_u32};
 
-/// The fields of a DATA_FRAG (DDSI-RTPS 8.3.7.3, 9.4.5.4). Whether its sizes and fragments fit together
-/// isn't judged here.
+/// The fields of a DATA_FRAG (DDSI-RTPS 8.3.7.3, 9.4.5.4). Whether its sizes and fragments fit
+/// together isn't judged here.
 #[derive(Clone, Copy, Debug)]
 pub struct DataFrag<'a> {
     pub reader: EntityId,

@@ -8,8 +8,9 @@ use crate::fields::{get_entity, get_positive};
 use crate::number_set::get_sn_set;
 use rtps_types::{Endian, EntityId, SnSet};
 
-/// The fields of a GAP (DDSI-RTPS 8.3.7.4, 9.4.5.5): it names the numbers from `start` up to below the
-/// base of `list`, and the members of `list`. Where `start` isn't below that base, the members alone.
+/// The fields of a GAP (DDSI-RTPS 8.3.7.4, 9.4.5.5): it names the numbers from `start` up to below
+/// the base of `list`, and the members of `list`. Where `start` isn't below that base, the members
+/// alone.
 #[derive(Clone, Copy, Debug, PartialEq, Eq)]
 pub struct Gap {
     pub reader: EntityId,

@@ -6,8 +6,8 @@ ghost use Rattle.rtps_wire.specs.Info.{time_of};
 use crate::kinds::INFO_TS_INVALIDATE;
 use rtps_types::{Endian, Timestamp, get_u32};
 
-/// The time that an INFO_TS gives, if its body has the form that its flags ask for; with flag I there
-/// is none.
+/// The time that an INFO_TS gives, if its body has the form that its flags ask for; with flag I
+/// there is none.
 pub(crate) fn read_info_ts(flags: u8, endian: Endian, body: &[u8]) -> Option<Option<Timestamp>>
     ensures { result ≡ time_of flags endian body.now }
 {

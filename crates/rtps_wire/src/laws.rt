@@ -15,8 +15,8 @@ pub fn one_datagram_one_reading()
 {}
 
 /// Wherever a message is cut, each submessage that ends at or before the cut is read as it was. No
-/// other is, but for one whose stated length is 0, so that it runs to the end. A message that is cut
-/// in its header is too short.
+/// other is, but for one whose stated length is 0, so that it runs to the end. A message that is
+/// cut in its header is too short.
 pub fn cuts_read_first()
     ensures { CutsReadFirst }
 {}

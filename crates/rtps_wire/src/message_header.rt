@@ -27,8 +27,8 @@ pub enum HeaderFault {
     Version,
 }
 
-/// The header in the first 20 octets of a message, or the first fault that it has (DDSI-RTPS 8.3.3). No
-/// memory is taken.
+/// The header in the first 20 octets of a message, or the first fault that it has
+/// (DDSI-RTPS 8.3.3). No memory is taken.
 pub fn read_header(octets: &[u8]) -> Result<Header, HeaderFault>
     ensures { result ≡ header_of octets.now }
 {

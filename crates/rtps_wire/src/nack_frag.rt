@@ -24,8 +24,8 @@ pub struct NackFrag {
     pub count: u32,
 }
 
-/// The datagram with which a reader asks a writer for fragments (DDSI-RTPS 8.3.7.11, 9.4.5.13): header,
-/// INFO_DST and NACK_FRAG, all little-endian. An error is a refused growth.
+/// The datagram with which a reader asks a writer for fragments (DDSI-RTPS 8.3.7.11, 9.4.5.13):
+/// header, INFO_DST and NACK_FRAG, all little-endian. An error is a refused growth.
 pub fn write_nack_frag<A: Allocator>(alloc: A, answer: NackFrag) -> Result<Octets<A>, AllocError>
     ensures octets { IfOk result (λ octets. octets ≡ nack_frag_octets answer) }
     ensures message { IfOk result (λ octets. IsOnly octets

@@ -50,8 +50,8 @@ fn read_front(octets: &[u8]) -> Front<'_>
     }
 }
 
-/// The valid submessages after a message's header, in order, up to the first that is invalid (DDSI-RTPS
-/// 8.3.4.1). No memory is taken.
+/// The valid submessages after a message's header, in order, up to the first that is invalid
+/// (DDSI-RTPS 8.3.4.1). No memory is taken.
 #[derive(Drop)]
 pub struct Submessages<'a> {
     rest: &'a [u8],

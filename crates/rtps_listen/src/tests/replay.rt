@@ -154,7 +154,8 @@ fn lines_of_samples(rt: HostRuntime) -> Result<(), Fail> {
     Ok(())
 }
 
-/// Options that are refused, and by which fault. The faults are in the order in which they are found.
+/// Options that are refused, and by which fault. The faults are in the order in which they are
+/// found.
 const REFUSED: [(bool, &str, Option<&str>, ListenFault); 8] = [
     (false, "0b", Some("0b"), ListenFault::BadPrefix),
     (true, "0b", Some("0b"), ListenFault::BadPrefix),

@@ -129,7 +129,8 @@ fn the_least_of_65_is_displaced(rt: HostRuntime) -> Result<(), Fail> {
     Ok(())
 }
 
-/// Fragments with a fault, or with other sizes than the first ones, displace nothing and begin nothing.
+/// Fragments with a fault, or with other sizes than the first ones, displace nothing and begin
+/// nothing.
 #[test]
 fn a_fault_displaces_nothing(rt: HostRuntime) -> Result<(), Fail> {
     let mut proxy = with_64(rt.alloc())?;

@@ -274,8 +274,9 @@ const MISSING: &[u8] = b"\x06\x01\x1c\x00\
     \x00\x00\x00\x80\
     \x01\x00\x00\x00";
 
-/// Fragment 2 of number 1 came. What is missing is asked for up to the last fragment of the heartbeat
-/// and of the sample; a count that was seen does nothing, nor does a number that is settled.
+/// Fragment 2 of number 1 came. What is missing is asked for up to the last fragment of the
+/// heartbeat and of the sample; a count that was seen does nothing, nor does a number that is
+/// settled.
 #[test]
 fn missing_fragments_are_asked_for(rt: HostRuntime) -> Result<(), Fail> {
     let mut proxy = new_proxy(rt.alloc(), true)?;

@@ -28,7 +28,8 @@ fn is_as_sent(change: &Change<'_>, number: u64, time: Option<Timestamp>) -> bool
         && change.payload.as_slice() == PAYLOAD.as_slice()
 }
 
-/// Whether two changes are ready as they were sent: 1, where the datagram lies, and 2, which was kept.
+/// Whether two changes are ready as they were sent: 1, where the datagram lies, and 2, which was
+/// kept.
 fn gives_both(effects: Effects<'_>) -> bool {
     if effects.lost != 0 || effects.answer.is_some() {
         return false;

@@ -99,8 +99,8 @@ fn puts_together<A: Allocator + Copy>(
     }
 }
 
-/// Whether fragments and their heartbeat give this, or are refused from the first refused growth on,
-/// for all sizes of memory; and whether each happens.
+/// Whether fragments and their heartbeat give this, or are refused from the first refused growth
+/// on, for all sizes of memory; and whether each happens.
 fn gives_or_refuses(alloc: Global, reliable: bool, all: (usize, bool)) -> Result<bool, Fail> {
     let (mut refused, mut served) = (false, false);
     for step in 1..192 {

@@ -18,8 +18,8 @@ const LOCATOR: Locator = Locator {
     address: [127, 0, 0, 1],
 };
 
-/// Changes 1 and 3; a heartbeat of the numbers 1 to 3; a gap that names 2; and a heartbeat of the numbers
-/// 6 and 7 that asks for no answer.
+/// Changes 1 and 3; a heartbeat of the numbers 1 to 3; a gap that names 2; and a heartbeat of the
+/// numbers 6 and 7 that asks for no answer.
 const DATAGRAM: [&str; 6] = [
     "52545053020500000a0a0a0a0a0a0a0a0a0a0a0a",
     "1505300000001000000001070000010200000000010000000001000005000000424c5545000000000a000000140000001e000000",

@@ -20,8 +20,8 @@ const WRITER: Guid = Guid {
     entity: EntityId([0x00, 0x00, 0x01, 0x02]),
 };
 
-/// `RDG1`, and two datagrams of BLUE at 10, 20 of size 30: the changes 1 and 3 for every reader, and
-/// 4 for the second one.
+/// `RDG1`, and two datagrams of BLUE at 10, 20 of size 30: the changes 1 and 3 for every reader,
+/// and 4 for the second one.
 pub(super) const FILE: [&str; 10] = [
     "52444731",
     "0000007c",
