@@ -1,4 +1,4 @@
-use Rattle.std.proofs.Common.{◌≡◌, ◌∷◌, [], ◌∙◌, ap, map, option_to_list, subst, sym}
+use Rattle.std.proofs.Common.{◌≡◌, ◌∷◌, [], ap, map, option_to_list, subst, sym}
 use Rattle.rtps_reader.specs.Steps.{asked}
 use Rattle.rtps_shards.specs.declared.jobs.JobResult.{JobResult}
 use Rattle.rtps_shards.specs.Results.{HasTaken, share}

@@ -33,36 +33,36 @@ loop-planned-preserved g c =
     let mid = c.loop-planned.done in
     elim c.match-planned.branch [
       | in-TakeIn+in_ok-take_events-in-TakeIn w ↦
-        let first = w.in-TakeIn.first in
-        let more = w.in-TakeIn.more in
-        let seen : map taken_in (map view w.stretch-events.result.now) ≡ step_seen es step
-        = ap (λ l. map taken_in (map view l)) w.stretch-events.ensures ∙ ap (map taken_in) (taken_view c.args.events.now first (more + 1)) ∙ ap (step_seen es) (sym w.in-TakeIn.is) in
-        record {
-          taken = λ r given stands.
-              let one = c.loop-planned.invariant.taken r given stands in
-              let after = given ++ job_told decoding r done in
-              let two : HasTaken f decoding (share (job_run r done) after (step_seen es step)) mid w.take_events.new.done
-              = subst (λ job. HasTaken f decoding (share (job_run r done) after job) mid w.take_events.new.done) seen
-              (rw c.loop-planned.invariant.same at (w.in_ok-take_events-in-TakeIn.ensures.taken (job_run r done) after one.stands)) in
-              rw w.done-is (subst (λ job. HasTaken f decoding (share r given job) old w.take_events.new.done) (sym whole) (taken_more f decoding r given done (step_seen es step) old mid w.take_events.new.done one two));
-          ranks = rw w.done-is (w.take_events.ensures.ranks.0 ∙ c.loop-planned.invariant.ranks.0, w.take_events.ensures.ranks.1 ∙ c.loop-planned.invariant.ranks.1);
-          same = w.decoder-is ∙ w.take_events.ensures.same ∙ c.loop-planned.invariant.same;
-          nothing = rw w.effects-is w.in_ok-take_events-in-TakeIn.ensures.nothing;
-        }
+          let first = w.in-TakeIn.first in
+          let more = w.in-TakeIn.more in
+          let seen : map taken_in (map view w.stretch-events.result.now) ≡ step_seen es step
+          = ap (λ l. map taken_in (map view l)) w.stretch-events.ensures ∙ ap (map taken_in) (taken_view c.args.events.now first (more + 1)) ∙ ap (step_seen es) (sym w.in-TakeIn.is) in
+          record {
+            taken = λ r given stands.
+                let one = c.loop-planned.invariant.taken r given stands in
+                let after = given ++ job_told decoding r done in
+                let two : HasTaken f decoding (share (job_run r done) after (step_seen es step)) mid w.take_events.new.done
+                = subst (λ job. HasTaken f decoding (share (job_run r done) after job) mid w.take_events.new.done) seen
+                (rw c.loop-planned.invariant.same at (w.in_ok-take_events-in-TakeIn.ensures.taken (job_run r done) after one.stands)) in
+                rw w.done-is (subst (λ job. HasTaken f decoding (share r given job) old w.take_events.new.done) (sym whole) (taken_more f decoding r given done (step_seen es step) old mid w.take_events.new.done one two));
+            ranks = rw w.done-is (w.take_events.ensures.ranks.0 ∙ c.loop-planned.invariant.ranks.0, w.take_events.ensures.ranks.1 ∙ c.loop-planned.invariant.ranks.1);
+            same = w.decoder-is ∙ w.take_events.ensures.same ∙ c.loop-planned.invariant.same;
+            nothing = rw w.effects-is w.in_ok-take_events-in-TakeIn.ensures.nothing;
+          }
       | in-Change+in_ok-take_step-in-Change w ↦
-        let seen = w.change_at-step.ensures ∙ ap (λ what. heard_at es w.in-Change.event (becomes_seen what)) w.deref.ensures ∙ ap (step_seen es) (sym w.in-Change.is) in
-        record {
-          taken = λ r given stands.
-              let one = c.loop-planned.invariant.taken r given stands in
-              let after = given ++ job_told decoding r done in
-              let two : HasTaken f decoding (share (job_run r done) after (step_seen es step)) mid w.take_step.new.done
-              = subst (λ job. HasTaken f decoding (share (job_run r done) after job) mid w.take_step.new.done) seen
-              (rw c.loop-planned.invariant.same at (w.in_ok-take_step-in-Change.ensures.taken (job_run r done) after one.stands)) in
-              rw w.done-is (subst (λ job. HasTaken f decoding (share r given job) old w.take_step.new.done) (sym whole) (taken_more f decoding r given done (step_seen es step) old mid w.take_step.new.done one two));
-          ranks = rw w.done-is (w.take_step.ensures.ranks.0 ∙ c.loop-planned.invariant.ranks.0, w.take_step.ensures.ranks.1 ∙ c.loop-planned.invariant.ranks.1);
-          same = w.decoder-is ∙ w.take_step.ensures.same ∙ c.loop-planned.invariant.same;
-          nothing = rw w.effects-is w.in_ok-take_step-in-Change.ensures.nothing;
-        }
+          let seen = w.change_at-step.ensures ∙ ap (λ what. heard_at es w.in-Change.event (becomes_seen what)) w.deref.ensures ∙ ap (step_seen es) (sym w.in-Change.is) in
+          record {
+            taken = λ r given stands.
+                let one = c.loop-planned.invariant.taken r given stands in
+                let after = given ++ job_told decoding r done in
+                let two : HasTaken f decoding (share (job_run r done) after (step_seen es step)) mid w.take_step.new.done
+                = subst (λ job. HasTaken f decoding (share (job_run r done) after job) mid w.take_step.new.done) seen
+                (rw c.loop-planned.invariant.same at (w.in_ok-take_step-in-Change.ensures.taken (job_run r done) after one.stands)) in
+                rw w.done-is (subst (λ job. HasTaken f decoding (share r given job) old w.take_step.new.done) (sym whole) (taken_more f decoding r given done (step_seen es step) old mid w.take_step.new.done one two));
+            ranks = rw w.done-is (w.take_step.ensures.ranks.0 ∙ c.loop-planned.invariant.ranks.0, w.take_step.ensures.ranks.1 ∙ c.loop-planned.invariant.ranks.1);
+            same = w.decoder-is ∙ w.take_step.ensures.same ∙ c.loop-planned.invariant.same;
+            nothing = rw w.effects-is w.in_ok-take_step-in-Change.ensures.nothing;
+          }
     ]
 
 pub returns-clause-taken : goal.returns-clause-taken
