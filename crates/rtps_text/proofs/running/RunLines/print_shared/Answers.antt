@@ -10,7 +10,7 @@ returns-clause-ok g c = λ by.
     let new = g.W.Write.contents c.print_texts.new.lines.writer.now in
     let kept = c.args.lines.now.text.items in
     let left = c.print_texts.new.lines.text.items in
-    subst (λ l. OnOk c.print_texts.result (Moves old new (kept ++ l) left)) same (c.print_texts.ensures.ok _ (c.in_ok-texts.ensures by))
+    subst (λ l. OnOk c.print_texts.result (Moves old new (kept ++ l) left)) same (c.print_texts.ensures.ok _ (c.in_ok-texts.ensures.lines by))
 
 pub returns-clause-front : goal.returns-clause-front
 returns-clause-front g c = λ by.
@@ -18,4 +18,4 @@ returns-clause-front g c = λ by.
     let old = g.W.Write.contents c.args.lines.now.writer.now in
     let new = g.W.Write.contents c.print_texts.new.lines.writer.now in
     let kept = c.args.lines.now.text.items in
-    subst (λ l. OnErr c.print_texts.result (PutsFront old new (kept ++ l))) same (c.print_texts.ensures.front _ (c.in_ok-texts.ensures by))
+    subst (λ l. OnErr c.print_texts.result (PutsFront old new (kept ++ l))) same (c.print_texts.ensures.front _ (c.in_ok-texts.ensures.lines by))
