@@ -32,7 +32,7 @@ const DATAGRAM_LIMIT: u64 = 281_474_976_710_656;
 /// Who runs a batch.
 #[derive(Clone, Copy, Debug)]
 pub struct Workers<'a, G> {
-    /// How many workers there are, 1 to 64, of which the caller is one.
+    /// How many workers there are, 1 to 64. One is the caller; several have a thread each.
     pub count: usize,
     /// Called as each job begins and ends.
     pub gate: &'a G,
@@ -66,10 +66,10 @@ fn run_paired<C: Catalog, G: Gate, R: Threads + Sync>(
 impl<C: Catalog> Participant<C> {
     /// Takes the next datagrams, at most 4,096 of at most 65,507 octets each, and gives the notices
     /// of each reader and what is to be sent, as [`rtps_serial::SerialEngine::take`] gives them of
-    /// one datagram after another. The readers' jobs are run by so many workers, 1 to 64, of which
-    /// the caller is one; `gate` is called as each job begins and ends. Where there is more than
-    /// one worker, more than 1 MiB of datagrams are decoded on as many threads as there are
-    /// processors.
+    /// one datagram after another. The readers' jobs are run by so many workers, 1 to 64: one is the
+    /// caller, several have a thread each, for which the caller waits. `gate` is called as each job
+    /// begins and ends. Where there is more than one worker, more than 1 MiB of datagrams are
+    /// decoded on as many threads as there are processors.
     ///
     /// When a batch is out of memory, on whichever worker, nothing of it is given, and the
     /// participant has failed: from then on it answers [`EngineError::Failed`], and its statuses

@@ -8,7 +8,7 @@ ghost use Rattle.rtps_shards.specs.Piles.{IsJobDone, IsPileDone};
 
 use crate::gate::Gate;
 use crate::jobs::{Batch, JobResult, ReaderJob};
-use crate::piles::{deal, joined};
+use crate::piles::{deal, joined, spaced};
 use crate::steps::take_steps;
 use dds_topic::{Catalog, Decoder};
 use std::alloc::{AllocError, Global};
@@ -86,9 +86,10 @@ fn run_piles<C: Catalog, G: Gate, R: Threads + Sync>(
     thread::map_vec(rt, piles, &run)
 }
 
-/// Runs jobs on so many workers, of which the caller is one, and gives what comes of each, in no
-/// order that is promised: job i goes to worker i modulo their number, and there are no more
-/// workers than jobs. Where a thread can't start the others run its jobs.
+/// Runs jobs on so many workers, and gives what comes of each, in no order that is promised: job i
+/// goes to worker i modulo their number, and there are no more workers than jobs. One worker is the
+/// caller; several have a thread each, for which the caller waits. Where a thread can't start the
+/// others run its jobs.
 ///
 /// An error is a refused growth, on whichever worker; then nothing is given, and the states are
 /// dropped with all that came.
@@ -109,7 +110,8 @@ pub fn run_jobs<C: Catalog, G: Gate, R: Threads + Sync>(
         IsPermutation (map rank_in jobs.items) (map rank_of results.items)) }
 {
     let count = jobs.len().clamp(1, workers);
-    let piles = deal(alloc, jobs, count)?;
+    let dealt = deal(alloc, jobs, count)?;
+    let piles = spaced(alloc, dealt)?;
     let given = run_piles(rt, alloc, batch, piles)?;
     joined(alloc, given)
 }

@@ -14,7 +14,7 @@ use rtps_discovery::Config;
 pub struct Pace {
     /// The most datagrams of a batch, 1 to 4,096.
     pub batch: u16,
-    /// The most workers, 1 to 64, of which the caller is one.
+    /// The most workers, 1 to 64. One is the caller; several have a thread each.
     pub workers: u8,
     ghost batched: { 1 ≤ batch },
     ghost few: { batch ≤ 4096 },
