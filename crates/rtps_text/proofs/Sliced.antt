@@ -26,6 +26,7 @@ use Rattle.dds_participant.specs.declared.given.Given.{Given}
 use Rattle.rtps_text.specs.Replayed.{put_line, put_lines}
 use Rattle.rtps_text.specs.Slices.{AreByPlace, AreLeft, AreTexts, IsLeft, IsSliceOf, is_before, merged_lines, places_lines, ranks_below}
 use Rattle.rtps_text.specs.declared.slices.Cursor.{Cursor}
+use Rattle.rtps_text.specs.declared.spelling.Slice.{Slice}
 use Rattle.rtps_text.proofs.Along.{places_merged}
 use Rattle.rtps_text.proofs.Fronts.{sent_none, sent_some, told_none, told_some}
 
@@ -276,53 +277,53 @@ merged-append parts count (p ∷ ps) qs =
 size_more : (size n : ℕ) → suc n * size ≡ size + n * size
 size_more size n = omega (arith, suc-mul n size)
 
--- each text has the lines of its slice, and the slices are all places
-pub pieces : {M : Type 0} (text : M → List ℕ) (parts : Parts M) (count size : ℕ) (texts : List (Result (Vec ℕ Global) AllocError)) (places : List Place)
-    → ((n : ℕ) (d : Result (Vec ℕ Global) AllocError) → n < length texts
-    → IfOk (slice_index_or texts n d) (λ t. t.items ≡ put_lines text (merged parts count (take size (drop (n * size) places)))))
-    → length places ≤ length texts * size → AreTexts texts (put_lines text (merged parts count places))
-unfolding AreTexts
-pieces text parts count size [] [] each few = refl
-pieces text parts count size [] (p ∷ places) each few = absurd (omega (arith, few))
-pieces text parts count size (Err e ∷ texts) places each few = tt
-pieces text parts count size (Ok t ∷ texts) places each few =
+-- slices of one size, as many as there are to the places, are all of them
+pub all_cut : (size : ℕ) (slices : List Slice) (places : List Place) → ((n : ℕ) (d : Slice) → n < length slices → (slice_index_or slices n d).places.now ≡ take size (drop (n * size) places))
+    → length places ≤ length slices * size → flat_map (λ (s : Slice). s.places.now) slices ≡ places
+all_cut size [] [] each few = refl
+all_cut size [] (p ∷ places) each few = absurd (omega (arith, few))
+all_cut size (s ∷ slices) places each few =
     let none : 0 * size ≡ 0 = omega arith in
-    let here : t.items ≡ put_lines text (merged parts count (take size places)) =
-    subst (λ k. t.items ≡ put_lines text (merged parts count (take size (drop k places)))) none (each zero (Ok t) (omega arith)) in
-    let left = drop size places in (
-      put_lines text (merged parts count left),
-      ap (λ ps. put_lines text (merged parts count ps)) (sym (take-append-drop size places))
-          ∙ ap (put_lines text) (merged-append parts count (take size places) left)
-          ∙ flat_map-append (put_line text) (merged parts count (take size places)) (merged parts count left)
-          ∙ ap (λ l. l ++ put_lines text (merged parts count left)) (sym here),
-      pieces text parts count size texts left (λ n d l. rest n d l) (shorter places (length texts) few),
-    )
+    let here : s.places.now ≡ take size places = each zero s (omega arith) ∙ ap (λ k. take size (drop k places)) none in
+    ap (λ l. l ++ flat_map (λ (s : Slice). s.places.now) slices) here
+    ∙ ap (λ l. take size places ++ l) (all_cut size slices (drop size places) rest (omega (arith, length-drop size places, few, size_more size (length slices))))
+    ∙ take-append-drop size places
   where
-    rest : (n : ℕ) (d : Result (Vec ℕ Global) AllocError) → n < length texts
-        → IfOk (slice_index_or texts n d) (λ t. t.items ≡ put_lines text (merged parts count (take size (drop (n * size) (drop size places)))))
-    rest n d l =
-        subst (λ ps. IfOk (slice_index_or texts n d) (λ t. t.items ≡ put_lines text (merged parts count (take size ps)))) (sym (drop-drop (n * size) size places))
-        (subst (λ k. IfOk (slice_index_or texts n d) (λ t. t.items ≡ put_lines text (merged parts count (take size (drop k places))))) (size_more size n) (each (suc n) d (omega (arith, l))))
+    rest : (n : ℕ) (d : Slice) → n < length slices → (slice_index_or slices n d).places.now ≡ take size (drop (n * size) (drop size places))
+    rest n d l = each (suc n) d (omega (arith, l)) ∙ ap (λ k. take size (drop k places)) (size_more size n) ∙ ap (take size) (sym (drop-drop (n * size) size places))
 
-    shorter : (places : List Place) (m : ℕ) → length places ≤ suc m * size → length (drop size places) ≤ m * size
-    shorter places m few = omega (arith, length-drop size places, few, size_more size m)
+-- each slice is one of all places
+pub among : (slices : List Slice) (n : ℕ) (d : Slice) → n < length slices → IsSliceOf (slice_index_or slices n d).places.now (flat_map (λ (s : Slice). s.places.now) slices)
+among [] n d l = absurd (omega (arith, l))
+among (s ∷ slices) zero d l = ([], flat_map (λ (s : Slice). s.places.now) slices, refl)
+among (s ∷ slices) (suc n) d l =
+    let rest = among slices n d (omega (arith, l)) in
+    let slice = (slice_index_or slices n d).places.now in
+    (s.places.now ++ rest.0, rest.1, ap (λ ps. s.places.now ++ ps) rest.2 ∙ sym (append_assoc s.places.now rest.0 (slice ++ rest.1)))
+
+-- each text has the lines of its slice
+pub pieces : {M : Type 0} (text : M → List ℕ) (parts : Parts M) (count : ℕ) (texts : List (Result (Vec ℕ Global) AllocError)) (slices : List Slice) → length texts ≡ length slices
+    → ((n : ℕ) (d : Result (Vec ℕ Global) AllocError) (s : Slice) → n < length slices → IfOk (slice_index_or texts n d) (λ t. t.items ≡ put_lines text (merged parts count (slice_index_or slices n s).places.now)))
+    → AreTexts texts (put_lines text (merged parts count (flat_map (λ (s : Slice). s.places.now) slices)))
+unfolding AreTexts
+pieces text parts count [] [] len each = refl
+pieces text parts count [] (s ∷ slices) len each = absurd (omega (arith, len))
+pieces text parts count (t ∷ texts) [] len each = absurd (omega (arith, len))
+pieces text parts count (Err e ∷ texts) (s ∷ slices) len each = tt
+pieces text parts count (Ok t ∷ texts) (s ∷ slices) len each =
+    let left = flat_map (λ (s : Slice). s.places.now) slices in
+    let here : t.items ≡ put_lines text (merged parts count s.places.now) = each zero (Ok t) s (omega arith) in (
+      put_lines text (merged parts count left),
+      ap (put_lines text) (merged-append parts count s.places.now left)
+          ∙ flat_map-append (put_line text) (merged parts count s.places.now) (merged parts count left)
+          ∙ ap (λ l. l ++ put_lines text (merged parts count left)) (sym here),
+      pieces text parts count texts slices (omega (arith, len)) (λ n d x l. each (suc n) d x (omega (arith, l))),
+    )
 
 -- two facts of what came, where it came
 pub if_ok_both : {X E : Type 0} {P Q S : X → Type 0} (r : Result X E) → IfOk r P → IfOk r Q → ((x : X) → P x → Q x → S x) → IfOk r S
 if_ok_both (Ok x) p q h = h x p q
 if_ok_both (Err e) p q h = tt
-
--- a chunk is a slice
-pub chunk_text : {V M : Type 0} (text : M → List ℕ) (f : V → M) (given : Given V) (count : ℕ) (xs chunk : List Place) (size n : ℕ) (r : Result (Vec ℕ Global) AllocError)
-    → xs ≡ given.places.items → chunk ≡ take size (drop (n * size) xs) → (IsSliceOf chunk given.places.items → IfOk r (λ t. t.items ≡ merged_lines text f given count chunk))
-    → IfOk r (λ t. t.items ≡ put_lines text (merged (parts_given f given) count (take size (drop (n * size) given.places.items))))
-chunk_text text f given count xs chunk size n r whole is made =
-    let places = given.places.items in
-    let same : chunk ≡ take size (drop (n * size) places) = is ∙ ap (λ l. take size (drop (n * size) l)) whole in
-    let left = drop (n * size) places in
-    let cut : places ≡ take (n * size) places ++ (chunk ++ drop size left) =
-    sym (take-append-drop (n * size) places) ∙ ap (λ l. take (n * size) places ++ l) (sym (take-append-drop size left) ∙ ap (λ l. l ++ drop size left) (sym same)) in
-    subst (λ l. IfOk r (λ t. t.items ≡ merged_lines text f given count l)) same (made (take (n * size) places, drop size left, cut))
 
 -- the next text
 pub texts_next : (texts more : List (Result (Vec ℕ Global) AllocError)) (t : Vec ℕ Global) (whole : List ℕ) → texts ≡ Ok t ∷ more → AreTexts texts whole

@@ -1,10 +1,15 @@
-use Rattle.std.proofs.Common.{◌≡◌, ℕ, suc, ◌+◌, ◌*◌, ◌<◌, ◌≤◌, arith, ap, drop, length, rules, sym, subst, take, ◌∙◌}
+use Rattle.std.proofs.Common.{◌≡◌, ℕ, suc, ◌+◌, ◌*◌, ◌<◌, ◌≤◌, IfOk, arith, length, rules, sym, subst, ◌∙◌}
+use Rattle.std.specs.Prelude.{slice_index_or, vec_len}
+use Rattle.std.specs.List.{flat_map}
 use Rattle.std.proofs.Math.Nat.{lt_of_mul-lt-mul_right, mul-le-mul_right, mul_comm, suc-mul}
 use Rattle.std.proofs.lemmas.Grind.{div_ceil_times}
-use Rattle.std.specs.Prelude.{vec_len}
 use Rattle.std.proofs.lemmas.Result.{IfOk-weaker}
+use Rattle.rtps_planner.specs.Commuting.{merged}
 use Rattle.dds_participant.specs.Given.{parts_given}
-use Rattle.rtps_text.proofs.Sliced.{chunk_text, if_ok_both, pieces}
+use Rattle.rtps_text.specs.Replayed.{put_lines}
+use Rattle.rtps_text.specs.Slices.{AreTexts, IsSliceOf}
+use Rattle.rtps_text.specs.declared.spelling.Slice.{Slice}
+use Rattle.rtps_text.proofs.Sliced.{all_cut, among, if_ok_both, pieces}
 use Rattle.rtps_text.proofs.spelling.Spelling.texts.Goals as goal
 
 pub returns-clause-lines : goal.returns-clause-lines
@@ -12,22 +17,18 @@ returns-clause-lines g c = λ by.
     let given = c.args.self.now.given.now in
     let text = g.C.Catalog.text_of c.args.self.now.catalog.now in
     let count = c.args.self.now.readers in
+    let lists = parts_given g.C.Catalog.view given in
     let xs = c.as_slice-places.result.now in
-    let whole = c.as_slice-places.ensures.value in
-    let size = c.max-size.result in
     let slices = c.in_ok-slices.slices.items in
+    let joined : flat_map (λ (s : Slice). s.places.now) slices ≡ given.places.items
+    = c.in_ok-slices.ensures.all ∙ all_cut c.max-size.result c.in_ok-parts.parts.items xs c.in_ok-parts.ensures.each c.in_ok-parts.ensures.all ∙ c.as_slice-places.ensures.value in
     if_ok_both c.map_vec.result c.map_vec.ensures.len c.map_vec.ensures.each (λ texts len each.
-    let counted : length texts.items ≡ length slices = search rules in
-    let few : length given.places.items ≤ length texts.items * size =
-    subst (λ n. length given.places.items ≤ n * size) (sym counted) (subst (λ ps. length ps ≤ length slices * size) whole c.in_ok-slices.ensures.all) in
-    pieces text (parts_given g.C.Catalog.view given) count size texts.items given.places.items
-    (λ n d l.
-    let within : n < length slices = subst (λ m. n < m) counted l in
+    subst (λ places. AreTexts texts.items (put_lines text (merged lists count places))) joined
+    (pieces text lists count texts.items slices (search rules) (λ n d s within.
     let made = (each n d within).1 in
-    let slice = made.job in
-    let is : slice.places.now ≡ take size (drop (n * size) xs) = ap (λ s. s.places.now) (sym (made.job_is slice)) ∙ c.in_ok-slices.ensures.each n slice within in
-    chunk_text text g.C.Catalog.view given count xs slice.places.now size n _ whole is (λ part. made.call.met part by))
-    few)
+    let is : slice_index_or slices n s ≡ made.job = made.job_is s in
+    let part : IsSliceOf made.job.places.now given.places.items = subst (IsSliceOf made.job.places.now) joined (subst (λ (x : Slice). IsSliceOf x.places.now (flat_map (λ (s : Slice). s.places.now) slices)) is (among slices n s within)) in
+    subst (λ (x : Slice). IfOk (slice_index_or texts.items n d) (λ t. t.items ≡ put_lines text (merged lists count x.places.now))) (sym is) (made.call.met part by))))
 
 -- slices that fill less than the places and one slice more are no more than the workers
 no_more : (count size workers places : ℕ) → count * size < places + size → places ≤ size * workers → count ≤ workers
@@ -42,11 +43,11 @@ returns-clause-few g c =
     let xs = c.as_slice-places.result.now in
     let size = c.max-size.result in
     let workers = c.args.workers in
-    let slices = c.in_ok-slices.slices.items in
     let ceiling = c.div_ceil.result in
     let covers : length xs ≤ ceiling * workers = search (rules, div_ceil_times (length xs) workers c.requires) in
     let least : ceiling ≤ size = search rules in
     let fits : length xs ≤ size * workers = omega (arith, covers, mul-le-mul_right workers least) in
-    let made : length slices * size < length xs + size = c.in_ok-slices.ensures.few in
-    let same_length : (texts : _) → vec_len texts ≡ vec_len c.in_ok-slices.slices → length slices ≡ length texts.items = λ texts len. search rules in
-    IfOk-weaker c.map_vec.result _ _ (λ texts len. no_more (length texts.items) size workers (length xs) (subst (λ n. n * size < length xs + size) (same_length texts len) made) fits) c.map_vec.ensures.len
+    let parts : length c.in_ok-parts.parts.items ≤ workers = no_more (length c.in_ok-parts.parts.items) size workers (length xs) c.in_ok-parts.ensures.few fits in
+    let slices : length c.in_ok-slices.slices.items ≤ 2 * workers + 1 = omega (arith, c.in_ok-slices.ensures.few, parts) in
+    let same_length : (texts : _) → vec_len texts ≡ vec_len c.in_ok-slices.slices → length c.in_ok-slices.slices.items ≡ length texts.items = λ texts len. search rules in
+    IfOk-weaker c.map_vec.result _ _ (λ texts len. subst (λ n. n ≤ 2 * workers + 1) (same_length texts len) slices) c.map_vec.ensures.len
