@@ -1,6 +1,5 @@
 -- What a struct's bodies and key payloads mean (DDSI-RTPS 9.6.4.8, 10.2).
-use Rattle.std.specs.Prelude.{◌≡◌, ℕ, List, Result, Ok, Err}
-use Rattle.rtps_types.specs.declared.identity.KeyHash.{KeyHash}
+use Rattle.std.specs.Prelude.{ℕ, List, Result, Ok, Err}
 use Rattle.rtps_types.specs.declared.field.Endian.TheVariants.{Little}
 use Rattle.rtps_cdr.specs.Cdr.{CdrType, ValueOf}
 use Rattle.rtps_cdr.specs.Reading.{start}

@@ -1,6 +1,6 @@
 -- The hash of a key (DDSI-RTPS 9.6.4.8): the big-endian CDR of the key, with zeros after it, where
 -- its greatest size is at most 16 octets; else the MD5 of that CDR.
-use Rattle.std.specs.Prelude.{ℕ, ◌+◌, ◌-◌, List, ◌++◌, length, take, replicate, Bool, true, false, nat_le, if◌then◌else◌, Option, None, Some}
+use Rattle.std.specs.Prelude.{ℕ, ◌+◌, ◌-◌, List, ◌++◌, length, take, replicate, Bool, false, nat_le, if◌then◌else◌, Option, None, Some}
 use Rattle.std.specs.Int.{byte_len}
 use Rattle.md5.specs.Md5.{md5}
 use Rattle.rtps_types.specs.declared.field.Endian.TheVariants.{Big}

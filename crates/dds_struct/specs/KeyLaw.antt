@@ -1,5 +1,5 @@
 -- A key that was written is read again.
-use Rattle.std.proofs.Common.{◌≡◌, ◌≤◌, ◌++◌, List, [], length, true, Result, Ok, refl, arith, append-nil, ap, ◌∙◌}
+use Rattle.std.proofs.Common.{◌≡◌, [], true, Ok, refl, arith, append-nil}
 use Rattle.rtps_types.specs.declared.field.Endian.TheVariants.{Little}
 use Rattle.rtps_cdr.specs.Cdr.{CdrType, ValueOf}
 use Rattle.rtps_cdr.specs.Reading.{Cursor, start}

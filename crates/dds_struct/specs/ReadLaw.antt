@@ -1,13 +1,12 @@
 -- What is read of each type is what the octets stand for.
-use Rattle.std.proofs.Common.{◌≡◌, ◌≤◌, ◌<◌, ℕ, zero, suc, List, length, Bool, true, false, ◌&&◌, nat_lt, Result, Ok, Err, refl, arith}
+use Rattle.std.proofs.Common.{◌≡◌, ◌<◌, ℕ, zero, suc, Bool, true, false, ◌&&◌, nat_lt, Ok, Err, refl, arith}
 use Rattle.std.specs.Int.{byte_len}
-use Rattle.rtps_cdr.specs.declared.fault.CdrFault.{CdrFault}
 use Rattle.rtps_cdr.specs.Cdr.{CdrType, Unsigned, Signed, Boolean, Text, Octets, Both, Sequence, ValueOf}
 use Rattle.rtps_cdr.specs.Reading.{Cursor, Read, Reads, value_of, moved, number_in, signed_in, bool_in, text_in, octets_in}
 use Rattle.rtps_cdr.proofs.Related.{unsigned_law, signed_law, bool_law, octets_law}
 use Rattle.rtps_cdr.proofs.Counted.{text_law}
-use Rattle.dds_struct.specs.Value.{is_plain, value, behind, settled, items, behind_items, behind_counted}
-use Rattle.dds_struct.specs.ReadParts.{Is, Within, All, both, all_items, counted, still_within, found_in}
+use Rattle.dds_struct.specs.Value.{is_plain, value, behind, items, behind_counted}
+use Rattle.dds_struct.specs.ReadParts.{Is, Within, both, all_items, counted, still_within, found_in}
 
 one_read : (t : CdrType) (c : Cursor) (r : Read (ValueOf t)) → Reads t c (moved c r) (value_of r) → Is t c (moved c r) (value_of r)
 one_read t c (Ok x) law = law

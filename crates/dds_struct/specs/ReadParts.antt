@@ -1,5 +1,5 @@
 -- Values that are read one after the other are those of a struct, or the items of a sequence.
-use Rattle.std.proofs.Common.{◌≡◌, ◌≤◌, ◌<◌, ◌+◌, ℕ, zero, suc, List, [], ◌∷◌, length, Result, Ok, Err, refl, arith, ap, ◌∙◌, sym}
+use Rattle.std.proofs.Common.{◌≡◌, ◌≤◌, ℕ, zero, suc, List, [], ◌∷◌, length, Result, Ok, Err, refl, ap, ◌∙◌, sym}
 use Rattle.rtps_cdr.specs.declared.fault.CdrFault.{CdrFault}
 use Rattle.rtps_cdr.specs.Cdr.{CdrType, Unsigned, Both, Sequence, ValueOf}
 use Rattle.rtps_cdr.specs.Reading.{Cursor, Reads, Takes}

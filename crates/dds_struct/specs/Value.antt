@@ -1,6 +1,6 @@
 -- The value of a type that is read where a reader is, and where the reader is after it
 -- (DDSI-RTPS 10, CORBA CDR 9.3).
-use Rattle.std.specs.Prelude.{◌≡◌, ℕ, zero, suc, ◌<◌, ◌≤◌, List, [], ◌∷◌, length, Result, Ok, Err, Bool, true, ◌&&◌, nat_lt}
+use Rattle.std.specs.Prelude.{◌≡◌, ℕ, zero, suc, ◌≤◌, List, [], ◌∷◌, length, Result, Ok, Err, Bool, true, ◌&&◌, nat_lt}
 use Rattle.std.specs.Int.{byte_len}
 use Rattle.rtps_cdr.specs.declared.fault.CdrFault.{CdrFault}
 use Rattle.rtps_cdr.specs.Cdr.{CdrType, Unsigned, Signed, Boolean, Text, Octets, Both, Sequence, ValueOf}

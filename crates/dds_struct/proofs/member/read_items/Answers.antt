@@ -1,4 +1,4 @@
-use Rattle.std.proofs.Common.{rules, ◌≡◌, map, ◌∷◌, [], ◌++◌, ◌∙◌, ◌<◌, arith, sym}
+use Rattle.std.proofs.Common.{rules, ◌≡◌, map, ◌∷◌, [], ◌++◌, ◌∙◌, ◌<◌}
 use Rattle.std.proofs.lemmas.List.{map-append}
 use Rattle.dds_struct.specs.Value.{value, behind}
 use Rattle.dds_struct.proofs.Items.{items_step, behind_step}

@@ -1,6 +1,6 @@
-use Rattle.std.proofs.Common.{◌≡◌, OnOk, map, ℕ, ◌+◌, ◌-◌, ◌*◌, ◌<◌, ◌≤◌, length, ◌++◌, Ok}
+use Rattle.std.proofs.Common.{◌≡◌, map, ◌-◌}
 use Rattle.dds_struct.proofs.Items.{after}
-use Rattle.dds_struct.specs.Value.{readable, value, behind, items, behind_items}
+use Rattle.dds_struct.specs.Value.{value, behind, items, behind_items}
 use Rattle.dds_struct.proofs.member.read_items.Given as goal
 
 abbrev pub invariant-items : goal.invariant-items
