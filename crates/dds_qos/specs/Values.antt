@@ -33,12 +33,11 @@ abbrev pub only : {X : Type 0} → Read X → Option X
 only (Ok x) = Some x.0
 only (Err fault) = None
 
--- a number of 32 bits that stands for a kind, and then what comes after it; None where it stands
--- for none
+-- the kind that a number of 32 bits means, and then what comes after it; None where it means none
 abbrev pub kind_then : {X Y : Type 0} → Cursor → (ℕ → Option X) → (X → Cursor → Option Y) → Option Y
 kind_then c kinds f = then_read c (number_in 4 c) (λ n after. option_and_then (λ x. f x after) (kinds n))
 
--- the kind that a number of 32 bits stands for; None where it stands for none
+-- the kind that a number of 32 bits means; None where it means none
 abbrev pub kind_in : {X : Type 0} → Cursor → (ℕ → Option X) → Option X
 kind_in c kinds = option_and_then kinds (only (number_in 4 c))
 

@@ -18,14 +18,13 @@ shape_type = Both Text (Both (Signed w32) (Both (Signed w32) (Signed w32)))
 abbrev pub members : ShapeMeaning → ValueOf shape_type
 members s = (s.color, (s.x, (s.y, s.size)))
 
--- a front of the octets stands for the shape, as one value of its type, and its color is short
--- enough
+-- a front of the octets encodes the shape, as one value of its type, and its color is short enough
 pub record IsShape (c : Cursor) (s : ShapeMeaning) : Type 0 where
   pub short : length s.color ≤ 128
   pub behind : Cursor
   pub stands : Takes shape_type c behind (members s)
 
--- a front of the octets stands for a color of that hash
+-- a front of the octets encodes a color of that hash
 pub record IsKey (c : Cursor) (hash : KeyHash) : Type 0 where
   pub color : List ℕ
   pub short : length color ≤ 128
@@ -33,24 +32,24 @@ pub record IsKey (c : Cursor) (hash : KeyHash) : Type 0 where
   pub stands : Takes Text c behind color
   pub hashed : hash ≡ color_hash color
 
--- what is answered stands there, or else it is malformed
+-- what is answered is there, or else it is malformed
 abbrev pub IsAnswer : {A : Type 0} → (A → Type 0) → Result A UnreadCode → Type 0
 IsAnswer is (Ok v) = is v
 IsAnswer is (Err u) = u ≡ Malformed
 
--- what is answered stands there, and what stands there is answered; so malformed is only what
--- stands for nothing
+-- what is answered is there, and what is there is answered; so malformed is only what encodes
+-- nothing
 pub record Answers {A : Type 0} (is : A → Type 0) (answer : Result A UnreadCode) : Type 0 where
   pub found : IsAnswer is answer
   pub only : (v : A) → is v → answer ≡ Ok v
 
--- a body means the shape that its front stands for, in the order that its encapsulation says
+-- a body means the shape that its front encodes, in the order that its encapsulation says
 pub record BodiesAreShapes : Type 0 where
   pub big : (body : List ℕ) → Answers (IsShape (start Big body)) (shape_meaning 0 body)
   pub little : (body : List ℕ) → Answers (IsShape (start Little body)) (shape_meaning 1 body)
   pub other : (kind : ℕ) (body : List ℕ) → 1 < kind → shape_meaning kind body ≡ Err Encapsulation
 
--- a key payload spells the key that its front stands for, and nothing after it counts
+-- a key payload spells the key that its front encodes, and nothing after it counts
 pub record PayloadsAreKeys : Type 0 where
   pub big : (body : List ℕ) → Answers (IsKey (start Big body)) (shape_hash_of_key 0 body)
   pub little : (body : List ℕ) → Answers (IsKey (start Little body)) (shape_hash_of_key 1 body)

@@ -2,7 +2,7 @@
 
 ghost use Rattle.dds_topic.specs.ShapeType.{BodiesAreShapes, PayloadsAreKeys};
 
-/// What [`Shapes`](crate::Shapes) makes of a body: the shape that its front stands for, as one
+/// What [`Shapes`](crate::Shapes) makes of a body: the shape that its front encodes, as one
 /// value of the struct `ShapeType` in the byte order of the encapsulation, and malformed where
 /// there is none.
 pub fn bodies_are_shapes()
@@ -10,7 +10,7 @@ pub fn bodies_are_shapes()
 {}
 
 /// What [`Shapes`](crate::Shapes) makes of a key payload: the hash of the color that its front
-/// stands for, and malformed where there is none.
+/// encodes, and malformed where there is none.
 pub fn payloads_are_keys()
     ensures { PayloadsAreKeys }
 {}

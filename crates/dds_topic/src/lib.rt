@@ -1,5 +1,5 @@
 //! The catalog of one data type: how the payloads of a topic are decoded, and how instances are
-//! told apart (DDSI-RTPS 9.6.4.8, 10).
+//! distinguished (DDSI-RTPS 9.6.4.8, 10).
 //!
 //! A participant is generic in its [`Catalog`]. [`Raw`] takes every payload as it is, [`Shapes`]
 //! decodes those of the Shapes demo. A [`Decoder`] is a catalog at work.

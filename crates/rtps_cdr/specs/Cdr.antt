@@ -1,4 +1,4 @@
--- The common data representation: which octets stand for which value, at a place and in a byte
+-- The common data representation: which octets encode which value, at a place and in a byte
 -- order (CORBA CDR 9.3, DDSI-RTPS 10). Places are counted from the first octet after the
 -- encapsulation.
 use Rattle.std.specs.Prelude.{◌≡◌, ◌≤◌, ℕ, zero, suc, ℤ, ◌+◌, ◌-◌, ◌%◌, List, [], ◌∷◌, ◌++◌, length, replicate, Bool, if◌then◌else◌, IsUtf8}
@@ -76,7 +76,7 @@ abbrev pub AreAll : {A : Type 0} → (ℕ → List ℕ → A → Type 0) → ℕ
 AreAll is at octets [] = octets ≡ []
 AreAll is at octets (x ∷ xs) = (front : List ℕ) × (back : List ℕ) × (octets ≡ front ++ back) × is at front x × AreAll is (at + length front) back xs
 
--- octets at a place stand for a value of a type; a struct has no alignment of its own
+-- octets at a place encode a value of a type; a struct has no alignment of its own
 -- (CORBA CDR 9.3.2.2), and a sequence is a count and its items (CORBA CDR 9.3.2.5)
 abbrev pub IsCdr : Gaps → (t : CdrType) → ℕ → Endian → List ℕ → ValueOf t → Type 0
 IsCdr g (Unsigned size) at e octets n = IsNumber g size at e octets n

@@ -142,7 +142,7 @@ place_seen (Err f) = Err f
 
 -- ---- by the relation
 
--- a front of what is left stands for the value, and `after` is at its end
+-- a front of what is left encodes the value, and `after` is at its end
 pub record Takes (t : CdrType) (c after : Cursor) (v : ValueOf t) : Type 0 where
   pub front : List ℕ
   pub rest : List ℕ
@@ -150,7 +150,7 @@ pub record Takes (t : CdrType) (c after : Cursor) (v : ValueOf t) : Type 0 where
   pub stands : IsCdr Free t c.position c.endian front v
   pub behind : after ≡ placed c (c.position + length front)
 
--- what was read stands there, and the reader is at its end; after a fault it is where it was
+-- what was read is there, and the reader is at its end; after a fault it is where it was
 abbrev pub IsFound : (t : CdrType) → Cursor → Cursor → Result (ValueOf t) CdrFault → Type 0
 IsFound t c after (Ok v) = Takes t c after v
 IsFound t c after (Err f) = after ≡ c

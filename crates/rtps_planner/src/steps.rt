@@ -54,7 +54,7 @@ fn push_step<A: Allocator>(
     Ok(())
 }
 
-/// Lets a step take in the event at this index too, where that follows its events, and tells
+/// Lets a step take in the event at this index too, where that follows its events, and says
 /// whether it does.
 fn lengthen<A: Allocator>(step: &mut PlannedStep<A>, event: usize) -> bool
     ensures kept { result ≡ false → step.new ≡ step.old }

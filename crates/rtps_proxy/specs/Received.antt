@@ -17,12 +17,12 @@ pub record Taken : Type 0 where
   pub changes : List ChangeView
   pub begun : List Begun
 
--- of those whose numbers aren't settled, fragments are awaited: they stand
+-- the samples whose fragments are awaited: those whose numbers aren't settled
 abbrev pub standing_by : Taken → List MatchEvent → List Begun
 standing_by t past = filter (λ b. not (is_settled_by t.changes past b.number)) t.begun
 
--- there is a seat for the fragments of a number that stands, or is the least one not settled, or
--- where fewer than 64 stand
+-- there is a seat for the fragments of a number of which some were taken, or that is the least one
+-- not settled, or where fewer than 64 samples are awaited
 abbrev pub has_seat_by : Taken → List MatchEvent → ℕ → Bool
 has_seat_by t past n = is_begun t.begun n || (all_below (is_settled_by t.changes past) n || nat_lt (length (standing_by t past)) 64)
 

@@ -73,13 +73,13 @@ fn three(alloc: Global) -> Result<Vec<Event<'static>>, AllocError> {
     Ok(events)
 }
 
-/// The job of a rank, to take in the events at these indices, each by a step of its own.
-fn job(alloc: Global, rank: u32, indices: &[usize]) -> Result<Job, AllocError> {
+/// The job of a rank, to take in events: for each step the index of its first, and how many more.
+fn job(alloc: Global, rank: u32, all: &[(usize, usize)]) -> Result<Job, AllocError> {
     let mut steps = Vec::new(alloc);
-    for first in indices {
+    for (first, more) in all {
         steps.push(PlannedStep::TakeIn {
             first: *first,
-            more: 0,
+            more: *more,
         })?;
     }
     Ok(Job { rank, steps })
@@ -90,8 +90,12 @@ fn job(alloc: Global, rank: u32, indices: &[usize]) -> Result<Job, AllocError> {
 fn jobs<C: Catalog>(alloc: Global, ranks: u32) -> Result<Vec<ReaderJob<C::Value>>, AllocError> {
     let mut jobs = Vec::new(alloc);
     for rank in 0..ranks {
-        let indices = if rank == 1 { [1, 9, 2] } else { [0, 1, 2] };
-        let job = job(alloc, rank, &indices)?;
+        let steps = match rank {
+            0 => [(0, 2), (9, 0)],
+            1 => [(9, 1), (1, 7)],
+            _ => [(0, 0), (1, 1)],
+        };
+        let job = job(alloc, rank, &steps)?;
         jobs.push(ReaderJob::new(alloc, job, reader(alloc, rank)?))?;
     }
     Ok(jobs)

@@ -58,8 +58,8 @@ pub record AllAccept {V : Type 0} (outputs : List (Output V Global)) (old new : 
       → Accepts (slice_index_or outputs rank output).notices.items (slice_index_or old rank other)
       (slice_index_or new rank other)
 
--- What a run leaves that stops at a fault, where text is written as the last lines are made: want
--- of memory, as a write fault, may come then, after a read fault too, in whose place it is
+-- What a run leaves that stops at a fault, where text is written as the last lines are made: it may
+-- be out of memory then, as a write may fail, after a read fault too, in whose place that is
 -- reported.
 unfoldable pub StopsLate : (List (List ℕ) → List ℕ) → RunFault → Option (List ℕ)
     → Option (List ℕ) → Option (List ℕ) → Option (List ℕ) → Type 0

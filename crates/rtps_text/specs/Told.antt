@@ -1,5 +1,5 @@
 -- The lines of a run, beside those of its events: what readers heard of their writers, what was
--- answered, which matches were made, and how each reader stands.
+-- answered, which matches were made, and the status of each reader.
 use Rattle.std.specs.Prelude.{ℕ, List, [], ◌∷◌, ◌++◌, slice_index, Option, Some, None, codes}
 use Rattle.std.specs.Fmt.{decimal}
 use Rattle.rtps_types.specs.declared.identity.Guid.{Guid}
@@ -62,7 +62,7 @@ locators_text (l ∷ ls) = locator_text l ++ more_locators ls
 abbrev pub answer_line : Place → List Locator → List ℕ → List ℕ
 answer_line place to octets = place_text place then codes "answer" then locators_text to then (hex_text octets ++ codes "\n")
 
--- a match that stands between the reader of a rank and a writer
+-- a match between the reader of a rank and a writer
 abbrev pub match_line : ℕ → Guid → List ℕ
 match_line rank w = codes "match" then decimal rank then (guid_text w ++ codes "\n")
 
@@ -72,10 +72,10 @@ policy_text None = codes "-"
 policy_text (Some policy) = decimal policy
 
 -- how many matches there were and are, and how many writers offer too little, with the policy that
--- was told last
+-- was reported last
 abbrev pub matches_text : Status → List ℕ
 matches_text s = decimal s.matched_total then decimal s.matched_now then decimal s.incompatible_total then policy_text s.last_policy
 
--- how the reader of a rank stands (DDS 1.4, 2.2.4.1)
+-- the status of the reader of a rank (DDS 1.4, 2.2.4.1)
 abbrev pub status_line : ℕ → Status → List ℕ
 status_line rank s = codes "status" then decimal rank then matches_text s then decimal s.lost_total then (decimal s.samples ++ codes "\n")
