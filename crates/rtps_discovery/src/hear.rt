@@ -77,11 +77,7 @@ impl<A: Allocator + Copy> Held<A> {
             ranks ≡ ranks_of (kept self.now) writer (lent after.entry)) }
     {
         let locators = match after {
-            Some(offer) => locators_for(
-                &self.participants,
-                writer.prefix,
-                offer.locators.as_slice(),
-            ),
+            Some(offer) => locators_for(&self.participants, writer.prefix, offer.locators()),
             None => &[],
         };
         let turn = Turn {

@@ -65,14 +65,21 @@ impl<A: Allocator> Reader<A> {
     }
 }
 
+/// What a writer was announced with.
+#[derive(Drop)]
+struct Offering<A: Allocator> {
+    topic: String<A>,
+    type_name: String<A>,
+    offered: Offered<A>,
+    /// Its own, where it gives some.
+    locators: Locators<A>,
+}
+
 /// A writer that was announced, and what it offers.
 #[derive(Drop)]
 pub struct Writer<A: Allocator = Global> {
-    pub(crate) topic: String<A>,
-    pub(crate) type_name: String<A>,
-    pub(crate) offered: Offered<A>,
-    /// Its own, where it gives some.
-    pub(crate) locators: Locators<A>,
+    /// In a block of its own, so that little is moved where a writer comes or goes among others.
+    offering: Box<Offering<A>, A>,
 }
 
 impl<A: Allocator> Model for Writer<A> {
@@ -82,11 +89,11 @@ impl<A: Allocator> Model for Writer<A> {
     ghost Value = { Offer };
 
     ghost view = { λ w. record {
-      topic = string_bytes w.topic;
-      type_name = string_bytes w.type_name;
-      policies = w.offered.policies;
-      partitions = w.offered.partitions;
-      locators = w.locators;
+      topic = string_bytes w.offering.value.topic;
+      type_name = string_bytes w.offering.value.type_name;
+      policies = w.offering.value.offered.policies;
+      partitions = w.offering.value.offered.partitions;
+      locators = w.offering.value.locators;
     } };
 }
 
@@ -95,14 +102,14 @@ impl<A: Allocator> Writer<A> {
     pub fn topic(&self) -> &str
         ensures { result.now ≡ self.now.topic }
     {
-        self.topic.as_str()
+        self.offering.as_ref().topic.as_str()
     }
 
     /// The name of the topic's type.
     pub fn type_name(&self) -> &str
         ensures { result.now ≡ self.now.type_name }
     {
-        self.type_name.as_str()
+        self.offering.as_ref().type_name.as_str()
     }
 
     /// The policies and the partitions that it offers.
@@ -110,7 +117,7 @@ impl<A: Allocator> Writer<A> {
         ensures policies { result.now.policies ≡ self.now.policies }
         ensures partitions { result.now.partitions ≡ self.now.partitions }
     {
-        &self.offered
+        &self.offering.as_ref().offered
     }
 
     /// Where it is reached, if it gives locators of its own; else its participant's default
@@ -118,7 +125,7 @@ impl<A: Allocator> Writer<A> {
     pub fn locators(&self) -> &[Locator]
         ensures { result.now ≡ self.now.locators }
     {
-        self.locators.as_slice()
+        self.offering.as_ref().locators.as_slice()
     }
 }
 
@@ -252,7 +259,7 @@ impl<A: Allocator + Copy> Writer<A> {
         let type_name = String::from_str(alloc, offer.type_name)?;
         let partitions = partitions_in(alloc, offer.partitions)?;
         let locators = collected(alloc, offer.locators)?;
-        Ok(Writer {
+        let offering = Offering {
             topic,
             type_name,
             offered: Offered {
@@ -260,6 +267,10 @@ impl<A: Allocator + Copy> Writer<A> {
                 partitions,
             },
             locators,
-        })
+        };
+        match Box::new(alloc, offering) {
+            Ok(offering) => Ok(Writer { offering }),
+            Err(_) => Err(AllocError),
+        }
     }
 }

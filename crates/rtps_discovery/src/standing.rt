@@ -23,9 +23,9 @@ pub(crate) enum Standing {
 fn is_near<A: Allocator>(reader: &Reader<A>, writer: &Writer<A>) -> bool
     ensures { result ≡ known.is_near reader.now writer.now }
 {
-    reader.topic.as_str() == writer.topic.as_str()
-        && reader.type_name.as_str() == writer.type_name.as_str()
-        && share_partition(&writer.offered, &reader.requested)
+    reader.topic() == writer.topic()
+        && reader.type_name() == writer.type_name()
+        && share_partition(writer.offered(), &reader.requested)
 }
 
 /// How a reader is with a writer.
@@ -35,7 +35,7 @@ fn standing_of<A: Allocator>(reader: &Reader<A>, writer: &Writer<A>) -> Standing
     if !is_near(reader, writer) {
         return Standing::Apart;
     }
-    match first_fault(&writer.offered, &reader.requested) {
+    match first_fault(writer.offered(), &reader.requested) {
         None => Standing::Joined,
         Some(policy) => Standing::Refused(policy),
     }

@@ -22,11 +22,12 @@ use std::marker::Model;
 /// nothing.
 #[derive(Drop)]
 pub struct WriterProxy<A: Allocator = Global> {
-    config: ProxyConfig<A>,
+    /// In a block of its own, as the state is, so that little is moved where a match begins or ends
+    /// among others.
+    config: Box<ProxyConfig<A>, A>,
     /// A growth was refused: the state may be that of an event taken in by half.
     spent: bool,
-    /// In a block of its own, so that little is moved where a match begins or ends among others;
-    /// none until something comes, so that a match alone takes no memory.
+    /// None until something comes, so that a match alone takes little memory.
     state: Option<Box<State<A>, A>>,
 }
 
@@ -36,9 +37,9 @@ impl<A: Allocator> Model for WriterProxy<A> {
     ghost Value = { ProxyView };
 
     ghost view = { λ p. record {
-      pairing = pairing p.config;
+      pairing = pairing p.config.value;
       spent = p.spent;
-      state = state_since p.config.reliable p.state;
+      state = state_since p.config.value.reliable p.state;
     } };
 }
 
@@ -60,17 +61,19 @@ fn begun<A: Allocator + Copy>(
 }
 
 impl<A: Allocator + Copy> WriterProxy<A> {
-    /// The proxy of a match that begins: nothing has come yet. An error would be a refused growth,
-    /// but no memory is taken before something comes.
+    /// The proxy of a match that begins: nothing has come yet. An error is a refused growth.
     pub fn new(alloc: A, config: ProxyConfig<A>) -> Result<WriterProxy<A>, ProxyError>
         ensures stands { IfOk result (StandsAt []) }
         ensures pairing { IfOk result (λ proxy. proxy.pairing ≡ pairing config) }
     {
-        Ok(WriterProxy {
-            config,
-            spent: false,
-            state: None,
-        })
+        match Box::new(alloc, config) {
+            Ok(config) => Ok(WriterProxy {
+                config,
+                spent: false,
+                state: None,
+            }),
+            Err(_) => Err(AllocError),
+        }
     }
 
     /// Takes in what an event brings, by its kind. After a refused growth the proxy is spent: each
@@ -107,10 +110,11 @@ impl<A: Allocator + Copy> WriterProxy<A> {
         }
         // Spent until the event is taken in: each `?` on the way leaves it so.
         self.spent = true;
-        let mut state = begun(alloc, self.config.reliable, self.state.take())?;
+        let config = self.config.as_ref();
+        let mut state = begun(alloc, config.reliable, self.state.take())?;
         state
             .as_mut()
-            .on_event(alloc, &self.config, time, brought, effects)?;
+            .on_event(alloc, config, time, brought, effects)?;
         self.state = Some(state);
         self.spent = false;
         Ok(())
