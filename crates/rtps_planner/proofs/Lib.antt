@@ -9,3 +9,4 @@ pub mod Adding
 mod Gathering
 mod Rising
 pub mod Along
+mod Bursts

@@ -1,13 +1,15 @@
 -- The steps of a plan, one after the other.
-use Rattle.std.proofs.Common.{◌≡◌, ℕ, zero, suc, ◌<◌, ◌≤◌, arith, ◌==◌, ◌&&◌, List, [], ◌∷◌, ◌++◌, length, map, Bool, true, false, if◌then◌else◌, Option, Some, None, get_or, refl, sym, ap, ◌∙◌, subst, append_assoc, append-nil, ◌+◌}
+use Rattle.std.proofs.Common.{◌≡◌, ◌≢◌, ◌⊎◌, inl, inr, ℕ, zero, suc, ◌<◌, ◌≤◌, arith, ◌==◌, ◌&&◌, List, [], ◌∷◌, ◌++◌, length, map, Bool, true, false, if◌then◌else◌, Option, Some, None, get_or, refl, sym, ap, ◌∙◌, subst, append_assoc, append-nil, ◌+◌}
 use Rattle.std.specs.Prelude.{Box, box_value, drop, filter, option_to_list, replicate, set, take}
-use Rattle.std.specs.List.{slice_get}
+use Rattle.std.specs.List.{flat_map, slice_get}
 use Rattle.std.specs.Option.{option_map}
 use Rattle.std.specs.declared.vec.Vec.{Vec}
-use Rattle.std.proofs.lemmas.Grind.{flat_map-append}
-use Rattle.std.proofs.lemmas.List.{get_or-drop, get_or-replicate, length-drop, length-replicate, length-set, map-append, map_push, set-get_or, take_all, take_more, take_more_set}
+use Rattle.std.proofs.Math.Seq.{take-add}
+use Rattle.std.proofs.lemmas.Grind.{flat_map-append, get_or-set_at}
+use Rattle.std.proofs.lemmas.List.{drop-drop, get_or_default, get_or-replicate, get_or-set_other, length-replicate, length-set, map-append, set-get_or, take_all, take_more, take_more_set}
 use Rattle.std.proofs.lemmas.List.Elements.{filter-append}
-use Rattle.std.proofs.lemmas.Option.{get_or_from_slice_get, slice_get-get_or, slice_get_within}
+use Rattle.std.proofs.lemmas.Bool.Decides.{eqb_tells}
+use Rattle.std.proofs.lemmas.Option.{slice_get-get_or}
 use Rattle.rtps_types.specs.declared.place.Place.{Place}
 use Rattle.rtps_receiver.specs.Events.{EventView}
 use Rattle.rtps_discovery.specs.declared.changes.Becomes.{Becomes}
@@ -19,28 +21,29 @@ use Rattle.rtps_discovery.specs.Kept.{matched_ranks}
 use Rattle.rtps_discovery.specs.Known.{Known, Wish, is_fixed, is_matched, reader_at, writer_at}
 use Rattle.rtps_discovery.specs.Records.{answered, changes_by}
 use Rattle.rtps_reader.specs.Reader.{placed}
-use Rattle.rtps_reader.specs.Steps.{StepView, asks_of}
+use Rattle.rtps_reader.specs.Steps.{asks_of}
 use Rattle.rtps_serial.specs.Steps.{ReaderStep, step_by}
 use Rattle.rtps_serial.proofs.Hearing.{announced_doings, asked_from}
 use Rattle.rtps_serial.specs.World.{addressed_to, changes_for, doing_of, doings}
+use Rattle.rtps_planner.specs.declared.steps.Burst.{Burst}
 use Rattle.rtps_planner.specs.declared.steps.PlannedStep.{PlannedStep}
 use Rattle.rtps_planner.specs.declared.steps.PlannedStep.TheVariants as step
 use Rattle.rtps_planner.specs.Job.{Job, discovery_answer}
-use Rattle.rtps_planner.specs.Plan.{Grow, is_named, step_seen, steps_seen, taken_at, taken_in}
+use Rattle.rtps_planner.specs.Plan.{Grow, burst_at, events_at, is_named, step_seen, steps_seen, taken_in}
 
 -- one step more
 pub step_more : {A : Type 0} (es : List EventView) (old : List (PlannedStep A)) (s : PlannedStep A) → steps_seen es (old ++ s ∷ []) ≡ steps_seen es old ++ step_seen es s
 step_more es old s = flat_map-append (step_seen es) old (s ∷ []) ∙ ap (λ l. steps_seen es old ++ l) (append-nil (step_seen es s))
 
--- one event more, after those from one on
-pub takes_more : (es : List EventView) (e : EventView) (first more event : ℕ) → slice_get es event ≡ Some e → event ≡ first + (more + 1)
-    → map taken_in (take (more + 1 + 1) (drop first es)) ≡ map taken_in (take (more + 1) (drop first es)) ++ taken_in e ∷ []
-takes_more es e first more event is at =
-    let rest = drop first es in
-    let inside : event < length es = slice_get_within es event e is in
-    let below : more + 1 < length rest = omega (arith, inside, at, length-drop first es) in
-    let here : get_or rest (more + 1) e ≡ e = get_or-drop first es (more + 1) e ∙ ap (λ i. get_or es i e) (sym at) ∙ get_or_from_slice_get es event e e is in
-    ap (map taken_in) (take_more rest (more + 1) e below ∙ ap (λ d. take (more + 1) rest ++ d ∷ []) here) ∙ map_push taken_in (take (more + 1) rest) e
+-- the events from one on, and those that follow them
+pub takes_more : (es : List EventView) (from count first more : ℕ) → first ≡ from + (count + 1)
+    → map taken_in (events_at es from (count + (more + 1))) ≡ map taken_in (events_at es from count) ++ map taken_in (events_at es first more)
+takes_more es from count first more at =
+    let rest = drop from es in
+    let here : drop (count + 1) rest ≡ drop first es = drop-drop (count + 1) from es ∙ ap (λ n. drop n es) (sym at) in
+    let long : count + (more + 1) + 1 ≡ (count + 1) + (more + 1) = omega arith in
+    ap (map taken_in) (ap (λ n. take n rest) long ∙ take-add (count + 1) (more + 1) rest ∙ ap (λ l. take (count + 1) rest ++ take (more + 1) l) here)
+    ∙ map-append taken_in (take (count + 1) rest) (take (more + 1) (drop first es))
 
 -- a last step that asks more, and one that is kept
 pub last_more : {A : Type 0} (es : List EventView) (xs : List (PlannedStep A)) (i : ℕ) (last new : PlannedStep A) (added : Job) → length xs ≡ i + 1 → get_or xs i last ≡ last → step_seen es new ≡ step_seen es last ++ added
@@ -77,6 +80,26 @@ grow_more es old mid new first more all same one two = record {
       ∙ ap (λ l. steps_seen es (get_or old rank other).items ++ l) (same rank);
 }
 
+-- more is added to the steps of one rank
+pub grow_at : {A : Type 0} (es : List EventView) (lists : List (Vec (PlannedStep A) A)) (i : ℕ) (old new : Vec (PlannedStep A) A) (added : Job) → i < length lists → get_or lists i old ≡ old
+    → steps_seen es new.items ≡ steps_seen es old.items ++ added → Grow es lists (set lists i new) (λ rank. if i == rank then added else [])
+grow_at {A} es lists i old new added inside is more = record {
+  count = length-set lists i new;
+  steps = λ rank other below. by_rank rank other below (eqb_tells i rank);
+}
+  where
+    by_rank : (rank : ℕ) (other : Vec (PlannedStep A) A) → rank < length lists → (((i == rank) ≡ true) × (i ≡ rank)) ⊎ (((i == rank) ≡ false) × (i ≢ rank))
+        → steps_seen es (get_or (set lists i new) rank other).items ≡ steps_seen es (get_or lists rank other).items ++ (if i == rank then added else [])
+    by_rank rank other below (inl here) =
+        let at : get_or lists rank other ≡ old = get_or_default lists rank other old below ∙ ap (λ n. get_or lists n old) (sym here.1) ∙ is in
+        rw here.0
+        (ap (λ (v : Vec (PlannedStep A) A). steps_seen es v.items) (get_or-set_at lists i rank new other (sym here.1) inside)
+        ∙ more ∙ ap (λ (v : Vec (PlannedStep A) A). steps_seen es v.items ++ added) (sym at))
+    by_rank rank other below (inr away) =
+        rw away.0
+        (ap (λ (v : Vec (PlannedStep A) A). steps_seen es v.items) (get_or-set_other lists i rank new other (λ same. away.1 (sym same)))
+        ∙ sym (append-nil (steps_seen es (get_or lists rank other).items)))
+
 abbrev pub changes_asked_at : {A : Type 0} → Place → List (MatchChange A) → ℕ → Job
 changes_asked_at place changes rank = map (λ what. (place, what)) (changes_for rank (map change_seen changes))
 
@@ -101,49 +124,37 @@ change_more {A} es e event (d ∷ ds) c s rank is = by_test (d.rank == rank) (ch
     by_test true rest = ap (λ l. (e.place, doing_of (change_seen d).what) ∷ l) rest
     by_test false rest = rest
 
--- what a step of one event asks, and of one change
-pub takes_one : (es : List EventView) (e : EventView) (event : ℕ) → slice_get es event ≡ Some e → map taken_in (take (0 + 1) (drop event es)) ≡ taken_in e ∷ []
-takes_one es e event is =
-    let rest = drop event es in
-    let inside : event < length es = slice_get_within es event e is in
-    let below : 0 < length rest = omega (arith, inside, length-drop event es) in
-    let here : get_or rest 0 e ≡ e = get_or-drop event es 0 e ∙ ap (λ i. get_or es i e) (omega arith) ∙ get_or_from_slice_get es event e e is in
-    ap (map taken_in) (take_more rest 0 e below ∙ ap (λ d. d ∷ []) here)
-
+-- what a step of one change asks
 pub hears_one : {A : Type 0} (es : List EventView) (e : EventView) (event : ℕ) (what : Box (Becomes A) A) → slice_get es event ≡ Some e
     → step_seen es (step.Change event what) ≡ (e.place, doing_of (becomes_seen (box_value what))) ∷ []
 hears_one es e event what is = ap (λ (o : Option EventView). option_to_list (option_map (λ (d : EventView). (d.place, doing_of (becomes_seen (box_value what)))) o)) is
 
--- ---- an event, for the readers of some ranks
+-- ---- a burst, for the readers of some ranks
 
 -- one rank more
-pub rank_more : (e : EventView) (readers : List (Option Wish)) (ranks : List ℕ) (r : ℕ) (rank : ℕ)
-    → taken_at e readers ranks rank ++ taken_at e readers (r ∷ []) rank ≡ taken_at e readers (ranks ++ r ∷ []) rank
-rank_more e readers ranks r rank =
-    let p : ℕ → Bool = λ r. is_named e.reader (reader_at readers r) in
-    let step : ℕ → ReaderStep = λ r. step_by r (asks_of e) in
-    let own : ReaderStep → Bool = λ s. s.rank == rank in
-    let what : ReaderStep → StepView = λ s. s.what in
-    let at : StepView → Place × StepView = λ what. (e.place, what) in
+pub rank_more : (es : List EventView) (b : Burst) (readers : List (Option Wish)) (ranks : List ℕ) (r : ℕ) (rank : ℕ)
+    → burst_at es b readers ranks rank ++ burst_at es b readers (r ∷ []) rank ≡ burst_at es b readers (ranks ++ r ∷ []) rank
+rank_more es b readers ranks r rank =
+    let named : ℕ → Bool = λ r. is_named b.reader (reader_at readers r) in
+    let own : ℕ → Bool = λ r. r == rank in
+    let asks : ℕ → Job = λ r. map taken_in (events_at es b.first b.more) in
     sym (
-    ap (λ l. map at (map what (filter own (map step l)))) (filter-append p ranks (r ∷ []))
-    ∙ ap (λ l. map at (map what (filter own l))) (map-append step (filter p ranks) (filter p (r ∷ [])))
-    ∙ ap (λ l. map at (map what l)) (filter-append own (map step (filter p ranks)) (map step (filter p (r ∷ []))))
-    ∙ ap (map at) (map-append what (filter own (map step (filter p ranks))) (filter own (map step (filter p (r ∷ [])))))
-    ∙ map-append at (map what (filter own (map step (filter p ranks)))) (map what (filter own (map step (filter p (r ∷ [])))))
+    ap (λ l. flat_map asks (filter own l)) (filter-append named ranks (r ∷ []))
+    ∙ ap (flat_map asks) (filter-append own (filter named ranks) (filter named (r ∷ [])))
+    ∙ flat_map-append asks (filter own (filter named ranks)) (filter own (filter named (r ∷ [])))
     )
 
 -- a rank that is named, and one that isn't
-pub rank_named : (e : EventView) (readers : List (Option Wish)) (r : ℕ) (rank : ℕ) → is_named e.reader (reader_at readers r) ≡ true
-    → (if r == rank then taken_in e ∷ [] else []) ≡ taken_at e readers (r ∷ []) rank
-rank_named e readers r rank is = rw is (by_test (r == rank))
+pub rank_named : (es : List EventView) (b : Burst) (readers : List (Option Wish)) (r : ℕ) (rank : ℕ) → is_named b.reader (reader_at readers r) ≡ true
+    → (if r == rank then map taken_in (events_at es b.first b.more) else []) ≡ burst_at es b readers (r ∷ []) rank
+rank_named es b readers r rank is = rw is (by_test (r == rank))
   where
-    by_test : (b : Bool) → (if b then taken_in e ∷ [] else []) ≡ map (λ what. (e.place, what)) (map (λ (s : ReaderStep). s.what) (if b then step_by r (asks_of e) ∷ [] else []))
-    by_test true = refl
+    by_test : (t : Bool) → (if t then map taken_in (events_at es b.first b.more) else []) ≡ flat_map (λ r. map taken_in (events_at es b.first b.more)) (if t then r ∷ [] else [])
+    by_test true = sym (append-nil (map taken_in (events_at es b.first b.more)))
     by_test false = refl
 
-pub rank_unnamed : (e : EventView) (readers : List (Option Wish)) (r : ℕ) (rank : ℕ) → is_named e.reader (reader_at readers r) ≡ false → taken_at e readers (r ∷ []) rank ≡ []
-rank_unnamed e readers r rank is = rw is refl
+pub rank_unnamed : (es : List EventView) (b : Burst) (readers : List (Option Wish)) (r : ℕ) (rank : ℕ) → is_named b.reader (reader_at readers r) ≡ false → burst_at es b readers (r ∷ []) rank ≡ []
+rank_unnamed es b readers r rank is = rw is refl
 
 -- a reader that is looked up, and none
 pub reader_got : (readers : List (Option Wish)) (rank : ℕ) (o : Option Wish) → rank < length readers → get_or readers rank o ≡ o → reader_at readers rank ≡ o
@@ -166,6 +177,11 @@ if_matched k rank e None others = by_test (is_matched k rank (writer_of e))
     by_test true = refl
     by_test false = refl
 if_matched k rank e (Some r) others = rw others refl
+
+-- what an event asks of the reader of a rank, where that is among these and the event names it
+abbrev pub taken_at : EventView → List (Option Wish) → List ℕ → ℕ → Job
+taken_at e readers ranks rank =
+    map (λ what. (e.place, what)) (map (λ (s : ReaderStep). s.what) (filter (λ (s : ReaderStep). s.rank == rank) (map (λ r. step_by r (asks_of e)) (filter (λ r. is_named e.reader (reader_at readers r)) ranks))))
 
 -- an event is taken by the readers that are matched with its writer and named by it
 pub event_asked : (k : Known) (e : EventView) (rank : ℕ) → is_discovery e.writer ≡ false → rank < length k.readers

@@ -1,10 +1,10 @@
--- A whole batch: one event more, and the jobs of the readers that have steps.
-use Rattle.std.proofs.Common.{◌≡◌, ◌==◌, false, true≢false, ℕ, suc, ◌<◌, ◌+◌, arith, List, [], ◌∷◌, ◌++◌, length, map, Some, get_or, refl, sym, ap, ◌∙◌, subst, append_assoc, append-nil}
+-- A whole batch: some events more, and the jobs of the readers that have steps.
+use Rattle.std.proofs.Common.{◌≡◌, ◌==◌, false, true≢false, ℕ, suc, ◌<◌, ◌≤◌, ◌+◌, arith, List, [], ◌∷◌, ◌++◌, length, map, Some, get_or, refl, sym, ap, ◌∙◌, subst, append_assoc, append-nil}
 use Rattle.std.specs.Prelude.{drop, replicate, take}
 use Rattle.std.specs.List.{slice_get}
 use Rattle.std.specs.declared.vec.Vec.{Vec}
 use Rattle.std.proofs.Math.Seq.{get_or-append_seam}
-use Rattle.std.proofs.lemmas.List.{get_or_append_left, length-append, length-drop, length-map, length-replicate, length-take, map-append, map_push, nil_from_length}
+use Rattle.std.proofs.lemmas.List.{drop-append-le, length-append, length-drop, length-map, length-replicate, length-take, map-append, map_push, nil_from_length, take-append-le}
 use Rattle.std.proofs.lemmas.Option.{slice_get-get_or, slice_get_within}
 use Rattle.rtps_receiver.specs.Events.{EventView}
 use Rattle.rtps_discovery.specs.Kept.{IsKnown, HeldView}
@@ -16,32 +16,30 @@ use Rattle.rtps_planner.specs.declared.jobs.Job as plan_job
 use Rattle.rtps_planner.specs.declared.steps.PlannedStep.{PlannedStep}
 use Rattle.rtps_planner.specs.declared.steps.PlannedStep.TheVariants as step
 use Rattle.rtps_planner.specs.declared.steps.Planning.{Planning}
-use Rattle.rtps_planner.specs.Plan.{AreAllPlanned, AreSteps, Grow, IsPlanned, discovery_sending, job_at, job_seen, jobs_by, step_seen, steps_seen, taken_in}
+use Rattle.rtps_planner.specs.Plan.{AreAllPlanned, AreSteps, Grow, IsPlanned, ReadsAs, discovery_sending, job_at, job_seen, jobs_by, step_seen, steps_seen, taken_in}
 use Rattle.rtps_planner.proofs.Planned.{hears_one}
 
--- ---- one event more
+-- ---- some events more
 
-pub known_more : (k : Known) (es : List EventView) (e : EventView) → known_after_events k (es ++ e ∷ []) ≡ known_after_event (known_after_events k es) e
-known_more k [] e = refl
-known_more k (d ∷ es) e = known_more (known_after_event k d) es e
+known_more : (k : Known) (es run : List EventView) → known_after_events k (es ++ run) ≡ known_after_events (known_after_events k es) run
+known_more k [] run = refl
+known_more k (d ∷ es) run = known_more (known_after_event k d) es run
 
-pub job_more : (rank : ℕ) (k : Known) (es : List EventView) (e : EventView)
-    → job_of rank k (es ++ e ∷ []) ≡ job_of rank k es ++ map (λ what. (e.place, what)) (doings (known_after_events k es) rank e)
-job_more rank k [] e = append-nil (map (λ what. (e.place, what)) (doings k rank e))
-job_more rank k (d ∷ es) e =
+job_more : (rank : ℕ) (k : Known) (es run : List EventView) → job_of rank k (es ++ run) ≡ job_of rank k es ++ job_of rank (known_after_events k es) run
+job_more rank k [] run = refl
+job_more rank k (d ∷ es) run =
     let here : Job = map (λ what. (d.place, what)) (doings k rank d) in
     let after = known_after_event k d in
-    ap (λ l. here ++ l) (job_more rank after es e)
-    ∙ sym (append_assoc here (job_of rank after es) (map (λ what. (e.place, what)) (doings (known_after_events after es) rank e)))
+    ap (λ l. here ++ l) (job_more rank after es run) ∙ sym (append_assoc here (job_of rank after es) (job_of rank (known_after_events after es) run))
 
-pub answers_more : (k : Known) (es : List EventView) (e : EventView) → discovery_answers k (es ++ e ∷ []) ≡ discovery_answers k es ++ discovery_answer (known_after_events k es) e
-answers_more k [] e = append-nil (discovery_answer k e)
-answers_more k (d ∷ es) e =
+answers_more : (k : Known) (es run : List EventView) → discovery_answers k (es ++ run) ≡ discovery_answers k es ++ discovery_answers (known_after_events k es) run
+answers_more k [] run = refl
+answers_more k (d ∷ es) run =
     let after = known_after_event k d in
-    ap (λ l. discovery_answer k d ++ l) (answers_more after es e)
-    ∙ sym (append_assoc (discovery_answer k d) (discovery_answers after es) (discovery_answer (known_after_events after es) e))
+    ap (λ l. discovery_answer k d ++ l) (answers_more after es run)
+    ∙ sym (append_assoc (discovery_answer k d) (discovery_answers after es) (discovery_answers (known_after_events after es) run))
 
-pub readers_stay_all : (k : Known) (es : List EventView) → (known_after_events k es).readers ≡ k.readers
+readers_stay_all : (k : Known) (es : List EventView) → (known_after_events k es).readers ≡ k.readers
 readers_stay_all k [] = refl
 readers_stay_all k (e ∷ es) = readers_stay_all (known_after_event k e) es ∙ readers_stay k e
 
@@ -61,19 +59,26 @@ some_asked es e (step.TakeIn first more) is =
     omega (arith, length-map (take (more + 1) rest) taken_in, taken, some)
 some_asked es e (step.Change event what) is = omega (arith, ap length (hears_one es e event what is))
 
--- there are no steps where nothing is seen of them, whatever events there are besides
-no_steps : {A : Type 0} (all : List EventView) (i : ℕ) (e : EventView) → i < length all → get_or all i e ≡ e → (steps : List (PlannedStep A))
-    → ((es : List EventView) → slice_get es i ≡ Some e → steps_seen es steps ≡ []) → steps ≡ []
-no_steps all i e below is [] none = refl
-no_steps all i e below is (s ∷ ss) none =
+-- an event, where there is one
+some_event : (all : List EventView) → 0 < length all → EventView
+some_event [] some = absurd (omega (arith, some))
+some_event (e ∷ es) some = e
+
+-- there are no steps where nothing is seen of them, whatever events there are besides these
+no_steps : {A : Type 0} (all : List EventView) (i n : ℕ) → 0 < n → i + n ≤ length all → (steps : List (PlannedStep A))
+    → ((es : List EventView) → ReadsAs all es i n → steps_seen es steps ≡ []) → steps ≡ []
+no_steps all i n some within [] none = refl
+no_steps all i n some within (s ∷ ss) none =
+    let e = some_event all (omega (arith, some, within)) in
     let first = first_of s in
     let more : List EventView = replicate (first + 1) e in
     let es : List EventView = all ++ more in
     let long : first < length es = omega (arith, length-append all more, length-replicate (first + 1) e) in
-    let fits : i < length es = omega (arith, length-append all more, below) in
-    let at : slice_get es i ≡ Some e = slice_get-get_or es i e fits ∙ ap Some (get_or_append_left all more e i below ∙ is) in
-    let some = some_asked es (get_or es first e) s (slice_get-get_or es first e long) in
-    absurd (omega (arith, length-append (step_seen es s) (steps_seen es ss), ap length (none es at), some))
+    let begins : i ≤ length all = omega (arith, within) in
+    let left : n ≤ length (drop i all) = omega (arith, within, length-drop i all) in
+    let at : ReadsAs all es i n = ap (take n) (drop-append-le i all more begins) ∙ take-append-le n (drop i all) more left in
+    let asks = some_asked es (get_or es first e) s (slice_get-get_or es first e long) in
+    absurd (omega (arith, length-append (step_seen es s) (steps_seen es ss), ap length (none es at), asks))
 
 front_nil : {X : Type 0} (xs ys : List X) → xs ++ ys ≡ [] → xs ≡ []
 front_nil xs ys e = nil_from_length xs (omega (arith, length-append xs ys, ap length e))
@@ -81,36 +86,39 @@ front_nil xs ys e = nil_from_length xs (omega (arith, length-append xs ys, ap le
 back_nil : {X : Type 0} (xs ys : List X) → xs ++ ys ≡ [] → ys ≡ []
 back_nil xs ys e = nil_from_length ys (omega (arith, length-append xs ys, ap length e))
 
--- one event more is planned
-pub planned_more : {A : Type 0} (k : Known) (all es : List EventView) (i : ℕ) (e : EventView) (old new : Planning A) (before kept : HeldView)
-    → i < length all → get_or all i e ≡ e → AreAllPlanned k all es old before
-    → ((hs : List EventView) → slice_get hs i ≡ Some e → IsPlanned hs (known_after_events k es) e old new kept) → AreAllPlanned k all (es ++ e ∷ []) new kept
-planned_more {A} k all es i e old new before kept below is was planned =
+-- these events more are planned
+pub planned_more : {A : Type 0} (k : Known) (all es : List EventView) (i n : ℕ) (old new : Planning A) (before kept : HeldView)
+    → 0 < n → i + n ≤ length all → AreAllPlanned k all es old before
+    → ((hs : List EventView) → ReadsAs all hs i n → IsPlanned hs (known_after_events k es) (take n (drop i hs)) old new kept)
+    → AreAllPlanned k all (es ++ take n (drop i all)) new kept
+planned_more {A} k all es i n old new before kept some within was planned =
     let k' : Known = known_after_events k es in
-    let asked : ℕ → Job = λ rank. map (λ what. (e.place, what)) (doings k' rank e) in
-    let at : slice_get all i ≡ Some e = slice_get-get_or all i e below ∙ ap Some is in
+    let run : List EventView = take n (drop i all) in
+    let asked : ℕ → Job = λ rank. job_of rank k' run in
     let count : length old.lists.items ≡ length k'.readers = was.count ∙ ap length (sym (readers_stay_all k es)) in
-    let grows : (hs : List EventView) → slice_get hs i ≡ Some e → Grow hs old.lists.items new.lists.items asked = λ hs h. (planned hs h).steps count in
-    let fewer : (rank : ℕ) → rank < length new.lists.items → rank < length old.lists.items = λ rank less. subst (λ n. rank < n) (grows all at).count less in
+    let grows : (hs : List EventView) → ReadsAs all hs i n → Grow hs old.lists.items new.lists.items asked =
+    λ hs h. subst (λ l. Grow hs old.lists.items new.lists.items (λ rank. job_of rank k' l)) h ((planned hs h).steps count) in
+    let here = planned all refl in
+    let fewer : (rank : ℕ) → rank < length new.lists.items → rank < length old.lists.items = λ rank less. subst (λ n. rank < n) (grows all refl).count less in
     record {
-      known = subst (λ w. IsKnown w kept) (sym (known_more k es e)) (planned all at).known;
-      count = (grows all at).count ∙ was.count;
+      known = subst (λ w. IsKnown w kept) (sym (known_more k es run)) here.known;
+      count = (grows all refl).count ∙ was.count;
       steps = record {
         steps = λ rank other less.
-            (grows all at).steps rank other (fewer rank less)
+            (grows all refl).steps rank other (fewer rank less)
             ∙ ap (λ l. l ++ asked rank) (was.steps.steps rank other (fewer rank less))
-            ∙ sym (job_more rank k es e);
+            ∙ sym (job_more rank k es run);
         none = λ rank other less none.
-            let both : job_of rank k es ++ asked rank ≡ [] = sym (job_more rank k es e) ∙ none in
-            no_steps all i e below is (get_or new.lists.items rank other).items
+            let both : job_of rank k es ++ asked rank ≡ [] = sym (job_more rank k es run) ∙ none in
+            no_steps all i n some within (get_or new.lists.items rank other).items
             (λ hs h. (grows hs h).steps rank other (fewer rank less)
             ∙ ap (λ l. steps_seen hs l ++ asked rank) (was.steps.none rank other (fewer rank less) (front_nil (job_of rank k es) (asked rank) both))
             ∙ back_nil (job_of rank k es) (asked rank) both);
       };
-      answers = (planned all at).answers
-          ∙ ap (λ l. l ++ map discovery_sending (discovery_answer k' e)) was.answers
-          ∙ sym (map-append discovery_sending (discovery_answers k es) (discovery_answer k' e))
-          ∙ ap (map discovery_sending) (sym (answers_more k es e));
+      answers = here.answers
+          ∙ ap (λ l. l ++ map discovery_sending (discovery_answers k' run)) was.answers
+          ∙ sym (map-append discovery_sending (discovery_answers k es) (discovery_answers k' run))
+          ∙ ap (map discovery_sending) (sym (answers_more k es run));
     }
 
 -- ---- the jobs of the readers that have steps

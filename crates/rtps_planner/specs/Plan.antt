@@ -1,31 +1,38 @@
 -- The jobs of a plan, whose steps point into the batch's list of events.
-use Rattle.std.specs.Prelude.{◌≡◌, ℕ, zero, suc, ◌+◌, [], ◌∷◌, Bool, false, ◌<◌, List, ◌++◌, length, map, filter, take, drop, ◌==◌, Option, Some, None, box_value, option_to_list, slice_index_or}
-use Rattle.std.specs.List.{flat_map, slice_get}
+use Rattle.std.specs.Prelude.{◌≡◌, ℕ, zero, suc, ◌+◌, [], ◌∷◌, Bool, true, false, ◌&&◌, ◌<◌, List, ◌++◌, length, map, filter, take, drop, ◌==◌, Option, Some, None, box_value, option_to_list, slice_index_or}
+use Rattle.std.specs.List.{AllByRecursion, flat_map, slice_get}
+use Rattle.std.specs.Str.{bytes_eq}
 use Rattle.std.specs.Option.{option_map}
 use Rattle.std.specs.declared.vec.Vec.{Vec}
 use Rattle.rtps_types.specs.declared.identity.EntityId.{EntityId}
+use Rattle.rtps_types.specs.declared.identity.Guid.{Guid}
 use Rattle.rtps_receiver.specs.Events.{EventView}
-use Rattle.rtps_discovery.specs.Addressed.{is_for}
+use Rattle.rtps_discovery.specs.Addressed.{is_for, writer_of}
 use Rattle.rtps_discovery.specs.Changes as changes
 use Rattle.rtps_discovery.specs.Known.{Known, Wish, reader_at}
 use Rattle.rtps_discovery.specs.Seen.{becomes_seen}
 use Rattle.rtps_reader.specs.Steps.{StepView, asks_of}
-use Rattle.rtps_serial.specs.Steps.{step_by}
-use Rattle.rtps_serial.specs.World.{AnswerView, doing_of, doings, known_after_event}
+use Rattle.rtps_serial.specs.World.{AnswerView, doing_of}
 use Rattle.rtps_serial.specs.Outcome.{answer_view}
+use Rattle.rtps_proxy.specs.Matches.{same_guid}
 use Rattle.rtps_proxy.specs.Replies.{ReplyView}
 use Rattle.rtps_types.specs.declared.place.Place.{Place}
 use Rattle.rtps_discovery.specs.Kept.{IsKnown, HeldView}
+use Rattle.rtps_planner.specs.declared.steps.Burst.{Burst}
 use Rattle.rtps_planner.specs.declared.steps.Planning.{Planning}
 use Rattle.rtps_planner.specs.declared.steps.PlannedStep.{PlannedStep}
 use Rattle.rtps_planner.specs.declared.steps.PlannedStep.TheVariants as step
 use Rattle.rtps_planner.specs.declared.jobs.Job as plan_job
 use Rattle.rtps_planner.specs.declared.jobs.Plan.{Plan}
-use Rattle.rtps_planner.specs.Job.{Job, discovery_answer, discovery_answers, job_of, known_after_events}
+use Rattle.rtps_planner.specs.Job.{Job, discovery_answers, job_of, known_after_events}
 
 -- an event that a reader takes in
 abbrev pub taken_in : EventView → Place × StepView
 taken_in e = (e.place, asks_of e)
+
+-- the event of an index, and so many that follow it; fewer where there are none
+abbrev pub events_at : List EventView → ℕ → ℕ → List EventView
+events_at es first more = take (more + 1) (drop first es)
 
 -- to hear what becomes of a match, at the event of an index; nothing where there is no such event
 abbrev pub heard_at : List EventView → ℕ → changes.Becomes → Job
@@ -34,7 +41,7 @@ heard_at es event what =
 
 -- what a step asks, by the events that it points into; nothing where there are none
 abbrev pub step_seen : {A : Type 0} → List EventView → PlannedStep A → Job
-step_seen es (step.TakeIn first more) = map taken_in (take (more + 1) (drop first es))
+step_seen es (step.TakeIn first more) = map taken_in (events_at es first more)
 step_seen es (step.Change event what) = heard_at es event (becomes_seen (box_value what))
 
 -- what the steps of a job ask, one after the other
@@ -54,26 +61,41 @@ pub record Grow {A : Type 0} (es : List EventView) (old new : List (Vec (Planned
       → steps_seen es (slice_index_or new rank other).items
       ≡ steps_seen es (slice_index_or old rank other).items ++ added rank
 
--- what an event asks of the reader of a rank, where that is among these and the event names it
-abbrev pub taken_at : EventView → List (Option Wish) → List ℕ → ℕ → Job
-taken_at e readers ranks rank =
-    map (λ what. (e.place, what)) (map (λ s. s.what) (filter (λ s. s.rank == rank)
-    (map (λ r. step_by r (asks_of e))
-    (filter (λ r. is_named e.reader (reader_at readers r)) ranks))))
+-- an event comes from this writer with this reader id
+abbrev pub is_from : Guid → EntityId → EventView → Bool
+is_from writer reader e = same_guid (writer_of e) writer && bytes_eq e.reader.0 reader.0
+
+-- all these events do
+abbrev pub AreFrom : Guid → EntityId → List EventView → Type 0
+AreFrom writer reader es = AllByRecursion (λ e. is_from writer reader e ≡ true) es
+
+-- the ranks among these that are this rank, where a reader id names its reader
+abbrev pub ranks_named : EntityId → List (Option Wish) → List ℕ → ℕ → List ℕ
+ranks_named reader readers ranks rank =
+    filter (λ r. r == rank) (filter (λ r. is_named reader (reader_at readers r)) ranks)
+
+-- what a burst asks of the reader of a rank, where that is among these and the burst names it
+abbrev pub burst_at : List EventView → Burst → List (Option Wish) → List ℕ → ℕ → Job
+burst_at es b readers ranks rank =
+    flat_map (λ r. map taken_in (events_at es b.first b.more)) (ranks_named b.reader readers ranks rank)
+
+-- a list has these events, from an index on, where another has them
+abbrev pub ReadsAs : List EventView → List EventView → ℕ → ℕ → Type 0
+ReadsAs all es first count = take count (drop first es) ≡ take count (drop first all)
 
 -- an answer of discovery
 abbrev pub discovery_sending : Place × ReplyView → AnswerView
 discovery_sending s = record { place = s.0; rank = None; to = s.1.to; octets = s.1.octets }
 
--- what an event asks of each reader and what discovery answers to it are added, and discovery keeps
--- what is known after it
-pub record IsPlanned {A : Type 0} (es : List EventView) (k : Known) (e : EventView)
+-- what events ask of each reader and what discovery answers to them are added, and discovery keeps
+-- what is known after them
+pub record IsPlanned {A : Type 0} (es : List EventView) (k : Known) (run : List EventView)
     (old new : Planning A) (kept : HeldView) : Type 0 where
-  pub known : IsKnown (known_after_event k e) kept
-  pub steps : length old.lists.items ≡ length k.readers → Grow es old.lists.items new.lists.items
-      (λ rank. map (λ what. (e.place, what)) (doings k rank e))
+  pub known : IsKnown (known_after_events k run) kept
+  pub steps : length old.lists.items ≡ length k.readers
+      → Grow es old.lists.items new.lists.items (λ rank. job_of rank k run)
   pub answers : map answer_view new.answers.items
-      ≡ map answer_view old.answers.items ++ map discovery_sending (discovery_answer k e)
+      ≡ map answer_view old.answers.items ++ map discovery_sending (discovery_answers k run)
 
 -- the steps of each rank are what is asked of it, and there are none where nothing is asked
 pub record AreSteps {A : Type 0} (es : List EventView) (lists : List (Vec (PlannedStep A) A))

@@ -1,17 +1,80 @@
 //! What each reader has to do in a batch.
 
-ghost use Rattle.std.specs.Prelude.{◌≡◌, ◌≤◌, ℕ, IfOk, List, length, map};
+ghost use Rattle.std.specs.Prelude.{◌≡◌, ◌+◌, ◌-◌, ◌<◌, ◌≤◌, ℕ, IfOk, List, OnOk, drop, false, length, map, slice_index_or, take};
 ghost use Rattle.rtps_discovery.specs.Kept.{IsKnown};
 ghost use Rattle.rtps_discovery.specs.Known.{Known};
 ghost use Rattle.rtps_receiver.specs.Events.{EventView, view};
-ghost use Rattle.rtps_planner.specs.Plan.{AreAllPlanned, AreSteps, IsPlan, job_seen, jobs_by};
+ghost use Rattle.rtps_planner.specs.Plan.{AreAllPlanned, AreFrom, AreSteps, IsPlan, IsPlanned, ReadsAs, is_from, job_seen, jobs_by};
 
 use crate::jobs::{Job, Plan, Rest};
-use crate::steps::{PlannedStep, Planning, plan_event};
-use rtps_discovery::Discovery;
+use crate::steps::{Burst, PlannedStep, Planning, plan_announcement, plan_burst};
+use rtps_discovery::{Discovery, is_discovery};
 use rtps_receiver::Event;
 use rtps_serial::empty_lists;
+use rtps_types::{EntityId, Guid};
 use std::alloc::{AllocError, Allocator};
+
+/// Whether an event comes from this writer with this reader id.
+fn is_from(event: &Event<'_>, writer: Guid, reader: EntityId) -> bool
+    ensures { result ≡ is_from writer reader (view event.now) }
+{
+    event.source == writer.prefix && event.writer == writer.entity && event.reader == reader
+}
+
+/// How many of these events, from the front on, come from this writer with this reader id.
+fn count_from(events: &[Event<'_>], writer: Guid, reader: EntityId) -> usize
+    ensures within { result ≤ length events.now }
+    ensures alike { AreFrom writer reader (take result (map view events.now)) }
+    ensures ends { (other : _) → result < length events.now
+        → is_from writer reader (view (slice_index_or events.now result other)) ≡ false }
+{
+    let mut count = 0;
+    for event in events {
+        if !is_from(event, writer, reader) {
+            return count;
+        }
+        count += 1;
+    }
+    count
+}
+
+/// Takes the event at this index into a plan, and gives the index of the first that isn't taken. An
+/// announcer's event is discovery's; any other event is taken together with those after it that
+/// come from its writer with its reader id, for which one search is enough.
+fn plan_next<A: Allocator + Copy>(
+    discovery: &mut Discovery<A>,
+    planning: &mut Planning<A>,
+    alloc: A,
+    events: &[Event<'_>],
+    first: usize,
+) -> Result<usize, AllocError>
+    requires { first < length events.now }
+    ensures count { OnOk result (length planning.new.lists.items
+        ≡ length planning.old.lists.items) }
+    ensures within { IfOk result (λ next. (first < next) × (next ≤ length events.now)) }
+    ensures planned { (k : Known) (es : List EventView) → IsKnown k discovery.old.kept
+        → IfOk result (λ next. ReadsAs (map view events.now) es first (next - first)
+        → IsPlanned es k (take (next - first) (drop first es)) planning.old planning.new
+        discovery.new.kept) }
+{
+    let event = &events[first];
+    if is_discovery(event.writer) {
+        plan_announcement(discovery, planning, alloc, first, event)?;
+        return Ok(first + 1);
+    }
+    let writer = Guid {
+        prefix: event.source,
+        entity: event.writer,
+    };
+    let burst = Burst {
+        first,
+        more: count_from(&events[first + 1..], writer, event.reader),
+        writer,
+        reader: event.reader,
+    };
+    plan_burst(discovery, planning, burst)?;
+    Ok(first + 1 + burst.more)
+}
 
 /// Takes the events into a plan, one after the other.
 fn plan_events<A: Allocator + Copy>(
@@ -28,8 +91,9 @@ fn plan_events<A: Allocator + Copy>(
         lists: empty_lists(alloc, discovery.readers().len())?,
         answers: Vec::new(alloc),
     };
-    for (index, event) in events.iter().enumerate() {
-        plan_event(discovery, &mut planning, alloc, index, event)?;
+    let mut first = 0;
+    while first < events.len() {
+        first = plan_next(discovery, &mut planning, alloc, events, first)?;
     }
     Ok(planning)
 }

@@ -1,6 +1,6 @@
-//! The steps of readers at one event.
+//! The steps of readers at an announcement, and at events of a user's writer.
 
-ghost use Rattle.std.specs.Prelude.{◌≡◌, ℕ, ◌<◌, ◌==◌, ◌++◌, [], ◌∷◌, List, OnOk, IfOk, if◌then◌else◌, length, map, Some, true, false};
+ghost use Rattle.std.specs.Prelude.{◌≡◌, ℕ, ◌+◌, ◌<◌, ◌^◌, ◌==◌, ◌++◌, [], ◌∷◌, List, OnOk, if◌then◌else◌, length, map, Some, true, false};
 ghost use Rattle.std.specs.List.{slice_get};
 ghost use Rattle.std.specs.Option.{option_map};
 ghost use Rattle.rtps_discovery.specs.Addressed as addressed;
@@ -12,9 +12,10 @@ ghost use Rattle.rtps_proxy.specs.Replies.{reply_view};
 ghost use Rattle.rtps_reader.specs.Reader.{placed};
 ghost use Rattle.rtps_serial.specs.Outcome.{answer_view};
 ghost use Rattle.rtps_serial.specs.World.{changes_for};
-ghost use Rattle.rtps_planner.specs.Plan.{Grow, IsPlanned, discovery_sending, is_named, step_seen, steps_seen, taken_at, taken_in};
+ghost use Rattle.rtps_planner.specs.Plan.{AreFrom, Grow, IsPlanned, burst_at, discovery_sending, events_at, is_named, step_seen, steps_seen, taken_in};
+ghost use Rattle.rtps_planner.specs.declared.steps.PlannedStep.TheVariants as planned;
 
-use rtps_discovery::{Becomes, Discovery, MatchChange, Reader, is_discovery, is_for};
+use rtps_discovery::{Becomes, Discovery, MatchChange, Reader, is_for};
 use rtps_receiver::Event;
 use rtps_serial::Answer;
 use rtps_types::{EntityId, Guid, Place, Reply};
@@ -54,57 +55,73 @@ fn push_step<A: Allocator>(
     Ok(())
 }
 
-/// Lets a step take in the event at this index too, where that follows its events, and says
-/// whether it does.
-fn lengthen<A: Allocator>(step: &mut PlannedStep<A>, event: usize) -> bool
+/// Lets a step take in so many more events too, from the one at this index on, where that follows
+/// the events of the step; says whether it does.
+fn lengthen<A: Allocator>(step: &mut PlannedStep<A>, first: usize, more: usize) -> bool
     ensures kept { result ≡ false → step.new ≡ step.old }
-    ensures longer { (es : List EventView) (e : EventView) → slice_get es event ≡ Some e
-        → result ≡ true → step_seen es step.new ≡ step_seen es step.old ++ taken_in e ∷ [] }
+    ensures longer { (es : List EventView) → result ≡ true → step_seen es step.new
+        ≡ step_seen es step.old ++ map taken_in (events_at es first more) }
+    ensures follows { (from count : ℕ) → step.old ≡ planned.TakeIn from count
+        → first ≡ from + (count + 1) → first + more < 2 ^ 64 → result ≡ true }
 {
     match step {
-        PlannedStep::TakeIn { first, more } => {
-            if event <= *first || event - *first - 1 != *more {
+        PlannedStep::TakeIn {
+            first: from,
+            more: count,
+        } => {
+            if first <= *from || first - *from - 1 != *count {
                 return false;
             }
-            *more = event - *first;
+            let Some(longer) = (first - *from).checked_add(more) else {
+                return false;
+            };
+            *count = longer;
             true
         }
         PlannedStep::Change { .. } => false,
     }
 }
 
-/// Lets the event at this index be taken in after the other steps.
-fn take_in<A: Allocator>(steps: &mut Vec<PlannedStep<A>, A>, event: usize) -> Result<(), AllocError>
-    ensures { (es : List EventView) (e : EventView) → slice_get es event ≡ Some e → OnOk result
-        (steps_seen es steps.new.items ≡ steps_seen es steps.old.items ++ taken_in e ∷ []) }
+/// Lets the event at this index, and so many more that follow it, be taken in after the other
+/// steps.
+fn take_in<A: Allocator>(
+    steps: &mut Vec<PlannedStep<A>, A>,
+    first: usize,
+    more: usize,
+) -> Result<(), AllocError>
+    ensures { (es : List EventView) → OnOk result (steps_seen es steps.new.items
+        ≡ steps_seen es steps.old.items ++ map taken_in (events_at es first more)) }
 {
     if let Some(last) = steps.last_mut() {
-        if lengthen(last, event) {
+        if lengthen(last, first, more) {
             return Ok(());
         }
     }
-    push_step(
-        steps,
-        PlannedStep::TakeIn {
-            first: event,
-            more: 0,
-        },
-    )
+    push_step(steps, PlannedStep::TakeIn { first, more })
 }
 
-/// Lets the reader of a rank take in the event at this index; there is none for a rank past the
-/// last.
+/// Neighbouring events that come from one writer with one reader id.
+#[derive(Clone, Copy)]
+pub(crate) struct Burst {
+    /// The index of the first one.
+    pub first: usize,
+    /// How many more follow it.
+    pub more: usize,
+    pub writer: Guid,
+    pub reader: EntityId,
+}
+
+/// Lets the reader of a rank take in a burst; there is none for a rank past the last.
 fn take_in_at<A: Allocator>(
     lists: &mut Vec<Vec<PlannedStep<A>, A>, A>,
     rank: u32,
-    event: usize,
+    burst: Burst,
 ) -> Result<(), AllocError>
-    ensures { (es : List EventView) (e : EventView) → slice_get es event ≡ Some e
-        → OnOk result (Grow es lists.old.items lists.new.items
-        (λ at. if rank == at then taken_in e ∷ [] else [])) }
+    ensures { (es : List EventView) → OnOk result (Grow es lists.old.items lists.new.items
+        (λ at. if rank == at then map taken_in (events_at es burst.first burst.more) else [])) }
 {
     match lists.get_mut(rank as usize) {
-        Some(steps) => take_in(steps, event),
+        Some(steps) => take_in(steps, burst.first, burst.more),
         None => Ok(()),
     }
 }
@@ -153,21 +170,19 @@ fn is_named<A: Allocator>(readers: &[Option<Reader<A>>], rank: u32, reader: Enti
     }
 }
 
-/// Lets the readers of these ranks take in the event at this index, where its reader id names them.
-fn add_event<A: Allocator>(
+/// Lets the readers of these ranks take in a burst, where its reader id names them.
+fn add_burst<A: Allocator>(
     lists: &mut Vec<Vec<PlannedStep<A>, A>, A>,
     readers: &[Option<Reader<A>>],
     ranks: &[u32],
-    event: usize,
-    reader: EntityId,
+    burst: Burst,
 ) -> Result<(), AllocError>
-    ensures { (es : List EventView) (e : EventView) → slice_get es event ≡ Some e
-        → e.reader ≡ reader → OnOk result (Grow es lists.old.items lists.new.items
-        (taken_at e readers.now ranks.now)) }
+    ensures { (es : List EventView) → OnOk result (Grow es lists.old.items lists.new.items
+        (burst_at es burst readers.now ranks.now)) }
 {
     for rank in ranks {
-        if is_named(readers, *rank, reader) {
-            take_in_at(lists, *rank, event)?;
+        if is_named(readers, *rank, burst.reader) {
+            take_in_at(lists, *rank, burst)?;
         }
     }
     Ok(())
@@ -204,7 +219,7 @@ fn add_answer<A: Allocator>(
 
 /// Gives an announcement to discovery, and each change that it brings to the reader that hears of
 /// it.
-fn plan_announcement<A: Allocator + Copy>(
+pub(crate) fn plan_announcement<A: Allocator + Copy>(
     discovery: &mut Discovery<A>,
     planning: &mut Planning<A>,
     alloc: A,
@@ -216,7 +231,7 @@ fn plan_announcement<A: Allocator + Copy>(
     ensures planned { (k : Known) (es : List EventView) → IsKnown k discovery.old.kept
         → slice_get es index ≡ Some (view event.now)
         → addressed.is_discovery event.now.writer ≡ true
-        → OnOk result (IsPlanned es k (view event.now) planning.old planning.new
+        → OnOk result (IsPlanned es k (view event.now ∷ []) planning.old planning.new
         discovery.new.kept) }
 {
     let effects = discovery.step(alloc, event)?;
@@ -224,30 +239,22 @@ fn plan_announcement<A: Allocator + Copy>(
     add_changes(&mut planning.lists, alloc, index, effects.changes)
 }
 
-/// Takes one event into the plan. An announcer's event is discovery's; any other event is for the
-/// readers that are matched with its writer, where it names them.
-pub(crate) fn plan_event<A: Allocator + Copy>(
-    discovery: &mut Discovery<A>,
+/// Takes a burst into the plan: it is for the readers that are matched with its writer, where it
+/// names them.
+pub(crate) fn plan_burst<A: Allocator + Copy>(
+    discovery: &Discovery<A>,
     planning: &mut Planning<A>,
-    alloc: A,
-    index: usize,
-    event: &Event<'_>,
+    burst: Burst,
 ) -> Result<(), AllocError>
     ensures count { OnOk result (length planning.new.lists.items
         ≡ length planning.old.lists.items) }
-    ensures planned { (k : Known) (es : List EventView) → IsKnown k discovery.old.kept
-        → slice_get es index ≡ Some (view event.now)
-        → OnOk result (IsPlanned es k (view event.now) planning.old planning.new
-        discovery.new.kept) }
+    ensures planned { (k : Known) (es : List EventView) → IsKnown k discovery.now.kept
+        → AreFrom burst.writer burst.reader (events_at es burst.first burst.more)
+        → addressed.is_discovery burst.writer.entity ≡ false
+        → OnOk result (IsPlanned es k (events_at es burst.first burst.more)
+        planning.old planning.new discovery.now.kept) }
 {
-    if is_discovery(event.writer) {
-        return plan_announcement(discovery, planning, alloc, index, event);
-    }
-    let writer = Guid {
-        prefix: event.source,
-        entity: event.writer,
-    };
     let readers = discovery.readers();
-    let ranks = discovery.matched(writer);
-    add_event(&mut planning.lists, readers, ranks, index, event.reader)
+    let ranks = discovery.matched(burst.writer);
+    add_burst(&mut planning.lists, readers, ranks, burst)
 }

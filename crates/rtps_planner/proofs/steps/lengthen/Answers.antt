@@ -1,15 +1,15 @@
-use Rattle.std.proofs.Common.{◌≡◌, ◌+◌, ◌-◌, ◌∙◌, ◌++◌, ◌∷◌, [], ap, arith, map, sym, take}
-use Rattle.std.specs.Prelude.{drop}
-use Rattle.rtps_planner.specs.Plan.{step_seen, taken_in}
+use Rattle.std.proofs.Common.{◌≡◌, ◌+◌, ◌-◌, ◌∙◌, ◌++◌, ap, arith, map, rules, sym}
+use Rattle.rtps_planner.specs.Plan.{events_at, step_seen, taken_in}
 use Rattle.rtps_planner.proofs.Planned.{takes_more}
 use Rattle.rtps_planner.proofs.steps.lengthen.Goals as goal
 
-pub returns-else-event-first-2-clause-longer : goal.returns-else-event-first-2-clause-longer
-returns-else-event-first-2-clause-longer g c = λ es e is yes.
-    let first = c.in-TakeIn.first in
-    let more = c.in-TakeIn.more in
-    let at : c.args.event ≡ first + (more + 1) = omega (arith, c.if-event-first.false, c.if-event-first-2.false) in
-    let count : c.args.event - first ≡ more + 1 = omega (arith, at) in
-    ap (λ n. map taken_in (take (n + 1) (drop first es))) count
-    ∙ takes_more es e first more c.args.event is at
-    ∙ ap (λ s. step_seen es s ++ taken_in e ∷ []) (sym c.in-TakeIn.is)
+pub returns-in-Some-clause-longer : goal.returns-in-Some-clause-longer
+returns-in-Some-clause-longer g c = λ es yes.
+    let from = c.in-TakeIn.from in
+    let count = c.in-TakeIn.count in
+    let at : c.args.first ≡ from + (count + 1) = omega (arith, c.if-first-from.false, c.if-first-from-2.false) in
+    let sum : c.in-Some.longer ≡ c.args.first - from + c.args.more = search rules in
+    let long : c.in-Some.longer ≡ count + (c.args.more + 1) = omega (arith, at, sum) in
+    ap (λ n. map taken_in (events_at es from n)) long
+    ∙ takes_more es from count c.args.first c.args.more at
+    ∙ ap (λ s. step_seen es s ++ map taken_in (events_at es c.args.first c.args.more)) (sym c.in-TakeIn.is)
