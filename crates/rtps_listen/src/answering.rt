@@ -31,7 +31,7 @@ pub trait RecordFiles {
 ///
 /// What is wrong with the words is refused before the file is opened: `NotBuilt`, `BadPrefix`,
 /// `BadWriter` in this order. Any other fault is that of the run.
-pub fn answer<F: RecordFiles, W: Write, T: Threads + Sync>(
+pub fn answer<F: RecordFiles, W: Write + Send, T: Threads + Sync>(
     rt: &T,
     alloc: Global,
     files: &F,
@@ -51,7 +51,7 @@ pub fn answer<F: RecordFiles, W: Write, T: Threads + Sync>(
 
 /// Prints what a task makes of an opened file.
 #[tactic(auto, unfolding(crate::specs::Printed::PrintsBy))]
-fn print_file<R: Read + Drop, W: Write, T: Threads + Sync>(
+fn print_file<R: Read + Drop, W: Write + Send, T: Threads + Sync>(
     rt: &T,
     alloc: Global,
     task: Task,

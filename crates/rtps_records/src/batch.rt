@@ -120,8 +120,8 @@ impl<A: Allocator> Batch<A> {
         }
     }
 
-    /// The records that were read last, in order.
-    pub(crate) fn records<B: Allocator>(&self, alloc: B) -> Result<Vec<&[u8], B>, AllocError>
+    /// The records that were read last, in order. An error is a refused growth.
+    pub fn records<B: Allocator>(&self, alloc: B) -> Result<Vec<&[u8], B>, AllocError>
         ensures { IfOk result (λ records.
             map (λ octets. octets.now) records.items ≡
             cut self.now.lengths.items self.now.octets.items) }

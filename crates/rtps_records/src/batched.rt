@@ -60,6 +60,13 @@ impl<R: Read, A: Allocator> Records<'_, R, Batch<A>> {
         Ok(BatchEnd::More)
     }
 
+    /// The batch that was read last.
+    pub fn last_batch(&self) -> &Batch<A>
+        ensures { result.now ≡ self.now.buffer }
+    {
+        &self.buffer
+    }
+
     /// The records that were read last, in order. An error is a refused growth.
     pub fn batch<B: Allocator>(&self, alloc: B) -> Result<Vec<&[u8], B>, AllocError>
         ensures { IfOk result (λ records.

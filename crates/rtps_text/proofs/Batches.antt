@@ -1,8 +1,8 @@
 -- A run and its text, one batch more.
-use Rattle.std.proofs.Common.{◌≡◌, ℕ, ◌<◌, ◌≤◌, List, [], ◌∷◌, ◌++◌, Option, arith, refl, subst, sym, ap, ◌∙◌, map, length, append-nil}
+use Rattle.std.proofs.Common.{◌≡◌, ℕ, ◌<◌, ◌≤◌, ◌-◌, List, [], ◌∷◌, ◌++◌, ◌≢◌, Option, Some, None, Result, Ok, Err, OnOk, arith, refl, subst, sym, ap, ◌∙◌, map, length, append-nil, take}
 use Rattle.std.proofs.lemmas.Grind.{flat_map-append}
 use Rattle.std.specs.Io.KnownBytes.{IsAtEnd}
-use Rattle.rtps_records.specs.Batches.{ReadsBatch}
+use Rattle.rtps_records.specs.Batches.{EndsBatch, ReadsBatch}
 use Rattle.std.specs.Borrow.{Bor}
 use Rattle.std.specs.List.{All, AllByRecursion}
 use Rattle.std.proofs.lemmas.List.Elements.{All-from_recursion}
@@ -11,20 +11,26 @@ use Rattle.rtps_records.specs.Text.{Says}
 use Rattle.rtps_records.specs.declared.batch_end.BatchEnd.{BatchEnd}
 use Rattle.rtps_records.specs.declared.batch_end.BatchEnd.TheVariants.{End, Fault, More}
 use Rattle.rtps_records.specs.declared.fault.RunFault.{RunFault}
-use Rattle.rtps_records.specs.Runs.{Moves}
-use Rattle.rtps_records.proofs.Progress.{Progress, many_more, moved}
+use Rattle.std.specs.Io.KnownBytes.{Appends}
+use Rattle.std.proofs.KnownBytes.{Appends-nil}
+use Rattle.std.proofs.Math.Seq.{take-append_seam}
+use Rattle.std.specs.declared.alloc.AllocError.{AllocError}
+use Rattle.std.specs.declared.alloc.Global.{Global}
+use Rattle.std.specs.declared.vec.Vec.{Vec}
+use Rattle.rtps_records.specs.Runs.{Moves, PutsFront}
+use Rattle.rtps_records.proofs.Progress.{EndsHere, Progress, many_more, moved}
 use Rattle.dds_topic.specs.Decoding.{Decoding}
 use Rattle.rtps_discovery.specs.declared.config.Config.{Config}
 use Rattle.rtps_serial.specs.Run.{run}
 use Rattle.rtps_serial.specs.Standing.{EngineView, StandsAt, run_by}
 use Rattle.rtps_serial.proofs.Running.{run_count}
 use Rattle.rtps_planner.specs.Commuting.{merged}
-use Rattle.rtps_text.specs.Batched.{RunsBatch}
+use Rattle.rtps_text.specs.Batched.{MovesBefore, RunsBatch, TakesRecords}
 use Rattle.rtps_planner.specs.Gather.{AreRising}
 use Rattle.rtps_serial.specs.World.{World}
 use Rattle.dds_participant.specs.Given.{AreAnswersAlong, AreNoticesAlong, IsGiven, parts_given, said_view, sent_in, told_in}
 use Rattle.rtps_text.specs.Replayed.{HasSaid, put_line, put_lines}
-use Rattle.rtps_text.specs.Slices.{AreByPlace, AreLeft, all_lines, merged_lines, places_lines, starts}
+use Rattle.rtps_text.specs.Slices.{AreByPlace, AreLeft, AreTexts, all_lines, merged_lines, places_lines, starts}
 use Rattle.dds_participant.specs.declared.given.Given.{Given}
 use Rattle.rtps_text.specs.declared.slices.Cursor.{Cursor}
 use Rattle.rtps_text.proofs.Along.{places_merged, start_left}
@@ -128,6 +134,78 @@ batch_printed text f decoding first now after old mid new n m end before next fi
     let out = kept ++ all_lines (text next.catalog) f given (length next.statuses) in
     let more = moved (λ records said. HasSaid text decoding records said next) first r.reads.here old mid new m out left (batch_more text f decoding first now after old mid n m end before next given kept same p r) printed in
     subst (λ e. Progress (λ records said. HasSaid text decoding records said e) first r.reads.here old new m left) (sym is) more
+
+-- where a batch was taken, it was taken after whatever came before
+pub takes_records : {C V M U E : Type 0} (f : V → M) (decoding : C → Decoding M) (batch : List (List ℕ)) (old new : EngineView C) (given : Given V) (r : Result U E)
+    → ((records : List (List ℕ)) → StandsAt decoding records old → OnOk r (StandsAt decoding (records ++ batch) new))
+    → ((records : List (List ℕ)) → StandsAt decoding records old → OnOk r (IsGiven f (run_by decoding old records) (run_by decoding old (records ++ batch)) given))
+    → OnOk r (TakesRecords f decoding batch old new given)
+takes_records f decoding batch old new given (Ok x) stands gives = record { stands = stands; gives = gives }
+takes_records f decoding batch old new given (Err e) stands gives = tt
+
+-- no text is none to be written
+pub all_written : (texts : List (Result (Vec ℕ Global) AllocError)) → texts ≡ [] → AreTexts texts []
+unfolding AreTexts
+all_written [] none = refl
+all_written (t ∷ ts) none = absurd (let bad : t ∷ ts ≡ [] = none in cc)
+
+-- where there is no text, nothing is to be written after what is kept back
+pub no_texts : (old new : Option (List ℕ)) (octets left : List ℕ) (texts : List (Result (Vec ℕ Global) AllocError)) → texts ≡ [] → Moves old new octets left → MovesBefore old new octets left texts
+no_texts old new octets left texts none moved = ([], all_written texts none, subst (Moves old new octets) (sym (append-nil left)) moved)
+
+-- and where nothing was written, all stands in the texts
+pub in_texts : (old : Option (List ℕ)) (kept whole : List ℕ) (texts : List (Result (Vec ℕ Global) AllocError)) → AreTexts texts whole → MovesBefore old old (kept ++ whole) kept texts
+in_texts old kept whole texts are = (whole, are, ([], Appends-nil old, refl))
+
+-- octets of which a part was written, and what is left was kept back: a front of them was written
+pub moved_front : (old new : Option (List ℕ)) (octets left : List ℕ) → Moves old new octets left → PutsFront old new octets
+moved_front old new octets left m =
+    (length m.0, subst (Appends old new) (sym (ap (take (length m.0)) m.2 ∙ take-append_seam m.0 left)) m.1)
+
+-- a batch that was read and taken
+pub runs_batch : {C V M : Type 0} (f : V → M) (decoding : C → Decoding M) (before after : Option (List ℕ)) (n m : ℕ) (end : BatchEnd) (records : List (List ℕ)) (old new : EngineView C) (given : Given V)
+    → ReadsBatch before after n m records end → TakesRecords f decoding records old new given → RunsBatch f decoding before after n m end old new given
+runs_batch f decoding before after n m end records old new given reads takes = record { batch = records; reads = reads; stands = takes.stands; gives = takes.gives }
+
+-- what was kept back was written in part, and nothing more was read
+pub moved_here : (said : List (List ℕ) → List ℕ → Type 0) (first here now old mid new : Option (List ℕ)) (n : ℕ) (kept left : List ℕ)
+    → Progress said first here old mid n kept → Moves mid new kept left → now ≡ here → Progress said first now old new n left
+moved_here said first here now old mid new n kept left p m e = subst (λ x. Progress said first x old new n left) (sym e) (moved said first here old mid new n kept left p m)
+
+-- what is left of a file after a batch after which more may come
+pub more_here : (end : BatchEnd) (m : ℕ) (records : List (List ℕ)) (here after : Option (List ℕ)) → end ≡ More → EndsBatch end m records here after → after ≡ here
+more_here More m records here after e ends = ends.1
+more_here End m records here after e ends = absurd (let bad : End ≡ More = e in cc)
+more_here (Fault fault) m records here after e ends = absurd (let bad : Fault fault ≡ More = e in cc)
+
+-- the fault that a batch ends with
+abbrev pub fault_in : BatchEnd → Option RunFault
+fault_in More = None
+fault_in End = None
+fault_in (Fault fault) = Some fault
+
+pub ends_here : (end : BatchEnd) (m : ℕ) (records : List (List ℕ)) (here after : Option (List ℕ)) → end ≢ More → m ≤ 4294967295 → EndsBatch end m records here after → EndsHere (fault_in end) m here after
+ends_here More m records here after not few ends = absurd (not refl)
+ends_here End m records here after not few ends = (few, ends)
+ends_here (Fault fault) m records here after not few ends = ends
+
+-- the file ends after a batch after which nothing may come, and no fault is
+pub at_end : (end : BatchEnd) (m : ℕ) (records : List (List ℕ)) (here after : Option (List ℕ)) → end ≢ More → ((fault : RunFault) → end ≢ Fault fault) → EndsBatch end m records here after → IsAtEnd here
+at_end More m records here after not none ends = absurd (not refl)
+at_end End m records here after not none ends = ends
+at_end (Fault fault) m records here after not none ends = absurd (none fault refl)
+
+-- how many records may come after a batch that ends so
+abbrev pub left_of : BatchEnd → ℕ → ℕ
+left_of More count = 4294967296 - count
+left_of End count = 0
+left_of (Fault fault) count = 0
+
+-- there are fewer after each batch
+pub fewer_left : (before after : Option (List ℕ)) (n m : ℕ) (records : List (List ℕ)) (end : BatchEnd) → n ≤ 4294967295 → ReadsBatch before after n m records end → left_of end m < left_of More n
+fewer_left before after n m records More few r = let more = r.few few in omega (arith, r.count, r.ends.0, more, few)
+fewer_left before after n m records End few r = omega (arith, few)
+fewer_left before after n m records (Fault fault) few r = omega (arith, few)
 
 -- how the batch ended
 pub after_more : (before after : Option (List ℕ)) (n m : ℕ) (batch : List (List ℕ)) (end : BatchEnd) (r : ReadsBatch before after n m batch end) → end ≡ More → (after ≡ r.here) × (n < m)

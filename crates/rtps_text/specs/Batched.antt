@@ -1,11 +1,16 @@
 -- One batch of a run.
-use Rattle.std.specs.Prelude.{◌≡◌, ℕ, List, ◌++◌, Option}
+use Rattle.std.specs.Prelude.{◌≡◌, ℕ, List, ◌++◌, Option, Result}
+use Rattle.std.specs.declared.alloc.AllocError.{AllocError}
+use Rattle.std.specs.declared.alloc.Global.{Global}
+use Rattle.std.specs.declared.vec.Vec.{Vec}
+use Rattle.rtps_records.specs.Runs.{Moves}
 use Rattle.rtps_records.specs.Batches.{ReadsBatch}
 use Rattle.rtps_records.specs.declared.batch_end.BatchEnd.{BatchEnd}
 use Rattle.dds_topic.specs.Decoding.{Decoding}
 use Rattle.rtps_serial.specs.Standing.{EngineView, StandsAt, run_by}
 use Rattle.dds_participant.specs.Given.{IsGiven}
 use Rattle.dds_participant.specs.declared.given.Given.{Given}
+use Rattle.rtps_text.specs.Slices.{AreTexts}
 use Rattle.rtps_text.specs.declared.running.RunLines.{RunLines}
 
 -- a run goes on with its catalog and configuration, and prints the same things
@@ -14,6 +19,14 @@ pub record IsSameRun {C V U : Type 0} (old new : RunLines C V U) : Type 0 where
   pub config : new.participant.engine.config ≡ old.participant.engine.config
   pub summary : new.summary ≡ old.summary
   pub pace : new.pace ≡ old.pace
+
+-- an engine took these records, and this is what it gave
+pub record TakesRecords {C V M : Type 0} (f : V → M) (decoding : C → Decoding M)
+    (records : List (List ℕ)) (old new : EngineView C) (given : Given V) : Type 0 where
+  pub stands : (earlier : List (List ℕ)) → StandsAt decoding earlier old
+      → StandsAt decoding (earlier ++ records) new
+  pub gives : (earlier : List (List ℕ)) → StandsAt decoding earlier old
+      → IsGiven f (run_by decoding old earlier) (run_by decoding old (earlier ++ records)) given
 
 -- after n records a batch of them was read, which makes them m, and this is what an engine gave of
 -- it
@@ -26,3 +39,9 @@ pub record RunsBatch {C V M : Type 0} (f : V → M) (decoding : C → Decoding M
       → StandsAt decoding (records ++ batch) new
   pub gives : (records : List (List ℕ)) → StandsAt decoding records old
       → IsGiven f (run_by decoding old records) (run_by decoding old (records ++ batch)) given
+
+-- of some octets a part was written; what is left is kept back, and after it these texts
+abbrev pub MovesBefore : Option (List ℕ) → Option (List ℕ) → List ℕ → List ℕ
+    → List (Result (Vec ℕ Global) AllocError) → Type 0
+MovesBefore old new octets left texts =
+    (whole : List ℕ) × AreTexts texts whole × Moves old new octets (left ++ whole)

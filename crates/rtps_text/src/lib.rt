@@ -3,6 +3,7 @@
 #![tactic(auto)]
 
 mod answer;
+mod beside;
 mod body;
 mod caches;
 mod closing;
@@ -25,6 +26,7 @@ mod setup;
 mod slices;
 mod spelling;
 mod summary;
+mod texts;
 
 pub use answer::push_answer;
 pub use dumping::{dump, dump_in};

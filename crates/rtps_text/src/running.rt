@@ -2,23 +2,28 @@
 
 ghost use Rattle.std.specs.Prelude.{◌≡◌, ◌≤◌, ◌⊎◌, ◌++◌, [], All, IfErr, IfOk, List, OnErr, OnOk, length, map, ℕ};
 ghost use Rattle.std.specs.Io.{StartsWith};
+ghost use Rattle.std.specs.List.{AllByRecursion};
+ghost use Rattle.rtps_records.specs.Batches.{records_in};
+ghost use Rattle.rtps_records.specs.RecordFile.{IsRecord};
 ghost use Rattle.rtps_records.specs.Runs.{Closes, ClosesNot, Moves, PutsFront};
 ghost use Rattle.rtps_records.specs.Text.{Ends};
 ghost use Rattle.rtps_records.specs.declared.fault.RunFault.TheVariants.{CannotWrite, NoMemory};
 ghost use Rattle.rtps_serial.specs.Standing.{StandsAt, run_by};
 ghost use Rattle.dds_participant.specs.Given.{IsGiven};
 ghost use Rattle.rtps_text.specs.Replayed.{HasSaid, text_by};
-ghost use Rattle.rtps_text.specs.Slices.{AreByPlace, all_lines};
+ghost use Rattle.rtps_text.specs.Batched.{IsSameRun, MovesBefore, TakesRecords};
+ghost use Rattle.rtps_text.specs.Slices.{AreByPlace, AreTexts, all_lines};
 
 use crate::closing::push_summary;
 use crate::last_line::LastLine;
-use crate::printing::{print_places, print_texts};
+use crate::printing::print_places;
 use crate::setup::{Pace, Setup};
 use crate::slices::Cursors;
 use crate::spelling::Spelling;
+use crate::texts::Texts;
 use dds_participant::{Given, Participant, Workers};
 use dds_topic::TextCatalog;
-use rtps_records::{Lines, RunFault};
+use rtps_records::{Batch, Lines, RunFault};
 use rtps_shards::NoGate;
 use std::alloc::{AllocError, Allocator, Global};
 use std::io::Write;
@@ -35,8 +40,6 @@ pub(crate) struct RunLines<C: TextCatalog> {
     pub given: Given<C::Value>,
     /// What the last line began with.
     pub last: LastLine,
-    /// Texts of workers that were written; their memory serves for the next ones.
-    spare: Vec<Vec<u8>>,
     /// Where what a batch gives is kept while it is printed.
     pub alloc: Global,
     /// How the run is cut, and shared among workers.
@@ -79,7 +82,6 @@ where
             participant,
             given: Given::new(alloc),
             last: LastLine::none(alloc),
-            spare: Vec::new(alloc),
             alloc,
             pace,
             summary,
@@ -121,20 +123,38 @@ where
         }
     }
 
-    /// Prints what the last batch gave.
+    /// Gives the participant the records of a batch.
+    pub(crate) fn take_records<T: Threads + Sync>(
+        &mut self,
+        rt: &T,
+        batch: &Batch,
+    ) -> Result<(), AllocError>
+        requires few { length (records_in batch.now) ≤ 4096 }
+        requires fit { AllByRecursion IsRecord (records_in batch.now) }
+        ensures same { IsSameRun self.old self.new }
+        ensures takes { OnOk result (TakesRecords C.view C.decoding (records_in batch.now)
+            self.old.participant.engine self.new.participant.engine self.new.given) }
+    {
+        self.take(rt, &batch.records(self.alloc)?)
+    }
+
+    /// Prints what the last batch gave. Where several workers spell it, their texts are kept: they
+    /// are to be written after the lines.
     pub(crate) fn print<W: Write, T: Threads + Sync>(
         &mut self,
         rt: &T,
+        texts: &mut Texts,
         lines: &mut Lines<'_, W>,
     ) -> Result<(), RunFault>
+        requires { texts.old.made.items ≡ [] }
         ensures same { (self.new.participant ≡ self.old.participant)
             × (self.new.summary ≡ self.old.summary) × (self.new.pace ≡ self.old.pace) }
         ensures same_writer { lines.new.writer.ghost_name ≡ lines.old.writer.ghost_name }
-        ensures ok { AreByPlace C.view self.old.given → OnOk result (Moves
+        ensures ok { AreByPlace C.view self.old.given → OnOk result (MovesBefore
             (W.contents lines.old.writer.now) (W.contents lines.new.writer.now)
             (lines.old.text.items ++ all_lines (C.text_of self.old.participant.engine.catalog)
             C.view self.old.given (length self.old.participant.engine.statuses))
-            lines.new.text.items) }
+            lines.new.text.items texts.new.made.items) }
         ensures fault { IfErr result (λ fault. (fault ≡ CannotWrite) ⊎ (fault ≡ NoMemory)) }
         ensures front { AreByPlace C.view self.old.given → OnErr result (PutsFront
             (W.contents lines.old.writer.now) (W.contents lines.new.writer.now)
@@ -144,7 +164,8 @@ where
         let readers = self.participant.readers();
         let workers = workers_for(self.pace.workers, self.given.places.len(), readers);
         if workers > 1 {
-            self.print_shared(rt, workers, lines)
+            self.spell(rt, workers, texts)?;
+            Ok(())
         } else {
             self.print_alone(lines)
         }
@@ -176,27 +197,17 @@ where
         )
     }
 
-    /// Prints what the last batch gave, which workers spell.
-    fn print_shared<W: Write, T: Threads + Sync>(
-        &mut self,
+    /// Has workers spell what the last batch gave.
+    fn spell<T: Threads + Sync>(
+        &self,
         rt: &T,
         workers: usize,
-        lines: &mut Lines<'_, W>,
-    ) -> Result<(), RunFault>
+        texts: &mut Texts,
+    ) -> Result<(), AllocError>
         requires { 1 ≤ workers }
-        ensures same { (self.new.participant ≡ self.old.participant)
-            × (self.new.summary ≡ self.old.summary) × (self.new.pace ≡ self.old.pace) }
-        ensures same_writer { lines.new.writer.ghost_name ≡ lines.old.writer.ghost_name }
-        ensures ok { AreByPlace C.view self.old.given → OnOk result (Moves
-            (W.contents lines.old.writer.now) (W.contents lines.new.writer.now)
-            (lines.old.text.items ++ all_lines (C.text_of self.old.participant.engine.catalog)
-            C.view self.old.given (length self.old.participant.engine.statuses))
-            lines.new.text.items) }
-        ensures fault { IfErr result (λ fault. (fault ≡ CannotWrite) ⊎ (fault ≡ NoMemory)) }
-        ensures front { AreByPlace C.view self.old.given → OnErr result (PutsFront
-            (W.contents lines.old.writer.now) (W.contents lines.new.writer.now)
-            (lines.old.text.items ++ all_lines (C.text_of self.old.participant.engine.catalog)
-            C.view self.old.given (length self.old.participant.engine.statuses))) }
+        ensures { AreByPlace C.view self.now.given → OnOk result (AreTexts texts.new.made.items
+            (all_lines (C.text_of self.now.participant.engine.catalog) C.view self.now.given
+            (length self.now.participant.engine.statuses))) }
     {
         let spelling = Spelling {
             alloc: self.alloc,
@@ -204,8 +215,8 @@ where
             given: &self.given,
             readers: self.participant.readers(),
         };
-        let texts = spelling.texts(rt, workers, &mut self.spare)?;
-        print_texts(lines, texts, &mut self.spare)
+        texts.made = spelling.texts(rt, workers, &mut texts.spare)?;
+        Ok(())
     }
 
     /// Adds the summary where it is asked for.

@@ -74,7 +74,7 @@ fn longest(alloc: Global) -> Result<usize, Fail> {
     let mut records = Records::in_batches(alloc, &mut rest)?;
     records.open()?;
     records.next_batch(4096)?;
-    Ok(records.batch(alloc)?.len())
+    Ok(records.last_batch().records(alloc)?.len())
 }
 
 #[test]

@@ -1,0 +1,67 @@
+//! Texts that workers made, on their way to a writer.
+
+ghost use Rattle.std.specs.Prelude.{◌≡◌, ◌⊎◌, ◌++◌, [], IfErr, List, OnErr, OnOk, false, length, ℕ};
+ghost use Rattle.rtps_records.specs.Runs.{Moves, PutsFront};
+ghost use Rattle.rtps_records.specs.declared.fault.RunFault.TheVariants.{CannotWrite, NoMemory};
+ghost use Rattle.rtps_text.specs.Slices.{AreTexts};
+
+use crate::printing::print_texts;
+use rtps_records::{Lines, RunFault};
+use std::alloc::{AllocError, Global};
+use std::io::Write;
+use std::mem;
+
+/// Texts that workers made and that are still to be written.
+#[derive(Drop)]
+pub(crate) struct Texts {
+    /// One after the other, and an error where there was no memory for one.
+    pub made: Vec<Result<Vec<u8>, AllocError>>,
+    /// Texts that were written; their memory serves for the next ones.
+    pub spare: Vec<Vec<u8>>,
+    alloc: Global,
+}
+
+impl Texts {
+    /// No text. No memory is taken.
+    pub(crate) fn none(alloc: Global) -> Texts
+        ensures { result.made.items ≡ [] }
+    {
+        Texts {
+            made: Vec::new(alloc),
+            spare: Vec::new(alloc),
+            alloc,
+        }
+    }
+
+    /// Whether there is a text to be written.
+    pub(crate) fn is_some(&self) -> bool
+        ensures { result ≡ false → self.now.made.items ≡ [] }
+    {
+        !self.made.is_empty()
+    }
+
+    /// Adds the texts to lines, and writes them as they fill; then there are none.
+    ///
+    /// `CannotWrite` where a write fails, and `NoMemory`, also where there was none for a text; a
+    /// front of the texts may have been written then. No thread is started: `_threads` is there
+    /// since the other half of a join, which starts some, borrows it too.
+    pub(crate) fn write<W: Write, T>(
+        &mut self,
+        _threads: &T,
+        lines: &mut Lines<'_, W>,
+    ) -> Result<(), RunFault>
+        ensures none { self.new.made.items ≡ [] }
+        ensures same_writer { lines.new.writer.ghost_name ≡ lines.old.writer.ghost_name }
+        ensures ok { (whole : List ℕ) → AreTexts self.old.made.items whole → OnOk result (Moves
+            (W.contents lines.old.writer.now) (W.contents lines.new.writer.now)
+            (lines.old.text.items ++ whole) lines.new.text.items) }
+        ensures fault { IfErr result (λ fault. (fault ≡ CannotWrite) ⊎ (fault ≡ NoMemory)) }
+        ensures front { (whole : List ℕ) → AreTexts self.old.made.items whole
+            → OnErr result (PutsFront
+            (W.contents lines.old.writer.now) (W.contents lines.new.writer.now)
+            (lines.old.text.items ++ whole)) }
+    {
+        let made = mem::replace(&mut self.made, Vec::new(self.alloc));
+        print_texts(lines, made, &mut self.spare)
+    }
+}
