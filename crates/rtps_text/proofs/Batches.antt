@@ -153,7 +153,7 @@ all_written (t ∷ ts) none = absurd (let bad : t ∷ ts ≡ [] = none in cc)
 pub no_texts : (old new : Option (List ℕ)) (octets left : List ℕ) (texts : List (Result (Vec ℕ Global) AllocError)) → texts ≡ [] → Moves old new octets left → MovesBefore old new octets left texts
 no_texts old new octets left texts none moved = ([], all_written texts none, subst (Moves old new octets) (sym (append-nil left)) moved)
 
--- and where nothing was written, all stands in the texts
+-- and where nothing was written, all of it is in the texts
 pub in_texts : (old : Option (List ℕ)) (kept whole : List ℕ) (texts : List (Result (Vec ℕ Global) AllocError)) → AreTexts texts whole → MovesBefore old old (kept ++ whole) kept texts
 in_texts old kept whole texts are = (whole, are, ([], Appends-nil old, refl))
 

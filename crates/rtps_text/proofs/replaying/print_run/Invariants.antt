@@ -7,7 +7,7 @@ use Rattle.rtps_text.specs.Slices.{AreTexts}
 use Rattle.rtps_text.proofs.Batches.{left_of}
 use Rattle.rtps_text.proofs.replaying.print_run.Given as goal
 
--- what was said of the records was written, is kept back, or stands in the texts
+-- what was said of the records was written, is kept back, or is in the texts
 abbrev pub invariant-loop-end : goal.invariant-loop-end
 invariant-loop-end g l = record {
   same_reader : l.records.reader.ghost_name ≡ l.fn.records.reader.ghost_name;
