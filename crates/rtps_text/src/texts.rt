@@ -35,7 +35,8 @@ impl Texts {
 
     /// Whether there is a text to be written.
     pub(crate) fn is_some(&self) -> bool
-        ensures { result ≡ false → self.now.made.items ≡ [] }
+        ensures none { result ≡ false → self.now.made.items ≡ [] }
+        ensures some { self.now.made.items ≡ [] → result ≡ false }
     {
         !self.made.is_empty()
     }
