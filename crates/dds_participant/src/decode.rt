@@ -31,7 +31,8 @@ pub(crate) struct Arrived<'a, 'b> {
 }
 
 /// The events of these datagrams, in order, for the participant `own`. `first` is the place of the
-/// first of them in the run, counted from 0. An error is a refused growth.
+/// first of them in the run, counted from 0. Room for an event of each is made at once. An error is
+/// a refused growth.
 fn decoded_alone<'a>(
     alloc: Global,
     own: GuidPrefix,
@@ -43,7 +44,7 @@ fn decoded_alone<'a>(
     ensures { IfOk result (λ all. map view all.items
         ≡ events_from own first (map (λ d. d.now) datagrams.now)) }
 {
-    let mut all = Vec::new(alloc);
+    let mut all = Vec::with_capacity(alloc, datagrams.len())?;
     for (at, datagram) in datagrams.iter().enumerate() {
         add_events(&mut all, own, first + at as u64, datagram)?;
     }

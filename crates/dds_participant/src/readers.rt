@@ -62,7 +62,8 @@ fn idle_reader<V: Drop>(state: ReaderState, mut output: Output<V>) -> JobResult<
 
 /// Gives each job the state of its reader, and each reader lists for what comes of it: those that
 /// were lent, and new ones where there are too few. The jobs come by rising rank, the states by
-/// rank.
+/// rank. Among the readers that have no job there is room for all, so that they take in the others
+/// after the batch.
 pub(crate) fn pair<C: Catalog>(
     alloc: Global,
     mut jobs: Vec<Job>,
@@ -76,8 +77,8 @@ pub(crate) fn pair<C: Catalog>(
     ensures ranks { IfOk result (λ p. IsPermutation (map state_rank states.items)
         (map rank_in p.work.items ++ map rank_of p.idle.items)) }
 {
-    let mut work = Vec::new(alloc);
-    let mut idle = Vec::new(alloc);
+    let mut work = Vec::with_capacity(alloc, jobs.len())?;
+    let mut idle = Vec::with_capacity(alloc, states.len())?;
     'pair: while let Some(state) = states.pop() {
         let output = lists_of(alloc, &mut lent);
         match last_of(&mut jobs, state.rank()) {
@@ -101,8 +102,8 @@ pub(crate) struct Parted<V> {
 fn split<V: Drop>(alloc: Global, all: Vec<JobResult<V>>) -> Result<Parted<V>, AllocError>
     ensures { IfOk result (AreSplit all.items) }
 {
-    let mut states = Vec::new(alloc);
-    let mut outputs = Vec::new(alloc);
+    let mut states = Vec::with_capacity(alloc, all.len())?;
+    let mut outputs = Vec::with_capacity(alloc, all.len())?;
     for result in all {
         states.push(result.state)?;
         outputs.push(result.output)?;

@@ -107,7 +107,7 @@ fn jobs_of<A: Allocator + Copy>(
     ensures { (es : List EventView) (asked : ℕ → _) → AreSteps es lists.items asked
         → IfOk result (λ jobs. map (job_seen es) jobs.items ≡ jobs_by asked (length lists.items)) }
 {
-    let mut jobs = Vec::new(alloc);
+    let mut jobs = Vec::with_capacity(alloc, lists.len())?;
     for (rank, steps) in lists.into_iter().enumerate() {
         if !steps.is_empty() {
             let rank = rank as u32;
@@ -121,7 +121,7 @@ fn jobs_of<A: Allocator + Copy>(
 fn ranks_of<A: Allocator + Copy>(alloc: A, jobs: &[Job<A>]) -> Result<Vec<u32, A>, AllocError>
     ensures { IfOk result (λ ranks. ranks.items ≡ map (λ job. job.rank) jobs.now) }
 {
-    let mut ranks = Vec::new(alloc);
+    let mut ranks = Vec::with_capacity(alloc, jobs.len())?;
     for job in jobs {
         ranks.push(job.rank)?;
     }

@@ -22,7 +22,7 @@ use rtps_types::{EntityId, Guid, Place, Reply};
 use std::alloc::{AllocError, Allocator, Global};
 
 /// For so many steps room is made at first.
-const FIRST_ROOM: usize = 32;
+const FIRST_ROOM: usize = 8;
 
 /// One step of a job, by the indices of events in the batch's list.
 #[derive(Debug, Drop)]

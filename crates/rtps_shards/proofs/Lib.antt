@@ -1,3 +1,4 @@
 mod Dealt
-mod Together
+pub mod Together
 mod Taking
+mod Places

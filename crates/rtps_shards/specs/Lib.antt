@@ -1,2 +1,3 @@
 pub mod Results
 pub mod Piles
+pub mod Apart

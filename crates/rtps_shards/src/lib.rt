@@ -2,6 +2,7 @@
 //! whichever worker runs it and whenever.
 #![tactic(auto)]
 
+mod apart;
 mod gate;
 mod jobs;
 mod piles;
@@ -10,6 +11,7 @@ mod steps;
 mod tests;
 mod workers;
 
+pub use apart::map_apart;
 pub use gate::{Gate, NoGate};
 pub use jobs::{Batch, JobResult, ReaderJob};
 pub use piles::joined;

@@ -30,27 +30,6 @@ pub(crate) fn deal<T: Drop>(
     Ok(piles)
 }
 
-/// Puts empty piles among others, if there are several, so that one comes after every two. A list
-/// is run half by half: whoever would run the empty one has started a thread for each of the two by
-/// then, and only waits for them, so that its processor is free.
-pub(crate) fn spaced<T: Drop>(alloc: Global, piles: Vec<Vec<T>>) -> Result<Vec<Vec<T>>, AllocError>
-    ensures { IfOk result (λ all. flat_map (λ p. p.items) all.items
-        ≡ flat_map (λ p. p.items) piles.items) }
-{
-    let mut all = Vec::new(alloc);
-    for (at, pile) in piles.into_iter().enumerate() {
-        all.push(pile)?;
-        if at % 2 == 1 {
-            all.push(Vec::new(alloc))?;
-        }
-    }
-    if all.len() % 3 == 1 && all.len() > 1 {
-        all.push(Vec::new(alloc))?;
-        all.push(Vec::new(alloc))?;
-    }
-    Ok(all)
-}
-
 /// All that the workers gave, one worker's after another's, where each of them gave something. An
 /// error is a refused growth, on whichever worker or here.
 pub fn joined<T: Drop>(

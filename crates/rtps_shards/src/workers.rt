@@ -6,13 +6,13 @@ ghost use Rattle.rtps_receiver.specs.Events.{view};
 ghost use Rattle.rtps_shards.specs.Results.{IsDone, IsReady, Share, rank_of, rank_in};
 ghost use Rattle.rtps_shards.specs.Piles.{IsJobDone, IsPileDone};
 
+use crate::apart::map_apart;
 use crate::gate::Gate;
 use crate::jobs::{Batch, JobResult, ReaderJob};
-use crate::piles::{deal, joined, spaced};
+use crate::piles::{deal, joined};
 use crate::steps::take_steps;
 use dds_topic::{Catalog, Decoder};
 use std::alloc::{AllocError, Global};
-use std::thread;
 use std::thread::Threads;
 
 /// Runs one job. Its state and its lists are changed here, and given back by value.
@@ -58,7 +58,7 @@ fn run_pile<C: Catalog, G: Gate>(
         pile result }
 {
     let mut decoder = Decoder::new(alloc, batch.catalog);
-    let mut results = Vec::new(alloc);
+    let mut results = Vec::with_capacity(alloc, pile.len())?;
     for work in pile {
         let done = run_job(alloc, batch, &mut decoder, work)?;
         results.push(done)?;
@@ -66,7 +66,7 @@ fn run_pile<C: Catalog, G: Gate>(
     Ok(results)
 }
 
-/// Runs the piles, each on a thread of its own where one can be made; the last is the caller's.
+/// Runs the piles, each on a thread of its own where one can be started.
 fn run_piles<C: Catalog, G: Gate, R: Threads + Sync>(
     rt: &R,
     alloc: Global,
@@ -83,7 +83,7 @@ fn run_piles<C: Catalog, G: Gate, R: Threads + Sync>(
         ensures { IsPileDone C.view (C.decoding batch.entry.now.catalog.now)
             (map view batch.entry.now.events.now) pile result }
     { run_pile(alloc, batch, pile) };
-    thread::map_vec(rt, piles, &run)
+    map_apart(rt, alloc, piles, &run)
 }
 
 /// Runs jobs on so many workers, and gives what comes of each, in no order that is promised: job i
@@ -110,8 +110,10 @@ pub fn run_jobs<C: Catalog, G: Gate, R: Threads + Sync>(
         IsPermutation (map rank_in jobs.items) (map rank_of results.items)) }
 {
     let count = jobs.len().clamp(1, workers);
-    let dealt = deal(alloc, jobs, count)?;
-    let piles = spaced(alloc, dealt)?;
+    if count == 1 {
+        return run_pile(alloc, batch, jobs);
+    }
+    let piles = deal(alloc, jobs, count)?;
     let given = run_piles(rt, alloc, batch, piles)?;
     joined(alloc, given)
 }

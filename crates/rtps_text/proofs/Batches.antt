@@ -115,14 +115,14 @@ pub batch_more : {C V M : Type 0} (text : C → M → List ℕ) (f : V → M) (d
 batch_more text f decoding first now after old new n m end before next given kept same p r =
     let out = kept ++ all_lines (text next.catalog) f given (length next.statuses) in
     let then_said : List (List ℕ) → List ℕ → Type 0 = λ records said. HasSaid text decoding records said next in
-    let more = many_more (λ records said. HasSaid text decoding records said before) then_said first now r.reads.here old new n kept out r.batch p r.reads.read r.reads.each (says_given text f decoding before next r.batch given n kept same r.stands r.gives) in
+    let more = many_more (λ records said. HasSaid text decoding records said before) then_said first now r.reads.here old new n kept out r.batch p r.reads.read r.reads.each (says_given text f decoding before next r.batch given n kept same r.takes.stands r.takes.gives) in
     subst (λ k. Progress then_said first r.reads.here old new k out) (sym r.reads.count) more
 
 -- what the batch gave is by place
 pub batch_by_place : {C V M : Type 0} (text : C → M → List ℕ) (f : V → M) (decoding : C → Decoding M) (first now after old new : Option (List ℕ)) (n m : ℕ) (end : BatchEnd) (before next : EngineView C) (given : Given V) (kept : List ℕ)
     → Progress (λ records said. HasSaid text decoding records said before) first now old new n kept → RunsBatch f decoding now after n m end before next given → AreByPlace f given
 batch_by_place text f decoding first now after old new n m end before next given kept p r =
-    by_place f (run_by decoding before p.records) (run_by decoding before (p.records ++ r.batch)) given (r.gives p.records p.says.stands)
+    by_place f (run_by decoding before p.records) (run_by decoding before (p.records ++ r.batch)) given (r.takes.gives p.records p.says.stands)
 
 -- and are on their way to the writer
 pub batch_printed : {C V M : Type 0} (text : C → M → List ℕ) (f : V → M) (decoding : C → Decoding M) (first now after old mid new : Option (List ℕ)) (n m : ℕ) (end : BatchEnd) (before next final : EngineView C) (given : Given V) (kept left : List ℕ)
@@ -165,7 +165,7 @@ moved_front old new octets left m =
 -- a batch that was read and taken
 pub runs_batch : {C V M : Type 0} (f : V → M) (decoding : C → Decoding M) (before after : Option (List ℕ)) (n m : ℕ) (end : BatchEnd) (records : List (List ℕ)) (old new : EngineView C) (given : Given V)
     → ReadsBatch before after n m records end → TakesRecords f decoding records old new given → RunsBatch f decoding before after n m end old new given
-runs_batch f decoding before after n m end records old new given reads takes = record { batch = records; reads = reads; stands = takes.stands; gives = takes.gives }
+runs_batch f decoding before after n m end records old new given reads takes = record { batch = records; reads = reads; takes = takes }
 
 -- what was kept back was written in part, and nothing more was read
 pub moved_here : (said : List (List ℕ) → List ℕ → Type 0) (first here now old mid new : Option (List ℕ)) (n : ℕ) (kept left : List ℕ)

@@ -117,7 +117,7 @@ pub sampled_more : {C V M : Type 0} (f : V → M) (decoding : C → Decoding M) 
     → Progress (IsSilent f decoding again final later) first r.reads.here old mid m []
 sampled_more f decoding history first now after old mid n m end before next final given caches later again same is keep p r a =
     let more = many_more _ _ first now r.reads.here old mid n [] [] r.batch p r.reads.read r.reads.each
-    (silent_more f decoding history before next caches later n r.batch (λ records k. kept_more f decoding history records r.batch before next given caches later same k (r.stands records k.stands) (r.gives records k.stands) a)) in
+    (silent_more f decoding history before next caches later n r.batch (λ records k. kept_more f decoding history records r.batch before next given caches later same k (r.takes.stands records k.stands) (r.takes.gives records k.stands) a)) in
     subst (λ h. Progress (IsSilent f decoding h final later) first r.reads.here old mid m []) (sym keep)
     (subst (λ e. Progress (IsSilent f decoding history e later) first r.reads.here old mid m []) (sym is)
     (subst (λ k. Progress (IsSilent f decoding history next later) first r.reads.here old mid k []) (sym r.reads.count) more))
@@ -127,7 +127,7 @@ pub sampled_many : {C V M : Type 0} (f : V → M) (decoding : C → Decoding M) 
     → Progress (IsSilent f decoding history before caches) first now old mid n [] → RunsBatch f decoding now after n m end before next given
     → length given.outputs.items ≡ length caches
 sampled_many f decoding history first now after old mid n m end before next given caches p r =
-    outputs_many f decoding history p.records r.batch before caches given p.says.1 (r.gives p.records p.says.1.stands)
+    outputs_many f decoding history p.records r.batch before caches given p.says.1 (r.takes.gives p.records p.says.1.stands)
 
 -- runs of one catalog and one configuration that are kept alike have one text
 pub same_samples : {C M : Type 0} (text : C → M → List ℕ) (decoding : C → Decoding M) (a b : EngineView C) (s t : Bool) (j k : History) → a.catalog ≡ b.catalog → a.config ≡ b.config → s ≡ t → j ≡ k

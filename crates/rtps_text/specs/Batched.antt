@@ -35,10 +35,7 @@ pub record RunsBatch {C V M : Type 0} (f : V → M) (decoding : C → Decoding M
     (given : Given V) : Type 0 where
   pub batch : List (List ℕ)
   pub reads : ReadsBatch before after n m batch end
-  pub stands : (records : List (List ℕ)) → StandsAt decoding records old
-      → StandsAt decoding (records ++ batch) new
-  pub gives : (records : List (List ℕ)) → StandsAt decoding records old
-      → IsGiven f (run_by decoding old records) (run_by decoding old (records ++ batch)) given
+  pub takes : TakesRecords f decoding batch old new given
 
 -- of some octets a part was written; what is left is kept back, and after it these texts
 abbrev pub MovesBefore : Option (List ℕ) → Option (List ℕ) → List ℕ → List ℕ

@@ -2,7 +2,6 @@
 
 ghost use Rattle.std.specs.Prelude.{◌≡◌, [], ◌++◌, ◌+◌, ◌*◌, ◌<◌, ◌≤◌, IfOk, OnOk, drop, length, slice_index_or, take, ℕ};
 ghost use Rattle.std.specs.Io.{StartsWith};
-ghost use Rattle.std.specs.List.{flat_map};
 ghost use Rattle.dds_participant.specs.Given.{parts_given};
 ghost use Rattle.rtps_text.specs.Slices.{AreByPlace, AreTexts, IsSliceOf, merged_lines, places_lines};
 
@@ -10,9 +9,9 @@ use crate::last_line::LastLine;
 use crate::slices::Cursors;
 use dds_participant::Given;
 use dds_topic::TextCatalog;
+use rtps_shards::map_apart;
 use rtps_types::Place;
 use std::alloc::{AllocError, Global};
-use std::thread;
 use std::thread::Threads;
 
 /// What a batch gave, and how its values are spelled.
@@ -31,18 +30,6 @@ struct Slice<'a> {
     places: &'a [Place],
     /// Where its text goes. What is in it is dropped.
     text: Vec<u8>,
-}
-
-impl<'a> Slice<'a> {
-    /// No place.
-    fn none(alloc: Global) -> Slice<'a>
-        ensures { result.places.now ≡ [] }
-    {
-        Slice {
-            places: &[],
-            text: Vec::new(alloc),
-        }
-    }
 }
 
 /// The slice of this index, counted from 0, of as many places as there are to one; the last may
@@ -78,28 +65,6 @@ fn cut<'a>(
         })?;
     }
     Ok(slices)
-}
-
-/// Puts empty slices among others, if there are several, so that one comes after every two. A list
-/// is worked on half by half: whoever would spell the empty one has started a thread for each of the
-/// two by then, and only waits for them, so that its processor is free.
-fn spaced<'a>(alloc: Global, slices: Vec<Slice<'a>>) -> Result<Vec<Slice<'a>>, AllocError>
-    ensures all { IfOk result (λ all. flat_map (λ s. s.places.now) all.items
-        ≡ flat_map (λ s. s.places.now) slices.entry.items) }
-    ensures few { IfOk result (λ all. length all.items ≤ 2 * length slices.entry.items + 1) }
-{
-    let mut all = Vec::new(alloc);
-    for (at, slice) in slices.into_iter().enumerate() {
-        all.push(slice)?;
-        if at % 2 == 1 {
-            all.push(Slice::none(alloc))?;
-        }
-    }
-    if all.len() % 3 == 1 && all.len() > 1 {
-        all.push(Slice::none(alloc))?;
-        all.push(Slice::none(alloc))?;
-    }
-    Ok(all)
 }
 
 impl<C: TextCatalog> Spelling<'_, C>
@@ -142,9 +107,9 @@ where
         Ok(())
     }
 
-    /// The lines of all places, in as many texts as there are workers, or fewer, and empty ones
-    /// among them. Each text is made on a thread of its own where one can be started. Texts that
-    /// were written lend them their memory.
+    /// The lines of all places, in as many texts as there are workers, or fewer. Each text is made
+    /// on a thread of its own where one can be started. Texts that were written lend them their
+    /// memory.
     pub(crate) fn texts<T: Threads + Sync>(
         &self,
         rt: &T,
@@ -152,21 +117,20 @@ where
         spare: &mut Vec<Vec<u8>>,
     ) -> Result<Vec<Result<Vec<u8>, AllocError>>, AllocError>
         requires { 1 ≤ workers }
-        ensures few { IfOk result (λ texts. length texts.items ≤ 2 * workers + 1) }
+        ensures few { IfOk result (λ texts. length texts.items ≤ workers) }
         ensures lines { AreByPlace C.view self.now.given.now → IfOk result (λ texts.
             AreTexts texts.items (merged_lines (C.text_of self.now.catalog.now) C.view
             self.now.given.now self.now.readers self.now.given.now.places.items)) }
     {
         let places = self.given.places.as_slice();
         let size = places.len().div_ceil(workers).max(1);
-        let parts = cut(self.alloc, places, size, spare)?;
-        let slices = spaced(self.alloc, parts)?;
+        let slices = cut(self.alloc, places, size, spare)?;
         let spell = |slice: Slice<'_>| -> Result<Vec<u8>, AllocError>
             ensures { IsSliceOf slice.entry.places.now self.entry.now.given.now.places.items
                 → AreByPlace C.view self.entry.now.given.now → IfOk result (λ text. text.items
                 ≡ merged_lines (C.text_of self.entry.now.catalog.now) C.view
                 self.entry.now.given.now self.entry.now.readers slice.entry.places.now) }
         { self.text(slice) };
-        thread::map_vec(rt, slices, &spell)
+        map_apart(rt, self.alloc, slices, &spell)
     }
 }

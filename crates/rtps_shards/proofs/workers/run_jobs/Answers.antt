@@ -19,7 +19,7 @@ returns-clause-done g c shares ready =
     if_all_ok c.joined.result (AllOk given) (λ all. all.items ≡ flat_map given_by given) (λ all. All (IsDone f decoding shares) all.items) c.joined.ensures.ok c.joined.ensures.items
     (λ all ok is. subst (All (IsDone f decoding shares)) (sym is)
     (all_given (IsReady es shares) (IsDone f decoding shares) piles given (search rules) ok (λ at pile r less. (c.in_ok-given.ensures.each at pile r (search rules)).0 shares)
-    (All-permutation (IsReady es shares) c.args.jobs.items (flat_map (λ p. p.items) piles) (subst (IsPermutation c.args.jobs.items) (sym c.in_ok-piles.ensures) c.in_ok-dealt.ensures.all) ready)))
+    (All-permutation (IsReady es shares) c.args.jobs.items (flat_map (λ p. p.items) piles) c.in_ok-piles.ensures.all ready)))
 
 pub returns-clause-ranks : goal.returns-clause-ranks
 unfolding IsPileDone
@@ -29,4 +29,4 @@ returns-clause-ranks g c =
     if_all_ok c.joined.result (AllOk given) (λ all. all.items ≡ flat_map given_by given) (λ all. IsPermutation (map rank_in c.args.jobs.items) (map rank_of all.items)) c.joined.ensures.ok c.joined.ensures.items
     (λ all ok is. subst (IsPermutation (map rank_in c.args.jobs.items))
     (sym (ap (map rank_of) is ∙ ranks_given rank_in rank_of piles given (search rules) ok (λ at pile r less. (c.in_ok-given.ensures.each at pile r (search rules)).1)))
-    (IsPermutation-map rank_in c.args.jobs.items (flat_map (λ p. p.items) piles) (subst (IsPermutation c.args.jobs.items) (sym c.in_ok-piles.ensures) c.in_ok-dealt.ensures.all)))
+    (IsPermutation-map rank_in c.args.jobs.items (flat_map (λ p. p.items) piles) c.in_ok-piles.ensures.all))

@@ -21,8 +21,8 @@ returns-clause-lines g c = λ by.
     let xs = c.as_slice-places.result.now in
     let slices = c.in_ok-slices.slices.items in
     let joined : flat_map (λ (s : Slice). s.places.now) slices ≡ given.places.items
-    = c.in_ok-slices.ensures.all ∙ all_cut c.max-size.result c.in_ok-parts.parts.items xs c.in_ok-parts.ensures.each c.in_ok-parts.ensures.all ∙ c.as_slice-places.ensures.value in
-    if_ok_both c.map_vec.result c.map_vec.ensures.len c.map_vec.ensures.each (λ texts len each.
+    = all_cut c.max-size.result slices xs c.in_ok-slices.ensures.each c.in_ok-slices.ensures.all ∙ c.as_slice-places.ensures.value in
+    if_ok_both c.map_apart.result c.map_apart.ensures.len c.map_apart.ensures.each (λ texts len each.
     subst (λ places. AreTexts texts.items (put_lines text (merged lists count places))) joined
     (pieces text lists count texts.items slices (search rules) (λ n d s within.
     let made = (each n d within).1 in
@@ -47,7 +47,6 @@ returns-clause-few g c =
     let covers : length xs ≤ ceiling * workers = search (rules, div_ceil_times (length xs) workers c.requires) in
     let least : ceiling ≤ size = search rules in
     let fits : length xs ≤ size * workers = omega (arith, covers, mul-le-mul_right workers least) in
-    let parts : length c.in_ok-parts.parts.items ≤ workers = no_more (length c.in_ok-parts.parts.items) size workers (length xs) c.in_ok-parts.ensures.few fits in
-    let slices : length c.in_ok-slices.slices.items ≤ 2 * workers + 1 = omega (arith, c.in_ok-slices.ensures.few, parts) in
+    let slices : length c.in_ok-slices.slices.items ≤ workers = no_more (length c.in_ok-slices.slices.items) size workers (length xs) c.in_ok-slices.ensures.few fits in
     let same_length : (texts : _) → vec_len texts ≡ vec_len c.in_ok-slices.slices → length c.in_ok-slices.slices.items ≡ length texts.items = λ texts len. search rules in
-    IfOk-weaker c.map_vec.result _ _ (λ texts len. subst (λ n. n ≤ 2 * workers + 1) (same_length texts len) slices) c.map_vec.ensures.len
+    IfOk-weaker c.map_apart.result _ _ (λ texts len. subst (λ n. n ≤ workers) (same_length texts len) slices) c.map_apart.ensures.len
