@@ -1,5 +1,5 @@
 -- The count of the batches that were taken.
-use Rattle.std.proofs.Common.{◌≡◌, ℕ, ◌+◌, ap, ◌∙◌, arith, refl}
+use Rattle.std.proofs.Common.{◌≡◌, ℕ, ◌+◌, ap, ◌∙◌, arith}
 use Rattle.dds_participant.specs.Batch.{IsFinishedBy, OnlyRuns, failing}
 use Rattle.dds_participant.specs.Kept.{ParticipantView, counted, one_more}
 

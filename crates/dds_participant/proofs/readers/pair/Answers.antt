@@ -9,8 +9,8 @@ use Rattle.dds_participant.specs.Sharing.{state_rank}
 use Rattle.dds_participant.proofs.Pairing.{idle_done, job_last, job_none, ranks_moved, ready, share_front, share_last, to_idle, to_work}
 use Rattle.dds_participant.proofs.readers.pair.Goals as goal
 
-pub pair-preserved-in-Continue-1 : goal.pair-preserved-in-Continue-1
-pair-preserved-in-Continue-1 g c =
+pub pair-preserved-in-Continue-branch-3 : goal.pair-preserved-in-Continue-branch-3
+pair-preserved-in-Continue-branch-3 g c =
     let state = c.in-Some.state in
     let job = c.in-Some-last_of.job in
     let states = c.pair.states.items in

@@ -4,8 +4,8 @@ use Rattle.rtps_planner.specs.Plan.{jobs_by}
 use Rattle.rtps_planner.proofs.Whole.{job_pushed, no_job_pushed, some_left}
 use Rattle.rtps_planner.proofs.planner.jobs_of.Goals as goal
 
-pub loop-rank-preserved-in-Continue-1 : goal.loop-rank-preserved-in-Continue-1
-loop-rank-preserved-in-Continue-1 g c =
+pub loop-rank-preserved-in-Continue-branch-2 : goal.loop-rank-preserved-in-Continue-branch-2
+loop-rank-preserved-in-Continue-branch-2 g c =
     let done = c.loop-rank.yielded in
     let steps = c.in-Some.steps in
     let rest = c.next.new.self.iter.rest.items in

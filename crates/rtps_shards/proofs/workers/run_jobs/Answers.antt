@@ -1,5 +1,6 @@
 use Rattle.std.proofs.Common.{◌≡◌, ◌∙◌, All, ap, map, rules, subst, sym}
-use Rattle.std.proofs.lemmas.List.Sorted.{All-permutation, IsPermutation-map}
+use Rattle.std.proofs.lemmas.Result.{IfOk-weaker}
+use Rattle.std.proofs.lemmas.List.Sorted.{All-permutation, IsPermutation-map, IsPermutation-refl}
 use Rattle.std.specs.List.{flat_map}
 use Rattle.std.specs.List.Sorted.{IsPermutation}
 use Rattle.rtps_receiver.specs.Events.{view}
@@ -30,3 +31,12 @@ returns-clause-ranks g c =
     (λ all ok is. subst (IsPermutation (map rank_in c.args.jobs.items))
     (sym (ap (map rank_of) is ∙ ranks_given rank_in rank_of piles given (search rules) ok (λ at pile r less. (c.in_ok-given.ensures.each at pile r (search rules)).1)))
     (IsPermutation-map rank_in c.args.jobs.items (flat_map (λ p. p.items) piles) c.in_ok-piles.ensures.all))
+
+pub returns-then-count-eq1-clause-done : goal.returns-then-count-eq1-clause-done
+unfolding IsPileDone
+returns-then-count-eq1-clause-done g c = c.run_pile.ensures.0
+
+pub returns-then-count-eq1-clause-ranks : goal.returns-then-count-eq1-clause-ranks
+unfolding IsPileDone
+returns-then-count-eq1-clause-ranks g c =
+    IfOk-weaker c.run_pile.result _ _ (λ results same. subst (IsPermutation (map rank_in c.args.jobs.items)) (sym same) (IsPermutation-refl (map rank_in c.args.jobs.items))) c.run_pile.ensures.1

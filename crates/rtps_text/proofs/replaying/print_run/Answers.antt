@@ -1,8 +1,8 @@
-use Rattle.std.proofs.Common.{◌≡◌, ◌≢◌, ◌∙◌, ◌++◌, ◌∷◌, [], ap, arith, List, ℕ, Ok, None, Some, refl, rules, subst, sym}
+use Rattle.std.proofs.Common.{◌≡◌, ◌≢◌, ◌∙◌, ◌++◌, ◌∷◌, [], ap, arith, refl, rules, subst}
 use Rattle.rtps_records.specs.Batches.{EndsBatch}
 use Rattle.rtps_records.specs.Runs.{Moves}
 use Rattle.rtps_records.specs.declared.batch_end.BatchEnd.{BatchEnd}
-use Rattle.rtps_records.specs.declared.batch_end.BatchEnd.TheVariants.{End, Fault, More}
+use Rattle.rtps_records.specs.declared.batch_end.BatchEnd.TheVariants.{More}
 use Rattle.rtps_records.proofs.NextRead.{at_fault}
 use Rattle.rtps_records.proofs.Progress.{closed, ended, moved, started, stops_closing, stops_first, stops_here, stops_printing}
 use Rattle.rtps_serial.specs.Standing.{EngineView}

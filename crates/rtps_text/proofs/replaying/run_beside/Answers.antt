@@ -1,4 +1,4 @@
-use Rattle.std.proofs.Common.{◌≡◌, OnErr, OnOk, ◌++◌, rules}
+use Rattle.std.proofs.Common.{◌++◌, rules}
 use Rattle.rtps_records.specs.Runs.{Moves}
 use Rattle.rtps_text.proofs.Batches.{moved_front}
 use Rattle.rtps_text.proofs.Run.{on_err}

@@ -1,8 +1,7 @@
-use Rattle.std.proofs.Common.{◌≡◌, [], ◌++◌, append-nil, ap, sym, ◌∙◌, refl, subst, List, ℕ, rules}
+use Rattle.std.proofs.Common.{◌≡◌, [], ◌++◌, append-nil, ap, ◌∙◌, subst, rules}
 use Rattle.std.proofs.KnownBytes.{Appends-nil}
-use Rattle.rtps_records.specs.Batches.{ReadsBatch, records_in}
+use Rattle.rtps_records.specs.Batches.{records_in}
 use Rattle.rtps_text.specs.Batched.{TakesRecords}
-use Rattle.rtps_text.specs.Slices.{AreTexts}
 use Rattle.rtps_text.proofs.Batches.{runs_batch}
 use Rattle.rtps_text.proofs.Sliced.{texts_done}
 use Rattle.rtps_text.proofs.replaying.write_and_run.Goals as goal

@@ -1,7 +1,4 @@
-use Rattle.std.proofs.Common.{◌≡◌, ap, ◌∙◌, sym, subst, [], ◌++◌, append-nil}
 use Rattle.rtps_serial.proofs.Answered.{on_ok_then}
-use Rattle.rtps_records.specs.Runs.{Moves}
-use Rattle.rtps_text.specs.Slices.{AreTexts}
 use Rattle.rtps_text.proofs.Batches.{no_texts}
 use Rattle.rtps_text.proofs.running.RunLines.print.Goals as goal
 

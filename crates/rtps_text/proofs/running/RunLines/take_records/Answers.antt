@@ -1,4 +1,4 @@
-use Rattle.std.proofs.Common.{◌≡◌, ap, ◌∙◌, map, sym, subst, refl, List, ℕ, ◌++◌, OnOk}
+use Rattle.std.proofs.Common.{◌≡◌, ap, ◌∙◌, map, subst, List, ℕ, OnOk}
 use Rattle.std.specs.Borrow.{Bor}
 use Rattle.rtps_records.specs.Batches.{records_in}
 use Rattle.rtps_text.specs.Batched.{TakesRecords}
