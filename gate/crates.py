@@ -7,6 +7,8 @@ from pathlib import Path
 
 TOP = Path(__file__).resolve().parent.parent
 PARTS = ("src", "specs", "proofs")
+HIDDEN = ("format", "toolchain", "lang/antt/made.json")
+"""What of a built library holds bodies, or sums of them: the crates above it prove nothing by these."""
 
 
 @dataclass(frozen=True)
@@ -74,6 +76,16 @@ def proof_sum(crate, toolchain):
     for each in (*crate.below, crate):
         total.update(f"{each.line}\n{sum_of(each.files(), each.folder)}\n".encode())
     return total.hexdigest()
+
+
+def shown_sum(crate):
+    """A sum of all that a crate's built library shows to the crates above it: types, contracts and lemmas, and no body."""
+    library = crate.out / "rlib" / f"{crate.name}.rlib"
+    hidden = [library / name for name in HIDDEN]
+    found = sorted(path for path in library.rglob("*") if path.is_file() and not {path, *path.parents} & set(hidden))
+    if not found:
+        raise FileNotFoundError(library)
+    return sum_of(found, library)
 
 
 def toolchain_line():

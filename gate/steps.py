@@ -9,7 +9,7 @@ from dataclasses import dataclass, field, replace
 from pathlib import Path
 
 from gate import edits as editing
-from gate.crates import PARTS, TOP, proof_sum, sum_of
+from gate.crates import PARTS, TOP, proof_sum, shown_sum, sum_of
 from gate.rooms import copied
 from gate.tasks import Done, Task, run
 
@@ -190,11 +190,13 @@ def runs(crate, name, script):
 
 
 def edits_sum(crate, toolchain):
-    """A sum of all that the refusals of a crate's edits hang on: what its proof hangs on, the edits, and this judge."""
+    """A sum of all that the refusals of a crate's edits hang on: its files, its edits, what the libraries below it show
+    to it, the toolchain, and this judge. No body of a crate below is among them: proofs here see its contracts alone."""
     found = sorted((crate.folder / "must-fail").glob("*"))
     judge = Path(editing.__file__)
-    each = proof_sum(crate, toolchain) + sum_of(found, crate.folder) + sum_of([judge], judge.parent)
-    return hashlib.sha256(each.encode()).hexdigest()
+    below = [f"{each.line}\n{shown_sum(each)}" for each in crate.below]
+    own = [crate.line, sum_of(crate.files(), crate.folder), sum_of(found, crate.folder), sum_of([judge], judge.parent)]
+    return hashlib.sha256("\n".join([toolchain, *below, *own]).encode()).hexdigest()
 
 
 def try_edits(gate, crate, group, is_whole, jobs):
@@ -242,9 +244,19 @@ def edits_task(gate, crate, group, is_whole=False):
     return Task(f"{crate.name}: {names}", call, (crate.name,), work)
 
 
+def look_at_edits(gate, crate, found):
+    """Has a crate's edits tried where anything that they hang on has changed since all of them were refused."""
+    if gate.kept.refused().get(crate.name) == edits_sum(crate, gate.kept.toolchain):
+        return Done(len(found), says=f"{len(found)} were refused, and nothing that they hang on has changed")
+    groups, whole = editing.groups_of(found, crate.folder)
+    more = [edits_task(gate, crate, group) for group in groups]
+    more += [edits_task(gate, crate, [edit], True) for edit in whole]
+    return Done(says=f"{len(found)} to be tried in {len(more)} checks", more=more)
+
+
 def edits_tasks(gate, crate):
-    """Tasks that try a crate's edits, where anything that they hang on has changed since all were refused, the number
-    of edits whose refusal still holds, and the names and faults of those that can't be applied."""
+    """A task that looks whether a crate's edits are to be tried, and the names and faults of those that can't be
+    applied; a crate with such an edit has all others tried."""
     files = sorted((crate.folder / "must-fail").glob("*")) if (crate.folder / "must-fail").is_dir() else []
     found, bad, known = [], [], editing.refusers(REFUSED_BY.read_text(encoding="utf-8"))
     for path in files:
@@ -256,12 +268,10 @@ def edits_tasks(gate, crate):
             found.append(edit)
         except (editing.BadEdit, ValueError) as fault:
             bad.append((f"{crate.name}/{path.name}", str(fault)))
-    if not bad and gate.kept.refused().get(crate.name) == edits_sum(crate, gate.kept.toolchain):
-        return [], len(found), []
     gate.waiting[crate.name] = len(found) + len(bad)
-    groups, whole = editing.groups_of(found, crate.folder)
-    more = [edits_task(gate, crate, group) for group in groups]
-    return more + [edits_task(gate, crate, [edit], True) for edit in whole], 0, bad
+    if not found:
+        return [], bad
+    return [Task(f"{crate.name}: edits", lambda jobs: look_at_edits(gate, crate, found), (crate.name,), crate.lines())], bad
 
 
 def proof_tasks(gate, crates):

@@ -8,11 +8,13 @@ from pathlib import Path
 from unittest import mock
 
 from gate import edits, tasks
-from gate.crates import crates_in, proof_sum
+from gate.crates import HIDDEN, crates_in, proof_sum, shown_sum
 from gate.kept import Kept, default_folder
 from gate.rooms import Rooms, only_run
-from gate.steps import beyond, edits_sum, laid_out, unmet
+from gate.steps import Gate, beyond, edits_sum, edits_tasks, laid_out, unmet
 from gate.tasks import Done, Task
+
+LIBRARY = "crates/low/out/rlib/low.rlib"
 
 SOURCE = """\
 pub struct Header(u8);
@@ -64,6 +66,9 @@ class Repository(unittest.TestCase):
         self.write("crates/low/must-fail/none.edit", "file: src/lib.rt\nold:         Some(octet)\nnew:         None\n")
         self.write("crates/low/out/incremental/a/proof", "a proof")
         self.write("crates/low/out/rlib/stamp", "a stamp")
+        self.write(f"{LIBRARY}/lang/src/lib.rt", "pub fn first() -> u8 ensures { result ≡ 1 } ;\n")
+        for name in ("format", "toolchain/mir.json", "lang/antt/made.json"):
+            self.write(f"{LIBRARY}/{name}", "a body")
         self.kept = Kept(Path(room.name) / "kept", "kit 1")
 
     def write(self, name, text):
@@ -104,6 +109,25 @@ class Crates(Repository):
         self.write("crates/low/src/lib.rt", SOURCE.replace("= 1", "= 2"))
         self.assertNotEqual(before[0], proof_sum(self.crate("low"), "kit 1"))
         self.assertNotEqual(before[1], proof_sum(self.crate("high"), "kit 1"))
+
+
+    def test_a_library_shows_no_body(self):
+        before = shown_sum(self.crate("low"))
+        for name in ("format", "toolchain/mir.json", "lang/antt/made.json"):
+            self.assertTrue(any(name == part or name.startswith(f"{part}/") for part in HIDDEN))
+            self.write(f"{LIBRARY}/{name}", "another body")
+        self.write("crates/low/out/rlib/stamp", "another stamp")
+        self.assertEqual(before, shown_sum(self.crate("low")))
+
+    def test_a_library_shows_its_contracts_and_lemmas(self):
+        for name in ("lang/src/lib.rt", "lang/antt/specs/One.antt", "interface/lang/src/lib.rt", "below/std/lang/toolchain.rt"):
+            before = shown_sum(self.crate("low"))
+            self.write(f"{LIBRARY}/{name}", "something else")
+            self.assertNotEqual(before, shown_sum(self.crate("low")))
+
+    def test_a_library_that_is_not_there_shows_nothing(self):
+        shutil.rmtree(self.crate("low").out)
+        self.assertRaises(FileNotFoundError, shown_sum, self.crate("low"))
 
 
 class KeptWork(Repository):
@@ -187,10 +211,34 @@ class RefusedEdits(Repository):
         self.write("crates/low/must-fail/other.edit", "file: src/lib.rt\nold: octet + STEP\nnew: octet\n")
         self.assert_tried_again()
 
-    def test_edits_are_tried_again_where_a_crate_below_changed(self):
+    def test_edits_are_tried_again_where_their_crate_changed(self):
         self.write("crates/low/specs/One.antt", "one = 1\n")
-        self.assert_tried_again(crate="low")
+        self.assert_tried_again()
+
+    def test_edits_are_tried_again_where_a_crate_below_shows_something_else(self):
+        self.write(f"{LIBRARY}/lang/src/lib.rt", "pub fn first() -> u8 ensures { result ≡ 2 } ;\n")
         self.assert_tried_again(crate="high")
+
+    def test_refusals_hold_where_a_body_below_changed(self):
+        self.write("crates/low/src/lib.rt", SOURCE.replace("= 1", "= 2"))
+        self.write(f"{LIBRARY}/toolchain/mir.json", "another body")
+        self.assertEqual(self.kept.refused()["high"], edits_sum(self.crate("high"), "kit 1"))
+
+    def looked_at(self, name):
+        """What looking at a crate's edits gives."""
+        gate = Gate(crates_in(self.top), Rooms(self.top / "rooms"), self.kept, set())
+        [look], bad = edits_tasks(gate, self.crate(name))
+        self.assertEqual([], bad)
+        return look.call(1)
+
+    def test_edits_whose_refusal_holds_count_as_passed(self):
+        done = self.looked_at("low")
+        self.assertEqual((1, []), (done.passed, done.more))
+
+    def test_edits_whose_refusal_may_not_hold_are_tried(self):
+        self.write("crates/low/specs/One.antt", "one = 1\n")
+        done = self.looked_at("low")
+        self.assertEqual((0, 1), (done.passed, len(done.more)))
 
     def test_edits_are_tried_again_by_another_toolchain(self):
         self.assert_tried_again(toolchain="kit 2")

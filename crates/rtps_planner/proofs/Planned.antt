@@ -1,6 +1,6 @@
 -- The steps of a plan, one after the other.
 use Rattle.std.proofs.Common.{◌≡◌, ◌≢◌, ◌⊎◌, inl, inr, ℕ, zero, suc, ◌<◌, ◌≤◌, arith, ◌==◌, ◌&&◌, List, [], ◌∷◌, ◌++◌, length, map, Bool, true, false, if◌then◌else◌, Option, Some, None, get_or, refl, sym, ap, ◌∙◌, subst, append_assoc, append-nil, ◌+◌}
-use Rattle.std.specs.Prelude.{Box, box_value, drop, filter, option_to_list, replicate, set, take}
+use Rattle.std.specs.Prelude.{drop, filter, option_to_list, replicate, set, take}
 use Rattle.std.specs.List.{flat_map, slice_get}
 use Rattle.std.specs.Option.{option_map}
 use Rattle.std.specs.declared.vec.Vec.{Vec}
@@ -125,9 +125,9 @@ change_more {A} es e event (d ∷ ds) c s rank is = by_test (d.rank == rank) (ch
     by_test false rest = rest
 
 -- what a step of one change asks
-pub hears_one : {A : Type 0} (es : List EventView) (e : EventView) (event : ℕ) (what : Box (Becomes A) A) → slice_get es event ≡ Some e
-    → step_seen es (step.Change event what) ≡ (e.place, doing_of (becomes_seen (box_value what))) ∷ []
-hears_one es e event what is = ap (λ (o : Option EventView). option_to_list (option_map (λ (d : EventView). (d.place, doing_of (becomes_seen (box_value what)))) o)) is
+pub hears_one : {A : Type 0} (es : List EventView) (e : EventView) (event : ℕ) (what : Becomes A) → slice_get es event ≡ Some e
+    → step_seen es (step.Change event what) ≡ (e.place, doing_of (becomes_seen what)) ∷ []
+hears_one es e event what is = ap (λ (o : Option EventView). option_to_list (option_map (λ (d : EventView). (d.place, doing_of (becomes_seen what))) o)) is
 
 -- ---- a burst, for the readers of some ranks
 

@@ -1,5 +1,5 @@
 -- The jobs of a plan, whose steps point into the batch's list of events.
-use Rattle.std.specs.Prelude.{◌≡◌, ℕ, zero, suc, ◌+◌, [], ◌∷◌, Bool, true, false, ◌&&◌, ◌<◌, List, ◌++◌, length, map, filter, take, drop, ◌==◌, Option, Some, None, box_value, option_to_list, slice_index_or}
+use Rattle.std.specs.Prelude.{◌≡◌, ℕ, zero, suc, ◌+◌, [], ◌∷◌, Bool, true, false, ◌&&◌, ◌<◌, List, ◌++◌, length, map, filter, take, drop, ◌==◌, Option, Some, None, option_to_list, slice_index_or}
 use Rattle.std.specs.List.{AllByRecursion, flat_map, slice_get}
 use Rattle.std.specs.Str.{bytes_eq}
 use Rattle.std.specs.Option.{option_map}
@@ -42,7 +42,7 @@ heard_at es event what =
 -- what a step asks, by the events that it points into; nothing where there are none
 abbrev pub step_seen : {A : Type 0} → List EventView → PlannedStep A → Job
 step_seen es (step.TakeIn first more) = map taken_in (events_at es first more)
-step_seen es (step.Change event what) = heard_at es event (becomes_seen (box_value what))
+step_seen es (step.Change event what) = heard_at es event (becomes_seen what)
 
 -- what the steps of a job ask, one after the other
 abbrev pub steps_seen : {A : Type 0} → List EventView → List (PlannedStep A) → Job

@@ -35,7 +35,7 @@ pub enum PlannedStep<A: Allocator = Global> {
     /// The reader hears what becomes of a match, which the event at this index announces.
     Change {
         event: usize,
-        what: Box<Becomes<A>, A>,
+        what: Becomes<A>,
     },
 }
 
@@ -142,9 +142,8 @@ fn add_step<A: Allocator>(
 }
 
 /// Puts what becomes of matches after the steps of the readers that hear of it.
-fn add_changes<A: Allocator + Copy>(
+fn add_changes<A: Allocator>(
     lists: &mut Vec<Vec<PlannedStep<A>, A>, A>,
-    alloc: A,
     event: usize,
     changes: Vec<MatchChange<A>, A>,
 ) -> Result<(), AllocError>
@@ -153,7 +152,7 @@ fn add_changes<A: Allocator + Copy>(
         map (λ what. (e.place, what)) (changes_for rank (map change_seen changes.items)))) }
 {
     for change in changes {
-        let what = Box::new(alloc, change.what)?;
+        let what = change.what;
         add_step(lists, change.rank, PlannedStep::Change { event, what })?;
     }
     Ok(())
@@ -236,7 +235,7 @@ pub(crate) fn plan_announcement<A: Allocator + Copy>(
 {
     let effects = discovery.step(alloc, event)?;
     add_answer(&mut planning.answers, event.place, effects.answer)?;
-    add_changes(&mut planning.lists, alloc, index, effects.changes)
+    add_changes(&mut planning.lists, index, effects.changes)
 }
 
 /// Takes a burst into the plan: it is for the readers that are matched with its writer, where it

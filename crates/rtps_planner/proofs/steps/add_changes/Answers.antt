@@ -1,6 +1,6 @@
 use Rattle.std.proofs.Common.{◌≡◌, ◌++◌, ◌∙◌, ◌∷◌, [], append-nil, append_assoc, ap, refl, rules, if◌then◌else◌, ◌==◌, subst, sym}
 use Rattle.std.proofs.lemmas.List.{nil_from_length}
-use Rattle.rtps_discovery.specs.Seen.{becomes_seen, change_seen}
+use Rattle.rtps_discovery.specs.Seen.{change_seen}
 use Rattle.rtps_serial.specs.World.{doing_of}
 use Rattle.rtps_planner.specs.declared.steps.PlannedStep.{PlannedStep}
 use Rattle.rtps_planner.specs.declared.steps.PlannedStep.TheVariants as step
@@ -24,9 +24,8 @@ loop-change-preserved g c =
     let taken : c.loop-change.change-iterator.rest.items ≡ change ∷ c.next.new.self.rest.items = search rules in
     record {
       grows = λ es e is.
-          let step : PlannedStep g.row.A.Denot = step.Change c.args.event c.in_ok-what.what in
-          let one : step_seen es step ≡ (e.place, doing_of (change_seen change).what) ∷ []
-          = hears_one es e c.args.event c.in_ok-what.what is ∙ ap (λ b. (e.place, doing_of (becomes_seen b)) ∷ []) c.in_ok-what.ensures.ok in
+          let step : PlannedStep g.row.A.Denot = step.Change c.args.event change.what in
+          let one : step_seen es step ≡ (e.place, doing_of (change_seen change).what) ∷ [] = hears_one es e c.args.event change.what is in
           grow_more es old mid new (changes_asked_at e.place done) (λ at. if change.rank == at then step_seen es step else []) (changes_asked_at e.place (done ++ change ∷ []))
           (λ rank. change_more es e c.args.event done change step rank one) (c.loop-change.invariant.grows es e is) (c.in_ok-add_step.ensures es);
       left = c.loop-change.invariant.left ∙ ap (λ l. done ++ l) taken ∙ sym (append_assoc done (change ∷ []) c.next.new.self.rest.items);

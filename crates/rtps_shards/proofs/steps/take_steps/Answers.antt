@@ -4,9 +4,8 @@ use Rattle.std.specs.Prelude.{drop}
 use Rattle.std.proofs.lemmas.List.{drop-map, take-map, take_all, take_more}
 use Rattle.rtps_receiver.specs.declared.event.Event.{Event}
 use Rattle.rtps_receiver.specs.Events.{view}
-use Rattle.rtps_discovery.specs.Seen.{becomes_seen}
 use Rattle.rtps_planner.specs.Job.{job_run, job_told}
-use Rattle.rtps_planner.specs.Plan.{heard_at, step_seen, steps_seen, taken_in}
+use Rattle.rtps_planner.specs.Plan.{step_seen, steps_seen, taken_in}
 use Rattle.rtps_shards.specs.Results.{HasTaken, share}
 use Rattle.rtps_shards.proofs.Taking.{taken_more}
 use Rattle.rtps_shards.proofs.steps.take_steps.Goals as goal
@@ -50,7 +49,7 @@ loop-planned-preserved g c =
             nothing = rw w.effects-is w.in_ok-take_events-in-TakeIn.ensures.nothing;
           }
       | in-Change+in_ok-take_step-in-Change w ↦
-          let seen = w.change_at-step.ensures ∙ ap (λ what. heard_at es w.in-Change.event (becomes_seen what)) w.deref.ensures ∙ ap (step_seen es) (sym w.in-Change.is) in
+          let seen = w.change_at-step.ensures ∙ ap (step_seen es) (sym w.in-Change.is) in
           record {
             taken = λ r given stands.
                 let one = c.loop-planned.invariant.taken r given stands in
