@@ -28,15 +28,9 @@ const FIRST_ROOM: usize = 8;
 #[derive(Debug, Drop)]
 pub enum PlannedStep<A: Allocator = Global> {
     /// The reader takes in the event at an index, and so many more that follow it there.
-    TakeIn {
-        first: usize,
-        more: usize,
-    },
+    TakeIn { first: usize, more: usize },
     /// The reader hears what becomes of a match, which the event at this index announces.
-    Change {
-        event: usize,
-        what: Becomes<A>,
-    },
+    Change { event: usize, what: Becomes<A> },
 }
 
 /// Puts a step after the others. Where the list is full, room is made for four times as many, since

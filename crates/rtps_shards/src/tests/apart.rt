@@ -13,11 +13,12 @@ fn tripled<R: Threads + Sync>(
     count: u32,
 ) -> Result<(Vec<u32>, u64), AllocError> {
     let calls = AtomicU64::new(0);
-    let jobs = (0..count).collect(alloc)?;
-    let made = map_apart(rt, alloc, jobs, &|job: u32| -> u32 {
+    let triple = |job: u32| -> u32 {
         calls.fetch_add(1, Ordering::SeqCst);
         job.wrapping_mul(3)
-    })?;
+    };
+    let jobs = (0..count).collect(alloc)?;
+    let made = map_apart(rt, alloc, jobs, &triple)?;
     Ok((made, calls.load(Ordering::SeqCst)))
 }
 
