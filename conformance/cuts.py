@@ -168,7 +168,7 @@ def fault_of(got, wanted):
 
 
 def main():
-    if len(sys.argv) < 2 or sys.argv[2:] not in ([], ["--all"]):
+    if len(sys.argv) < 2 or sys.argv[2:] not in ([], ["--all"]) or not os.path.isfile(sys.argv[1]):
         print(__doc__, file=sys.stderr)
         return 2
     program, (count, batches, workers, places) = os.path.abspath(sys.argv[1]), MOST if sys.argv[2:] else SOME

@@ -341,35 +341,63 @@ fn stops_where_a_growth_is_refused(rt: HostRuntime) -> Result<(), Fail> {
     Ok(())
 }
 
-#[test]
-fn writes_long_texts_in_parts(rt: HostRuntime) -> Result<(), Fail> {
-    let mut file = b"RDG1".to_vec(rt.alloc())?;
-    let mut text = String::new(rt.alloc());
+/// A file of 12,000 empty records, and the text that is printed of it, longer than one write.
+fn long_file(alloc: Global) -> Result<(Vec<u8>, String), Fail> {
+    let mut file = b"RDG1".to_vec(alloc)?;
+    let mut text = String::new(alloc);
     for number in 0..12_000u32 {
         file.extend_from_slice(&[0; 4])?;
         writeln!(text, "{number} 0")?;
     }
+    Ok((file, text))
+}
+
+#[test]
+fn writes_long_texts_in_parts(rt: HostRuntime) -> Result<(), Fail> {
+    let (file, text) = long_file(rt.alloc())?;
     let (outcome, out) = printed(rt.alloc(), file.as_slice());
     assert_eq!(rt; outcome, Ok(()));
     assert_eq!(rt; out.as_slice(), text.as_bytes());
+    Ok(())
+}
+
+#[test]
+fn writes_a_part_of_a_long_text_before_a_fault(rt: HostRuntime) -> Result<(), Fail> {
+    let (file, text) = long_file(rt.alloc())?;
     let mut writer = Refusing::new(rt.alloc(), 1, usize::MAX);
     let mut rest = file.as_slice();
     let outcome = print_lengths(rt.alloc(), &mut rest, &mut writer);
     assert_eq!(rt; outcome, Err(RunFault::CannotWrite));
     assert!(rt; text.as_bytes().starts_with(writer.kept.as_slice()));
     assert!(rt; 0 < writer.kept.len() && writer.kept.len() < text.len());
+    Ok(())
+}
+
+/// Whether a long text is written whole where there are so many octets of memory; else a part of it
+/// is.
+fn is_written_whole(alloc: Global, file: &[u8], text: &str, memory: usize) -> Result<bool, Fail> {
+    let heap = LocalHeap::new(alloc, memory)?;
+    let mut out = Vec::new(alloc);
+    let mut rest = file;
+    let outcome = print_lengths(&heap, &mut rest, &mut out);
+    if !text.as_bytes().starts_with(out.as_slice()) {
+        return Err(Fail::new("no front of the text"));
+    }
+    match outcome {
+        Ok(()) if out.len() == text.len() => Ok(true),
+        Err(RunFault::NoMemory) => Ok(false),
+        _ => Err(Fail::new("another outcome")),
+    }
+}
+
+#[test]
+fn writes_a_part_of_a_long_text_out_of_memory(rt: HostRuntime) -> Result<(), Fail> {
+    let (file, text) = long_file(rt.alloc())?;
     let mut refused = 0;
     for step in 0..20 {
-        let heap = LocalHeap::new(rt.alloc(), 65_600 + step * 16_384)?;
-        let mut out = Vec::new(rt.alloc());
-        let mut rest = file.as_slice();
-        let outcome = print_lengths(&heap, &mut rest, &mut out);
-        assert!(rt; text.as_bytes().starts_with(out.as_slice()));
-        if outcome.is_ok() {
-            assert_eq!(rt; out.len(), text.len());
-        } else {
+        let memory = 65_600 + step * 16_384;
+        if !is_written_whole(rt.alloc(), file.as_slice(), text.as_str(), memory)? {
             refused = step;
-            assert_eq!(rt; outcome, Err(RunFault::NoMemory));
         }
     }
     assert!(rt; 0 < refused && refused < 19);
