@@ -10,7 +10,7 @@ import threading
 from collections import defaultdict
 from contextlib import contextmanager
 
-from gate.crates import PARTS, Crate
+from gate.crates import PARTS, Crate, shown_sum
 from gate.kept import link_tree
 
 BESIDE = ("data", "stdin", "stdout", "args", "status")
@@ -68,6 +68,11 @@ class Rooms:
             for path, text in (texts or {}).items():
                 (inside.folder / path).write_text(text, encoding="utf-8")
             yield inside
+
+    def shown(self, crate):
+        """A sum of what a crate's library shows, made while no task puts another library in its place."""
+        with self.locks[crate.name]:
+            return shown_sum(crate)
 
     def adopt(self, crate, inside):
         """Gives a crate the work that was done in a room."""

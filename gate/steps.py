@@ -9,7 +9,7 @@ from dataclasses import dataclass, field, replace
 from pathlib import Path
 
 from gate import edits as editing
-from gate.crates import PARTS, TOP, proof_sum, shown_sum, sum_of
+from gate.crates import PARTS, TOP, proof_sum, sum_of
 from gate.rooms import copied
 from gate.tasks import Done, Task, run
 
@@ -189,12 +189,12 @@ def runs(crate, name, script):
     return Done(int(counts[1]), says=f"{counts[1]} runs passed", seconds=ran.seconds)
 
 
-def edits_sum(crate, toolchain):
+def edits_sum(crate, toolchain, rooms):
     """A sum of all that the refusals of a crate's edits hang on: its files, its edits, what the libraries below it show
     to it, the toolchain, and this judge. No body of a crate below is among them: proofs here see its contracts alone."""
     found = sorted((crate.folder / "must-fail").glob("*"))
     judge = Path(editing.__file__)
-    below = [f"{each.line}\n{shown_sum(each)}" for each in crate.below]
+    below = [f"{each.line}\n{rooms.shown(each)}" for each in crate.below]
     own = [crate.line, sum_of(crate.files(), crate.folder), sum_of(found, crate.folder), sum_of([judge], judge.parent)]
     return hashlib.sha256("\n".join([toolchain, *below, *own]).encode()).hexdigest()
 
@@ -232,7 +232,7 @@ def try_edits(gate, crate, group, is_whole, jobs):
     done.passed = len(refused)
     gate.waiting[crate.name] -= len(refused)
     if not gate.waiting[crate.name]:
-        gate.kept.keep_refused(crate.name, edits_sum(crate, gate.kept.toolchain))
+        gate.kept.keep_refused(crate.name, edits_sum(crate, gate.kept.toolchain, gate.rooms))
     return done
 
 
@@ -246,7 +246,7 @@ def edits_task(gate, crate, group, is_whole=False):
 
 def look_at_edits(gate, crate, found):
     """Has a crate's edits tried where anything that they hang on has changed since all of them were refused."""
-    if gate.kept.refused().get(crate.name) == edits_sum(crate, gate.kept.toolchain):
+    if gate.kept.refused().get(crate.name) == edits_sum(crate, gate.kept.toolchain, gate.rooms):
         return Done(len(found), says=f"{len(found)} were refused, and nothing that they hang on has changed")
     groups, whole = editing.groups_of(found, crate.folder)
     more = [edits_task(gate, crate, group) for group in groups]
@@ -271,7 +271,8 @@ def edits_tasks(gate, crate):
     gate.waiting[crate.name] = len(found) + len(bad)
     if not found:
         return [], bad
-    return [Task(f"{crate.name}: edits", lambda jobs: look_at_edits(gate, crate, found), (crate.name,), crate.lines())], bad
+    call = lambda jobs: look_at_edits(gate, crate, found)
+    return [Task(f"{crate.name}: edits", call, (crate.name,), crate.lines())], bad
 
 
 def proof_tasks(gate, crates):

@@ -110,7 +110,6 @@ class Crates(Repository):
         self.assertNotEqual(before[0], proof_sum(self.crate("low"), "kit 1"))
         self.assertNotEqual(before[1], proof_sum(self.crate("high"), "kit 1"))
 
-
     def test_a_library_shows_no_body(self):
         before = shown_sum(self.crate("low"))
         for name in ("format", "toolchain/mir.json", "lang/antt/made.json"):
@@ -124,6 +123,20 @@ class Crates(Repository):
             before = shown_sum(self.crate("low"))
             self.write(f"{LIBRARY}/{name}", "something else")
             self.assertNotEqual(before, shown_sum(self.crate("low")))
+
+    def test_a_library_is_not_put_in_the_place_of_one_that_is_read(self):
+        rooms = Rooms(self.top / "rooms")
+        with rooms.room(self.crate("low")) as inside:
+            rooms.locks["low"].acquire()
+            adopting = threading.Thread(target=rooms.adopt, args=(self.crate("low"), inside))
+            reading = threading.Thread(target=rooms.shown, args=(self.crate("low"),))
+            for each in (adopting, reading):
+                each.start()
+                each.join(0.05)
+                self.assertTrue(each.is_alive())
+            rooms.locks["low"].release()
+            for each in (adopting, reading):
+                each.join()
 
     def test_a_library_that_is_not_there_shows_nothing(self):
         shutil.rmtree(self.crate("low").out)
@@ -191,17 +204,20 @@ class KeptWork(Repository):
 
 
 class RefusedEdits(Repository):
+    def edits_sum(self, name, toolchain="kit 1"):
+        return edits_sum(self.crate(name), toolchain, Rooms(self.top / "rooms"))
+
     def assert_tried_again(self, toolchain="kit 1", crate="low"):
-        self.assertNotEqual(self.kept.refused().get(crate), edits_sum(self.crate(crate), toolchain))
+        self.assertNotEqual(self.kept.refused().get(crate), self.edits_sum(crate, toolchain))
 
     def setUp(self):
         super().setUp()
         for name in ("low", "high"):
-            self.kept.keep_refused(name, edits_sum(self.crate(name), "kit 1"))
+            self.kept.keep_refused(name, self.edits_sum(name))
 
     def test_what_was_refused_holds(self):
         for name in ("low", "high"):
-            self.assertEqual(self.kept.refused()[name], edits_sum(self.crate(name), "kit 1"))
+            self.assertEqual(self.kept.refused()[name], self.edits_sum(name))
 
     def test_a_changed_edit_is_tried_again(self):
         self.write("crates/low/must-fail/none.edit", "file: src/lib.rt\nold:         Some(octet)\nnew:         Some(1)\n")
@@ -222,7 +238,7 @@ class RefusedEdits(Repository):
     def test_refusals_hold_where_a_body_below_changed(self):
         self.write("crates/low/src/lib.rt", SOURCE.replace("= 1", "= 2"))
         self.write(f"{LIBRARY}/toolchain/mir.json", "another body")
-        self.assertEqual(self.kept.refused()["high"], edits_sum(self.crate("high"), "kit 1"))
+        self.assertEqual(self.kept.refused()["high"], self.edits_sum("high"))
 
     def looked_at(self, name):
         """What looking at a crate's edits gives."""
