@@ -3,9 +3,9 @@
 ghost use Rattle.std.specs.Prelude.{◌≡◌, IfOk};
 ghost use Rattle.dds_topic.specs.Answer.{Gives};
 
-use crate::{Catalog, CatalogError};
+use crate::{Catalog, CatalogError, TextCatalog};
 use rtps_types::KeyHash;
-use std::alloc::{AllocError, Global};
+use std::alloc::{AllocError, Allocator, Global};
 use std::marker::Model;
 
 /// A catalog with what it keeps from one value to the next.
@@ -116,4 +116,18 @@ impl<'c, C: Catalog> Catalog for &'c C {
     }
 
     ghost key_again = { λ c v. C.key_again c.now v };
+}
+
+impl<'c, C: TextCatalog> TextCatalog for &'c C {
+    fn push_text<A: Allocator>(
+        &self,
+        out: &mut Vec<u8, A>,
+        value: &C::Value,
+    ) -> Result<(), AllocError> {
+        (**self).push_text(out, value)
+    }
+
+    fn text(&self, alloc: Global, value: &C::Value) -> Result<Vec<u8>, AllocError> {
+        (**self).text(alloc, value)
+    }
 }

@@ -66,6 +66,23 @@ fn a_blue_shape(rt: HostRuntime) -> Result<(), Fail> {
     Ok(())
 }
 
+/// The text of the value of a little-endian body, as one of its own and once more after it.
+fn printed_twice<C: TextCatalog>(alloc: Global, catalog: C, body: &[u8]) -> Result<Vec<u8>, Fail> {
+    let value = catalog.decode(alloc, 1, body)?;
+    let mut text = catalog.text(alloc, &value)?;
+    catalog.push_text(&mut text, &value)?;
+    Ok(text)
+}
+
+#[test]
+fn a_catalog_that_is_lent_prints(rt: HostRuntime) -> Result<(), Fail> {
+    let alloc = rt.alloc();
+    let body = hex::decode(alloc, "05000000424c5545000000000a000000140000001e000000")?;
+    let text = printed_twice(alloc, &Shapes, body.as_slice())?;
+    assert!(rt; text.as_slice() == b"424c5545 10 20 30424c5545 10 20 30".as_slice());
+    Ok(())
+}
+
 /// Colors, and the MD5 of each one's key in big-endian CDR, by another program.
 const KEYS: [(&str, &str); 10] = [
     ("BLUE", "cac217c318363f8ef1160eeedef9e886"),

@@ -12,7 +12,6 @@ use Rattle.rtps_records.specs.declared.batch_end.BatchEnd.{BatchEnd}
 use Rattle.rtps_records.specs.declared.batch_end.BatchEnd.TheVariants.{End, Fault, More}
 use Rattle.rtps_records.specs.declared.fault.RunFault.{RunFault}
 use Rattle.std.specs.Io.KnownBytes.{Appends}
-use Rattle.std.proofs.KnownBytes.{Appends-nil}
 use Rattle.std.proofs.Math.Seq.{take-append_seam}
 use Rattle.std.specs.declared.alloc.AllocError.{AllocError}
 use Rattle.std.specs.declared.alloc.Global.{Global}
@@ -124,17 +123,6 @@ pub batch_by_place : {C V M : Type 0} (text : C → M → List ℕ) (f : V → M
 batch_by_place text f decoding first now after old new n m end before next given kept p r =
     by_place f (run_by decoding before p.records) (run_by decoding before (p.records ++ r.batch)) given (r.takes.gives p.records p.says.stands)
 
--- and are on their way to the writer
-pub batch_printed : {C V M : Type 0} (text : C → M → List ℕ) (f : V → M) (decoding : C → Decoding M) (first now after old mid new : Option (List ℕ)) (n m : ℕ) (end : BatchEnd) (before next final : EngineView C) (given : Given V) (kept left : List ℕ)
-    → (next.catalog ≡ before.catalog) × (next.config ≡ before.config) → final ≡ next
-    → Progress (λ records said. HasSaid text decoding records said before) first now old mid n kept → (r : RunsBatch f decoding now after n m end before next given)
-    → Moves mid new (kept ++ all_lines (text next.catalog) f given (length next.statuses)) left
-    → Progress (λ records said. HasSaid text decoding records said final) first r.reads.here old new m left
-batch_printed text f decoding first now after old mid new n m end before next final given kept left same is p r printed =
-    let out = kept ++ all_lines (text next.catalog) f given (length next.statuses) in
-    let more = moved (λ records said. HasSaid text decoding records said next) first r.reads.here old mid new m out left (batch_more text f decoding first now after old mid n m end before next given kept same p r) printed in
-    subst (λ e. Progress (λ records said. HasSaid text decoding records said e) first r.reads.here old new m left) (sym is) more
-
 -- where a batch was taken, it was taken after whatever came before
 pub takes_records : {C V M U E : Type 0} (f : V → M) (decoding : C → Decoding M) (batch : List (List ℕ)) (old new : EngineView C) (given : Given V) (r : Result U E)
     → ((records : List (List ℕ)) → StandsAt decoding records old → OnOk r (StandsAt decoding (records ++ batch) new))
@@ -153,19 +141,10 @@ all_written (t ∷ ts) none = absurd (let bad : t ∷ ts ≡ [] = none in cc)
 pub no_texts : (old new : Option (List ℕ)) (octets left : List ℕ) (texts : List (Result (Vec ℕ Global) AllocError)) → texts ≡ [] → Moves old new octets left → MovesBefore old new octets left texts
 no_texts old new octets left texts none moved = ([], all_written texts none, subst (Moves old new octets) (sym (append-nil left)) moved)
 
--- and where nothing was written, all of it is in the texts
-pub in_texts : (old : Option (List ℕ)) (kept whole : List ℕ) (texts : List (Result (Vec ℕ Global) AllocError)) → AreTexts texts whole → MovesBefore old old (kept ++ whole) kept texts
-in_texts old kept whole texts are = (whole, are, ([], Appends-nil old, refl))
-
 -- octets of which a part was written, and what is left was kept back: a front of them was written
 pub moved_front : (old new : Option (List ℕ)) (octets left : List ℕ) → Moves old new octets left → PutsFront old new octets
 moved_front old new octets left m =
     (length m.0, subst (Appends old new) (sym (ap (take (length m.0)) m.2 ∙ take-append_seam m.0 left)) m.1)
-
--- a batch that was read and taken
-pub runs_batch : {C V M : Type 0} (f : V → M) (decoding : C → Decoding M) (before after : Option (List ℕ)) (n m : ℕ) (end : BatchEnd) (records : List (List ℕ)) (old new : EngineView C) (given : Given V)
-    → ReadsBatch before after n m records end → TakesRecords f decoding records old new given → RunsBatch f decoding before after n m end old new given
-runs_batch f decoding before after n m end records old new given reads takes = record { batch = records; reads = reads; takes = takes }
 
 -- what was kept back was written in part, and nothing more was read
 pub moved_here : (said : List (List ℕ) → List ℕ → Type 0) (first here now old mid new : Option (List ℕ)) (n : ℕ) (kept left : List ℕ)

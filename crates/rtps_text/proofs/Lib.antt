@@ -1,6 +1,7 @@
 pub mod Along
 pub mod Batches
 pub mod Caching
+pub mod Due
 pub mod Fronts
 pub mod Rows
 pub mod Run

@@ -10,7 +10,7 @@ use Rattle.dds_topic.specs.Decoding.{Decoding}
 use Rattle.rtps_serial.specs.Standing.{EngineView, StandsAt, run_by}
 use Rattle.dds_participant.specs.Given.{IsGiven}
 use Rattle.dds_participant.specs.declared.given.Given.{Given}
-use Rattle.rtps_text.specs.Slices.{AreTexts}
+use Rattle.rtps_text.specs.Slices.{AreByPlace, AreTexts, all_lines}
 use Rattle.rtps_text.specs.declared.running.RunLines.{RunLines}
 
 -- a run goes on with its catalog and configuration, and prints the same things
@@ -42,3 +42,12 @@ abbrev pub MovesBefore : Option (List ℕ) → Option (List ℕ) → List ℕ �
     → List (Result (Vec ℕ Global) AllocError) → Type 0
 MovesBefore old new octets left texts =
     (whole : List ℕ) × AreTexts texts whole × Moves old new octets (left ++ whole)
+
+-- what is still to be printed: texts that were made, and after them the lines of what a batch gave
+pub record IsDue {V M : Type 0} (text : M → List ℕ) (f : V → M)
+    (texts : List (Result (Vec ℕ Global) AllocError)) (given : Given V) (readers : ℕ)
+    (due : List ℕ) : Type 0 where
+  pub by_place : AreByPlace f given
+  pub made : List ℕ
+  pub are : AreTexts texts made
+  pub is : due ≡ made ++ all_lines text f given readers

@@ -17,6 +17,7 @@ mod line;
 mod locators;
 mod notice;
 mod numbers;
+mod printer;
 mod printing;
 mod replaying;
 mod running;

@@ -8,16 +8,15 @@ ghost use Rattle.rtps_records.specs.RecordFile.{IsRecord};
 ghost use Rattle.rtps_records.specs.Runs.{Moves, PutsFront, Stops, WroteAll};
 ghost use Rattle.rtps_text.specs.Replayed.{HasSaid, replay_text, text_by};
 ghost use Rattle.rtps_records.specs.declared.fault.RunFault.TheVariants.{CannotWrite, NoMemory};
-ghost use Rattle.rtps_text.specs.Batched.{IsSameRun, RunsBatch, TakesRecords};
-ghost use Rattle.rtps_text.specs.Slices.{AreTexts};
+ghost use Rattle.dds_participant.specs.Given.{HoldsNothing};
+ghost use Rattle.rtps_text.specs.Batched.{IsSameRun, RunsBatch};
 
-use crate::beside::write_beside;
+use crate::printer::Printer;
 use crate::running::RunLines;
 use crate::setup::Setup;
-use crate::texts::Texts;
 use dds_topic::TextCatalog;
 use rtps_records::{Batch, BatchEnd, Lines, Records, RunFault};
-use std::alloc::{AllocError, Global};
+use std::alloc::Global;
 use std::io::{Read, Write};
 use std::thread::Threads;
 
@@ -26,9 +25,10 @@ use std::thread::Threads;
 /// by place, then by rank, and of one reader what it reports before what it answers. With `summary`
 /// the matches and the status of each reader come after them, also where a record has a fault.
 ///
-/// The file is never held as a whole: the records of a batch, 1 MiB at the most, what they give and
-/// the text of one batch are. Several workers run a batch while the text of the one before is
-/// written; so a write may fail after one batch more was read than the text has.
+/// The file is never held as a whole: the records of a batch, 1 MiB at the most, what two batches
+/// give and the texts of two are. Where there are several workers, a batch is run while as many
+/// others spell what the one before gave, and what was spelled of the one before that is written;
+/// so a write may fail after two batches more were read than the text has.
 pub fn replay<C: TextCatalog, R: Read, W: Write + Send, T: Threads + Sync>(
     rt: &T,
     alloc: Global,
@@ -48,19 +48,35 @@ where
         fault (R.remaining reader.old) (R.remaining reader.new)
         (W.contents writer.old) (W.contents writer.new)) }
 {
-    print_file(rt, RunLines::new(alloc, setup)?, reader, writer)
+    let Setup {
+        config,
+        catalog,
+        summary,
+        pace,
+    } = setup;
+    let catalog = &catalog;
+    let lent = Setup {
+        config,
+        catalog,
+        summary,
+        pace,
+    };
+    print_file(rt, RunLines::new(alloc, lent)?, &catalog, reader, writer)
 }
 
-/// Prints the run over a file. Nothing was printed before.
+/// Prints the run over a file by this catalog, which is the run's own. Nothing was printed before.
 fn print_file<C: TextCatalog, R: Read, W: Write + Send, T: Threads + Sync>(
     rt: &T,
     run: RunLines<C>,
+    catalog: &C,
     reader: &mut R,
     writer: &mut W,
 ) -> Result<(), RunFault>
 where
     C::Value: Sync,
     requires fresh { HasSaid C.text_of C.decoding [] [] run.participant.engine }
+    requires nothing { HoldsNothing run.given }
+    requires own { catalog.now ≡ run.participant.engine.catalog }
     ensures ok { OnOk result (WroteAll
         (text_by C.text_of C.decoding run.participant.engine run.summary)
         (R.remaining reader.old) (W.contents writer.old) (W.contents writer.new) None) }
@@ -70,10 +86,10 @@ where
         (W.contents writer.old) (W.contents writer.new)) }
 {
     let alloc = run.alloc;
-    let mut texts = Texts::none(alloc);
+    let mut printer = Printer::new(catalog, &run);
     let mut records = Records::in_batches(alloc, reader)?;
     let mut lines = Lines::new(alloc, writer);
-    print_run(rt, run, &mut texts, &mut records, &mut lines)
+    print_run(rt, run, &mut printer, &mut records, &mut lines)
 }
 
 /// Reads the next batch of records, and runs it.
@@ -97,89 +113,11 @@ where
     Ok(end)
 }
 
-/// Runs a batch, while the texts of the one before are written.
-fn run_beside<C: TextCatalog, W: Write + Send, T: Threads + Sync>(
-    rt: &T,
-    run: RunLines<C>,
-    texts: &mut Texts,
-    batch: &Batch,
-    lines: &mut Lines<'_, W>,
-) -> Result<RunLines<C>, RunFault>
-where
-    C::Value: Sync,
-    requires few { length (records_in batch.now) ≤ 4096 }
-    requires fit { AllByRecursion IsRecord (records_in batch.now) }
-    ensures same { IfOk result (IsSameRun run) }
-    ensures takes { IfOk result (λ now. TakesRecords C.view C.decoding (records_in batch.now)
-        run.participant.engine now.participant.engine now.given) }
-    ensures none { texts.new.made.items ≡ [] }
-    ensures same_writer { lines.new.writer.ghost_name ≡ lines.old.writer.ghost_name }
-    ensures ok { (whole : List ℕ) → AreTexts texts.old.made.items whole → OnOk result (Moves
-        (W.contents lines.old.writer.now) (W.contents lines.new.writer.now)
-        (lines.old.text.items ++ whole) lines.new.text.items) }
-    ensures fault { IfErr result (λ fault. (fault ≡ CannotWrite) ⊎ (fault ≡ NoMemory)) }
-    ensures front { (whole : List ℕ) → AreTexts texts.old.made.items whole
-        → OnErr result (PutsFront
-        (W.contents lines.old.writer.now) (W.contents lines.new.writer.now)
-        (lines.old.text.items ++ whole)) }
-{
-    let take = move || -> Result<RunLines<C>, AllocError>
-        requires few { length (records_in batch.now) ≤ 4096 }
-        requires fit { AllByRecursion IsRecord (records_in batch.now) }
-        ensures same { IfOk result (IsSameRun run) }
-        ensures takes { IfOk result (λ now. TakesRecords C.view C.decoding
-            (records_in batch.entry.now) run.participant.engine now.participant.engine now.given) }
-    {
-        let mut run = run;
-        run.take_records(rt, batch)?;
-        Ok(run)
-    };
-    let (written, taken) = write_beside(rt, texts, lines, take);
-    written?;
-    Ok(taken?)
-}
-
-/// Reads the next batch of records, and runs it; texts of the one before are written meanwhile.
-fn write_and_run<C: TextCatalog, R: Read, W: Write + Send, T: Threads + Sync>(
-    rt: &T,
-    mut run: RunLines<C>,
-    texts: &mut Texts,
-    records: &mut Records<'_, R, Batch>,
-    lines: &mut Lines<'_, W>,
-) -> Result<(RunLines<C>, BatchEnd), RunFault>
-where
-    C::Value: Sync,
-    ensures same_reader { records.new.reader.ghost_name ≡ records.old.reader.ghost_name }
-    ensures same_writer { lines.new.writer.ghost_name ≡ lines.old.writer.ghost_name }
-    ensures same { IfOk result (λ now. IsSameRun run now.0) }
-    ensures none { OnOk result (texts.new.made.items ≡ []) }
-    ensures reads { IfOk result (λ now. RunsBatch C.view C.decoding
-        (R.remaining records.old.reader.now) (R.remaining records.new.reader.now)
-        records.old.count records.new.count now.1
-        run.participant.engine now.0.participant.engine now.0.given) }
-    ensures ok { (whole : List ℕ) → AreTexts texts.old.made.items whole → OnOk result (Moves
-        (W.contents lines.old.writer.now) (W.contents lines.new.writer.now)
-        (lines.old.text.items ++ whole) lines.new.text.items) }
-    ensures fault { IfErr result (λ fault. (fault ≡ CannotWrite) ⊎ (fault ≡ NoMemory)) }
-    ensures front { (whole : List ℕ) → AreTexts texts.old.made.items whole
-        → OnErr result (PutsFront
-        (W.contents lines.old.writer.now) (W.contents lines.new.writer.now)
-        (lines.old.text.items ++ whole)) }
-{
-    let end = records.next_batch(run.pace.batch)?;
-    let batch = records.last_batch();
-    if texts.is_some() {
-        return Ok((run_beside(rt, run, texts, batch, lines)?, end));
-    }
-    run.take_records(rt, batch)?;
-    Ok((run, end))
-}
-
 /// Prints the run over all records.
 fn print_run<C: TextCatalog, R: Read, W: Write + Send, T: Threads + Sync>(
     rt: &T,
     mut run: RunLines<C>,
-    texts: &mut Texts,
+    printer: &mut Printer<'_, C>,
     records: &mut Records<'_, R, Batch>,
     lines: &mut Lines<'_, W>,
 ) -> Result<(), RunFault>
@@ -187,7 +125,10 @@ where
     C::Value: Sync,
     requires unread { records.old.count ≡ 0 }
     requires empty { lines.old.text.items ≡ [] }
-    requires none { texts.old.made.items ≡ [] }
+    requires none { printer.old.texts.made.items ≡ [] }
+    requires nothing { HoldsNothing run.given }
+    requires own { printer.old.catalog.now ≡ run.participant.engine.catalog }
+    requires readers { printer.old.readers ≡ length run.participant.engine.statuses }
     requires fresh { HasSaid C.text_of C.decoding [] [] run.participant.engine }
     ensures same_reader { records.new.reader.ghost_name ≡ records.old.reader.ghost_name }
     ensures same_writer { lines.new.writer.ghost_name ≡ lines.old.writer.ghost_name }
@@ -203,12 +144,10 @@ where
     records.open()?;
     let mut end = BatchEnd::More;
     while end == BatchEnd::More {
-        let (next, ends) = write_and_run(rt, run, texts, records, lines)?;
-        run = next;
-        end = ends;
-        run.print(rt, texts, lines)?;
+        end = records.next_batch(run.pace.batch)?;
+        run = printer.print_and_take(rt, run, records.last_batch(), lines)?;
     }
-    texts.write(rt, lines)?;
+    printer.print_last(rt, &run.given, lines)?;
     run.close(lines)?;
     match end {
         BatchEnd::Fault(fault) => Err(fault),

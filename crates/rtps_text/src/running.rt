@@ -1,4 +1,4 @@
-//! A run in batches, and the lines of what they give.
+//! A run in batches.
 
 ghost use Rattle.std.specs.Prelude.{◌≡◌, ◌≤◌, ◌⊎◌, ◌++◌, [], All, IfErr, IfOk, List, OnErr, OnOk, length, map, ℕ};
 ghost use Rattle.std.specs.Io.{StartsWith};
@@ -9,18 +9,12 @@ ghost use Rattle.rtps_records.specs.Runs.{Closes, ClosesNot, Moves, PutsFront};
 ghost use Rattle.rtps_records.specs.Text.{Ends};
 ghost use Rattle.rtps_records.specs.declared.fault.RunFault.TheVariants.{CannotWrite, NoMemory};
 ghost use Rattle.rtps_serial.specs.Standing.{StandsAt, run_by};
-ghost use Rattle.dds_participant.specs.Given.{IsGiven};
+ghost use Rattle.dds_participant.specs.Given.{HoldsNothing, IsGiven};
 ghost use Rattle.rtps_text.specs.Replayed.{HasSaid, text_by};
-ghost use Rattle.rtps_text.specs.Batched.{IsSameRun, MovesBefore, TakesRecords};
-ghost use Rattle.rtps_text.specs.Slices.{AreByPlace, AreTexts, all_lines};
+ghost use Rattle.rtps_text.specs.Batched.{IsSameRun, TakesRecords};
 
 use crate::closing::push_summary;
-use crate::last_line::LastLine;
-use crate::printing::print_places;
 use crate::setup::{Pace, Setup};
-use crate::slices::Cursors;
-use crate::spelling::Spelling;
-use crate::texts::Texts;
 use dds_participant::{Given, Participant, Workers};
 use dds_topic::TextCatalog;
 use rtps_records::{Batch, Lines, RunFault};
@@ -29,32 +23,18 @@ use std::alloc::{AllocError, Allocator, Global};
 use std::io::Write;
 use std::thread::Threads;
 
-/// As many steps make one more worker worth its start, counting one for each datagram and reader.
-const STEPS: usize = 1_024;
-
 /// A participant whose run is printed.
 #[derive(Drop)]
 pub(crate) struct RunLines<C: TextCatalog> {
     pub participant: Participant<C>,
     /// What the last batch gave.
     pub given: Given<C::Value>,
-    /// What the last line began with.
-    pub last: LastLine,
-    /// Where what a batch gives is kept while it is printed.
+    /// Where what a batch gives is kept.
     pub alloc: Global,
     /// How the run is cut, and shared among workers.
     pub pace: Pace,
     /// Whether matches and statuses are printed after the last record.
     pub summary: bool,
-}
-
-/// How many of these workers run or print so many datagrams or places for so many readers.
-fn workers_for(workers: u8, datagrams: usize, readers: u32) -> usize
-    requires { (1 ≤ workers) × (workers ≤ 64) }
-    ensures { (1 ≤ result) × (result ≤ 64) }
-{
-    let steps = datagrams.saturating_mul(readers as usize);
-    (steps / STEPS).min(workers as usize).max(1)
 }
 
 impl<C: TextCatalog> RunLines<C>
@@ -68,6 +48,7 @@ where
             × (run.pace ≡ setup.pace)) }
         ensures fresh { IfOk result (λ run.
             HasSaid C.text_of C.decoding [] [] run.participant.engine) }
+        ensures nothing { IfOk result (λ run. HoldsNothing run.given) }
     {
         let Setup {
             config,
@@ -81,7 +62,6 @@ where
         Ok(RunLines {
             participant,
             given: Given::new(alloc),
-            last: LastLine::none(alloc),
             alloc,
             pace,
             summary,
@@ -111,7 +91,7 @@ where
     {
         let readers = self.participant.readers();
         let workers = Workers {
-            count: workers_for(self.pace.workers, datagrams.len(), readers),
+            count: self.pace.workers_for(datagrams.len(), readers),
             gate: &NoGate,
         };
         match self
@@ -136,87 +116,6 @@ where
             self.old.participant.engine self.new.participant.engine self.new.given) }
     {
         self.take(rt, &batch.records(self.alloc)?)
-    }
-
-    /// Prints what the last batch gave. Where several workers spell it, their texts are kept: they
-    /// are to be written after the lines.
-    pub(crate) fn print<W: Write, T: Threads + Sync>(
-        &mut self,
-        rt: &T,
-        texts: &mut Texts,
-        lines: &mut Lines<'_, W>,
-    ) -> Result<(), RunFault>
-        requires { texts.old.made.items ≡ [] }
-        ensures same { (self.new.participant ≡ self.old.participant)
-            × (self.new.summary ≡ self.old.summary) × (self.new.pace ≡ self.old.pace) }
-        ensures same_writer { lines.new.writer.ghost_name ≡ lines.old.writer.ghost_name }
-        ensures ok { AreByPlace C.view self.old.given → OnOk result (MovesBefore
-            (W.contents lines.old.writer.now) (W.contents lines.new.writer.now)
-            (lines.old.text.items ++ all_lines (C.text_of self.old.participant.engine.catalog)
-            C.view self.old.given (length self.old.participant.engine.statuses))
-            lines.new.text.items texts.new.made.items) }
-        ensures fault { IfErr result (λ fault. (fault ≡ CannotWrite) ⊎ (fault ≡ NoMemory)) }
-        ensures front { AreByPlace C.view self.old.given → OnErr result (PutsFront
-            (W.contents lines.old.writer.now) (W.contents lines.new.writer.now)
-            (lines.old.text.items ++ all_lines (C.text_of self.old.participant.engine.catalog)
-            C.view self.old.given (length self.old.participant.engine.statuses))) }
-    {
-        let readers = self.participant.readers();
-        let workers = workers_for(self.pace.workers, self.given.places.len(), readers);
-        if workers > 1 {
-            self.spell(rt, workers, texts)?;
-            Ok(())
-        } else {
-            self.print_alone(lines)
-        }
-    }
-
-    /// Prints what the last batch gave, on this thread, and writes it as it fills.
-    fn print_alone<W: Write>(&mut self, lines: &mut Lines<'_, W>) -> Result<(), RunFault>
-        ensures same { (self.new.participant ≡ self.old.participant)
-            × (self.new.summary ≡ self.old.summary) × (self.new.pace ≡ self.old.pace) }
-        ensures same_writer { lines.new.writer.ghost_name ≡ lines.old.writer.ghost_name }
-        ensures ok { OnOk result (Moves
-            (W.contents lines.old.writer.now) (W.contents lines.new.writer.now)
-            (lines.old.text.items ++ all_lines (C.text_of self.old.participant.engine.catalog)
-            C.view self.old.given (length self.old.participant.engine.statuses))
-            lines.new.text.items) }
-        ensures fault { IfErr result (λ fault. (fault ≡ CannotWrite) ⊎ (fault ≡ NoMemory)) }
-        ensures front { OnErr result (PutsFront
-            (W.contents lines.old.writer.now) (W.contents lines.new.writer.now)
-            (lines.old.text.items ++ all_lines (C.text_of self.old.participant.engine.catalog)
-            C.view self.old.given (length self.old.participant.engine.statuses))) }
-    {
-        let mut cursors = Cursors::start(self.alloc, self.participant.readers())?;
-        print_places(
-            lines,
-            &mut self.last,
-            self.participant.catalog(),
-            &self.given,
-            &mut cursors,
-        )
-    }
-
-    /// Has workers spell what the last batch gave.
-    fn spell<T: Threads + Sync>(
-        &self,
-        rt: &T,
-        workers: usize,
-        texts: &mut Texts,
-    ) -> Result<(), AllocError>
-        requires { 1 ≤ workers }
-        ensures { AreByPlace C.view self.now.given → OnOk result (AreTexts texts.new.made.items
-            (all_lines (C.text_of self.now.participant.engine.catalog) C.view self.now.given
-            (length self.now.participant.engine.statuses))) }
-    {
-        let spelling = Spelling {
-            alloc: self.alloc,
-            catalog: self.participant.catalog(),
-            given: &self.given,
-            readers: self.participant.readers(),
-        };
-        texts.made = spelling.texts(rt, workers, &mut texts.spare)?;
-        Ok(())
     }
 
     /// Adds the summary where it is asked for.

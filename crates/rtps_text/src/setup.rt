@@ -14,12 +14,26 @@ use rtps_discovery::Config;
 pub struct Pace {
     /// The most datagrams of a batch, 1 to 4,096.
     pub batch: u16,
-    /// The most workers, 1 to 64. One is the caller; several have a thread each.
+    /// The most workers that run a batch, and in `replay` the most that spell one meanwhile, 1 to 64.
+    /// One is the caller; several have a thread each.
     pub workers: u8,
     ghost batched: { 1 ≤ batch },
     ghost few: { batch ≤ 4096 },
     ghost worked: { 1 ≤ workers },
     ghost shared: { workers ≤ 64 },
+}
+
+/// As many steps make one more worker worth its start, counting one for each datagram and reader.
+const STEPS: usize = 1_024;
+
+impl Pace {
+    /// How many workers run or print so many datagrams or places for so many readers.
+    pub(crate) fn workers_for(&self, datagrams: usize, readers: u32) -> usize
+        ensures { (1 ≤ result) × (result ≤ 64) }
+    {
+        let steps = datagrams.saturating_mul(readers as usize);
+        (steps / STEPS).min(self.workers as usize).max(1)
+    }
 }
 
 /// Which readers a file is replayed to, and what is printed of them.

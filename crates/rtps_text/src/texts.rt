@@ -1,6 +1,6 @@
 //! Texts that workers made, on their way to a writer.
 
-ghost use Rattle.std.specs.Prelude.{◌≡◌, ◌⊎◌, ◌++◌, [], IfErr, List, OnErr, OnOk, false, length, ℕ};
+ghost use Rattle.std.specs.Prelude.{◌≡◌, ◌⊎◌, ◌++◌, [], IfErr, List, OnErr, OnOk, length, ℕ};
 ghost use Rattle.rtps_records.specs.Runs.{Moves, PutsFront};
 ghost use Rattle.rtps_records.specs.declared.fault.RunFault.TheVariants.{CannotWrite, NoMemory};
 ghost use Rattle.rtps_text.specs.Slices.{AreTexts};
@@ -31,14 +31,6 @@ impl Texts {
             spare: Vec::new(alloc),
             alloc,
         }
-    }
-
-    /// Whether there is a text to be written.
-    pub(crate) fn is_some(&self) -> bool
-        ensures none { result ≡ false → self.now.made.items ≡ [] }
-        ensures some { self.now.made.items ≡ [] → result ≡ false }
-    {
-        !self.made.is_empty()
     }
 
     /// Adds the texts to lines, and writes them as they fill; then there are none.
