@@ -146,7 +146,7 @@ fn workers<'a>(alloc: Global) -> Arg<'a>
 {
     Arg::new(alloc, "workers")
         .value_name("COUNT")
-        .help("How many threads share the run, 1 to 64; its text is the same")
+        .help("How many threads share the run of a batch, 1 to 64; the text is the same")
         .long("workers")
         .value_parser(value_parser!(u32).range(1..65))
         .default_value("1")

@@ -11,7 +11,7 @@ use crate::slices::Cursors;
 use dds_participant::Given;
 use dds_topic::TextCatalog;
 use rtps_records::{Lines, RunFault};
-use std::alloc::{AllocError, Allocator, Global};
+use std::alloc::{AllocError, Allocator};
 use std::io::Write;
 use std::mem;
 

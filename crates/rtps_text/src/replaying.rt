@@ -1,13 +1,10 @@
 //! What a run over a whole record file prints: a line for each thing that its readers report or
 //! answer.
 
-ghost use Rattle.std.specs.Prelude.{◌≡◌, ◌≤◌, ◌⊎◌, ◌++◌, [], IfErr, IfOk, List, None, OnErr, OnOk, length, ℕ};
-ghost use Rattle.std.specs.List.{AllByRecursion};
-ghost use Rattle.rtps_records.specs.Batches.{records_in};
-ghost use Rattle.rtps_records.specs.RecordFile.{IsRecord};
-ghost use Rattle.rtps_records.specs.Runs.{Moves, PutsFront, Stops, WroteAll};
+ghost use Rattle.std.specs.Prelude.{◌≡◌, [], IfErr, IfOk, None, OnOk, length};
+ghost use Rattle.rtps_records.specs.Runs.{Stops, WroteAll};
 ghost use Rattle.rtps_text.specs.Replayed.{HasSaid, replay_text, text_by};
-ghost use Rattle.rtps_records.specs.declared.fault.RunFault.TheVariants.{CannotWrite, NoMemory};
+ghost use Rattle.rtps_records.specs.declared.fault.RunFault.TheVariants.{NoMemory};
 ghost use Rattle.dds_participant.specs.Given.{HoldsNothing};
 ghost use Rattle.rtps_text.specs.Batched.{IsSameRun, RunsBatch};
 

@@ -1,13 +1,12 @@
 //! A run in batches.
 
-ghost use Rattle.std.specs.Prelude.{◌≡◌, ◌≤◌, ◌⊎◌, ◌++◌, [], All, IfErr, IfOk, List, OnErr, OnOk, length, map, ℕ};
+ghost use Rattle.std.specs.Prelude.{◌≡◌, ◌≤◌, ◌++◌, [], All, IfErr, IfOk, List, OnOk, length, map, ℕ};
 ghost use Rattle.std.specs.Io.{StartsWith};
 ghost use Rattle.std.specs.List.{AllByRecursion};
 ghost use Rattle.rtps_records.specs.Batches.{records_in};
 ghost use Rattle.rtps_records.specs.RecordFile.{IsRecord};
-ghost use Rattle.rtps_records.specs.Runs.{Closes, ClosesNot, Moves, PutsFront};
+ghost use Rattle.rtps_records.specs.Runs.{Closes, ClosesNot};
 ghost use Rattle.rtps_records.specs.Text.{Ends};
-ghost use Rattle.rtps_records.specs.declared.fault.RunFault.TheVariants.{CannotWrite, NoMemory};
 ghost use Rattle.rtps_serial.specs.Standing.{StandsAt, run_by};
 ghost use Rattle.dds_participant.specs.Given.{HoldsNothing, IsGiven};
 ghost use Rattle.rtps_text.specs.Replayed.{HasSaid, text_by};
