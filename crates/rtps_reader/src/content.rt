@@ -1,8 +1,8 @@
 //! The body that a change is presented as.
 
-ghost use Rattle.std.specs.Prelude.{◌≡◌, IfOk};
+ghost use Rattle.std.specs.Prelude.{◌≡◌, Err, IfErr, IfOk, Ok};
 ghost use Rattle.dds_topic.specs.Answer.{Gives};
-ghost use Rattle.rtps_reader.specs.Body.{body_by, body_map, encapsulated, key_for, value_for};
+ghost use Rattle.rtps_reader.specs.Body.{body_by, body_map, encapsulated, key_for};
 
 use crate::body::Body;
 use dds_topic::{Catalog, CatalogError, Decoder, Unread};
@@ -34,54 +34,46 @@ pub fn body_of<C: Catalog>(
         ≡ body_by (C.decoding decoder.old) info payload.now) }
     ensures same { decoder.new ≡ decoder.old }
 {
-    if info.status & (DISPOSED | UNREGISTERED) == 0 {
-        return match value_of(decoder, info.form, payload) {
-            Ok(value) => {
-                let hash = decoder.key_of(&value)?;
-                Ok(Body::Value(hash, value))
-            }
+    if info.status & (DISPOSED | UNREGISTERED) != 0 {
+        return match key_of(decoder, info, payload) {
+            Ok(hash) => Ok(if info.status & DISPOSED != 0 {
+                Body::Disposed(hash)
+            } else {
+                Body::Unregistered(hash)
+            }),
             Err(CatalogError::Unread(unread)) => Ok(Body::Unread(unread)),
             Err(CatalogError::NoMemory) => Err(AllocError),
         };
     }
-    match key_of(decoder, info, payload) {
-        Ok(hash) => Ok(if info.status & DISPOSED != 0 {
-            Body::Disposed(hash)
-        } else {
-            Body::Unregistered(hash)
-        }),
+    let Form::Value = info.form else {
+        return Ok(Body::Unread(Unread::NonStandard));
+    };
+    let (kind, body) = match unpack(payload) {
+        Ok(unpacked) => unpacked,
+        Err(unread) => return Ok(Body::Unread(unread)),
+    };
+    // Each function that a value is returned through copies it: none stands between.
+    match decoder.decode(kind, body) {
+        Ok(value) => {
+            let hash = decoder.key_of(&value)?;
+            Ok(Body::Value(hash, value))
+        }
         Err(CatalogError::Unread(unread)) => Ok(Body::Unread(unread)),
         Err(CatalogError::NoMemory) => Err(AllocError),
     }
 }
 
 /// The kind of a payload's encapsulation, and the body after it.
-fn unpack(payload: &[u8]) -> Result<(u16, &[u8]), CatalogError>
-    ensures { Gives (λ p. (p.0, p.1.now)) result (encapsulated payload.now) }
+fn unpack(payload: &[u8]) -> Result<(u16, &[u8]), Unread>
+    ensures ok { IfOk result (λ p. encapsulated payload.now ≡ Ok (p.0, p.1.now)) }
+    ensures err { IfErr result (λ unread. encapsulated payload.now ≡ Err unread) }
 {
     if payload.len() < ENCAPSULATION {
-        return Err(CatalogError::Unread(Unread::Encapsulation));
+        return Err(Unread::Encapsulation);
     }
     let kind = u16::from(payload[0]) * 256 + u16::from(payload[1]);
     let (_, body) = payload.split_at(ENCAPSULATION);
     Ok((kind, body))
-}
-
-/// The value of a change without status bits.
-fn value_of<C: Catalog>(
-    decoder: &Decoder<C>,
-    form: Form,
-    payload: &[u8],
-) -> Result<C::Value, CatalogError>
-    ensures { Gives C.view result (value_for (C.decoding decoder.now) form payload.now) }
-{
-    match form {
-        Form::Value => {
-            let (kind, body) = unpack(payload)?;
-            decoder.decode(kind, body)
-        }
-        Form::Key | Form::Other | Form::Nothing => Err(CatalogError::Unread(Unread::NonStandard)),
-    }
 }
 
 /// The key of a change with status bits.

@@ -23,9 +23,9 @@ use std::thread::Threads;
 /// the matches and the status of each reader come after them, also where a record has a fault.
 ///
 /// The file is never held as a whole: the records of a batch, 1 MiB at the most, what two batches
-/// give and the texts of two are. Where there are several workers, a batch is run while as many
-/// others spell what the one before gave, and what was spelled of the one before that is written;
-/// so a write may fail after two batches more were read than the text has.
+/// give and the texts of two are. Where there are several workers, half of them run a batch while
+/// the others spell what the one before gave, and what was spelled of the one before that is
+/// written; so a write may fail after two batches more were read than the text has.
 pub fn replay<C: TextCatalog, R: Read, W: Write + Send, T: Threads + Sync>(
     rt: &T,
     alloc: Global,
@@ -56,7 +56,7 @@ where
         config,
         catalog,
         summary,
-        pace,
+        pace: pace.halved(),
     };
     print_file(rt, RunLines::new(alloc, lent)?, &catalog, reader, writer)
 }

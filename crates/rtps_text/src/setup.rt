@@ -14,8 +14,9 @@ use rtps_discovery::Config;
 pub struct Pace {
     /// The most datagrams of a batch, 1 to 4,096.
     pub batch: u16,
-    /// The most workers that run a batch, and in `replay` the most that spell one meanwhile, 1 to 64.
-    /// One is the caller; several have a thread each.
+    /// The most workers that a batch is shared among, 1 to 64. One is the caller; several have a
+    /// thread each. In `replay` half of them run a batch while the others spell the one before, two
+    /// at the least for each where there are several.
     pub workers: u8,
     ghost batched: { 1 ≤ batch },
     ghost few: { batch ≤ 4096 },
@@ -27,6 +28,17 @@ pub struct Pace {
 const STEPS: usize = 1_024;
 
 impl Pace {
+    /// The pace of a run beside which as many workers spell: half of the workers, but two at the
+    /// least where there are several.
+    pub(crate) fn halved(self) -> Pace
+        ensures { result.batch ≡ self.batch }
+    {
+        Pace {
+            batch: self.batch,
+            workers: (self.workers / 2).max(self.workers.min(2)),
+        }
+    }
+
     /// How many workers run or print so many datagrams or places for so many readers.
     pub(crate) fn workers_for(&self, datagrams: usize, readers: u32) -> usize
         ensures { (1 ≤ result) × (result ≤ 64) }

@@ -205,3 +205,17 @@ fn prints_a_run_however_it_is_cut_and_shared(rt: HostRuntime) -> Result<(), Fail
     assert!(rt; prints_and_refuses(&rt, rt.alloc(), (given, 5), &FILE, &LINES)?);
     Ok(())
 }
+
+#[test]
+fn half_of_the_workers_run_a_batch_and_two_at_the_least(rt: HostRuntime) -> Result<(), Fail> {
+    let four = Pace {
+        batch: 9,
+        workers: 4,
+    };
+    let [one, two, seven, all] = PACES;
+    for (pace, workers) in [(one, 1), (two, 2), (four, 2), (seven, 3), (all, 32)] {
+        let half = pace.halved();
+        assert!(rt; (half.batch, half.workers) == (pace.batch, workers), "{workers}");
+    }
+    Ok(())
+}
