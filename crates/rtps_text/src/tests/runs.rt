@@ -215,7 +215,10 @@ fn half_of_the_workers_run_a_batch_and_two_at_the_least(rt: HostRuntime) -> Resu
     let [one, two, seven, all] = PACES;
     for (pace, workers) in [(one, 1), (two, 2), (four, 2), (seven, 3), (all, 32)] {
         let half = pace.halved();
-        assert!(rt; (half.batch, half.workers) == (pace.batch, workers), "{workers}");
+        assert!(rt;
+            (half.batch, half.workers) == (pace.batch, workers),
+            "{workers}"
+        );
     }
     Ok(())
 }
