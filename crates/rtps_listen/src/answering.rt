@@ -18,7 +18,7 @@ const READ_AHEAD: usize = 65_536;
 /// Where the record files are that words name.
 pub trait RecordFiles {
     /// A file that was opened.
-    type File: Read + Drop;
+    type File: Read + Drop + Send;
 
     ghost holds: { Self → List ℕ → Option (List ℕ) };
 
@@ -51,7 +51,7 @@ pub fn answer<F: RecordFiles, W: Write + Send, T: Threads + Sync>(
 
 /// Prints what a task makes of an opened file.
 #[tactic(auto, unfolding(crate::specs::Printed::PrintsBy))]
-fn print_file<R: Read + Drop, W: Write + Send, T: Threads + Sync>(
+fn print_file<R: Read + Drop + Send, W: Write + Send, T: Threads + Sync>(
     rt: &T,
     alloc: Global,
     task: Task,

@@ -39,7 +39,7 @@ pub enum Task {
 impl Task {
     /// Reads a file to its end or its first fault, and writes its text.
     #[tactic(auto, unfolding(crate::specs::Printed::task_text, crate::specs::Printed::TaskStops))]
-    pub fn print<R: Read, W: Write + Send, T: Threads + Sync>(
+    pub fn print<R: Read + Send, W: Write + Send, T: Threads + Sync>(
         self,
         rt: &T,
         alloc: Global,

@@ -14,9 +14,8 @@ use Rattle.rtps_records.proofs.Cuts.{length-cut}
 use Rattle.rtps_records.proofs.Progress.{all_more, frames_more}
 
 -- nothing was read yet
-pub fresh : {A : Type 0} (now : Option (List ℕ)) (n : ℕ) (b : Batch A) → b.lengths.items ≡ [] → HasRead now now n n (records_in b)
-fresh now n b e =
-    let none : records_in b ≡ [] = ap (λ l. cut l b.octets.items) e in
+pub fresh : {A : Type 0} (now : Option (List ℕ)) (n : ℕ) (b : Batch A) → records_in b ≡ [] → HasRead now now n n (records_in b)
+fresh now n b none =
     record {
       few = λ few. few;
       count = sym (add-zero n) ∙ ap (λ l. n + length l) (sym none);

@@ -54,9 +54,9 @@ fn read_after<R: Read>(
 }
 
 impl<A: Allocator + Copy> Batch<A> {
-    /// Room for records, and none of them.
-    pub(crate) fn new(alloc: A) -> Result<Batch<A>, AllocError>
-        ensures { IfOk result (λ b. b.lengths.items ≡ []) }
+    /// Room for records, and none of them. An error is a refused growth.
+    pub fn new(alloc: A) -> Result<Batch<A>, AllocError>
+        ensures { IfOk result (λ b. cut b.lengths.items b.octets.items ≡ []) }
     {
         Ok(Batch {
             octets: zeros(alloc, ROOM)?,
@@ -67,9 +67,9 @@ impl<A: Allocator + Copy> Batch<A> {
 }
 
 impl<A: Allocator> Batch<A> {
-    /// Gives up the records.
-    pub(crate) fn clear(&mut self)
-        ensures { self.new.lengths.items ≡ [] }
+    /// Gives up the records, and keeps the room.
+    pub fn clear(&mut self)
+        ensures { cut self.new.lengths.items self.new.octets.items ≡ [] }
     {
         self.lengths.clear();
         self.used = 0;

@@ -146,17 +146,6 @@ pub moved_front : (old new : Option (List ℕ)) (octets left : List ℕ) → Mov
 moved_front old new octets left m =
     (length m.0, subst (Appends old new) (sym (ap (take (length m.0)) m.2 ∙ take-append_seam m.0 left)) m.1)
 
--- what was kept back was written in part, and nothing more was read
-pub moved_here : (said : List (List ℕ) → List ℕ → Type 0) (first here now old mid new : Option (List ℕ)) (n : ℕ) (kept left : List ℕ)
-    → Progress said first here old mid n kept → Moves mid new kept left → now ≡ here → Progress said first now old new n left
-moved_here said first here now old mid new n kept left p m e = subst (λ x. Progress said first x old new n left) (sym e) (moved said first here old mid new n kept left p m)
-
--- what is left of a file after a batch after which more may come
-pub more_here : (end : BatchEnd) (m : ℕ) (records : List (List ℕ)) (here after : Option (List ℕ)) → end ≡ More → EndsBatch end m records here after → after ≡ here
-more_here More m records here after e ends = ends.1
-more_here End m records here after e ends = absurd (let bad : End ≡ More = e in cc)
-more_here (Fault fault) m records here after e ends = absurd (let bad : Fault fault ≡ More = e in cc)
-
 -- the fault that a batch ends with
 abbrev pub fault_in : BatchEnd → Option RunFault
 fault_in More = None

@@ -7,4 +7,5 @@ pub mod Rows
 pub mod Run
 pub mod Sampled
 pub mod Sliced
+pub mod Turns
 pub mod Viewing

@@ -1,3 +1,4 @@
+pub mod Ahead
 pub mod Batched
 pub mod Caches
 pub mod Entries

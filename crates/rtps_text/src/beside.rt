@@ -1,50 +1,64 @@
-//! Texts are written while two other things are done.
+//! Texts are written and a batch is read while two other things are done.
 
-ghost use Rattle.std.specs.Prelude.{◌≡◌, ◌⊎◌, ◌++◌, [], IfErr, IfSome, IsSomeAnd, List, OnErr, OnOk, ℕ};
+ghost use Rattle.std.specs.Prelude.{◌≡◌, ◌≢◌, ◌⊎◌, ◌++◌, [], IfErr, IfSome, IsSomeAnd, List, OnErr, OnOk, Option, ℕ};
+ghost use Rattle.rtps_records.specs.Batches.{EndsBatch, records_in};
 ghost use Rattle.rtps_records.specs.Runs.{Moves, PutsFront};
+ghost use Rattle.rtps_records.specs.declared.batch_end.BatchEnd.TheVariants.{More};
 ghost use Rattle.rtps_records.specs.declared.fault.RunFault.TheVariants.{CannotWrite, NoMemory};
+ghost use Rattle.rtps_text.specs.Ahead.{ReadsAhead};
 ghost use Rattle.rtps_text.specs.Slices.{AreTexts};
 
-use crate::texts::Texts;
-use rtps_records::{Lines, RunFault};
-use std::io::Write;
+use crate::held::Held;
+use rtps_records::{Lines, Records, RunFault};
+use std::io::{Read, Write};
 use std::thread;
 use std::thread::Threads;
 
-/// Writes texts on a thread of its own, as [`Texts::write`] does, while one call is made on another
-/// thread and a second one on this; gives what came of the writing, and what each call gave.
-pub(crate) fn write_beside<W, T, F, G, X, Y>(
+/// Writes texts and reads the next batch on a thread of its own, as [`Held::write_and_read`] does,
+/// while the first call is made on another thread and the second one on this; gives what came of
+/// the writing and the reading, and what each call gave.
+pub(crate) fn write_and_read_beside<R, W, T, F, G, X, Y>(
     rt: &T,
-    texts: &mut Texts,
+    held: &mut Held,
+    records: &mut Records<'_, R, ()>,
     lines: &mut Lines<'_, W>,
-    first: F,
-    second: G,
+    calls: (F, G),
 ) -> (Result<(), RunFault>, X, Y)
 where
+    R: Read + Send,
     W: Write + Send,
     T: Threads + Sync,
     F: FnOnce() -> X + Send,
     G: FnOnce() -> Y,
     X: Send,
-    requires first { F.pre first }
-    requires second { G.pre second }
-    ensures first { F.post first result.1 }
-    ensures second { G.post second result.2 }
-    ensures none { texts.new.made.items ≡ [] }
+    requires first { F.pre calls.0 }
+    requires second { G.pre calls.1 }
+    ensures first { F.post calls.0 result.1 }
+    ensures second { G.post calls.1 result.2 }
+    ensures none { held.new.texts.made.items ≡ [] }
+    ensures same_reader { records.new.reader.ghost_name ≡ records.old.reader.ghost_name }
     ensures same_writer { lines.new.writer.ghost_name ≡ lines.old.writer.ghost_name }
-    ensures ok { (whole : List ℕ) → AreTexts texts.old.made.items whole → OnOk result.0 (Moves
+    ensures reads { (here : Option (List ℕ)) (earlier : List (List ℕ))
+        → EndsBatch held.old.end records.old.count earlier here
+        (R.remaining records.old.reader.now)
+        → OnOk result.0 (ReadsAhead here (R.remaining records.new.reader.now)
+        records.old.count records.new.count (records_in held.new.next) held.new.end) }
+    ensures still { held.old.end ≢ More
+        → R.remaining records.new.reader.now ≡ R.remaining records.old.reader.now }
+    ensures ok { (whole : List ℕ) → AreTexts held.old.texts.made.items whole
+        → OnOk result.0 (Moves
         (W.contents lines.old.writer.now) (W.contents lines.new.writer.now)
         (lines.old.text.items ++ whole) lines.new.text.items) }
     ensures fault { IfErr result.0 (λ fault. (fault ≡ CannotWrite) ⊎ (fault ≡ NoMemory)) }
-    ensures front { (whole : List ℕ) → AreTexts texts.old.made.items whole
+    ensures front { (whole : List ℕ) → AreTexts held.old.texts.made.items whole
         → OnErr result.0 (PutsFront
         (W.contents lines.old.writer.now) (W.contents lines.new.writer.now)
         (lines.old.text.items ++ whole)) }
 {
-    let mut due = Some((first, second));
-    let (written, made) = thread::join_mut(
+    let mut due = Some(calls);
+    let (done, made) = thread::join_mut(
         rt,
-        &mut || texts.write(rt, lines),
+        &mut || held.write_and_read(rt, records, lines),
         &mut || -> Option<(X, Y)>
             requires { IfSome due (λ calls. F.pre calls.0 × G.pre calls.1) }
             ensures { IfSome due.entry (λ calls. IsSomeAnd result (λ made.
@@ -57,7 +71,7 @@ where
         },
     );
     match made {
-        Some((one, other)) => (written, one, other),
+        Some((one, other)) => (done, one, other),
         None => unreachable!(),
     }
 }

@@ -12,6 +12,7 @@ mod dumping;
 mod entry;
 mod event_lines;
 mod guid;
+mod held;
 mod last_line;
 mod line;
 mod locators;

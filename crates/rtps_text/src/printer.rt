@@ -1,15 +1,18 @@
 //! What prints a run: what a batch gives is spelled, and what was spelled is written.
 
-ghost use Rattle.std.specs.Prelude.{◌≡◌, ◌≤◌, ◌⊎◌, ◌++◌, [], IfErr, IfOk, List, OnErr, OnOk, length, ℕ};
+ghost use Rattle.std.specs.Prelude.{◌≡◌, ◌≢◌, ◌≤◌, ◌⊎◌, ◌++◌, [], IfErr, IfOk, List, OnErr, OnOk, Option, length, ℕ};
 ghost use Rattle.std.specs.List.{AllByRecursion};
-ghost use Rattle.rtps_records.specs.Batches.{records_in};
+ghost use Rattle.rtps_records.specs.Batches.{EndsBatch, records_in};
 ghost use Rattle.rtps_records.specs.RecordFile.{IsRecord};
 ghost use Rattle.rtps_records.specs.Runs.{Moves, PutsFront};
+ghost use Rattle.rtps_records.specs.declared.batch_end.BatchEnd.TheVariants.{More};
 ghost use Rattle.rtps_records.specs.declared.fault.RunFault.TheVariants.{CannotWrite, NoMemory};
+ghost use Rattle.rtps_text.specs.Ahead.{ReadsAhead};
 ghost use Rattle.rtps_text.specs.Batched.{IsDue, IsSameRun, MovesBefore, TakesRecords};
 ghost use Rattle.rtps_text.specs.Slices.{AreByPlace, AreTexts, all_lines, merged_lines};
 
-use crate::beside::write_beside;
+use crate::beside::write_and_read_beside;
+use crate::held::Turn;
 use crate::last_line::LastLine;
 use crate::printing::print_places;
 use crate::running::RunLines;
@@ -19,14 +22,15 @@ use crate::spelling::Spelling;
 use crate::texts::Texts;
 use dds_participant::Given;
 use dds_topic::TextCatalog;
-use rtps_records::{Batch, Lines, RunFault};
+use rtps_records::{Lines, Records, RunFault};
 use std::alloc::{AllocError, Global};
-use std::io::Write;
+use std::io::{Read, Write};
 use std::mem;
 use std::thread::Threads;
 
 /// Prints what a run gives, a batch after the run: while the run takes a batch, workers spell what
-/// the batch before gave, and what they spelled of the one before that is written.
+/// the batch before gave, what they spelled of the one before that is written, and the next batch
+/// is read.
 #[derive(Drop)]
 pub(crate) struct Printer<'c, C: TextCatalog> {
     /// How values are spelled.
@@ -35,8 +39,6 @@ pub(crate) struct Printer<'c, C: TextCatalog> {
     pub readers: u32,
     /// What workers spell while the next batch is run. Its lists serve for the batch after that.
     given: Given<C::Value>,
-    /// What was spelled and is still to be written.
-    pub texts: Texts,
     /// What the last line began with that was spelled on this thread.
     last: LastLine,
     /// How many workers spell what a batch gave.
@@ -53,56 +55,65 @@ where
     pub(crate) fn new(catalog: &'c C, run: &RunLines<C>) -> Printer<'c, C>
         ensures catalog { result.catalog.now ≡ catalog.now }
         ensures readers { result.readers ≡ length run.now.participant.engine.statuses }
-        ensures none { result.texts.made.items ≡ [] }
     {
         Printer {
             catalog,
             readers: run.participant.readers(),
             given: Given::new(run.alloc),
-            texts: Texts::none(run.alloc),
             last: LastLine::none(run.alloc),
             pace: run.pace,
             alloc: run.alloc,
         }
     }
 
-    /// Prints what a run gave last, while the run takes a batch more. Where several workers spell
-    /// it, their texts are kept: they are to be written after the lines.
+    /// Prints what a run gave last, while the run takes the batch that was read before its turn and
+    /// the next one is read. Where several workers spell what the run gave, their texts are kept:
+    /// they are to be written after the lines.
     ///
     /// `CannotWrite` where a write fails, and `NoMemory`; a front of what was to be printed may have
     /// been written then.
-    pub(crate) fn print_and_take<W: Write + Send, T: Threads + Sync>(
+    pub(crate) fn print_and_take<R: Read + Send, W: Write + Send, T: Threads + Sync>(
         &mut self,
         rt: &T,
         mut run: RunLines<C>,
-        batch: &Batch,
+        turn: &mut Turn,
+        records: &mut Records<'_, R, ()>,
         lines: &mut Lines<'_, W>,
     ) -> Result<RunLines<C>, RunFault>
-        requires few { length (records_in batch.now) ≤ 4096 }
-        requires fit { AllByRecursion IsRecord (records_in batch.now) }
+        requires few { length (records_in turn.old.held.next) ≤ 4096 }
+        requires fit { AllByRecursion IsRecord (records_in turn.old.held.next) }
         ensures same { IfOk result (IsSameRun run) }
-        ensures takes { IfOk result (λ now. TakesRecords C.view C.decoding (records_in batch.now)
-            run.participant.engine now.participant.engine now.given) }
+        ensures takes { IfOk result (λ now. TakesRecords C.view C.decoding
+            (records_in turn.old.held.next) run.participant.engine now.participant.engine now.given) }
+        ensures reads { (here : Option (List ℕ)) (earlier : List (List ℕ))
+            → EndsBatch turn.old.held.end records.old.count earlier here
+            (R.remaining records.old.reader.now)
+            → OnOk result (ReadsAhead here (R.remaining records.new.reader.now)
+            records.old.count records.new.count (records_in turn.new.held.next) turn.new.held.end) }
+        ensures still { turn.old.held.end ≢ More
+            → R.remaining records.new.reader.now ≡ R.remaining records.old.reader.now }
         ensures catalog { self.new.catalog.now ≡ self.old.catalog.now }
         ensures readers { self.new.readers ≡ self.old.readers }
+        ensures same_reader { records.new.reader.ghost_name ≡ records.old.reader.ghost_name }
         ensures same_writer { lines.new.writer.ghost_name ≡ lines.old.writer.ghost_name }
         ensures ok { (due : List ℕ) → IsDue (C.text_of self.old.catalog.now) C.view
-            self.old.texts.made.items run.given self.old.readers due → OnOk result (MovesBefore
+            turn.old.held.texts.made.items run.given self.old.readers due → OnOk result (MovesBefore
             (W.contents lines.old.writer.now) (W.contents lines.new.writer.now)
-            (lines.old.text.items ++ due) lines.new.text.items self.new.texts.made.items) }
+            (lines.old.text.items ++ due) lines.new.text.items turn.new.held.texts.made.items) }
         ensures fault { IfErr result (λ fault. (fault ≡ CannotWrite) ⊎ (fault ≡ NoMemory)) }
         ensures front { (due : List ℕ) → IsDue (C.text_of self.old.catalog.now) C.view
-            self.old.texts.made.items run.given self.old.readers due → OnErr result (PutsFront
+            turn.old.held.texts.made.items run.given self.old.readers due → OnErr result (PutsFront
             (W.contents lines.old.writer.now) (W.contents lines.new.writer.now)
             (lines.old.text.items ++ due)) }
     {
         let workers = self.workers(&run.given);
         if workers > 1 {
-            return self.spell_and_take(rt, run, batch, lines);
+            return self.spell_and_take(rt, run, turn, records, lines);
         }
-        self.texts.write(rt, lines)?;
+        turn.held.texts.write(lines)?;
         self.print_alone(&run.given, lines)?;
-        run.take_records(rt, batch)?;
+        run.take_records(rt, &turn.held.next)?;
+        turn.held.read(records)?;
         Ok(run)
     }
 
@@ -115,27 +126,28 @@ where
         &mut self,
         rt: &T,
         given: &Given<C::Value>,
+        texts: &mut Texts,
         lines: &mut Lines<'_, W>,
     ) -> Result<(), RunFault>
         ensures same_writer { lines.new.writer.ghost_name ≡ lines.old.writer.ghost_name }
         ensures ok { (due : List ℕ) → IsDue (C.text_of self.old.catalog.now) C.view
-            self.old.texts.made.items given.now self.old.readers due → OnOk result (Moves
+            texts.old.made.items given.now self.old.readers due → OnOk result (Moves
             (W.contents lines.old.writer.now) (W.contents lines.new.writer.now)
             (lines.old.text.items ++ due) lines.new.text.items) }
         ensures fault { IfErr result (λ fault. (fault ≡ CannotWrite) ⊎ (fault ≡ NoMemory)) }
         ensures front { (due : List ℕ) → IsDue (C.text_of self.old.catalog.now) C.view
-            self.old.texts.made.items given.now self.old.readers due → OnErr result (PutsFront
+            texts.old.made.items given.now self.old.readers due → OnErr result (PutsFront
             (W.contents lines.old.writer.now) (W.contents lines.new.writer.now)
             (lines.old.text.items ++ due)) }
     {
-        self.texts.write(rt, lines)?;
+        texts.write(lines)?;
         let workers = self.workers(given);
         if workers == 1 {
             return self.print_alone(given, lines);
         }
-        let mut spare = mem::replace(&mut self.texts.spare, Vec::new(self.alloc));
-        self.texts.made = self.spelling(given).texts(rt, workers, &mut spare)?;
-        self.texts.write(rt, lines)
+        let mut spare = mem::replace(&mut texts.spare, Vec::new(self.alloc));
+        texts.made = self.spelling(given).texts(rt, workers, &mut spare)?;
+        texts.write(lines)
     }
 
     /// How many workers spell what a batch gave.
@@ -146,37 +158,48 @@ where
     }
 
     /// Has a thread of its own run a batch, and workers spell what the run gave before, while texts
-    /// are written.
-    fn spell_and_take<W: Write + Send, T: Threads + Sync>(
+    /// are written and the next batch is read.
+    fn spell_and_take<R: Read + Send, W: Write + Send, T: Threads + Sync>(
         &mut self,
         rt: &T,
         mut run: RunLines<C>,
-        batch: &Batch,
+        turn: &mut Turn,
+        records: &mut Records<'_, R, ()>,
         lines: &mut Lines<'_, W>,
     ) -> Result<RunLines<C>, RunFault>
-        requires few { length (records_in batch.now) ≤ 4096 }
-        requires fit { AllByRecursion IsRecord (records_in batch.now) }
+        requires few { length (records_in turn.old.held.next) ≤ 4096 }
+        requires fit { AllByRecursion IsRecord (records_in turn.old.held.next) }
         ensures same { IfOk result (IsSameRun run) }
-        ensures takes { IfOk result (λ now. TakesRecords C.view C.decoding (records_in batch.now)
-            run.participant.engine now.participant.engine now.given) }
+        ensures takes { IfOk result (λ now. TakesRecords C.view C.decoding
+            (records_in turn.old.held.next) run.participant.engine now.participant.engine now.given) }
+        ensures reads { (here : Option (List ℕ)) (earlier : List (List ℕ))
+            → EndsBatch turn.old.held.end records.old.count earlier here
+            (R.remaining records.old.reader.now)
+            → OnOk result (ReadsAhead here (R.remaining records.new.reader.now)
+            records.old.count records.new.count (records_in turn.new.held.next) turn.new.held.end) }
+        ensures still { turn.old.held.end ≢ More
+            → R.remaining records.new.reader.now ≡ R.remaining records.old.reader.now }
         ensures catalog { self.new.catalog.now ≡ self.old.catalog.now }
         ensures readers { self.new.readers ≡ self.old.readers }
+        ensures same_reader { records.new.reader.ghost_name ≡ records.old.reader.ghost_name }
         ensures same_writer { lines.new.writer.ghost_name ≡ lines.old.writer.ghost_name }
         ensures ok { (due : List ℕ) → IsDue (C.text_of self.old.catalog.now) C.view
-            self.old.texts.made.items run.given self.old.readers due → OnOk result (MovesBefore
+            turn.old.held.texts.made.items run.given self.old.readers due → OnOk result (MovesBefore
             (W.contents lines.old.writer.now) (W.contents lines.new.writer.now)
-            (lines.old.text.items ++ due) lines.new.text.items self.new.texts.made.items) }
+            (lines.old.text.items ++ due) lines.new.text.items turn.new.held.texts.made.items) }
         ensures fault { IfErr result (λ fault. (fault ≡ CannotWrite) ⊎ (fault ≡ NoMemory)) }
         ensures front { (due : List ℕ) → IsDue (C.text_of self.old.catalog.now) C.view
-            self.old.texts.made.items run.given self.old.readers due → OnErr result (PutsFront
+            turn.old.held.texts.made.items run.given self.old.readers due → OnErr result (PutsFront
             (W.contents lines.old.writer.now) (W.contents lines.new.writer.now)
             (lines.old.text.items ++ due)) }
     {
+        let Turn { batch, held } = turn;
+        mem::swap(batch, &mut held.next);
         mem::swap(&mut run.given, &mut self.given);
-        let mut texts = mem::replace(&mut self.texts, Texts::none(self.alloc));
-        let spare = mem::replace(&mut texts.spare, Vec::new(self.alloc));
+        let spare = mem::replace(&mut held.texts.spare, Vec::new(self.alloc));
         let workers = self.workers(&self.given);
         let spelling = self.spelling(&self.given);
+        let batch = &*batch;
         let take = move || -> Result<RunLines<C>, AllocError>
             requires few { length (records_in batch.now) ≤ 4096 }
             requires fit { AllByRecursion IsRecord (records_in batch.now) }
@@ -199,10 +222,10 @@ where
             let mut spare = spare;
             spelling.texts(rt, workers, &mut spare)
         };
-        let (written, taken, made) = write_beside(rt, &mut texts, lines, take, spell);
-        written?;
-        texts.made = made?;
-        self.texts = texts;
+        let calls = (take, spell);
+        let (done, taken, made) = write_and_read_beside(rt, held, records, lines, calls);
+        done?;
+        held.texts.made = made?;
         Ok(taken?)
     }
 
@@ -228,7 +251,7 @@ where
         lines: &mut Lines<'_, W>,
     ) -> Result<(), RunFault>
         ensures catalog { self.new.catalog.now ≡ self.old.catalog.now }
-        ensures same { (self.new.readers ≡ self.old.readers) × (self.new.texts ≡ self.old.texts) }
+        ensures readers { self.new.readers ≡ self.old.readers }
         ensures same_writer { lines.new.writer.ghost_name ≡ lines.old.writer.ghost_name }
         ensures ok { OnOk result (Moves
             (W.contents lines.old.writer.now) (W.contents lines.new.writer.now)

@@ -8,6 +8,7 @@ ghost use Rattle.rtps_records.specs.declared.fault.RunFault.TheVariants.{NoMemor
 ghost use Rattle.dds_participant.specs.Given.{HoldsNothing};
 ghost use Rattle.rtps_text.specs.Batched.{IsSameRun, RunsBatch};
 
+use crate::held::Turn;
 use crate::printer::Printer;
 use crate::running::RunLines;
 use crate::setup::Setup;
@@ -22,11 +23,12 @@ use std::thread::Threads;
 /// by place, then by rank, and of one reader what it reports before what it answers. With `summary`
 /// the matches and the status of each reader come after them, also where a record has a fault.
 ///
-/// The file is never held as a whole: the records of a batch, 1 MiB at the most, what two batches
+/// The file is never held as a whole: the records of two batches, 1 MiB each at the most, what two
 /// give and the texts of two are. Where there are several workers, half of them run a batch while
-/// the others spell what the one before gave, and what was spelled of the one before that is
-/// written; so a write may fail after two batches more were read than the text has.
-pub fn replay<C: TextCatalog, R: Read, W: Write + Send, T: Threads + Sync>(
+/// the others spell what the one before gave, what was spelled of the one before that is written,
+/// and the next one is read; so a write may fail after three batches more were read than the text
+/// has.
+pub fn replay<C: TextCatalog, R: Read + Send, W: Write + Send, T: Threads + Sync>(
     rt: &T,
     alloc: Global,
     setup: Setup<C>,
@@ -62,7 +64,7 @@ where
 }
 
 /// Prints the run over a file by this catalog, which is the run's own. Nothing was printed before.
-fn print_file<C: TextCatalog, R: Read, W: Write + Send, T: Threads + Sync>(
+fn print_file<C: TextCatalog, R: Read + Send, W: Write + Send, T: Threads + Sync>(
     rt: &T,
     run: RunLines<C>,
     catalog: &C,
@@ -82,18 +84,23 @@ where
         fault (R.remaining reader.old) (R.remaining reader.new)
         (W.contents writer.old) (W.contents writer.new)) }
 {
-    let alloc = run.alloc;
     let mut printer = Printer::new(catalog, &run);
-    let mut records = Records::in_batches(alloc, reader)?;
-    let mut lines = Lines::new(alloc, writer);
-    print_run(rt, run, &mut printer, &mut records, &mut lines)
+    let mut lines = Lines::new(run.alloc, writer);
+    print_run(
+        rt,
+        run,
+        &mut printer,
+        &mut Records::in_batches(reader),
+        &mut lines,
+    )
 }
 
-/// Reads the next batch of records, and runs it.
+/// Reads the next batch of records into room that is lent, and runs it.
 pub(crate) fn run_batch<C: TextCatalog, R: Read, T: Threads + Sync>(
     rt: &T,
     run: &mut RunLines<C>,
-    records: &mut Records<'_, R, Batch>,
+    records: &mut Records<'_, R, ()>,
+    room: &mut Batch,
 ) -> Result<BatchEnd, RunFault>
 where
     C::Value: Sync,
@@ -105,24 +112,23 @@ where
         run.old.participant.engine run.new.participant.engine run.new.given) }
     ensures fault { IfErr result (λ fault. fault ≡ NoMemory) }
 {
-    let end = records.next_batch(run.pace.batch)?;
-    run.take_records(rt, records.last_batch())?;
+    let end = records.next_batch(room, run.pace.batch)?;
+    run.take_records(rt, room)?;
     Ok(end)
 }
 
 /// Prints the run over all records.
-fn print_run<C: TextCatalog, R: Read, W: Write + Send, T: Threads + Sync>(
+fn print_run<C: TextCatalog, R: Read + Send, W: Write + Send, T: Threads + Sync>(
     rt: &T,
     mut run: RunLines<C>,
     printer: &mut Printer<'_, C>,
-    records: &mut Records<'_, R, Batch>,
+    records: &mut Records<'_, R, ()>,
     lines: &mut Lines<'_, W>,
 ) -> Result<(), RunFault>
 where
     C::Value: Sync,
     requires unread { records.old.count ≡ 0 }
     requires empty { lines.old.text.items ≡ [] }
-    requires none { printer.old.texts.made.items ≡ [] }
     requires nothing { HoldsNothing run.given }
     requires own { printer.old.catalog.now ≡ run.participant.engine.catalog }
     requires readers { printer.old.readers ≡ length run.participant.engine.statuses }
@@ -138,13 +144,15 @@ where
         fault (R.remaining records.old.reader.now) (R.remaining records.new.reader.now)
         (W.contents lines.old.writer.now) (W.contents lines.new.writer.now)) }
 {
+    let mut turn = Turn::new(run.alloc, run.pace)?;
     records.open()?;
-    let mut end = BatchEnd::More;
-    while end == BatchEnd::More {
-        end = records.next_batch(run.pace.batch)?;
-        run = printer.print_and_take(rt, run, records.last_batch(), lines)?;
+    turn.held.read(records)?;
+    while turn.held.end == BatchEnd::More {
+        run = printer.print_and_take(rt, run, &mut turn, records, lines)?;
     }
-    printer.print_last(rt, &run.given, lines)?;
+    let end = turn.held.end;
+    run = printer.print_and_take(rt, run, &mut turn, records, lines)?;
+    printer.print_last(rt, &run.given, &mut turn.held.texts, lines)?;
     run.close(lines)?;
     match end {
         BatchEnd::Fault(fault) => Err(fault),

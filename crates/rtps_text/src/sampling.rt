@@ -84,7 +84,7 @@ where
         (W.contents writer.old) (W.contents writer.new)) }
 {
     let alloc = kept.run.alloc;
-    let mut records = Records::in_batches(alloc, reader)?;
+    let mut records = Records::in_batches(reader);
     keep_run(rt, &mut kept, &mut records, &mut Lines::new(alloc, writer))
 }
 
@@ -92,7 +92,7 @@ where
 fn keep_run<C: TextCatalog, R: Read, W: Write, T: Threads + Sync>(
     rt: &T,
     kept: &mut RunCaches<C>,
-    records: &mut Records<'_, R, Batch>,
+    records: &mut Records<'_, R, ()>,
     lines: &mut Lines<'_, W>,
 ) -> Result<(), RunFault>
 where
@@ -113,9 +113,10 @@ where
         (R.remaining records.old.reader.now) (R.remaining records.new.reader.now)
         (W.contents lines.old.writer.now) (W.contents lines.new.writer.now)) }
 {
+    let mut room = Batch::new(kept.run.alloc)?;
     records.open()?;
     loop {
-        let end = run_batch(rt, &mut kept.run, records)?;
+        let end = run_batch(rt, &mut kept.run, records, &mut room)?;
         kept.accept()?;
         match end {
             BatchEnd::More => {}

@@ -36,13 +36,8 @@ impl Texts {
     /// Adds the texts to lines, and writes them as they fill; then there are none.
     ///
     /// `CannotWrite` where a write fails, and `NoMemory`, also where there was none for a text; a
-    /// front of the texts may have been written then. No thread is started: `_threads` is there
-    /// since the other half of a join, which starts some, borrows it too.
-    pub(crate) fn write<W: Write, T>(
-        &mut self,
-        _threads: &T,
-        lines: &mut Lines<'_, W>,
-    ) -> Result<(), RunFault>
+    /// front of the texts may have been written then.
+    pub(crate) fn write<W: Write>(&mut self, lines: &mut Lines<'_, W>) -> Result<(), RunFault>
         ensures none { self.new.made.items ≡ [] }
         ensures same_writer { lines.new.writer.ghost_name ≡ lines.old.writer.ghost_name }
         ensures ok { (whole : List ℕ) → AreTexts self.old.made.items whole → OnOk result (Moves

@@ -3,7 +3,7 @@
 ghost use Rattle.std.specs.Prelude.{◌≤◌};
 
 use super::{ENDS, FILE, push_length};
-use crate::{BatchEnd, MAX_LEN, Records, RunFault};
+use crate::{Batch, BatchEnd, MAX_LEN, Records, RunFault};
 use std::alloc::Global;
 use std::test::Fail;
 
@@ -16,12 +16,13 @@ fn print_batches(
 ) -> Result<(), RunFault>
     requires { 1 ≤ most }
 {
-    let mut records = Records::in_batches(alloc, &mut file)?;
+    let mut batch = Batch::new(alloc)?;
+    let mut records = Records::in_batches(&mut file);
     records.open()?;
     let mut number = 0_u64;
     for _ in 0..u64::MAX {
-        let end = records.next_batch(most)?;
-        for octets in records.batch(alloc)? {
+        let end = records.next_batch(&mut batch, most)?;
+        for octets in batch.records(alloc)? {
             push_length(text, number, octets.len())?;
             number = number.saturating_add(1);
         }
@@ -49,16 +50,30 @@ fn batches_have_the_records_of_each_file(rt: HostRuntime) -> Result<(), Fail> {
 #[test]
 fn a_batch_has_as_many_records_as_are_asked_for(rt: HostRuntime) -> Result<(), Fail> {
     let mut file = FILE.as_slice();
-    let mut records = Records::in_batches(rt.alloc(), &mut file)?;
+    let mut records = Records::in_batches(&mut file);
+    let mut batch = Batch::new(rt.alloc())?;
     assert_eq!(rt; records.open(), Ok(()));
-    assert_eq!(rt; records.next_batch(2), Ok(BatchEnd::More));
-    let batch = records.batch(rt.alloc())?;
-    assert!(rt; batch.as_slice() == [b"hi".as_slice(), b""].as_slice());
-    drop(batch);
-    assert_eq!(rt; records.next_batch(2), Ok(BatchEnd::End));
-    let batch = records.batch(rt.alloc())?;
-    assert!(rt; batch.as_slice() == [b"abc".as_slice()].as_slice());
+    assert_eq!(rt; records.next_batch(&mut batch, 2), Ok(BatchEnd::More));
+    let lent = batch.records(rt.alloc())?;
+    assert!(rt; lent.as_slice() == [b"hi".as_slice(), b""].as_slice());
+    drop(lent);
+    assert_eq!(rt; records.next_batch(&mut batch, 2), Ok(BatchEnd::End));
+    let lent = batch.records(rt.alloc())?;
+    assert!(rt; lent.as_slice() == [b"abc".as_slice()].as_slice());
     assert_eq!(rt; records.count(), 3);
+    Ok(())
+}
+
+#[test]
+fn a_batch_is_empty_at_first_and_once_it_is_cleared(rt: HostRuntime) -> Result<(), Fail> {
+    let mut batch = Batch::new(rt.alloc())?;
+    assert!(rt; batch.records(rt.alloc())?.is_empty());
+    let mut file = FILE.as_slice();
+    let mut records = Records::in_batches(&mut file);
+    assert_eq!(rt; records.open(), Ok(()));
+    assert_eq!(rt; records.next_batch(&mut batch, 2), Ok(BatchEnd::More));
+    batch.clear();
+    assert!(rt; batch.records(rt.alloc())?.is_empty());
     Ok(())
 }
 
@@ -71,10 +86,11 @@ fn longest(alloc: Global) -> Result<usize, Fail> {
         file.extend_from_slice(&record)?;
     }
     let mut rest = file.as_slice();
-    let mut records = Records::in_batches(alloc, &mut rest)?;
+    let mut batch = Batch::new(alloc)?;
+    let mut records = Records::in_batches(&mut rest);
     records.open()?;
-    records.next_batch(4096)?;
-    Ok(records.last_batch().records(alloc)?.len())
+    records.next_batch(&mut batch, 4096)?;
+    Ok(batch.records(alloc)?.len())
 }
 
 #[test]

@@ -4,8 +4,8 @@ use Rattle.rtps_text.specs.Batched.{IsSameRun}
 use Rattle.rtps_text.proofs.Sampled.{IsSilent}
 use Rattle.rtps_text.proofs.sampling.keep_run.Given as goal
 
-abbrev pub invariant-loop-end : goal.invariant-loop-end
-invariant-loop-end g l = record {
+abbrev pub invariant-loop-room : goal.invariant-loop-room
+invariant-loop-room g l = record {
   same_reader : l.records.reader.ghost_name ≡ l.fn.records.reader.ghost_name;
   same_writer : l.lines.writer.ghost_name ≡ l.fn.lines.writer.ghost_name;
   empty : l.lines.text.items ≡ [];
@@ -18,5 +18,5 @@ invariant-loop-end g l = record {
       (g.W.Write.contents l.fn.lines.writer.now) (g.W.Write.contents l.lines.writer.now) l.records.count [];
 }
 
-abbrev pub decreases-loop-end : goal.decreases-loop-end
-decreases-loop-end g l = 4294967295 - l.records.count
+abbrev pub decreases-loop-room : goal.decreases-loop-room
+decreases-loop-room g l = 4294967295 - l.records.count

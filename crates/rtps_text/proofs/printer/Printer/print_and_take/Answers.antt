@@ -19,8 +19,13 @@ returns-in_err-take_records-clause-front g c = λ due d.
     let wrote = due_next _ _ _ _ _ _ d _ _ _ _ (c.in_ok-write.ensures.ok d.made d.are) in
     on_err _ (moved_front _ _ _ _ (moves_on _ _ _ _ _ _ wrote c.in_ok-print_alone.ensures.ok))
 
+pub returns-in_err-read-clause-front : goal.returns-in_err-read-clause-front
+returns-in_err-read-clause-front g c = λ due d.
+    let wrote = due_next _ _ _ _ _ _ d _ _ _ _ (c.in_ok-write.ensures.ok d.made d.are) in
+    on_err _ (moved_front _ _ _ _ (moves_on _ _ _ _ _ _ wrote c.in_ok-print_alone.ensures.ok))
+
 pub returns-clause-ok : goal.returns-clause-ok
 returns-clause-ok g c = λ due d.
     let wrote = due_next _ _ _ _ _ _ d _ _ _ _ (c.in_ok-write.ensures.ok d.made d.are) in
-    let none : c.print_alone.new.self.texts.made.items ≡ [] = ap (λ (t : Texts). t.made.items) c.print_alone.ensures.same.1 ∙ c.write.ensures.none in
+    let none : c.read.new.self.texts.made.items ≡ [] = ap (λ (t : Texts). t.made.items) c.read.ensures.texts ∙ c.write.ensures.none in
     no_texts _ _ _ _ _ none (moves_on _ _ _ _ _ _ wrote c.in_ok-print_alone.ensures.ok)

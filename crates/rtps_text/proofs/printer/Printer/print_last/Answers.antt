@@ -19,20 +19,20 @@ returns-then-workers-eq1-clause-front g c = λ due d.
     let wrote = due_next _ _ _ _ _ _ d _ _ _ _ (c.in_ok-write.ensures.ok d.made d.are) in
     on_err_then c.print_alone.result (front_on _ _ _ _ _ wrote) c.print_alone.ensures.front
 
-pub returns-in_err-self-clause-front : goal.returns-in_err-self-clause-front
-returns-in_err-self-clause-front g c = λ due d.
+pub returns-in_err-texts-clause-front : goal.returns-in_err-texts-clause-front
+returns-in_err-texts-clause-front g c = λ due d.
     on_err _ (due_begun _ _ _ _ _ _ d _ _ _ (moved_front _ _ _ _ (c.in_ok-write.ensures.ok d.made d.are)))
 
 pub returns-clause-ok : goal.returns-clause-ok
 returns-clause-ok g c = λ due d.
     let wrote = due_next _ _ _ _ _ _ d _ _ _ _ (c.in_ok-write.ensures.ok d.made d.are) in
     let is = c.spelling.ensures in
-    let made = spelled_lines g.C.Catalog.text_of g.C.Catalog.view c.in_ok-self.field-0.items _ _ _ _ _ _ is.0 is.1 is.2 d.by_place c.in_ok-self.ensures.lines in
+    let made = spelled_lines g.C.Catalog.text_of g.C.Catalog.view c.in_ok-texts.field-0.items _ _ _ _ _ _ is.0 is.1 is.2 d.by_place c.in_ok-texts.ensures.lines in
     on_ok_then c.write-2.result (moves_on _ _ _ _ _ _ wrote) (c.write-2.ensures.ok _ made)
 
 pub returns-clause-front : goal.returns-clause-front
 returns-clause-front g c = λ due d.
     let wrote = due_next _ _ _ _ _ _ d _ _ _ _ (c.in_ok-write.ensures.ok d.made d.are) in
     let is = c.spelling.ensures in
-    let made = spelled_lines g.C.Catalog.text_of g.C.Catalog.view c.in_ok-self.field-0.items _ _ _ _ _ _ is.0 is.1 is.2 d.by_place c.in_ok-self.ensures.lines in
+    let made = spelled_lines g.C.Catalog.text_of g.C.Catalog.view c.in_ok-texts.field-0.items _ _ _ _ _ _ is.0 is.1 is.2 d.by_place c.in_ok-texts.ensures.lines in
     on_err_then c.write-2.result (front_on _ _ _ _ _ wrote) (c.write-2.ensures.front _ made)

@@ -1,44 +1,43 @@
-use Rattle.std.proofs.Common.{◌++◌, List, ap, rules, ℕ}
+use Rattle.std.proofs.Common.{◌++◌, List, refl, rules, ℕ}
 use Rattle.rtps_records.specs.Runs.{Moves, PutsFront}
 use Rattle.rtps_text.specs.Slices.{AreByPlace, AreTexts, merged_lines}
-use Rattle.rtps_text.specs.declared.texts.Texts.{Texts}
 use Rattle.rtps_text.proofs.Batches.{moved_front}
 use Rattle.rtps_text.proofs.Due.{due_begun, due_same, due_spelled, spelled_lines}
 use Rattle.rtps_text.proofs.Run.{on_err}
 use Rattle.rtps_text.proofs.printer.Printer.spell_and_take.Goals as goal
 
-pub returns-in_err-written-clause-front : goal.returns-in_err-written-clause-front
-returns-in_err-written-clause-front g c = λ due d.
-    let here = due_same _ _ _ _ _ _ _ _ (ap (λ (t : Texts). t.made.items) c.replace-texts.ensures.value) c.swap.ensures.y_after d in
+pub returns-in_err-done-clause-front : goal.returns-in_err-done-clause-front
+returns-in_err-done-clause-front g c = λ due d.
+    let here = due_same _ _ _ _ _ _ _ _ refl c.swap-2.ensures.y_after d in
     let old = g.W.Write.contents c.args.lines.now.writer.now in
-    let new = g.W.Write.contents c.write_beside-written.new.lines.writer.now in
-    let begun : (whole : List ℕ) → AreTexts c.replace-texts.result.made.items whole → PutsFront old new (c.args.lines.now.text.items ++ whole) = λ whole are. search rules in
+    let new = g.W.Write.contents c.write_and_read_beside-done.new.lines.writer.now in
+    let begun : (whole : List ℕ) → AreTexts c.args.turn.now.held.texts.made.items whole → PutsFront old new (c.args.lines.now.text.items ++ whole) = λ whole are. search rules in
     on_err _ (due_begun _ _ _ _ _ _ here _ _ _ (begun here.made here.are))
 
-pub returns-in_err-texts-clause-front : goal.returns-in_err-texts-clause-front
-returns-in_err-texts-clause-front g c = λ due d.
-    let here = due_same _ _ _ _ _ _ _ _ (ap (λ (t : Texts). t.made.items) c.replace-texts.ensures.value) c.swap.ensures.y_after d in
+pub returns-in_err-held-clause-front : goal.returns-in_err-held-clause-front
+returns-in_err-held-clause-front g c = λ due d.
+    let here = due_same _ _ _ _ _ _ _ _ refl c.swap-2.ensures.y_after d in
     let old = g.W.Write.contents c.args.lines.now.writer.now in
-    let new = g.W.Write.contents c.write_beside-written.new.lines.writer.now in
-    let moved : (whole : List ℕ) → AreTexts c.replace-texts.result.made.items whole → Moves old new (c.args.lines.now.text.items ++ whole) c.write_beside-written.new.lines.text.items = λ whole are. search rules in
+    let new = g.W.Write.contents c.write_and_read_beside-done.new.lines.writer.now in
+    let moved : (whole : List ℕ) → AreTexts c.args.turn.now.held.texts.made.items whole → Moves old new (c.args.lines.now.text.items ++ whole) c.write_and_read_beside-done.new.lines.text.items = λ whole are. search rules in
     on_err _ (due_begun _ _ _ _ _ _ here _ _ _ (moved_front _ _ _ _ (moved here.made here.are)))
 
 pub returns-in_err-taken-clause-front : goal.returns-in_err-taken-clause-front
 returns-in_err-taken-clause-front g c = λ due d.
-    let here = due_same _ _ _ _ _ _ _ _ (ap (λ (t : Texts). t.made.items) c.replace-texts.ensures.value) c.swap.ensures.y_after d in
+    let here = due_same _ _ _ _ _ _ _ _ refl c.swap-2.ensures.y_after d in
     let old = g.W.Write.contents c.args.lines.now.writer.now in
-    let new = g.W.Write.contents c.write_beside-written.new.lines.writer.now in
-    let moved : (whole : List ℕ) → AreTexts c.replace-texts.result.made.items whole → Moves old new (c.args.lines.now.text.items ++ whole) c.write_beside-written.new.lines.text.items = λ whole are. search rules in
+    let new = g.W.Write.contents c.write_and_read_beside-done.new.lines.writer.now in
+    let moved : (whole : List ℕ) → AreTexts c.args.turn.now.held.texts.made.items whole → Moves old new (c.args.lines.now.text.items ++ whole) c.write_and_read_beside-done.new.lines.text.items = λ whole are. search rules in
     on_err _ (due_begun _ _ _ _ _ _ here _ _ _ (moved_front _ _ _ _ (moved here.made here.are)))
 
 pub returns-clause-ok : goal.returns-clause-ok
 returns-clause-ok g c = λ due d.
-    let here = due_same _ _ _ _ _ _ _ _ (ap (λ (t : Texts). t.made.items) c.replace-texts.ensures.value) c.swap.ensures.y_after d in
+    let here = due_same _ _ _ _ _ _ _ _ refl c.swap-2.ensures.y_after d in
     let old = g.W.Write.contents c.args.lines.now.writer.now in
-    let new = g.W.Write.contents c.write_beside-written.new.lines.writer.now in
-    let moved : (whole : List ℕ) → AreTexts c.replace-texts.result.made.items whole → Moves old new (c.args.lines.now.text.items ++ whole) c.write_beside-written.new.lines.text.items = λ whole are. search rules in
+    let new = g.W.Write.contents c.write_and_read_beside-done.new.lines.writer.now in
+    let moved : (whole : List ℕ) → AreTexts c.args.turn.now.held.texts.made.items whole → Moves old new (c.args.lines.now.text.items ++ whole) c.write_and_read_beside-done.new.lines.text.items = λ whole are. search rules in
     let s = c.spelling-spelling.result in
     let is = c.spelling-spelling.ensures in
-    let made : AreByPlace g.C.Catalog.view s.given.now → AreTexts c.in_ok-texts.field-0.items (merged_lines (g.C.Catalog.text_of s.catalog.now) g.C.Catalog.view s.given.now s.readers s.given.now.places.items) = λ by. search rules in
+    let made : AreByPlace g.C.Catalog.view s.given.now → AreTexts c.in_ok-held.field-0.items (merged_lines (g.C.Catalog.text_of s.catalog.now) g.C.Catalog.view s.given.now s.readers s.given.now.places.items) = λ by. search rules in
     due_spelled _ _ _ _ _ _ here _ _ _ _ _ (moved here.made here.are)
-    (spelled_lines g.C.Catalog.text_of g.C.Catalog.view c.in_ok-texts.field-0.items _ _ _ _ _ _ is.0 is.1 is.2 here.by_place made)
+    (spelled_lines g.C.Catalog.text_of g.C.Catalog.view c.in_ok-held.field-0.items _ _ _ _ _ _ is.0 is.1 is.2 here.by_place made)

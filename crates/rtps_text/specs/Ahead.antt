@@ -1,0 +1,10 @@
+-- Batches that are read before their turn.
+use Rattle.std.specs.Prelude.{ℕ, ◌≤◌, List, Option, length}
+use Rattle.rtps_records.specs.Batches.{ReadsBatch}
+use Rattle.rtps_records.specs.declared.batch_end.BatchEnd.{BatchEnd}
+
+-- after n records a batch of these was read, no longer than a run takes, which makes them m
+pub record ReadsAhead (before after : Option (List ℕ)) (n m : ℕ) (batch : List (List ℕ))
+    (end : BatchEnd) : Type 0 where
+  pub reads : ReadsBatch before after n m batch end
+  pub few : length batch ≤ 4096
