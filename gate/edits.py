@@ -123,14 +123,23 @@ def homes_in(folder):
     return found
 
 
+def is_for_some(parameters, arguments):
+    """Whether an impl block with these parameters is for some of its type's arguments alone, and not for all: one argument is
+    neither a lifetime nor a parameter of the block."""
+    names = re.findall(r"(?:<|, )(\w+)", parameters)
+    plain = re.match(r"(?!<)|<((?:'?\w+(?:, )?)*)>", arguments)
+    given = (plain[1] or "").split(", ") if plain else []
+    return not plain or any(each and not each.startswith("'") and each not in names for each in given)
+
+
 def functions_of(file, text, homes):
     """The functions of a source file that have a body of their own lines, as its layout shows them."""
     lines, found, owner, of_trait, by_module = text.split("\n"), [], "", False, False
     for at, line in enumerate(lines):
-        block = re.match(r"impl\b(?:<.*?>+)? *(.* for )?(?:\w+::)*(\w+)(.*)", line)
-        owner = block[2] if block else "" if line == "}" else owner
-        of_trait = bool(block[1]) if block else of_trait
-        by_module = bool(of_trait or "<" in block[3][1:]) if block else by_module
+        block = re.match(r"impl\b(<.*?>+)? *(.* for )?(?:\w+::)*(\w+)(.*)", line)
+        owner = block[3] if block else "" if line == "}" else owner
+        of_trait = bool(block[2]) if block else of_trait
+        by_module = of_trait or is_for_some(block[1] or "", block[4]) if block else by_module
         head = FUNCTION.match(line)
         if not head:
             continue
@@ -143,7 +152,7 @@ def functions_of(file, text, homes):
                 break
         if opens:
             last = next((end for end in range(first, len(lines)) if lines[end] == f"{indent}}}"), first)
-            home = homes.get(owner, file) if indent and not of_trait else file
+            home = homes.get(owner, file) if indent and not by_module else file
             own = (owner, by_module) if indent else ("", False)
             found.append(Function(file, home, *own, head[2], first + 1, last))
     return found
@@ -216,12 +225,23 @@ def groups_of(edits, folder):
         elif is_named_elsewhere(edit.function, folder):
             own.append([edit])
         else:
-            group = next((group for group in groups if is_apart(edit, group, waits)), None)
+            group = next((group for group in groups if is_apart(edit, group, waits) and fit([*group, edit], folder)), None)
             if group is None:
                 groups.append([edit])
             else:
                 group.append(edit)
     return groups + own, whole
+
+
+def fit(group, folder):
+    """Whether all edits of a group can be made at once: none makes a text that another looks for."""
+    texts = {}
+    try:
+        for edit in group:
+            apply(edit, texts, folder)
+    except BadEdit:
+        return False
+    return True
 
 
 def is_apart(edit, group, waits):

@@ -5,6 +5,7 @@ import signal
 import subprocess
 import tempfile
 import time
+import traceback
 from concurrent.futures import FIRST_COMPLETED, ThreadPoolExecutor, wait
 from dataclasses import dataclass, field
 
@@ -120,6 +121,11 @@ def chains(tasks):
     return behind
 
 
+def fault_of(task, fault):
+    """What a task gives that ended by a fault of this program."""
+    return Done(failed=[task.name], shows="".join(traceback.format_exception(fault)))
+
+
 def run_all(tasks, say, count=None):
     """Runs tasks and returns how much passed, by name what each failure printed, and the names of what wasn't tried."""
     count = count or lanes()
@@ -148,7 +154,7 @@ def run_all(tasks, say, count=None):
                 continue
             for future in wait(running, return_when=FIRST_COMPLETED).done:
                 task, _, began = running.pop(future)
-                done = future.result()
+                done = future.result() if future.exception() is None else fault_of(task, future.exception())
                 ended.add(task.name)
                 if done.failed:
                     failed_tasks.add(task.name)

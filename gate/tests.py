@@ -294,6 +294,20 @@ class Edits(Repository):
         self.assertEqual("low::named", found.asked("low"))
         self.assertRegex("low::named::Named+Vec+A::third", f"^{found.path('low')}$")
 
+    def test_a_method_for_a_named_argument_has_the_module_that_it_stands_in(self):
+        self.write("crates/low/src/named.rt", "pub struct Named<'a, R, B>(&'a R, B);\n")
+        for block, asked, path in (
+            ("impl<'a, R: Copy> Named<'a, R, ()>", "low::more", "low::more::Named+R+unit::third"),
+            ("impl<'a, R: Copy, A> Named<'a, R, Vec<A>>", "low::more", "low::more::Named+R+Vec+A::third"),
+            ("impl<R: Copy> Named<'_, R, u8>", "low::more", "low::more::Named+R+u8::third"),
+            ("impl<R: Copy, B: Drop + Copy> Named<'static, R, B>", "low::named::Named::third", "low::named::Named::third"),
+            ("impl Named", "low::named::Named::third", "low::named::Named::third"),
+        ):
+            self.write("crates/low/src/more.rt", block + " {\n    fn third() -> u8 {\n        3\n    }\n}\n")
+            found = self.function("file: src/more.rt\nold:         3\nnew:         4\n")
+            self.assertEqual(asked, found.asked("low"))
+            self.assertRegex(path, f"^{found.path('low')}$")
+
     def test_an_edit_outside_bodies_has_none(self):
         self.assertIsNone(self.function("file: src/lib.rt\nold: const STEP: u8 = 1;\nnew: const STEP: u8 = 2;\n"))
         self.assertIsNone(self.function("file: src/lib.rt\nold: result ≡ self.now.0\nnew: result ≡ 1\n"))
@@ -326,6 +340,12 @@ class Edits(Repository):
         twice = [*self.three(), edits.Edit("again", [("src/lib.rt", "octet + STEP", "1")])]
         names = [[edit.name for edit in group] for group in edits.groups_of(twice, self.crate("low").folder)[0]]
         self.assertEqual([["first", "next"], ["one"], ["again"]], names)
+
+    def test_edits_that_cannot_be_made_at_once_are_apart(self):
+        first, follows, one = self.three()
+        first.pairs = [("src/lib.rt", "one(self.0)", "Some(octet)")]
+        groups = edits.groups_of([first, follows, one], self.crate("low").folder)[0]
+        self.assertEqual([["first"], ["next", "one"]], [[edit.name for edit in group] for group in groups])
 
     def test_a_function_with_answers_is_tried_with_those_that_it_reaches(self):
         self.write("crates/low/proofs/Header/first/Lemmas.antt", "a lemma")
@@ -454,6 +474,14 @@ class Tasks(unittest.TestCase):
         first = Task("first", lambda jobs: Done(failed=["first"], shows="why"))
         then = Task("then", lambda jobs: Done(1), ("first",))
         self.assertEqual((0, {"first": "why"}, ["then"]), self.run_all(first, then)[0])
+
+    def test_a_task_that_a_fault_of_its_own_ends_fails_alone(self):
+        def ends_by_a_fault(jobs):
+            raise edits.BadEdit("an old text is there twice")
+
+        (passed, failed, untried), _ = self.run_all(Task("first", ends_by_a_fault), Task("other", lambda jobs: Done(1)))
+        self.assertEqual((1, ["first"], []), (passed, [*failed], untried))
+        self.assertIn("an old text is there twice", failed["first"])
 
     def test_what_waits_for_no_task_fails(self):
         then = Task("then", lambda jobs: Done(1), ("nobody",))
