@@ -60,6 +60,19 @@ pub whole_new : (old new : List ℕ) (len : ℕ) → len ≡ length old → leng
 whole_new old new len e same =
     ap (λ k. take k (new ++ drop (length new) old)) (e ∙ sym same) ∙ take-append_seam new (drop (length new) old)
 
+-- a piece more of a batch whose octets were written anew
+pub grown : {A : Type 0} (b : Batch A) (new lengths : List ℕ) (n : ℕ) → length new ≡ length b.octets.items
+    → take b.used new ≡ take b.used b.octets.items → lengths ≡ b.lengths.items ++ n ∷ [] → b.octets.len ≡ length b.octets.items
+    → cut lengths (take b.octets.len (new ++ drop (length new) b.octets.items)) ≡ cut b.lengths.items b.octets.items ++ take n (drop b.used new) ∷ []
+grown b new lengths n same front more len =
+    ap (λ l. cut l (take b.octets.len (new ++ drop (length new) b.octets.items))) more
+    ∙ ap (cut (b.lengths.items ++ n ∷ [])) (whole_new b.octets.items new b.octets.len len same)
+    ∙ cut_next b.lengths.items b.octets.items new b.used n b.counted (omega (arith, b.within, b.room, len)) (omega (arith, b.within, b.room, len, same)) front
+
+-- and it is no longer than this
+pub piece_fits : (n most : ℕ) (octets : List ℕ) → n ≤ most → length (take n octets) ≤ most
+piece_fits n most octets fits = le_trans (length-take-at_most n octets) fits
+
 -- one step of a batch whose octets were written anew
 pub read_more : {A : Type 0} (before after : Option (List ℕ)) (b : Batch A) (new lengths : List ℕ) (number n : ℕ)
     → number < 4294967295 → n ≤ 65507 → length new ≡ length b.octets.items
@@ -68,19 +81,18 @@ pub read_more : {A : Type 0} (before after : Option (List ℕ)) (b : Batch A) (n
     → ReadsOne More number before after (cut b.lengths.items b.octets.items)
     (cut lengths (take b.octets.len (new ++ drop (length new) b.octets.items)))
 unfolding ReadsOne
-read_more before after b new lengths number n below short same front grown len read = (
+read_more before after b new lengths number n below short same front more len read = (
   below,
   (
     take n (drop b.used new),
-    le_trans (length-take-at_most n (drop b.used new)) short,
+    piece_fits n 65507 (drop b.used new) short,
     read,
-    ap (λ l. cut l (take b.octets.len (new ++ drop (length new) b.octets.items))) grown
-        ∙ ap (cut (b.lengths.items ++ n ∷ [])) (whole_new b.octets.items new b.octets.len len same)
-        ∙ cut_next b.lengths.items b.octets.items new b.used n b.counted (omega (arith, b.within, b.room, len)) (omega (arith, b.within, b.room, len, same)) front,
+    grown b new lengths n same front more len,
   ),
 )
 
-still : {A : Type 0} (b : Batch A) (new : List ℕ) → length new ≡ length b.octets.items
+-- no piece more
+pub still : {A : Type 0} (b : Batch A) (new : List ℕ) → length new ≡ length b.octets.items
     → take b.used new ≡ take b.used b.octets.items → b.octets.len ≡ length b.octets.items
     → cut b.lengths.items (take b.octets.len (new ++ drop (length new) b.octets.items)) ≡ cut b.lengths.items b.octets.items
 still b new same front len =

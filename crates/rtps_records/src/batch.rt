@@ -1,6 +1,6 @@
 //! The records of a batch, and room for them.
 
-ghost use Rattle.std.specs.Prelude.{◌≡◌, ◌+◌, ◌<◌, ◌≤◌, [], IfErr, IfOk, IfSome, None, OnErr, OnSome, drop, false, length, map, sum, take, true, vec_len};
+ghost use Rattle.std.specs.Prelude.{◌≡◌, ◌+◌, ◌<◌, ◌≤◌, ◌↔◌, [], IfErr, IfOk, IfSome, IsTrue, None, OnErr, OnSome, drop, false, length, map, sum, take, true, vec_len};
 ghost use Rattle.std.specs.Io.KnownBytes.{Consumes, IsAtEnd};
 ghost use Rattle.rtps_records.specs.RecordFile.{FaultHere, frame};
 ghost use Rattle.rtps_records.specs.Cuts.{cut};
@@ -76,10 +76,17 @@ impl<A: Allocator> Batch<A> {
     }
 
     /// How many records there are.
-    pub(crate) fn len(&self) -> usize
-        ensures { result ≡ length self.now.lengths.items }
+    pub fn len(&self) -> usize
+        ensures { result ≡ length (cut self.now.lengths.items self.now.octets.items) }
     {
         self.lengths.len()
+    }
+
+    /// Whether there is no record.
+    pub fn is_empty(&self) -> bool
+        ensures { IsTrue result ↔ (length (cut self.now.lengths.items self.now.octets.items) ≡ 0) }
+    {
+        self.lengths.is_empty()
     }
 
     /// Whether there is room for a longest record after the others.

@@ -8,6 +8,8 @@ mod buffer;
 mod fault;
 pub mod laws;
 mod lines;
+mod receive_end;
+mod receiving;
 mod records;
 mod transfer;
 
@@ -16,6 +18,8 @@ pub use batch_end::BatchEnd;
 pub use buffer::{Buffer, MAX_LEN};
 pub use fault::RunFault;
 pub use lines::Lines;
+pub use receive_end::ReceiveEnd;
+pub use receiving::Receive;
 pub use records::Records;
 
 #[cfg(test)]

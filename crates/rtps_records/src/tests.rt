@@ -9,6 +9,7 @@ use std::io::{self, Error, ErrorKind, Read, Write};
 use std::test::Fail;
 
 mod batches;
+mod receiving;
 
 /// Prints a line of each record's number and length.
 fn print_lengths<A: Allocator + Copy, R: Read, W: Write>(

@@ -1,7 +1,6 @@
 use Rattle.std.proofs.Common.{◌≤◌, ◌<◌, inl, inr, arith, rules, refl, length}
 use Rattle.rtps_records.specs.Batches.{records_in}
 use Rattle.rtps_records.proofs.Batching.{ends_here, fresh, full, more, some_used}
-use Rattle.rtps_records.proofs.Cuts.{length-cut}
 use Rattle.rtps_records.proofs.batched.Records+R+unit.next_batch.Goals as goal
 
 pub loop-batch-init : goal.loop-batch-init
@@ -21,19 +20,16 @@ overflow_add-self g c =
 pub loop-batch-smaller : goal.loop-batch-smaller
 loop-batch-smaller g c =
     let next = more _ _ _ _ _ _ (records_in c.read.new.self) _ c.loop-batch.invariant.so_far c.in-More.is c.in_ok-end.ensures.reads in
-    let old = length-cut c.loop-batch.batch.lengths.items c.loop-batch.batch.octets.items in
-    let new = length-cut c.read.new.self.lengths.items c.read.new.self.octets.items in
-    let room : length c.loop-batch.batch.lengths.items < c.args.most = search rules in
-    omega (arith, next.1, old, new, room)
+    let room : length (records_in c.loop-batch.batch) < c.args.most = search rules in
+    omega (arith, next.1, room)
 
 pub loop-batch-preserved : goal.loop-batch-preserved
 loop-batch-preserved g c =
     let next = more _ _ _ _ _ _ (records_in c.read.new.self) _ c.loop-batch.invariant.so_far c.in-More.is c.in_ok-end.ensures.reads in
-    let old = length-cut c.loop-batch.batch.lengths.items c.loop-batch.batch.octets.items in
-    let room : length c.loop-batch.batch.lengths.items < c.args.most = search rules in
+    let room : length (records_in c.loop-batch.batch) < c.args.most = search rules in
     record {
       same_reader = search rules;
-      few = omega (arith, next.1, old, room);
+      few = omega (arith, next.1, room);
       so_far = next.2;
     }
 
@@ -55,15 +51,13 @@ returns-else-has_room-clause-reads g c =
 
 pub returns-after-loop-batch-clause-reads : goal.returns-after-loop-batch-clause-reads
 returns-after-loop-batch-clause-reads g c =
-    let old = length-cut c.loop-batch.batch.lengths.items c.loop-batch.batch.octets.items in
-    let all : c.args.most ≤ length c.loop-batch.batch.lengths.items = search rules in
-    full _ _ _ _ _ c.loop-batch.invariant.so_far (omega (arith, old, all, c.requires.some))
+    let all : c.args.most ≤ length (records_in c.loop-batch.batch) = search rules in
+    full _ _ _ _ _ c.loop-batch.invariant.so_far (omega (arith, all, c.requires.some))
 
 pub returns-else-has_room-clause-full : goal.returns-else-has_room-clause-full
 returns-else-has_room-clause-full g c = λ is. inr (search rules)
 
 pub returns-after-loop-batch-clause-full : goal.returns-after-loop-batch-clause-full
 returns-after-loop-batch-clause-full g c = λ is.
-    let old = length-cut c.loop-batch.batch.lengths.items c.loop-batch.batch.octets.items in
-    let all : c.args.most ≤ length c.loop-batch.batch.lengths.items = search rules in
-    inl (omega (arith, old, all, c.loop-batch.invariant.few))
+    let all : c.args.most ≤ length (records_in c.loop-batch.batch) = search rules in
+    inl (omega (arith, all, c.loop-batch.invariant.few))

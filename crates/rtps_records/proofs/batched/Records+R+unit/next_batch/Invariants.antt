@@ -10,4 +10,4 @@ invariant-loop-batch g l = record {
 }
 
 abbrev pub decreases-loop-batch : goal.decreases-loop-batch
-decreases-loop-batch g l = l.most - length l.batch.lengths.items
+decreases-loop-batch g l = l.most - length (records_in l.batch)

@@ -1,0 +1,101 @@
+//! Datagrams that are received into a batch.
+
+ghost use Rattle.std.specs.Prelude.{◌≡◌, ◌+◌, ◌≤◌, ◌∷◌, [], IfOk, IfSome, List, None, OnErr, Option, drop, length, take, ℕ};
+ghost use Rattle.std.specs.List.{AllByRecursion};
+ghost use Rattle.rtps_records.specs.Batches.{IsFull, records_in};
+ghost use Rattle.rtps_records.specs.Heard.{Hears, HearsOne};
+ghost use Rattle.rtps_records.specs.RecordFile.{IsRecord};
+ghost use Rattle.rtps_records.specs.declared.receive_end.ReceiveEnd.TheVariants.{More};
+
+use crate::batch::Batch;
+use crate::buffer::MAX_LEN;
+use crate::receive_end::ReceiveEnd;
+use std::alloc::{AllocError, Allocator};
+use std::io;
+
+/// Where datagrams are received, one at a time.
+pub trait Receive {
+    ghost heard: { Self → Option (List (List ℕ)) };
+
+    /// Receives the next datagram into the front of the room, and gives its length; `None` where no
+    /// datagram stands. A datagram that is longer than the room is cut.
+    fn receive(&mut self, room: &mut [u8]) -> io::Result<Option<usize>>
+        ensures fits { IfOk result (λ next. IfSome next (λ n. n ≤ length room.new)) }
+        ensures some { IfOk result (λ next. IfSome next (λ n.
+            Hears (heard self.old) (heard self.new) (take n room.new ∷ []))) }
+        ensures none { IfOk result (λ next. next ≡ None
+            → Hears (heard self.old) (heard self.new) []) }
+        ensures fault { OnErr result (Hears (heard self.old) (heard self.new) []) };
+}
+
+/// Receives a datagram into octets of which the first are used.
+fn receive_after<S: Receive>(
+    source: &mut S,
+    octets: &mut [u8],
+    used: usize,
+) -> io::Result<Option<usize>>
+    requires { used + 65507 ≤ length octets.old }
+    ensures length { length octets.new ≡ length octets.old }
+    ensures same { take used octets.new ≡ take used octets.old }
+    ensures fits { IfOk result (λ next. IfSome next (λ n. n ≤ 65507)) }
+    ensures some { IfOk result (λ next. IfSome next (λ n.
+        Hears (S.heard source.old) (S.heard source.new) (take n (drop used octets.new) ∷ []))) }
+    ensures none { IfOk result (λ next. next ≡ None
+        → Hears (S.heard source.old) (S.heard source.new) []) }
+    ensures fault { OnErr result (Hears (S.heard source.old) (S.heard source.new) []) }
+{
+    let (_, rest) = octets.split_at_mut(used);
+    let (room, _) = rest.split_at_mut(MAX_LEN);
+    source.receive(room)
+}
+
+impl<A: Allocator> Batch<A> {
+    /// Receives the next datagram, and adds it: [`ReceiveEnd::More`]. Where none stands, or at a
+    /// fault, nothing is added. An error is a refused growth, and then nothing is received.
+    #[tactic(auto, unfolding(crate::specs::Heard::HearsOne))]
+    fn receive_next<S: Receive>(&mut self, source: &mut S) -> Result<ReceiveEnd, AllocError>
+        requires room { self.old.used + 65507 ≤ 1048576 }
+        ensures hears { IfOk result (λ end. HearsOne end
+            (S.heard source.old) (S.heard source.new)
+            (records_in self.old) (records_in self.new)) }
+        ensures unheard { OnErr result (Hears (S.heard source.old) (S.heard source.new) []) }
+        ensures same { OnErr result (records_in self.new ≡ records_in self.old) }
+    {
+        self.lengths.reserve(1)?;
+        match receive_after(source, self.octets.as_mut_slice(), self.used) {
+            Ok(Some(length)) => {
+                self.lengths.push(length)?;
+                self.used += length;
+                Ok(ReceiveEnd::More)
+            }
+            Ok(None) => Ok(ReceiveEnd::Drained),
+            Err(_) => Ok(ReceiveEnd::Fault),
+        }
+    }
+
+    /// Receives datagrams in the place of the records that are there: as many as `most`, fewer where
+    /// there is no room for a longest one after them, where no other stands, or where the next one
+    /// can't be received.
+    ///
+    /// An error is a refused growth. The datagrams that were received until then are there, and no
+    /// other one was received.
+    pub fn receive<S: Receive>(
+        &mut self,
+        source: &mut S,
+        most: u16,
+    ) -> Result<ReceiveEnd, AllocError>
+        ensures hears { Hears (S.heard source.old) (S.heard source.new) (records_in self.new) }
+        ensures each { AllByRecursion IsRecord (records_in self.new) }
+        ensures few { length (records_in self.new) ≤ most }
+        ensures full { IfOk result (λ end. end ≡ More → IsFull most self.new) }
+    {
+        self.clear();
+        while self.len() < most as usize && self.has_room() {
+            match self.receive_next(source)? {
+                ReceiveEnd::More => {}
+                end => return Ok(end),
+            }
+        }
+        Ok(ReceiveEnd::More)
+    }
+}

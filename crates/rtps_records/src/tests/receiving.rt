@@ -1,0 +1,93 @@
+//! Datagrams that stand in a list are received into batches.
+
+use crate::{Batch, MAX_LEN, Receive, ReceiveEnd};
+use std::alloc::Global;
+use std::io::{self, Error, ErrorKind};
+use std::test::Fail;
+
+/// Gives datagrams of these lengths, each of one octet that says which it is; then none stands, or
+/// the next one can't be received.
+#[derive(Drop)]
+struct Standing<'a> {
+    lengths: &'a [usize],
+    number: u8,
+    fails: bool,
+}
+
+impl Receive for Standing<'_> {
+    ghost use Rattle.std.specs.Prelude.{None};
+
+    ghost heard = { λ _. None };
+
+    fn receive(&mut self, room: &mut [u8]) -> io::Result<Option<usize>> {
+        let Some((length, rest)) = self.lengths.split_first() else {
+            if self.fails {
+                return Err(Error::from(ErrorKind::Other));
+            }
+            return Ok(None);
+        };
+        let length = room.len().min(*length);
+        room[..length].fill(self.number);
+        self.lengths = rest;
+        self.number = self.number.wrapping_add(1);
+        Ok(Some(length))
+    }
+}
+
+fn source_of(lengths: &[usize], fails: bool) -> Standing<'_> {
+    Standing {
+        lengths,
+        number: 7,
+        fails,
+    }
+}
+
+/// The length of each datagram of a batch, and its first octet, or 0 where it has none.
+fn seen(alloc: Global, batch: &Batch) -> Result<Vec<(usize, u8)>, Fail> {
+    let mut seen = Vec::new(alloc);
+    for octets in batch.records(alloc)? {
+        seen.push((octets.len(), octets.first().copied().unwrap_or(0)))?;
+    }
+    Ok(seen)
+}
+
+#[test]
+fn a_batch_has_the_datagrams_that_stand_in_order(rt: HostRuntime) -> Result<(), Fail> {
+    let mut batch = Batch::new(rt.alloc())?;
+    let mut source = source_of(&[2, 0, 3], false);
+    assert_eq!(rt; batch.receive(&mut source, 2), Ok(ReceiveEnd::More));
+    assert_eq!(rt;
+        seen(rt.alloc(), &batch)?.as_slice(),
+        [(2, 7), (0, 0)].as_slice()
+    );
+    assert_eq!(rt; batch.receive(&mut source, 2), Ok(ReceiveEnd::Drained));
+    assert_eq!(rt; seen(rt.alloc(), &batch)?.as_slice(), [(3, 9)].as_slice());
+    assert!(rt; batch.len() == 1 && !batch.is_empty());
+    assert_eq!(rt; batch.receive(&mut source, 2), Ok(ReceiveEnd::Drained));
+    assert!(rt; batch.len() == 0 && batch.is_empty());
+    assert_eq!(rt; batch.receive(&mut source, 0), Ok(ReceiveEnd::More));
+    Ok(())
+}
+
+#[test]
+fn a_batch_keeps_what_came_before_a_fault(rt: HostRuntime) -> Result<(), Fail> {
+    let mut batch = Batch::new(rt.alloc())?;
+    let mut source = source_of(&[5], true);
+    assert_eq!(rt; batch.receive(&mut source, 9), Ok(ReceiveEnd::Fault));
+    assert_eq!(rt; seen(rt.alloc(), &batch)?.as_slice(), [(5, 7)].as_slice());
+    Ok(())
+}
+
+#[test]
+fn a_batch_has_room_for_as_many_of_the_longest_as_fit(rt: HostRuntime) -> Result<(), Fail> {
+    let mut batch = Batch::new(rt.alloc())?;
+    let mut source = source_of(&[MAX_LEN; 17], false);
+    assert_eq!(rt; batch.receive(&mut source, 4096), Ok(ReceiveEnd::More));
+    assert_eq!(rt; batch.records(rt.alloc())?.len(), 16);
+    assert_eq!(rt; batch.receive(&mut source, 4096), Ok(ReceiveEnd::Drained));
+    assert_eq!(rt;
+        seen(rt.alloc(), &batch)?.as_slice(),
+        [(MAX_LEN, 23)].as_slice()
+    );
+    Ok(())
+}
