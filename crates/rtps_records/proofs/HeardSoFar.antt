@@ -17,6 +17,9 @@ Hears-trans (Some x) None c xs ys p q = absurd p
 Hears-trans (Some x) (Some y) None xs ys p q = absurd q
 Hears-trans (Some x) (Some y) (Some z) xs ys p q = q ∙ ap (λ l. l ++ ys) p ∙ append_assoc x xs ys
 
+pub Hears-kept : (a b c : Option (List (List ℕ))) (xs : List (List ℕ)) → Hears a b xs → Hears b c [] → Hears a c xs
+Hears-kept a b c xs p q = subst (Hears a c) (append-nil xs) (Hears-trans a b c xs [] p q)
+
 -- these were received, and each is as long as a record may be
 pub record HasHeard (first now : Option (List (List ℕ))) (datagrams : List (List ℕ)) : Type 0 where
   pub each : AllByRecursion IsRecord datagrams
@@ -43,7 +46,7 @@ hears_more first now after datagrams new More h is (octets, short, hears, e) = (
 still_heard : (first now after : Option (List (List ℕ))) (datagrams new : List (List ℕ)) → HasHeard first now datagrams → Hears now after [] × (new ≡ datagrams) → HasHeard first after new
 still_heard first now after datagrams new h (hears, e) = subst (HasHeard first after) (sym e) (record {
   each = h.each;
-  hears = subst (Hears first after) (append-nil datagrams) (Hears-trans first now after datagrams [] h.hears hears);
+  hears = Hears-kept first now after datagrams h.hears hears;
 })
 
 -- no more: none stands, or it can't be received

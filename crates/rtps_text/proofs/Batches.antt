@@ -82,7 +82,7 @@ given_lines text f decoding config records batch given count counted is =
     ∙ ap (put_lines text) (sym is.put)
 
 -- the lines of a batch are said after what was said before
-says_given : {C V M : Type 0} (text : C → M → List ℕ) (f : V → M) (decoding : C → Decoding M) (before after : EngineView C) (batch : List (List ℕ)) (given : Given V) (number : ℕ) (kept : List ℕ)
+pub says_given : {C V M : Type 0} (text : C → M → List ℕ) (f : V → M) (decoding : C → Decoding M) (before after : EngineView C) (batch : List (List ℕ)) (given : Given V) (number : ℕ) (kept : List ℕ)
     → (after.catalog ≡ before.catalog) × (after.config ≡ before.config)
     → ((records : List (List ℕ)) → StandsAt decoding records before → StandsAt decoding (records ++ batch) after)
     → ((records : List (List ℕ)) → StandsAt decoding records before → IsGiven f (run_by decoding before records) (run_by decoding before (records ++ batch)) given)

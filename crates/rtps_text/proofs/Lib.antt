@@ -3,6 +3,7 @@ pub mod Batches
 pub mod Caching
 pub mod Due
 pub mod Fronts
+pub mod Hearing
 pub mod Rows
 pub mod Run
 pub mod Sampled

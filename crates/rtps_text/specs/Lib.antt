@@ -4,6 +4,8 @@ pub mod Caches
 pub mod Entries
 pub mod EventLines
 pub mod Line
+pub mod Listened
+pub mod Live
 pub mod Replayed
 pub mod Slices
 pub mod Told

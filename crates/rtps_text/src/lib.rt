@@ -3,6 +3,7 @@
 #![tactic(auto)]
 
 mod answer;
+mod answering;
 mod beside;
 mod body;
 mod caches;
@@ -11,10 +12,14 @@ mod context;
 mod dumping;
 mod entry;
 mod event_lines;
+mod exchange;
 mod guid;
 mod held;
 mod last_line;
 mod line;
+mod listening;
+mod live;
+mod live_fault;
 mod locators;
 mod notice;
 mod numbers;
@@ -33,12 +38,15 @@ mod texts;
 pub use answer::push_answer;
 pub use dumping::{dump, dump_in};
 pub use entry::push_entry;
+pub use exchange::Exchange;
 pub use last_line::LastLine;
 pub use line::push_line;
+pub use listening::listen;
+pub use live_fault::LiveFault;
 pub use notice::push_notice;
 pub use replaying::replay;
 pub use sampling::samples;
-pub use setup::{CacheSetup, Pace, Setup};
+pub use setup::{CacheSetup, LiveSetup, Pace, Setup};
 pub use summary::{push_match, push_status};
 
 #[cfg(test)]

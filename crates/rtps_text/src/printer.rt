@@ -118,7 +118,7 @@ where
     }
 
     /// Adds what a run gave last to the lines, after what was spelled before, and writes them as
-    /// they fill.
+    /// they fill. Then no text is left.
     ///
     /// `CannotWrite` where a write fails, and `NoMemory`; a front of what was to be printed may have
     /// been written then.
@@ -129,6 +129,9 @@ where
         texts: &mut Texts,
         lines: &mut Lines<'_, W>,
     ) -> Result<(), RunFault>
+        ensures catalog { self.new.catalog.now ≡ self.old.catalog.now }
+        ensures readers { self.new.readers ≡ self.old.readers }
+        ensures none { OnOk result (texts.new.made.items ≡ []) }
         ensures same_writer { lines.new.writer.ghost_name ≡ lines.old.writer.ghost_name }
         ensures ok { (due : List ℕ) → IsDue (C.text_of self.old.catalog.now) C.view
             texts.old.made.items given.now self.old.readers due → OnOk result (Moves

@@ -69,3 +69,13 @@ pub struct CacheSetup<C: Drop> {
     pub keep: History,
     ghost kept: { IsHistory keep } by { IsHistory-prop keep },
 }
+
+/// Which readers are given datagrams as they are received, and for how long.
+#[derive(Drop)]
+pub struct LiveSetup<C: Drop> {
+    pub run: Setup<C>,
+    /// How many datagrams are received at the most.
+    pub datagrams: u32,
+    /// How often datagrams are waited for at the most.
+    pub turns: u32,
+}

@@ -4,6 +4,7 @@ mod answers;
 mod entries;
 mod fragments;
 mod lines;
+mod listening;
 mod matches;
 mod runs;
 mod starved;

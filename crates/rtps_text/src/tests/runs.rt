@@ -38,7 +38,7 @@ pub(super) const FILE: [&str; 10] = [
 /// How many octets the magic and the first record take.
 pub(super) const FIRST: usize = 132;
 
-const LINES: [&str; 7] = [
+pub(super) const LINES: [&str; 7] = [
     "0:1 reader 0 sample 0a0a0a0a0a0a0a0a0a0a0a0a00000102 1 - value 424c5545 10 20 30",
     "0:1 reader 1 sample 0a0a0a0a0a0a0a0a0a0a0a0a00000102 1 - value 424c5545 10 20 30",
     "0:2 reader 0 lost 0a0a0a0a0a0a0a0a0a0a0a0a00000102 1",

@@ -1,0 +1,115 @@
+//! What a run prints over datagrams as they are received.
+
+ghost use Rattle.std.specs.Prelude.{◌≡◌, []};
+ghost use Rattle.dds_participant.specs.Given.{HoldsNothing};
+ghost use Rattle.rtps_text.specs.Live.{IsLive};
+ghost use Rattle.rtps_text.specs.Listened.{HearingEnds};
+ghost use Rattle.rtps_text.specs.Replayed.{HasSaid, replay_text, text_by};
+
+use crate::exchange::Exchange;
+use crate::live::Live;
+use crate::live_fault::LiveFault;
+use crate::running::RunLines;
+use crate::setup::{LiveSetup, Setup};
+use dds_topic::TextCatalog;
+use rtps_records::{Lines, ReceiveEnd, RunFault};
+use std::alloc::Global;
+use std::io::Write;
+use std::thread::Threads;
+
+/// Receives datagrams, gives them to the readers of a configuration as they come, and writes the
+/// lines that [`replay`](crate::replay) writes of the same datagrams in a file; what the readers
+/// answer is sent. Whenever no other datagram stands all lines are written and flushed. With
+/// `summary` the matches and the status of each reader come at the end, also where no datagram can
+/// be received any more.
+///
+/// It ends after as many datagrams as the setup says, and after as many waits for some.
+pub fn listen<C: TextCatalog, N: Exchange, W: Write, T: Threads + Sync>(
+    rt: &T,
+    alloc: Global,
+    setup: LiveSetup<C>,
+    network: &mut N,
+    writer: &mut W,
+) -> Result<(), LiveFault>
+where
+    C::Value: Sync,
+    ensures { HearingEnds
+        (replay_text (C.text_of setup.run.catalog) (C.decoding setup.run.catalog)
+        setup.run.config setup.run.summary)
+        setup.datagrams result (N.heard network.old) (N.heard network.new)
+        (W.contents writer.old) (W.contents writer.new) }
+{
+    let LiveSetup {
+        run,
+        datagrams,
+        turns,
+    } = setup;
+    let Setup {
+        config,
+        catalog,
+        summary,
+        pace,
+    } = run;
+    let catalog = &catalog;
+    let lent = Setup {
+        config,
+        catalog,
+        summary,
+        pace,
+    };
+    let Ok(run) = RunLines::new(alloc, lent) else {
+        return Err(LiveFault::Run(RunFault::NoMemory));
+    };
+    let Ok(live) = Live::new(run, &catalog, datagrams) else {
+        return Err(LiveFault::Run(RunFault::NoMemory));
+    };
+    print_live(rt, live, turns, network, writer)
+}
+
+/// Prints a run that took no datagram yet, over those that are received in so many turns.
+fn print_live<C: TextCatalog, N: Exchange, W: Write, T: Threads + Sync>(
+    rt: &T,
+    live: Live<'_, C>,
+    turns: u32,
+    network: &mut N,
+    writer: &mut W,
+) -> Result<(), LiveFault>
+where
+    C::Value: Sync,
+    requires live { IsLive live }
+    requires fresh { HasSaid C.text_of C.decoding [] [] live.run.participant.engine }
+    ensures { HearingEnds
+        (text_by C.text_of C.decoding live.entry.run.participant.engine live.entry.run.summary)
+        live.entry.left result (N.heard network.old) (N.heard network.new)
+        (W.contents writer.old) (W.contents writer.new) }
+{
+    let mut lines = Lines::new(live.run.alloc, writer);
+    print_turns(rt, live, turns, network, &mut lines)
+}
+
+/// Prints the lines of such a run, and after them its summary.
+fn print_turns<C: TextCatalog, N: Exchange, W: Write, T: Threads + Sync>(
+    rt: &T,
+    mut live: Live<'_, C>,
+    turns: u32,
+    network: &mut N,
+    lines: &mut Lines<'_, W>,
+) -> Result<(), LiveFault>
+where
+    C::Value: Sync,
+    requires live { IsLive live }
+    requires fresh { HasSaid C.text_of C.decoding [] [] live.run.participant.engine }
+    requires empty { lines.old.text.items ≡ [] }
+    ensures same_writer { lines.new.writer.ghost_name ≡ lines.old.writer.ghost_name }
+    ensures prints { HearingEnds
+        (text_by C.text_of C.decoding live.entry.run.participant.engine live.entry.run.summary)
+        live.entry.left result (N.heard network.old) (N.heard network.new)
+        (W.contents lines.old.writer.now) (W.contents lines.new.writer.now) }
+{
+    let end = live.take_turns(rt, turns, network, lines)?;
+    live.run.close(lines)?;
+    match end {
+        ReceiveEnd::Fault => Err(LiveFault::Socket),
+        _ => Ok(()),
+    }
+}

@@ -1,0 +1,180 @@
+//! A run over datagrams as they are received, a batch at a time.
+
+ghost use Rattle.std.specs.Prelude.{◌≡◌, ◌<◌, ◌≤◌, ◌⊎◌, [], IfErr, IfOk, OnErr, OnOk};
+ghost use Rattle.rtps_records.specs.declared.fault.RunFault.TheVariants.{CannotWrite, NoMemory};
+ghost use Rattle.rtps_records.specs.declared.receive_end.ReceiveEnd.TheVariants.{More};
+ghost use Rattle.rtps_text.specs.Live.{GoesOn, IsLive, StopsShort};
+ghost use Rattle.rtps_text.specs.Batched.{IsSameRun};
+ghost use Rattle.rtps_text.specs.Replayed.{HasSaid};
+
+use crate::answering::send_answers;
+use crate::exchange::Exchange;
+use crate::printer::Printer;
+use crate::running::RunLines;
+use crate::texts::Texts;
+use dds_topic::TextCatalog;
+use rtps_records::{Batch, Lines, ReceiveEnd, RunFault};
+use std::alloc::AllocError;
+use std::io::Write;
+use std::thread::Threads;
+
+/// A run over datagrams as they are received, and its text.
+#[derive(Drop)]
+pub(crate) struct Live<'c, C: TextCatalog> {
+    pub run: RunLines<C>,
+    pub printer: Printer<'c, C>,
+    /// What was received last.
+    batch: Batch,
+    /// What workers spelled of it.
+    texts: Texts,
+    /// How many datagrams may still be received.
+    pub left: u32,
+}
+
+impl<'c, C: TextCatalog> Live<'c, C>
+where
+    C::Value: Sync,
+{
+    /// A run that took no datagram yet, and takes so many at the most. Its values are spelled by the
+    /// catalog, which is its own.
+    pub(crate) fn new(
+        run: RunLines<C>,
+        catalog: &'c C,
+        datagrams: u32,
+    ) -> Result<Live<'c, C>, AllocError>
+        requires own { catalog.now ≡ run.participant.engine.catalog }
+        requires fresh { HasSaid C.text_of C.decoding [] [] run.participant.engine }
+        ensures run { IfOk result (λ live. live.run ≡ run) }
+        ensures left { IfOk result (λ live. live.left ≡ datagrams) }
+        ensures live { IfOk result IsLive }
+    {
+        let alloc = run.alloc;
+        let printer = Printer::new(catalog, &run);
+        Ok(Live {
+            run,
+            printer,
+            batch: Batch::new(alloc)?,
+            texts: Texts::none(alloc),
+            left: datagrams,
+        })
+    }
+
+    /// How many datagrams the next batch has at the most.
+    fn most(&self) -> u16
+        requires { 0 < self.now.left }
+        ensures some { 1 ≤ result }
+        ensures few { result ≤ 4096 }
+        ensures left { result ≤ self.now.left }
+    {
+        if self.left < u32::from(self.run.pace.batch) {
+            self.left as u16
+        } else {
+            self.run.pace.batch
+        }
+    }
+
+    /// Receives what stands, a batch at the most, gives it to the readers, writes its lines, and
+    /// sends its answers.
+    ///
+    /// `CannotWrite` where a write fails, and `NoMemory`; a front of the lines may have been written
+    /// then.
+    fn take<N: Exchange, W: Write, T: Threads + Sync>(
+        &mut self,
+        rt: &T,
+        network: &mut N,
+        lines: &mut Lines<'_, W>,
+    ) -> Result<ReceiveEnd, RunFault>
+        requires live { IsLive self.old }
+        requires some { 0 < self.old.left }
+        requires empty { lines.old.text.items ≡ [] }
+        ensures same_writer { lines.new.writer.ghost_name ≡ lines.old.writer.ghost_name }
+        ensures live { OnOk result (IsLive self.new) }
+        ensures empty { OnOk result (lines.new.text.items ≡ []) }
+        ensures same { OnOk result (IsSameRun self.old.run self.new.run) }
+        ensures goes_on { OnOk result (GoesOn C.text_of C.decoding self.old self.new
+            (N.heard network.old) (N.heard network.new)
+            (W.contents lines.old.writer.now) (W.contents lines.new.writer.now)) }
+        ensures fewer { IfOk result (λ end. end ≡ More → self.new.left < self.old.left) }
+        ensures fault { IfErr result (λ fault. (fault ≡ CannotWrite) ⊎ (fault ≡ NoMemory)) }
+        ensures front { OnErr result (StopsShort C.text_of C.decoding self.old
+            (N.heard network.old) (N.heard network.new)
+            (W.contents lines.old.writer.now) (W.contents lines.new.writer.now)) }
+    {
+        let most = self.most();
+        let end = self.batch.receive(network, most)?;
+        self.left -= self.batch.len() as u32;
+        self.run.take_records(rt, &self.batch)?;
+        self.printer
+            .print_last(rt, &self.run.given, &mut self.texts, lines)?;
+        lines.close()?;
+        lines.text.clear();
+        send_answers(network, &self.run.given);
+        Ok(end)
+    }
+
+    /// Takes batches until no datagram stands, or none may be received any more.
+    fn take_all<N: Exchange, W: Write, T: Threads + Sync>(
+        &mut self,
+        rt: &T,
+        network: &mut N,
+        lines: &mut Lines<'_, W>,
+    ) -> Result<ReceiveEnd, RunFault>
+        requires live { IsLive self.old }
+        requires empty { lines.old.text.items ≡ [] }
+        ensures same_writer { lines.new.writer.ghost_name ≡ lines.old.writer.ghost_name }
+        ensures live { OnOk result (IsLive self.new) }
+        ensures empty { OnOk result (lines.new.text.items ≡ []) }
+        ensures same { OnOk result (IsSameRun self.old.run self.new.run) }
+        ensures goes_on { OnOk result (GoesOn C.text_of C.decoding self.old self.new
+            (N.heard network.old) (N.heard network.new)
+            (W.contents lines.old.writer.now) (W.contents lines.new.writer.now)) }
+        ensures fault { IfErr result (λ fault. (fault ≡ CannotWrite) ⊎ (fault ≡ NoMemory)) }
+        ensures front { OnErr result (StopsShort C.text_of C.decoding self.old
+            (N.heard network.old) (N.heard network.new)
+            (W.contents lines.old.writer.now) (W.contents lines.new.writer.now)) }
+    {
+        while self.left > 0 {
+            let end = self.take(rt, network, lines)?;
+            if end != ReceiveEnd::More {
+                return Ok(end);
+            }
+        }
+        Ok(ReceiveEnd::Drained)
+    }
+
+    /// Waits for datagrams so many times at the most, and takes each time all that stand.
+    pub(crate) fn take_turns<N: Exchange, W: Write, T: Threads + Sync>(
+        &mut self,
+        rt: &T,
+        turns: u32,
+        network: &mut N,
+        lines: &mut Lines<'_, W>,
+    ) -> Result<ReceiveEnd, RunFault>
+        requires live { IsLive self.old }
+        requires empty { lines.old.text.items ≡ [] }
+        ensures same_writer { lines.new.writer.ghost_name ≡ lines.old.writer.ghost_name }
+        ensures live { OnOk result (IsLive self.new) }
+        ensures empty { OnOk result (lines.new.text.items ≡ []) }
+        ensures same { OnOk result (IsSameRun self.old.run self.new.run) }
+        ensures goes_on { OnOk result (GoesOn C.text_of C.decoding self.old self.new
+            (N.heard network.old) (N.heard network.new)
+            (W.contents lines.old.writer.now) (W.contents lines.new.writer.now)) }
+        ensures fault { IfErr result (λ fault. (fault ≡ CannotWrite) ⊎ (fault ≡ NoMemory)) }
+        ensures front { OnErr result (StopsShort C.text_of C.decoding self.old
+            (N.heard network.old) (N.heard network.new)
+            (W.contents lines.old.writer.now) (W.contents lines.new.writer.now)) }
+    {
+        for _ in 0..turns {
+            if self.left == 0 {
+                break;
+            }
+            if network.wait().is_err() {
+                return Ok(ReceiveEnd::Fault);
+            }
+            if self.take_all(rt, network, lines)? == ReceiveEnd::Fault {
+                return Ok(ReceiveEnd::Fault);
+            }
+        }
+        Ok(ReceiveEnd::Drained)
+    }
+}

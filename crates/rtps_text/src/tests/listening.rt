@@ -1,0 +1,203 @@
+//! Runs over datagrams that stand in a list, as if they were received.
+
+ghost use Rattle.rtps_discovery.specs.Config.{check_of};
+ghost use Rattle.std.specs.Prelude.{◌≡◌, Ok};
+
+use super::runs::{FILE, FIRST, Given, LINES, PACES, config_of};
+use super::{octets, text};
+use crate::{Exchange, LiveFault, LiveSetup, Pace, Setup, listen};
+use dds_qos::Reliability;
+use dds_topic::Shapes;
+use rtps_discovery::Config;
+use rtps_records::Receive;
+use rtps_types::Locator;
+use std::alloc::Global;
+use std::io::{self, Error, ErrorKind};
+use std::test::Fail;
+use std::thread::Threads;
+
+/// What a network does after its last datagram.
+#[derive(Clone, Copy, PartialEq, Eq)]
+enum After {
+    /// Nothing comes any more.
+    Nothing,
+    /// A wait fails.
+    WaitFails,
+    /// A datagram can't be received.
+    ReceiveFails,
+}
+
+/// A network to which these datagrams come, so many with each wait.
+#[derive(Drop)]
+struct Wire<'a> {
+    datagrams: &'a [&'a [u8]],
+    each: usize,
+    after: After,
+    /// How many stand that were not received.
+    standing: usize,
+    /// What was sent, and where it went.
+    sent: Vec<(Locator, Vec<u8>)>,
+    alloc: Global,
+}
+
+impl<'a> Wire<'a> {
+    fn new(alloc: Global, datagrams: &'a [&'a [u8]], each: usize, after: After) -> Wire<'a> {
+        Wire {
+            datagrams,
+            each,
+            after,
+            standing: 0,
+            sent: Vec::new(alloc),
+            alloc,
+        }
+    }
+}
+
+impl Receive for Wire<'_> {
+    ghost use Rattle.std.specs.Prelude.{None};
+
+    ghost heard = { λ _. None };
+
+    fn receive(&mut self, room: &mut [u8]) -> io::Result<Option<usize>> {
+        let Some((octets, rest)) = self.datagrams.split_first() else {
+            return match self.after {
+                After::ReceiveFails => Err(Error::from(ErrorKind::Other)),
+                _ => Ok(None),
+            };
+        };
+        if self.standing == 0 {
+            return Ok(None);
+        }
+        self.standing -= 1;
+        self.datagrams = rest;
+        let length = room.len().min(octets.len());
+        room[..length].copy_from_slice(&octets[..length]);
+        Ok(Some(length))
+    }
+}
+
+impl Exchange for Wire<'_> {
+    fn wait(&mut self) -> io::Result<()> {
+        if self.datagrams.is_empty() && self.after == After::WaitFails {
+            return Err(Error::from(ErrorKind::Other));
+        }
+        self.standing = self.each.min(self.datagrams.len());
+        Ok(())
+    }
+
+    fn send(&mut self, to: Locator, octets: &[u8]) {
+        if let Ok(octets) = octets.to_vec(self.alloc) {
+            let _kept = self.sent.push((to, octets));
+        }
+    }
+}
+
+/// So many datagrams and waits at the most, and no summary.
+fn live_setup(config: Config, pace: Pace, datagrams: u32, turns: u32) -> LiveSetup<Shapes>
+    requires { check_of config ≡ Ok tt }
+{
+    let run = Setup {
+        config,
+        catalog: Shapes,
+        summary: false,
+        pace,
+    };
+    LiveSetup {
+        run,
+        datagrams,
+        turns,
+    }
+}
+
+/// What two best-effort readers print of these datagrams, and how that ends.
+fn heard<T: Threads + Sync>(
+    rt: &T,
+    alloc: Global,
+    wire: &mut Wire<'_>,
+    pace: Pace,
+    limits: (u32, u32),
+) -> Result<(Vec<u8>, Result<(), LiveFault>), Fail> {
+    let config = config_of(alloc, Given::Fixed(Reliability::BestEffort))?;
+    let setup = live_setup(config, pace, limits.0, limits.1);
+    let mut out = Vec::new(alloc);
+    let outcome = listen(rt, alloc, setup, wire, &mut out);
+    Ok((out, outcome))
+}
+
+#[test]
+fn prints_what_comes_however_it_comes(rt: HostRuntime) -> Result<(), Fail> {
+    let file = octets(rt.alloc(), &FILE)?;
+    let datagrams = [&file[8..FIRST], &file[FIRST + 4..]];
+    let whole = text(rt.alloc(), &LINES)?;
+    let first = text(rt.alloc(), &LINES[..6])?;
+    for (each, limits, said) in [
+        (1, (9, 5), &whole),
+        (2, (9, 1), &whole),
+        (2, (2, 9), &whole),
+        (2, (1, 9), &first),
+        (1, (9, 1), &first),
+    ] {
+        for pace in PACES {
+            let mut wire = Wire::new(rt.alloc(), &datagrams, each, After::Nothing);
+            let (out, outcome) = heard(&rt, rt.alloc(), &mut wire, pace, limits)?;
+            assert_eq!(rt; outcome, Ok(()));
+            assert_eq!(rt; out.as_slice(), said.as_bytes());
+            assert!(rt; wire.sent.is_empty());
+        }
+    }
+    Ok(())
+}
+
+#[test]
+fn prints_what_came_before_a_socket_fault(rt: HostRuntime) -> Result<(), Fail> {
+    let file = octets(rt.alloc(), &FILE)?;
+    let datagrams = [&file[8..FIRST], &file[FIRST + 4..]];
+    let whole = text(rt.alloc(), &LINES)?;
+    for after in [After::WaitFails, After::ReceiveFails] {
+        for pace in PACES {
+            let mut wire = Wire::new(rt.alloc(), &datagrams, 2, after);
+            let (out, outcome) = heard(&rt, rt.alloc(), &mut wire, pace, (9, 9))?;
+            assert_eq!(rt; outcome, Err(LiveFault::Socket));
+            assert_eq!(rt; out.as_slice(), whole.as_bytes());
+        }
+    }
+    Ok(())
+}
+
+/// A participant announces itself, with 127.0.0.1:7412 for its discovery, and its announcer of
+/// writers says that it has number 1.
+const ANNOUNCED: [&str; 3] = [
+    "52545053020500000a0a0a0a0a0a0a0a0a0a0a0a15057c0000001000000100c7000100c20000000001000000",
+    "00030000500010000a0a0a0a0a0a0a0a0a0a0a0a000001c13200180001000000f41c00000000000000000000000000007f0000013100180001000000f51c00000000000000000000000000007f000001020008006400000000000000580004001400000001000000",
+    "52545053020500000a0a0a0a0a0a0a0a0a0a0a0a07011c00000003c7000003c20000000001000000000000000100000001000000",
+];
+
+/// The number is asked for.
+const ASKED: &str =
+    "52545053020500000b0b0b0b0b0b0b0b0b0b0b0b0e010c000a0a0a0a0a0a0a0a0a0a0a0a06011c00000003c7000003c20000000001000000010000000000008001000000";
+
+#[test]
+fn sends_what_it_answers(rt: HostRuntime) -> Result<(), Fail> {
+    let announced = octets(rt.alloc(), &ANNOUNCED[..2])?;
+    let beats = octets(rt.alloc(), &ANNOUNCED[2..])?;
+    let datagrams = [announced.as_slice(), beats.as_slice()];
+    let mut wire = Wire::new(rt.alloc(), &datagrams, 2, After::Nothing);
+    let config = config_of(rt.alloc(), Given::Unmatched)?;
+    let setup = live_setup(config, PACES[3], 2, 1);
+    let mut out = Vec::new(rt.alloc());
+    assert_eq!(rt; listen(&rt, rt.alloc(), setup, &mut wire, &mut out), Ok(()));
+    let line = text(
+        rt.alloc(),
+        &[
+            "1:1 answer 127.0.0.1:7412 52545053020500000b0b0b0b0b0b0b0b0b0b0b0b0e010c000a0a0a0a0a0a0a0a0a0a0a0a06011c00000003c7000003c20000000001000000010000000000008001000000",
+        ],
+    )?;
+    assert_eq!(rt; out.as_slice(), line.as_bytes());
+    let asked = octets(rt.alloc(), &[ASKED])?;
+    let [(to, sent)] = wire.sent.as_slice() else {
+        return Err(Fail::new("not one answer was sent"));
+    };
+    assert_eq!(rt; (to.address, to.port), ([127, 0, 0, 1], 7412));
+    assert_eq!(rt; sent.as_slice(), asked.as_slice());
+    Ok(())
+}
