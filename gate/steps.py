@@ -16,7 +16,11 @@ from gate.tasks import Done, Task, run
 REFUSED_BY = TOP / "gate" / "refused_by.txt"
 LISTENER = "rtps_listen"
 """The program of the conformance rows, and of ./run."""
-SCRIPTS = (("conformance rows", "run.py"), ("one file by many cuts", "cuts.py"))
+SCRIPTS = (
+    ("conformance rows", "run.py"),
+    ("one file by many cuts", "cuts.py"),
+    ("a peer on loopback", "live.py"),
+)
 """What is run on it: its name, and its file in conformance/."""
 FIRST = 1e9
 """The work of a task that nothing is to come before."""

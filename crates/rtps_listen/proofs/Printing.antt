@@ -7,16 +7,16 @@ use Rattle.rtps_listen.specs.Asked.{IsDumpCause, RefusesFirst}
 use Rattle.rtps_listen.specs.Configs.{IsReplayCause}
 use Rattle.rtps_listen.specs.Printed.{IsBefore, IsFirst, IsTaskOf, Prints, PrintsBy}
 use Rattle.rtps_listen.specs.declared.asked.Asked.{Asked}
-use Rattle.rtps_listen.specs.declared.asked.Asked.TheVariants.{Dump, Replay, Samples, Other}
+use Rattle.rtps_listen.specs.declared.asked.Asked.TheVariants.{Dump, Replay, Samples}
 use Rattle.rtps_listen.specs.declared.options.Options.{Options}
 use Rattle.rtps_listen.specs.declared.task.Task.{Task}
 use Rattle.rtps_listen.specs.declared.fault.ListenFault.{ListenFault}
-use Rattle.rtps_listen.specs.declared.fault.ListenFault.TheVariants.{NoText, NotBuilt, BadPrefix, BadWriter, Run}
+use Rattle.rtps_listen.specs.declared.fault.ListenFault.TheVariants.{NoText, BadPrefix, BadWriter, Socket, Run}
 
 -- what is found before a file is opened is found before it is read
 pub is_first : (fault : ListenFault) → IsBefore fault → IsFirst fault
 is_first NoText h = tt
-is_first NotBuilt h = tt
+is_first Socket h = tt
 is_first BadPrefix h = tt
 is_first BadWriter h = tt
 is_first (Run fault) h = rw h tt
@@ -30,7 +30,7 @@ dump_cause : (own : List ℕ) (s : Result (Unit {0}) ListenFault) → IfErr s Is
 dump_cause own (Ok u) k = tt
 dump_cause own (Err (Run fault)) k = tt
 dump_cause own (Err NoText) k = absurd k
-dump_cause own (Err NotBuilt) k = absurd k
+dump_cause own (Err Socket) k = absurd k
 dump_cause own (Err BadPrefix) k = absurd k
 dump_cause own (Err BadWriter) k = absurd k
 
@@ -38,7 +38,7 @@ replay_cause : (options : Options) (s : Result (Unit {0}) ListenFault) → IfErr
 replay_cause options (Ok u) k = tt
 replay_cause options (Err (Run fault)) k = tt
 replay_cause options (Err NoText) k = absurd k
-replay_cause options (Err NotBuilt) k = absurd k
+replay_cause options (Err Socket) k = absurd k
 replay_cause options (Err BadPrefix) k = absurd k
 replay_cause options (Err BadWriter) k = absurd k
 
@@ -65,7 +65,6 @@ nothing_refused (Samples samples) t s h k = (
   },
   replay_cause samples.options s k,
 )
-nothing_refused Other t s h k = not_err t NotBuilt h
 
 again : {T U E : Type 0} (r : Result T E) (s : Result U E) (f e : E) → r ≡ Err f → s ≡ Err f → r ≡ Err e → s ≡ Err e
 again r s f e h k l = let same : f ≡ e = cc in k ∙ ap Err same
@@ -93,7 +92,6 @@ same_err (Samples samples) r s fault e k h = (
   },
   rw k (rw e at h.1),
 )
-same_err Other r s fault e k h = again r s fault NotBuilt e k h
 
 -- what was refused is passed on
 pub refused : {T U : Type 0} (a : Asked) (r : Result T ListenFault) (s : Result U ListenFault) (fault : ListenFault) → r ≡ Err fault → IsErrAnd s (λ e. e ≡ fault) → RefusesFirst a r → RefusesFirst a s
@@ -116,6 +114,6 @@ unfolding PrintsBy
 is_run t file old new (Ok u) p = tt
 is_run t file old new (Err (Run fault)) p = tt
 is_run t file old new (Err NoText) p = absurd p
-is_run t file old new (Err NotBuilt) p = absurd p
+is_run t file old new (Err Socket) p = absurd p
 is_run t file old new (Err BadPrefix) p = absurd p
 is_run t file old new (Err BadWriter) p = absurd p

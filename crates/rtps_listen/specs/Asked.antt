@@ -2,13 +2,15 @@
 use Rattle.std.specs.Prelude.{◌≡◌, List, [], Option, Some, None, codes, Result, Err, IfErr}
 use Rattle.clap.specs.Words.{Row, Text}
 use Rattle.rtps_listen.specs.declared.asked.Asked.{Asked}
-use Rattle.rtps_listen.specs.declared.asked.Asked.TheVariants.{Dump, Replay, Samples, Other}
+use Rattle.rtps_listen.specs.declared.asked.Asked.TheVariants.{Dump, Replay, Samples}
+use Rattle.rtps_listen.specs.declared.asked.Request.{Request}
+use Rattle.rtps_listen.specs.declared.asked.Request.TheVariants.{OfDomain, OfFile}
 use Rattle.rtps_listen.specs.declared.fault.ListenFault.{ListenFault}
-use Rattle.rtps_listen.specs.declared.fault.ListenFault.TheVariants.{BadPrefix, NotBuilt, Run}
+use Rattle.rtps_listen.specs.declared.fault.ListenFault.TheVariants.{BadPrefix, Run}
 use Rattle.rtps_listen.specs.Configs.{IsReplayCause, Refuses}
 use Rattle.rtps_listen.specs.Identities.{IsPrefixText}
 use Rattle.rtps_listen.specs.Line.{own_text}
-use Rattle.rtps_listen.specs.Options.{AreOptions, AreSamplesOptions, text_or}
+use Rattle.rtps_listen.specs.Options.{AreLiveOptions, AreOptions, AreSamplesOptions, text_or}
 
 -- no words are `dump -`
 abbrev pub IsDump : Option (Text × List Row) → Type 0
@@ -30,13 +32,18 @@ abbrev pub rows_behind : Option (Text × List Row) → List Row
 rows_behind None = []
 rows_behind (Some found) = found.1
 
--- this is what the words ask for, by the subcommand and by what was found after it
-unfoldable pub Asks : Asked → Option (Text × List Row) → Type 0
-Asks (Dump file own) found =
+-- this is what is asked of a file, by the subcommand and by what was found after it
+unfoldable pub AsksOfFile : Asked → Option (Text × List Row) → Type 0
+AsksOfFile (Dump file own) found =
     IsDump found × (file.now ≡ text_or (codes "file") (codes "-") (rows_behind found)) × (own.now ≡ text_or (codes "own") own_text (rows_behind found))
-Asks (Replay options) found = IsReplay found × AreOptions options (rows_behind found)
-Asks (Samples samples) found = IsSamples found × AreSamplesOptions samples (rows_behind found)
-Asks Other found = ¬ IsDump found × ¬ IsReplay found × ¬ IsSamples found
+AsksOfFile (Replay options) found = IsReplay found × AreOptions options (rows_behind found)
+AsksOfFile (Samples samples) found = IsSamples found × AreSamplesOptions samples (rows_behind found)
+
+-- this is what the words ask for; the only other subcommand is `listen`
+unfoldable pub Asks : Request → Option (Text × List Row) → Type 0
+Asks (OfFile asked) found = AsksOfFile asked found
+Asks (OfDomain live) found =
+    ¬ IsDump found × ¬ IsReplay found × ¬ IsSamples found × AreLiveOptions live (rows_behind found)
 
 -- what is wrong where `dump` ends with this fault: with its prefix, or with its run
 abbrev pub IsDumpCause : Text → ListenFault → Type 0
@@ -49,4 +56,3 @@ unfoldable pub RefusesFirst : {T : Type 0} → Asked → Result T ListenFault �
 RefusesFirst (Dump file own) result = (¬ IsPrefixText own.now → result ≡ Err BadPrefix) × IfErr result (IsDumpCause own.now)
 RefusesFirst (Replay options) result = Refuses options result × IfErr result (IsReplayCause options)
 RefusesFirst (Samples samples) result = Refuses samples.options result × IfErr result (IsReplayCause samples.options)
-RefusesFirst Other result = result ≡ Err NotBuilt

@@ -1,5 +1,6 @@
 pub mod Asked
 pub mod Configs
+pub mod Domain
 pub mod Identities
 pub mod Line
 pub mod Options

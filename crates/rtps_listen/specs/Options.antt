@@ -1,4 +1,4 @@
--- The options of `replay` and `samples`, by what clap finds after it.
+-- The options of `replay`, `samples` and `listen`, by what clap finds after it.
 use Rattle.std.specs.Prelude.{◌≡◌, ℕ, nat_le, nat_lt, List, length, Bool, false, ◌&&◌, if◌then◌else◌, codes, unwrap_or, option_map}
 use Rattle.std.specs.Char.{digit_value}
 use Rattle.std.specs.List.{list_all}
@@ -6,6 +6,7 @@ use Rattle.std.specs.Option.{option_map_or}
 use Rattle.std.specs.Str.{bytes_eq}
 use Rattle.std.specs.Str.Parse.{digits_value, without_leading_plus}
 use Rattle.clap.specs.Words.{Row, Text, first_of, one_of}
+use Rattle.rtps_listen.specs.declared.options.LiveOptions.{LiveOptions}
 use Rattle.rtps_listen.specs.declared.options.Options.{Options}
 use Rattle.rtps_listen.specs.declared.options.SamplesOptions.{SamplesOptions}
 use Rattle.rtps_listen.specs.Line.{own_text, topic_text}
@@ -56,3 +57,10 @@ pub record AreOptions (options : Options) (rows : List Row) : Type 0 where
 pub record AreSamplesOptions (s : SamplesOptions) (rows : List Row) : Type 0 where
   pub options : AreOptions s.options rows
   pub keep : s.keep ≡ up_to 65536 (number_in (codes "keep") rows)
+
+-- the same for `listen`
+pub record AreLiveOptions (live : LiveOptions) (rows : List Row) : Type 0 where
+  pub options : AreOptions live.options rows
+  pub domain : live.domain ≡ up_to 232 (number_in (codes "domain") rows)
+  pub count : live.count ≡ one_to 65536 (number_in (codes "count") rows)
+  pub turns : live.turns ≡ one_to 100000 (number_in (codes "turns") rows)

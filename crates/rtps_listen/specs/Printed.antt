@@ -67,7 +67,6 @@ IsTaskOf (asked.Replay options) t = ⊥
 IsTaskOf (asked.Samples samples) (task.Samples setup) = (samples.options.raw ≡ false) × AreKeptBy samples setup
 IsTaskOf (asked.Samples samples) (task.SamplesRaw setup) = (samples.options.raw ≡ true) × AreKeptBy samples setup
 IsTaskOf (asked.Samples samples) t = ⊥
-IsTaskOf asked.Other t = ⊥
 
 -- a fault that is found before a file is opened: of memory it is the only one of a run's
 abbrev pub IsBefore : ListenFault → Type 0
@@ -86,7 +85,6 @@ abbrev pub file_of : Asked → List ℕ
 file_of (asked.Dump file own) = file.now
 file_of (asked.Replay options) = options.file.now
 file_of (asked.Samples samples) = samples.options.file.now
-file_of asked.Other = []
 
 -- What a task writes of a file with these octets: all of its text, or what a fault leaves. Want of
 -- memory before it is read leaves nothing written.

@@ -5,14 +5,14 @@ use Rattle.rtps_records.specs.declared.fault.RunFault.TheVariants.{CannotRead, N
 use Rattle.rtps_listen.specs.declared.Failure.{Failure}
 use Rattle.rtps_listen.specs.declared.Failure.TheVariants.{Line, Fault}
 use Rattle.rtps_listen.specs.declared.fault.ListenFault.{ListenFault}
-use Rattle.rtps_listen.specs.declared.fault.ListenFault.TheVariants.{NoText, NotBuilt, BadPrefix, BadWriter, Run}
+use Rattle.rtps_listen.specs.declared.fault.ListenFault.TheVariants.{NoText, BadPrefix, BadWriter, Socket, Run}
 
--- 2 for the line, 3 for a file and its text, 5 for memory
+-- 2 for the line, 3 for a file and its text, 4 for sockets, 5 for memory
 abbrev pub status_of : ListenFault → ℕ
 status_of NoText = 2
-status_of NotBuilt = 2
 status_of BadPrefix = 2
 status_of BadWriter = 2
+status_of Socket = 4
 status_of (Run CannotRead) = 3
 status_of (Run NotRecordFile) = 3
 status_of (Run (CutRecord n)) = 3
@@ -29,9 +29,9 @@ status_after (Fault fault) = status_of fault
 -- what the line of a fault says
 abbrev pub fault_text : ListenFault → List ℕ
 fault_text NoText = codes "a word is not text"
-fault_text NotBuilt = codes "not built"
 fault_text BadPrefix = codes "bad prefix"
 fault_text BadWriter = codes "bad writer"
+fault_text Socket = codes "socket fault"
 fault_text (Run fault) = records.fault_text fault
 
 -- the line on standard error

@@ -29,8 +29,8 @@ pub trait RecordFiles {
 
 /// Does what is asked for, with these files, and writes what is printed of one.
 ///
-/// What is wrong with the words is refused before the file is opened: `NotBuilt`, `BadPrefix`,
-/// `BadWriter` in this order. Any other fault is that of the run.
+/// What is wrong with the words is refused before the file is opened: `BadPrefix`, `BadWriter`
+/// in this order. Any other fault is that of the run.
 pub fn answer<F: RecordFiles, W: Write + Send, T: Threads + Sync>(
     rt: &T,
     alloc: Global,

@@ -3,9 +3,9 @@
 ghost use Rattle.std.specs.Prelude.{◌≡◌, ◌≤◌, option_map};
 ghost use Rattle.clap.specs.Words.{found_of, rows_of};
 ghost use Rattle.rtps_listen.specs.Asked.{Asks};
-ghost use Rattle.rtps_listen.specs.Options.{AreOptions, AreSamplesOptions, is_set, number_in, one_to, text_or, up_to};
+ghost use Rattle.rtps_listen.specs.Options.{AreLiveOptions, AreOptions, AreSamplesOptions, is_set, number_in, one_to, text_or, up_to};
 
-use crate::options::{Options, SamplesOptions};
+use crate::options::{LiveOptions, Options, SamplesOptions};
 use clap::ArgMatches;
 
 /// The prefix where `--own` gives none, in hex.
@@ -16,6 +16,15 @@ pub const TOPIC: &str = "Square";
 
 /// What the words ask for.
 #[derive(Clone, Copy, Debug, PartialEq, Eq)]
+pub enum Request<'a> {
+    /// Something of a record file.
+    OfFile(Asked<'a>),
+    /// What readers answer to the datagrams of a domain.
+    OfDomain(LiveOptions<'a>),
+}
+
+/// What is asked of a record file.
+#[derive(Clone, Copy, Debug, PartialEq, Eq)]
 pub enum Asked<'a> {
     /// The events in a file, as a participant sees them whose prefix this is, in hex.
     Dump { file: &'a str, own: &'a str },
@@ -23,14 +32,12 @@ pub enum Asked<'a> {
     Replay(Options<'a>),
     /// What readers keep of a file.
     Samples(SamplesOptions<'a>),
-    /// What is not there yet.
-    Other,
 }
 
 impl Asked<'_> {
     ghost use Rattle.rtps_listen.specs.Printed.{file_of};
 
-    /// The name of the file that is asked for; empty where none is.
+    /// The name of the file.
     pub fn file(&self) -> &str
         ensures { result.now ≡ file_of self.now }
     {
@@ -38,7 +45,6 @@ impl Asked<'_> {
             Asked::Dump { file, .. } => file,
             Asked::Replay(options) => options.file,
             Asked::Samples(samples) => samples.options.file,
-            Asked::Other => "",
         }
     }
 }
@@ -93,7 +99,7 @@ fn up_to(most: u32, number: u32) -> u32
     if number <= most { number } else { 0 }
 }
 
-/// The options after `replay` or `samples`.
+/// The options after `replay`, `samples` or `listen`.
 fn options_in<'a>(matches: &ArgMatches<'a>) -> Options<'a>
     ensures { AreOptions result (rows_of (found_of matches.now)) }
 {
@@ -121,28 +127,40 @@ fn samples_options_in<'a>(matches: &ArgMatches<'a>) -> SamplesOptions<'a>
     }
 }
 
+/// All options after `listen`.
+fn live_options_in<'a>(matches: &ArgMatches<'a>) -> LiveOptions<'a>
+    ensures { AreLiveOptions result (rows_of (found_of matches.now)) }
+{
+    LiveOptions {
+        options: options_in(matches),
+        domain: up_to(232, number_in(matches, "domain")) as u16,
+        count: one_to(65_536, number_in(matches, "count")),
+        turns: one_to(100_000, number_in(matches, "turns")),
+    }
+}
+
 /// What is asked for by the subcommand that was found, with its matches. No subcommand is `dump -`.
-#[tactic(auto, unfolding(crate::specs::Asked::Asks))]
-pub fn asked_by<'a>(found: Option<(&'a str, &ArgMatches<'a>)>) -> Asked<'a>
+#[tactic(auto, unfolding(crate::specs::Asked::Asks, crate::specs::Asked::AsksOfFile))]
+pub fn asked_by<'a>(found: Option<(&'a str, &ArgMatches<'a>)>) -> Request<'a>
     ensures { Asks result (option_map (λ p. (p.0.now, rows_of (found_of p.1.now))) found.entry) }
 {
     match found {
-        None => Asked::Dump {
+        None => Request::OfFile(Asked::Dump {
             file: "-",
             own: OWN,
-        },
+        }),
         Some((name, matches)) => {
             if name == "dump" {
-                Asked::Dump {
+                Request::OfFile(Asked::Dump {
                     file: text_in(matches, "file", "-"),
                     own: text_in(matches, "own", OWN),
-                }
+                })
             } else if name == "replay" {
-                Asked::Replay(options_in(matches))
+                Request::OfFile(Asked::Replay(options_in(matches)))
             } else if name == "samples" {
-                Asked::Samples(samples_options_in(matches))
+                Request::OfFile(Asked::Samples(samples_options_in(matches)))
             } else {
-                Asked::Other
+                Request::OfDomain(live_options_in(matches))
             }
         }
     }

@@ -12,13 +12,13 @@ use thiserror::Error;
 pub enum ListenFault {
     /// A word of the command line is not text.
     NoText,
-    /// The line is a good one, but asks for what is not there yet.
-    NotBuilt,
     /// The value of `--own` isn't 24 hex digits.
     BadPrefix,
     /// The value of `--fixed` isn't 32 hex digits, or names no writer that can be matched.
     BadWriter,
-    /// The run over the records ended early.
+    /// The sockets of a domain can't be had, or one of them fails.
+    Socket,
+    /// The run over the records or datagrams ended early.
     Run(RunFault),
 }
 
@@ -31,10 +31,8 @@ impl ListenFault {
         ensures { result ≡ status_of self }
     {
         match self {
-            ListenFault::NoText
-            | ListenFault::NotBuilt
-            | ListenFault::BadPrefix
-            | ListenFault::BadWriter => 2,
+            ListenFault::NoText | ListenFault::BadPrefix | ListenFault::BadWriter => 2,
+            ListenFault::Socket => 4,
             ListenFault::Run(RunFault::NoMemory) => 5,
             ListenFault::Run(_) => 3,
         }
@@ -47,9 +45,9 @@ impl fmt::Display for ListenFault {
     fn fmt<W: fmt::Write>(&self, f: &mut fmt::Formatter<W>) -> fmt::Result {
         match self {
             ListenFault::NoText => write!(f, "a word is not text"),
-            ListenFault::NotBuilt => write!(f, "not built"),
             ListenFault::BadPrefix => write!(f, "bad prefix"),
             ListenFault::BadWriter => write!(f, "bad writer"),
+            ListenFault::Socket => write!(f, "socket fault"),
             ListenFault::Run(fault) => write!(f, "{fault}"),
         }
     }

@@ -1,4 +1,4 @@
-//! Prints what record files hold, and what readers make of it.
+//! Prints what record files hold, and what readers make of it or of the datagrams of a domain.
 #![tactic(auto)]
 
 ghost use Rattle.std.specs.Prelude.{◌≡◌, None, OnOk};
@@ -9,16 +9,22 @@ ghost use Rattle.rtps_listen.specs.Status.{fault_line, status_after};
 mod answering;
 mod asked;
 mod config;
+mod domain;
 mod fault;
+mod live_task;
 mod options;
+mod sockets;
 mod task;
 mod words;
 
 use answering::{RecordFiles, answer};
+use asked::Request;
 use clap::Error;
 use clap::error::ErrorKind;
+use domain::{Domains, answer_live};
 use fault::ListenFault;
 use rtps_records::RunFault;
+use sockets::Sockets;
 use std::alloc::Global;
 use std::fs::File;
 use std::io::{self, Read, Stdin, Write};
@@ -66,7 +72,12 @@ fn run<T: Threads + Sync>(rt: &HostRuntime, threads: &T) -> Result<(), Failure> 
         }
         Err(error) => return Err(Failure::Line(error)),
     };
-    match answer(threads, alloc, &HostFiles { rt }, &asked, &mut rt.stdout()) {
+    let host = Host { rt };
+    let outcome = match &asked {
+        Request::OfFile(asked) => answer(threads, alloc, &host, asked, &mut rt.stdout()),
+        Request::OfDomain(live) => answer_live(threads, alloc, &host, live, &mut rt.stdout()),
+    };
+    match outcome {
         Ok(()) => Ok(()),
         Err(fault) => Err(Failure::Fault(fault)),
     }
@@ -87,9 +98,9 @@ fn words_given(rt: &HostRuntime) -> Result<Vec<String>, ListenFault> {
     }
 }
 
-/// The files of this machine.
+/// The files and the sockets of this machine.
 #[derive(Drop)]
-struct HostFiles<'a> {
+struct Host<'a> {
     rt: &'a HostRuntime,
 }
 
@@ -100,7 +111,7 @@ enum HostFile {
     File(File),
 }
 
-impl RecordFiles for HostFiles<'_> {
+impl RecordFiles for Host<'_> {
     type File = HostFile;
 
     ghost holds = { λ _ _. None };
@@ -110,6 +121,14 @@ impl RecordFiles for HostFiles<'_> {
             return Ok(HostFile::Stdin(self.rt.stdin()));
         }
         Ok(HostFile::File(File::open(self.rt, name)?))
+    }
+}
+
+impl Domains for Host<'_> {
+    type Network = Sockets;
+
+    fn join(&self, alloc: Global, domain: u16) -> io::Result<Sockets> {
+        Sockets::bind(self.rt, alloc, domain)
     }
 }
 

@@ -1,11 +1,11 @@
-//! What `replay` and `samples` are asked to do.
+//! What `replay`, `samples` and `listen` are asked to do.
 
 ghost use Rattle.std.specs.Prelude.{◌≤◌};
 
-/// The options of `replay`, and of `samples` but for one.
+/// The options of `replay`, which are those of `samples` and `listen` too.
 #[derive(Clone, Copy, Debug, PartialEq, Eq)]
 pub struct Options<'a> {
-    /// The name of the record file, or `-`.
+    /// The name of the record file, or `-`, also where no file is asked for.
     pub file: &'a str,
     /// How many readers there are, 1 to 8.
     pub readers: u8,
@@ -40,4 +40,19 @@ pub struct SamplesOptions<'a> {
     /// How many entries are kept of an instance, 1 to 65,536, or 0 for all.
     pub keep: u32,
     ghost bounded: { keep ≤ 65536 },
+}
+
+/// The options of `listen`.
+#[derive(Clone, Copy, Debug, PartialEq, Eq)]
+pub struct LiveOptions<'a> {
+    pub options: Options<'a>,
+    /// The domain to listen in, 0 to 232.
+    pub domain: u16,
+    /// How many datagrams are taken at the most, 1 to 65,536.
+    pub count: u32,
+    /// How often datagrams are waited for at the most, 1 to 100,000.
+    pub turns: u32,
+    ghost domained: { domain ≤ 232 },
+    ghost counted: { 1 ≤ count },
+    ghost turned: { 1 ≤ turns },
 }

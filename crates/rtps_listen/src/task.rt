@@ -76,12 +76,11 @@ pub fn task_of(alloc: Global, asked: &Asked<'_>) -> Result<Task, ListenFault>
         },
         Asked::Replay(options) => replay_of(alloc, options),
         Asked::Samples(samples) => samples_of(alloc, samples),
-        Asked::Other => Err(ListenFault::NotBuilt),
     }
 }
 
 /// The run that options ask for, with this catalog.
-fn run_of<C: Drop>(
+pub fn run_of<C: Drop>(
     alloc: Global,
     options: &Options<'_>,
     catalog: C,

@@ -1,11 +1,15 @@
 //! Lines that were written down by hand, and what they ask for.
 
+ghost use Rattle.std.specs.Prelude.{◌≤◌};
+
 mod replay;
 
-use crate::asked::{Asked, OWN};
+use crate::asked::{Asked, OWN, Request};
 use crate::fault::ListenFault;
+use crate::options::LiveOptions;
 use crate::words::read_words;
 use clap::error::ErrorKind;
+use replay::flags;
 use rtps_records::RunFault;
 use std::alloc::Global;
 use std::test::Fail;
@@ -34,24 +38,44 @@ fn lines_of_dump(rt: HostRuntime) -> Result<(), Fail> {
         (["dump", "a b", "--own="].as_slice(), other),
     ] {
         let words = words(rt.alloc(), line)?;
-        assert_eq!(rt; read_words(rt.alloc(), words.as_slice())?, asked);
+        let request = read_words(rt.alloc(), words.as_slice())?;
+        assert_eq!(rt; request, Request::OfFile(asked));
     }
     Ok(())
 }
 
-/// Good lines of what is not built.
-const OTHERS: [&[&str]; 2] = [
-    &["listen", "--domain", "0", "--count", "1"],
-    &[
-        "listen", "--count", "65536", "--turns", "100000", "--domain", "232",
-    ],
-];
+/// Options of a domain, and else those where none is given.
+fn live(domain: u16, count: u32, turns: u32) -> LiveOptions<'static>
+    requires domain { domain ≤ 232 }
+    requires count { 1 ≤ count }
+    requires turns { 1 ≤ turns }
+{
+    LiveOptions {
+        options: flags(false, false, false),
+        domain,
+        count,
+        turns,
+    }
+}
 
 #[test]
-fn lines_of_other_commands(rt: HostRuntime) -> Result<(), Fail> {
-    for line in OTHERS {
+fn lines_of_listen(rt: HostRuntime) -> Result<(), Fail> {
+    for (line, options) in [
+        (
+            ["listen", "--domain", "0", "--count", "1"].as_slice(),
+            live(0, 1, 600),
+        ),
+        (
+            [
+                "listen", "--count", "65536", "--turns", "100000", "--domain", "232",
+            ]
+            .as_slice(),
+            live(232, 65_536, 100_000),
+        ),
+    ] {
         let words = words(rt.alloc(), line)?;
-        assert_eq!(rt; read_words(rt.alloc(), words.as_slice())?, Asked::Other);
+        let request = read_words(rt.alloc(), words.as_slice())?;
+        assert_eq!(rt; request, Request::OfDomain(options));
     }
     Ok(())
 }
@@ -126,9 +150,10 @@ fn bad_lines(rt: HostRuntime) -> Result<(), Fail> {
 #[test]
 fn lines_of_faults(rt: HostRuntime) -> Result<(), Fail> {
     for (fault, line, status) in [
-        (ListenFault::NotBuilt, "not built", 2u8),
+        (ListenFault::NoText, "a word is not text", 2u8),
         (ListenFault::BadPrefix, "bad prefix", 2),
         (ListenFault::BadWriter, "bad writer", 2),
+        (ListenFault::Socket, "socket fault", 4),
         (
             ListenFault::Run(RunFault::CannotRead),
             "cannot read the file",

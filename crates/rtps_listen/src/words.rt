@@ -7,7 +7,7 @@ ghost use Rattle.rtps_listen.specs.Asked.{Asks};
 ghost use Rattle.rtps_listen.specs.Line as line;
 ghost use Rattle.rtps_listen.specs.Line.{IsPlainApp, IsPlainRule};
 
-use crate::asked::{Asked, OWN, TOPIC, asked_by};
+use crate::asked::{OWN, Request, TOPIC, asked_by};
 use clap::{Arg, ArgAction, ArgMatches, Command, Error, value_parser};
 use std::alloc::{AllocError, Global};
 use std::convert::AsStr;
@@ -71,7 +71,9 @@ fn live_command<'a>(alloc: Global) -> Result<Command<'a>, AllocError>
     ensures { IfOk result (λ c. IsPlainApp c line.live_app) }
 {
     let command = Command::new(alloc, "listen")
-        .about("Runs readers on a domain of this machine (not built yet)")
+        .about(
+            "Runs readers on the datagrams of a domain of this machine, and sends what they answer",
+        )
         .arg(domain(alloc))?
         .arg(count(alloc))?
         .arg(turns(alloc))?;
@@ -277,7 +279,7 @@ pub fn found<'a, S: AsStr>(alloc: Global, words: &'a [S]) -> Result<ArgMatches<'
 }
 
 /// Reads the words, the program's name first.
-pub fn read_words<'a, S: AsStr>(alloc: Global, words: &'a [S]) -> Result<Asked<'a>, Error>
+pub fn read_words<'a, S: AsStr>(alloc: Global, words: &'a [S]) -> Result<Request<'a>, Error>
     ensures asks { IfOk result (λ asked. Asks asked
         (subcommand_of line.listen_app (map S.text words.entry.now))) }
     ensures fails { FailsBy (fault_of line.listen_app (map S.text words.entry.now)) result }

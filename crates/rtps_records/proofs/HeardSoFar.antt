@@ -49,7 +49,7 @@ still_heard first now after datagrams new h (hears, e) = subst (HasHeard first a
   hears = Hears-kept first now after datagrams h.hears hears;
 })
 
--- no more: none stands, or it can't be received
+-- no more: none has come, or it can't be received
 pub hears_last : (first now after : Option (List (List ℕ))) (datagrams new : List (List ℕ)) (end : ReceiveEnd) → HasHeard first now datagrams
     → ¬ (end ≡ More) → HearsOne end now after datagrams new → (new ≡ datagrams) × HasHeard first after new
 unfolding HearsOne

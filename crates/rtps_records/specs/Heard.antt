@@ -11,7 +11,7 @@ Hears (Some before) None datagrams = ⊥
 Hears (Some before) (Some after) datagrams = after ≡ before ++ datagrams
 
 -- the next datagram was received, and these are the datagrams of a batch before and after it; or
--- none stands, or it can't be received
+-- none has come, or it can't be received
 unfoldable pub HearsOne : ReceiveEnd → Option (List (List ℕ)) → Option (List (List ℕ))
     → List (List ℕ) → List (List ℕ) → Type 0
 HearsOne More before after old new =

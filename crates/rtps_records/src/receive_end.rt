@@ -3,9 +3,9 @@
 /// How a batch of datagrams ends.
 #[derive(Clone, Copy, Debug, PartialEq, Eq)]
 pub enum ReceiveEnd {
-    /// More datagrams may stand.
+    /// More datagrams may have come.
     More,
-    /// No other datagram stands.
+    /// No other datagram has come.
     Drained,
     /// The next datagram can't be received.
     Fault,

@@ -17,8 +17,8 @@ use std::io;
 pub trait Receive {
     ghost heard: { Self → Option (List (List ℕ)) };
 
-    /// Receives the next datagram into the front of the room, and gives its length; `None` where no
-    /// datagram stands. A datagram that is longer than the room is cut.
+    /// Receives the next datagram into the front of the room, and gives its length; `None` where
+    /// none has come. A datagram that is longer than the room is cut.
     fn receive(&mut self, room: &mut [u8]) -> io::Result<Option<usize>>
         ensures fits { IfOk result (λ next. IfSome next (λ n. n ≤ length room.new)) }
         ensures some { IfOk result (λ next. IfSome next (λ n.
@@ -50,7 +50,7 @@ fn receive_after<S: Receive>(
 }
 
 impl<A: Allocator> Batch<A> {
-    /// Receives the next datagram, and adds it: [`ReceiveEnd::More`]. Where none stands, or at a
+    /// Receives the next datagram, and adds it: [`ReceiveEnd::More`]. Where none has come, or at a
     /// fault, nothing is added. An error is a refused growth, and then nothing is received.
     #[tactic(auto, unfolding(crate::specs::Heard::HearsOne))]
     fn receive_next<S: Receive>(&mut self, source: &mut S) -> Result<ReceiveEnd, AllocError>
@@ -73,9 +73,9 @@ impl<A: Allocator> Batch<A> {
         }
     }
 
-    /// Receives datagrams in the place of the records that are there: as many as `most`, fewer where
-    /// there is no room for a longest one after them, where no other stands, or where the next one
-    /// can't be received.
+    /// Receives datagrams in the place of the records that are there: as many as `most`, fewer
+    /// where there is no room for a longest one after them, where no other has come, or where the
+    /// next one can't be received.
     ///
     /// An error is a refused growth. The datagrams that were received until then are there, and no
     /// other one was received.

@@ -19,7 +19,7 @@ use std::thread::Threads;
 
 /// Receives datagrams, gives them to the readers of a configuration as they come, and writes the
 /// lines that [`replay`](crate::replay) writes of the same datagrams in a file; what the readers
-/// answer is sent. Whenever no other datagram stands all lines are written and flushed. With
+/// answer is sent. The lines of what came are written and flushed before more is received. With
 /// `summary` the matches and the status of each reader come at the end, also where no datagram can
 /// be received any more.
 ///

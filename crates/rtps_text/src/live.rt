@@ -35,8 +35,8 @@ impl<'c, C: TextCatalog> Live<'c, C>
 where
     C::Value: Sync,
 {
-    /// A run that took no datagram yet, and takes so many at the most. Its values are spelled by the
-    /// catalog, which is its own.
+    /// A run that took no datagram yet, and takes so many at the most. Its values are spelled by
+    /// the catalog, which is its own.
     pub(crate) fn new(
         run: RunLines<C>,
         catalog: &'c C,
@@ -73,11 +73,11 @@ where
         }
     }
 
-    /// Receives what stands, a batch at the most, gives it to the readers, writes its lines, and
+    /// Receives what has come, a batch at the most, gives it to the readers, writes its lines, and
     /// sends its answers.
     ///
-    /// `CannotWrite` where a write fails, and `NoMemory`; a front of the lines may have been written
-    /// then.
+    /// `CannotWrite` where a write fails, and `NoMemory`; a front of the lines may have been
+    /// written then.
     fn take<N: Exchange, W: Write, T: Threads + Sync>(
         &mut self,
         rt: &T,
@@ -112,7 +112,7 @@ where
         Ok(end)
     }
 
-    /// Takes batches until no datagram stands, or none may be received any more.
+    /// Takes batches until all that came was received, or no more may be.
     fn take_all<N: Exchange, W: Write, T: Threads + Sync>(
         &mut self,
         rt: &T,
@@ -142,7 +142,7 @@ where
         Ok(ReceiveEnd::Drained)
     }
 
-    /// Waits for datagrams so many times at the most, and takes each time all that stand.
+    /// Waits for datagrams so many times at the most, and takes each time all that have come.
     pub(crate) fn take_turns<N: Exchange, W: Write, T: Threads + Sync>(
         &mut self,
         rt: &T,

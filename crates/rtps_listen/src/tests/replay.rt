@@ -4,7 +4,7 @@ ghost use Rattle.std.specs.Prelude.{None};
 
 use super::words;
 use crate::answering::{RecordFiles, answer};
-use crate::asked::Asked;
+use crate::asked::{Asked, Request};
 use crate::config::config_of;
 use crate::fault::ListenFault;
 use crate::options::{Options, SamplesOptions};
@@ -27,7 +27,7 @@ const WRITER: Guid = Guid {
 };
 
 /// Options with these flags, and else those where none is given.
-fn flags(best_effort: bool, raw: bool, summary: bool) -> Options<'static> {
+pub(super) fn flags(best_effort: bool, raw: bool, summary: bool) -> Options<'static> {
     Options {
         file: "-",
         readers: 1,
@@ -61,7 +61,7 @@ fn texts(own: &'static str, fixed: Option<&'static str>) -> Options<'static> {
 /// Whether the words after `replay` are read as these options.
 fn reads(alloc: Global, line: &[&'static str], options: Options<'_>) -> Result<bool, Fail> {
     let words = words(alloc, line)?;
-    Ok(read_words(alloc, words.as_slice())? == Asked::Replay(options))
+    Ok(read_words(alloc, words.as_slice())? == Request::OfFile(Asked::Replay(options)))
 }
 
 #[test]
@@ -147,7 +147,7 @@ fn lines_of_samples(rt: HostRuntime) -> Result<(), Fail> {
         let samples = SamplesOptions { options, keep };
         assert_eq!(rt;
             read_words(rt.alloc(), words.as_slice())?,
-            Asked::Samples(samples),
+            Request::OfFile(Asked::Samples(samples)),
             "{line:?}"
         );
     }

@@ -1,20 +1,20 @@
-//! Datagrams that stand in a list are received into batches.
+//! Datagrams of a list are received into batches.
 
 use crate::{Batch, MAX_LEN, Receive, ReceiveEnd};
 use std::alloc::Global;
 use std::io::{self, Error, ErrorKind};
 use std::test::Fail;
 
-/// Gives datagrams of these lengths, each of one octet that says which it is; then none stands, or
+/// Gives datagrams of these lengths, each of one octet that says which it is; then none comes, or
 /// the next one can't be received.
 #[derive(Drop)]
-struct Standing<'a> {
+struct Coming<'a> {
     lengths: &'a [usize],
     number: u8,
     fails: bool,
 }
 
-impl Receive for Standing<'_> {
+impl Receive for Coming<'_> {
     ghost use Rattle.std.specs.Prelude.{None};
 
     ghost heard = { λ _. None };
@@ -34,8 +34,8 @@ impl Receive for Standing<'_> {
     }
 }
 
-fn source_of(lengths: &[usize], fails: bool) -> Standing<'_> {
-    Standing {
+fn source_of(lengths: &[usize], fails: bool) -> Coming<'_> {
+    Coming {
         lengths,
         number: 7,
         fails,
@@ -52,7 +52,7 @@ fn seen(alloc: Global, batch: &Batch) -> Result<Vec<(usize, u8)>, Fail> {
 }
 
 #[test]
-fn a_batch_has_the_datagrams_that_stand_in_order(rt: HostRuntime) -> Result<(), Fail> {
+fn a_batch_has_the_datagrams_that_came_in_order(rt: HostRuntime) -> Result<(), Fail> {
     let mut batch = Batch::new(rt.alloc())?;
     let mut source = source_of(&[2, 0, 3], false);
     assert_eq!(rt; batch.receive(&mut source, 2), Ok(ReceiveEnd::More));

@@ -1,4 +1,4 @@
-//! Runs over datagrams that stand in a list, as if they were received.
+//! Runs over datagrams of a list, as if they were received.
 
 ghost use Rattle.rtps_discovery.specs.Config.{check_of};
 ghost use Rattle.std.specs.Prelude.{◌≡◌, Ok};
@@ -33,7 +33,9 @@ struct Wire<'a> {
     datagrams: &'a [&'a [u8]],
     each: usize,
     after: After,
-    /// How many stand that were not received.
+    /// How many were received.
+    taken: usize,
+    /// How many have come that were not received.
     standing: usize,
     /// What was sent, and where it went.
     sent: Vec<(Locator, Vec<u8>)>,
@@ -46,6 +48,7 @@ impl<'a> Wire<'a> {
             datagrams,
             each,
             after,
+            taken: 0,
             standing: 0,
             sent: Vec::new(alloc),
             alloc,
@@ -59,7 +62,7 @@ impl Receive for Wire<'_> {
     ghost heard = { λ _. None };
 
     fn receive(&mut self, room: &mut [u8]) -> io::Result<Option<usize>> {
-        let Some((octets, rest)) = self.datagrams.split_first() else {
+        let Some(octets) = self.datagrams.get(self.taken) else {
             return match self.after {
                 After::ReceiveFails => Err(Error::from(ErrorKind::Other)),
                 _ => Ok(None),
@@ -69,7 +72,7 @@ impl Receive for Wire<'_> {
             return Ok(None);
         }
         self.standing -= 1;
-        self.datagrams = rest;
+        self.taken += 1;
         let length = room.len().min(octets.len());
         room[..length].copy_from_slice(&octets[..length]);
         Ok(Some(length))
@@ -78,10 +81,11 @@ impl Receive for Wire<'_> {
 
 impl Exchange for Wire<'_> {
     fn wait(&mut self) -> io::Result<()> {
-        if self.datagrams.is_empty() && self.after == After::WaitFails {
+        let left = self.datagrams.len().saturating_sub(self.taken);
+        if left == 0 && self.after == After::WaitFails {
             return Err(Error::from(ErrorKind::Other));
         }
-        self.standing = self.each.min(self.datagrams.len());
+        self.standing = self.each.min(left);
         Ok(())
     }
 
@@ -109,6 +113,14 @@ fn live_setup(config: Config, pace: Pace, datagrams: u32, turns: u32) -> LiveSet
     }
 }
 
+/// The two datagrams of the record file.
+fn datagrams_in(file: &[u8]) -> [&[u8]; 2] {
+    [
+        file.get(8..FIRST).unwrap_or(&[]),
+        file.get(FIRST + 4..).unwrap_or(&[]),
+    ]
+}
+
 /// What two best-effort readers print of these datagrams, and how that ends.
 fn heard<T: Threads + Sync>(
     rt: &T,
@@ -127,7 +139,7 @@ fn heard<T: Threads + Sync>(
 #[test]
 fn prints_what_comes_however_it_comes(rt: HostRuntime) -> Result<(), Fail> {
     let file = octets(rt.alloc(), &FILE)?;
-    let datagrams = [&file[8..FIRST], &file[FIRST + 4..]];
+    let datagrams = datagrams_in(&file);
     let whole = text(rt.alloc(), &LINES)?;
     let first = text(rt.alloc(), &LINES[..6])?;
     for (each, limits, said) in [
@@ -151,7 +163,7 @@ fn prints_what_comes_however_it_comes(rt: HostRuntime) -> Result<(), Fail> {
 #[test]
 fn prints_what_came_before_a_socket_fault(rt: HostRuntime) -> Result<(), Fail> {
     let file = octets(rt.alloc(), &FILE)?;
-    let datagrams = [&file[8..FIRST], &file[FIRST + 4..]];
+    let datagrams = datagrams_in(&file);
     let whole = text(rt.alloc(), &LINES)?;
     for after in [After::WaitFails, After::ReceiveFails] {
         for pace in PACES {

@@ -1,0 +1,197 @@
+#!/usr/bin/env python3
+"""Runs `listen` on the sockets of this machine, as a peer on loopback.
+
+    live.py PROGRAM
+
+Each run starts the program in domain 0, whose first participant has the ports 7410 and 7411, and looks at what it writes,
+what it sends back and how it ends. A run that fails names itself. The last line is 'N passed, M failed'.
+"""
+
+import socket
+import subprocess
+import sys
+import time
+
+HOST = "127.0.0.1"
+DISCOVERY, USER, PEER = 7410, 7411, 7412
+"""Where the program receives, and where a peer does that announces itself."""
+SECONDS = 30
+"""How long a run may take."""
+
+A, B = "0a" * 12, "0b" * 12
+"""The prefixes of a peer and of the program."""
+HEADER = "5254505302050000" + A
+WRITER = A + "00000102"
+ANNOUNCED = (
+    "15057c0000001000000100c7000100c2000000000100000000030000" + "50001000" + A + "000001c1"
+    "3200180001000000f41c0000" + "00" * 12 + "7f000001" + "3100180001000000f51c0000" + "00" * 12 + "7f000001"
+    "020008006400000000000000" + "5800040014000000" + "01000000"
+)
+"""The peer announces itself, with port 7412 for its discovery (DDSI-RTPS 8.5.3)."""
+BEATS = "07011c00" + "000003c7000003c2" + "0000000001000000" + "0000000001000000" + "01000000"
+"""Its announcer of writers says that it has number 1."""
+ASKED = (
+    "5254505302050000" + B + "0e010c00" + A + "06011c00" + "000003c7000003c2"
+    "0000000001000000" + "0100000000000080" + "01000000"
+)
+"""The number is asked for."""
+SHAPE = "00010000" + "05000000424c5545000000000a000000140000001e000000"
+"""A blue square at 10, 20 of size 30."""
+
+
+def sample(number):
+    """A datagram with a sample of this number for every reader."""
+    front = HEADER + "15053000" + "00001000" + "00000000" + "00000102" + "00000000"
+    return bytes.fromhex(front) + number.to_bytes(4, "little") + bytes.fromhex(SHAPE)
+
+
+def sample_line(datagram, number):
+    return f"{datagram}:1 reader 0 sample {WRITER} {number} - value 424c5545 10 20 30\n"
+
+
+class Unlike(Exception):
+    """What is not as it has to be."""
+
+
+def look(name, got, wanted):
+    if got != wanted:
+        raise Unlike(f"{name}: {got!r} and not {wanted!r}")
+
+
+class Running:
+    """The program, while it listens. Where it is ended early it is killed."""
+
+    def __init__(self, program, *words):
+        command = [program, "listen", "--domain", "0", *words]
+        self.process = subprocess.Popen(command, stdin=subprocess.DEVNULL, stdout=subprocess.PIPE, stderr=subprocess.PIPE)
+
+    def __enter__(self):
+        return self
+
+    def __exit__(self, *_):
+        self.process.kill()
+        self.process.communicate()
+
+    def ends(self, stdout, status=0, stderr=""):
+        """Waits until it ends, and looks at how."""
+        try:
+            out, err = self.process.communicate(timeout=SECONDS)
+        except subprocess.TimeoutExpired as late:
+            raise Unlike(f"it doesn't end within {SECONDS} seconds") from late
+        look("standard output", out.decode(), stdout)
+        look("standard error", err.decode(), stderr)
+        look("status", self.process.returncode, status)
+
+
+def peer(port=0):
+    """A socket of the peer."""
+    made = socket.socket(socket.AF_INET, socket.SOCK_DGRAM)
+    made.bind((HOST, port))
+    made.settimeout(0.05)
+    return made
+
+
+def received(own):
+    """The next datagram that comes to a socket, or None where none comes soon."""
+    try:
+        return own.recv(65_536)
+    except TimeoutError:
+        return None
+
+
+def is_bound(port):
+    """Whether a socket of this machine has a port."""
+    with open("/proc/net/udp", encoding="ascii") as table:
+        return any(line.split()[1].endswith(f":{port:04X}") for line in list(table)[1:])
+
+
+def wait_until_bound():
+    """Waits until the program has both of its ports; the one for user data is the second."""
+    for _ in range(SECONDS * 50):
+        if is_bound(USER):
+            return
+        time.sleep(0.02)
+    raise Unlike("the program binds no port")
+
+
+def answers_a_peer(program):
+    """A heartbeat of the announcer of a participant that announced itself is answered, to the locator that it named."""
+    with peer(PEER) as own, Running(program, "--count", "1") as running:
+        wait_until_bound()
+        octets, answer = bytes.fromhex(HEADER + ANNOUNCED + BEATS), None
+        for _ in range(100):
+            own.sendto(octets, (HOST, DISCOVERY))
+            answer = received(own)
+            if answer:
+                break
+        look("the answer", (answer or b"").hex(), ASKED)
+        running.ends(f"0:2 answer 127.0.0.1:7412 {ASKED}\n")
+
+
+def prints_what_comes_in_order(program):
+    """Each sample is printed once, in order, by batches and workers of any number, and the summary comes last."""
+    for words in ([], ["--batch", "1"], ["--batch", "7", "--workers", "2"], ["--workers", "7"]):
+        with peer() as own, Running(program, "--count", "60", "--fixed", WRITER, "--summary", *words) as running:
+            wait_until_bound()
+            for number in range(1, 61):
+                own.sendto(sample(number), (HOST, USER))
+            lines = "".join(sample_line(number - 1, number) for number in range(1, 61))
+            running.ends(f"{lines}match 0 {WRITER}\nstatus 0 1 1 0 - 0 60\n")
+
+
+def prints_at_once(program):
+    """A line can be read before the program ends, which takes no datagram after the last that it was asked for."""
+    with peer() as own, Running(program, "--count", "2", "--fixed", WRITER) as running:
+        wait_until_bound()
+        own.sendto(sample(1), (HOST, USER))
+        look("the first line", running.process.stdout.readline().decode(), sample_line(0, 1))
+        for number in (2, 3):
+            own.sendto(sample(number), (HOST, USER))
+        running.ends(sample_line(1, 2))
+
+
+def ends_after_its_turns(program):
+    """Where nothing comes it ends all the same."""
+    with Running(program, "--count", "1", "--turns", "2", "--summary") as running:
+        running.ends("status 0 0 0 0 - 0 0\n")
+
+
+def says_that_a_port_is_taken(program):
+    with peer(USER), Running(program, "--count", "1", "--turns", "2") as running:
+        running.ends("", 4, "rtps_listen: socket fault\n")
+
+
+def refuses_bad_options_first(program):
+    with peer(USER), Running(program, "--count", "1", "--own", "0b") as running:
+        running.ends("", 2, "rtps_listen: bad prefix\n")
+    with peer(USER), Running(program, "--count", "1", "--fixed", "0b") as running:
+        running.ends("", 2, "rtps_listen: bad writer\n")
+
+
+RUNS = (
+    answers_a_peer,
+    prints_what_comes_in_order,
+    prints_at_once,
+    ends_after_its_turns,
+    says_that_a_port_is_taken,
+    refuses_bad_options_first,
+)
+
+
+def main():
+    if len(sys.argv) != 2:
+        print(__doc__, file=sys.stderr)
+        return 2
+    passed = 0
+    for run in RUNS:
+        try:
+            run(sys.argv[1])
+            passed += 1
+        except (Unlike, OSError) as fault:
+            print(f"{run.__name__}: {fault}")
+    print(f"{passed} passed, {len(RUNS) - passed} failed")
+    return int(passed != len(RUNS))
+
+
+if __name__ == "__main__":
+    sys.exit(main())
