@@ -1,6 +1,8 @@
 """The crates that crates.txt names, and sums of what they hold."""
 
 import hashlib
+import os
+import re
 import subprocess
 from dataclasses import dataclass
 from pathlib import Path
@@ -61,6 +63,21 @@ def crates_in(top):
     return sorted(map(make, lines), key=lambda crate: len(crate.below))
 
 
+def strays(top, crates):
+    """The .rt and .antt files of a repository that no check reads."""
+    read = {path for crate in crates for part in PARTS for path in crate.files(part) if (path.suffix == ".rt") == (part == "src")}
+    found = []
+    for at, folders, files in os.walk(top):
+        folders[:] = [name for name in folders if name not in ("out", ".git")]
+        found += [Path(at, name) for name in files if name.endswith((".rt", ".antt"))]
+    return sorted(path.relative_to(top) for path in set(found) - read)
+
+
+def handles_in(top):
+    """The words of the file HANDLES."""
+    return set(re.findall(r"Threads|Wait|Net|Processes", (top / "HANDLES").read_text(encoding="utf-8")))
+
+
 def sum_of(files, top):
     """One sum of the names and the contents of files below a folder."""
     total = hashlib.sha256()
@@ -70,12 +87,18 @@ def sum_of(files, top):
     return total.hexdigest()
 
 
-def proof_sum(crate, toolchain):
-    """A sum of all that the proof of a crate hangs on: its files, the crates below it, the toolchain."""
-    total = hashlib.sha256(toolchain.encode())
-    for each in (*crate.below, crate):
-        total.update(f"{each.line}\n{sum_of(each.files(), each.folder)}\n".encode())
-    return total.hexdigest()
+def tree_sum(folder):
+    return sum_of(sorted(path for path in folder.rglob("*") if path.is_file()), folder)
+
+
+def joined_sum(*parts):
+    """One sum of texts."""
+    return hashlib.sha256("\n".join(parts).encode()).hexdigest()
+
+
+def sources_sum(crate, toolchain):
+    """A sum of all that a crate is built from: its files, those of the crates below it, the toolchain."""
+    return joined_sum(toolchain, *(f"{each.line}\n{sum_of(each.files(), each.folder)}" for each in (*crate.below, crate)))
 
 
 def shown_sum(crate):

@@ -1,8 +1,8 @@
-"""Work that runs on this machine leave to later ones: the out folder of each crate, and which edits were refused.
+"""What runs on this machine leave to later ones: the out folder of each crate, and a record of what passed.
 
-A kept folder is sealed with a sum of its files and the line of the toolchain that made it. One that is cut, changed or
-of another toolchain is not taken, so the crate is proved from nothing. What of a kept folder still holds is judged by
-the checker, by content; the seal only says that the folder is what a run left.
+The record has, by name of a task that passed, a sum of all that it hangs on, and of each kept folder a sum of its files
+and of the toolchain that made it. A folder that is cut, changed or of another toolchain is not taken, so the crate is
+proved from nothing. What of a kept folder still holds is judged by the checker, by content.
 """
 
 import fcntl
@@ -14,10 +14,9 @@ from concurrent.futures import ThreadPoolExecutor
 from contextlib import contextmanager
 from pathlib import Path
 
-from gate.crates import sum_of
+from gate.crates import joined_sum, tree_sum
 
-SEAL = "seal.json"
-EDITS = "edits.json"
+RECORD = "record.json"
 
 
 def default_folder():
@@ -33,25 +32,19 @@ def default_folder():
 
 
 def link_tree(source, target):
-    """Copies a folder by links where they can be made. The toolchain writes each file of its work anew, never in place;
-    files right in the folder, as programs, are written in place, and copied."""
-    target.mkdir(parents=True, exist_ok=True)
-    for at, folders, files in os.walk(source):
-        to = target / os.path.relpath(at, source)
-        for name in folders:
-            (to / name).mkdir(exist_ok=True)
-        for name in files:
-            if at == str(source):
-                shutil.copy2(os.path.join(at, name), to / name)
-                continue
-            try:
-                os.link(os.path.join(at, name), to / name)
-            except OSError:
-                shutil.copy2(os.path.join(at, name), to / name)
+    """Copies an out folder, or one in it, by links where they can be made."""
+    shutil.copytree(source, target, copy_function=linked, dirs_exist_ok=True)
 
 
-def tree_sum(folder):
-    return sum_of(sorted(path for path in folder.rglob("*") if path.is_file()), folder)
+def linked(source, target):
+    """Links a file of the toolchain's, which it writes anew and never in place; one right in an out folder, as a program,
+    is written in place, and copied."""
+    try:
+        if Path(source).parent.name == "out":
+            raise OSError
+        os.link(source, target)
+    except OSError:
+        shutil.copy2(source, target)
 
 
 class Kept:
@@ -67,21 +60,17 @@ class Kept:
             fcntl.flock(lock, fcntl.LOCK_EX)
             yield
 
-    def is_whole(self, name):
-        """Whether what is kept of a crate is what a run left, by this toolchain."""
-        try:
-            seal = json.loads((self.folder / name / SEAL).read_text(encoding="utf-8"))
-            made_by, total = seal["toolchain"], seal["sum"]
-        except (OSError, ValueError, KeyError, TypeError):
-            return False
-        return made_by == self.toolchain and total == tree_sum(self.folder / name / "out")
+    def seal(self, folder):
+        """A sum of a kept folder, and of the toolchain that made it."""
+        return joined_sum(self.toolchain, tree_sum(folder / "out"))
 
     def take(self, crate):
         """Gives a crate the work that is kept, where it has none of its own, and returns whether it did."""
-        if (crate.out / "incremental").is_dir() or not self.is_whole(crate.name):
+        folder = self.folder / crate.name
+        if (crate.out / "incremental").is_dir() or not self.passed(f"{crate.name}: kept", self.seal(folder)):
             return False
         shutil.rmtree(crate.out, ignore_errors=True)
-        link_tree(self.folder / crate.name / "out", crate.out)
+        link_tree(folder / "out", crate.out)
         return True
 
     def take_all(self, crates):
@@ -95,33 +84,36 @@ class Kept:
         the work changes, nothing is kept of the crate, so it is proved from nothing next time."""
         if not (crate.out / "incremental").is_dir():
             return
-        made, old = self.folder / f"{crate.name}.new", self.folder / f"{crate.name}.old"
+        made, kept = self.folder / f"{crate.name}.new", self.folder / crate.name
         with self.locked():
-            for each in (made, old):
-                shutil.rmtree(each, ignore_errors=True)
-            if (self.folder / crate.name).exists():
-                os.rename(self.folder / crate.name, old)
+            shutil.rmtree(made, ignore_errors=True)
+            shutil.rmtree(kept, ignore_errors=True)
             try:
                 link_tree(crate.out, made / "out")
-                seal = {"toolchain": self.toolchain, "sum": tree_sum(made / "out")}
-                (made / SEAL).write_text(json.dumps(seal), encoding="utf-8")
-                os.rename(made, self.folder / crate.name)
+                os.rename(made, kept)
+                self.note_locked(f"{crate.name}: kept", self.seal(kept), 1)
             except OSError:
                 shutil.rmtree(made, ignore_errors=True)
-            shutil.rmtree(old, ignore_errors=True)
 
-    def refused(self):
-        """By crate, the sum of all that its edits hung on when each of them was refused."""
+    def record(self):
+        """By name of a task, the sum of all that it hung on when it passed, and how much it passed with."""
         try:
-            found = json.loads((self.folder / EDITS).read_text(encoding="utf-8"))
-        except (OSError, ValueError):
+            found = json.loads((self.folder / RECORD).read_text(encoding="utf-8"))
+            return {name: (total, int(count)) for name, (total, count) in found.items()}
+        except (OSError, ValueError, TypeError, AttributeError):
             return {}
-        return found if isinstance(found, dict) else {}
 
-    def keep_refused(self, name, total):
-        """Records that each edit of a crate was refused."""
+    def passed(self, name, total):
+        """How much a task passed with, where it did with all that it hangs on as it is; else 0."""
+        found, count = self.record().get(name, ("", 0))
+        return count if found == total else 0
+
+    def note(self, name, total, count):
+        """Records that a task passed."""
         with self.locked():
-            found = {**self.refused(), name: total}
-            made = self.folder / f"{EDITS}.new"
-            made.write_text(json.dumps(found, indent=1), encoding="utf-8")
-            os.rename(made, self.folder / EDITS)
+            self.note_locked(name, total, count)
+
+    def note_locked(self, name, total, count):
+        made = self.folder / f"{RECORD}.new"
+        made.write_text(json.dumps({**self.record(), name: (total, count)}, indent=1), encoding="utf-8")
+        os.rename(made, self.folder / RECORD)

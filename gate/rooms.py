@@ -38,54 +38,54 @@ class Rooms:
     def __init__(self, folder):
         self.folder = folder
         self.count = 0
+        self.shows = {}
+        """By crate, a sum of what its library shows."""
         self.locks = defaultdict(threading.Lock)
         shutil.rmtree(folder, ignore_errors=True)
 
     @contextmanager
-    def of(self, crates):
-        """A repository of these crates alone, each with its library, the last one, lowest first, with all its work."""
+    def room(self, crate, texts=None):
+        """A copy of a crate with the work that it has so far and with the libraries below it, some of its files with
+        texts of their own."""
         with self.locks[""]:
             self.count += 1
             at = self.folder / str(self.count)
         try:
-            for each in crates:
-                is_last = each is crates[-1]
+            for each in (*crate.below, crate):
+                is_last = each is crate
                 copied(each, at / "crates" / each.name, PARTS + BESIDE * is_last)
                 for part in ("rlib", "incremental") if is_last else ("rlib",):
                     with self.locks[each.name]:
                         if (each.out / part).is_dir():
                             link_tree(each.out / part, at / "crates" / each.name / "out" / part)
-            (at / "crates.txt").write_text("".join(f"{each.line}\n" for each in crates), encoding="utf-8")
-            yield at
-        finally:
-            shutil.rmtree(at, ignore_errors=True)
-
-    @contextmanager
-    def room(self, crate, texts=None):
-        """A copy of a crate with the work that it has so far, some of its files with texts of their own."""
-        with self.of((*crate.below, crate)) as at:
-            inside = Crate(crate.name, at / "crates" / crate.name, crate.line, crate.below)
+            (at / "crates.txt").write_text("".join(f"{each.line}\n" for each in (*crate.below, crate)), encoding="utf-8")
+            below = tuple(Crate(each.name, at / "crates" / each.name, each.line, ()) for each in crate.below)
+            inside = Crate(crate.name, at / "crates" / crate.name, crate.line, below)
             for path, text in (texts or {}).items():
                 (inside.folder / path).write_text(text, encoding="utf-8")
             yield inside
+        finally:
+            shutil.rmtree(at, ignore_errors=True)
 
     def shown(self, crate):
         """A sum of what a crate's library shows, made while no task puts another library in its place."""
         with self.locks[crate.name]:
-            return shown_sum(crate)
+            if crate.name not in self.shows:
+                self.shows[crate.name] = shown_sum(crate)
+            return self.shows[crate.name]
 
     def adopt(self, crate, inside):
         """Gives a crate the work that was done in a room."""
         with self.locks[crate.name]:
+            self.shows.pop(crate.name, None)
             crate.out.mkdir(exist_ok=True)
             for part in ("rlib", "incremental"):
                 if (inside.out / part).is_dir():
                     shutil.rmtree(crate.out / part, ignore_errors=True)
                     (inside.out / part).rename(crate.out / part)
-            if (inside.out / crate.name).is_file():
-                for path in (inside.out / crate.name, inside.out / f"{crate.name}.stamp"):
-                    if path.is_file():
-                        path.replace(crate.out / path.name)
+            for path in (inside.out / crate.name, inside.out / f"{crate.name}.stamp"):
+                if path.is_file():
+                    path.replace(crate.out / path.name)
 
 
 def copied(crate, to, parts):

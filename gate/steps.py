@@ -1,19 +1,18 @@
 """What is done for each crate: its proof, its tests, its edits, and where it is a program, its runs."""
 
-import hashlib
 import re
 import shutil
 import subprocess
 import tempfile
-from dataclasses import dataclass, field, replace
+from dataclasses import dataclass
+from functools import partial
 from pathlib import Path
 
 from gate import edits as editing
-from gate.crates import PARTS, TOP, proof_sum, sum_of
-from gate.rooms import copied
+from gate.crates import PARTS, TOP, joined_sum, sources_sum, strays, sum_of
+from gate.rooms import BESIDE, copied
 from gate.tasks import Done, Task, run
 
-REFUSED_BY = TOP / "gate" / "refused_by.txt"
 LISTENER = "rtps_listen"
 """The program of the conformance rows, and of ./run."""
 SCRIPTS = (
@@ -22,6 +21,8 @@ SCRIPTS = (
     ("a peer on loopback", "live.py"),
 )
 """What is run on it: its name, and its file in conformance/."""
+TEST_SECONDS = "300"
+"""How long the tests of a crate may run once they are built."""
 FIRST = 1e9
 """The work of a task that nothing is to come before."""
 NOT_HERE = {"foreign", "hides", "partial", "may-abort", "may-serve", "bugs"}
@@ -35,94 +36,122 @@ class Gate:
     kept: object
     handles: set
     """Words of the file HANDLES."""
-    waiting: dict = field(default_factory=dict)
-    """By crate, how many of its edits aren't refused yet."""
+    code: str = ""
+    """A sum of the code that judges, and of HANDLES."""
 
 
-def handles_in(top):
-    """The words of the file HANDLES."""
-    text = (top / "HANDLES").read_text(encoding="utf-8")
-    found = re.fullmatch(r"Handles allowed: (none|[A-Za-z, ]+)\.\s*", text)
-    return set(found[1].split(", ")) - {"none"} if found else set()
+def code_sum(top):
+    """A sum of the code that judges, and of the file HANDLES."""
+    found = [path for path in sorted((top / "gate").glob("*.py")) if path.name != "tests.py"]
+    return sum_of([top / "check", top / "HANDLES", *found], top)
 
 
 def beyond(text, handles):
     """What a check's output says that no verdict may rest on, though the crate is proved."""
-    warned = next((line for line in text.splitlines() if line.startswith("rt: warning: ")), None)
-    if warned:
-        return warned
-    last = next((line for line in reversed(text.splitlines()) if line.startswith("logic=proved ")), "")
+    last = ([""] + re.findall(r"^logic=proved .*", text, re.MULTILINE))[-1]
     said = dict(word.partition("=")[::2] for word in last.split())
-    takes = set(filter(None, said.get("main", "").split("+"))) | ({"Wait"} if "may-wait" in said else set())
-    if NOT_HERE & said.keys():
-        return f"its last line has {', '.join(sorted(NOT_HERE & said.keys()))}"
-    if takes - handles:
-        return f"it takes handles beyond HANDLES: {', '.join(sorted(takes - handles))}"
-    return None if last else "the check ended without a verdict"
+    takes = set(said.get("main", "").split("+")) - {""} | ({"Wait"} if "may-wait" in said else set())
+    warned = re.search(r"^rt: warning: .*", text, re.MULTILINE)
+    if warned or not last:
+        return warned[0] if warned else "the check ended without a verdict"
+    faults = [f"its last line has {word}" for word in NOT_HERE & said.keys()]
+    return ", ".join(faults + [f"it takes {word}, beyond HANDLES" for word in takes - handles])
 
 
 def unmet(text):
     """What a check that looked for them says of contracts that no call can meet, where there are any."""
     found = re.search(r"^empty contracts: (\d+) found; tried (\d+) of (\d+) functions$", text, re.MULTILINE)
-    if not found:
-        return "the check didn't say whether each contract can be met"
-    if found[1] != "0":
-        return f"{found[1]} contracts that no call can meet"
-    return None if found[2] == found[3] else f"only {found[2]} of {found[3]} contracts were tried"
-
-
-def laid_out(crate, folder):
-    """The files of a crate, copied to a folder, which rt fmt lays out otherwise there, and what it says where it fails."""
-    copied(crate, folder / "crates" / crate.name, PARTS)
-    (folder / "crates.txt").write_text(f"{crate.line}\n", encoding="utf-8")
-    inside = folder / "crates" / crate.name
-    ran = run(["rt", "fmt"], inside)
-    files = [path.relative_to(crate.folder) for path in crate.files()]
-    other = [f"{crate.name}/{path}" for path in files if (inside / path).read_bytes() != (crate.folder / path).read_bytes()]
-    return other, (f"{crate.name}: {ran.text}" if ran.status else "")
-
-
-def layout(gate):
-    """Has rt fmt lay out a copy of each crate: none of its files may change."""
-    other, faults = [], ""
-    with tempfile.TemporaryDirectory() as room:
-        for crate in gate.crates:
-            found, said = laid_out(crate, Path(room) / crate.name)
-            other, faults = other + found, faults + said
-    if other or faults:
-        return failure("layout", faults + "".join(f"{name} is not in the layout of rt fmt\n" for name in other))
-    return Done(1, says="every file is as rt fmt lays it out")
+    if found and found[1] == "0" and found[2] == found[3]:
+        return ""
+    return found[0] if found else "the check didn't say whether each contract can be met"
 
 
 def failure(name, shows, seconds=0.0):
-    return Done(failed=[name], shows=shows.rstrip()[-6000:], seconds=seconds)
+    return Done(failed={name: shows.rstrip()[-6000:]}, seconds=seconds)
 
 
-def prove(gate, crate, jobs):
-    """Proves a crate over the work that is kept, and builds its library for those above."""
+def once(gate, name, total, call, is_there=True):
+    """Does a task, or nothing where it passed before with all that it hangs on as it is now, and what it left is there."""
+    now = total()
+    count = gate.kept.passed(name, now)
+    if count and is_there:
+        return Done(count, says="passed before, and nothing that it hangs on has changed")
+    done = call()
+    if not done.failed:
+        gate.kept.note(name, now, done.passed)
+    return done
+
+
+def shown_total(gate, crate):
+    """A sum of all that a crate's proof hangs on but for what judges it: its files, what the libraries below it show to
+    it, the toolchain. No body of a crate below is among them: proofs here see its contracts alone."""
+    below = (f"{each.line}\n{gate.rooms.shown(each)}" for each in crate.below)
+    return joined_sum(gate.kept.toolchain, *below, crate.line, sum_of(crate.files(), crate.folder))
+
+
+def run_total(gate, crate, beside=()):
+    """A sum of all that a run of a crate's code hangs on: the sources of it and below, files beside them, what judges."""
+    found = sorted(path for each in beside for path in (each.rglob("*") if each.is_dir() else [each]) if path.is_file())
+    found = [path for path in found if "__pycache__" not in path.parts]
+    return joined_sum(gate.code, sources_sum(crate, gate.kept.toolchain), sum_of(found, TOP))
+
+
+def layout(gate):
+    """Has rt fmt lay out a copy of each crate: none of its files may change, and no check may leave one out."""
+    other = [f"{path}: no check reads it" for path in strays(TOP, gate.crates)]
+    with tempfile.TemporaryDirectory() as room:
+        for crate in gate.crates:
+            other += laid_out(crate, Path(room) / crate.name)
+    return failure("layout", "\n".join(other)) if other else Done(1, says="every file is as rt fmt lays it out")
+
+
+def laid_out(crate, folder):
+    """What rt fmt says of a copy of a crate where it fails, and which files it lays out otherwise there."""
+    inside = folder / "crates" / crate.name
+    copied(crate, inside, PARTS)
+    (folder / "crates.txt").write_text(f"{crate.line}\n", encoding="utf-8")
+    ran = run(["rt", "fmt"], inside)
+    other = [path for path in crate.files() if path.read_bytes() != (inside / path.relative_to(crate.folder)).read_bytes()]
+    said = [f"{path.relative_to(crate.folder.parent)} is not in the layout of rt fmt" for path in other]
+    return [f"{crate.name}: {ran.text}", *said] if ran.status else said
+
+
+def prove(gate, crate, jobs, is_judged=True):
+    """Proves a crate over the work that is kept, unless it is known to be proved, and has rt build its library, which it
+    does where a file changed that it is made from. What is not judged is proved by that alone, and not recorded."""
+    total = joined_sum(gate.code, shown_total(gate, crate))
+    is_known = is_judged and gate.kept.passed(crate.name, total) > 0
+    words = [["rt", "check", "--empty-contracts"]] * (is_judged and not is_known) + [["rt", "lib"]] * (not crate.is_program)
+    seconds, said = 0.0, ""
     with gate.rooms.room(crate) as inside:
-        words = [["rt", "check", "--empty-contracts"]] + [["rt", "lib"]] * (not crate.is_program)
-        seconds = 0.0
         for each in words:
             ran = run([*each, "--jobs", str(jobs)], inside.folder)
-            seconds += ran.seconds
-            why = (beyond(ran.text, gate.handles) or unmet(ran.text)) if each[1] == "check" else None
+            seconds, said = seconds + ran.seconds, said + ran.text
+            why = (beyond(ran.text, gate.handles) or unmet(ran.text)) if each[1] == "check" else ""
             if ran.status or why:
                 return failure(crate.name, f"{ran.text}{crate.name}: {why or 'not proved'}", seconds)
-        gate.rooms.adopt(crate, inside)
-    gate.kept.keep(crate)
-    return Done(1, says="proved", seconds=seconds)
+        if said or not is_known:
+            gate.rooms.adopt(crate, inside)
+            gate.kept.keep(crate)
+    if is_judged:
+        gate.kept.note(crate.name, total, 1)
+    return Done(1, says="proved before" if is_known else "proved", seconds=seconds)
 
 
-def test(gate, crate, jobs):
-    """Proves and runs the tests of a crate."""
+def passes(name, words, folder, pattern):
+    """Runs a command, which has to end well and to print such lines; of a pattern with a group this is how much passed."""
+    ran = run(words, folder)
+    found = re.search(pattern, ran.text, re.MULTILINE)
+    if ran.status or not found:
+        return failure(name, ran.text, ran.seconds)
+    return Done(int(found[1]) if found.groups() else 1, says=found[0].strip().rpartition("\n")[2], seconds=ran.seconds)
+
+
+def test(gate, crate):
+    """Runs the tests of a crate by a build that stops at a sum that wraps, and at an index or an access out of bounds."""
     with gate.rooms.room(crate) as inside:
-        ran = run(["rt", "test", "--jobs", str(jobs)], inside.folder)
-        if ran.status or "test result: ok." not in ran.text:
-            return failure(f"{crate.name} (tests)", ran.text, ran.seconds)
-        gate.rooms.adopt(crate, inside)
-    gate.kept.keep(crate)
-    return Done(1, says="proved and passed", seconds=ran.seconds)
+        words = ["rt", "try", "--test", "--seconds", TEST_SECONDS]
+        return passes(f"{crate.name}: tests", words, inside.folder, r"^test result: ok\..*")
 
 
 def build(gate, crate, jobs, backends=("rattle", "llvm")):
@@ -132,7 +161,7 @@ def build(gate, crate, jobs, backends=("rattle", "llvm")):
     with gate.rooms.room(crate) as inside:
         for backend in backends:
             (inside.out / crate.name).unlink(missing_ok=True)
-            ran = run(["rt", "run", "--backend", backend, "--jobs", str(jobs)], inside.folder, "RDG1")
+            ran = run(["rt", "run", "--backend", backend, "--jobs", str(jobs)], inside.folder)
             seconds += ran.seconds
             if not (inside.out / crate.name).is_file():
                 return failure(f"{crate.name} (built by {backend})", ran.text, seconds)
@@ -140,7 +169,7 @@ def build(gate, crate, jobs, backends=("rattle", "llvm")):
             if fault:
                 return failure(f"{crate.name} (run as {backend} built it)", fault, seconds)
         gate.rooms.adopt(crate, inside)
-    built_from(crate).write_text(proof_sum(crate, gate.kept.toolchain), encoding="utf-8")
+        built_from(crate).write_text(sources_sum(inside, gate.kept.toolchain), encoding="utf-8")
     gate.kept.keep(crate)
     return Done(1, says=f"built by {' and '.join(backends)}, and ran", seconds=seconds)
 
@@ -162,144 +191,107 @@ def run_fault(inside):
     return f"status {done.returncode}; it wrote {done.stdout[-300:]!r}; standard error {done.stderr[-300:]!r}"
 
 
-def whole(gate):
-    """Has rt judge the repository as a whole, over the work that proved it."""
-    with gate.rooms.of(gate.crates) as at:
-        ran = run(["rt", "all", "check", "--jobs", "1"], at)
-    if ran.status or beyond(ran.text, gate.handles):
-        return failure("rt all check", f"{ran.text}\n{beyond(ran.text, gate.handles) or ''}", ran.seconds)
-    return Done(says=ran.text.splitlines()[-1], seconds=ran.seconds)
-
-
 def built_from(crate):
     """The file that has the sum of all that a program was built from."""
     return crate.out / f"{crate.name}.sum"
 
 
-def is_built(gate, crate):
+def is_built(crate, toolchain):
     """Whether the program that is there was built from what the crates hold now."""
     try:
-        return (crate.out / crate.name).is_file() and built_from(crate).read_text() == proof_sum(crate, gate.kept.toolchain)
+        return (crate.out / crate.name).is_file() and built_from(crate).read_text() == sources_sum(crate, toolchain)
     except OSError:
         return False
 
 
-def runs(crate, name, script):
-    """Runs a script of conformance/ on the program."""
-    ran = run(["python3", str(TOP / "conformance" / script), str(crate.out / crate.name)], TOP)
-    counts = re.search(r"(\d+) passed, (\d+) failed\s*\Z", ran.text)
-    if not counts or ran.status or int(counts[2]):
-        return failure(name, ran.text, ran.seconds)
-    return Done(int(counts[1]), says=f"{counts[1]} runs passed", seconds=ran.seconds)
+def read_edits(crate, folders):
+    """The edits of a crate in these folders, and by name the fault of each file that is none, or can't be applied."""
+    found, faults = [], {}
+    for path in sorted(path for folder in folders for path in (crate.folder / folder).glob("*")):
+        try:
+            if path.suffix != ".edit":
+                raise editing.BadEdit("a file of edits ends in .edit")
+            edit = editing.read_edit(path)
+            editing.applied([edit], crate.folder)
+            found.append(edit)
+        except (editing.BadEdit, ValueError) as fault:
+            faults[f"{crate.name}/{path.name}"] = f"{crate.name}/{path.name}: BAD EDIT: {fault}"
+    return found, faults
 
 
-def edits_sum(crate, toolchain, rooms):
-    """A sum of all that the refusals of a crate's edits hang on: its files, its edits, what the libraries below it show
-    to it, the toolchain, and this judge. No body of a crate below is among them: proofs here see its contracts alone."""
-    found = sorted((crate.folder / "must-fail").glob("*"))
+def try_edits(gate, crate, folders, jobs):
+    """Tries those of a crate's edits that weren't refused before with all that they hang on as it is now: several in one
+    check, and alone each that is not refused there."""
     judge = Path(editing.__file__)
-    below = [f"{each.line}\n{rooms.shown(each)}" for each in crate.below]
-    own = [crate.line, sum_of(crate.files(), crate.folder), sum_of(found, crate.folder), sum_of([judge], judge.parent)]
-    return hashlib.sha256("\n".join([toolchain, *below, *own]).encode()).hexdigest()
-
-
-def try_edits(gate, crate, group, is_whole, jobs):
-    """Tries edits in one check of a copy of a crate: of the modules of their functions, or for one that is alone of
-    the function that is known to refuse it, else of the whole crate. Those that leave a doubt are tried again, or alone."""
-    texts = {}
-    for edit in group:
-        editing.apply(edit, texts, crate.folder)
-    known = [edit.by for edit in group if edit.by and is_whole]
-    asked = known if is_whole else dict.fromkeys(edit.function.asked(crate.name) for edit in group)
-    words = [word for path in asked for word in ("--only", path)]
-    with gate.rooms.room(crate, texts) as inside:
-        ran = run(["rt", "check", "--jobs", str(jobs), *words], inside.folder)
-    lines = ran.text.splitlines()
-    done = Done(seconds=ran.seconds)
-    if known:
-        refused = group if editing.is_refused_by(group[0], ran.status, lines) else []
-        done.says = "refused" if refused else "to be tried by a check of the whole crate"
-        done.more = [] if refused else [edits_task(gate, crate, [replace(group[0], by="")], True)]
-    elif is_whole:
-        is_refused, done.says = editing.judge_alone(group[0], ran.status, lines)
-        refused = group if is_refused else []
-        if not is_refused:
-            done.failed = [f"{crate.name}/{group[0].name}"]
-            done.shows = "\n".join([f"{crate.name}/{group[0].name}: {done.says}", *lines[-20:]])
-    else:
-        refused, again, alone = editing.after_group(group, crate.name, lines)
-        done.says = f"{len(refused)} of {len(group)} refused"
-        done.says += f", {len(again)} to be tried again" if again else ""
-        done.says += f", {len(alone)} to be tried alone" if alone else ""
-        done.more = [edits_task(gate, crate, again)] if again else []
-        done.more += [edits_task(gate, crate, [edit], True) for edit in alone]
-    done.passed = len(refused)
-    gate.waiting[crate.name] -= len(refused)
-    if not gate.waiting[crate.name]:
-        gate.kept.keep_refused(crate.name, edits_sum(crate, gate.kept.toolchain, gate.rooms))
+    base = joined_sum(sum_of([judge], judge.parent), shown_total(gate, crate))
+    found, faults = read_edits(crate, folders)
+    done, checks = Done(failed=faults), 0
+    left = [edit for edit in found if not gate.kept.passed(f"{crate.name}/{edit.name}", joined_sum(base, repr(edit)))]
+    groups = editing.groups_of(left, crate.folder)
+    while groups:
+        group, checks = groups.pop(0), checks + 1
+        said, seconds = judged(gate, crate, group, jobs)
+        done.seconds += seconds
+        for edit, why in said.items():
+            name = f"{crate.name}/{edit.name}"
+            if not why:
+                gate.kept.note(name, joined_sum(base, repr(edit)), 1)
+            elif len(group) > 1:
+                groups.append([edit])
+            else:
+                done.failed[name] = f"{name}: {why}"
+    done.passed = len(found) - sum(f"{crate.name}/{edit.name}" in done.failed for edit in found)
+    done.says = f"{done.passed} refused, {len(found) - len(left)} of them before; {checks} checks"
     return done
 
 
-def edits_task(gate, crate, group, is_whole=False):
-    names = group[0].name if len(group) == 1 else f"{len(group)} edits from {group[0].name} on"
-    names += ", alone" if is_whole else ""
-    work = crate.lines() * (0.1 + 0.03 * len(group))
-    call = lambda jobs: try_edits(gate, crate, group, is_whole, jobs)
-    return Task(f"{crate.name}: {names}", call, (crate.name,), work)
+def judged(gate, crate, group, jobs):
+    """By edit of a group, why a check of the functions that they name doesn't refuse it, or None; and its seconds."""
+    words = [word for edit in group for word in ("--only", f"{crate.name}::{edit.by}")]
+    with gate.rooms.room(crate, editing.applied(group, crate.folder)) as inside:
+        ran = run(["rt", "check", "--jobs", str(jobs), *words], inside.folder)
+    lines = ran.text.splitlines()
+    ended = None if ran.status == 1 else f"NOT REFUSED: the check ended with status {ran.status}"
+    return {edit: editing.judge(edit, crate.name, lines) or ended for edit in group}, ran.seconds
 
 
-def look_at_edits(gate, crate, found):
-    """Has a crate's edits tried where anything that they hang on has changed since all of them were refused."""
-    if gate.kept.refused().get(crate.name) == edits_sum(crate, gate.kept.toolchain, gate.rooms):
-        return Done(len(found), says=f"{len(found)} were refused, and nothing that they hang on has changed")
-    groups, whole = editing.groups_of(found, crate.folder)
-    more = [edits_task(gate, crate, group) for group in groups]
-    more += [edits_task(gate, crate, [edit], True) for edit in whole]
-    return Done(says=f"{len(found)} to be tried in {len(more)} checks", more=more)
+def edits_tasks(gate, crates, folders=("must-fail",)):
+    """A task for the edits of each crate."""
+    for crate in crates:
+        if any((crate.folder / folder).is_dir() for folder in folders):
+            call = lambda jobs, crate=crate: try_edits(gate, crate, folders, jobs)
+            yield Task(f"{crate.name}: edits", call, (crate.name,), crate.lines() / 2)
 
 
-def edits_tasks(gate, crate):
-    """A task that looks whether a crate's edits are to be tried, and the names and faults of those that can't be
-    applied; a crate with such an edit has all others tried."""
-    files = sorted((crate.folder / "must-fail").glob("*")) if (crate.folder / "must-fail").is_dir() else []
-    found, bad, known = [], [], editing.refusers(REFUSED_BY.read_text(encoding="utf-8"))
-    for path in files:
-        try:
-            if path.suffix != ".edit":
-                raise editing.BadEdit("a file of must-fail ends in .edit")
-            edit = replace(editing.read_edit(path), by=known.get(f"{crate.name}/{path.stem}", ""))
-            editing.apply(edit, {}, crate.folder)
-            found.append(edit)
-        except (editing.BadEdit, ValueError) as fault:
-            bad.append((f"{crate.name}/{path.name}", str(fault)))
-    gate.waiting[crate.name] = len(found) + len(bad)
-    if not found:
-        return [], bad
-    call = lambda jobs: look_at_edits(gate, crate, found)
-    return [Task(f"{crate.name}: edits", call, (crate.name,), crate.lines())], bad
-
-
-def proof_tasks(gate, crates):
+def proof_tasks(gate, crates, is_judged=True):
     """A task for the proof of each crate."""
     for crate in crates:
         waits = tuple(each.name for each in crate.below)
-        yield Task(crate.name, lambda jobs, crate=crate: prove(gate, crate, jobs), waits, crate.lines())
+        yield Task(crate.name, lambda jobs, crate=crate: prove(gate, crate, jobs, is_judged), waits, crate.lines())
 
 
 def other_tasks(gate):
-    """Tasks for the layout, the tests, the programs, the rows, and the repository as a whole."""
+    """Tasks for the layout, the tests, the programs and their runs. What is only run waits for no proof."""
+
+    def task(name, total, call, waits=(), work=100.0, is_there=True):
+        return Task(name, lambda jobs: once(gate, name, total, lambda: call(jobs), is_there), waits, work)
+
     yield Task("layout", lambda jobs: layout(gate), work=FIRST)
     for crate in gate.crates:
+        sources = partial(run_total, gate, crate)
         if crate.has_tests():
-            call = lambda jobs, crate=crate: test(gate, crate, jobs)
-            yield Task(f"{crate.name}: tests", call, (crate.name,), crate.lines())
+            yield task(f"{crate.name}: tests", sources, lambda jobs, it=crate: test(gate, it), work=crate.lines() / 10)
         if crate.is_program:
-            call = lambda jobs, crate=crate: build(gate, crate, jobs)
-            waits = (crate.name, *([f"{crate.name}: tests"] if crate.has_tests() else []))
-            yield Task(f"{crate.name}: program", call, waits, crate.lines() / 4)
+            total = partial(run_total, gate, crate, [crate.folder / part for part in BESIDE])
+            call = lambda jobs, it=crate: build(gate, it, jobs)
+            is_there = is_built(crate, gate.kept.toolchain)
+            yield task(f"{crate.name}: program", total, call, (crate.name,), crate.lines() / 4, is_there)
         if crate.name == LISTENER:
+            waits, total = (f"{crate.name}: program",), partial(run_total, gate, crate, [TOP / "conformance"])
+            prints = rf"\A{re.escape((crate.folder / 'stdout').read_text(encoding='utf-8'))}\Z"
+            words = [str(TOP / "run"), "dump", str(crate.folder / "stdin")]
+            yield Task("./run", lambda jobs, words=words, prints=prints: passes("./run", words, TOP, prints), waits, 100)
             for name, script in SCRIPTS:
-                call = lambda jobs, crate=crate, name=name, script=script: runs(crate, name, script)
-                yield Task(name, call, (f"{crate.name}: program",), 100)
-    names = tuple(crate.name for crate in gate.crates)
-    yield Task("rt all check", lambda jobs: whole(gate), names, gate.crates[-1].lines() / 4)
+                words = ["python3", str(TOP / "conformance" / script), str(crate.out / crate.name)]
+                call = lambda jobs, name=name, words=words: passes(name, words, TOP, r"^(\d+) passed, 0 failed\s*\Z")
+                yield task(name, total, call, waits)

@@ -3,25 +3,26 @@
 import os
 import signal
 import subprocess
-import tempfile
 import time
 import traceback
 from concurrent.futures import FIRST_COMPLETED, ThreadPoolExecutor, wait
 from dataclasses import dataclass, field
+from functools import cache
+from typing import NamedTuple
 
 MEMORY_EACH = 4_000_000_000
 """Octets that a check may take."""
 MOST_JOBS = 4
+RUNNING = set()
+"""Process numbers of the commands that run."""
 
 
-@dataclass
-class Ran:
-    """A command that ended."""
+class Ran(NamedTuple):
+    """A command that ended: its status, all that it printed, and seconds of processor time with what it started."""
 
     status: int
     text: str
     seconds: float
-    """Of processor time, with that of all commands that it started."""
 
 
 @dataclass
@@ -29,142 +30,103 @@ class Done:
     """What a task gives."""
 
     passed: int = 0
-    failed: list = field(default_factory=list)
-    """What failed, by name."""
+    failed: dict = field(default_factory=dict)
+    """By name of what failed, what it printed."""
     says: str = ""
     """What is said of it in one line."""
-    shows: str = ""
-    """What a failure printed."""
     seconds: float = 0.0
     """Of processor time."""
-    more: list = field(default_factory=list)
-    """Tasks that came out of it."""
 
 
 @dataclass
 class Task:
+    """A task: its call gets how many jobs it may use, and gives a Done; it waits until the tasks of these names passed."""
+
     name: str
     call: object
-    """Gets how many jobs it may use, and gives a Done."""
     waits: tuple = ()
-    """Names of the tasks that have to pass before."""
     work: float = 0.0
     """How much there is to do, in any measure that all share."""
 
 
-def run(words, folder, text=None, **more):
-    """Runs a command to its end, with what it prints in one text."""
-    with tempfile.TemporaryFile() as said, tempfile.TemporaryFile() as given:
-        given.write((text or "").encode())
-        given.seek(0)
-        started = subprocess.Popen(words, cwd=folder, stdin=given, stdout=said, stderr=subprocess.STDOUT, **more)
+def run(words, folder):
+    """Runs a command to its end, without input, with what it prints in one text."""
+    how = {"stdin": subprocess.DEVNULL, "stdout": subprocess.PIPE, "stderr": subprocess.STDOUT}
+    with subprocess.Popen(words, cwd=folder, **how) as started:
         RUNNING.add(started.pid)
         try:
+            printed = started.stdout.read().decode(errors="replace")
             _, status, usage = os.wait4(started.pid, 0)
+            started.returncode = os.waitstatus_to_exitcode(status)
         finally:
             RUNNING.discard(started.pid)
-        started.returncode = os.waitstatus_to_exitcode(status)
-        said.seek(0)
-        printed = said.read().decode(errors="replace")
     return Ran(started.returncode, printed, usage.ru_utime + usage.ru_stime)
-
-
-RUNNING = set()
-
-
-def stop_all(*_):
-    """Ends every command that runs, and this process."""
-    for pid in list(RUNNING):
-        try:
-            os.kill(pid, signal.SIGTERM)
-        except OSError:
-            pass
-    os._exit(130)
 
 
 def stop_on_signals():
     """Lets the signals that end a process end what it started too."""
+
+    def stop_all(*_):
+        for pid in list(RUNNING):
+            try:
+                os.kill(pid, signal.SIGTERM)
+            except OSError:
+                pass
+        os._exit(130)
+
     for each in (signal.SIGTERM, signal.SIGINT, signal.SIGHUP):
         signal.signal(each, stop_all)
 
 
-def processors():
-    """How many processors there are to use, by affinity and by the quota of the control group."""
-    found = len(os.sched_getaffinity(0))
-    try:
-        with open("/sys/fs/cgroup/cpu.max", encoding="ascii") as file:
-            quota, period = file.read().split()[:2]
-        return max(min(found, int(quota) // int(period)), 1)
-    except (OSError, ValueError, ZeroDivisionError):
-        return found
-
-
 def lanes():
-    """How many checks may run at once."""
+    """How many checks may run at once, by processors and by memory."""
     with open("/proc/meminfo", encoding="ascii") as file:
         free = next((int(line.split()[1]) * 1024 for line in file if line.startswith("MemAvailable")), MEMORY_EACH)
-    return max(min(processors(), free // MEMORY_EACH), 1)
+    return max(min(len(os.sched_getaffinity(0)), free // MEMORY_EACH), 1)
 
 
 def chains(tasks):
     """By name, the work of the longest chain of tasks that begins with it."""
-    behind = {}
 
-    def chain(task):
-        if task.name not in behind:
-            after = (chain(other) for other in tasks if task.name in other.waits)
-            behind[task.name] = task.work + max(after, default=0)
-        return behind[task.name]
+    @cache
+    def chain(name):
+        return works[name] + max((chain(task.name) for task in tasks if name in task.waits), default=0)
 
-    for task in tasks:
-        chain(task)
-    return behind
+    works = {task.name: task.work for task in tasks}
+    return {name: chain(name) for name in works}
 
 
-def fault_of(task, fault):
-    """What a task gives that ended by a fault of this program."""
-    return Done(failed=[task.name], shows="".join(traceback.format_exception(fault)))
+def outcome(task, future):
+    """What a task gives; where it ended by a fault of this program, a failure of its own."""
+    fault = future.exception()
+    return Done(failed={task.name: "".join(traceback.format_exception(fault))}) if fault else future.result()
 
 
 def run_all(tasks, say, count=None):
     """Runs tasks and returns how much passed, by name what each failure printed, and the names of what wasn't tried."""
     count = count or lanes()
-    left, running, ended, failed_tasks = list(tasks), {}, set(), set()
-    behind, passed, failed, untried, number = chains(left), 0, {}, [], 0
-    for unknown in {name for task in tasks for name in task.waits} - {task.name for task in tasks}:
-        failed_tasks.add(unknown)
+    left, running, ended, behind = list(tasks), {}, set(), chains(tasks)
+    passed, failed, number = 0, {}, 0
     with ThreadPoolExecutor(count) as pool:
-        while left or running:
-            for task in [task for task in left if failed_tasks & set(task.waits)]:
-                left.remove(task)
-                failed_tasks.add(task.name)
-                untried.append(task.name)
-                say(f"{task.name}: not tried, since {min(failed_tasks & set(task.waits))} failed")
-            ready = [task for task in left if ended.issuperset(task.waits)]
-            ready.sort(key=lambda task: -behind.get(task.name, task.work))
+        while True:
+            ready = sorted((task for task in left if ended.issuperset(task.waits)), key=lambda task: -behind[task.name])
             idle = count - sum(jobs for _, jobs, _ in running.values())
-            for at, task in enumerate(ready[:max(idle, 0)]):
+            for at, task in enumerate(ready[:idle]):
                 jobs = max(1, min(MOST_JOBS, idle // (len(ready) - at)))
-                if jobs > idle:
-                    break
                 idle -= jobs
                 left.remove(task)
                 running[pool.submit(task.call, jobs)] = task, jobs, time.time()
             if not running:
-                continue
+                return passed, failed, [task.name for task in left]
             for future in wait(running, return_when=FIRST_COMPLETED).done:
                 task, _, began = running.pop(future)
-                done = future.result() if future.exception() is None else fault_of(task, future.exception())
-                ended.add(task.name)
-                if done.failed:
-                    failed_tasks.add(task.name)
-                passed, number = passed + done.passed, number + 1
-                failed.update(dict.fromkeys(done.failed, done.shows))
-                left += done.more
-                rest = len(left) + len(running)
-                clock = f"{time.time() - began:.0f} s, {done.seconds:.0f} s of processor time; {rest} left"
+                done, number = outcome(task, future), number + 1
+                if not done.failed:
+                    ended.add(task.name)
+                passed += done.passed
+                failed.update(done.failed)
                 says = done.says or ("FAILED" if done.failed else "ok")
-                say(f"[{number} of {number + rest}] {task.name}: {says} ({clock})")
-                if done.shows:
-                    say(done.shows)
-    return passed, failed, untried
+                clock = f"{time.time() - began:.0f} s, {done.seconds:.0f} s of processor time"
+                say(f"[{number} of {len(tasks)}] {task.name}: {says} ({clock})")
+                for shows in done.failed.values():
+                    say(shows)
