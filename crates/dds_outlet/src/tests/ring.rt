@@ -60,8 +60,9 @@ fn what_was_put_back_comes_first(rt: HostRuntime) -> Result<(), Fail> {
 #[test]
 fn all_that_was_sent_is_known_at_the_end(rt: HostRuntime) -> Result<(), Fail> {
     let (mut outlet, mut inlet) = outlet::<u64, _>(rt.alloc(), 3)?;
-    let sends = [1, 2, 3].map(|number| outlet.deliver(notice(number)).is_ok());
-    assert_eq!(rt; sends, [true; 3]);
+    assert!(rt; outlet.deliver(notice(1)).is_ok());
+    assert!(rt; outlet.deliver(notice(2)).is_ok());
+    assert!(rt; outlet.deliver(notice(3)).is_ok());
     let Some(first) = inlet.pop() else {
         return Err(Fail::new("nothing comes out of the ring"));
     };

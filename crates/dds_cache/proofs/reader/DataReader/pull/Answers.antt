@@ -21,8 +21,7 @@ loop-done-preserved g c =
     let p = c.loop-done.invariant in
     let e : c.in_ok-pull_one.field-0 ≡ true = search rules in
     let m = moved_one _ c.in_ok-pull_one.field-0 c.loop-done.self c.pull_one.new.self c.loop-done.inlet c.pull_one.new.inlet e c.in_ok-pull_one.ensures.one in
-    let below : c.loop-done.done < c.args.inlet.now.capacity = search rules in
-    (
+    let below : c.loop-done.done < c.args.inlet.now.capacity = search rules in (
       p.0 ++ m.notice ∷ [],
       pulls_more p.0 _ _ _ _ _ _ p.1 m (omega (arith, p.2, below)) c.pull_one.ensures.ring,
       length-append p.0 (m.notice ∷ []) ∙ ap (λ n. n + 1) p.2,
