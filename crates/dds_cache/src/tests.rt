@@ -2,6 +2,7 @@
 
 mod calls;
 mod memory;
+mod pull;
 
 use crate::{Condition, Content, DataReader, InstanceState, Sample, SampleState, ViewState};
 use dds_topic::Unread;

@@ -2,7 +2,7 @@
 use Rattle.std.proofs.Common.{◌≡◌, ◌∙◌, ℕ, zero, suc, ◌+◌, ◌-◌, ◌<◌, ◌≤◌, List, [], ◌∷◌, ◌++◌, Option, refl, sym, ap, subst, arith, map, length, drop, get_or, set, get_or-set_same, get_or-set_other, append_assoc, append-nil, Global}
 use Rattle.std.specs.List.{All, AllByRecursion, flat_map}
 use Rattle.std.proofs.lemmas.List.Elements.{All-append, All-from_recursion}
-use Rattle.dds_cache.specs.Calls.{Done, Accepted}
+use Rattle.dds_cache.specs.Calls.{Done, Accepted, accepted_after}
 use Rattle.dds_cache.specs.Standing as shelf
 use Rattle.dds_cache.specs.Standing.{CacheView}
 use Rattle.dds_cache.specs.Cache.{cached}
@@ -19,7 +19,7 @@ use borrow.Author.Count.{below_more}
 use Rattle.dds_cache.specs.declared.history.History.{History}
 use Rattle.rtps_reader.specs.declared.notice.Notice.{Notice}
 use Rattle.rtps_text.specs.Caches.{Accepts, AllAccept, AllHeard, HasHeard, IsEmpty}
-use Rattle.rtps_text.specs.Entries.{accepted_after, all_taken, any_entry, cache_lines, entry_line, entry_lines, sample_view}
+use Rattle.rtps_text.specs.Entries.{all_taken, any_entry, cache_lines, entry_line, entry_lines, sample_view}
 use Rattle.rtps_text.proofs.Run.{Printed, front_more, printed_front, printed_more}
 use Rattle.rtps_text.proofs.Viewing.{taken_same}
 

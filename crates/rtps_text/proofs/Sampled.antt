@@ -13,7 +13,7 @@ use Rattle.rtps_records.proofs.Progress.{EndsHere, Finished, Progress, many_more
 use Rattle.dds_topic.specs.Decoding.{Decoding}
 use Rattle.dds_cache.specs.Standing as shelf
 use Rattle.dds_cache.specs.Standing.{CacheView}
-use Rattle.dds_cache.specs.Calls.{Done}
+use Rattle.dds_cache.specs.Calls.{Done, accepted_after}
 use Rattle.dds_cache.specs.declared.history.History.{History}
 use Rattle.rtps_discovery.specs.declared.config.Config.{Config}
 use Rattle.rtps_reader.specs.Notices.{notice_view}
@@ -28,7 +28,7 @@ use Rattle.dds_participant.specs.Given.{IsGiven, told_in}
 use Rattle.dds_participant.specs.declared.given.Given.{Given}
 use Rattle.rtps_text.specs.Batched.{RunsBatch}
 use Rattle.rtps_text.specs.Caches.{AllAccept, AreKept, HasHeard, IsEmpty, StopsLate}
-use Rattle.rtps_text.specs.Entries.{accepted_after, entry_lines, samples_by, samples_text}
+use Rattle.rtps_text.specs.Entries.{entry_lines, samples_by, samples_text}
 use Rattle.rtps_text.specs.Replayed.{summary_text}
 use Rattle.rtps_text.proofs.Caching.{moves_printed}
 use Rattle.rtps_text.proofs.Fronts.{told_some}

@@ -13,12 +13,12 @@ use Rattle.rtps_reader.specs.declared.notice.NoticeKind.TheVariants as kind
 use Rattle.rtps_reader.specs.Notices.{kind_view, notice_view}
 use Rattle.dds_cache.specs.Answered.{shown_by}
 use Rattle.dds_cache.specs.Cache.{cached, entry_by, first_by, is_of, kept_by, with_entry, without_oldest}
-use Rattle.dds_cache.specs.Calls.{Done, Accepted}
+use Rattle.dds_cache.specs.Calls.{Done, Accepted, accepted_after}
 use Rattle.dds_cache.specs.Instances.{brought, has_live, is_disposed, is_end, is_live, is_value, state_of, told_about}
 use Rattle.dds_cache.specs.declared.entry.Entry.{Entry}
 use Rattle.dds_cache.specs.declared.history.History.{History}
 use Rattle.dds_cache.specs.declared.history.History.TheVariants.{KeepLast, KeepAll}
-use Rattle.rtps_text.specs.Entries.{accepted_after, all_taken, content_view, sample_view}
+use Rattle.rtps_text.specs.Entries.{all_taken, content_view, sample_view}
 
 -- ---- notices that were accepted, the newest first
 

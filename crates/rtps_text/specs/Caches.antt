@@ -5,7 +5,7 @@ use Rattle.rtps_records.specs.Runs.{Stops, WroteFront, WroteReadFront}
 use Rattle.rtps_records.specs.declared.fault.RunFault.{RunFault}
 use Rattle.rtps_records.specs.declared.fault.RunFault.TheVariants.{CannotRead, NotRecordFile, CutRecord, RecordTooLong, TooManyRecords, CannotWrite, NoMemory}
 use Rattle.dds_topic.specs.Decoding.{Decoding}
-use Rattle.dds_cache.specs.Calls.{Done}
+use Rattle.dds_cache.specs.Calls.{Done, accepted_after}
 use Rattle.dds_cache.specs.Standing as shelf
 use Rattle.dds_cache.specs.Standing.{CacheView}
 use Rattle.dds_cache.specs.declared.history.History.{History}
@@ -15,7 +15,6 @@ use Rattle.rtps_reader.specs.declared.notice.Output.{Output}
 use Rattle.rtps_serial.specs.Seen.{notices_by}
 use Rattle.rtps_serial.specs.Standing.{EngineView, StandsAt, run_by}
 use Rattle.rtps_serial.specs.World.{ReportView}
-use Rattle.rtps_text.specs.Entries.{accepted_after}
 
 -- a cache in which nothing was done
 pub record IsEmpty {V : Type 0} (history : History) (cache : CacheView V) : Type 0 where

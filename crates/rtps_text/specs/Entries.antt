@@ -8,7 +8,7 @@ use Rattle.dds_topic.specs.Decoding.{Decoding}
 use Rattle.dds_cache.specs.Answered.{answered}
 use Rattle.std.specs.Coded.{×_prop, Unit-prop, le_prop}
 use Rattle.dds_cache.specs.Cache.{IsHistory, cached}
-use Rattle.dds_cache.specs.Calls.{Done, Accepted}
+use Rattle.dds_cache.specs.Calls.{Done, accepted_after}
 use Rattle.dds_cache.specs.declared.condition.Condition.{Condition}
 use Rattle.dds_cache.specs.declared.entry.Content.{Content}
 use Rattle.dds_cache.specs.declared.entry.Content.TheVariants as content
@@ -69,11 +69,6 @@ entry_line text rank s =
     then (content_text text s.key s.body ++ codes "\n")
 
 -- ---- what is taken of a cache
-
--- all that was done with a cache, the newest first, when it accepted these notices in order
-abbrev pub accepted_after : {M : Type 0} → List (Done M) → List (Notice M) → List (Done M)
-accepted_after past [] = past
-accepted_after past (n ∷ ns) = accepted_after (Accepted n ∷ past) ns
 
 -- each entry meets it
 abbrev pub any_entry : Condition

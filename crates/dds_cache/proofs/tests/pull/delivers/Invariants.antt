@@ -1,0 +1,6 @@
+use Rattle.std.proofs.Common.{◌≡◌}
+use Rattle.dds_cache.proofs.tests.pull.delivers.Given as goal
+
+-- the end is of the same ring
+abbrev pub invariant-loop : goal.invariant-loop
+invariant-loop l = l.outlet.ring ≡ l.fn.outlet.ring

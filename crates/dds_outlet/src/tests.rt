@@ -1,0 +1,4 @@
+//! Notices through rings.
+
+mod memory;
+mod ring;
