@@ -1,0 +1,3 @@
+//! What is handed to other threads.
+
+mod board;
