@@ -35,8 +35,9 @@ abbrev pub Looks : List RowView → List RowView → ℕ → Option Look → Typ
 Looks before after rank result =
     ShowsNothing before after result ⊎ ShowsRow before after rank result
 
--- a reader that knew some rows and learnt others looked twice, and knows the rows after: the first
--- look shows none before these rows, and the second none before the row of the first
+-- a reader that knew some rows and learnt others looked twice: the first look shows the last of
+-- rows that begin with all that were known and learnt, the second the last of rows that begin with
+-- those of the first
 pub record NotBefore
     (known learnt : List RowView)
     (rank : ℕ)

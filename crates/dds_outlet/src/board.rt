@@ -132,13 +132,12 @@ fn find(row: &Row, rank: u32) -> Option<Look>
 /// as an `Arc<Row>`, which is appended and published by `publish_as`; `new` takes the room for a
 /// few operations, and a board whose table refuses a row that its history has refuses all later
 /// ones.
-fn show<R: Wait>(rt: &R, writer: BoardWriter, next: Shown) -> BoardWriter
+fn show<R: Wait>(rt: &R, mut writer: BoardWriter, next: Shown) -> BoardWriter
     requires { next.front.seen.book ≡ writer.desk.shown.value.front.seen.book }
     ensures shown { result.desk.shown.value ≡ next }
     ensures seat { Sees (view writer.desk.place) writer.desk.shown.value next
         (view result.desk.place) }
 {
-    let mut writer = writer;
     let (open, mut spare) = writer.desk.open(rt);
     *spare = next;
     writer.desk = open.show_as::<Takes>(spare);
@@ -190,8 +189,8 @@ impl StatusBoard {
     /// and for each rank below `readers` the status of a reader without fixed matches to which
     /// nothing came. An error is a refused growth. No later call takes memory.
     ///
-    /// It shows that row by the same step as `publish` does, and so may wait by its bound; but
-    /// nobody looks yet for whom it would.
+    /// It shows that row by the same step as [`StatusBoard::publish`], so by its bound it may wait,
+    /// and promises its result if it returns. But nobody looks yet for whom it would wait.
     pub fn new<R: Wait>(
         rt: &R,
         alloc: Global,
@@ -218,8 +217,9 @@ impl StatusBoard {
         Ok(StatusBoard { writer, head })
     }
 
-    /// A reader in one of the board's places, which it has until it is dropped. `None` says that no
-    /// place was found; that may come at any time, as while readers come and go.
+    /// A reader that knows all rows up to now. It has one of the board's places until it is
+    /// dropped. `None` says that no place was found; that may come at any time, as while readers
+    /// come and go.
     pub fn reader(&mut self) -> Option<StatusReader>
         ensures board { self.new ≡ self.old }
         ensures reader { IfSome result (λ reader. reader ≡ self.old) }
@@ -232,11 +232,12 @@ impl StatusBoard {
         })
     }
 
-    /// Shows a row to each look from now on. Its ranks are free: they may be more or fewer than
-    /// those of the rows before, and its number of batches isn't compared with theirs. It waits for
-    /// those who look at the row before the last one, whose place in memory the new row takes.
+    /// Shows a row to each look from now on. It may have more ranks than the rows before, or fewer,
+    /// and its number of batches isn't compared with theirs.
     ///
-    /// A row comes back only after 2^64 - 1 rows: their number has no successor then.
+    /// It takes no memory: the row is laid where the row before the last one was, so it waits for
+    /// those who still look at that one, and promises its result if it returns. A row comes back
+    /// only after 2^64 - 1 rows, when no number is left.
     pub fn publish<R: Wait>(&mut self, rt: &R, row: Row) -> Result<(), Row>
         ensures board { self.new.board ≡ self.old.board }
         ensures rows { MatchResult result
@@ -265,7 +266,7 @@ impl StatusBoard {
         self.writer.published().front.one_list(&reader.front);
     }
 
-    /// Ends the board, and waits for those who look. From then on each look is `None`.
+    /// Ends the board. It waits for those who look; when it has returned each look is `None`.
     pub fn end<R: Wait>(self, rt: &R) {
         let StatusBoard { writer, head: _ } = self;
         drop(writer.take(rt));

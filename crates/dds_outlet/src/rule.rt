@@ -8,8 +8,7 @@ use crate::shown::Shown;
 use atomic_table::{Join, Split};
 use crossbeam_utils::rule::{Outcome, Protocol};
 
-/// What a seat at the table knows: whether it knows a history, and its names. No value of it is
-/// made.
+/// What a seat at the table knows: a history, by its names, or none. No value of it is made.
 pub struct Known {
     pub knows: bool,
     pub number: u64,
