@@ -1,11 +1,18 @@
-//! What hands over to threads of an application: a ring for the notices of a reader.
+//! What a thread that receives hands to the threads of an application: a ring for the notices of a
+//! reader, and a board of statuses, at which they look without waiting.
 #![tactic(auto)]
 
+mod board;
+mod history;
 mod making;
 mod ring;
-
-pub use making::outlet;
-pub use ring::{Inlet, Outlet, Sent};
-
+mod row;
+mod rule;
+mod shown;
 #[cfg(test)]
 mod tests;
+
+pub use board::{StatusBoard, StatusReader, Told};
+pub use making::outlet;
+pub use ring::{Inlet, Outlet, Sent};
+pub use row::{Look, Row, RowView};

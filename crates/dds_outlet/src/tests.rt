@@ -1,4 +1,5 @@
-//! Notices through rings.
+//! What is handed to other threads.
 
+mod board;
 mod memory;
 mod ring;

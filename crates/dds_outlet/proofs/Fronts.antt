@@ -1,0 +1,36 @@
+-- Beginnings of one list.
+use Rattle.std.proofs.Common.{◌≡◌, ◌≤◌, List, [], ◌∷◌, length, refl, arith, ◌⊎◌, ⊎_elim, inl, inr}
+use mathlib.Core.List.{IsPrefix}
+
+-- of two beginnings of one list the shorter begins the longer
+pub prefix_shorter : {A : Type 0} (xs ys zs : List A)
+    → IsPrefix xs zs → IsPrefix ys zs → length xs ≤ length ys → IsPrefix xs ys
+prefix_shorter [] ys zs p q short = (ys, refl)
+prefix_shorter (x ∷ xs) [] zs p q short = absurd (omega arith)
+prefix_shorter (x ∷ xs) (y ∷ ys) [] p q short = absurd (cc (p.1))
+prefix_shorter (x ∷ xs) (y ∷ ys) (z ∷ zs) p q short =
+    let heads : x ≡ y = cc (p.1, q.1) in
+    let rest = prefix_shorter xs ys zs (p.0, cc (p.1)) (q.0, cc (q.1)) (omega arith) in
+    (rest.0, cc (heads, rest.1))
+
+-- a beginning as long as the whole is the whole
+pub prefix_whole : {A : Type 0} (xs ys : List A)
+    → IsPrefix xs ys → length ys ≤ length xs → xs ≡ ys
+prefix_whole [] [] p long = refl
+prefix_whole [] (y ∷ ys) p long = absurd (omega arith)
+prefix_whole (x ∷ xs) [] p long = absurd (cc (p.1))
+prefix_whole (x ∷ xs) (y ∷ ys) p long =
+    let rest = prefix_whole xs ys (p.0, cc (p.1)) (omega arith) in cc (p.1, rest)
+
+-- of two beginnings of one list one begins the other
+pub prefix_either : {A : Type 0} (xs ys zs : List A)
+    → IsPrefix xs zs → IsPrefix ys zs → IsPrefix ys xs ⊎ IsPrefix xs ys
+prefix_either [] ys zs p q = inr (ys, refl)
+prefix_either (x ∷ xs) [] zs p q = inl (x ∷ xs, refl)
+prefix_either (x ∷ xs) (y ∷ ys) [] p q = absurd (cc (p.1))
+prefix_either (x ∷ xs) (y ∷ ys) (z ∷ zs) p q =
+    let heads : x ≡ y = cc (p.1, q.1) in
+    ⊎_elim
+    (λ (r : IsPrefix ys xs). inl (r.0, cc (heads, r.1)))
+    (λ (r : IsPrefix xs ys). inr (r.0, cc (heads, r.1)))
+    (prefix_either xs ys zs (p.0, cc (p.1)) (q.0, cc (q.1)))
