@@ -15,7 +15,7 @@ use Rattle.rtps_planner.specs.declared.jobs.Job as plan_job
 use Rattle.rtps_planner.specs.Job.{Job, job_sent, job_told}
 use Rattle.rtps_planner.specs.Plan.{job_at, job_seen, jobs_by, steps_seen}
 use Rattle.rtps_shards.specs.declared.jobs.JobResult.{JobResult}
-use Rattle.rtps_shards.specs.declared.jobs.ReaderJob.{ReaderJob}
+use Rattle.rtps_shards.specs.declared.jobs.Posted.{Posted}
 use Rattle.rtps_shards.specs.Results.{IsDone, IsReady, Share, given_done, reader_done}
 use Rattle.dds_participant.specs.Sharing.{AllShare}
 
@@ -154,7 +154,7 @@ pub all_but_last : {X : Type 0} (P : X → Type 0) (xs : List X) (x : X) → All
 all_but_last P xs x all k d below = subst P (get_or_append_left xs (x ∷ []) d k below) (all k d (omega (arith, below, length-append xs (x ∷ []))))
 
 -- a job with the state of its reader
-pub ready : {V M : Type 0} (es : List EventView) (shares : ℕ → Share M) (n : ℕ) (w : ReaderJob V) (job : plan_job.Job Global) (state : ReaderView) → w.job ≡ job → w.state ≡ state → job.rank ≡ n
+pub ready : {V M : Type 0} (es : List EventView) (shares : ℕ → Share M) (n : ℕ) (w : Posted V) (job : plan_job.Job Global) (state : ReaderView) → w.job ≡ job → w.state ≡ state → job.rank ≡ n
     → steps_seen es job.steps.items ≡ (shares n).job → StandsFor (shares n).reader (shares n).given n state → IsReady es shares w
 ready {V} {M} es shares n w job state is_job is_state ranked steps stands =
     let here : w.job.rank ≡ n = ap (λ (j : plan_job.Job Global). j.rank) is_job ∙ ranked in

@@ -11,7 +11,7 @@ use Rattle.rtps_reader.specs.declared.notice.Output.{Output}
 use Rattle.rtps_reader.specs.Standing.{ReaderView}
 use Rattle.rtps_serial.specs.Standing.{StandsFor}
 use Rattle.rtps_shards.specs.declared.jobs.JobResult.{JobResult}
-use Rattle.rtps_shards.specs.declared.jobs.ReaderJob.{ReaderJob}
+use Rattle.rtps_shards.specs.declared.jobs.Posted.{Posted}
 use Rattle.dds_participant.specs.declared.readers.Parted.{Parted}
 use Rattle.rtps_shards.specs.Results.{IsDone, Share, given_done, rank_in, rank_of, reader_done}
 use Rattle.dds_participant.specs.Sharing.{AllShare, AreParted, AreRun, AreSplit, IsOutput, output_of, state_of, state_rank}
@@ -55,7 +55,7 @@ some_of [] rank below = absurd (omega (arith, below))
 some_of (x ∷ xs) rank below = x
 
 -- all of a batch's readers, after their jobs
-module _ {V M : Type 0} (f : V → M) (decoding : Decoding M) (shares : ℕ → Share M) (old : List ReaderView) (work : List (ReaderJob V)) (idle results : List (JobResult V)) (stand : AllShare shares old)
+module _ {V M : Type 0} (f : V → M) (decoding : Decoding M) (shares : ℕ → Share M) (old : List ReaderView) (work : List (Posted V)) (idle results : List (JobResult V)) (stand : AllShare shares old)
     (dealt : IsPermutation (map state_rank old) (map rank_in work ++ map rank_of idle)) (ran : IsPermutation (map rank_in work) (map rank_of results))
     (without : All (IsDone f decoding shares) idle) (done : All (IsDone f decoding shares) results) (p : Parted V) (parted : AreParted idle results p) where
   abbrev all : List (JobResult V)
@@ -105,31 +105,31 @@ module _ {V M : Type 0} (f : V → M) (decoding : Decoding M) (shares : ℕ → 
     outputs = put_out;
   }
 
-pub run_over : {V E M : Type 0} (f : V → M) (decoding : Decoding M) (shares : ℕ → Share M) (old : List ReaderView) (work : List (ReaderJob V)) (idle results : List (JobResult V)) (r : Result (Parted V) E) → AllShare shares old
+pub run_over : {V E M : Type 0} (f : V → M) (decoding : Decoding M) (shares : ℕ → Share M) (old : List ReaderView) (work : List (Posted V)) (idle results : List (JobResult V)) (r : Result (Parted V) E) → AllShare shares old
     → IsPermutation (map state_rank old) (map rank_in work ++ map rank_of idle) → IsPermutation (map rank_in work) (map rank_of results)
     → All (IsDone f decoding shares) idle → All (IsDone f decoding shares) results → IfOk r (AreParted idle results) → IfOk r (AreRun f decoding shares old)
 run_over f decoding shares old work idle results (Ok p) stand dealt ran without done parted = are_run f decoding shares old work idle results stand dealt ran without done p parted
 run_over f decoding shares old work idle results (Err e) stand dealt ran without done parted = tt
 
 -- as many as there are readers
-all_count : {V : Type 0} (work : List (ReaderJob V)) (idle results : List (JobResult V)) (p : Parted V) (parted : AreParted idle results p) → IsPermutation (map rank_in work) (map rank_of results) → length parted.all ≡ length work + length idle
+all_count : {V : Type 0} (work : List (Posted V)) (idle results : List (JobResult V)) (p : Parted V) (parted : AreParted idle results p) → IsPermutation (map rank_in work) (map rank_of results) → length parted.all ≡ length work + length idle
 all_count work idle results p parted ran =
     let ranks = length_permutation (map rank_in work) (map rank_of results) ran in
     let same = length_permutation (idle ++ results) parted.all parted.same in
     omega (arith, ranks, same, length-append idle results, length-map work rank_in, length-map results rank_of)
 
-pub count_over : {V E : Type 0} (work : List (ReaderJob V)) (idle results : List (JobResult V)) (r : Result (Parted V) E)
+pub count_over : {V E : Type 0} (work : List (Posted V)) (idle results : List (JobResult V)) (r : Result (Parted V) E)
     → IsPermutation (map rank_in work) (map rank_of results) → IfOk r (AreParted idle results) → IfOk r (λ p. length p.states.items ≡ length work + length idle)
 count_over work idle results (Ok p) ran parted = ap length parted.split.states ∙ length-map parted.all state_of ∙ all_count work idle results p parted ran
 count_over work idle results (Err e) ran parted = tt
 
-pub outputs_over : {V E : Type 0} (work : List (ReaderJob V)) (idle results : List (JobResult V)) (r : Result (Parted V) E)
+pub outputs_over : {V E : Type 0} (work : List (Posted V)) (idle results : List (JobResult V)) (r : Result (Parted V) E)
     → IsPermutation (map rank_in work) (map rank_of results) → IfOk r (AreParted idle results) → IfOk r (λ p. length p.outputs.items ≡ length work + length idle)
 outputs_over work idle results (Ok p) ran parted = ap length parted.split.outputs ∙ length-map parted.all output_of ∙ all_count work idle results p parted ran
 outputs_over work idle results (Err e) ran parted = tt
 
 -- the readers are those with a job and those without one
-pub pair_count : {V : Type 0} (old : List ReaderView) (work : List (ReaderJob V)) (idle : List (JobResult V)) → IsPermutation (map state_rank old) (map rank_in work ++ map rank_of idle) → length work + length idle ≡ length old
+pub pair_count : {V : Type 0} (old : List ReaderView) (work : List (Posted V)) (idle : List (JobResult V)) → IsPermutation (map state_rank old) (map rank_in work ++ map rank_of idle) → length work + length idle ≡ length old
 pair_count old work idle dealt =
     let all = length_permutation (map state_rank old) (map rank_in work ++ map rank_of idle) dealt in
     omega (arith, all, length-append (map rank_in work) (map rank_of idle), length-map old state_rank, length-map work rank_in, length-map idle rank_of)

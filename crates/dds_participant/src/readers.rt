@@ -11,14 +11,14 @@ ghost use Rattle.dds_participant.specs.Sharing.{AllShare, AreJobs, ArePaired, Ar
 use dds_topic::Catalog;
 use rtps_planner::Job;
 use rtps_reader::{Output, ReaderState};
-use rtps_shards::{JobResult, ReaderJob};
+use rtps_shards::{JobResult, Posted};
 use std::alloc::{AllocError, Global};
 
 /// The readers of a batch.
 #[derive(Drop)]
 pub(crate) struct Paired<V> {
     /// The jobs, each with the state of its reader.
-    pub work: Vec<ReaderJob<V>>,
+    pub work: Vec<Posted<V>>,
     /// The readers that have no job, of which nothing comes.
     pub idle: Vec<JobResult<V>>,
 }
@@ -82,7 +82,7 @@ pub(crate) fn pair<C: Catalog>(
     'pair: while let Some(state) = states.pop() {
         let output = lists_of(alloc, &mut lent);
         match last_of(&mut jobs, state.rank()) {
-            Some(job) => work.push(ReaderJob { job, state, output })?,
+            Some(job) => work.push(Posted { job, state, output })?,
             None => idle.push(idle_reader(state, output))?,
         }
     }

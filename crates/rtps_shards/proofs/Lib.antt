@@ -1,4 +1,5 @@
-mod Dealt
 pub mod Together
 mod Taking
 mod Places
+pub mod Balances
+pub mod Crews

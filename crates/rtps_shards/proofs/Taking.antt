@@ -11,7 +11,7 @@ use Rattle.rtps_reader.specs.Steps.{StepView}
 use Rattle.rtps_planner.specs.Job.{Job, job_run, job_sent, job_told}
 use Rattle.rtps_planner.specs.Plan.{steps_seen}
 use Rattle.rtps_shards.specs.declared.jobs.JobResult.{JobResult}
-use Rattle.rtps_shards.specs.declared.jobs.ReaderJob.{ReaderJob}
+use Rattle.rtps_shards.specs.declared.jobs.Posted.{Posted}
 use Rattle.rtps_shards.specs.Results.{HasTaken, IsDone, IsReady, Share, share}
 
 run_more : (r : Reader) (xs ys : Job) → job_run r (xs ++ ys) ≡ job_run (job_run r xs) ys
@@ -68,7 +68,7 @@ module _ {V M : Type 0} (f : V → M) (decoding : Decoding M) (r : Reader) (give
       }
 
 -- a job whose steps were all taken, into lists that were empty
-pub all_taken : {V M : Type 0} (f : V → M) (decoding : Decoding M) (es : List EventView) (shares : ℕ → Share M) (work : ReaderJob V) (first done : JobResult V) → IsReady es shares work
+pub all_taken : {V M : Type 0} (f : V → M) (decoding : Decoding M) (es : List EventView) (shares : ℕ → Share M) (work : Posted V) (first done : JobResult V) → IsReady es shares work
     → first.output.notices.items ≡ [] → first.output.answers.items ≡ [] → done.rank ≡ work.job.rank → done.state.rank ≡ work.state.rank
     → HasTaken f decoding (share (shares work.job.rank).reader (shares work.job.rank).given (steps_seen es work.job.steps.items)) first done → IsDone f decoding shares done
 all_taken {V} {M} f decoding es shares work first done ready notices answers ranked same taken =

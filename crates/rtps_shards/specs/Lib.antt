@@ -1,3 +1,6 @@
 pub mod Results
 pub mod Piles
 pub mod Apart
+pub mod Board
+pub mod Ends
+pub mod Work

@@ -1,24 +1,15 @@
 -- What one worker gives, and what all of them give.
-use Rattle.std.specs.Prelude.{◌≡◌, ◌==◌, ◌+◌, ◌%◌, ℕ, List, [], ◌∷◌, All, IfOk, Result, Ok, Err, if◌then◌else◌, map}
+use Rattle.std.specs.Prelude.{◌≡◌, ℕ, List, [], ◌∷◌, All, IfOk, Result, Ok, Err, map}
 use Rattle.std.specs.declared.alloc.Global.{Global}
 use Rattle.std.specs.declared.vec.Vec.{Vec}
 use Rattle.rtps_receiver.specs.Events.{EventView}
 use Rattle.dds_topic.specs.Decoding.{Decoding}
 use Rattle.rtps_shards.specs.declared.jobs.JobResult.{JobResult}
-use Rattle.rtps_shards.specs.declared.jobs.ReaderJob.{ReaderJob}
+use Rattle.rtps_shards.specs.declared.jobs.Posted.{Posted}
 use Rattle.rtps_shards.specs.Results.{IsDone, IsReady, Share, rank_in, rank_of}
 
--- things that are counted from a number on are dealt out round and round to so many workers: those
--- of one worker
-abbrev pub dealt_to : {X : Type 0} → ℕ → ℕ → ℕ → List X → List X
-dealt_to workers worker at [] = []
-dealt_to workers worker at (x ∷ xs) =
-    if at % workers == worker
-    then x ∷ dealt_to workers worker (at + 1) xs
-    else dealt_to workers worker (at + 1) xs
-
 -- one job is done
-unfoldable pub IsJobDone : {V M E : Type 0} → (V → M) → Decoding M → List EventView → ReaderJob V
+unfoldable pub IsJobDone : {V M E : Type 0} → (V → M) → Decoding M → List EventView → Posted V
     → Result (JobResult V) E → Type 0
 IsJobDone f decoding es x result =
     ((shares : ℕ → Share _) → IsReady es shares x
@@ -27,7 +18,7 @@ IsJobDone f decoding es x result =
 
 -- all jobs of a worker are done, in their order
 unfoldable pub IsPileDone : {V M E : Type 0} → (V → M) → Decoding M → List EventView
-    → Vec (ReaderJob V) Global → Result (Vec (JobResult V) Global) E → Type 0
+    → Vec (Posted V) Global → Result (Vec (JobResult V) Global) E → Type 0
 IsPileDone f decoding es pile result =
     ((shares : ℕ → Share _) → All (IsReady es shares) pile.items
     → IfOk result (λ results. All (IsDone f decoding shares) results.items))

@@ -10,7 +10,7 @@ use Rattle.rtps_serial.specs.Standing.{StandsFor}
 use Rattle.rtps_planner.specs.Job.{Job, job_run, job_sent, job_told}
 use Rattle.rtps_planner.specs.Plan.{steps_seen}
 use Rattle.rtps_shards.specs.declared.jobs.JobResult.{JobResult}
-use Rattle.rtps_shards.specs.declared.jobs.ReaderJob.{ReaderJob}
+use Rattle.rtps_shards.specs.declared.jobs.Posted.{Posted}
 
 -- a reader's share of a batch: the reader and the notices that it gave out before, and its job
 pub record Share (M : Type 0) : Type 0 where
@@ -30,7 +30,7 @@ abbrev pub given_done : {M : Type 0} → Decoding M → Share M → List (Notice
 given_done decoding s = s.given ++ job_told decoding s.reader s.job
 
 -- the steps are those of the share of the job's rank, and the state keeps the reader of that rank
-pub record IsReady {V M : Type 0} (es : List EventView) (shares : ℕ → Share M) (x : ReaderJob V)
+pub record IsReady {V M : Type 0} (es : List EventView) (shares : ℕ → Share M) (x : Posted V)
     : Type 0 where
   pub job : steps_seen es x.job.steps.items ≡ (shares x.job.rank).job
   pub state : StandsFor (shares x.job.rank).reader (shares x.job.rank).given x.job.rank x.state
@@ -56,7 +56,7 @@ pub record HasTaken {V M : Type 0} (f : V → M) (decoding : Decoding M) (s : Sh
       ≡ map answer_view old.output.answers.items ++ job_sent s.reader s.job
 
 -- the rank of the reader whose job it is
-abbrev pub rank_in : {V : Type 0} → ReaderJob V → ℕ
+abbrev pub rank_in : {V : Type 0} → Posted V → ℕ
 rank_in x = x.job.rank
 
 -- the rank of the reader whose result it is

@@ -38,13 +38,36 @@ fn made<X: Drop>(alloc: Global, places: Vec<Option<X>>) -> Result<Vec<X>, AllocE
     Ok(all)
 }
 
-/// Makes a call with each of these jobs, and gives what the calls return, in the order of the jobs.
-/// One job is the caller's; several have a thread each where one can be started, and the caller
-/// waits for them: a thread often begins on the processor of the one that started it, and so only
-/// when that one rests.
+/// Makes a call with each of these jobs, each on a thread of its own where one can be started, and
+/// gives what the calls return, in the order of the jobs. The caller waits for them: a thread often
+/// begins on the processor of the one that started it, and so only when that one rests.
 ///
 /// An error is a refused growth here, not in a call; then some of the calls may have been made, and
 /// what they returned is dropped.
+pub(crate) fn map_beside<R: Threads + Sync, J: Send + Drop, X: Send + Drop, F: Fn(J) -> X + Sync>(
+    rt: &R,
+    alloc: Global,
+    jobs: Vec<J>,
+    call: &F,
+) -> Result<Vec<X>, AllocError>
+    requires { AcceptsJobs F.Fn call.now jobs.items }
+    ensures len { IfOk result (λ all. vec_len all ≡ vec_len jobs) }
+    ensures each { IfOk result (λ all. GivesJobs F.Fn call.now jobs.items all.items) }
+{
+    let places = spaced(alloc, jobs)?;
+    let run = |place: Option<J>| -> Option<X>
+        requires { IfSome place (λ job. F.pre call.now job) }
+        ensures { IsCalledAt F.Fn call.entry.now place result }
+    {
+        match place {
+            Some(job) => Some(call(job)),
+            None => None,
+        }
+    };
+    made(alloc, thread::map_vec(rt, places, &run)?)
+}
+
+/// Makes calls as `map_beside` does; one job alone is the caller's.
 pub fn map_apart<R: Threads + Sync, J: Send + Drop, X: Send + Drop, F: Fn(J) -> X + Sync>(
     rt: &R,
     alloc: Global,
@@ -58,15 +81,5 @@ pub fn map_apart<R: Threads + Sync, J: Send + Drop, X: Send + Drop, F: Fn(J) -> 
     if jobs.len() < 2 {
         return thread::map_vec(rt, jobs, call);
     }
-    let places = spaced(alloc, jobs)?;
-    let run = |place: Option<J>| -> Option<X>
-        requires { IfSome place (λ job. F.pre call.now job) }
-        ensures { IsCalledAt F.Fn call.entry.now place result }
-    {
-        match place {
-            Some(job) => Some(call(job)),
-            None => None,
-        }
-    };
-    made(alloc, thread::map_vec(rt, places, &run)?)
+    map_beside(rt, alloc, jobs, call)
 }

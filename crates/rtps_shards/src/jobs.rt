@@ -2,7 +2,7 @@
 
 ghost use Rattle.std.specs.Prelude.{◌≡◌, []};
 
-use rtps_planner::Job;
+use rtps_planner::{Job, PlannedStep};
 use rtps_reader::{Output, ReaderState};
 use rtps_receiver::Event;
 use std::alloc::Global;
@@ -17,9 +17,9 @@ pub struct Batch<'a, C, G> {
     pub events: &'a [Event<'a>],
 }
 
-/// A job, with all that is moved to the worker who runs it.
+/// A job as it is posted on a board, with all that is moved to the worker who takes it.
 #[derive(Drop)]
-pub struct ReaderJob<V> {
+pub struct Posted<V> {
     pub job: Job,
     /// The reader of the job's rank.
     pub state: ReaderState,
@@ -27,14 +27,14 @@ pub struct ReaderJob<V> {
     pub output: Output<V>,
 }
 
-impl<V: Drop> ReaderJob<V> {
+impl<V: Drop> Posted<V> {
     /// A job with new lists. No memory is taken before something comes.
-    pub fn new(alloc: Global, job: Job, state: ReaderState) -> ReaderJob<V>
+    pub fn new(alloc: Global, job: Job, state: ReaderState) -> Posted<V>
         ensures given { (result.job ≡ job) × (result.state ≡ state) }
         ensures empty { (result.output.notices.items ≡ [])
             × (result.output.answers.items ≡ []) }
     {
-        ReaderJob {
+        Posted {
             job,
             state,
             output: Output {
@@ -53,4 +53,18 @@ pub struct JobResult<V> {
     /// The reader after the job.
     pub state: ReaderState,
     pub output: Output<V>,
+}
+
+/// How many events the steps of a job take in, as far as there are so many: what its run takes,
+/// nearly.
+pub(crate) fn events_of<V>(posted: &Posted<V>) -> usize {
+    let mut events = 0_usize;
+    for step in &posted.job.steps {
+        let more = match step {
+            PlannedStep::TakeIn { first: _, more } => *more,
+            PlannedStep::Change { .. } => 0,
+        };
+        events = events.saturating_add(more).saturating_add(1);
+    }
+    events
 }

@@ -3,16 +3,20 @@
 #![tactic(auto)]
 
 mod apart;
+mod board;
+mod ends;
 mod gate;
 mod jobs;
 mod piles;
 mod steps;
 #[cfg(test)]
 mod tests;
+mod work;
 mod workers;
 
 pub use apart::map_apart;
+pub use board::{Board, Stolen, Thief};
 pub use gate::{Gate, NoGate};
-pub use jobs::{Batch, JobResult, ReaderJob};
+pub use jobs::{Batch, JobResult, Posted};
 pub use piles::joined;
 pub use workers::run_jobs;

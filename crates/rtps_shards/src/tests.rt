@@ -3,6 +3,7 @@
 ghost use Rattle.std.specs.Prelude.{◌≤◌};
 
 mod apart;
+mod board;
 mod gates;
 mod starved;
 
@@ -88,7 +89,7 @@ fn job(alloc: Global, rank: u32, all: &[(usize, usize)]) -> Result<Job, AllocErr
 
 /// A job for each of so many readers: rank 1 takes in the last two events, each other rank all three,
 /// by one step or by two. Steps go past the last event, too.
-fn jobs<C: Catalog>(alloc: Global, ranks: u32) -> Result<Vec<ReaderJob<C::Value>>, AllocError> {
+fn jobs_of<C: Catalog>(alloc: Global, ranks: u32) -> Result<Vec<Posted<C::Value>>, AllocError> {
     let mut jobs = Vec::new(alloc);
     for rank in 0..ranks {
         let steps = match rank {
@@ -97,7 +98,7 @@ fn jobs<C: Catalog>(alloc: Global, ranks: u32) -> Result<Vec<ReaderJob<C::Value>
             _ => [(0, 0), (1, 1)],
         };
         let job = job(alloc, rank, &steps)?;
-        jobs.push(ReaderJob::new(alloc, job, reader(alloc, rank)?))?;
+        jobs.push(Posted::new(alloc, job, reader(alloc, rank)?))?;
     }
     Ok(jobs)
 }
@@ -119,7 +120,7 @@ fn run<C: Catalog, G: Gate, R: Threads + Sync>(
         gate,
         events: &events,
     };
-    let jobs = jobs::<C>(alloc, ranks)?;
+    let jobs = jobs_of::<C>(alloc, ranks)?;
     if jobs.len() > 4096 {
         return Err(AllocError);
     }
@@ -183,5 +184,30 @@ fn each_job_is_run_once(rt: HostRuntime) -> Result<(), Fail> {
 #[test]
 fn no_jobs_are_no_results(rt: HostRuntime) -> Result<(), Fail> {
     assert!(rt; run(&rt, rt.alloc(), &Shapes, &NoGate, (0, 64))?.is_empty());
+    Ok(())
+}
+
+/// Whether 200 jobs give one result for each rank, with so many workers.
+fn gives_each_rank<R: Threads + Sync>(
+    rt: &R,
+    alloc: Global,
+    workers: usize,
+) -> Result<bool, AllocError>
+    requires { (1 ≤ workers) × (workers ≤ 64) }
+{
+    let mut ranks = Vec::new(alloc);
+    for result in run(rt, alloc, &Shapes, &NoGate, (200, workers))? {
+        ranks.push(result.rank)?;
+    }
+    ranks.sort()?;
+    let expected: Vec<u32> = (0..200).collect(alloc)?;
+    Ok(ranks.as_slice() == expected.as_slice())
+}
+
+#[test]
+fn each_of_many_jobs_gives_one_result(rt: HostRuntime) -> Result<(), Fail> {
+    for workers in [1, 2, 7, 64] {
+        assert!(rt; gives_each_rank(&rt, rt.alloc(), workers)?);
+    }
     Ok(())
 }

@@ -1,34 +1,39 @@
 //! Jobs, run by workers.
 
-ghost use Rattle.std.specs.Prelude.{◌≡◌, ℕ, ◌≤◌, ◌<◌, All, IfOk, length, map, slice_index_or, vec_len};
+ghost use Rattle.std.specs.Prelude.{◌≡◌, ℕ, ◌≤◌, ◌++◌, All, IfOk, List, length, map};
 ghost use Rattle.std.specs.List.Sorted.{IsPermutation};
 ghost use Rattle.rtps_receiver.specs.Events.{view};
 ghost use Rattle.rtps_shards.specs.Results.{IsDone, IsReady, Share, rank_of, rank_in};
 ghost use Rattle.rtps_shards.specs.Piles.{IsJobDone, IsPileDone};
+ghost use Rattle.dds_topic.specs.Decoding.{Decoding};
+ghost use Rattle.rtps_receiver.specs.Events.{EventView};
+ghost use Rattle.rtps_shards.specs.Board.{hand};
+ghost use Rattle.rtps_shards.specs.Ends.{IsSameBoard, IsThiefOf, owner_hand, room};
+ghost use Rattle.rtps_shards.specs.Work.{AreDone, HasDone, IsBack};
 
-use crate::apart::map_apart;
+use crate::board::Board;
 use crate::gate::Gate;
-use crate::jobs::{Batch, JobResult, ReaderJob};
-use crate::piles::{deal, joined};
+use crate::jobs::{Batch, JobResult, Posted, events_of};
 use crate::steps::take_steps;
+use crate::work::{Worked, both_work, run_rest};
 use dds_topic::{Catalog, Decoder};
 use std::alloc::{AllocError, Global};
 use std::thread::Threads;
 
 /// Runs one job. Its state and its lists are changed here, and given back by value.
 #[tactic(auto, unfolding(crate::specs::Piles::IsJobDone))]
-fn run_job<C: Catalog, G: Gate>(
+pub(crate) fn run_job<C: Catalog, G: Gate>(
     alloc: Global,
     batch: &Batch<'_, C, G>,
     decoder: &mut Decoder<&C>,
-    work: ReaderJob<C::Value>,
+    work: Posted<C::Value>,
 ) -> Result<JobResult<C::Value>, AllocError>
     ensures done { decoder.old.now ≡ batch.now.catalog.now
         → IsJobDone C.view (C.decoding batch.now.catalog.now) (map view batch.now.events.now)
         work result }
     ensures same { decoder.new ≡ decoder.old }
 {
-    let ReaderJob { job, state, output } = work;
+    let Posted { job, state, output } = work;
     let rank = job.rank;
     let mut done = JobResult {
         rank,
@@ -52,7 +57,7 @@ fn run_job<C: Catalog, G: Gate>(
 fn run_pile<C: Catalog, G: Gate>(
     alloc: Global,
     batch: &Batch<'_, C, G>,
-    pile: Vec<ReaderJob<C::Value>>,
+    pile: Vec<Posted<C::Value>>,
 ) -> Result<Vec<JobResult<C::Value>>, AllocError>
     ensures { IsPileDone C.view (C.decoding batch.now.catalog.now) (map view batch.now.events.now)
         pile result }
@@ -66,30 +71,58 @@ fn run_pile<C: Catalog, G: Gate>(
     Ok(results)
 }
 
-/// Runs the piles, each on a thread of its own where one can be started.
-fn run_piles<C: Catalog, G: Gate, R: Threads + Sync>(
-    rt: &R,
-    alloc: Global,
-    batch: &Batch<'_, C, G>,
-    piles: Vec<Vec<ReaderJob<C::Value>>>,
-) -> Result<Vec<Result<Vec<JobResult<C::Value>>, AllocError>>, AllocError>
-    ensures len { IfOk result (λ all. vec_len all ≡ vec_len piles) }
-    ensures each { IfOk result (λ all. (worker : ℕ) (pile : _) (given : _)
-        → worker < vec_len piles → IsPileDone C.view (C.decoding batch.now.catalog.now)
-        (map view batch.now.events.now) (slice_index_or piles.items worker pile)
-        (slice_index_or all.items worker given)) }
+/// The jobs, those that take in most events first.
+fn most_first<V: Drop>(jobs: Vec<Posted<V>>) -> Vec<Posted<V>>
+    ensures { IsPermutation jobs.items result.items }
 {
-    let run = |pile: Vec<ReaderJob<C::Value>>| -> Result<Vec<JobResult<C::Value>>, AllocError>
-        ensures { IsPileDone C.view (C.decoding batch.entry.now.catalog.now)
-            (map view batch.entry.now.events.now) pile result }
-    { run_pile(alloc, batch, pile) };
-    map_apart(rt, alloc, piles, &run)
+    let mut jobs = jobs;
+    jobs.sort_unstable_by_key(|posted| usize::MAX - events_of(posted));
+    jobs
 }
 
-/// Runs jobs on so many workers, and gives what comes of each, in no order that is promised: job i
-/// goes to worker i modulo their number, and there are no more workers than jobs. One worker is the
-/// caller; several have a thread each, for which the caller waits. Where a thread can't start the
-/// others run its jobs.
+/// Pushes all of these, in their order.
+fn push_all<T: Drop>(board: &mut Board<T>, items: Vec<T>)
+    requires { length items.items ≤ room board.old }
+    ensures board { IsSameBoard board.old board.new }
+    ensures hand { owner_hand board.new ≡ hand (owner_hand board.old).parts
+        ((owner_hand board.old).put ++ items.items) (owner_hand board.old).taken }
+{
+    for item in items {
+        match board.push(item) {
+            Ok(()) => {}
+            Err(_) => unreachable!(),
+        }
+    }
+}
+
+/// The thieves come back, and what came of the jobs that they took is added to the results.
+fn take_back<C: Catalog>(
+    board: &mut Board<Posted<C::Value>>,
+    crew: Vec<Worked<C::Value>>,
+    results: Vec<JobResult<C::Value>>,
+) -> Result<Vec<JobResult<C::Value>>, AllocError>
+    requires { All (λ w. IsThiefOf board.old w.thief) crew.items }
+    ensures done { (decoding : Decoding C.Meaning) (es : List EventView)
+        → All (HasDone C.view decoding es board.old) crew.items
+        → AreDone C.view decoding es (owner_hand board.old).taken results.items
+        → IfOk result (IsBack C.view decoding es (owner_hand board.old) (length crew.items)
+        (owner_hand board.new)) }
+{
+    let mut all = results;
+    for worked in crew {
+        let Worked { thief, results } = worked;
+        let mut more = results?;
+        board.give_back(thief);
+        all.append(&mut more)?;
+    }
+    Ok(all)
+}
+
+/// Runs jobs on so many workers, and gives what comes of each, in no order that is promised. The
+/// jobs are put on a board, those that take in most events first, and each worker takes the next
+/// one when it has done one; there are no more workers than jobs. One worker is the caller; several
+/// have a thread each, for which the caller waits. Where a thread can't start the others run all
+/// jobs.
 ///
 /// An error is a refused growth, on whichever worker; then nothing is given, and the states are
 /// dropped with all that came.
@@ -97,7 +130,7 @@ pub fn run_jobs<C: Catalog, G: Gate, R: Threads + Sync>(
     rt: &R,
     alloc: Global,
     batch: &Batch<'_, C, G>,
-    jobs: Vec<ReaderJob<C::Value>>,
+    jobs: Vec<Posted<C::Value>>,
     workers: usize,
 ) -> Result<Vec<JobResult<C::Value>>, AllocError>
     requires few { length jobs.items ≤ 4096 }
@@ -113,7 +146,14 @@ pub fn run_jobs<C: Catalog, G: Gate, R: Threads + Sync>(
     if count == 1 {
         return run_pile(alloc, batch, jobs);
     }
-    let piles = deal(alloc, jobs, count)?;
-    let given = run_piles(rt, alloc, batch, piles)?;
-    joined(alloc, given)
+    let jobs = most_first(jobs);
+    let (board, thieves) = Board::new(alloc, jobs.len(), count - 1)?;
+    let mut board = board;
+    push_all(&mut board, jobs);
+    let ((board, mine), theirs) = both_work(rt, alloc, batch, board, thieves);
+    let mut board = board;
+    let mut results = take_back::<C>(&mut board, theirs?, mine?)?;
+    let mut rest = run_rest(alloc, batch, &mut board)?;
+    results.append(&mut rest)?;
+    Ok(results)
 }

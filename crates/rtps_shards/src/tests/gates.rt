@@ -75,42 +75,110 @@ fn each_job_enters_and_leaves_once(rt: HostRuntime) -> Result<(), Fail> {
     Ok(())
 }
 
+/// Waits until a count has come to a number, and says whether it has within ten seconds.
+fn comes_to<R: Clock>(rt: &R, count: &AtomicU64, wanted: u64) -> bool {
+    for _pause in 0..10_000 {
+        if count.load(Ordering::SeqCst) >= wanted {
+            return true;
+        }
+        thread::sleep(rt, Duration::from_millis(1));
+    }
+    false
+}
+
 /// A gate that holds each job until so many have entered; it gives up after ten seconds.
 #[derive(Drop)]
 struct Meeting<'a, R> {
     rt: &'a R,
     wanted: u64,
     entered: AtomicU64,
+    /// The rank of the job that entered last.
+    last: AtomicU64,
     gave_up: AtomicBool,
 }
 
 impl<'a, R: Clock + Sync> Gate for Meeting<'a, R> {
-    fn enter(&self, _rank: u32) {
+    fn enter(&self, rank: u32) {
+        self.last.store(u64::from(rank), Ordering::SeqCst);
         self.entered.fetch_add(1, Ordering::SeqCst);
-        for _pause in 0..10_000 {
-            if self.entered.load(Ordering::SeqCst) >= self.wanted {
-                return;
-            }
-            thread::sleep(self.rt, Duration::from_millis(1));
+        if !comes_to(self.rt, &self.entered, self.wanted) {
+            self.gave_up.store(true, Ordering::SeqCst);
         }
-        self.gave_up.store(true, Ordering::SeqCst);
     }
 
     fn leave(&self, _rank: u32) {}
 }
 
+/// A gate where so many jobs meet.
+fn gate_for<R>(rt: &R, wanted: u64) -> Meeting<'_, R> {
+    Meeting {
+        rt,
+        wanted,
+        entered: AtomicU64::new(0),
+        last: AtomicU64::new(0),
+        gave_up: AtomicBool::new(false),
+    }
+}
+
 #[test]
 fn as_many_jobs_run_at_once_as_there_are_workers(rt: HostRuntime) -> Result<(), Fail> {
     for (ranks, workers) in [(2, 2), (7, 7)] {
-        let gate = Meeting {
-            rt: &rt,
-            wanted: u64::from(ranks),
-            entered: AtomicU64::new(0),
-            gave_up: AtomicBool::new(false),
-        };
+        let gate = gate_for(&rt, u64::from(ranks));
         let results = run(&rt, rt.alloc(), &Shapes, &gate, (ranks, workers))?.len();
         assert_eq!(rt; results, workers);
         assert!(rt; !gate.gave_up.load(Ordering::SeqCst));
     }
+    Ok(())
+}
+
+#[test]
+fn the_job_with_the_fewest_events_is_taken_last(rt: HostRuntime) -> Result<(), Fail> {
+    // Two workers hold the first two jobs until both have begun; rank 2 takes in three events, the
+    // others have steps for more.
+    let gate = gate_for(&rt, 2);
+    let results = run(&rt, rt.alloc(), &Shapes, &gate, (3, 2))?.len();
+    assert_eq!(rt; results, 3);
+    assert_eq!(rt; gate.last.load(Ordering::SeqCst), 2);
+    assert!(rt; !gate.gave_up.load(Ordering::SeqCst));
+    Ok(())
+}
+
+/// A gate that holds the job of rank 1 until so many others have ended; it gives up after ten seconds.
+#[derive(Drop)]
+struct Holding<'a, R> {
+    rt: &'a R,
+    others: u64,
+    left: AtomicU64,
+    gave_up: AtomicBool,
+}
+
+impl<'a, R: Clock + Sync> Gate for Holding<'a, R> {
+    fn enter(&self, rank: u32) {
+        if rank == 1 && !comes_to(self.rt, &self.left, self.others) {
+            self.gave_up.store(true, Ordering::SeqCst);
+        }
+    }
+
+    fn leave(&self, _rank: u32) {
+        self.left.fetch_add(1, Ordering::SeqCst);
+    }
+}
+
+#[test]
+fn one_worker_runs_all_other_jobs_while_one_is_held(rt: HostRuntime) -> Result<(), Fail> {
+    let gate = Holding {
+        rt: &rt,
+        others: 99,
+        left: AtomicU64::new(0),
+        gave_up: AtomicBool::new(false),
+    };
+    let results = run(&rt, rt.alloc(), &Shapes, &gate, (100, 2))?;
+    assert!(rt; !gate.gave_up.load(Ordering::SeqCst));
+    let mut held = 0;
+    for result in &results {
+        held += usize::from(result.rank == 1);
+    }
+    assert_eq!(rt; held, 1);
+    assert_eq!(rt; results.len(), 100);
     Ok(())
 }

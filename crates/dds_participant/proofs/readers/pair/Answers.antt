@@ -3,7 +3,7 @@ use Rattle.std.proofs.lemmas.List.{length-append, map_push}
 use Rattle.std.proofs.lemmas.List.Elements.{All-push}
 use Rattle.std.specs.List.Sorted.{IsPermutation}
 use Rattle.rtps_planner.specs.Plan.{job_seen, jobs_by}
-use Rattle.rtps_shards.specs.declared.jobs.ReaderJob.{ReaderJob}
+use Rattle.rtps_shards.specs.declared.jobs.Posted.{Posted}
 use Rattle.rtps_shards.specs.Results.{IsDone, IsReady, rank_in, rank_of}
 use Rattle.dds_participant.specs.Sharing.{state_rank}
 use Rattle.dds_participant.proofs.Pairing.{idle_done, job_last, job_none, ranks_moved, ready, share_front, share_last, to_idle, to_work}
@@ -18,7 +18,7 @@ pair-preserved-in-Continue-branch-3 g c =
     let work = c.pair.work.items in
     let was : states ≡ front ++ state ∷ [] = search rules in
     let jobs : c.pair.jobs.items ≡ c.last_of.new.jobs.items ++ job ∷ [] = search rules in
-    let one_job : ReaderJob _ = record { job = job; state = state; output = c.lists_of-output.result } in
+    let one_job : Posted _ = record { job = job; state = state; output = c.lists_of-output.result } in
     let pushed : c.push.new.self.items ≡ work ++ one_job ∷ [] = c.in_ok-push-in-Some-last_of.ensures.items in
     let ranked : job.rank ≡ state.rank = c.in-Some-last_of.ensures.last ∙ c.rank.ensures in
     let all = map state_rank c.args.states.items in

@@ -1,0 +1,93 @@
+//! A board whose ends are on one thread.
+
+use super::{jobs_of, lines, three};
+use crate::{Batch, Board, NoGate, Stolen};
+use dds_topic::Shapes;
+use std::alloc::{AllocError, Global};
+use std::test::Fail;
+
+/// What is taken off a board by its owner, one after the other.
+fn taken(alloc: Global, board: &mut Board<u32>) -> Result<Vec<u32>, AllocError> {
+    let mut taken = Vec::new(alloc);
+    for _turn in 0..100 {
+        match board.pop() {
+            Some(item) => taken.push(item)?,
+            None => break,
+        }
+    }
+    Ok(taken)
+}
+
+#[test]
+fn pushes_past_the_capacity_are_taken_in_order_or_come_back(rt: HostRuntime) -> Result<(), Fail> {
+    let alloc = rt.alloc();
+    for capacity in [1, 2, 3, 64] {
+        let (board, _thieves) = Board::new(alloc, capacity, 0)?;
+        let mut board = board;
+        let mut pushed = Vec::new(alloc);
+        for item in 0..70_u32 {
+            match board.push(item) {
+                Ok(()) => pushed.push(item)?,
+                Err(back) => assert_eq!(rt; back, item),
+            }
+        }
+        assert!(rt; pushed.len() >= capacity);
+        let taken = taken(alloc, &mut board)?;
+        assert!(rt; taken.as_slice() == pushed.as_slice());
+    }
+    Ok(())
+}
+
+/// Whether this is the item.
+fn is_item(stolen: &Stolen<u32>, item: u32) -> bool {
+    match stolen {
+        Stolen::Item(stolen) => *stolen == item,
+        _ => false,
+    }
+}
+
+#[test]
+fn thieves_and_owner_take_in_turn(rt: HostRuntime) -> Result<(), Fail> {
+    let alloc = rt.alloc();
+    let (board, thieves) = Board::new(alloc, 4096, 63)?;
+    let mut board = board;
+    assert_eq!(rt; thieves.len(), 63);
+    for item in 0..64_u32 {
+        assert!(rt; board.push(item).is_ok());
+    }
+    let mut next = 0;
+    for thief in thieves {
+        let mut thief = thief;
+        assert!(rt; is_item(&thief.steal(), next));
+        next += 1;
+        board.give_back(thief);
+    }
+    assert!(rt; taken(alloc, &mut board)?.as_slice() == [63].as_slice());
+    Ok(())
+}
+
+#[test]
+fn a_thief_runs_the_one_job(rt: HostRuntime) -> Result<(), Fail> {
+    let alloc = rt.alloc();
+    let events = three(alloc)?;
+    let batch = Batch {
+        catalog: &Shapes,
+        gate: &NoGate,
+        events: &events,
+    };
+    let (board, thieves) = Board::new(alloc, 1, 1)?;
+    let mut board = board;
+    for job in jobs_of::<Shapes>(alloc, 1)? {
+        assert!(rt; board.push(job).is_ok());
+    }
+    for thief in thieves {
+        let mut thief = thief;
+        let lines = lines(alloc, thief.work(alloc, &batch)?)?;
+        let expected = [(0, Some(1)), (0, Some(2)), (0, Some(3))];
+        assert!(rt; lines.as_slice() == expected.as_slice());
+        assert!(rt; matches!(thief.steal(), Stolen::Empty));
+        board.give_back(thief);
+    }
+    assert!(rt; board.pop().is_none());
+    Ok(())
+}

@@ -1,0 +1,207 @@
+//! Jobs on a board, and those who run them.
+
+ghost use Rattle.std.specs.Prelude.{◌≡◌, ◌++◌, ◌∷◌, [], IfOk, List, OnErr, OnOk, map, slice_index_or, vec_len, ℕ, ◌<◌};
+ghost use Rattle.std.specs.List.Sorted.{IsPermutation};
+ghost use Rattle.rtps_receiver.specs.Events.{view};
+ghost use Rattle.rtps_shards.specs.Ends.{IsSameBoard, IsSameThief, owner_hand, thief_hand};
+ghost use Rattle.rtps_shards.specs.declared.jobs.Posted.{Posted};
+ghost use Rattle.rtps_shards.specs.Work.{AreDone, HasWorked, HaveAllDone, TakesSome, Works};
+
+use crate::apart::map_beside;
+use crate::board::{Board, Stolen, Thief};
+use crate::gate::Gate;
+use crate::jobs::{Batch, JobResult, Posted};
+use crate::workers::run_job;
+use dds_topic::{Catalog, Decoder};
+use std::alloc::{AllocError, Global};
+use std::thread;
+use std::thread::Threads;
+
+/// A thief after its turn, with what came of the jobs that it took.
+#[derive(Drop)]
+pub(crate) struct Worked<V> {
+    pub thief: Thief<Posted<V>>,
+    pub results: Result<Vec<JobResult<V>>, AllocError>,
+}
+
+/// Runs one job more.
+fn run_more<C: Catalog, G: Gate>(
+    alloc: Global,
+    batch: &Batch<'_, C, G>,
+    decoder: &mut Decoder<&C>,
+    results: &mut Vec<JobResult<C::Value>>,
+    work: Posted<C::Value>,
+) -> Result<(), AllocError>
+    ensures more { decoder.old.now ≡ batch.now.catalog.now → OnOk result
+        ((jobs : List (Posted C.Value)) → AreDone C.view (C.decoding batch.now.catalog.now)
+        (map view batch.now.events.now) jobs results.old.items
+        → AreDone C.view (C.decoding batch.now.catalog.now) (map view batch.now.events.now)
+        (jobs ++ work ∷ []) results.new.items) }
+    ensures same { decoder.new ≡ decoder.old }
+{
+    let done = run_job(alloc, batch, decoder, work)?;
+    results.push(done)?;
+    Ok(())
+}
+
+/// Takes jobs off the board and runs each at once, until there is none.
+#[tactic(auto, using(crate::proofs::Crews::works_none, crate::proofs::Crews::works_more))]
+fn run_own<C: Catalog, G: Gate>(
+    alloc: Global,
+    batch: &Batch<'_, C, G>,
+    board: &mut Board<Posted<C::Value>>,
+) -> Result<Vec<JobResult<C::Value>>, AllocError>
+    ensures board { IsSameBoard board.old board.new }
+    ensures works { IfOk result (λ rs. Works C.view (C.decoding batch.now.catalog.now)
+        (map view batch.now.events.now) (owner_hand board.old) (owner_hand board.new) rs.items) }
+{
+    let mut decoder = Decoder::new(alloc, batch.catalog);
+    let mut results = Vec::new(alloc);
+    for _turn in 0..u64::MAX {
+        match board.pop() {
+            Some(work) => run_more(alloc, batch, &mut decoder, &mut results, work)?,
+            None => break,
+        }
+    }
+    Ok(results)
+}
+
+/// Runs what is left on a board that has all its thieves back: then all that was pushed was taken.
+pub(crate) fn run_rest<C: Catalog, G: Gate>(
+    alloc: Global,
+    batch: &Batch<'_, C, G>,
+    board: &mut Board<Posted<C::Value>>,
+) -> Result<Vec<JobResult<C::Value>>, AllocError>
+    requires { (owner_hand board.old).parts ≡ 1024 }
+    ensures works { IfOk result (λ rs. Works C.view (C.decoding batch.now.catalog.now)
+        (map view batch.now.events.now) (owner_hand board.old) (owner_hand board.new) rs.items) }
+    ensures all { OnOk result (IsPermutation (owner_hand board.new).put
+        (owner_hand board.new).taken) }
+{
+    let mut decoder = Decoder::new(alloc, batch.catalog);
+    let mut results = Vec::new(alloc);
+    while let Some(work) = board.pop() {
+        run_more(alloc, batch, &mut decoder, &mut results, work)?;
+    }
+    Ok(results)
+}
+
+impl<V: Drop> Thief<Posted<V>> {
+    /// Steals jobs and runs each at once, until the board is empty. The results are in the order in
+    /// which the jobs were stolen. What the catalog keeps from one value to the next is this call's
+    /// own.
+    ///
+    /// An error is a refused growth: what the call has stolen is gone, with its results, and what it
+    /// hasn't is on the board still.
+    #[tactic(auto, using(crate::proofs::Crews::works_none, crate::proofs::Crews::works_more))]
+    pub fn work<C: Catalog<Value = V>, G: Gate>(
+        &mut self,
+        alloc: Global,
+        batch: &Batch<'_, C, G>,
+    ) -> Result<Vec<JobResult<V>>, AllocError>
+        ensures board { IsSameThief self.old self.new }
+        ensures works { IfOk result (λ rs. Works C.view (C.decoding batch.now.catalog.now)
+            (map view batch.now.events.now) (thief_hand self.old) (thief_hand self.new) rs.items) }
+        ensures lost { OnErr result (TakesSome (thief_hand self.old) (thief_hand self.new)) }
+    {
+        let mut decoder = Decoder::new(alloc, batch.catalog);
+        let mut results = Vec::new(alloc);
+        for _turn in 0..u64::MAX {
+            match self.steal() {
+                Stolen::Item(work) => run_more(alloc, batch, &mut decoder, &mut results, work)?,
+                Stolen::Empty => break,
+                Stolen::Again => thread::yield_now(),
+            }
+        }
+        Ok(results)
+    }
+}
+
+/// A thief works; it is given back by value.
+fn one_works<C: Catalog, G: Gate>(
+    alloc: Global,
+    batch: &Batch<'_, C, G>,
+    thief: Thief<Posted<C::Value>>,
+) -> Worked<C::Value>
+    ensures { HasWorked C.view (C.decoding batch.now.catalog.now) (map view batch.now.events.now)
+        thief result }
+{
+    let mut thief = thief;
+    let results = thief.work(alloc, batch);
+    Worked { thief, results }
+}
+
+/// The owner works; its board is given back by value.
+fn own_works<C: Catalog, G: Gate>(
+    alloc: Global,
+    batch: &Batch<'_, C, G>,
+    board: Board<Posted<C::Value>>,
+) -> (
+    Board<Posted<C::Value>>,
+    Result<Vec<JobResult<C::Value>>, AllocError>,
+)
+    ensures board { IsSameBoard board result.0 }
+    ensures works { IfOk result.1 (λ rs. Works C.view (C.decoding batch.now.catalog.now)
+        (map view batch.now.events.now) (owner_hand board) (owner_hand result.0) rs.items) }
+{
+    let mut board = board;
+    let results = run_own(alloc, batch, &mut board);
+    (board, results)
+}
+
+/// All thieves work, each on a thread of its own where one can be started.
+fn all_work<C: Catalog, G: Gate, R: Threads + Sync>(
+    rt: &R,
+    alloc: Global,
+    batch: &Batch<'_, C, G>,
+    thieves: Vec<Thief<Posted<C::Value>>>,
+) -> Result<Vec<Worked<C::Value>>, AllocError>
+    ensures { IfOk result (λ crew. HaveAllDone C.view (C.decoding batch.now.catalog.now)
+        (map view batch.now.events.now) thieves.items crew.items) }
+{
+    let run = |thief: Thief<Posted<C::Value>>| -> Worked<C::Value>
+        ensures { HasWorked C.view (C.decoding batch.entry.now.catalog.now)
+            (map view batch.entry.now.events.now) thief result }
+    { one_works(alloc, batch, thief) };
+    map_beside(rt, alloc, thieves, &run)
+}
+
+/// The owner takes jobs on a thread of its own while the thieves steal.
+pub(crate) fn both_work<C: Catalog, G: Gate, R: Threads + Sync>(
+    rt: &R,
+    alloc: Global,
+    batch: &Batch<'_, C, G>,
+    board: Board<Posted<C::Value>>,
+    thieves: Vec<Thief<Posted<C::Value>>>,
+) -> (
+    (
+        Board<Posted<C::Value>>,
+        Result<Vec<JobResult<C::Value>>, AllocError>,
+    ),
+    Result<Vec<Worked<C::Value>>, AllocError>,
+)
+    ensures board { IsSameBoard board result.0.0 }
+    ensures mine { IfOk result.0.1 (λ rs. Works C.view (C.decoding batch.now.catalog.now)
+        (map view batch.now.events.now) (owner_hand board) (owner_hand result.0.0) rs.items) }
+    ensures theirs { IfOk result.1 (λ crew. HaveAllDone C.view
+        (C.decoding batch.now.catalog.now) (map view batch.now.events.now) thieves.items
+        crew.items) }
+{
+    thread::join(
+        rt,
+        move || -> (
+            Board<Posted<C::Value>>,
+            Result<Vec<JobResult<C::Value>>, AllocError>,
+        )
+            ensures { IsSameBoard board result.0
+                × IfOk result.1 (λ rs. Works C.view (C.decoding batch.entry.now.catalog.now)
+                (map view batch.entry.now.events.now) (owner_hand board) (owner_hand result.0)
+                rs.items) }
+        { own_works(alloc, batch, board) },
+        move || -> Result<Vec<Worked<C::Value>>, AllocError>
+            ensures { IfOk result (λ crew. HaveAllDone C.view
+                (C.decoding batch.entry.now.catalog.now) (map view batch.entry.now.events.now)
+                thieves.items crew.items) }
+        { all_work(rt, alloc, batch, thieves) },
+    )
+}
