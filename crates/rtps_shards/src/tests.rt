@@ -187,27 +187,23 @@ fn no_jobs_are_no_results(rt: HostRuntime) -> Result<(), Fail> {
     Ok(())
 }
 
-/// Whether 200 jobs give one result for each rank, with so many workers.
-fn gives_each_rank<R: Threads + Sync>(
-    rt: &R,
-    alloc: Global,
-    workers: usize,
-) -> Result<bool, AllocError>
-    requires { (1 ≤ workers) × (workers ≤ 64) }
-{
+/// The ranks of results, in order.
+fn ranks(alloc: Global, results: Vec<JobResult<Shape>>) -> Result<Vec<u32>, AllocError> {
     let mut ranks = Vec::new(alloc);
-    for result in run(rt, alloc, &Shapes, &NoGate, (200, workers))? {
+    for result in &results {
         ranks.push(result.rank)?;
     }
     ranks.sort()?;
-    let expected: Vec<u32> = (0..200).collect(alloc)?;
-    Ok(ranks.as_slice() == expected.as_slice())
+    Ok(ranks)
 }
 
 #[test]
 fn each_of_many_jobs_gives_one_result(rt: HostRuntime) -> Result<(), Fail> {
+    let alloc = rt.alloc();
+    let expected: Vec<u32> = (0..200).collect(alloc)?;
     for workers in [1, 2, 7, 64] {
-        assert!(rt; gives_each_rank(&rt, rt.alloc(), workers)?);
+        let ranks = ranks(alloc, run(&rt, alloc, &Shapes, &NoGate, (200, workers))?)?;
+        assert!(rt; ranks.as_slice() == expected.as_slice());
     }
     Ok(())
 }

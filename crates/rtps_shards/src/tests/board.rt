@@ -39,7 +39,7 @@ fn pushes_past_the_capacity_are_taken_in_order_or_come_back(rt: HostRuntime) -> 
 }
 
 /// Whether this is the item.
-fn is_item(stolen: &Stolen<u32>, item: u32) -> bool {
+fn is_item(stolen: &Stolen<usize>, item: usize) -> bool {
     match stolen {
         Stolen::Item(stolen) => *stolen == item,
         _ => false,
@@ -47,22 +47,19 @@ fn is_item(stolen: &Stolen<u32>, item: u32) -> bool {
 }
 
 #[test]
-fn thieves_and_owner_take_in_turn(rt: HostRuntime) -> Result<(), Fail> {
-    let alloc = rt.alloc();
-    let (board, thieves) = Board::new(alloc, 4096, 63)?;
+fn thieves_take_in_the_order_of_the_pushes(rt: HostRuntime) -> Result<(), Fail> {
+    let (board, thieves) = Board::new(rt.alloc(), 4096, 63)?;
     let mut board = board;
-    assert_eq!(rt; thieves.len(), 63);
-    for item in 0..64_u32 {
+    for item in 0..64_usize {
         assert!(rt; board.push(item).is_ok());
     }
-    let mut next = 0;
-    for thief in thieves {
+    assert_eq!(rt; thieves.len(), 63);
+    for (at, thief) in thieves.into_iter().enumerate() {
         let mut thief = thief;
-        assert!(rt; is_item(&thief.steal(), next));
-        next += 1;
-        board.give_back(thief);
+        assert!(rt; is_item(&thief.steal(), at));
     }
-    assert!(rt; taken(alloc, &mut board)?.as_slice() == [63].as_slice());
+    assert_eq!(rt; board.pop(), Some(63));
+    assert_eq!(rt; board.pop(), None);
     Ok(())
 }
 
@@ -86,7 +83,6 @@ fn a_thief_runs_the_one_job(rt: HostRuntime) -> Result<(), Fail> {
         let expected = [(0, Some(1)), (0, Some(2)), (0, Some(3))];
         assert!(rt; lines.as_slice() == expected.as_slice());
         assert!(rt; matches!(thief.steal(), Stolen::Empty));
-        board.give_back(thief);
     }
     assert!(rt; board.pop().is_none());
     Ok(())
