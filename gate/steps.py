@@ -42,8 +42,8 @@ class Gate:
 
 def code_sum(top):
     """A sum of the code that judges, and of the file HANDLES."""
-    found = [path for path in sorted((top / "gate").glob("*.py")) if path.name != "tests.py"]
-    return sum_of([top / "check", top / "HANDLES", *found], top)
+    judges = [path for path in sorted((top / "gate").glob("*.py")) if path.stem not in ("tests", "tasks", "program")]
+    return sum_of([top / "check", top / "HANDLES", *judges], top)
 
 
 def beyond(text, handles):

@@ -111,8 +111,10 @@ def run_all(tasks, say, count=None):
         while True:
             ready = sorted((task for task in left if ended.issuperset(task.waits)), key=lambda task: -behind[task.name])
             idle = count - sum(jobs for _, jobs, _ in running.values())
-            for at, task in enumerate(ready[:idle]):
-                jobs = max(1, min(MOST_JOBS, idle // (len(ready) - at)))
+            for at, task in enumerate(ready[: max(idle, 0)]):
+                # What others wait for gets a second processor, also where all are in use: the longest chain decides.
+                least = 1 + (behind[task.name] > task.work)
+                jobs = max(least, min(MOST_JOBS, idle // (len(ready) - at)))
                 idle -= jobs
                 left.remove(task)
                 running[pool.submit(task.call, jobs)] = task, jobs, time.time()
