@@ -1,7 +1,6 @@
 use Rattle.std.proofs.Common.{◌∙◌, map, rules}
 use Rattle.rtps_shards.specs.Ends.{owner_hand}
 use Rattle.rtps_receiver.specs.Events.{view}
-use Rattle.rtps_shards.specs.Board.{hand}
 use Rattle.rtps_shards.proofs.Crews.{works_more}
 use Rattle.rtps_shards.proofs.work.run_own.Goals as goal
 

@@ -1,7 +1,6 @@
 use Rattle.std.proofs.Common.{◌∙◌, ap, map, rules}
 use Rattle.rtps_shards.specs.Ends.{owner_hand}
 use Rattle.rtps_receiver.specs.Events.{view}
-use Rattle.rtps_shards.specs.Board.{hand}
 use Rattle.rtps_shards.specs.declared.board.Hand.{Hand}
 use Rattle.rtps_shards.proofs.Crews.{works_more, works_none}
 use Rattle.rtps_shards.proofs.work.run_rest.Goals as goal

@@ -1,6 +1,5 @@
 use Rattle.std.proofs.Common.{◌≡◌, ◌∙◌, ◌++◌, ◌∷◌, [], All, ap, append_assoc, arith, length, length-append, rules, subst, sym}
 use Rattle.rtps_shards.specs.Ends.{owner_hand, thief_hand}
-use Rattle.rtps_receiver.specs.Events.{view}
 use Rattle.rtps_shards.specs.Board.{hand}
 use Rattle.rtps_shards.specs.Work.{HasDone, IsBack, Works}
 use Rattle.rtps_shards.proofs.Crews.{back_more, ok_is}

@@ -1,6 +1,6 @@
 use Rattle.std.proofs.Common.{◌≡◌, ◌++◌, List, length}
 use Rattle.rtps_shards.specs.Ends.{IsSameBoard, owner_hand}
-use Rattle.rtps_receiver.specs.Events.{EventView, view}
+use Rattle.rtps_receiver.specs.Events.{EventView}
 use Rattle.dds_topic.specs.Decoding.{Decoding}
 use Rattle.rtps_shards.specs.Work.{AreDone, HasDone, IsBack}
 use Rattle.std.specs.Prelude.{All}

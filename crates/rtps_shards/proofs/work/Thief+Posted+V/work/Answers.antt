@@ -1,7 +1,6 @@
 use Rattle.std.proofs.Common.{◌∙◌, map, rules, subst, sym}
 use Rattle.rtps_shards.specs.Ends.{thief_hand}
 use Rattle.rtps_receiver.specs.Events.{view}
-use Rattle.rtps_shards.specs.Board.{hand}
 use Rattle.rtps_shards.specs.declared.board.Hand.{Hand}
 use Rattle.rtps_shards.specs.Work.{Works}
 use Rattle.rtps_shards.proofs.Crews.{on_err, takes_more, works_more}
