@@ -157,7 +157,7 @@ impl<V, A: Allocator> Inlet<V, A> {
     }
 
     /// Takes the next notice out of the ring, or gives `None` where it sees none. A notice that was
-    /// put back comes first. Each pop frees a place, but of a notice that was put back.
+    /// put back comes first; its place was freed when it was first popped.
     pub fn pop(&mut self) -> Option<Notice<V>>
     where
         V: Drop,
