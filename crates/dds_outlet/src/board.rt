@@ -34,7 +34,7 @@ type BoardReader = Reader<Shown, Known, OneHistory>;
 ///     // in the thread that receives
 ///     let published = board.publish(&rt, Row { batch: 1, statuses });
 ///     let told = board.tell();
-///     // in the other thread: row 1, or a later one
+///     // in the other thread: the row that was published, or a later one
 ///     reader.learn(told);
 ///     let look = reader.look(0);
 /// }
