@@ -221,7 +221,7 @@ def read_edits(crate, folders):
 
 def try_edits(gate, crate, folders, jobs):
     """Tries those of a crate's edits that weren't refused before with all that they hang on as it is now: several in one
-    check, and alone each that is not refused there."""
+    check, then those that were not refused there, as one that waits for another edit's function, at last each alone."""
     judge = Path(editing.__file__)
     base = joined_sum(sum_of([judge], judge.parent), shown_total(gate, crate))
     found, faults = read_edits(crate, folders)
@@ -232,14 +232,13 @@ def try_edits(gate, crate, folders, jobs):
         group, checks = groups.pop(0), checks + 1
         said, seconds = judged(gate, crate, group, jobs)
         done.seconds += seconds
-        for edit, why in said.items():
-            name = f"{crate.name}/{edit.name}"
-            if not why:
-                gate.kept.note(name, joined_sum(base, repr(edit)), 1)
-            elif len(group) > 1:
-                groups.append([edit])
-            else:
-                done.failed[name] = f"{name}: {why}"
+        for edit in (edit for edit in group if not said[edit]):
+            gate.kept.note(f"{crate.name}/{edit.name}", joined_sum(base, repr(edit)), 1)
+        rest = [edit for edit in group if said[edit]]
+        if len(group) == 1:
+            done.failed.update({f"{crate.name}/{edit.name}": f"{crate.name}/{edit.name}: {said[edit]}" for edit in rest})
+        else:
+            groups += [rest] if 0 < len(rest) < len(group) else [[edit] for edit in rest]
     done.passed = len(found) - sum(f"{crate.name}/{edit.name}" in done.failed for edit in found)
     done.says = f"{done.passed} refused, {len(found) - len(left)} of them before; {checks} checks"
     return done
@@ -294,4 +293,4 @@ def other_tasks(gate):
             for name, script in SCRIPTS:
                 words = ["python3", str(TOP / "conformance" / script), str(crate.out / crate.name)]
                 call = lambda jobs, name=name, words=words: passes(name, words, TOP, r"^(\d+) passed, 0 failed\s*\Z")
-                yield task(name, total, call, waits)
+                yield task(name, total, call, waits, FIRST)

@@ -166,10 +166,20 @@ class Repository(unittest.TestCase):
             (ONE, [LINES[2], fault("one", "`returns`: `octet` is not in scope")], False),
             (ONE, [LINES[2], fault("first", "`returns`: the two types differ")], False),
             (ONE, [waits, fault("one", "`returns`: the two types differ")], True), (ONE, [waits], False),
+            (ONE, [waits.replace("not proved;", "no proof: `search` did not prove `returns`;", 1)], True),
             (ONE, [f"{path}[unknown-name]: cannot find value", *LINES], False),
             (ONE, ["specs/One.antt:3:4: error: `one` is not in scope", *LINES], False), (ONE, ["fn low::one: proved"], False),
         ):
             self.assertEqual(is_refused, edits.judge(edit, "low", lines) is None, (edit.name, lines))
+
+    def test_edits_that_wait_for_others_are_tried_together_again(self):
+        for edit in (FIRST, NEXT, ONE):
+            file, old, new = edit.pairs[0]
+            self.write(f"crates/low/must-fail/{edit.name}.edit", f"# by: {edit.by}\nfile: {file}\nold: {old}\nnew: {new}\n")
+        last = ["fn low::HeaderIterator::next: no proof: `search` did not prove `returns`"]
+        said = lambda words, folder: tasks.Ran(1, "\n".join(LINES if "low::one" in words else last), 1.0)
+        with mock.patch.object(steps, "run", said):
+            self.assertEqual((3, "3 refused, 0 of them before; 2 checks"), (lambda it: (it.passed, it.says))(steps.try_edits(self.gate, self.low, ("must-fail",), 1)))
 
     def test_an_edit_that_is_let_through_fails_alone_and_among_others(self):
         for edit in (FIRST, ONE):
