@@ -122,6 +122,16 @@ class Repository(unittest.TestCase):
         steps.once(self.gate, "rows", lambda: "c", lambda: steps.failure("rows", "why"))
         self.assertEqual(0, self.kept.passed("rows", "c"))
 
+    def test_a_crate_that_is_known_and_built_is_neither_proved_nor_built_again(self):
+        calls = []
+        text = "empty contracts: 0 found; tried 3 of 3 functions\nlogic=proved functions=3"
+        with mock.patch.object(steps, "run", lambda words, folder: calls.append(words[1]) or tasks.Ran(0, text, 1.0)):
+            spoils = (lambda: None, lambda: None, lambda: self.write(f"{LIBRARY}/format", "another"),
+                      lambda: self.write("crates/low/src/lib.rt", "// another"), lambda: setattr(self.gate, "code", "code 2"))
+            for spoil, done in zip(spoils, (["check", "lib"], [], ["lib"], ["check", "lib"], ["check"])):
+                spoil(), calls.clear()
+                self.assertEqual(({}, done), (steps.prove(self.gate, self.low, 1).failed, calls))
+
     def test_where_nothing_can_be_written_nothing_is_kept_there(self):
         with mock.patch.dict("os.environ", {"CHECK_KEPT": str(self.top / "HANDLES" / "kept")}):
             folder = default_folder()
@@ -242,8 +252,8 @@ class Repository(unittest.TestCase):
     def test_a_file_that_is_not_laid_out_is_named(self):
         for text in ("fn main() {}\n", "fn  main( ) {}\n"):
             self.write("crates/rtps_listen/src/main.rt", text)
-            with tempfile.TemporaryDirectory() as room:
-                self.assertEqual(text == "fn main() {}\n", not steps.laid_out(self.high, Path(room)))
+            done = steps.layout(steps.Gate([self.high], None, self.kept, set()))
+            self.assertEqual(text == "fn main() {}\n", "main.rt is not in the layout" not in done.failed.get("layout", ""))
         self.assertTrue(all((TOP / name).is_file() for name in ("check", "run")))
 
 
