@@ -100,7 +100,7 @@ def chains(tasks):
 
 
 def called(task, jobs, is_last):
-    """Does a task; where no other waits for it, its commands give way to those of the chain, which decides how long a run takes."""
+    """Does a task. Where no other waits for it, its commands give way to those of tasks that others wait for."""
     THIS_TASK.before = ("nice", "-n", "10") if is_last else ()
     return task.call(jobs)
 
@@ -121,12 +121,14 @@ def run_all(tasks, say, count=None):
             ready = sorted((task for task in left if ended.issuperset(task.waits)), key=lambda task: -behind[task.name])
             idle = count - sum(jobs for _, jobs, _ in running.values())
             for at, task in enumerate(ready[: max(idle, 0)]):
-                # What others wait for gets a second processor, also where all are in use: the longest chain decides.
+                # What others wait for gets a second processor, also where all are in use, and the head of the longest
+                # chain as many jobs as it can have: that chain decides how long a run takes.
                 is_last = behind[task.name] == task.work
+                is_head = not is_last and behind[task.name] == max(behind[each.name] for each in left)
                 jobs = max(1 if is_last else 2, min(MOST_JOBS, idle // (len(ready) - at)))
                 idle -= jobs
                 left.remove(task)
-                running[pool.submit(called, task, jobs, is_last)] = task, jobs, time.time()
+                running[pool.submit(called, task, MOST_JOBS if is_head else jobs, is_last)] = task, jobs, time.time()
             if not running:
                 return passed, failed, [task.name for task in left]
             for future in wait(running, return_when=FIRST_COMPLETED).done:
