@@ -144,13 +144,13 @@ moves k d moment m is e = record {
 }
 
 -- they leave
-pub record Expires (moment : ℕ) (k : Known) (new : HeldView) (told : List ChangeAt) : Type 0 where
+pub record Expires (moment : ℕ) (k : Known) (new : HeldView) (ended : List ChangeAt) : Type 0 where
   pub known : IsKnown (passed moment k) new
-  pub changes : told ≡ changes (moved moment k) (passed moment k)
+  pub changes : ended ≡ changes (moved moment k) (passed moment k)
 
-pub expires : (k : Known) (d new : HeldView) (moment : ℕ) (gone : List GuidPrefix) (told : List ChangeAt) → IsKnown (moved moment k) d → ((p : GuidPrefix) → has_prefix gone p ≡ has_due d.leases d.moment p)
-    → Applies (Leave gone) d new [] told → Expires moment k new told
-expires k d new moment gone told is due applies =
+pub expires : (k : Known) (d new : HeldView) (moment : ℕ) (gone : List GuidPrefix) (ended : List ChangeAt) → IsKnown (moved moment k) d → ((p : GuidPrefix) → has_prefix gone p ≡ has_due d.leases d.moment p)
+    → Applies (Leave gone) d new [] ended → Expires moment k new ended
+expires k d new moment gone ended is due applies =
     let same : known_after (moved moment k) (Leave gone) ≡ passed moment k = same_leave (moved moment k) gone (expired (moved moment k)) (same_gone (moved moment k) d gone is due) in
     record {
       known = rw (← same) (applies.known (moved moment k) is);

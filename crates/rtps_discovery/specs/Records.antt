@@ -6,7 +6,7 @@ use Rattle.rtps_types.specs.declared.identity.EntityId.{EntityId}
 use Rattle.rtps_types.specs.declared.identity.GuidPrefix.{GuidPrefix}
 use Rattle.rtps_receiver.specs.EventBody.{EventBody, Whole, Fragment, Heartbeat, Gap, HeartbeatFrag}
 use Rattle.rtps_receiver.specs.Events.{EventView}
-use Rattle.rtps_proxy.specs.History.{MatchEvent, ChangeView, match_event_of}
+use Rattle.rtps_proxy.specs.History.{ChangeView, match_event_of}
 use Rattle.rtps_proxy.specs.Effects.{answer_of, ready_of}
 use Rattle.rtps_proxy.specs.Matches.{Match, extended, match_with}
 use Rattle.rtps_proxy.specs.Replies.{ReplyView}
