@@ -8,12 +8,11 @@ ghost use Rattle.rtps_text.specs.Batched.{IsSameRun};
 ghost use Rattle.rtps_text.specs.Replayed.{HasSaid};
 
 use crate::answering::send_answers;
-use crate::exchange::Exchange;
 use crate::printer::Printer;
 use crate::running::RunLines;
 use crate::texts::Texts;
 use dds_topic::TextCatalog;
-use rtps_records::{Batch, Lines, ReceiveEnd, RunFault};
+use rtps_records::{Batch, Exchange, Lines, ReceiveEnd, RunFault};
 use std::alloc::AllocError;
 use std::io::Write;
 use std::thread::Threads;
