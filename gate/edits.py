@@ -122,8 +122,9 @@ def judge(edit, crate, lines):
     faults = [found[1] for line in lines if (found := own.match(line))]
     goals = [fault for fault in faults if not NAMES.search(fault)]
     if OF_OTHERS.search(said):
-        # An answer that doesn't fit its goal is a fault of the function's own, whatever it calls.
-        is_own = said.startswith("not proved") and any(re.match("`[^`]+`: ", goal) for goal in goals)
+        # Its own are a goal that the checker looked for in vain, and an answer that doesn't fit its goal: both see the
+        # contracts of what it calls, and no body.
+        is_own = "did not prove" in said or said.startswith("not proved") and any(re.match("`[^`]+`: ", it) for it in goals)
         return None if is_own else f"BAD EDIT: {edit.by} only waits for another function: {said[:200]}"
     if "did not prove" in said or goals:
         return None

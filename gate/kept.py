@@ -17,6 +17,8 @@ from pathlib import Path
 from gate.crates import joined_sum, tree_sum
 
 RECORD = "record.json"
+IN_PLACE = ("rattle-last-used", "offered.json")
+"""Files of its work that the toolchain writes in place."""
 
 
 def default_folder():
@@ -37,10 +39,10 @@ def link_tree(source, target):
 
 
 def linked(source, target):
-    """Links a file of the toolchain's, which it writes anew and never in place; one right in an out folder, as a program,
-    is written in place, and copied."""
+    """Links a file of the toolchain's that it writes anew; what it writes in place, as a program right in an out folder,
+    is copied, so that no later run changes a folder that is kept."""
     try:
-        if Path(source).parent.name == "out":
+        if Path(source).parent.name == "out" or Path(source).name in IN_PLACE:
             raise OSError
         os.link(source, target)
     except OSError:

@@ -9,8 +9,8 @@ from functools import partial
 from pathlib import Path
 
 from gate import edits as editing
-from gate.crates import PARTS, TOP, joined_sum, sources_sum, strays, sum_of
-from gate.rooms import BESIDE, copied
+from gate.crates import TOP, joined_sum, sources_sum, strays, sum_of, tree_sum
+from gate.rooms import BESIDE
 from gate.tasks import Done, Task, run
 
 LISTENER = "rtps_listen"
@@ -97,42 +97,35 @@ def run_total(gate, crate, beside=()):
 
 
 def layout(gate):
-    """Has rt fmt lay out a copy of each crate: none of its files may change, and no check may leave one out."""
-    other = [f"{path}: no check reads it" for path in strays(TOP, gate.crates)]
-    with tempfile.TemporaryDirectory() as room:
-        for crate in gate.crates:
-            other += laid_out(crate, Path(room) / crate.name)
-    return failure("layout", "\n".join(other)) if other else Done(1, says="every file is as rt fmt lays it out")
-
-
-def laid_out(crate, folder):
-    """What rt fmt says of a copy of a crate where it fails, and which files it lays out otherwise there."""
-    inside = folder / "crates" / crate.name
-    copied(crate, inside, PARTS)
-    (folder / "crates.txt").write_text(f"{crate.line}\n", encoding="utf-8")
-    ran = run(["rt", "fmt"], inside)
-    other = [path for path in crate.files() if path.read_bytes() != (inside / path.relative_to(crate.folder)).read_bytes()]
-    said = [f"{path.relative_to(crate.folder.parent)} is not in the layout of rt fmt" for path in other]
-    return [f"{crate.name}: {ran.text}", *said] if ran.status else said
+    """Every file has to be as rt fmt lays it out, and no check may leave one out."""
+    files = [path for crate in gate.crates for path in crate.files()]
+    ran = run([Path(shutil.which("rt")).resolve().with_name("rattle"), "fmt", "--check", *files], TOP)
+    unread = "".join(f"{path}: no check reads it\n" for path in strays(TOP, gate.crates))
+    if ran.status or unread:
+        return failure("layout", unread + ran.text, ran.seconds)
+    return Done(1, says="every file is as rt fmt lays it out", seconds=ran.seconds)
 
 
 def prove(gate, crate, jobs, is_judged=True):
-    """Proves a crate over the work that is kept, unless it is known to be proved, and has rt build its library, which it
-    does where a file changed that it is made from. What is not judged is proved by that alone, and not recorded."""
-    total = joined_sum(gate.code, shown_total(gate, crate))
+    """Proves a crate over the work that is kept, and has rt build its library; either only where it isn't known to be done
+    with all that it hangs on as it is. What is not judged is proved by the library alone, and not recorded."""
+    built = lambda: joined_sum(sources_sum(crate, gate.kept.toolchain), tree_sum(crate.out / "rlib"))
+    total, library = joined_sum(gate.code, shown_total(gate, crate)), f"{crate.name}: library"
     is_known = is_judged and gate.kept.passed(crate.name, total) > 0
-    words = [["rt", "check", "--empty-contracts"]] * (is_judged and not is_known) + [["rt", "lib"]] * (not crate.is_program)
-    seconds, said = 0.0, ""
-    with gate.rooms.room(crate) as inside:
-        for each in words:
-            ran = run([*each, "--jobs", str(jobs)], inside.folder)
-            seconds, said = seconds + ran.seconds, said + ran.text
-            why = (beyond(ran.text, gate.handles) or unmet(ran.text)) if each[1] == "check" else ""
-            if ran.status or why:
-                return failure(crate.name, f"{ran.text}{crate.name}: {why or 'not proved'}", seconds)
-        if said or not is_known:
+    has_library = crate.is_program or gate.kept.passed(library, built()) > 0
+    words = [["rt", "check", "--empty-contracts"]] * (is_judged and not is_known) + [["rt", "lib"]] * (not has_library)
+    seconds = 0.0
+    if words:
+        with gate.rooms.room(crate) as inside:
+            for each in words:
+                ran = run([*each, "--jobs", str(jobs)], inside.folder)
+                seconds += ran.seconds
+                why = (beyond(ran.text, gate.handles) or unmet(ran.text)) if each[1] == "check" else ""
+                if ran.status or why:
+                    return failure(crate.name, f"{ran.text}{crate.name}: {why or 'not proved'}", seconds)
             gate.rooms.adopt(crate, inside)
-            gate.kept.keep(crate)
+        gate.kept.keep(crate)
+        gate.kept.note(library, built(), 1)
     if is_judged:
         gate.kept.note(crate.name, total, 1)
     return Done(1, says="proved before" if is_known else "proved", seconds=seconds)
@@ -221,7 +214,7 @@ def read_edits(crate, folders):
 
 def try_edits(gate, crate, folders, jobs):
     """Tries those of a crate's edits that weren't refused before with all that they hang on as it is now: several in one
-    check, and alone each that is not refused there."""
+    check, then those that were not refused there, as one that waits for another edit's function, at last each alone."""
     judge = Path(editing.__file__)
     base = joined_sum(sum_of([judge], judge.parent), shown_total(gate, crate))
     found, faults = read_edits(crate, folders)
@@ -232,14 +225,13 @@ def try_edits(gate, crate, folders, jobs):
         group, checks = groups.pop(0), checks + 1
         said, seconds = judged(gate, crate, group, jobs)
         done.seconds += seconds
-        for edit, why in said.items():
-            name = f"{crate.name}/{edit.name}"
-            if not why:
-                gate.kept.note(name, joined_sum(base, repr(edit)), 1)
-            elif len(group) > 1:
-                groups.append([edit])
-            else:
-                done.failed[name] = f"{name}: {why}"
+        for edit in (edit for edit in group if not said[edit]):
+            gate.kept.note(f"{crate.name}/{edit.name}", joined_sum(base, repr(edit)), 1)
+        rest = [edit for edit in group if said[edit]]
+        if len(group) == 1:
+            done.failed.update({f"{crate.name}/{edit.name}": f"{crate.name}/{edit.name}: {said[edit]}" for edit in rest})
+        else:
+            groups += [rest] if 0 < len(rest) < len(group) else [[edit] for edit in rest]
     done.passed = len(found) - sum(f"{crate.name}/{edit.name}" in done.failed for edit in found)
     done.says = f"{done.passed} refused, {len(found) - len(left)} of them before; {checks} checks"
     return done
@@ -294,4 +286,4 @@ def other_tasks(gate):
             for name, script in SCRIPTS:
                 words = ["python3", str(TOP / "conformance" / script), str(crate.out / crate.name)]
                 call = lambda jobs, name=name, words=words: passes(name, words, TOP, r"^(\d+) passed, 0 failed\s*\Z")
-                yield task(name, total, call, waits)
+                yield task(name, total, call, waits, FIRST)

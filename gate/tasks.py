@@ -3,6 +3,7 @@
 import os
 import signal
 import subprocess
+import threading
 import time
 import traceback
 from concurrent.futures import FIRST_COMPLETED, ThreadPoolExecutor, wait
@@ -15,6 +16,8 @@ MEMORY_EACH = 4_000_000_000
 MOST_JOBS = 4
 RUNNING = set()
 """Process numbers of the commands that run."""
+THIS_TASK = threading.local()
+"""What stands before each command of the task that this thread does: others wait for its end, or it gives way to them."""
 
 
 class Ran(NamedTuple):
@@ -52,7 +55,7 @@ class Task:
 def run(words, folder):
     """Runs a command to its end, without input, with what it prints in one text."""
     how = {"stdin": subprocess.DEVNULL, "stdout": subprocess.PIPE, "stderr": subprocess.STDOUT}
-    with subprocess.Popen(words, cwd=folder, **how) as started:
+    with subprocess.Popen([*getattr(THIS_TASK, "before", ()), *words], cwd=folder, **how) as started:
         RUNNING.add(started.pid)
         try:
             printed = started.stdout.read().decode(errors="replace")
@@ -96,6 +99,12 @@ def chains(tasks):
     return {name: chain(name) for name in works}
 
 
+def called(task, jobs, is_last):
+    """Does a task. Where no other waits for it, its commands give way to those of tasks that others wait for."""
+    THIS_TASK.before = ("nice", "-n", "10") if is_last else ()
+    return task.call(jobs)
+
+
 def outcome(task, future):
     """What a task gives; where it ended by a fault of this program, a failure of its own."""
     fault = future.exception()
@@ -112,12 +121,14 @@ def run_all(tasks, say, count=None):
             ready = sorted((task for task in left if ended.issuperset(task.waits)), key=lambda task: -behind[task.name])
             idle = count - sum(jobs for _, jobs, _ in running.values())
             for at, task in enumerate(ready[: max(idle, 0)]):
-                # What others wait for gets a second processor, also where all are in use: the longest chain decides.
-                least = 1 + (behind[task.name] > task.work)
-                jobs = max(least, min(MOST_JOBS, idle // (len(ready) - at)))
+                # What others wait for gets a second processor, also where all are in use, and the head of the longest
+                # chain as many jobs as it can have: that chain decides how long a run takes.
+                is_last = behind[task.name] == task.work
+                is_head = not is_last and behind[task.name] == max(behind[each.name] for each in left)
+                jobs = max(1 if is_last else 2, min(MOST_JOBS, idle // (len(ready) - at)))
                 idle -= jobs
                 left.remove(task)
-                running[pool.submit(task.call, jobs)] = task, jobs, time.time()
+                running[pool.submit(called, task, MOST_JOBS if is_head else jobs, is_last)] = task, jobs, time.time()
             if not running:
                 return passed, failed, [task.name for task in left]
             for future in wait(running, return_when=FIRST_COMPLETED).done:

@@ -122,6 +122,16 @@ class Repository(unittest.TestCase):
         steps.once(self.gate, "rows", lambda: "c", lambda: steps.failure("rows", "why"))
         self.assertEqual(0, self.kept.passed("rows", "c"))
 
+    def test_a_crate_that_is_known_and_built_is_neither_proved_nor_built_again(self):
+        calls = []
+        text = "empty contracts: 0 found; tried 3 of 3 functions\nlogic=proved functions=3"
+        with mock.patch.object(steps, "run", lambda words, folder: calls.append(words[1]) or tasks.Ran(0, text, 1.0)):
+            spoils = (lambda: None, lambda: None, lambda: self.write(f"{LIBRARY}/format", "another"),
+                      lambda: self.write("crates/low/src/lib.rt", "// another"), lambda: setattr(self.gate, "code", "code 2"))
+            for spoil, done in zip(spoils, (["check", "lib"], [], ["lib"], ["check", "lib"], ["check"])):
+                spoil(), calls.clear()
+                self.assertEqual(({}, done), (steps.prove(self.gate, self.low, 1).failed, calls))
+
     def test_where_nothing_can_be_written_nothing_is_kept_there(self):
         with mock.patch.dict("os.environ", {"CHECK_KEPT": str(self.top / "HANDLES" / "kept")}):
             folder = default_folder()
@@ -166,10 +176,20 @@ class Repository(unittest.TestCase):
             (ONE, [LINES[2], fault("one", "`returns`: `octet` is not in scope")], False),
             (ONE, [LINES[2], fault("first", "`returns`: the two types differ")], False),
             (ONE, [waits, fault("one", "`returns`: the two types differ")], True), (ONE, [waits], False),
+            (ONE, [waits.replace("not proved;", "no proof: `search` did not prove `returns`;", 1)], True),
             (ONE, [f"{path}[unknown-name]: cannot find value", *LINES], False),
             (ONE, ["specs/One.antt:3:4: error: `one` is not in scope", *LINES], False), (ONE, ["fn low::one: proved"], False),
         ):
             self.assertEqual(is_refused, edits.judge(edit, "low", lines) is None, (edit.name, lines))
+
+    def test_edits_that_wait_for_others_are_tried_together_again(self):
+        for edit in (FIRST, NEXT, ONE):
+            file, old, new = edit.pairs[0]
+            self.write(f"crates/low/must-fail/{edit.name}.edit", f"# by: {edit.by}\nfile: {file}\nold: {old}\nnew: {new}\n")
+        last = ["fn low::HeaderIterator::next: no proof: `search` did not prove `returns`"]
+        said = lambda words, folder: tasks.Ran(1, "\n".join(LINES if "low::one" in words else last), 1.0)
+        with mock.patch.object(steps, "run", said):
+            self.assertEqual((3, "3 refused, 0 of them before; 2 checks"), (lambda it: (it.passed, it.says))(steps.try_edits(self.gate, self.low, ("must-fail",), 1)))
 
     def test_an_edit_that_is_let_through_fails_alone_and_among_others(self):
         for edit in (FIRST, ONE):
@@ -232,8 +252,8 @@ class Repository(unittest.TestCase):
     def test_a_file_that_is_not_laid_out_is_named(self):
         for text in ("fn main() {}\n", "fn  main( ) {}\n"):
             self.write("crates/rtps_listen/src/main.rt", text)
-            with tempfile.TemporaryDirectory() as room:
-                self.assertEqual(text == "fn main() {}\n", not steps.laid_out(self.high, Path(room)))
+            done = steps.layout(steps.Gate([self.high], None, self.kept, set()))
+            self.assertEqual(text == "fn main() {}\n", "main.rt is not in the layout" not in done.failed.get("layout", ""))
         self.assertTrue(all((TOP / name).is_file() for name in ("check", "run")))
 
 

@@ -1,8 +1,10 @@
 -- A participant comes, or speaks again.
-use Rattle.std.proofs.Common.{◌≡◌, List, [], ◌∷◌, Bool, true, false, if◌then◌else◌, refl, ap, ◌∙◌}
+use Rattle.std.proofs.Common.{◌≡◌, ℕ, List, [], ◌∷◌, Bool, true, false, if◌then◌else◌, refl, sym, ap, subst, ◌∙◌}
 use Rattle.std.specs.Prelude.{is_some}
 use Rattle.std.specs.BTreeMap.{insert_entry}
 use Rattle.std.specs.List.{AllByRecursion}
+use Rattle.std.specs.List.Sorted.{IsStrictlySortedBy}
+use Rattle.std.specs.Map.{keys_of}
 use Rattle.std.specs.Ordering.{match_ordering}
 use Rattle.std.specs.declared.cmp.Ordering.{Ordering}
 use Rattle.std.specs.declared.cmp.Ordering.TheVariants.{Less, Equal, Greater}
@@ -14,7 +16,8 @@ use Rattle.rtps_proxy.specs.Matches.{AllStand, Match, begun}
 use Rattle.rtps_discovery.specs.Announcement.{Comes, Facts}
 use Rattle.rtps_discovery.specs.Changes.{ChangeAt}
 use Rattle.rtps_discovery.specs.Known.{Known, Participant, announcer, known_after, participant_at, prefix_order, publications_reader, publications_writer, subscriptions_reader, subscriptions_writer, where_announced, with_announcers}
-use Rattle.rtps_discovery.specs.Kept.{Applies, HeldView, is_announcer, participant_in}
+use Rattle.rtps_discovery.specs.Kept.{Applies, HeldView, IsKnown, is_announcer, participant_in}
+use Rattle.rtps_discovery.specs.Ends.{Covers}
 use Rattle.rtps_discovery.proofs.Unheard.{quiet}
 
 abbrev Announce : List Match → Type 0
@@ -38,20 +41,25 @@ with_announces own p f ms all =
     announced_where f.announces_readers (announcer own p subscriptions_writer subscriptions_reader f.metatraffic) (where_announced f.announces_writers (announcer own p publications_writer publications_reader f.metatraffic) ms) refl
     (announced_where f.announces_writers (announcer own p publications_writer publications_reader f.metatraffic) ms refl all)
 
-abbrev told_of : Facts → Participant
-told_of f = record { locators = f.locators; lease = f.lease }
+abbrev told_of : ℕ → Facts → Participant
+told_of moment f = record { locators = f.locators; lease = f.lease; heard = moment }
 
-pub comes : (d : HeldView) (p : GuidPrefix) (f : Facts) (ps : List (GuidPrefix × Participant)) (proxies : List (Guid × proxy.ProxyView)) (earlier : List ChangeAt)
-    → ps ≡ insert_entry prefix_order d.participants p (told_of f)
+pub comes : (d : HeldView) (p : GuidPrefix) (f : Facts) (ps : List (GuidPrefix × Participant)) (leases : List (ℕ × GuidPrefix)) (proxies : List (Guid × proxy.ProxyView)) (earlier : List ChangeAt)
+    → ps ≡ insert_entry prefix_order d.participants p (told_of d.moment f)
+    → IsStrictlySortedBy prefix_order (keys_of ps)
+    → (Covers d.leases d.participants → Covers leases ps)
     → ((ms : List Match) → AllStand ms d.announcers → AllStand (if is_some (participant_in p d.participants) then ms else with_announcers d.own p f ms) proxies)
-    → Applies (Comes p f) d (record d { participants = ps; announcers = proxies }) earlier earlier
-comes d p f ps proxies earlier e begin = record {
+    → Applies (Comes p f) d (record d { participants = ps; leases = leases; announcers = proxies }) earlier earlier
+comes d p f ps leases proxies earlier e up renew begin = record {
   known = λ k is. record {
     own = is.own;
+    moment = is.moment;
     readers = is.readers;
     fixed = is.fixed;
     started = is.started;
-    participants = e ∙ ap (λ (l : List (GuidPrefix × Participant)). insert_entry prefix_order l p (told_of f)) is.participants;
+    participants = entered k is;
+    in_order = subst (λ (es : List (GuidPrefix × Participant)). IsStrictlySortedBy prefix_order (keys_of es)) (entered k is) up;
+    leases = subst (Covers leases) (entered k is) (renew (subst (Covers d.leases) (sym is.participants) is.leases));
     announcers = rw (← is.own, ← is.participants) (begin k.announcers is.announcers);
     announce = by_test k (is_some (participant_at k p)) is.announce;
     writers = is.writers;
@@ -62,6 +70,9 @@ comes d p f ps proxies earlier e begin = record {
   changes = λ k is. quiet k (known_after k (Comes p f)) earlier refl refl;
 }
   where
+    entered : (k : Known) → IsKnown k d → ps ≡ insert_entry prefix_order k.participants p (told_of k.moment f)
+    entered k is = e ∙ ap (λ (l : List (GuidPrefix × Participant)). insert_entry prefix_order l p (told_of d.moment f)) is.participants ∙ ap (λ m. insert_entry prefix_order k.participants p (told_of m f)) is.moment
+
     by_test : (k : Known) (b : Bool) → Announce k.announcers → Announce (if b then k.announcers else with_announcers k.own p f k.announcers)
     by_test k true all = all
     by_test k false all = with_announces k.own p f k.announcers all

@@ -9,11 +9,16 @@ pub mod SortedKeys
 pub mod OneWriter
 pub mod Turning
 pub mod Unheard
+pub mod Taking
+pub mod Ends
 pub mod Coming
 pub mod SameKeys
 pub mod Sizes
-pub mod Taking
+pub mod Together
 pub mod Leaving
+pub mod Several
+pub mod Expiring
+pub mod Silent
 pub mod Applying
 pub mod Hearing
 pub mod Starting

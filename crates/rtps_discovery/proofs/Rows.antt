@@ -1,5 +1,6 @@
 -- Runs of discovery that were worked out by hand, computed from the definitions.
-use Rattle.std.proofs.Common.{◌≡◌, ℕ, List, [], ◌∷◌, ◌++◌, map, Some, None, refl}
+use Rattle.std.proofs.Common.{◌≡◌, ℕ, ◌-◌, ◌^◌, List, [], ◌∷◌, ◌++◌, map, Some, None, refl}
+use Rattle.std.specs.Prelude.{pos, negsuc}
 use Rattle.std.specs.Map.{keys_of}
 use Rattle.rtps_types.specs.declared.identity.Guid.{Guid}
 use Rattle.rtps_types.specs.declared.identity.EntityId.{EntityId}
@@ -13,8 +14,9 @@ use Rattle.dds_qos.specs.Defaults.{default_policies}
 use Rattle.dds_qos.specs.Settings.{is_sound_by, settings_of}
 use Rattle.dds_qos.specs.Values.{duration_in, reliability_in, locator_in, guid_in}
 use Rattle.dds_qos.specs.declared.policies.Reliability.TheVariants.{Reliable}
-use Rattle.rtps_discovery.specs.Changes.{Matches, Unmatches, Refuses, at, changes}
-use Rattle.rtps_discovery.specs.Known.{Known}
+use Rattle.rtps_discovery.specs.Changes.{ChangeAt, Matches, Unmatches, Refuses, at, changes}
+use Rattle.rtps_discovery.specs.Known.{Known, moved, passed}
+use Rattle.rtps_discovery.specs.Lease.{deadline, lease_of}
 use Rattle.rtps_discovery.specs.Records.{changes_by, known_by}
 use Rattle.rtps_discovery.specs.Said.{said_in}
 use Rattle.rtps_params.specs.Reading as params
@@ -43,6 +45,7 @@ entity b c d = record { 0 = 0 ∷ b ∷ c ∷ d ∷ [] }
 abbrev start : Known
 start = record {
   own = record { 0 = ours };
+  moment = 0;
   readers = Some (record {
     entity = entity 0 1 7;
     topic = square;
@@ -256,3 +259,81 @@ three_at_once :
 unfolding params.reading_behind cdr.text_from str.is_utf8 str.chars utf8.encode changes first_fault
     is_sound_by settings_of said_in duration_in reliability_in locator_in guid_in
 three_at_once = refl
+
+-- ---- its lease is 100 seconds
+
+-- what a moment changes
+abbrev by_moment : ℕ → Known → List ChangeAt
+by_moment moment k = changes (moved moment k) (passed moment k)
+
+lease_stands : by_moment 100000 (known_with (offers 1 ∷ comes ∷ [])) ≡ []
+unfolding params.reading_behind cdr.text_from str.is_utf8 str.chars utf8.encode changes first_fault
+    is_sound_by settings_of said_in duration_in reliability_in locator_in guid_in
+lease_stands = refl
+
+lease_ends : by_moment 100001 (known_with (offers 1 ∷ comes ∷ [])) ≡ at 0 (Unmatches w) ∷ []
+unfolding params.reading_behind cdr.text_from str.is_utf8 str.chars utf8.encode changes first_fault
+    is_sound_by settings_of said_in duration_in reliability_in locator_in guid_in
+lease_ends = refl
+
+-- a later record renews it; one that comes too late is a new participant's, whose writer is unknown
+renewed : by_moment 150000 (known_by (passed 60000 (known_with (offers 1 ∷ comes ∷ []))) comes) ≡ []
+unfolding params.reading_behind cdr.text_from str.is_utf8 str.chars utf8.encode changes first_fault
+    is_sound_by settings_of said_in duration_in reliability_in locator_in guid_in
+renewed = refl
+
+comes_anew : (known_by (passed 100001 (known_with (offers 1 ∷ comes ∷ []))) comes).writers ≡ []
+unfolding params.reading_behind cdr.text_from str.is_utf8 str.chars utf8.encode changes first_fault
+    is_sound_by settings_of said_in duration_in reliability_in locator_in guid_in
+comes_anew = refl
+
+-- and its announcers begin again
+is_matched_anew :
+    changes_by (known_by (passed 100001 (known_with (offers 1 ∷ comes ∷ []))) comes) (offers 1) ≡ at 0 (Matches w (at_port 7413 ∷ [])) ∷ []
+unfolding params.reading_behind cdr.text_from str.is_utf8 str.chars utf8.encode changes first_fault
+    is_sound_by settings_of said_in duration_in reliability_in locator_in guid_in
+is_matched_anew = refl
+
+-- what counts is the greatest moment so far: it was heard at 100001
+heard_at : map (λ e. e.1.heard) (known_by (passed 0 (passed 100001 start)) comes).participants ≡ 100001 ∷ []
+unfolding params.reading_behind is_sound_by settings_of said_in duration_in locator_in guid_in
+heard_at = refl
+
+greatest_counts : by_moment 200001 (known_by (passed 0 (known_by (passed 100001 start) comes)) (offers 1)) ≡ []
+unfolding params.reading_behind cdr.text_from str.is_utf8 str.chars utf8.encode changes first_fault
+    is_sound_by settings_of said_in duration_in reliability_in locator_in guid_in
+greatest_counts = refl
+
+then_it_ends : by_moment 200002 (known_by (passed 0 (known_by (passed 100001 start) comes)) (offers 1)) ≡ at 0 (Unmatches w) ∷ []
+unfolding params.reading_behind cdr.text_from str.is_utf8 str.chars utf8.encode changes first_fault
+    is_sound_by settings_of said_in duration_in reliability_in locator_in guid_in
+then_it_ends = refl
+
+-- ---- leases in milliseconds
+
+whole_seconds : lease_of (record { seconds = pos 100; fraction = 0 }) ≡ Some 100000
+whole_seconds = refl
+
+-- 2147484 units of 2^-32 seconds, and one of them
+half_a_millisecond : lease_of (record { seconds = pos 0; fraction = 2147484 }) ≡ Some 1
+half_a_millisecond = refl
+
+one_unit : lease_of (record { seconds = pos 1; fraction = 1 }) ≡ Some 1001
+one_unit = refl
+
+-- -1 s, and almost 0 s
+negative : lease_of (record { seconds = negsuc 0; fraction = 0 }) ≡ Some 0
+negative = refl
+
+negative_with_fraction : lease_of (record { seconds = negsuc 0; fraction = 0xffff_ffff }) ≡ Some 0
+negative_with_fraction = refl
+
+infinite : lease_of (record { seconds = pos 0x7fff_ffff; fraction = 0xffff_ffff }) ≡ None
+infinite = refl
+
+almost_infinite : lease_of (record { seconds = pos 0x7fff_ffff; fraction = 0xffff_fffe }) ≡ Some 2147483648000
+almost_infinite = refl
+
+-- the greatest moment is the last one of a lease that would end later
+goes_no_further : deadline (2 ^ 64 - 2) (record { seconds = pos 1; fraction = 0 }) ≡ Some (2 ^ 64 - 1)
+goes_no_further = refl

@@ -13,7 +13,7 @@ use Rattle.rtps_discovery.specs.declared.config.FixedMatch.{FixedMatch}
 use Rattle.rtps_discovery.specs.Announcement.{Offer}
 use Rattle.rtps_discovery.specs.Config.{check_of, is_bad_fixed}
 use Rattle.rtps_discovery.specs.Kept.{IsKnown, HeldView, ranks_at}
-use Rattle.rtps_discovery.specs.Known.{Wish, is_fixed, is_joined, reader_at, standing}
+use Rattle.rtps_discovery.specs.Known.{Wish, is_fixed, is_joined, prefix_order, reader_at, standing}
 use Rattle.rtps_discovery.specs.OneWriter.{has_rank, matched_from}
 use Rattle.rtps_discovery.specs.Start.{first_known, fixed_ranks, pair_of, reader_of}
 use Rattle.rtps_discovery.proofs.Faultless.{taken_is_faultless}
@@ -154,6 +154,10 @@ in_order : InOrder []
 unfolding IsStrictlySortedBy
 in_order = tt
 
+no_participants : IsStrictlySortedBy prefix_order []
+unfolding IsStrictlySortedBy
+no_participants = tt
+
 -- a rank that no reader has is fixed with none
 fixed_within : (own : GuidPrefix) (n : ℕ) (ps : List FixedMatch) → list_any (is_bad_fixed own n) ps ≡ false → (g : Guid) (rank : ℕ) → nat_lt rank n ≡ false → is_fixed (map pair_of ps) rank g ≡ false
 fixed_within own n [] good g rank past = refl
@@ -167,7 +171,7 @@ fixed_within own n (p ∷ ps) good g rank past = by_tests (p.rank == rank) refl 
     by_tests true e false ok left more = absurd (let worse : nat_le n p.rank ≡ true = grind (arith, nat_tests) in cc)
 
 abbrev pub at_first : GuidPrefix → List (Option Wish) → List (Guid × List ℕ) → List (Guid × List ℕ) → HeldView
-at_first own readers fixed ranks = record { own = own; readers = readers; fixed = fixed; participants = []; announcers = []; writers = []; remote_readers = []; ranks = ranks }
+at_first own readers fixed ranks = record { own = own; moment = 0; readers = readers; fixed = fixed; participants = []; leases = []; announcers = []; writers = []; remote_readers = []; ranks = ranks }
 
 map_length : {X Y : Type 0} (f : X → Y) (xs : List X) → length (map f xs) ≡ length xs
 map_length f [] = refl
@@ -186,12 +190,15 @@ at_start c fixed ranks taken fixed_are ranks_are =
     let good = list_any_none (is_bad_fixed c.own (length c.readers.items)) c.fixed.items (((taken_is_faultless c).0 taken).good_fixed) in
     record {
       own = refl;
+      moment = refl;
       readers = refl;
       fixed = λ g rank. ap (λ l. has_rank l rank) (fixed_are g)
           ∙ fixed_member (λ n. is_fixed pairs n g) readers rank
           (λ past. fixed_within c.own (length c.readers.items) c.fixed.items good g rank (ap (λ n. nat_lt rank n) (sym (map_length reader_of c.readers.items)) ∙ past));
       started = fixed_are;
       participants = refl;
+      leases = λ p m. refl;
+      in_order = no_participants;
       announcers = tt;
       announce = tt;
       writers = refl;

@@ -82,6 +82,25 @@ after_other p g h above other less = of_equal p h ∙ by_order (prefix_order p g
     by_order Less e Equal f = further e (sym (alike_right prefix_total g.prefix h.prefix p f) ∙ e)
     by_order Less e Greater f = let bad : Greater ≡ Less = rw f at less in absurd cc
 
+module _ {X : Type 0} where
+  below_filter : (f : Guid × X → Bool) (x : Guid) (es : List (Guid × X)) → AllByRecursion (λ y. guid_order x y ≡ Less) (keys_of es) → AllByRecursion (λ y. guid_order x y ≡ Less) (keys_of (filter f es))
+  below_filter f x [] all = tt
+  below_filter f x (e ∷ es) (here, rest) = by_test (f e) (below_filter f x es rest)
+    where
+      by_test : (t : Bool) → AllByRecursion (λ y. guid_order x y ≡ Less) (keys_of (filter f es)) → AllByRecursion (λ y. guid_order x y ≡ Less) (keys_of (if t then e ∷ filter f es else filter f es))
+      by_test true more = (here, more)
+      by_test false more = more
+
+  -- what is left out leaves the others in order
+  pub sorted_filter : (f : Guid × X → Bool) (es : List (Guid × X)) → InOrder (keys_of es) → InOrder (keys_of (filter f es))
+  unfolding IsStrictlySortedBy
+  sorted_filter f [] s = tt
+  sorted_filter f (e ∷ es) (here, s) = by_test (f e) (sorted_filter f es s)
+    where
+      by_test : (t : Bool) → InOrder (keys_of (filter f es)) → InOrder (keys_of (if t then e ∷ filter f es else filter f es))
+      by_test true more = (below_filter f e.0 es here, more)
+      by_test false more = more
+
 module _ {X : Type 0} (p : GuidPrefix) where
   abbrev pub mine : Guid × X → Bool
   mine e = of p e.0
@@ -106,24 +125,6 @@ module _ {X : Type 0} (p : GuidPrefix) where
       by_tests true is false after more = let bad : true ≡ false = sym (of_from p e.0 here is) ∙ after in absurd cc
       by_tests false is true after more = rw is more
       by_tests false is false after more = more
-
-  below_filter : (f : Guid × X → Bool) (x : Guid) (es : List (Guid × X)) → AllByRecursion (λ y. guid_order x y ≡ Less) (keys_of es) → AllByRecursion (λ y. guid_order x y ≡ Less) (keys_of (filter f es))
-  below_filter f x [] all = tt
-  below_filter f x (e ∷ es) (here, rest) = by_test (f e) (below_filter f x es rest)
-    where
-      by_test : (t : Bool) → AllByRecursion (λ y. guid_order x y ≡ Less) (keys_of (filter f es)) → AllByRecursion (λ y. guid_order x y ≡ Less) (keys_of (if t then e ∷ filter f es else filter f es))
-      by_test true more = (here, more)
-      by_test false more = more
-
-  -- what is left out leaves the others in order
-  pub sorted_filter : (f : Guid × X → Bool) (es : List (Guid × X)) → InOrder (keys_of es) → InOrder (keys_of (filter f es))
-  unfolding IsStrictlySortedBy
-  sorted_filter f [] s = tt
-  sorted_filter f (e ∷ es) (here, s) = by_test (f e) (sorted_filter f es s)
-    where
-      by_test : (t : Bool) → InOrder (keys_of (filter f es)) → InOrder (keys_of (if t then e ∷ filter f es else filter f es))
-      by_test true more = (below_filter f e.0 es here, more)
-      by_test false more = more
 
   none_after : (g : Guid) (es : List (Guid × X)) → from p g ≡ true → of p g ≡ false → AllByRecursion (λ y. guid_order g y ≡ Less) (keys_of es) → filter mine es ≡ []
   none_after g [] above other all = refl

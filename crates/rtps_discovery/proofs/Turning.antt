@@ -71,6 +71,9 @@ module _ (k : Known) (d : HeldView) (is : IsKnown k d) (g : Guid) (w : Option Of
   pub stands : (rs : List (Guid × List ℕ)) → ((q : Guid) → ranks_at q rs ≡ (if is_at g q then ranks_of d g w else ranks_at q d.ranks)) → IsKnown (with_writers k ws) (record d { writers = ws; ranks = rs })
   stands rs put = record {
     own = is.own;
+    moment = is.moment;
+    leases = is.leases;
+    in_order = is.in_order;
     readers = is.readers;
     fixed = is.fixed;
     started = is.started;

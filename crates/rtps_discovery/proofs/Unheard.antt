@@ -42,6 +42,9 @@ with_readers d gs = record d { remote_readers = gs }
 keeps_readers : (k : Known) (d : HeldView) (gs : List Guid) → IsKnown k d → IsKnown (record k { remote_readers = gs }) (with_readers d gs)
 keeps_readers k d gs is = record {
   own = is.own;
+  moment = is.moment;
+  leases = is.leases;
+  in_order = is.in_order;
   readers = is.readers;
   fixed = is.fixed;
   started = is.started;

@@ -14,6 +14,7 @@ use Rattle.rtps_proxy.specs.Kept as proxy
 use Rattle.rtps_proxy.specs.Matches.{AllStand, Match, is_at}
 use Rattle.rtps_discovery.specs.Announcement.{Announcement, Offer}
 use Rattle.rtps_discovery.specs.Changes.{ChangeAt, changes, changes_run, known_run}
+use Rattle.rtps_discovery.specs.Ends.{Covers}
 use Rattle.rtps_discovery.specs.Known.{Known, Participant, Wish, is_fixed, known_after, own_or, prefix_order, publications_reader, publications_writer, subscriptions_reader, subscriptions_writer, writer_at}
 use Rattle.rtps_discovery.specs.OneWriter.{column, has_rank, matched_from}
 use Rattle.rtps_discovery.specs.declared.held.Held as held
@@ -22,9 +23,11 @@ use Rattle.rtps_discovery.specs.declared.held.Held as held
 -- matched with them from the start, and of those that are matched with them now.
 pub record HeldView : Type 0 where
   pub own : GuidPrefix
+  pub moment : ℕ
   pub readers : List (Option Wish)
   pub fixed : List (Guid × List ℕ)
   pub participants : List (GuidPrefix × Participant)
+  pub leases : List (ℕ × GuidPrefix)
   pub announcers : List (Guid × proxy.ProxyView)
   pub writers : List (Guid × Offer)
   pub remote_readers : List Guid
@@ -34,9 +37,11 @@ pub record HeldView : Type 0 where
 abbrev pub kept : {A : Type 0} → held.Held A → HeldView
 kept h = record {
   own = h.own;
+  moment = h.moment;
   readers = h.readers.items;
   fixed = h.fixed.entries;
   participants = h.participants.entries;
+  leases = h.leases;
   announcers = h.announcers;
   writers = h.writers.entries;
   remote_readers = keys_of h.remote_readers.entries;
@@ -81,10 +86,14 @@ matched_ranks k g = matched_from (λ rank. is_fixed k.fixed rank g) (writer_at k
 -- this is what is known
 pub record IsKnown (k : Known) (d : HeldView) : Type 0 where
   pub own : d.own ≡ k.own
+  pub moment : d.moment ≡ k.moment
   pub readers : d.readers ≡ k.readers
   pub fixed : (g : Guid) (rank : ℕ) → fixed_at d g rank ≡ is_fixed k.fixed rank g
   pub started : (g : Guid) → ranks_at g d.fixed ≡ matched_from (λ rank. is_fixed k.fixed rank g) None 0 k.readers
   pub participants : d.participants ≡ k.participants
+  pub in_order : IsStrictlySortedBy prefix_order (keys_of k.participants)
+  -- the index has the last moment of each lease that ends
+  pub leases : Covers d.leases k.participants
   pub announcers : AllStand k.announcers d.announcers
   pub announce : AllByRecursion (λ m. is_announcer m ≡ true) k.announcers
   pub writers : d.writers ≡ k.writers

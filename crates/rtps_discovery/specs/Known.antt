@@ -1,8 +1,9 @@
 -- What a participant knows of the others (DDSI-RTPS 8.5): participants, writers and readers, and
 -- how its own readers are with the writers.
-use Rattle.std.specs.Prelude.{ℕ, zero, suc, ◌==◌, List, [], ◌∷◌, filter, Option, Some, None, Bool, true, false, not, ◌&&◌, ◌||◌, if◌then◌else◌, is_some}
+use Rattle.rtps_discovery.specs.Lease.{has_ended}
+use Rattle.std.specs.Prelude.{max, ℕ, zero, suc, ◌==◌, List, [], ◌∷◌, filter, Option, Some, None, Bool, true, false, not, ◌&&◌, ◌||◌, if◌then◌else◌, is_some}
 use Rattle.std.specs.List.{list_any}
-use Rattle.std.specs.Map.{lookup, remove_entry}
+use Rattle.std.specs.Map.{keys_of, lookup, remove_entry}
 use Rattle.std.specs.Str.{bytes_eq}
 use Rattle.std.specs.BTreeMap.{insert_entry}
 use Rattle.std.specs.BTreeSet.{insert_key}
@@ -28,14 +29,18 @@ pub record Wish : Type 0 where
   pub policies : Policies
   pub partitions : List (List ℕ)
 
--- a participant: where its endpoints are reached by default, and how long it may keep silent
+-- a participant: where its endpoints are reached by default, how long it may keep silent, and the
+-- moment at which it was last heard
 pub record Participant : Type 0 where
   pub locators : List Locator
   pub lease : Duration
+  pub heard : ℕ
 
 -- all that is known, of the others and of our own readers
 pub record Known : Type 0 where
   pub own : GuidPrefix
+  -- the greatest so far, in milliseconds
+  pub moment : ℕ
   -- by rank; none where a reader went
   pub readers : List (Option Wish)
   -- the matches from the start, which no announcement makes or ends
@@ -174,11 +179,11 @@ abbrev pub is_of : List GuidPrefix → GuidPrefix → Bool
 is_of gone p = list_any (λ q. bytes_eq q.0 p.0) gone
 
 -- The first record of a participant makes it known, with its announcers; a later one changes its
--- default locators and its lease alone. With a participant go its announcers, its writers and its
--- readers.
+-- default locators, its lease and the moment at which it was heard alone, which is the greatest so
+-- far. With a participant go its announcers, its writers and its readers.
 abbrev pub known_after : Known → Announcement → Known
 known_after k (Comes p f) = record k {
-  participants = insert_entry prefix_order k.participants p (record { locators = f.locators; lease = f.lease });
+  participants = insert_entry prefix_order k.participants p (record { locators = f.locators; lease = f.lease; heard = k.moment });
   announcers = if is_some (participant_at k p) then k.announcers else with_announcers k.own p f k.announcers;
 }
 known_after k (Leave gone) = record k {
@@ -191,3 +196,21 @@ known_after k (Offers g w) = record k { writers = insert_entry guid_order k.writ
 known_after k (Withdraws g) = record k { writers = remove_entry (is_at g) k.writers }
 known_after k (Asks g) = record k { remote_readers = insert_key guid_order k.remote_readers g }
 known_after k (AsksNoMore g) = record k { remote_readers = remove_key (is_at g) k.remote_readers }
+
+-- ---- what is known after a moment
+
+-- a moment comes; one that is before an earlier one changes nothing
+abbrev pub moved : ℕ → Known → Known
+moved moment k = record k { moment = max k.moment moment }
+
+-- somebody's lease has ended
+abbrev pub has_expired : Known → Bool
+has_expired k = list_any (λ (e : GuidPrefix × Participant). has_ended k.moment e.1.heard e.1.lease) k.participants
+
+-- the participants whose leases have ended, in order
+abbrev pub expired : Known → List GuidPrefix
+expired k = keys_of (filter (λ (e : GuidPrefix × Participant). has_ended k.moment e.1.heard e.1.lease) k.participants)
+
+-- a moment comes, and then they leave together
+abbrev pub passed : ℕ → Known → Known
+passed moment k = known_after (moved moment k) (Leave (expired (moved moment k)))

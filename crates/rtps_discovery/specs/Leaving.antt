@@ -1,13 +1,13 @@
--- What our readers hear of the writers of a participant that leaves (DDSI-RTPS 8.5.3.3).
-use Rattle.std.specs.Prelude.{ℕ, ◌+◌, List, [], ◌∷◌, ◌++◌, Bool, Option, Some, None, if◌then◌else◌}
+-- What our readers hear of the writers of participants that leave (DDSI-RTPS 8.5.3.3).
+use Rattle.std.specs.Prelude.{ℕ, ◌+◌, List, [], ◌∷◌, ◌++◌, Bool, not, filter, Option, Some, None, if◌then◌else◌}
 use Rattle.std.specs.List.{flat_map}
 use Rattle.rtps_types.specs.declared.identity.EntityId.{EntityId}
 use Rattle.rtps_types.specs.declared.identity.Guid.{Guid}
 use Rattle.rtps_types.specs.declared.identity.GuidPrefix.{GuidPrefix}
-use Rattle.rtps_proxy.specs.Matches.{is_at}
+use Rattle.rtps_proxy.specs.Matches.{Match, ended, is_at}
 use Rattle.rtps_discovery.specs.Announcement.{Offer}
 use Rattle.rtps_discovery.specs.Changes.{ChangeAt}
-use Rattle.rtps_discovery.specs.Known.{Wish, is_of, standing}
+use Rattle.rtps_discovery.specs.Known.{Wish, is_of, publications_writer, standing, subscriptions_writer}
 use Rattle.rtps_discovery.specs.OneWriter.{has_rank, met}
 use Rattle.rtps_discovery.specs.declared.gone.Gone.{Gone}
 
@@ -18,6 +18,20 @@ endpoint p e = record { prefix = p; entity = e }
 -- an endpoint of this participant
 abbrev pub are_of : {X : Type 0} → GuidPrefix → Guid × X → Bool
 are_of prefix e = is_of (prefix ∷ []) e.0.prefix
+
+-- an endpoint of one of these participants
+abbrev pub any_of : {X : Type 0} → List GuidPrefix → Guid × X → Bool
+any_of prefixes e = is_of prefixes e.0.prefix
+
+-- what is taken out of these endpoints, one participant after the other
+abbrev pub gone_by : {X : Type 0} → List GuidPrefix → List (Guid × X) → List (Guid × X)
+gone_by [] es = []
+gone_by (p ∷ ps) es = filter (are_of p) es ++ gone_by ps (filter (λ e. not (are_of p e)) es)
+
+-- the matches once those with the announcers of these participants ended
+abbrev pub ended_by : List GuidPrefix → List Match → List Match
+ended_by [] ms = ms
+ended_by (p ∷ ps) ms = ended_by ps (ended (endpoint p subscriptions_writer) (ended (endpoint p publications_writer) ms))
 
 -- a writer that is gone, and what it offered
 abbrev pub gone_of : {A : Type 0} → Gone A → Guid × Offer

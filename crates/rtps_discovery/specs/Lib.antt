@@ -3,13 +3,16 @@ pub mod Addressed
 pub mod Said
 pub mod Seen
 pub mod Announcement
+pub mod Lease
 pub mod Known
+pub mod Silence
 pub mod Changes
 pub mod Records
 pub mod Differences
 pub mod OneWriter
 pub mod Sized
 pub mod Start
+pub mod Ends
 pub mod Kept
 pub mod Leaving
 pub mod Effects

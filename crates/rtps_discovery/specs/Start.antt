@@ -31,6 +31,7 @@ pair_of m = (m.rank, m.writer)
 abbrev pub first_known : Config → Known
 first_known c = record {
   own = c.own;
+  moment = 0;
   readers = map reader_of c.readers.items;
   fixed = map pair_of c.fixed.items;
   participants = [];

@@ -1,15 +1,18 @@
 //! What a participant knows of the others, event by event.
 
-ghost use Rattle.std.specs.Prelude.{◌≡◌, ◌≤◌, IfOk, IsErr, Ok, OnErr, OnOk, false, length, true};
+ghost use Rattle.std.specs.Prelude.{◌≡◌, ◌≤◌, IfOk, IsErr, IsOk, Ok, OnErr, OnOk, false, length, map, true};
 ghost use Rattle.rtps_receiver.specs.Events.{view};
 ghost use Rattle.rtps_discovery.specs.Config.{check_of};
+ghost use Rattle.rtps_discovery.specs.Changes.{changes};
 ghost use Rattle.rtps_discovery.specs.Effects.{AreHeard};
 ghost use Rattle.rtps_discovery.specs.Kept.{IsKnown, matched_ranks};
-ghost use Rattle.rtps_discovery.specs.Known.{Known};
+ghost use Rattle.rtps_discovery.specs.Known.{Known, has_expired, moved, passed};
 ghost use Rattle.rtps_discovery.specs.Pairs.{AreKeptPairs, ArePairs};
 ghost use Rattle.rtps_discovery.specs.Records.{answered, changes_by, known_by};
+ghost use Rattle.rtps_discovery.specs.Seen.{change_seen};
 ghost use Rattle.rtps_discovery.specs.Start.{first_known};
 
+use crate::changes::MatchChange;
 use crate::config::Config;
 use crate::effects::DiscoveryEffects;
 use crate::hear::ranks_at;
@@ -55,7 +58,9 @@ impl<A: Allocator + Copy> Discovery<A> {
 
     /// Takes an event in, and gives what our readers hear and what is answered (DDSI-RTPS 8.5.3,
     /// 8.5.4): what an announcer says is applied record by record, and any other event changes
-    /// nothing. After a refused growth each later call answers out of memory and changes nothing.
+    /// nothing. A participant's record is heard at the greatest moment so far, and nobody's lease
+    /// ends here. After a refused growth each later call, of [`expire`](Discovery::expire) too,
+    /// answers out of memory and changes nothing.
     pub fn step(&mut self, alloc: A, event: &Event<'_>) -> Result<DiscoveryEffects<A>, AllocError>
         ensures known { (k : Known) → IsKnown k self.old.kept
             → OnOk result (IsKnown (known_by k (view event.now)) self.new.kept) }
@@ -74,6 +79,50 @@ impl<A: Allocator + Copy> Discovery<A> {
         let effects = self.held.take(alloc, event)?;
         self.spent = false;
         Ok(effects)
+    }
+
+    /// Whether [`expire`](Discovery::expire) would forget somebody at a moment, in milliseconds: a
+    /// lease has ended then, or by a greater moment that came before. It takes one comparison.
+    pub fn is_due(&self, moment: u64) -> bool
+        ensures { (k : Known) → IsKnown k self.now.kept
+            → result ≡ has_expired (moved moment k) }
+    {
+        self.held.leases.is_due(self.held.moment.max(moment))
+    }
+
+    /// A moment comes, in milliseconds (DDSI-RTPS 8.5.3.2): the participants whose leases have
+    /// ended leave together, and it gives what our readers hear, by rank and then by writer. A
+    /// moment below an earlier one counts as the greatest so far. Where no lease has ended it takes
+    /// no memory, and no step goes over the participants that stay. `AllocError` where memory is
+    /// refused: then each later call, of [`step`](Discovery::step) too, answers so and changes
+    /// nothing.
+    pub fn expire(&mut self, alloc: A, moment: u64) -> Result<Vec<MatchChange<A>, A>, AllocError>
+        ensures known { (k : Known) → IsKnown k self.old.kept
+            → OnOk result (IsKnown (passed moment k) self.new.kept) }
+        ensures changes { (k : Known) → IsKnown k self.old.kept → IfOk result (λ ended.
+            map change_seen ended.items ≡ changes (moved moment k) (passed moment k)) }
+        ensures quiet { self.old.spent ≡ false → (k : Known) → IsKnown k self.old.kept
+            → has_expired (moved moment k) ≡ false → IsOk result }
+        ensures ok { OnOk result (self.new.spent ≡ false) }
+        ensures err { OnErr result (self.new.spent ≡ true) }
+        ensures spent { self.old.spent ≡ true → IsErr result }
+        ensures still { self.old.spent ≡ true → self.new ≡ self.old }
+    {
+        if self.spent {
+            return Err(AllocError);
+        }
+        // Spent until they are gone: a `?` leaves it so.
+        self.spent = true;
+        let ended = self.held.expire(alloc, moment)?;
+        self.spent = false;
+        Ok(ended)
+    }
+
+    /// The greatest moment so far, in milliseconds; 0 at the start.
+    pub fn moment(&self) -> u64
+        ensures { result ≡ self.now.kept.moment }
+    {
+        self.held.moment
     }
 
     /// The ranks of our readers that are matched with a writer, rising: those that are matched with

@@ -5,6 +5,7 @@ ghost use Rattle.std.specs.Map.{keys_of};
 ghost use Rattle.rtps_discovery.specs.Sized.{are_sized};
 
 use crate::known::{Participant, Ranks, Reader, Writer};
+use crate::leases::Leases;
 use rtps_proxy::Matches;
 use rtps_types::{Guid, GuidPrefix};
 use std::alloc::Allocator;
@@ -14,11 +15,15 @@ use std::collections::BTreeMap;
 #[derive(Drop)]
 pub(crate) struct Held<A: Allocator> {
     pub own: GuidPrefix,
+    /// The greatest moment so far, in milliseconds.
+    pub moment: u64,
     /// By rank.
     pub readers: Vec<Option<Reader<A>>, A>,
     /// By writers, the ranks of the readers that are matched with them from the start.
     pub fixed: BTreeMap<Guid, Ranks<A>, A>,
     pub participants: BTreeMap<GuidPrefix, Participant<A>, A>,
+    /// The last moments of their leases.
+    pub leases: Leases<A>,
     /// The matches of our builtin readers.
     pub announcers: Matches<A>,
     pub writers: BTreeMap<Guid, Writer<A>, A>,

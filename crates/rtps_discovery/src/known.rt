@@ -136,6 +136,8 @@ pub struct Participant<A: Allocator = Global> {
     pub(crate) locators: Locators<A>,
     /// How long it may keep silent.
     pub(crate) lease: Duration,
+    /// The moment at which it was last heard.
+    pub(crate) heard: u64,
 }
 
 impl<A: Allocator> Model for Participant<A> {
@@ -143,7 +145,7 @@ impl<A: Allocator> Model for Participant<A> {
 
     ghost Value = { Participant };
 
-    ghost view = { λ p. record { locators = p.locators; lease = p.lease } };
+    ghost view = { λ p. record { locators = p.locators; lease = p.lease; heard = p.heard } };
 }
 
 impl<A: Allocator> Participant<A> {
@@ -154,11 +156,22 @@ impl<A: Allocator> Participant<A> {
         self.locators.as_slice()
     }
 
-    /// How long it may keep silent (DDSI-RTPS 8.5.3). Nobody is forgotten for silence.
+    /// How long it may keep silent (DDSI-RTPS 8.5.3.2).
+    /// [`Discovery::expire`](crate::Discovery::expire) forgets it at the first moment that is more
+    /// than this, in milliseconds rounded up, after the one at which it was
+    /// [`heard`](Participant::heard).
     pub fn lease(&self) -> Duration
         ensures { result ≡ self.now.lease }
     {
         self.lease
+    }
+
+    /// When it was last heard: the greatest moment, in milliseconds, that had come before its last
+    /// record. A record that was ignored doesn't count.
+    pub fn heard(&self) -> u64
+        ensures { result ≡ self.now.heard }
+    {
+        self.heard
     }
 }
 

@@ -4,6 +4,7 @@ ghost use Rattle.rtps_discovery.specs.Addressed.{AddressedIsTested};
 ghost use Rattle.rtps_discovery.specs.Config.{TakenIsFaultless};
 ghost use Rattle.rtps_discovery.specs.Differences.{ChangesAreDifferences};
 ghost use Rattle.rtps_discovery.specs.Ranked.{RanksAreMatched};
+ghost use Rattle.rtps_discovery.specs.Silence.{MomentsBetweenAddNothing, SilenceIsForgotten};
 
 /// An event goes to a reader exactly where the test says so, whichever writers the reader is
 /// matched with.
@@ -29,4 +30,17 @@ pub fn changes_are_differences()
 /// rising.
 pub fn ranks_are_matched()
     ensures { RanksAreMatched }
+{}
+
+/// Whatever is known, where participants are in order: once a moment has passed, a participant is
+/// known exactly where it was and its lease hasn't ended. With each that is forgotten go its
+/// announcers, its writers and its readers, and no other's.
+pub fn silence_is_forgotten()
+    ensures { SilenceIsForgotten }
+{}
+
+/// Whatever is known, where participants are in order: two moments that pass make of it what the
+/// greater of them makes alone. So it doesn't matter how often a clock is read.
+pub fn moments_between_add_nothing()
+    ensures { MomentsBetweenAddNothing }
 {}

@@ -2,13 +2,15 @@
 
 ghost use Rattle.std.specs.Prelude.{◌≡◌, ◌≤◌, ◌<◌, ◌∷◌, ◌++◌, [], List, IfNone, IfOk, IfSome, OnOk, OnSome, filter, length, map, not, true};
 ghost use Rattle.std.specs.List.{flat_map};
+ghost use Rattle.std.specs.List.Sorted.{IsStrictlySortedBy};
 ghost use Rattle.std.specs.Map.{keys_of};
 ghost use Rattle.rtps_types.specs.declared.identity.Guid.{Guid};
 ghost use Rattle.rtps_proxy.specs.Matches.{AllStand, Match, ended};
 ghost use Rattle.rtps_discovery.specs.Announcement as announcement;
+ghost use Rattle.rtps_discovery.specs.Ends.{Covers};
 ghost use Rattle.rtps_discovery.specs.Kept.{Applies, kept, ranks_at};
-ghost use Rattle.rtps_discovery.specs.Known.{publications_writer, subscriptions_writer};
-ghost use Rattle.rtps_discovery.specs.Leaving.{are_of, ending, endings, endpoint, gone_of, reranked};
+ghost use Rattle.rtps_discovery.specs.Known.{is_of, prefix_order, publications_writer, subscriptions_writer};
+ghost use Rattle.rtps_discovery.specs.Leaving.{any_of, are_of, ended_by, ending, endings, endpoint, gone_by, gone_of, reranked};
 ghost use Rattle.rtps_discovery.specs.Seen.{change_seen};
 ghost use Rattle.rtps_discovery.specs.Sized.{are_sized};
 
@@ -20,7 +22,8 @@ use crate::changes::{MatchChange, Seat, Turn, meet};
 use crate::gone::Gone;
 use crate::hear::{put_ranks, ranks_at};
 use crate::held::Held;
-use crate::known::{Ranks, Reader, Writer};
+use crate::known::{Participant, Ranks, Reader, Writer};
+use crate::leases::{Leases, end_of};
 use rtps_proxy::Matches;
 use rtps_types::{Guid, GuidPrefix};
 use std::alloc::{AllocError, Allocator};
@@ -64,23 +67,54 @@ fn forget_readers<A: Allocator>(readers: &mut BTreeMap<Guid, (), A>, prefix: Gui
     'readers: while let Some(_reader) = take_first(readers, prefix) {}
 }
 
-/// Takes out the writers of a participant, in order.
+/// Takes out these participants, and the ends of their leases.
+fn forget_participants<A: Allocator>(
+    participants: &mut BTreeMap<GuidPrefix, Participant<A>, A>,
+    leases: &mut Leases<A>,
+    prefixes: &[GuidPrefix],
+)
+    ensures left { participants.new.entries
+        ≡ filter (λ e. not (is_of prefixes.now e.0)) participants.old.entries }
+    ensures covers { Covers leases.old participants.old.entries
+        → Covers leases.new participants.new.entries }
+{
+    for prefix in prefixes {
+        let gone = participants.remove(prefix);
+        leases.end(*prefix, end_of(&gone));
+    }
+}
+
+/// Takes out the readers of these participants.
+fn forget_all_readers<A: Allocator>(readers: &mut BTreeMap<Guid, (), A>, prefixes: &[GuidPrefix])
+    requires { are_sized (keys_of readers.old.entries) ≡ true }
+    ensures left { readers.new.entries
+        ≡ filter (λ e. not (any_of prefixes.now e)) readers.old.entries }
+    ensures sized { are_sized (keys_of readers.new.entries) ≡ true }
+{
+    for prefix in prefixes {
+        forget_readers(readers, *prefix);
+    }
+}
+
+/// Takes out the writers of a participant, in order, and puts them after those that are gone.
 fn take_writers<A: Allocator + Copy>(
     alloc: A,
     prefix: GuidPrefix,
     fixed: &BTreeMap<Guid, Ranks<A>, A>,
     writers: &mut BTreeMap<Guid, Writer<A>, A>,
-) -> Result<Vec<Gone<A>, A>, AllocError>
-    requires { are_sized (keys_of writers.old.entries) ≡ true }
-    ensures gone { IfOk result (λ gone. map gone_of gone.items
-        ≡ filter (are_of prefix) writers.old.entries) }
-    ensures fixed { IfOk result (λ gone. map (λ n. n.fixed) gone.items
-        ≡ map (λ n. ranks_at n.writer fixed.now.entries) gone.items) }
+    gone: &mut Vec<Gone<A>, A>,
+) -> Result<(), AllocError>
+    requires sized { are_sized (keys_of writers.old.entries) ≡ true }
+    requires fixed { map (λ n. n.fixed) gone.old.items
+        ≡ map (λ n. ranks_at n.writer fixed.now.entries) gone.old.items }
+    ensures gone { OnOk result (map gone_of gone.new.items
+        ≡ map gone_of gone.old.items ++ filter (are_of prefix) writers.old.entries) }
+    ensures fixed { OnOk result (map (λ n. n.fixed) gone.new.items
+        ≡ map (λ n. ranks_at n.writer fixed.now.entries) gone.new.items) }
     ensures left { OnOk result (writers.new.entries
         ≡ filter (λ e. not (are_of prefix e)) writers.old.entries) }
     ensures sized { are_sized (keys_of writers.new.entries) ≡ true }
 {
-    let mut gone = Vec::new(alloc);
     'writers: while let Some((writer, offer)) = take_first(writers, prefix) {
         let fixed = Ranks::copied(alloc, ranks_at(fixed, writer))?;
         gone.push(Gone {
@@ -88,6 +122,29 @@ fn take_writers<A: Allocator + Copy>(
             offer,
             fixed,
         })?;
+    }
+    Ok(())
+}
+
+/// Takes out the writers of these participants, one participant after the other.
+fn take_all_writers<A: Allocator + Copy>(
+    alloc: A,
+    prefixes: &[GuidPrefix],
+    fixed: &BTreeMap<Guid, Ranks<A>, A>,
+    writers: &mut BTreeMap<Guid, Writer<A>, A>,
+) -> Result<Vec<Gone<A>, A>, AllocError>
+    requires { are_sized (keys_of writers.old.entries) ≡ true }
+    ensures gone { IfOk result (λ gone. map gone_of gone.items
+        ≡ gone_by prefixes.now writers.old.entries) }
+    ensures fixed { IfOk result (λ gone. map (λ n. n.fixed) gone.items
+        ≡ map (λ n. ranks_at n.writer fixed.now.entries) gone.items) }
+    ensures left { OnOk result (writers.new.entries
+        ≡ filter (λ e. not (any_of prefixes.now e)) writers.old.entries) }
+    ensures sized { are_sized (keys_of writers.new.entries) ≡ true }
+{
+    let mut gone = Vec::new(alloc);
+    for prefix in prefixes {
+        take_writers(alloc, *prefix, fixed, writers, &mut gone)?;
     }
     Ok(gone)
 }
@@ -165,7 +222,40 @@ fn end_announcers<A: Allocator + Copy>(announcers: &mut Matches<A>, prefix: Guid
     });
 }
 
+/// Ends the matches of our builtin readers with the announcers of these participants.
+fn end_all_announcers<A: Allocator + Copy>(announcers: &mut Matches<A>, prefixes: &[GuidPrefix])
+    ensures { (ms : List Match) → AllStand ms announcers.old
+        → AllStand (ended_by prefixes.now ms) announcers.new }
+{
+    for prefix in prefixes {
+        end_announcers(announcers, *prefix);
+    }
+}
+
 impl<A: Allocator + Copy> Held<A> {
+    /// Participants leave together, in the order of the octets of their prefixes, and with them
+    /// their announcers, their writers and their readers. It takes no step for an endpoint of
+    /// another participant.
+    pub fn leave_all(
+        &mut self,
+        alloc: A,
+        prefixes: &[GuidPrefix],
+        changes: &mut Vec<MatchChange<A>, A>,
+    ) -> Result<(), AllocError>
+        requires { IsStrictlySortedBy prefix_order prefixes.now }
+        ensures { OnOk result (Applies (announcement.Leave prefixes.now) (kept self.old)
+            (kept self.new) (map change_seen changes.old.items)
+            (map change_seen changes.new.items)) }
+    {
+        forget_participants(&mut self.participants, &mut self.leases, prefixes);
+        end_all_announcers(&mut self.announcers, prefixes);
+        forget_all_readers(&mut self.remote_readers, prefixes);
+        let gone = take_all_writers(alloc, prefixes, &self.fixed, &mut self.writers)?;
+        hear_all_ends(alloc, &self.readers, gone.as_slice(), changes)?;
+        rerank(gone, &mut self.ranks)?;
+        Ok(())
+    }
+
     /// A participant leaves, and with it its announcers, its writers and its readers. It takes no
     /// step for an endpoint of another participant.
     pub fn leave(
@@ -178,12 +268,6 @@ impl<A: Allocator + Copy> Held<A> {
             (kept self.new) (map change_seen changes.old.items)
             (map change_seen changes.new.items)) }
     {
-        self.participants.remove(&prefix);
-        end_announcers(&mut self.announcers, prefix);
-        forget_readers(&mut self.remote_readers, prefix);
-        let gone = take_writers(alloc, prefix, &self.fixed, &mut self.writers)?;
-        hear_all_ends(alloc, &self.readers, gone.as_slice(), changes)?;
-        rerank(gone, &mut self.ranks)?;
-        Ok(())
+        self.leave_all(alloc, &[prefix], changes)
     }
 }

@@ -15,6 +15,7 @@ use crate::addressed::{
 use crate::announcement::Facts;
 use crate::held::Held;
 use crate::known::{Participant, collected};
+use crate::leases::{deadline, end_of};
 use rtps_proxy::{Matches, ProxyConfig};
 use rtps_types::{EntityId, Guid, GuidPrefix, Locator, Locators};
 use std::alloc::{AllocError, Allocator};
@@ -57,8 +58,8 @@ fn begin_where<A: Allocator + Copy>(
 }
 
 impl<A: Allocator + Copy> Held<A> {
-    /// A participant comes, and our builtin readers are matched with its announcers; one that is
-    /// known changes its default locators and its lease alone.
+    /// A participant comes, and our builtin readers are matched with its announcers; of one that is
+    /// known only its default locators, its lease and when it was heard change.
     pub fn come(&mut self, alloc: A, prefix: GuidPrefix, facts: Facts<'_>) -> Result<(), AllocError>
         ensures { (earlier : List ChangeAt) → OnOk result (Applies
             (announcement.Comes prefix (facts_seen facts.entry)) (kept self.old) (kept self.new)
@@ -66,11 +67,17 @@ impl<A: Allocator + Copy> Held<A> {
     {
         let lease = facts.lease;
         let locators = collected(alloc, facts.locators)?;
-        let participant = Participant { locators, lease };
+        let participant = Participant {
+            locators,
+            lease,
+            heard: self.moment,
+        };
+        let last = deadline(self.moment, lease);
         let known = match self.participants.insert(prefix, participant) {
             Ok(earlier) => earlier,
             Err(_) => return Err(AllocError),
         };
+        self.leases.renew(prefix, end_of(&known), last)?;
         if known.is_some() {
             return Ok(());
         }

@@ -13,6 +13,7 @@ use crate::config::{Config, FixedMatch};
 use crate::hear::{put_ranks, ranks_at};
 use crate::held::Held;
 use crate::known::{Ranks, Reader};
+use crate::leases::Leases;
 use crate::readers::copied_readers;
 use rtps_proxy::Matches;
 use rtps_types::Guid;
@@ -90,9 +91,11 @@ impl<A: Allocator + Copy> Held<A> {
         let remote_readers = BTreeMap::new(alloc);
         Ok(Held {
             own: config.own,
+            moment: 0,
             readers,
             fixed,
             participants,
+            leases: Leases::new(alloc),
             announcers,
             writers,
             remote_readers,

@@ -4,6 +4,7 @@ ghost use Rattle.std.specs.Prelude.{◌≡◌, Ok};
 ghost use Rattle.rtps_discovery.specs.Config.{check_of};
 
 use super::events::{COMES, OFFERS, SQUARES, Said, event_of, payload_of, two_readers};
+use super::leases::{self, FIRST, Input, ONE, ONE_SECOND, SECOND, TWO, step};
 use crate::{Config, Discovery, check};
 use linked_list_allocator::LocalHeap;
 use std::alloc::{Allocator, Global};
@@ -81,5 +82,106 @@ fn refused_growths_spend_discovery(rt: HostRuntime) -> Result<(), Fail> {
         }
     }
     assert!(rt; refused && taken);
+    Ok(())
+}
+
+/// Two participants with two writers each.
+const TWO_BY_TWO: [Input; 6] = [
+    Input::Comes(ONE, ONE_SECOND),
+    Input::Comes(TWO, ONE_SECOND),
+    Input::Offers(ONE, 1, FIRST),
+    Input::Offers(ONE, 2, SECOND),
+    Input::Offers(TWO, 1, FIRST),
+    Input::Offers(TWO, 2, SECOND),
+];
+
+/// Where memory is refused first.
+#[derive(Clone, Copy, Debug, PartialEq)]
+enum Refused {
+    AtTheStart,
+    AtAnInput,
+    AsLeasesEnd,
+    Nowhere,
+}
+
+/// How much is known, and of which moment.
+fn amount_of<A: Allocator + Copy>(discovery: &Discovery<A>) -> (u64, usize, usize) {
+    let participants = discovery.participants().count();
+    (
+        discovery.moment(),
+        participants,
+        discovery.writers().count(),
+    )
+}
+
+/// Whether a record and a moment are refused from now on, and change nothing.
+fn stays_spent<A: Allocator + Copy>(
+    alloc: Global,
+    heap: A,
+    discovery: &mut Discovery<A>,
+) -> Result<bool, Fail> {
+    let amount = amount_of(discovery);
+    let comes = Input::Comes(ONE, ONE_SECOND);
+    let is_taken = step(alloc, heap, discovery, comes)?.is_ok();
+    let expires = discovery.expire(heap, 9000).is_ok();
+    Ok(!is_taken && !expires && amount_of(discovery) == amount)
+}
+
+/// Where memory is refused first as the leases of both participants end; two readers hear of four
+/// writers.
+fn refusal_in<A: Allocator + Copy>(
+    alloc: Global,
+    heap: A,
+    mut discovery: Discovery<A>,
+) -> Result<Refused, Fail> {
+    let mut refused = Refused::Nowhere;
+    for input in TWO_BY_TWO {
+        if step(alloc, heap, &mut discovery, input)?.is_err() {
+            refused = Refused::AtAnInput;
+            break;
+        }
+    }
+    if refused == Refused::Nowhere {
+        match discovery.expire(heap, 1001) {
+            Ok(ended) if ended.len() == 8 => return Ok(refused),
+            Ok(_) => return Err(Fail::new("not all ends")),
+            Err(_) => refused = Refused::AsLeasesEnd,
+        }
+    }
+    if stays_spent(alloc, heap, &mut discovery)? {
+        return Ok(refused);
+    }
+    Err(Fail::new("something is taken after a refused growth"))
+}
+
+/// The same of a heap of this size.
+fn refusal_of(alloc: Global, config: &Config, size: usize) -> Result<Refused, Fail>
+    requires { check_of config.now ≡ Ok tt }
+{
+    let heap = LocalHeap::new(alloc, size)?;
+    match Discovery::new(&heap, config) {
+        Ok(discovery) => refusal_in(alloc, &heap, discovery),
+        Err(_) => Ok(Refused::AtTheStart),
+    }
+}
+
+#[test]
+fn refused_growths_as_leases_end(rt: HostRuntime) -> Result<(), Fail> {
+    let config = leases::two_readers(rt.alloc())?;
+    check(&config)?;
+    let (mut inputs, mut ends, mut nowhere) = (0, 0, 0);
+    for step in 1..512 {
+        match refusal_of(rt.alloc(), &config, step * 32)? {
+            Refused::AtTheStart => {}
+            Refused::AtAnInput => inputs += 1,
+            Refused::AsLeasesEnd => ends += 1,
+            Refused::Nowhere => nowhere += 1,
+        }
+    }
+    // More than one growth is refused in either.
+    assert!(rt;
+        inputs > 1 && ends > 1 && nowhere > 0,
+        "{inputs} {ends} {nowhere}"
+    );
     Ok(())
 }

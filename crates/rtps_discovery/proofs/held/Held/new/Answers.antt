@@ -43,5 +43,5 @@ returns g c =
     (λ q. c.in_ok-ranks.ensures q
     ∙ ap (λ ps. fixed_ranks (map pair_of ps) c.deref-4.result.now q) c.deref-5.ensures.value
     ∙ ap (λ rs. fixed_ranks (map pair_of config.fixed.items) rs q) (c.deref-4.ensures.value ∙ readers)) in
-    rw (c.new-participants.ensures.empty, c.new-announcers.ensures, c.new-writers.ensures.empty, c.new-remote_readers.ensures.empty)
+    rw (c.new-participants.ensures.empty, c.new-announcers.ensures, c.new-writers.ensures.empty, c.new-remote_readers.ensures.empty, c.new.ensures)
     (subst (λ rs. IsKnown (first_known config) (at_first config.own rs fixed ranks)) (sym readers) start)

@@ -1,0 +1,33 @@
+//! What a moment changes (DDSI-RTPS 8.5.3.2).
+
+ghost use Rattle.std.specs.Prelude.{◌≡◌, IfOk, IsOk, OnOk, false, map};
+ghost use Rattle.rtps_discovery.specs.Changes.{changes};
+ghost use Rattle.rtps_discovery.specs.Kept.{IsKnown, kept};
+ghost use Rattle.rtps_discovery.specs.Known.{Known, has_expired, moved, passed};
+ghost use Rattle.rtps_discovery.specs.Seen.{change_seen};
+
+use crate::changes::MatchChange;
+use crate::held::Held;
+use std::alloc::{AllocError, Allocator};
+
+impl<A: Allocator + Copy> Held<A> {
+    /// A moment comes: the participants whose leases have ended leave together. It takes no step
+    /// for a participant whose lease hasn't ended, and no memory where none has.
+    pub fn expire(&mut self, alloc: A, moment: u64) -> Result<Vec<MatchChange<A>, A>, AllocError>
+        ensures known { (k : Known) → IsKnown k (kept self.old)
+            → OnOk result (IsKnown (passed moment k) (kept self.new)) }
+        ensures changes { (k : Known) → IsKnown k (kept self.old) → IfOk result (λ ended.
+            map change_seen ended.items ≡ changes (moved moment k) (passed moment k)) }
+        ensures quiet { (k : Known) → IsKnown k (kept self.old)
+            → has_expired (moved moment k) ≡ false → IsOk result }
+    {
+        self.moment = self.moment.max(moment);
+        let mut ended = Vec::new(alloc);
+        if !self.leases.is_due(self.moment) {
+            return Ok(ended);
+        }
+        let gone = self.leases.due(alloc, self.moment)?;
+        self.leave_all(alloc, gone.as_slice(), &mut ended)?;
+        Ok(ended)
+    }
+}

@@ -1,0 +1,205 @@
+//! When the leases of participants end (DDSI-RTPS 8.5.3.2).
+
+ghost use Rattle.std.specs.Prelude.{◌≡◌, ◌||◌, ◌<◌, ℕ, [], IfNone, IfOk, IfSome, None, OnOk, OnSome, cond, false, length, true};
+ghost use Rattle.std.specs.Ordering.{is_eq};
+ghost use Rattle.rtps_types.specs.declared.identity.GuidPrefix.{GuidPrefix};
+ghost use Rattle.std.specs.List.Sorted.{IsStrictlySortedBy, IsStrictlySortedBy-prop};
+ghost use Rattle.rtps_discovery.specs.Ends.{EndsAt, Renews, end_of, end_order, has_due, has_end, has_prefix, is_due, soonest_of};
+ghost use Rattle.rtps_discovery.specs.Known.{prefix_order};
+ghost use Rattle.rtps_discovery.specs.Lease.{deadline, milliseconds};
+
+use crate::known::Participant;
+use rtps_types::{Duration, GuidPrefix};
+use std::alloc::{AllocError, Allocator};
+use std::collections::BTreeSet;
+use std::collections::btree_set::Iter;
+use std::marker::Model;
+
+/// A lease in milliseconds, rounded up; 0, where it is negative.
+fn milliseconds(lease: Duration) -> u64
+    ensures { result ≡ milliseconds lease.seconds lease.fraction }
+{
+    if lease.seconds < 0 {
+        return 0;
+    }
+    let rounded = (u64::from(lease.fraction) * 1000 + 0xffff_ffff) / 0x1_0000_0000;
+    u64::from(lease.seconds.cast_unsigned()) * 1000 + rounded
+}
+
+/// The last moment of a lease that began at a moment, if it ends; at most the greatest one.
+pub(crate) fn deadline(heard: u64, lease: Duration) -> Option<u64>
+    ensures { result ≡ deadline heard lease }
+{
+    if lease.seconds == 0x7fff_ffff && lease.fraction == 0xffff_ffff {
+        return None;
+    }
+    Some(heard.saturating_add(milliseconds(lease)))
+}
+
+/// The last moment of a participant's lease, if there is a participant, and it has one.
+pub(crate) fn end_of<A: Allocator>(participant: &Option<Participant<A>>) -> Option<u64>
+    ensures { result ≡ end_of participant.now }
+{
+    match participant {
+        Some(participant) => deadline(participant.heard, participant.lease),
+        None => None,
+    }
+}
+
+/// The last moments of leases, each with its participant.
+#[derive(Drop)]
+pub(crate) struct Leases<A: Allocator> {
+    ends: BTreeSet<(u64, GuidPrefix), A>,
+    /// The first of them, so that a moment at which none has ended costs one comparison; the
+    /// greatest moment, where there is none.
+    soonest: u64,
+
+    ghost first: { soonest ≡ soonest_of ends.keys },
+    ghost sorted: { IsStrictlySortedBy end_order ends.keys } by { IsStrictlySortedBy-prop end_order ends.keys },
+}
+
+impl<A: Allocator> Model for Leases<A> {
+    ghost use Rattle.std.specs.Prelude.{List, ℕ};
+    ghost use Rattle.rtps_types.specs.declared.identity.GuidPrefix.{GuidPrefix};
+
+    ghost Value = { List (ℕ × GuidPrefix) };
+
+    ghost view = { λ l. l.ends.keys };
+}
+
+/// The first last moment; the greatest moment, where there is none.
+fn soonest_of<A: Allocator>(ends: &BTreeSet<(u64, GuidPrefix), A>) -> u64
+    ensures { result ≡ soonest_of ends.now.keys }
+{
+    match ends.first() {
+        Some(end) => end.0,
+        None => u64::MAX,
+    }
+}
+
+/// The participant of the first end, if it is before a moment.
+fn next_due(ends: &mut Iter<'_, (u64, GuidPrefix)>, moment: u64) -> Option<GuidPrefix>
+    requires { IsStrictlySortedBy end_order ends.old }
+    ensures some { IfSome result (λ p. (q : GuidPrefix) → has_due ends.old moment q
+        ≡ (is_eq (prefix_order q p) || has_due ends.new moment q)) }
+    ensures none { IfNone result ((q : GuidPrefix) → has_due ends.old moment q ≡ false) }
+    ensures sorted { IsStrictlySortedBy end_order ends.new }
+    ensures fewer { OnSome result (length ends.new < length ends.old) }
+{
+    let end = ends.next()?;
+    if end.0 >= moment {
+        return None;
+    }
+    Some(end.1)
+}
+
+/// The participants of a set, in order.
+fn listed<A: Allocator + Copy>(
+    alloc: A,
+    mut found: BTreeSet<GuidPrefix, A>,
+) -> Result<Vec<GuidPrefix, A>, AllocError>
+    ensures { IfOk result (λ list. list.items ≡ found.keys) }
+{
+    let mut list = Vec::new(alloc);
+    'found: while let Some(prefix) = found.pop_first() {
+        list.push(prefix)?;
+    }
+    Ok(list)
+}
+
+impl<A: Allocator> Leases<A> {
+    /// Whether a lease has ended at a moment: its last moment is before it. It takes one
+    /// comparison.
+    pub fn is_due(&self, moment: u64) -> bool
+        ensures { result ≡ is_due self.now moment }
+    {
+        self.soonest < moment
+    }
+
+    /// Takes out an end.
+    fn forget(&mut self, prefix: GuidPrefix, last: u64)
+        ensures { (m : ℕ) (p : GuidPrefix) → has_end self.new m p
+            ≡ cond (is_eq (end_order (last, prefix) (m, p))) false (has_end self.old m p) }
+    {
+        self.ends.remove(&(last, prefix));
+        self.soonest = soonest_of(&self.ends);
+    }
+
+    /// The lease of a participant ends no more, which ended then.
+    pub fn end(&mut self, prefix: GuidPrefix, earlier: Option<u64>)
+        ensures { EndsAt prefix earlier self.old → Renews prefix None self.old self.new }
+    {
+        match earlier {
+            Some(last) => self.forget(prefix, last),
+            None => {}
+        }
+    }
+}
+
+impl<A: Allocator + Copy> Leases<A> {
+    /// No lease ends.
+    pub fn new(alloc: A) -> Leases<A>
+        ensures { result ≡ [] }
+    {
+        Leases {
+            ends: BTreeSet::new(alloc),
+            soonest: u64::MAX,
+        }
+    }
+
+    /// Puts an end in.
+    fn add(&mut self, prefix: GuidPrefix, last: u64) -> Result<(), AllocError>
+        ensures { OnOk result ((m : ℕ) (p : GuidPrefix) → has_end self.new m p
+            ≡ cond (is_eq (end_order (last, prefix) (m, p))) true (has_end self.old m p)) }
+    {
+        match self.ends.insert((last, prefix)) {
+            Ok(_) => {}
+            Err(_) => return Err(AllocError),
+        }
+        self.soonest = soonest_of(&self.ends);
+        Ok(())
+    }
+
+    /// The lease of a participant ends then, which ended no more.
+    pub fn begin(&mut self, prefix: GuidPrefix, last: Option<u64>) -> Result<(), AllocError>
+        ensures { OnOk result (EndsAt prefix None self.old → Renews prefix last self.old self.new) }
+    {
+        match last {
+            Some(last) => {
+                self.add(prefix, last)?;
+                Ok(())
+            }
+            None => Ok(()),
+        }
+    }
+
+    /// The participants whose leases have ended at a moment, in the order of the octets of their
+    /// prefixes. It takes a step for each of them, and one more.
+    pub fn due(&self, alloc: A, moment: u64) -> Result<Vec<GuidPrefix, A>, AllocError>
+        ensures due { IfOk result (λ gone. (q : GuidPrefix)
+            → has_prefix gone.items q ≡ has_due self.now moment q) }
+        ensures sorted { IfOk result (λ gone. IsStrictlySortedBy prefix_order gone.items) }
+    {
+        let mut found = BTreeSet::new(alloc);
+        let mut ends = self.ends.iter();
+        'due: while let Some(prefix) = next_due(&mut ends, moment) {
+            found.insert(prefix)?;
+        }
+        let list = listed(alloc, found)?;
+        Ok(list)
+    }
+
+    /// The lease of a participant ends then, which ended at the earlier moment.
+    pub fn renew(
+        &mut self,
+        prefix: GuidPrefix,
+        earlier: Option<u64>,
+        last: Option<u64>,
+    ) -> Result<(), AllocError>
+        ensures { OnOk result (EndsAt prefix earlier self.old → Renews prefix last self.old self.new) }
+    {
+        self.end(prefix, earlier);
+        self.begin(prefix, last)?;
+        Ok(())
+    }
+}
