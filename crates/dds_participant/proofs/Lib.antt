@@ -8,3 +8,9 @@ pub mod Giving
 mod Dealing
 mod Leaving
 mod Counting
+mod Places
+mod Unattached
+pub mod Onward
+mod Finished
+mod HandingOff
+mod Publishing

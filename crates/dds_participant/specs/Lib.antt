@@ -1,5 +1,9 @@
+pub mod Ports
 pub mod Kept
 pub mod Sharing
 pub mod Batch
 pub mod Given
 pub mod Pieces
+pub mod Handing
+pub mod HandOff
+pub mod Publishing

@@ -2,7 +2,9 @@
 
 ghost use Rattle.std.specs.Prelude.{◌≡◌, ◌+◌, ◌^◌, ◌≤◌, ◌<◌, ◌++◌, ℕ, All, IfErr, IfOk, List, OnErr, OnOk, false, true, length, map};
 ghost use Rattle.std.specs.List.Sorted.{IsPermutation};
+ghost use Rattle.std.specs.declared.alloc.Global.{Global};
 ghost use Rattle.rtps_receiver.specs.Events.{view};
+ghost use Rattle.rtps_serial.specs.declared.outcome.Outcome.{Outcome};
 ghost use Rattle.rtps_serial.specs.Outcome.{Adds};
 ghost use Rattle.rtps_serial.specs.Run.{events_from, world_run};
 ghost use Rattle.rtps_serial.specs.Standing.{ShowsAt, StandsAt, datagram_limit, run_by};
@@ -11,7 +13,10 @@ ghost use Rattle.rtps_reader.specs.Standing.{ReaderView};
 ghost use Rattle.rtps_shards.specs.Results.{Share, rank_in, rank_of};
 ghost use Rattle.dds_participant.specs.Batch.{IsFinishedBy, Keeps, OnlyRuns, failing};
 ghost use Rattle.dds_participant.specs.Given.{IsGiven, LeavesLists};
+ghost use Rattle.dds_participant.specs.Handing.{IsHandedOn, IsOutcomeHandedOn};
 ghost use Rattle.dds_participant.specs.Kept.{RefusesBatch, TakesBatch, counted};
+ghost use Rattle.dds_participant.specs.Ports.{NoneAttached};
+ghost use Rattle.dds_participant.specs.declared.given.Given.{Given};
 ghost use Rattle.dds_participant.specs.Sharing.{AllShare, ArePaired, AreRun, state_rank};
 
 use crate::decode::{Arrived, decoded, places_of};
@@ -36,6 +41,18 @@ pub struct Workers<'a, G> {
     pub count: usize,
     /// Called as each job begins and ends.
     pub gate: &'a G,
+}
+
+/// Whether a participant takes these datagrams as one batch: at most 4,096, each of at most 65,507
+/// octets, which is what a UDP datagram over IPv4 carries. Whoever has datagrams from outside asks
+/// this before [`Participant::run_batch`] or [`Participant::run_in_order`].
+pub fn is_batch(datagrams: &[&[u8]]) -> bool
+    ensures few { result ≡ true → length datagrams.now ≤ 4096 }
+    ensures fit { result ≡ true → All (λ d. length d.now ≤ 65507) datagrams.now }
+    ensures is { length datagrams.now ≤ 4096 → All (λ d. length d.now ≤ 65507) datagrams.now
+        → result ≡ true }
+{
+    datagrams.len() <= 4096 && datagrams.iter().all(|datagram| datagram.len() <= 65_507)
 }
 
 /// Has so many workers run the jobs of readers.
@@ -71,10 +88,14 @@ impl<C: Catalog> Participant<C> {
     /// begins and ends. Where there is more than one worker, more than 1 MiB of datagrams are
     /// decoded on as many threads as there are processors.
     ///
-    /// When a batch is out of memory, on whichever worker, nothing of it is given, and the
-    /// participant has failed: from then on it answers [`EngineError::Failed`], and its statuses
-    /// are those before that batch. A batch that would pass 2^48 datagrams is refused with
-    /// [`EngineError::Spent`] and changes nothing.
+    /// What a reader with an outlet reports is not in the outcome: it is added to the end of the
+    /// outlet's backlog, from which [`Participant::deliver`] sends it. Its answers are given as
+    /// those of the others.
+    ///
+    /// When a batch is out of memory, on whichever worker or as a backlog grows, nothing of it is
+    /// given or added to a backlog, and the participant has failed: from then on it answers
+    /// [`EngineError::Failed`], and its statuses are those before that batch. A batch that would
+    /// pass 2^48 datagrams is refused with [`EngineError::Spent`] and changes nothing.
     #[tactic(auto, unfolding(crate::specs::Kept::TakesBatch, crate::specs::Kept::RefusesBatch))]
     pub fn run_batch<G: Gate, R: Threads + Sync>(
         &mut self,
@@ -96,8 +117,16 @@ impl<C: Catalog> Participant<C> {
             → OnOk result (StandsAt C.decoding (earlier ++ map (λ d. d.now) datagrams.now)
             self.new.engine) }
         ensures adds { (earlier : List (List ℕ)) → StandsAt C.decoding earlier self.old.engine
+            → IfOk result (λ outcome. (whole : Outcome C.Value Global)
+            × Adds C.view (run_by C.decoding self.old.engine earlier)
+            (run_by C.decoding self.old.engine (earlier ++ map (λ d. d.now) datagrams.now)) whole
+            × IsOutcomeHandedOn whole outcome self.old.ports self.new.ports) }
+        ensures alone { (earlier : List (List ℕ)) → StandsAt C.decoding earlier self.old.engine
+            → NoneAttached self.old.ports
             → IfOk result (Adds C.view (run_by C.decoding self.old.engine earlier)
             (run_by C.decoding self.old.engine (earlier ++ map (λ d. d.now) datagrams.now))) }
+        ensures free { NoneAttached self.old.ports → NoneAttached self.new.ports }
+        ensures ports { OnErr result (self.new.ports ≡ self.old.ports) }
         ensures shows { (earlier : List (List ℕ)) → ShowsAt C.decoding earlier self.old.engine
             → OnErr result (ShowsAt C.decoding earlier self.new.engine) }
     {
@@ -107,7 +136,8 @@ impl<C: Catalog> Participant<C> {
             gate,
         };
         let given = self.run(rt, alloc, &workers, datagrams, Given::new(alloc))?;
-        let outcome = outcome_of::<C>(alloc, given)?;
+        let mut outcome = outcome_of::<C>(alloc, given)?;
+        self.hand_lists(&mut outcome.notices)?;
         self.finish(datagrams.len());
         Ok(outcome)
     }
@@ -115,7 +145,8 @@ impl<C: Catalog> Participant<C> {
     /// Takes the next datagrams as [`Participant::run_batch`] does, and gives what is put out in
     /// lists that the caller lends: the places of the batch, discovery's answers, and what each
     /// reader gives out and sends. Merged by place, as [`Given`] says, they are what the run puts
-    /// out more.
+    /// out more, but for what went to backlogs: a reader with an outlet has no notice in its list,
+    /// which keeps its memory.
     ///
     /// What is in the lists is dropped. For the next batch they are lent again as they are: each
     /// reader's lists are emptied by the worker that runs its job, and no memory is taken anew for
@@ -142,16 +173,26 @@ impl<C: Catalog> Participant<C> {
             → OnOk result (StandsAt C.decoding (earlier ++ map (λ d. d.now) datagrams.now)
             self.new.engine) }
         ensures gives { (earlier : List (List ℕ)) → StandsAt C.decoding earlier self.old.engine
+            → OnOk result ((whole : Given C.Value)
+            × IsGiven C.view (run_by C.decoding self.old.engine earlier)
+            (run_by C.decoding self.old.engine (earlier ++ map (λ d. d.now) datagrams.now)) whole
+            × IsHandedOn whole given.new self.old.ports self.new.ports) }
+        ensures alone { (earlier : List (List ℕ)) → StandsAt C.decoding earlier self.old.engine
+            → NoneAttached self.old.ports
             → OnOk result (IsGiven C.view (run_by C.decoding self.old.engine earlier)
             (run_by C.decoding self.old.engine (earlier ++ map (λ d. d.now) datagrams.now))
             given.new) }
+        ensures free { NoneAttached self.old.ports → NoneAttached self.new.ports }
+        ensures ports { OnErr result (self.new.ports ≡ self.old.ports) }
         ensures shows { (earlier : List (List ℕ)) → ShowsAt C.decoding earlier self.old.engine
             → OnErr result (ShowsAt C.decoding earlier self.new.engine) }
         ensures lists { IfErr result (λ e. LeavesLists e given.old given.new) }
     {
         self.admit(datagrams.len())?;
         let lent = mem::replace(given, Given::new(alloc));
-        *given = self.run(rt, alloc, workers, datagrams, lent)?;
+        let mut whole = self.run(rt, alloc, workers, datagrams, lent)?;
+        self.hand(&mut whole.outputs)?;
+        *given = whole;
         self.finish(datagrams.len());
         Ok(())
     }
@@ -194,6 +235,7 @@ impl<C: Catalog> Participant<C> {
         requires readers { length self.old.engine.readers ≤ 256 }
         requires failed { self.old.engine.failed ≡ true }
         ensures same { OnlyRuns self.old self.new }
+        ensures ports { self.new.ports ≡ self.old.ports }
         ensures count { OnOk result
             (length self.new.engine.readers ≡ length self.old.engine.readers) }
         ensures outputs { IfOk result (λ given.
@@ -234,7 +276,8 @@ impl<C: Catalog> Participant<C> {
     fn finish(&mut self, count: usize)
         requires room { self.old.engine.index + count ≤ datagram_limit }
         requires readers { length self.old.engine.readers ≡ length self.old.engine.statuses }
-        ensures { IsFinishedBy count self.old self.new }
+        ensures finished { IsFinishedBy count self.old self.new }
+        ensures ports { self.new.ports ≡ self.old.ports }
     {
         show_all(&self.readers, &mut self.statuses);
         self.index += count as u64;

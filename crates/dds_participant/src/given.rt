@@ -29,7 +29,7 @@ pub struct Given<V> {
     pub places: Vec<Place>,
     /// What discovery answers.
     pub answers: Vec<Answer>,
-    /// What each reader gives out and sends, by rank.
+    /// What each reader gives out and sends, by rank. A reader with an outlet has no notice here.
     pub outputs: Vec<Output<V>>,
 }
 
@@ -78,8 +78,9 @@ pub(crate) fn outcome_of<C: Catalog>(
     given: Given<C::Value>,
 ) -> Result<Outcome<C::Value>, AllocError>
     requires readers { length given.outputs.items ≤ 256 }
-    ensures { (before after : World C.Meaning) → IsGiven C.view before after given
+    ensures adds { (before after : World C.Meaning) → IsGiven C.view before after given
         → IfOk result (Adds C.view before after) }
+    ensures count { IfOk result (λ o. length o.notices.items ≡ length given.outputs.items) }
 {
     let readers = given.outputs.len();
     let (ranks, outputs) = ranked(alloc, given.outputs)?;

@@ -5,7 +5,9 @@ ghost use Rattle.rtps_discovery.specs.Config.{check_of};
 ghost use Rattle.rtps_discovery.specs.Kept.{IsKnown};
 ghost use Rattle.rtps_serial.specs.Seen.{matches_seen, status_seen};
 ghost use Rattle.rtps_serial.specs.Standing.{Answers, ShowsAt, StandsAt, Starts, run_by};
+ghost use Rattle.dds_participant.specs.Ports.{NoneAttached};
 
+use crate::ports::{Port, no_ports};
 use dds_topic::Catalog;
 use rtps_discovery::{Config, Discovery, check};
 use rtps_reader::{ReaderState, Status};
@@ -22,6 +24,20 @@ use std::marker::Model;
 ///
 /// It keeps what [`rtps_serial::SerialEngine`] keeps after the same datagrams, however they are cut
 /// into batches.
+///
+/// Each reader has a place for an outlet ([`Participant::attach`]), through which another thread
+/// hears what the reader reports:
+///
+/// ```text
+/// let (outlet, mut inlet) = dds_outlet::outlet(alloc, 64)?;
+/// participant.attach(0, outlet);
+/// // in the thread that receives, again and again
+/// participant.run_in_order(rt, alloc, &workers, &datagrams, &mut given)?;
+/// participant.deliver(0);
+/// participant.publish(rt, alloc, &mut board)?;
+/// // in a thread of the application
+/// while let Some(notice) = inlet.pop() { .. }
+/// ```
 #[derive(Drop)]
 pub struct Participant<C: Catalog> {
     pub(crate) catalog: C,
@@ -37,13 +53,18 @@ pub struct Participant<C: Catalog> {
     pub(crate) readers: Vec<ReaderState>,
     /// By rank, as they were after the last batch that was taken.
     pub(crate) statuses: Vec<Status>,
+    /// By rank, the outlet that is attached, if one is.
+    pub(crate) ports: Vec<Option<Port<C::Value>>>,
+    /// In which backlogs grow.
+    pub(crate) alloc: Global,
 }
 
 impl<C: Catalog> Model for Participant<C> {
     ghost use Rattle.std.specs.Prelude.{◌≡◌, ◌≤◌, false, length};
     ghost use Rattle.dds_participant.specs.Kept.{ParticipantView};
+    ghost use Rattle.dds_participant.specs.Ports.{ports_view};
 
-    ghost Value = { ParticipantView C };
+    ghost Value = { ParticipantView C C.Value };
 
     ghost view = { λ p. record {
       engine = record {
@@ -56,9 +77,11 @@ impl<C: Catalog> Model for Participant<C> {
         statuses = p.statuses.items;
       };
       batches = p.batches;
+      ports = ports_view p.ports.items;
     } };
 
     ghost invariant = { λ p. (length p.statuses.items ≤ 256)
+        × (length p.ports.items ≡ length p.statuses.items)
         × (p.failed ≡ false → length p.readers.items ≡ length p.statuses.items) };
 }
 
@@ -71,6 +94,7 @@ impl<C: Catalog> Participant<C> {
         ensures starts { Starts (check_of config) result }
         ensures same { IfOk result (λ p. (p.engine.catalog ≡ catalog)
             × (p.engine.config ≡ config) × (p.batches ≡ 0)) }
+        ensures none { IfOk result (λ p. NoneAttached p.ports) }
         ensures stands { IfOk result (λ p. StandsAt C.decoding [] p.engine) }
     {
         match check(&config) {
@@ -80,6 +104,7 @@ impl<C: Catalog> Participant<C> {
         let fixed = fixed_by_rank(alloc, config.readers.len(), &config.fixed)?;
         let readers = first_readers(alloc, config.own, &config.readers, &fixed)?;
         let statuses = first_statuses(alloc, &readers)?;
+        let ports = no_ports(alloc, readers.len())?;
         let discovery = Discovery::new(alloc, &config)?;
         Ok(Participant {
             catalog,
@@ -90,6 +115,8 @@ impl<C: Catalog> Participant<C> {
             discovery,
             readers,
             statuses,
+            ports,
+            alloc,
         })
     }
 

@@ -1,16 +1,19 @@
 //! Participants against datagrams that were written down by hand.
 
-ghost use Rattle.std.specs.Prelude.{◌≡◌, ◌≤◌, All, length, true};
+ghost use Rattle.std.specs.Prelude.{◌≤◌};
 
 mod failing;
+mod hand_off;
 mod lent;
+mod outlets;
+mod publishing;
 mod routed;
 mod stress;
 
 use crate::*;
 use dds_topic::{Catalog, Shape, Shapes};
 use rtps_discovery::{Config, ReaderConfig};
-use rtps_reader::{Body, NoticeKind, Status};
+use rtps_reader::{Body, Notice, NoticeKind, Status};
 use rtps_serial::Report;
 use rtps_shards::{Gate, NoGate};
 use rtps_types::{EntityId, Guid, GuidPrefix, Locators};
@@ -68,19 +71,6 @@ fn config(alloc: Global) -> Result<Config, AllocError> {
     Ok(config)
 }
 
-/// Whether a participant takes these datagrams in one batch.
-fn fit(datagrams: &[&[u8]]) -> bool
-    ensures few { result ≡ true → length datagrams.now ≤ 4096 }
-    ensures short { result ≡ true → All (λ d. length d.now ≤ 65507) datagrams.now }
-{
-    for datagram in datagrams {
-        if datagram.len() > 65_507 {
-            return false;
-        }
-    }
-    datagrams.len() <= 4096
-}
-
 /// What a report says.
 #[derive(Clone, Copy, PartialEq, Eq)]
 enum Said {
@@ -97,19 +87,24 @@ enum Said {
 /// The rank of a report, the datagram that caused it, and what it says.
 type Line = (Option<u32>, u64, Said);
 
+/// What a notice says.
+fn said_by(notice: &Notice<Shape>) -> Said {
+    match &notice.what {
+        NoticeKind::Lost { count } => Said::Lost(*count),
+        NoticeKind::Matched => Said::Matched(notice.writer.entity.0[2]),
+        NoticeKind::Sample {
+            number,
+            body: Body::Value(_, shape),
+            ..
+        } if shape.color.as_str() == "BLUE" => Said::Blue(number.get()),
+        _ => Said::Other,
+    }
+}
+
 fn line(report: &Report<Shape>) -> Line {
     let said = match report {
         Report::Answer(_) => Said::Answer,
-        Report::Notice { notice, .. } => match &notice.what {
-            NoticeKind::Lost { count } => Said::Lost(*count),
-            NoticeKind::Matched => Said::Matched(notice.writer.entity.0[2]),
-            NoticeKind::Sample {
-                number,
-                body: Body::Value(_, shape),
-                ..
-            } if shape.color.as_str() == "BLUE" => Said::Blue(number.get()),
-            _ => Said::Other,
-        },
+        Report::Notice { notice, .. } => said_by(notice),
     };
     let turn = report.turn();
     (turn.rank, turn.place.datagram, said)
@@ -135,7 +130,7 @@ fn take<C: Catalog<Value = Shape>, G: Gate, R: Threads + Sync>(
     requires { (1 ≤ batch.1) × (batch.1 ≤ 64) }
 {
     let (datagrams, workers) = batch;
-    if !fit(datagrams) {
+    if !is_batch(datagrams) {
         return Err(Fail::new("the batch is too large"));
     }
     let outcome = participant.run_batch(rt, alloc, gate, datagrams, workers)?;
@@ -332,5 +327,21 @@ fn a_reader_without_a_step_has_no_job(rt: HostRuntime) -> Result<(), Fail> {
     let alloc = rt.alloc();
     let mut participant = Participant::new(alloc, config(alloc)?, Shapes)?;
     assert_eq!(rt; counted(&rt, alloc, &mut participant)?, (101, 202));
+    Ok(())
+}
+
+#[test]
+fn a_batch_has_at_most_4096_datagrams_of_65507_octets(rt: HostRuntime) -> Result<(), Fail> {
+    let alloc = rt.alloc();
+    let octets = vec![in alloc; 0u8; 65_508]?;
+    let (longest, _) = octets.split_at(65_507);
+    let mut datagrams: Vec<&[u8]> = Vec::new(alloc);
+    for _ in 0..4096 {
+        datagrams.push(longest)?;
+    }
+    assert!(rt; is_batch(&[]) && is_batch(&datagrams));
+    assert!(rt; !is_batch(&[octets.as_slice()]));
+    datagrams.push(&[])?;
+    assert!(rt; !is_batch(&datagrams));
     Ok(())
 }

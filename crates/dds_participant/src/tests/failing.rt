@@ -1,13 +1,17 @@
 //! Batches that are out of memory.
 
-use super::{DATA, HEARTBEAT, config, fit};
+use super::outlets::{THIRD, heard};
+use super::publishing::{looks, shown};
+use super::{DATA, HEARTBEAT, LATER, Said, config};
 use crate::*;
-use dds_topic::{Catalog, CatalogError, Shapes};
+use dds_outlet::{Inlet, outlet};
+use dds_topic::{Catalog, CatalogError, Shape, Shapes};
 use rtps_reader::Status;
 use rtps_serial::EngineError;
 use rtps_shards::NoGate;
 use rtps_types::KeyHash;
 use std::alloc::{AllocError, Global};
+use std::sync::Wait;
 use std::sync::atomic::{AtomicU64, Ordering};
 use std::test::Fail;
 use std::thread::Threads;
@@ -76,14 +80,14 @@ fn refusal<R: Threads + Sync>(
     rt: &R,
     alloc: Global,
     participant: &mut Participant<Starved<Shapes>>,
+    datagrams: &[&[u8]],
 ) -> Result<Option<EngineError>, Fail> {
-    let datagrams = [DATA, HEARTBEAT];
-    if !fit(&datagrams) {
+    if !is_batch(datagrams) {
         return Err(Fail::new("the batch is too large"));
     }
     Ok(
         participant
-            .run_batch(rt, alloc, &NoGate, &datagrams, 2)
+            .run_batch(rt, alloc, &NoGate, datagrams, 2)
             .err(),
     )
 }
@@ -103,8 +107,8 @@ fn takes_or_fails<R: Threads + Sync>(
     participant: &mut Participant<Starved<Shapes>>,
     is_refused: bool,
 ) -> Result<bool, Fail> {
-    let first = refusal(rt, alloc, participant)?;
-    let second = refusal(rt, alloc, participant)?;
+    let first = refusal(rt, alloc, participant, &[DATA, HEARTBEAT])?;
+    let second = refusal(rt, alloc, participant, &[DATA, HEARTBEAT])?;
     if !is_refused {
         return Ok(first.is_none() && second.is_none() && samples(participant) == Some(1));
     }
@@ -117,15 +121,20 @@ fn takes_or_fails<R: Threads + Sync>(
     )
 }
 
-/// Whether a participant whose batch has two values takes it, or else fails for good, where this
-/// value finds no memory.
-fn fails_at<R: Threads + Sync>(rt: &R, alloc: Global, refused: u64) -> Result<bool, Fail> {
+/// A participant that finds no memory for this value.
+fn starving(alloc: Global, refused: u64) -> Result<Participant<Starved<Shapes>>, Fail> {
     let catalog = Starved {
         catalog: Shapes,
         refused,
         decoded: AtomicU64::new(0),
     };
-    let mut participant = Participant::new(alloc, config(alloc)?, catalog)?;
+    Ok(Participant::new(alloc, config(alloc)?, catalog)?)
+}
+
+/// Whether a participant whose batch has two values takes it, or else fails for good, where this
+/// value finds no memory.
+fn fails_at<R: Threads + Sync>(rt: &R, alloc: Global, refused: u64) -> Result<bool, Fail> {
+    let mut participant = starving(alloc, refused)?;
     takes_or_fails(rt, alloc, &mut participant, refused < 2)
 }
 
@@ -134,5 +143,36 @@ fn a_batch_out_of_memory_fails_a_participant(rt: HostRuntime) -> Result<(), Fail
     for refused in [0, 1, 2] {
         assert!(rt; fails_at(&rt, rt.alloc(), refused)?);
     }
+    Ok(())
+}
+
+/// Whether the row, the backlog and the outlet of the second reader are those after the first
+/// batch, which brought it a sample.
+fn stands_after_the_first<R: Wait>(
+    rt: &R,
+    alloc: Global,
+    participant: &mut Participant<Starved<Shapes>>,
+    inlet: &mut Inlet<Shape>,
+) -> Result<bool, Fail> {
+    Ok(
+        shown(rt, alloc, participant)? == looks(1, 0)
+            && participant.deliver(1) == 0
+            && heard(alloc, inlet)?.as_slice() == [(0, Said::Blue(1))].as_slice()
+            && participant.detach(1).is_some(),
+    )
+}
+
+#[test]
+fn a_batch_out_of_memory_adds_nothing_to_a_backlog(rt: HostRuntime) -> Result<(), Fail> {
+    let alloc = rt.alloc();
+    let mut participant = starving(alloc, 2)?;
+    let (outlet, mut inlet) = outlet(alloc, 4)?;
+    assert!(rt; participant.attach(1, outlet).is_ok());
+    assert_eq!(rt; refusal(&rt, alloc, &mut participant, &[DATA])?, None);
+    let batch: [&[u8]; 3] = [HEARTBEAT, LATER, THIRD];
+    for fault in [EngineError::NoMemory, EngineError::Failed] {
+        assert_eq!(rt; refusal(&rt, alloc, &mut participant, &batch)?, Some(fault));
+    }
+    assert!(rt; stands_after_the_first(&rt, alloc, &mut participant, &mut inlet)?);
     Ok(())
 }

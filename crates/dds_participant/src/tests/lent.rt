@@ -1,6 +1,8 @@
 //! Lists that are lent from one batch to the next.
 
-use super::{DATA, HEARTBEAT, LATER, config, fit};
+ghost use Rattle.std.specs.Prelude.{◌≤◌};
+
+use super::{DATA, HEARTBEAT, LATER, config};
 use crate::*;
 use dds_topic::{Shape, Shapes};
 use rtps_shards::NoGate;
@@ -9,20 +11,23 @@ use std::alloc::Global;
 use std::test::Fail;
 use std::thread::Threads;
 
-/// Has a participant take a batch by two workers into lists that are lent; then how many notices
-/// and answers the two readers gave and sent.
-fn lend<R: Threads + Sync>(
+/// Has a participant take a batch, by a number of workers, into lists that are lent; then how many
+/// notices and answers the readers gave and sent.
+pub(super) fn lend<R: Threads + Sync>(
     rt: &R,
     alloc: Global,
     participant: &mut Participant<Shapes>,
-    datagrams: &[&[u8]],
+    batch: (&[&[u8]], usize),
     given: &mut Given<Shape>,
-) -> Result<Vec<(usize, usize)>, Fail> {
-    if !fit(datagrams) {
+) -> Result<Vec<(usize, usize)>, Fail>
+    requires { (1 ≤ batch.1) × (batch.1 ≤ 64) }
+{
+    let (datagrams, count) = batch;
+    if !is_batch(datagrams) {
         return Err(Fail::new("the batch is too large"));
     }
     let workers = Workers {
-        count: 2,
+        count,
         gate: &NoGate,
     };
     participant.run_in_order(rt, alloc, &workers, datagrams, given)?;
@@ -46,10 +51,16 @@ fn lists_that_are_lent_again_hold_the_last_batch_alone(rt: HostRuntime) -> Resul
     let alloc = rt.alloc();
     let mut participant = Participant::new(alloc, config(alloc)?, Shapes)?;
     let mut given = Given::new(alloc);
-    let counts = lend(&rt, alloc, &mut participant, &[DATA, HEARTBEAT], &mut given)?;
+    let counts = lend(
+        &rt,
+        alloc,
+        &mut participant,
+        (&[DATA, HEARTBEAT], 2),
+        &mut given,
+    )?;
     assert!(rt; given.places.as_slice() == [place(0), place(1)].as_slice());
     assert!(rt; counts.as_slice() == [(1, 1), (1, 1)].as_slice());
-    let counts = lend(&rt, alloc, &mut participant, &[LATER], &mut given)?;
+    let counts = lend(&rt, alloc, &mut participant, (&[LATER], 2), &mut given)?;
     assert!(rt; given.places.as_slice() == [place(2)].as_slice());
     assert!(rt; counts.as_slice() == [(0, 0), (1, 1)].as_slice());
     Ok(())

@@ -3,7 +3,7 @@
 ghost use Rattle.std.specs.Prelude.{◌≤◌};
 
 use super::routed::{COMES, ROUTED};
-use super::{DATA, Line, fit, line, reader_config};
+use super::{DATA, Line, line, reader_config};
 use crate::*;
 use dds_qos::Reliability;
 use dds_topic::{Shape, Shapes};
@@ -77,7 +77,7 @@ fn datagram(alloc: Global, dice: &mut Dice, count: u32) -> Result<Vec<u8>, Alloc
 }
 
 /// So many datagrams. Amid them a participant comes with its writers, leaves, and comes again.
-fn datagrams(alloc: Global, count: u32) -> Result<Vec<Vec<u8>>, AllocError> {
+pub(super) fn datagrams(alloc: Global, count: u32) -> Result<Vec<Vec<u8>>, AllocError> {
     let mut dice = Dice { state: 7 };
     let mut all = Vec::new(alloc);
     for at in 0..count {
@@ -92,7 +92,7 @@ fn datagrams(alloc: Global, count: u32) -> Result<Vec<Vec<u8>>, AllocError> {
 }
 
 /// Three readers: a reliable one of the first writer, and one of each kind of all three writers.
-fn config(alloc: Global) -> Result<Config, AllocError> {
+pub(super) fn config(alloc: Global) -> Result<Config, AllocError> {
     let mut config = Config::new(alloc, GuidPrefix([0x0b; 12]));
     for rank in [0, 1, 2] {
         let mut reader = reader_config(alloc, rank)?;
@@ -184,7 +184,7 @@ fn take<R: Threads + Sync>(
     for octets in batch.0 {
         slices.push(octets.as_slice())?;
     }
-    if !fit(&slices) {
+    if !is_batch(&slices) {
         return Err(Fail::new("the batch is too large"));
     }
     let reports = participant

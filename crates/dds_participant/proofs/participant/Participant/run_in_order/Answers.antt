@@ -1,8 +1,12 @@
-use Rattle.std.proofs.Common.{◌∙◌, ap, length, map, subst, sym}
+use Rattle.std.proofs.Common.{◌≡◌, ◌∙◌, ap, length, map, refl, subst, sym}
 use Rattle.std.proofs.lemmas.List.{length-map}
 use Rattle.rtps_serial.specs.World.{World}
 use Rattle.dds_participant.specs.Given.{HoldsNothing, IsGiven}
 use Rattle.dds_participant.specs.Kept.{ParticipantView}
+use Rattle.rtps_serial.specs.Standing.{EngineView}
+use Rattle.dds_participant.specs.Ports.{NoneAttached}
+use Rattle.dds_participant.proofs.Unattached.{given_same}
+use Rattle.dds_participant.proofs.Finished.{handed_finish}
 use Rattle.dds_participant.proofs.Leaving.{left_alone, left_empty}
 use Rattle.dds_participant.proofs.Taken.{adds_after, stands_after}
 use Rattle.dds_participant.proofs.Counting.{batch_counted}
@@ -11,35 +15,64 @@ use Rattle.dds_participant.proofs.participant.Participant.run_in_order.Goals as 
 pub finish-requires-clause-readers : goal.finish-requires-clause-readers
 finish-requires-clause-readers g c κs outlives =
     let is = c.in_ok-admit.ensures.ok.2 in
-    c.in_ok-given.ensures.count
-    ∙ ap (λ (p : ParticipantView _). length p.engine.readers) is
+    ap (λ (e : EngineView _). length e.readers) c.hand.ensures.same.0
+    ∙ c.in_ok-whole.ensures.count
+    ∙ ap (λ (p : ParticipantView _ _). length p.engine.readers) is
     ∙ c.in_ok-admit.ensures.few.1
-    ∙ sym (ap (λ (p : ParticipantView _). length p.engine.statuses) is)
+    ∙ sym (ap (λ (p : ParticipantView _ _). length p.engine.statuses) is)
+    ∙ sym (ap length c.run.ensures.same.statuses)
+    ∙ sym (ap (λ (e : EngineView _). length e.statuses) c.hand.ensures.same.0)
+
+pub hand-requires-after_bounds : goal.hand-requires-after_bounds
+hand-requires-after_bounds g c κs outlives =
+    let is = c.in_ok-admit.ensures.ok.2 in
+    c.in_ok-whole.ensures.outputs
+    ∙ ap (λ (p : ParticipantView _ _). length p.engine.readers) is
+    ∙ c.in_ok-admit.ensures.few.1
+    ∙ sym (ap (λ (p : ParticipantView _ _). length p.engine.statuses) is)
     ∙ sym (ap length c.run.ensures.same.statuses)
 
 pub returns-clause-stands : goal.returns-clause-stands
 returns-clause-stands g c earlier kept =
     let is = c.in_ok-admit.ensures.ok.2 in
     let batch = map (λ d. d.now) c.args.datagrams.now in
-    let shown = c.in_ok-given.ensures.count
-    ∙ ap (λ (p : ParticipantView _). length p.engine.readers) is
+    let shown = c.in_ok-whole.ensures.count
+    ∙ ap (λ (p : ParticipantView _ _). length p.engine.readers) is
     ∙ c.in_ok-admit.ensures.few.1
-    ∙ sym (ap (λ (p : ParticipantView _). length p.engine.statuses) is)
+    ∙ sym (ap (λ (p : ParticipantView _ _). length p.engine.statuses) is)
     ∙ sym (ap length c.run.ensures.same.statuses) in
     stands_after g.C.Catalog.decoding earlier batch c.args.self.now c.admit.new.self c.run.new.self kept is c.finish.new.self (length c.args.datagrams.now) (sym (length-map c.args.datagrams.now (λ d. d.now)))
-    c.run.ensures.same c.in_ok-given.ensures.keeps c.finish.ensures shown
+    c.run.ensures.same c.in_ok-whole.ensures.keeps (handed_finish _ c.run.new.self c.hand.new.self c.finish.new.self c.hand.ensures.same.0 c.hand.ensures.same.1 c.finish.ensures.finished) shown
 
 pub returns-clause-gives : goal.returns-clause-gives
 returns-clause-gives g c earlier kept =
-    adds_after g.C.Catalog.decoding earlier (map (λ d. d.now) c.args.datagrams.now) c.args.self.now c.admit.new.self c.run.new.self kept c.in_ok-admit.ensures.ok.2
-    (λ (before after : World g.C.Catalog.Meaning). IsGiven g.C.Catalog.view before after c.in_ok-given.field-0) c.in_ok-given.ensures.gives
+    let is = c.in_ok-admit.ensures.ok.2 in
+    let old : c.run.new.self.ports ≡ c.args.self.now.ports = c.run.ensures.ports ∙ ap (λ (p : ParticipantView _ _). p.ports) is in
+    let new : c.hand.new.self.ports ≡ c.finish.new.self.ports = sym c.finish.ensures.ports in (
+      c.in_ok-whole.whole,
+      adds_after g.C.Catalog.decoding earlier (map (λ d. d.now) c.args.datagrams.now) c.args.self.now c.admit.new.self c.run.new.self kept is
+          (λ (before after : World g.C.Catalog.Meaning). IsGiven g.C.Catalog.view before after c.in_ok-whole.whole) c.in_ok-whole.ensures.gives,
+      record { places = refl; answers = refl; sent = c.hand.ensures.sent; notices = rw (← old, ← new) c.in_ok-hand.ensures.on },
+    )
 
 pub returns-in_err-admit-clause-lists : goal.returns-in_err-admit-clause-lists
 returns-in_err-admit-clause-lists g c = left_alone c.from_residual.result c.in_err-admit.field-0.0 (length c.args.datagrams.now) c.args.self.now c.args.given.now c.from_residual.ensures.1 c.in_err-admit.ensures.err
 
-pub returns-in_err-given-clause-lists : goal.returns-in_err-given-clause-lists
-returns-in_err-given-clause-lists g c = left_empty c.from_residual-in_err-given.result c.args.given.now _ c.from_residual-in_err-given.ensures.1 (subst HoldsNothing (sym c.replace-lent.ensures.after) c.new.ensures)
+pub returns-in_err-whole-clause-lists : goal.returns-in_err-whole-clause-lists
+returns-in_err-whole-clause-lists g c = left_empty c.from_residual-in_err-whole.result c.args.given.now _ c.from_residual-in_err-whole.ensures.1 (subst HoldsNothing (sym c.replace-lent.ensures.after) c.new.ensures)
 
 pub returns-clause-counts : goal.returns-clause-counts
 returns-clause-counts g c taken was =
-    batch_counted taken (length c.args.datagrams.now) c.args.self.now c.admit.new.self c.run.new.self c.finish.new.self was c.in_ok-admit.ensures.ok.2 c.run.ensures.same c.finish.ensures
+    batch_counted taken (length c.args.datagrams.now) c.args.self.now c.admit.new.self c.run.new.self c.finish.new.self was c.in_ok-admit.ensures.ok.2 c.run.ensures.same (handed_finish _ c.run.new.self c.hand.new.self c.finish.new.self c.hand.ensures.same.0 c.hand.ensures.same.1 c.finish.ensures.finished)
+
+pub returns-in_err-hand-clause-lists : goal.returns-in_err-hand-clause-lists
+returns-in_err-hand-clause-lists g c = left_empty c.from_residual-in_err-hand.result c.args.given.now _ c.from_residual-in_err-hand.ensures.1 (subst HoldsNothing (sym c.replace-lent.ensures.after) c.new.ensures)
+
+pub returns-clause-alone : goal.returns-clause-alone
+returns-clause-alone g c earlier kept none =
+    let is = c.in_ok-admit.ensures.ok.2 in
+    let old : c.run.new.self.ports ≡ c.args.self.now.ports = c.run.ensures.ports ∙ ap (λ (p : ParticipantView _ _). p.ports) is in
+    let same = c.hand.ensures.alone (subst NoneAttached (sym old) none) in
+    adds_after g.C.Catalog.decoding earlier (map (λ d. d.now) c.args.datagrams.now) c.args.self.now c.admit.new.self c.run.new.self kept is
+    (λ (before after : World g.C.Catalog.Meaning). IsGiven g.C.Catalog.view before after (record { places = c.in_ok-whole.whole.places; answers = c.in_ok-whole.whole.answers; outputs = c.hand.new.outputs }))
+    (λ w kept. given_same g.C.Catalog.view w _ c.in_ok-whole.whole c.hand.new.outputs same.0 (c.in_ok-whole.ensures.gives w kept))

@@ -1,0 +1,52 @@
+-- The notices of a batch go to backlogs, where outlets are attached.
+use Rattle.std.specs.Prelude.{◌≡◌, ◌<◌, ℕ, List, [], Option, length, map, slice_index_or}
+use Rattle.std.specs.declared.alloc.Global.{Global}
+use Rattle.std.specs.declared.vec.Vec.{Vec}
+use Rattle.rtps_reader.specs.declared.notice.Notice.{Notice}
+use Rattle.rtps_reader.specs.declared.notice.Output.{Output}
+use Rattle.rtps_serial.specs.declared.outcome.Outcome.{Outcome}
+use Rattle.dds_participant.specs.Ports.{HasRoomFor, PortView, left_of, port_with}
+use Rattle.dds_participant.specs.declared.given.Given.{Given}
+use Rattle.dds_participant.specs.declared.ports.Port.{Port}
+
+-- by rank, what each reader reports: in what a batch gives, and in an outcome
+abbrev pub reported : {V : Type 0} → List (Output V Global) → List (List (Notice V))
+reported outputs = map (λ o. o.notices.items) outputs
+
+abbrev pub listed : {V : Type 0} → List (Vec (Notice V) Global) → List (List (Notice V))
+listed lists = map (λ l. l.items) lists
+
+-- each backlog has room for the notices of its rank
+abbrev pub HaveRoomFor : {V : Type 0} → List (Option (Port V)) → List (List (Notice V)) → Type 0
+HaveRoomFor {V} ports notices =
+    (rank : ℕ) (port : Option (Port V)) → rank < length ports
+    → HasRoomFor (slice_index_or ports rank port) (length (slice_index_or notices rank []))
+
+-- Rank by rank, all that a reader reports is given, or it is at the end of the backlog and none of
+-- it is given.
+pub record AreHandedOn {V : Type 0} (old : List (Option (PortView V)))
+    (whole : List (List (Notice V))) (new : List (Option (PortView V)))
+    (left : List (List (Notice V))) : Type 0 where
+  pub readers : length whole ≡ length old
+  pub count : length new ≡ length old
+  pub lists : length left ≡ length whole
+  pub ports : (rank : ℕ) (port : Option (PortView V)) → rank < length old
+      → slice_index_or new rank port
+      ≡ port_with (slice_index_or old rank port) (slice_index_or whole rank [])
+  pub given : (rank : ℕ) (port : Option (PortView V)) → rank < length old
+      → slice_index_or left rank []
+      ≡ left_of (slice_index_or old rank port) (slice_index_or whole rank [])
+
+-- of all that a batch puts out: what is given, and what goes to backlogs; answers are given
+pub record IsHandedOn {V : Type 0} (whole given : Given V) (old new : List (Option (PortView V)))
+    : Type 0 where
+  pub places : given.places ≡ whole.places
+  pub answers : given.answers ≡ whole.answers
+  pub sent : map (λ o. o.answers) given.outputs.items ≡ map (λ o. o.answers) whole.outputs.items
+  pub notices : AreHandedOn old (reported whole.outputs.items) new (reported given.outputs.items)
+
+-- the same of an outcome
+pub record IsOutcomeHandedOn {V : Type 0} (whole outcome : Outcome V Global)
+    (old new : List (Option (PortView V))) : Type 0 where
+  pub answers : outcome.answers ≡ whole.answers
+  pub notices : AreHandedOn old (listed whole.notices.items) new (listed outcome.notices.items)

@@ -1,0 +1,63 @@
+-- Outlets that are attached to readers, and what waits for them.
+use Rattle.std.specs.Prelude.{◌≡◌, ◌⊎◌, ◌+◌, ◌≤◌, ℕ, zero, suc, List, [], ◌∷◌, ◌++◌, length, map, Option, Some, None, option_map}
+use Rattle.std.specs.VecDeque.{deque_capacity}
+use Rattle.std.specs.declared.alloc.Global.{Global}
+use Rattle.rtps_reader.specs.declared.notice.Notice.{Notice}
+use Rattle.dds_outlet.specs.Ring.{Sending}
+use Rattle.dds_participant.specs.declared.ports.Port.{Port}
+use Rattle.dds_participant.specs.declared.ports.AttachFault.{AttachFault}
+use Rattle.dds_participant.specs.declared.ports.AttachFault.TheVariants.{NoReader, Attached}
+
+-- an attached outlet, and what waits for it
+pub record PortView (V : Type 0) : Type 0 where
+  pub outlet : Sending V Global
+  pub backlog : List (Notice V)
+
+abbrev pub port_view : {V : Type 0} → Port V → PortView V
+port_view p = record { outlet = p.outlet; backlog = p.backlog.items }
+
+-- the ports by rank
+abbrev pub ports_view : {V : Type 0} → List (Option (Port V)) → List (Option (PortView V))
+ports_view ports = map (option_map port_view) ports
+
+-- an outlet that was just attached
+abbrev pub new_port : {V : Type 0} → Sending V Global → PortView V
+new_port o = record { outlet = o; backlog = [] }
+
+-- why nothing can be attached there, if anything speaks against it
+abbrev pub fault_at : {V : Type 0} → List (Option (PortView V)) → ℕ → Option AttachFault
+fault_at [] rank = Some NoReader
+fault_at (None ∷ ports) zero = None
+fault_at (Some port ∷ ports) zero = Some Attached
+fault_at (port ∷ ports) (suc rank) = fault_at ports rank
+
+-- nothing is attached to any reader
+abbrev pub NoneAttached : {V : Type 0} → List (Option (PortView V)) → Type 0
+NoneAttached [] = Unit {0}
+NoneAttached (None ∷ ports) = NoneAttached ports
+NoneAttached (Some p ∷ ports) = ⊥
+
+-- The front of a backlog was moved to the end of what was sent. It stopped where the backlog was
+-- empty or the ring full.
+pub record Delivers {V : Type 0} (before after : PortView V) : Type 0 where
+  pub moved : List (Notice V)
+  pub backlog : before.backlog ≡ moved ++ after.backlog
+  pub sent : after.outlet.sent ≡ before.outlet.sent ++ moved
+  pub ring : (after.outlet.ring ≡ before.outlet.ring)
+      × (after.outlet.capacity ≡ before.outlet.capacity)
+  pub stops : (after.backlog ≡ []) ⊎ (after.outlet.free ≡ 0)
+
+-- what a batch gives of the notices of a reader: none where it has an outlet, and else all
+abbrev pub left_of : {V : Type 0} → Option (PortView V) → List (Notice V) → List (Notice V)
+left_of None notices = notices
+left_of (Some p) notices = []
+
+-- the outlet of a reader, if it has one, once the notices of a batch are in its backlog
+abbrev pub port_with : {V : Type 0} → Option (PortView V) → List (Notice V) → Option (PortView V)
+port_with None notices = None
+port_with (Some p) notices = Some (record p { backlog = p.backlog ++ notices })
+
+-- a backlog, where there is one, has room for this many notices more
+abbrev pub HasRoomFor : {V : Type 0} → Option (Port V) → ℕ → Type 0
+HasRoomFor None count = Unit {0}
+HasRoomFor (Some p) count = length p.backlog.items + count ≤ deque_capacity p.backlog

@@ -1,0 +1,69 @@
+//! The row of a participant on a board of statuses.
+
+ghost use Rattle.std.specs.Prelude.{◌≡◌, ◌∷◌, ◌++◌, [], IfOk, List, MatchResult, ℕ};
+ghost use Rattle.rtps_serial.specs.Standing.{ShowsAt, run_by};
+ghost use Rattle.dds_outlet.specs.Rows.{row_view};
+ghost use Rattle.dds_participant.specs.Publishing.{ShowsWorld, row_of};
+
+use crate::participant::Participant;
+use dds_outlet::{Row, StatusBoard};
+use dds_topic::Catalog;
+use std::alloc::{AllocError, Global};
+use std::sync::Wait;
+
+/// Why a row isn't published.
+#[derive(Debug, Clone, Copy, PartialEq, Eq)]
+pub enum PublishFault {
+    /// No memory was found for the row.
+    NoMemory,
+    /// The board has no number left for a row: it has shown 2^64 - 1.
+    Full,
+}
+
+impl<C: Catalog> Participant<C> {
+    /// The row of the last batch that was taken.
+    fn row(&self, alloc: Global) -> Result<Row, AllocError>
+        ensures { IfOk result (λ row. row_view row
+            ≡ row_of self.now.batches self.now.engine.statuses) }
+    {
+        let mut statuses = Vec::with_capacity(alloc, self.statuses.len())?;
+        for (rank, status) in self.statuses.iter().enumerate() {
+            statuses.push((rank as u32, *status))?;
+        }
+        Ok(Row {
+            batch: self.batches,
+            statuses,
+        })
+    }
+
+    /// Publishes one row: how many batches were taken, and the status of each reader after the last
+    /// of them, by rank. Once a batch has been out of memory the row is that of the last batch
+    /// before it. After a refusal the board has the rows that it had.
+    ///
+    /// It takes memory for the row, and by [`StatusBoard::publish`] it waits for those who still
+    /// look at the row before the last one.
+    #[tactic(auto, using(crate::proofs::Publishing::shows_world))]
+    pub fn publish<R: Wait>(
+        &self,
+        rt: &R,
+        alloc: Global,
+        board: &mut StatusBoard,
+    ) -> Result<(), PublishFault>
+        ensures board { board.new.board ≡ board.old.board }
+        ensures rows { MatchResult result
+            (λ _. board.new.rows
+            ≡ board.old.rows ++ row_of self.now.batches self.now.engine.statuses ∷ [])
+            (λ _. board.new.rows ≡ board.old.rows) }
+        ensures run { (datagrams : List (List ℕ)) → ShowsAt C.decoding datagrams self.now.engine
+            → ShowsWorld (row_of self.now.batches self.now.engine.statuses)
+            (run_by C.decoding self.now.engine datagrams) }
+    {
+        let Ok(row) = self.row(alloc) else {
+            return Err(PublishFault::NoMemory);
+        };
+        match board.publish(rt, row) {
+            Ok(()) => Ok(()),
+            Err(_row) => Err(PublishFault::Full),
+        }
+    }
+}

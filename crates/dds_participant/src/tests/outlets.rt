@@ -1,0 +1,187 @@
+//! Outlets that are attached to readers.
+
+ghost use Rattle.std.specs.Prelude.{◌≤◌};
+
+use super::lent::lend;
+use super::{ALL, DATA, HEARTBEAT, LATER, Line, Said, config, said_by, take};
+use crate::*;
+use dds_outlet::{Inlet, outlet};
+use dds_topic::{Shape, Shapes};
+use rtps_shards::NoGate;
+use std::alloc::{AllocError, Global};
+use std::test::Fail;
+use std::thread::Threads;
+
+/// DATA with number 3 and the shape BLUE at 10, 20 of size 30, for every reader.
+pub(super) const THIRD: &[u8] = b"RTPS\x02\x05\x00\x00\
+    \x0a\x0a\x0a\x0a\x0a\x0a\x0a\x0a\x0a\x0a\x0a\x0a\
+    \x15\x05\x30\x00\x00\x00\x10\x00\x00\x00\x00\x00\x00\x00\x01\x02\
+    \x00\x00\x00\x00\x03\x00\x00\x00\
+    \x00\x01\x00\x00\x05\x00\x00\x00BLUE\x00\x00\x00\x00\
+    \x0a\x00\x00\x00\x14\x00\x00\x00\x1e\x00\x00\x00";
+
+/// What comes out of a ring: the datagram that caused each notice, and what it says.
+pub(super) type Heard = (u64, Said);
+
+/// All that comes out of a ring now.
+pub(super) fn heard(alloc: Global, inlet: &mut Inlet<Shape>) -> Result<Vec<Heard>, AllocError> {
+    let mut all = Vec::new(alloc);
+    for _ in 0..inlet.capacity() {
+        let Some(notice) = inlet.pop() else {
+            break;
+        };
+        all.push((notice.place.datagram, said_by(&notice)))?;
+    }
+    Ok(all)
+}
+
+/// A participant of two readers, of which the second has an outlet, and the other end of its ring.
+fn attached(alloc: Global, places: usize) -> Result<(Participant<Shapes>, Inlet<Shape>), Fail>
+    requires { (1 ≤ places) × (places ≤ 65536) }
+{
+    let mut participant = Participant::new(alloc, config(alloc)?, Shapes)?;
+    let (outlet, inlet) = outlet(alloc, places)?;
+    match participant.attach(1, outlet) {
+        Ok(()) => Ok((participant, inlet)),
+        Err(_refused) => Err(Fail::new("the outlet isn't attached")),
+    }
+}
+
+#[test]
+fn a_reader_has_one_outlet(rt: HostRuntime) -> Result<(), Fail> {
+    let alloc = rt.alloc();
+    let mut participant = Participant::new(alloc, config(alloc)?, Shapes)?;
+    let (mut first, _inlet) = outlet(alloc, 2)?;
+    for rank in [2, u32::MAX] {
+        let Err((back, fault)) = participant.attach(rank, first) else {
+            return Err(Fail::new("there is no such reader"));
+        };
+        assert_eq!(rt; fault, AttachFault::NoReader);
+        assert!(rt; participant.detach(rank).is_none());
+        assert_eq!(rt; participant.deliver(rank), 0);
+        first = back;
+    }
+    assert!(rt; participant.detach(1).is_none());
+    assert!(rt; participant.attach(1, first).is_ok());
+    let (second, _inlet) = outlet(alloc, 2)?;
+    let Err((second, fault)) = participant.attach(1, second) else {
+        return Err(Fail::new("the reader has two outlets"));
+    };
+    assert_eq!(rt; fault, AttachFault::Attached);
+    assert!(rt; participant.attach(0, second).is_ok());
+    let (third, _inlet) = outlet(alloc, 2)?;
+    let Some((_first, backlog)) = participant.detach(1) else {
+        return Err(Fail::new("the outlet is gone"));
+    };
+    assert!(rt; backlog.is_empty());
+    assert!(rt; participant.attach(1, third).is_ok());
+    Ok(())
+}
+
+#[test]
+fn a_backlog_waits_while_the_ring_is_full(rt: HostRuntime) -> Result<(), Fail> {
+    let alloc = rt.alloc();
+    let (mut participant, mut inlet) = attached(alloc, 2)?;
+    let mut lines = Vec::new(alloc);
+    let batches: [(&[&[u8]], usize); 3] = [(&[DATA], 0), (&[HEARTBEAT, LATER], 0), (&[THIRD], 1)];
+    for (datagrams, left) in batches {
+        take(
+            &rt,
+            alloc,
+            &NoGate,
+            &mut participant,
+            (datagrams, 2),
+            &mut lines,
+        )?;
+        assert_eq!(rt; participant.deliver(1), left);
+    }
+    let before = heard(alloc, &mut inlet)?;
+    assert!(rt; before.as_slice() == OF_THE_SECOND.as_slice());
+    assert_eq!(rt; participant.deliver(1), 0);
+    let after = heard(alloc, &mut inlet)?;
+    assert!(rt; after.as_slice() == [(3, Said::Blue(3))].as_slice());
+    Ok(())
+}
+
+/// What the outcome has of the three datagrams where the second reader has an outlet: the notices
+/// of the first reader, and the answers of both.
+const WITHOUT_THE_SECOND: [Line; 4] = [
+    (Some(0), 0, Said::Blue(1)),
+    (Some(0), 1, Said::Answer),
+    (Some(1), 1, Said::Answer),
+    (Some(1), 2, Said::Answer),
+];
+
+/// What the second reader reports of the three datagrams.
+const OF_THE_SECOND: [Heard; 2] = [(0, Said::Blue(1)), (2, Said::Lost(1))];
+
+/// Whether what the second reader reports, and nothing else, is not in the outcome and comes out of
+/// its ring.
+fn parts_the_outcome<R: Threads + Sync>(rt: &R, alloc: Global, workers: usize) -> Result<bool, Fail>
+    requires { (1 ≤ workers) × (workers ≤ 64) }
+{
+    let (mut participant, mut inlet) = attached(alloc, 4)?;
+    let mut lines = Vec::new(alloc);
+    take(
+        rt,
+        alloc,
+        &NoGate,
+        &mut participant,
+        (&ALL, workers),
+        &mut lines,
+    )?;
+    Ok(
+        participant.deliver(1) == 0
+            && lines.as_slice() == WITHOUT_THE_SECOND.as_slice()
+            && heard(alloc, &mut inlet)?.as_slice() == OF_THE_SECOND.as_slice(),
+    )
+}
+
+/// The same where the lists of the caller are filled.
+fn parts_the_lists<R: Threads + Sync>(rt: &R, alloc: Global, workers: usize) -> Result<bool, Fail>
+    requires { (1 ≤ workers) × (workers ≤ 64) }
+{
+    let (mut participant, mut inlet) = attached(alloc, 4)?;
+    let mut given = Given::new(alloc);
+    let counts = lend(rt, alloc, &mut participant, (&ALL, workers), &mut given)?;
+    Ok(
+        participant.deliver(1) == 0
+            && counts.as_slice() == [(1, 1), (0, 2)].as_slice()
+            && given.places.len() == 3
+            && heard(alloc, &mut inlet)?.as_slice() == OF_THE_SECOND.as_slice(),
+    )
+}
+
+#[test]
+fn notices_are_in_the_outcome_or_in_the_backlog(rt: HostRuntime) -> Result<(), Fail> {
+    for workers in [1, 2, 7] {
+        assert!(rt; parts_the_outcome(&rt, rt.alloc(), workers)?);
+        assert!(rt; parts_the_lists(&rt, rt.alloc(), workers)?);
+    }
+    Ok(())
+}
+
+#[test]
+fn what_comes_while_nothing_is_attached_is_in_the_outcome(rt: HostRuntime) -> Result<(), Fail> {
+    let alloc = rt.alloc();
+    let (mut participant, mut inlet) = attached(alloc, 2)?;
+    let mut given = Given::new(alloc);
+    lend(&rt, alloc, &mut participant, (&[DATA], 2), &mut given)?;
+    let Some((outlet, backlog)) = participant.detach(1) else {
+        return Err(Fail::new("the outlet is gone"));
+    };
+    assert_eq!(rt; backlog.len(), 1);
+    let between = lend(
+        &rt,
+        alloc,
+        &mut participant,
+        (&[HEARTBEAT, LATER], 2),
+        &mut given,
+    )?;
+    assert!(rt; between.as_slice() == [(0, 1), (1, 2)].as_slice());
+    assert!(rt; participant.attach(1, outlet).is_ok());
+    lend(&rt, alloc, &mut participant, (&[THIRD], 2), &mut given)?;
+    assert_eq!(rt; participant.deliver(1), 0);
+    assert!(rt; heard(alloc, &mut inlet)?.as_slice() == [(3, Said::Blue(3))].as_slice());
+    Ok(())
+}
