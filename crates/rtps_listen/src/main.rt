@@ -13,7 +13,6 @@ mod domain;
 mod fault;
 mod live_task;
 mod options;
-mod sockets;
 mod task;
 mod words;
 
@@ -24,7 +23,7 @@ use clap::error::ErrorKind;
 use domain::{Domains, answer_live};
 use fault::ListenFault;
 use rtps_records::RunFault;
-use sockets::Sockets;
+use rtps_udp::Sockets;
 use std::alloc::Global;
 use std::fs::File;
 use std::io::{self, Read, Stdin, Write};

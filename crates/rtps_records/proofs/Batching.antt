@@ -4,7 +4,6 @@ use Rattle.std.specs.List.{AllByRecursion, flat_map}
 use Rattle.std.specs.Io.KnownBytes.{Consumes}
 use Rattle.std.proofs.KnownBytes.{Consumes-nil, Consumes-trans}
 use Rattle.rtps_records.specs.Batches.{EndsBatch, HasRead, ReadsBatch, records_in}
-use Rattle.rtps_records.specs.Cuts.{cut}
 use Rattle.rtps_records.specs.RecordFile.{IsRecord, frame}
 use Rattle.rtps_records.specs.Steps.{ReadsOne}
 use Rattle.rtps_records.specs.declared.batch.Batch.{Batch}

@@ -173,6 +173,7 @@ same_run a b c x y = record {
   config = y.config ∙ x.config;
   summary = y.summary ∙ x.summary;
   pace = y.pace ∙ x.pace;
+  alone = λ none. y.alone (x.alone none);
 }
 
 -- what a result is that is passed on as a fault of the run

@@ -9,16 +9,19 @@ use Rattle.rtps_records.specs.declared.batch_end.BatchEnd.{BatchEnd}
 use Rattle.dds_topic.specs.Decoding.{Decoding}
 use Rattle.rtps_serial.specs.Standing.{EngineView, StandsAt, run_by}
 use Rattle.dds_participant.specs.Given.{IsGiven}
+use Rattle.dds_participant.specs.Ports.{NoneAttached}
 use Rattle.dds_participant.specs.declared.given.Given.{Given}
 use Rattle.rtps_text.specs.Slices.{AreByPlace, AreTexts, all_lines}
 use Rattle.rtps_text.specs.declared.running.RunLines.{RunLines}
 
--- a run goes on with its catalog and configuration, and prints the same things
+-- a run goes on with its catalog and configuration, prints the same things, and gives what its
+-- readers report to no outlet where it gave it to none
 pub record IsSameRun {C V U : Type 0} (old new : RunLines C V U) : Type 0 where
   pub catalog : new.participant.engine.catalog ≡ old.participant.engine.catalog
   pub config : new.participant.engine.config ≡ old.participant.engine.config
   pub summary : new.summary ≡ old.summary
   pub pace : new.pace ≡ old.pace
+  pub alone : NoneAttached old.participant.ports → NoneAttached new.participant.ports
 
 -- an engine took these records, and this is what it gave
 pub record TakesRecords {C V M : Type 0} (f : V → M) (decoding : C → Decoding M)

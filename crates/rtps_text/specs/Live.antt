@@ -4,16 +4,18 @@ use Rattle.std.specs.Io.KnownBytes.{Appends}
 use Rattle.rtps_records.specs.Heard.{Hears}
 use Rattle.dds_topic.specs.Decoding.{Decoding}
 use Rattle.rtps_serial.specs.Standing.{EngineView}
+use Rattle.dds_participant.specs.Ports.{NoneAttached}
 use Rattle.rtps_text.specs.Listened.{WroteHeardFront}
 use Rattle.rtps_text.specs.Replayed.{HasSaid, text_by}
 use Rattle.rtps_text.specs.declared.live.Live.{Live}
 
--- its values are spelled by its own catalog, the lines of all of its readers are printed, and no
--- text is kept back
+-- its values are spelled by its own catalog, the lines of all of its readers are printed, no text
+-- is kept back, and no reader has an outlet
 pub record IsLive {C V U : Type 0} (live : Live C V U) : Type 0 where
   pub own : live.printer.catalog.now ≡ live.run.participant.engine.catalog
   pub readers : live.printer.readers ≡ length live.run.participant.engine.config.readers.items
   pub none : live.texts.made.items ≡ []
+  pub alone : NoneAttached live.run.participant.ports
 
 -- So many datagrams of the most were received, and as many are left; an engine took them, and their
 -- lines were written.

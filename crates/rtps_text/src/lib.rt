@@ -12,7 +12,6 @@ mod context;
 mod dumping;
 mod entry;
 mod event_lines;
-mod exchange;
 mod guid;
 mod held;
 mod last_line;
@@ -36,9 +35,9 @@ mod summary;
 mod texts;
 
 pub use answer::push_answer;
+pub use answering::send_answers;
 pub use dumping::{dump, dump_in};
 pub use entry::push_entry;
-pub use exchange::Exchange;
 pub use last_line::LastLine;
 pub use line::push_line;
 pub use listening::listen;

@@ -6,13 +6,12 @@ ghost use Rattle.rtps_text.specs.Live.{IsLive};
 ghost use Rattle.rtps_text.specs.Listened.{HearingEnds};
 ghost use Rattle.rtps_text.specs.Replayed.{HasSaid, replay_text, text_by};
 
-use crate::exchange::Exchange;
 use crate::live::Live;
 use crate::live_fault::LiveFault;
 use crate::running::RunLines;
 use crate::setup::{LiveSetup, Setup};
 use dds_topic::TextCatalog;
-use rtps_records::{Lines, ReceiveEnd, RunFault};
+use rtps_records::{Exchange, Lines, ReceiveEnd, RunFault};
 use std::alloc::Global;
 use std::io::Write;
 use std::thread::Threads;

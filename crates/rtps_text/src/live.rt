@@ -3,17 +3,17 @@
 ghost use Rattle.std.specs.Prelude.{◌≡◌, ◌<◌, ◌≤◌, ◌⊎◌, [], IfErr, IfOk, OnErr, OnOk};
 ghost use Rattle.rtps_records.specs.declared.fault.RunFault.TheVariants.{CannotWrite, NoMemory};
 ghost use Rattle.rtps_records.specs.declared.receive_end.ReceiveEnd.TheVariants.{More};
+ghost use Rattle.dds_participant.specs.Ports.{NoneAttached};
 ghost use Rattle.rtps_text.specs.Live.{GoesOn, IsLive, StopsShort};
 ghost use Rattle.rtps_text.specs.Batched.{IsSameRun};
 ghost use Rattle.rtps_text.specs.Replayed.{HasSaid};
 
 use crate::answering::send_answers;
-use crate::exchange::Exchange;
 use crate::printer::Printer;
 use crate::running::RunLines;
 use crate::texts::Texts;
 use dds_topic::TextCatalog;
-use rtps_records::{Batch, Lines, ReceiveEnd, RunFault};
+use rtps_records::{Batch, Exchange, Lines, ReceiveEnd, RunFault};
 use std::alloc::AllocError;
 use std::io::Write;
 use std::thread::Threads;
@@ -44,6 +44,7 @@ where
     ) -> Result<Live<'c, C>, AllocError>
         requires own { catalog.now ≡ run.participant.engine.catalog }
         requires fresh { HasSaid C.text_of C.decoding [] [] run.participant.engine }
+        requires alone { NoneAttached run.participant.ports }
         ensures run { IfOk result (λ live. live.run ≡ run) }
         ensures left { IfOk result (λ live. live.left ≡ datagrams) }
         ensures live { IfOk result IsLive }

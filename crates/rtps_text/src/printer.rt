@@ -7,6 +7,7 @@ ghost use Rattle.rtps_records.specs.RecordFile.{IsRecord};
 ghost use Rattle.rtps_records.specs.Runs.{Moves, PutsFront};
 ghost use Rattle.rtps_records.specs.declared.batch_end.BatchEnd.TheVariants.{More};
 ghost use Rattle.rtps_records.specs.declared.fault.RunFault.TheVariants.{CannotWrite, NoMemory};
+ghost use Rattle.dds_participant.specs.Ports.{NoneAttached};
 ghost use Rattle.rtps_text.specs.Ahead.{ReadsAhead};
 ghost use Rattle.rtps_text.specs.Batched.{IsDue, IsSameRun, MovesBefore, TakesRecords};
 ghost use Rattle.rtps_text.specs.Slices.{AreByPlace, AreTexts, all_lines, merged_lines};
@@ -82,6 +83,7 @@ where
     ) -> Result<RunLines<C>, RunFault>
         requires few { length (records_in turn.old.held.next) ≤ 4096 }
         requires fit { AllByRecursion IsRecord (records_in turn.old.held.next) }
+        requires alone { NoneAttached run.participant.ports }
         ensures same { IfOk result (IsSameRun run) }
         ensures takes { IfOk result (λ now. TakesRecords C.view C.decoding
             (records_in turn.old.held.next) run.participant.engine now.participant.engine now.given) }
@@ -172,6 +174,7 @@ where
     ) -> Result<RunLines<C>, RunFault>
         requires few { length (records_in turn.old.held.next) ≤ 4096 }
         requires fit { AllByRecursion IsRecord (records_in turn.old.held.next) }
+        requires alone { NoneAttached run.participant.ports }
         ensures same { IfOk result (IsSameRun run) }
         ensures takes { IfOk result (λ now. TakesRecords C.view C.decoding
             (records_in turn.old.held.next) run.participant.engine now.participant.engine now.given) }
@@ -206,6 +209,7 @@ where
         let take = move || -> Result<RunLines<C>, AllocError>
             requires few { length (records_in batch.now) ≤ 4096 }
             requires fit { AllByRecursion IsRecord (records_in batch.now) }
+            requires alone { NoneAttached run.participant.ports }
             ensures same { IfOk result (IsSameRun run) }
             ensures takes { IfOk result (λ now. TakesRecords C.view C.decoding
                 (records_in batch.entry.now) run.participant.engine now.participant.engine

@@ -3,6 +3,7 @@
 
 ghost use Rattle.std.specs.Prelude.{◌≡◌, [], IfErr, IfOk, None, OnOk, length};
 ghost use Rattle.rtps_records.specs.Runs.{Stops, WroteAll};
+ghost use Rattle.dds_participant.specs.Ports.{NoneAttached};
 ghost use Rattle.rtps_text.specs.Replayed.{HasSaid, replay_text, text_by};
 ghost use Rattle.rtps_records.specs.declared.fault.RunFault.TheVariants.{NoMemory};
 ghost use Rattle.dds_participant.specs.Given.{HoldsNothing};
@@ -76,6 +77,7 @@ where
     requires fresh { HasSaid C.text_of C.decoding [] [] run.participant.engine }
     requires nothing { HoldsNothing run.given }
     requires own { catalog.now ≡ run.participant.engine.catalog }
+    requires alone { NoneAttached run.participant.ports }
     ensures ok { OnOk result (WroteAll
         (text_by C.text_of C.decoding run.participant.engine run.summary)
         (R.remaining reader.old) (W.contents writer.old) (W.contents writer.new) None) }
@@ -104,6 +106,7 @@ pub(crate) fn run_batch<C: TextCatalog, R: Read, T: Threads + Sync>(
 ) -> Result<BatchEnd, RunFault>
 where
     C::Value: Sync,
+    requires { NoneAttached run.old.participant.ports }
     ensures same_reader { records.new.reader.ghost_name ≡ records.old.reader.ghost_name }
     ensures same { IsSameRun run.old run.new }
     ensures reads { IfOk result (λ end. RunsBatch C.view C.decoding
@@ -133,6 +136,7 @@ where
     requires own { printer.old.catalog.now ≡ run.participant.engine.catalog }
     requires readers { printer.old.readers ≡ length run.participant.engine.statuses }
     requires fresh { HasSaid C.text_of C.decoding [] [] run.participant.engine }
+    requires alone { NoneAttached run.participant.ports }
     ensures same_reader { records.new.reader.ghost_name ≡ records.old.reader.ghost_name }
     ensures same_writer { lines.new.writer.ghost_name ≡ lines.old.writer.ghost_name }
     ensures ok { OnOk result (WroteAll

@@ -9,6 +9,7 @@ ghost use Rattle.rtps_records.specs.Runs.{Closes, ClosesNot};
 ghost use Rattle.rtps_records.specs.Text.{Ends};
 ghost use Rattle.rtps_serial.specs.Standing.{StandsAt, run_by};
 ghost use Rattle.dds_participant.specs.Given.{HoldsNothing, IsGiven};
+ghost use Rattle.dds_participant.specs.Ports.{NoneAttached};
 ghost use Rattle.rtps_text.specs.Replayed.{HasSaid, text_by};
 ghost use Rattle.rtps_text.specs.Batched.{IsSameRun, TakesRecords};
 
@@ -22,7 +23,8 @@ use std::alloc::{AllocError, Allocator, Global};
 use std::io::Write;
 use std::thread::Threads;
 
-/// A participant whose run is printed.
+/// A participant whose run is printed. Its readers have no outlets, so all that they report is in
+/// what a batch gives.
 #[derive(Drop)]
 pub(crate) struct RunLines<C: TextCatalog> {
     pub participant: Participant<C>,
@@ -48,6 +50,7 @@ where
         ensures fresh { IfOk result (λ run.
             HasSaid C.text_of C.decoding [] [] run.participant.engine) }
         ensures nothing { IfOk result (λ run. HoldsNothing run.given) }
+        ensures alone { IfOk result (λ run. NoneAttached run.participant.ports) }
     {
         let Setup {
             config,
@@ -75,9 +78,11 @@ where
     ) -> Result<(), AllocError>
         requires few { length datagrams.now ≤ 4096 }
         requires fit { All (λ d. length d.now ≤ 65507) datagrams.now }
+        requires alone { NoneAttached self.old.participant.ports }
         ensures same { (self.new.participant.engine.catalog ≡ self.old.participant.engine.catalog)
             × (self.new.participant.engine.config ≡ self.old.participant.engine.config)
             × (self.new.summary ≡ self.old.summary) × (self.new.pace ≡ self.old.pace) }
+        ensures alone { NoneAttached self.new.participant.ports }
         ensures stands { (earlier : List (List ℕ))
             → StandsAt C.decoding earlier self.old.participant.engine → OnOk result
             (StandsAt C.decoding (earlier ++ map (λ d. d.now) datagrams.now)
@@ -110,6 +115,7 @@ where
     ) -> Result<(), AllocError>
         requires few { length (records_in batch.now) ≤ 4096 }
         requires fit { AllByRecursion IsRecord (records_in batch.now) }
+        requires alone { NoneAttached self.old.participant.ports }
         ensures same { IsSameRun self.old self.new }
         ensures takes { OnOk result (TakesRecords C.view C.decoding (records_in batch.now)
             self.old.participant.engine self.new.participant.engine self.new.given) }

@@ -6,6 +6,7 @@ ghost use Rattle.std.specs.Io.KnownBytes.{Appends};
 ghost use Rattle.rtps_records.specs.Runs.{PutsFront, WroteAll};
 ghost use Rattle.rtps_records.specs.declared.fault.RunFault.TheVariants.{CannotWrite, NoMemory};
 ghost use Rattle.rtps_serial.specs.Standing.{StandsAt, run_by};
+ghost use Rattle.dds_participant.specs.Ports.{NoneAttached};
 ghost use Rattle.rtps_text.specs.Caches.{AllAccept, AreKept, StopsLate};
 ghost use Rattle.rtps_text.specs.Entries.{samples_by, samples_text};
 ghost use Rattle.rtps_text.specs.Replayed.{summary_text};
@@ -75,6 +76,7 @@ where
     C::Value: Sync,
     requires fresh { AreKept C.view C.decoding kept.keep [] kept.run.participant.engine
         kept.caches.items }
+    requires alone { NoneAttached kept.run.participant.ports }
     ensures ok { OnOk result (WroteAll
         (samples_by C.text_of C.decoding kept.run.participant.engine kept.run.summary kept.keep)
         (R.remaining reader.old) (W.contents writer.old) (W.contents writer.new) None) }
@@ -101,6 +103,7 @@ where
     requires empty { lines.old.text.items ≡ [] }
     requires fresh { AreKept C.view C.decoding kept.old.keep [] kept.old.run.participant.engine
         kept.old.caches.items }
+    requires alone { NoneAttached kept.old.run.participant.ports }
     ensures same_reader { records.new.reader.ghost_name ≡ records.old.reader.ghost_name }
     ensures same_writer { lines.new.writer.ghost_name ≡ lines.old.writer.ghost_name }
     ensures ok { OnOk result (WroteAll
@@ -160,6 +163,7 @@ where
             × (kept.run.summary ≡ setup.run.summary) × (kept.keep ≡ setup.keep)) }
         ensures fresh { IfOk result (λ kept. AreKept C.view C.decoding kept.keep []
             kept.run.participant.engine kept.caches.items) }
+        ensures alone { IfOk result (λ kept. NoneAttached kept.run.participant.ports) }
     {
         let CacheSetup { run, keep } = setup;
         let run = RunLines::new(alloc, run)?;

@@ -7,6 +7,7 @@ mod lines;
 mod listening;
 mod matches;
 mod runs;
+mod sending;
 mod starved;
 
 use crate::{dump, dump_in};

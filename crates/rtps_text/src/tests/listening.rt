@@ -5,11 +5,11 @@ ghost use Rattle.std.specs.Prelude.{◌≡◌, Ok};
 
 use super::runs::{FILE, FIRST, Given, LINES, PACES, config_of};
 use super::{octets, text};
-use crate::{Exchange, LiveFault, LiveSetup, Pace, Setup, listen};
+use crate::{LiveFault, LiveSetup, Pace, Setup, listen};
 use dds_qos::Reliability;
 use dds_topic::Shapes;
 use rtps_discovery::Config;
-use rtps_records::Receive;
+use rtps_records::{Exchange, Receive};
 use rtps_types::Locator;
 use std::alloc::Global;
 use std::io::{self, Error, ErrorKind};

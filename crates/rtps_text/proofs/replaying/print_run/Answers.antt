@@ -30,7 +30,7 @@ loop-printer-init g c =
     record {
       same_reader = search rules;
       same_writer = refl;
-      same = record { catalog = refl; config = refl; summary = refl; pace = refl };
+      same = record { catalog = refl; config = refl; summary = refl; pace = refl; alone = λ none. none };
       catalog = refl;
       readers = refl;
       printing = record {
@@ -93,6 +93,7 @@ loop-printer-preserved g c =
         config = same.config ∙ inv.same.config;
         summary = same.summary ∙ inv.same.summary;
         pace = same.pace ∙ inv.same.pace;
+        alone = λ none. same.alone (inv.same.alone none);
       };
       catalog = c.print_and_take.ensures.catalog ∙ inv.catalog;
       readers = c.print_and_take.ensures.readers ∙ inv.readers;

@@ -1,9 +1,10 @@
-use Rattle.std.proofs.Common.{◌∙◌, ap, arith, refl, rules, None, Some}
+use Rattle.std.proofs.Common.{◌∙◌, ap, arith, refl, rules, subst, sym, None, Some}
 use Rattle.rtps_records.proofs.NextRead.{at_fault}
 use Rattle.rtps_records.proofs.Progress.{ended, started, stops_at_once, stops_first, stops_here}
 use Rattle.rtps_serial.proofs.Answered.{on_ok_then}
 use Rattle.rtps_serial.specs.Standing.{EngineView}
 use Rattle.dds_participant.specs.Kept.{ParticipantView}
+use Rattle.dds_participant.specs.Ports.{NoneAttached}
 use Rattle.rtps_text.proofs.Batches.{after_end, after_fault, after_more}
 use Rattle.rtps_text.specs.Entries.{samples_by}
 use Rattle.rtps_text.proofs.Sampled.{fails_late, finished, late, same_samples, sampled_many, sampled_more, stops_late, stops_silent}
@@ -21,7 +22,7 @@ loop-room-init g c = record {
   same_writer = refl;
   empty = c.requires.empty;
   few = search rules;
-  same = record { catalog = refl; config = refl; summary = refl; pace = refl };
+  same = record { catalog = refl; config = refl; summary = refl; pace = refl; alone = λ none. none };
   same_keep = refl;
   so_far = rw (c.open.ensures.count ∙ c.requires.unread) (started _ _ _ _ (refl, c.requires.fresh) c.in_ok-open.ensures.ok);
 }
@@ -42,7 +43,7 @@ pub loop-room-preserved : goal.loop-room-preserved
 loop-room-preserved g c =
     let runs = c.in_ok-end.ensures.reads in
     let same = c.in_ok-end.ensures.same in
-    let is = ap (λ (p : ParticipantView _). p.engine) c.in_ok-accept.ensures.same.0 in
+    let is = ap (λ (p : ParticipantView _ _). p.engine) c.in_ok-accept.ensures.same.0 in
     let so_far = sampled_more g.C.Catalog.view g.C.Catalog.decoding c.loop-room.kept.keep _ _ _ _ _ _ _ _ c.loop-room.kept.run.participant.engine c.run_batch.new.run.participant.engine c.accept.new.self.run.participant.engine c.run_batch.new.run.given c.loop-room.kept.caches.items c.accept.new.self.caches.items c.accept.new.self.keep (same.catalog, same.config) is c.in_ok-accept.ensures.same.3 c.loop-room.invariant.so_far runs c.in_ok-accept.ensures.accept in
     let more = after_more _ _ _ _ _ _ runs.reads c.in-More.is in
     record {
@@ -55,6 +56,7 @@ loop-room-preserved g c =
         config = ap (λ (e : EngineView _). e.config) is ∙ same.config ∙ c.loop-room.invariant.same.config;
         summary = c.in_ok-accept.ensures.same.1 ∙ same.summary ∙ c.loop-room.invariant.same.summary;
         pace = c.in_ok-accept.ensures.same.2 ∙ same.pace ∙ c.loop-room.invariant.same.pace;
+        alone = λ none. subst (λ (p : ParticipantView _ _). NoneAttached p.ports) (sym c.in_ok-accept.ensures.same.0) (same.alone (c.loop-room.invariant.same.alone none));
       };
       same_keep = c.in_ok-accept.ensures.same.3 ∙ c.loop-room.invariant.same_keep;
       so_far = rw more.0 so_far;
@@ -73,7 +75,7 @@ returns-in-End-clause-ok g c =
     let now = c.accept.new.self in
     let runs = c.in_ok-end.ensures.reads in
     let same = c.in_ok-end.ensures.same in
-    let is = ap (λ (p : ParticipantView _). p.engine) c.in_ok-accept.ensures.same.0 in
+    let is = ap (λ (p : ParticipantView _ _). p.engine) c.in_ok-accept.ensures.same.0 in
     let so_far = sampled_more g.C.Catalog.view g.C.Catalog.decoding c.loop-room.kept.keep _ _ _ _ _ _ _ _ c.loop-room.kept.run.participant.engine c.run_batch.new.run.participant.engine c.accept.new.self.run.participant.engine c.run_batch.new.run.given c.loop-room.kept.caches.items c.accept.new.self.caches.items c.accept.new.self.keep (same.catalog, same.config) is c.in_ok-accept.ensures.same.3 c.loop-room.invariant.so_far runs c.in_ok-accept.ensures.accept in
     let text = same_samples g.C.Catalog.text_of g.C.Catalog.decoding now.run.participant.engine first.run.participant.engine now.run.summary first.run.summary now.keep first.keep
     (ap (λ (e : EngineView _). e.catalog) is ∙ same.catalog ∙ c.loop-room.invariant.same.catalog) (ap (λ (e : EngineView _). e.config) is ∙ same.config ∙ c.loop-room.invariant.same.config)
@@ -88,7 +90,7 @@ returns-in-End-clause-fault g c =
     let now = c.accept.new.self in
     let runs = c.in_ok-end.ensures.reads in
     let same = c.in_ok-end.ensures.same in
-    let is = ap (λ (p : ParticipantView _). p.engine) c.in_ok-accept.ensures.same.0 in
+    let is = ap (λ (p : ParticipantView _ _). p.engine) c.in_ok-accept.ensures.same.0 in
     let so_far = sampled_more g.C.Catalog.view g.C.Catalog.decoding c.loop-room.kept.keep _ _ _ _ _ _ _ _ c.loop-room.kept.run.participant.engine c.run_batch.new.run.participant.engine c.accept.new.self.run.participant.engine c.run_batch.new.run.given c.loop-room.kept.caches.items c.accept.new.self.caches.items c.accept.new.self.keep (same.catalog, same.config) is c.in_ok-accept.ensures.same.3 c.loop-room.invariant.so_far runs c.in_ok-accept.ensures.accept in
     let text = same_samples g.C.Catalog.text_of g.C.Catalog.decoding now.run.participant.engine first.run.participant.engine now.run.summary first.run.summary now.keep first.keep
     (ap (λ (e : EngineView _). e.catalog) is ∙ same.catalog ∙ c.loop-room.invariant.same.catalog) (ap (λ (e : EngineView _). e.config) is ∙ same.config ∙ c.loop-room.invariant.same.config)
@@ -102,7 +104,7 @@ returns-in_err-close-in-Fault-clause-fault g c =
     let now = c.accept.new.self in
     let runs = c.in_ok-end.ensures.reads in
     let same = c.in_ok-end.ensures.same in
-    let is = ap (λ (p : ParticipantView _). p.engine) c.in_ok-accept.ensures.same.0 in
+    let is = ap (λ (p : ParticipantView _ _). p.engine) c.in_ok-accept.ensures.same.0 in
     let so_far = sampled_more g.C.Catalog.view g.C.Catalog.decoding c.loop-room.kept.keep _ _ _ _ _ _ _ _ c.loop-room.kept.run.participant.engine c.run_batch.new.run.participant.engine c.accept.new.self.run.participant.engine c.run_batch.new.run.given c.loop-room.kept.caches.items c.accept.new.self.caches.items c.accept.new.self.keep (same.catalog, same.config) is c.in_ok-accept.ensures.same.3 c.loop-room.invariant.so_far runs c.in_ok-accept.ensures.accept in
     let text = same_samples g.C.Catalog.text_of g.C.Catalog.decoding now.run.participant.engine first.run.participant.engine now.run.summary first.run.summary now.keep first.keep
     (ap (λ (e : EngineView _). e.catalog) is ∙ same.catalog ∙ c.loop-room.invariant.same.catalog) (ap (λ (e : EngineView _). e.config) is ∙ same.config ∙ c.loop-room.invariant.same.config)
@@ -117,7 +119,7 @@ returns-in-Fault-clause-fault g c =
     let now = c.accept.new.self in
     let runs = c.in_ok-end.ensures.reads in
     let same = c.in_ok-end.ensures.same in
-    let is = ap (λ (p : ParticipantView _). p.engine) c.in_ok-accept.ensures.same.0 in
+    let is = ap (λ (p : ParticipantView _ _). p.engine) c.in_ok-accept.ensures.same.0 in
     let so_far = sampled_more g.C.Catalog.view g.C.Catalog.decoding c.loop-room.kept.keep _ _ _ _ _ _ _ _ c.loop-room.kept.run.participant.engine c.run_batch.new.run.participant.engine c.accept.new.self.run.participant.engine c.run_batch.new.run.given c.loop-room.kept.caches.items c.accept.new.self.caches.items c.accept.new.self.keep (same.catalog, same.config) is c.in_ok-accept.ensures.same.3 c.loop-room.invariant.so_far runs c.in_ok-accept.ensures.accept in
     let text = same_samples g.C.Catalog.text_of g.C.Catalog.decoding now.run.participant.engine first.run.participant.engine now.run.summary first.run.summary now.keep first.keep
     (ap (λ (e : EngineView _). e.catalog) is ∙ same.catalog ∙ c.loop-room.invariant.same.catalog) (ap (λ (e : EngineView _). e.config) is ∙ same.config ∙ c.loop-room.invariant.same.config)

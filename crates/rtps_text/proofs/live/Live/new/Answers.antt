@@ -6,4 +6,5 @@ returns-clause-live g c = record {
   own = c.new-printer.ensures.catalog ∙ c.requires.own;
   readers = c.new-printer.ensures.readers ∙ c.requires.fresh.stands.shows.count;
   none = c.none.ensures;
+  alone = c.requires.alone;
 }

@@ -1,10 +1,19 @@
-use Rattle.std.proofs.Common.{◌++◌, List, refl, rules, ℕ}
+use Rattle.std.proofs.Common.{◌≤◌, ◌++◌, List, length, refl, rules, ℕ}
+use Rattle.std.specs.List.{AllByRecursion}
+use Rattle.rtps_records.specs.Batches.{records_in}
+use Rattle.rtps_records.specs.RecordFile.{IsRecord}
 use Rattle.rtps_records.specs.Runs.{Moves, PutsFront}
 use Rattle.rtps_text.specs.Slices.{AreByPlace, AreTexts, merged_lines}
 use Rattle.rtps_text.proofs.Batches.{moved_front}
 use Rattle.rtps_text.proofs.Due.{due_begun, due_same, due_spelled, spelled_lines}
 use Rattle.rtps_text.proofs.Run.{on_err}
 use Rattle.rtps_text.proofs.printer.Printer.spell_and_take.Goals as goal
+
+pub write_and_read_beside-done-requires-clause-first : goal.write_and_read_beside-done-requires-clause-first
+write_and_read_beside-done-requires-clause-first g c κs within =
+    let few : length (records_in c.swap.new.x) ≤ 4096 = search rules in
+    let fit : AllByRecursion IsRecord (records_in c.swap.new.x) = search rules in
+    (few, (fit, (c.requires.alone, search rules)))
 
 pub returns-in_err-done-clause-front : goal.returns-in_err-done-clause-front
 returns-in_err-done-clause-front g c = λ due d.

@@ -4,8 +4,7 @@ ghost use Rattle.std.specs.Prelude.{◌≡◌, ◌+◌, ◌*◌, ◌≤◌, IfOk
 
 use mio::net::UdpSocket;
 use mio::{Events, Interest, Poll, Token};
-use rtps_records::Receive;
-use rtps_text::Exchange;
+use rtps_records::{Exchange, Receive};
 use rtps_types::Locator;
 use std::alloc::Global;
 use std::io::{self, ErrorKind};

@@ -1,0 +1,8 @@
+//! The sockets of a participant: where datagrams are received, and where answers go from.
+#![tactic(auto)]
+
+mod sockets;
+#[cfg(test)]
+mod tests;
+
+pub use sockets::Sockets;

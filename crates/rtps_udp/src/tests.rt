@@ -1,0 +1,64 @@
+//! The sockets of a domain, and a peer on loopback.
+
+ghost use Rattle.std.specs.Prelude.{◌≤◌, IfOk};
+
+use crate::Sockets;
+use rtps_records::{Exchange, Receive};
+use rtps_types::Locator;
+use std::io::ErrorKind;
+use std::net::{Ipv4Addr, SocketAddr, UdpSocket};
+use std::test::Fail;
+use std::time::Duration;
+
+/// Domains that nothing else here uses, and the port of discovery's datagrams in each, 7410 and
+/// 250 for each domain before it. User data come to the next port. There are several, so that two
+/// runs of this test find sockets at once.
+const DOMAINS: [(u16, u16); 4] = [(100, 32_410), (99, 32_160), (98, 31_910), (97, 31_660)];
+
+/// The sockets of the first of these domains whose ports are free, the domain, and its first port.
+fn free_sockets(rt: &HostRuntime) -> Result<(Sockets, u16, u16), Fail>
+    ensures { IfOk result (λ free. free.1 ≤ 232) }
+{
+    for (domain, port) in DOMAINS {
+        if let Ok(sockets) = Sockets::bind(rt, rt.alloc(), domain) {
+            return Ok((sockets, domain, port));
+        }
+    }
+    Err(Fail::new("the ports of each domain are taken"))
+}
+
+#[test]
+fn exchanges_datagrams_with_a_peer(rt: HostRuntime) -> Result<(), Fail> {
+    let (mut sockets, domain, discovery) = free_sockets(&rt)?;
+    let peer = UdpSocket::bind(&rt, "127.0.0.1:0")?;
+    peer.set_read_timeout(Some(Duration::from_secs(30)))?;
+    let mut room = [0; 4];
+    sockets.wait()?;
+    assert_eq!(rt; sockets.receive(&mut room)?, None);
+
+    let user = discovery.saturating_add(1);
+    peer.send_to(b"user", ("127.0.0.1", user))?;
+    peer.send_to(b"found", ("127.0.0.1", discovery))?;
+    sockets.wait()?;
+    // A datagram that is longer than the room is cut.
+    assert_eq!(rt; sockets.receive(&mut room)?, Some(4));
+    assert_eq!(rt; room, *b"foun");
+    assert_eq!(rt; sockets.receive(&mut room)?, Some(4));
+    assert_eq!(rt; room, *b"user");
+    assert_eq!(rt; sockets.receive(&mut room)?, None);
+
+    let to = Locator {
+        port: peer.local_addr()?.port(),
+        address: [127, 0, 0, 1],
+    };
+    sockets.send(to, b"ask");
+    let (length, from) = peer.recv_from(&mut room)?;
+    assert_eq!(rt; (length, room), (3, *b"askr"));
+    assert_eq!(rt; from, SocketAddr::from((Ipv4Addr::LOCALHOST, discovery)));
+
+    let Err(fault) = Sockets::bind(&rt, rt.alloc(), domain) else {
+        return Err(Fail::new("the ports are free"));
+    };
+    assert_eq!(rt; fault.kind(), ErrorKind::AddrInUse);
+    Ok(())
+}
