@@ -1,5 +1,5 @@
 -- A batch is finished after it was handed on.
-use Rattle.std.proofs.Common.{◌≡◌, ℕ, ◌+◌, ◌<◌, length, ap, ◌∙◌, subst, sym, slice_index_or}
+use Rattle.std.proofs.Common.{◌≡◌, ℕ, subst}
 use Rattle.rtps_serial.specs.Standing.{EngineView}
 use Rattle.dds_participant.specs.Batch.{IsFinishedBy}
 use Rattle.dds_participant.specs.Kept.{ParticipantView}

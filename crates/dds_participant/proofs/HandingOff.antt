@@ -1,14 +1,13 @@
 -- What was sent and what waits are what the run put out.
-use Rattle.std.proofs.Common.{◌≡◌, ℕ, zero, suc, ◌<◌, ◌≤◌, ◌⊎◌, List, [], ◌∷◌, ◌++◌, length, map, get_or, Global, Option, None, Some, inl, inr, append_assoc, refl, sym, ap, ◌∙◌, subst, arith, rules}
-use Rattle.std.proofs.lemmas.Bool.{cases_lt}
-use Rattle.std.proofs.lemmas.List.{append-nil, get_or_past, length-map, map-append}
+use Rattle.std.proofs.Common.{◌≡◌, ℕ, zero, suc, ◌<◌, List, [], ◌∷◌, ◌++◌, length, map, get_or, Global, Option, None, Some, append_assoc, refl, sym, ap, ◌∙◌, arith}
+use Rattle.std.proofs.lemmas.List.{append-nil, length-map, map-append}
 use Rattle.std.specs.declared.vec.Vec.{Vec}
 use Rattle.rtps_reader.specs.declared.notice.Notice.{Notice}
 use Rattle.rtps_reader.specs.declared.notice.Output.{Output}
 use Rattle.rtps_reader.specs.Notices.{notice_view}
 use Rattle.rtps_serial.specs.declared.outcome.Outcome.{Outcome}
-use Rattle.rtps_serial.specs.Outcome.{Adds, notices_in}
-use Rattle.rtps_serial.specs.Seen.{notices_by, reader_count}
+use Rattle.rtps_serial.specs.Outcome.{Adds}
+use Rattle.rtps_serial.specs.Seen.{notices_by}
 use Rattle.rtps_serial.specs.World.{World}
 use Rattle.dds_outlet.specs.Ring.{Sending}
 use Rattle.dds_participant.specs.Given.{IsGiven, told_in}

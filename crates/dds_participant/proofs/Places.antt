@@ -1,5 +1,5 @@
 -- A change of one place, as clauses see it.
-use Rattle.std.proofs.Common.{◌≡◌, Global, ℕ, zero, suc, ◌<◌, ◌≤◌, List, [], ◌∷◌, length, map, set, Option, Some, None, option_map, Result, Ok, Err, MatchOption, MatchResult, IsSome, slice_index_or, slice_set, refl, sym, ap, ◌∙◌, arith, rules}
+use Rattle.std.proofs.Common.{◌≡◌, Global, ℕ, zero, suc, ◌<◌, ◌≤◌, List, [], ◌∷◌, length, set, Option, Some, None, option_map, Result, Ok, Err, MatchOption, MatchResult, IsSome, slice_index_or, slice_set, refl, sym, ap, ◌∙◌, arith, rules}
 use Rattle.std.proofs.lemmas.List.{map-set, get_or-map}
 use Rattle.std.proofs.Math.Seq.{map-set_same}
 use Rattle.dds_outlet.specs.Ring.{Sending}

@@ -1,11 +1,10 @@
 -- The row that a participant publishes (DDS 1.4, 2.2.4.1).
-use Rattle.std.specs.Prelude.{◌≡◌, ℕ, List, Option}
+use Rattle.std.specs.Prelude.{◌≡◌, ℕ, List}
 use Rattle.std.specs.List.{enumerate_from}
 use Rattle.std.specs.Option.{option_map}
 use Rattle.rtps_reader.specs.declared.status.Status.{Status}
 use Rattle.rtps_serial.specs.Seen.{status_seen}
 use Rattle.rtps_serial.specs.World.{World}
-use Rattle.dds_outlet.specs.declared.row.Look.{Look}
 use Rattle.dds_outlet.specs.declared.row.RowView.{RowView}
 use Rattle.dds_outlet.specs.Rows.{look_at}
 

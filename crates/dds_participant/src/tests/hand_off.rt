@@ -97,19 +97,21 @@ fn take_one<R: Threads + Sync>(
 fn take_all<R: Threads + Sync>(
     rt: &R,
     alloc: Global,
-    participant: &mut Participant<Shapes>,
+    participant: Participant<Shapes>,
     datagrams: &[Vec<u8>],
 ) -> Result<(), Fail> {
+    let mut participant = participant;
     let mut given = Given::new(alloc);
     for batch in datagrams.chunks(BATCH) {
-        take_one(rt, alloc, participant, batch, &mut given)?;
+        take_one(rt, alloc, &mut participant, batch, &mut given)?;
     }
-    deliver_all(participant);
+    deliver_all(&mut participant);
     Ok(())
 }
 
 /// What comes out of a ring, until there are this many notices, or the thread gives up.
-fn hear(alloc: Global, inlet: &mut Inlet<Shape>, least: usize) -> Result<Vec<Heard>, AllocError> {
+fn hear(alloc: Global, inlet: Inlet<Shape>, least: usize) -> Result<Vec<Heard>, AllocError> {
+    let mut inlet = inlet;
     let mut all = Vec::new(alloc);
     for _ in 0..TRIES {
         match inlet.pop() {
@@ -127,14 +129,14 @@ fn another_thread_hears_what_one_thread_reports(rt: HostRuntime) -> Result<(), F
     let datagrams = datagrams(alloc, 2000)?;
     let expected = in_series(alloc, &datagrams)?;
     assert!(rt; expected.len() > 500);
-    let (outlet, mut inlet) = outlet(alloc, 16)?;
+    let (outlet, inlet) = outlet(alloc, 16)?;
     let mut participant = Participant::new(alloc, config(alloc)?, Shapes)?;
     assert!(rt; participant.attach(RANK, outlet).is_ok());
     let least = expected.len();
     let (taken, all) = join(
         &rt,
-        || take_all(&rt, alloc, &mut participant, &datagrams),
-        || hear(alloc, &mut inlet, least),
+        || take_all(&rt, alloc, participant, &datagrams),
+        move || hear(alloc, inlet, least),
     );
     taken?;
     assert!(rt; all?.as_slice() == expected.as_slice());

@@ -1,8 +1,8 @@
-use Rattle.std.proofs.Common.{◌≡◌, ◌∙◌, ◌<◌, ap, arith, length, map, refl, rules}
+use Rattle.std.proofs.Common.{◌∙◌, ◌<◌, ap, arith, length, refl}
 use Rattle.std.proofs.lemmas.List.{length-map}
 use Rattle.std.proofs.Math.Seq.{map-set_same}
 use Rattle.dds_participant.specs.Handing.{reported}
-use Rattle.dds_participant.proofs.Onward.{handed_all, handed_more, handed_none, room_next}
+use Rattle.dds_participant.proofs.Onward.{handed_all, handed_more, handed_none}
 use Rattle.dds_participant.proofs.handing.hand_on.Goals as goal
 
 pub loop-rank-init : goal.loop-rank-init

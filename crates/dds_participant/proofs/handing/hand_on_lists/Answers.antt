@@ -1,7 +1,7 @@
-use Rattle.std.proofs.Common.{◌≡◌, ◌<◌, arith, length, map}
+use Rattle.std.proofs.Common.{◌<◌, arith, length}
 use Rattle.std.proofs.lemmas.List.{length-map}
 use Rattle.dds_participant.specs.Handing.{listed}
-use Rattle.dds_participant.proofs.Onward.{handed_all, handed_more, handed_none, room_next}
+use Rattle.dds_participant.proofs.Onward.{handed_all, handed_more, handed_none}
 use Rattle.dds_participant.proofs.handing.hand_on_lists.Goals as goal
 
 pub loop-rank-init : goal.loop-rank-init

@@ -1,4 +1,4 @@
-use Rattle.std.proofs.Common.{◌≡◌, ◌∙◌, ◌<◌, arith, length, length-set, rules}
+use Rattle.std.proofs.Common.{◌∙◌, ◌<◌, length, length-set, rules}
 use Rattle.dds_participant.proofs.Onward.{room_more, same_view}
 use Rattle.dds_participant.proofs.handing.make_room.Goals as goal
 
