@@ -1,0 +1,136 @@
+//! A live receiver. One thread receives what comes to the sockets of a domain, has a reader take
+//! it, and answers; one takes the reader's samples when it suits it, as an application does; one
+//! looks at the reader's status. A peer on loopback, here a thread too, sends three samples, the
+//! second of them last.
+#![tactic(auto)]
+
+ghost use Rattle.std.specs.Prelude.{◌≡◌};
+
+mod peer;
+mod receiver;
+
+use anyhow::{Result, bail};
+use dds_cache::{Condition, Content, DataReader, History, Taken};
+use dds_outlet::{Inlet, StatusBoard, StatusReader, outlet};
+use dds_topic::Shape;
+use peer::Peer;
+use receiver::Receiver;
+use std::alloc::Global;
+use std::net::Net;
+use std::sync::Wait;
+use std::sync::atomic::{AtomicBool, Ordering};
+use std::thread::{self, Threads};
+use std::time::{Clock, Duration};
+
+/// A domain of its own, so that the program runs beside others.
+const DOMAIN: u16 = 101;
+
+/// The rank of the reader of squares: it is the only one.
+const SQUARES: u32 = 0;
+
+/// How many samples the peer sends.
+const SAMPLES: u32 = 3;
+
+/// How often a thread looks whether something has come, at the most: for half a minute.
+const LOOKS: u32 = 3_000;
+
+fn main(rt: HostRuntime) -> Result<()> {
+    // A board for the status of one reader, at which one thread looks.
+    let mut board = StatusBoard::new(&rt, rt.alloc(), 1, 1)?;
+    let outcome = run(&rt, rt.alloc(), &mut board);
+    board.end(&rt);
+    outcome
+}
+
+/// Has the threads work until the application has all samples, and shows the last status.
+fn run<R: Threads + Wait + Net + Clock + Print + Sync>(
+    rt: &R,
+    alloc: Global,
+    board: &mut StatusBoard,
+) -> Result<()> {
+    let Some(watch) = board.reader() else {
+        bail!("no place is free at the board");
+    };
+    let (outlet, mut inlet) = outlet(alloc, 64)?;
+    let peer = Peer::bind(rt)?;
+    let mut receiver = Receiver::bind(rt, alloc, outlet, peer.locator()?)?;
+    let done = AtomicBool::new(false);
+
+    let receive = || receiver.run(rt, alloc, board, &done);
+    let show = || show_samples(rt, alloc, &mut inlet);
+    let send = || peer.send_squares();
+    let supervise = || look_until_presented(rt, watch, &done);
+    // The first three have threads of their own, and the last one has this thread.
+    let (published, (shown, (sent, mut watch))) = thread::join(rt, receive, || {
+        thread::join(rt, show, || thread::join(rt, send, supervise))
+    });
+    let published = published?;
+    sent?;
+    shown?;
+    // From here on no look shows an older row than the last one that was published.
+    watch.learn(published);
+    show_status(rt, &mut watch)
+}
+
+/// Shows the samples as they come.
+fn show_samples<R: Print + Clock>(rt: &R, alloc: Global, inlet: &mut Inlet<Shape>) -> Result<()> {
+    // The last three of each square: all that the peer sends, however late they are pulled.
+    let mut squares = DataReader::new(alloc, History::KeepLast(SAMPLES));
+    let unread = Condition {
+        not_read: true,
+        ..Condition::default()
+    };
+    let mut shown = 0_u32;
+    for _ in 0..LOOKS {
+        squares.pull(alloc, inlet)?;
+        for sample in &squares.take(alloc, 100, unread)? {
+            show_sample(rt, sample)?;
+            shown = shown.saturating_add(1);
+        }
+        if shown >= SAMPLES {
+            return Ok(());
+        }
+        pause(rt);
+    }
+    bail!("only {shown} samples came")
+}
+
+fn show_sample(rt: &impl Print, sample: &Taken<Shape>) -> Result<()> {
+    let number = sample.number;
+    match &sample.body {
+        Content::Value(shape) => {
+            let color = shape.color.as_str();
+            println!(rt; "{number}: {color} at {} {}", shape.x, shape.y)?;
+        }
+        Content::Disposed => println!(rt; "{number}: disposed")?,
+    }
+    Ok(())
+}
+
+/// Looks at the reader's status until all samples were presented, and then ends the receiver.
+fn look_until_presented(rt: &impl Clock, mut watch: StatusReader, done: &AtomicBool) -> StatusReader
+    ensures { result.board ≡ watch.board }
+{
+    for _ in 0..LOOKS {
+        match watch.look(SQUARES) {
+            Some(look) if look.status.samples >= SAMPLES => break,
+            _ => pause(rt),
+        }
+    }
+    done.store(true, Ordering::SeqCst);
+    watch
+}
+
+fn show_status(rt: &impl Print, watch: &mut StatusReader) -> Result<()> {
+    let Some(look) = watch.look(SQUARES) else {
+        bail!("the board shows no status");
+    };
+    let (matched, samples) = (look.status.matched_now, look.status.samples);
+    let lost = look.status.lost_total;
+    println!(rt; "matched {matched}, samples {samples}, lost {lost}")?;
+    Ok(())
+}
+
+fn pause(clock: &impl Clock) {
+    thread::sleep(clock, Duration::from_millis(10));
+}

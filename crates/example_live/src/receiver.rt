@@ -1,0 +1,97 @@
+//! The thread that receives.
+
+ghost use Rattle.std.specs.Prelude.{◌≡◌, IfOk};
+
+use crate::peer::WRITER;
+use crate::{DOMAIN, SQUARES};
+use anyhow::{Result, bail};
+use dds_outlet::{Outlet, StatusBoard, Told};
+use dds_participant::{Given, Participant, Workers, is_batch};
+use dds_topic::{Shape, Shapes};
+use rtps_discovery::{Config, ReaderConfig};
+use rtps_records::{Batch, Exchange, ReceiveEnd};
+use rtps_shards::NoGate;
+use rtps_text::send_answers;
+use rtps_types::{EntityId, GuidPrefix, Locator, Locators};
+use rtps_udp::Sockets;
+use std::alloc::Global;
+use std::net::Net;
+use std::sync::Wait;
+use std::sync::atomic::{AtomicBool, Ordering};
+use std::thread::Threads;
+
+/// The sockets of a participant, and its one reader, of the topic `Square`.
+#[derive(Drop)]
+pub struct Receiver {
+    network: Sockets,
+    participant: Participant<Shapes>,
+}
+
+impl Receiver {
+    /// A receiver whose reader is matched with the peer's writer from the start, answers to where
+    /// the peer is, and reports to an outlet.
+    pub fn bind(
+        net: &impl Net,
+        alloc: Global,
+        outlet: Outlet<Shape>,
+        peer: Locator,
+    ) -> Result<Receiver> {
+        let mut config = Config::new(alloc, GuidPrefix([0x0b; 12]));
+        let reader = ReaderConfig::new(alloc, EntityId([0, 0, 1, 7]), "Square", "ShapeType")?;
+        config.add_reader(reader.reliable())?;
+        config.add_fixed(SQUARES, WRITER, Locators::one(alloc, peer))?;
+        let mut participant = Participant::new(alloc, config, Shapes)?;
+        if let Err((_outlet, fault)) = participant.attach(SQUARES, outlet) {
+            bail!("the outlet isn't attached: {fault:?}");
+        }
+        let network = Sockets::bind(net, alloc, DOMAIN)?;
+        Ok(Receiver {
+            network,
+            participant,
+        })
+    }
+
+    /// Receives until `done` is set. What has come is a batch: the reader takes it, its answers are
+    /// sent, what it reports is delivered, and its status is published. Gives all that was
+    /// published, for another thread to learn.
+    pub fn run<R: Threads + Wait + Sync>(
+        &mut self,
+        rt: &R,
+        alloc: Global,
+        board: &mut StatusBoard,
+        done: &AtomicBool,
+    ) -> Result<Told>
+        ensures { IfOk result (λ published. published.board ≡ board.old.board) }
+    {
+        let mut batch = Batch::new(alloc)?;
+        let mut given = Given::new(alloc);
+        let workers = Workers {
+            count: 2,
+            gate: &NoGate,
+        };
+        let mut end = ReceiveEnd::Drained;
+        for _ in rt.forever() {
+            if done.load(Ordering::SeqCst) {
+                break;
+            }
+            // After a full batch more may be there, of which a wait would say nothing.
+            if end != ReceiveEnd::More {
+                self.network.wait()?;
+            }
+            end = batch.receive(&mut self.network, 256)?;
+            let datagrams = batch.records(alloc)?;
+            if end == ReceiveEnd::Fault || !is_batch(&datagrams) {
+                bail!("no datagram can be received");
+            }
+            self.participant
+                .run_in_order(rt, alloc, &workers, &datagrams, &mut given)?;
+            send_answers(&mut self.network, &given);
+            // What the ring has no room for is delivered in a later turn.
+            self.participant.deliver(SQUARES);
+            if let Err(fault) = self.participant.publish(rt, alloc, board) {
+                bail!("the status isn't published: {fault:?}");
+            }
+        }
+        Ok(board.tell())
+    }
+}
