@@ -1,7 +1,7 @@
 pub mod Batching
 pub mod Cuts
 pub mod Filled
-pub mod HeardSoFar
+pub mod Received
 pub mod NextRead
 pub mod OneReading
 pub mod Printed

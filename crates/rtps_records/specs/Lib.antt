@@ -1,7 +1,7 @@
 pub mod Batches
 pub mod Cuts
 pub mod Faults
-pub mod Heard
+pub mod Traffic
 pub mod Reading
 pub mod RecordFile
 pub mod Runs

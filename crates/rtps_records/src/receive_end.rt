@@ -5,8 +5,8 @@
 pub enum ReceiveEnd {
     /// More datagrams may have come.
     More,
-    /// No other datagram has come.
+    /// All that came was received.
     Drained,
-    /// The next datagram can't be received.
+    /// The source failed, so that it isn't known whether more has come.
     Fault,
 }

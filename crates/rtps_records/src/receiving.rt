@@ -1,10 +1,10 @@
 //! Datagrams that are received into a batch.
 
-ghost use Rattle.std.specs.Prelude.{◌≡◌, ◌+◌, ◌≤◌, ◌∷◌, [], IfOk, IfSome, List, None, OnErr, Option, drop, length, take, ℕ};
+ghost use Rattle.std.specs.Prelude.{◌≡◌, ◌+◌, ◌≤◌, ◌∷◌, ◌++◌, [], IfOk, IfSome, List, None, OnErr, Option, drop, length, take, ℕ};
 ghost use Rattle.std.specs.List.{AllByRecursion};
 ghost use Rattle.rtps_records.specs.Batches.{IsFull, records_in};
-ghost use Rattle.rtps_records.specs.Heard.{Hears, HearsOne};
 ghost use Rattle.rtps_records.specs.RecordFile.{IsRecord};
+ghost use Rattle.rtps_records.specs.Traffic.{Exhausted, Failed, Grows, Received, ReceivesNext, Traffic, last_call, receipts};
 ghost use Rattle.rtps_records.specs.declared.receive_end.ReceiveEnd.TheVariants.{More};
 
 use crate::batch::Batch;
@@ -15,17 +15,18 @@ use std::io;
 
 /// Where datagrams are received, one at a time.
 pub trait Receive {
-    ghost heard: { Self → Option (List (List ℕ)) };
+    ghost traffic: { Self → Option (List Traffic) };
 
     /// Receives the next datagram into the front of the room, and gives its length; `None` where
-    /// none has come. A datagram that is longer than the room is cut.
+    /// all that came was received. A datagram that is longer than the room is cut. An error is the
+    /// system's, and then nothing was received.
     fn receive(&mut self, room: &mut [u8]) -> io::Result<Option<usize>>
         ensures fits { IfOk result (λ next. IfSome next (λ n. n ≤ length room.new)) }
         ensures some { IfOk result (λ next. IfSome next (λ n.
-            Hears (heard self.old) (heard self.new) (take n room.new ∷ []))) }
+            Grows (traffic self.old) (traffic self.new) (Received (take n room.new) ∷ []))) }
         ensures none { IfOk result (λ next. next ≡ None
-            → Hears (heard self.old) (heard self.new) []) }
-        ensures fault { OnErr result (Hears (heard self.old) (heard self.new) []) };
+            → Grows (traffic self.old) (traffic self.new) (Exhausted ∷ [])) }
+        ensures fault { OnErr result (Grows (traffic self.old) (traffic self.new) (Failed ∷ [])) };
 }
 
 /// Receives a datagram into octets of which the first are used.
@@ -39,10 +40,12 @@ fn receive_after<S: Receive>(
     ensures same { take used octets.new ≡ take used octets.old }
     ensures fits { IfOk result (λ next. IfSome next (λ n. n ≤ 65507)) }
     ensures some { IfOk result (λ next. IfSome next (λ n.
-        Hears (S.heard source.old) (S.heard source.new) (take n (drop used octets.new) ∷ []))) }
+        Grows (S.traffic source.old) (S.traffic source.new)
+        (Received (take n (drop used octets.new)) ∷ []))) }
     ensures none { IfOk result (λ next. next ≡ None
-        → Hears (S.heard source.old) (S.heard source.new) []) }
-    ensures fault { OnErr result (Hears (S.heard source.old) (S.heard source.new) []) }
+        → Grows (S.traffic source.old) (S.traffic source.new) (Exhausted ∷ [])) }
+    ensures fault { OnErr result
+        (Grows (S.traffic source.old) (S.traffic source.new) (Failed ∷ [])) }
 {
     let (_, rest) = octets.split_at_mut(used);
     let (room, _) = rest.split_at_mut(MAX_LEN);
@@ -50,15 +53,16 @@ fn receive_after<S: Receive>(
 }
 
 impl<A: Allocator> Batch<A> {
-    /// Receives the next datagram, and adds it: [`ReceiveEnd::More`]. Where none has come, or at a
-    /// fault, nothing is added. An error is a refused growth, and then nothing is received.
-    #[tactic(auto, unfolding(crate::specs::Heard::HearsOne))]
+    /// Receives the next datagram, and adds it: [`ReceiveEnd::More`]. Where all that came was
+    /// received, or at a fault, nothing is added. An error is a refused growth, and then the source
+    /// is as it was.
+    #[tactic(auto, unfolding(crate::specs::Traffic::ReceivesNext))]
     fn receive_next<S: Receive>(&mut self, source: &mut S) -> Result<ReceiveEnd, AllocError>
         requires room { self.old.used + 65507 ≤ 1048576 }
-        ensures hears { IfOk result (λ end. HearsOne end
-            (S.heard source.old) (S.heard source.new)
+        ensures receives { IfOk result (λ end. ReceivesNext end
+            (S.traffic source.old) (S.traffic source.new)
             (records_in self.old) (records_in self.new)) }
-        ensures unheard { OnErr result (Hears (S.heard source.old) (S.heard source.new) []) }
+        ensures same_source { OnErr result (source.new ≡ source.old) }
         ensures same { OnErr result (records_in self.new ≡ records_in self.old) }
     {
         self.lengths.reserve(1)?;
@@ -74,8 +78,8 @@ impl<A: Allocator> Batch<A> {
     }
 
     /// Receives datagrams in the place of the records that are there: as many as `most`, fewer
-    /// where there is no room for a longest one after them, where no other has come, or where the
-    /// next one can't be received.
+    /// where there is no room for a longest one after them, where all that came was received
+    /// ([`ReceiveEnd::Drained`]), or where the source fails ([`ReceiveEnd::Fault`]).
     ///
     /// An error is a refused growth. The datagrams that were received until then are there, and no
     /// other one was received.
@@ -84,7 +88,10 @@ impl<A: Allocator> Batch<A> {
         source: &mut S,
         most: u16,
     ) -> Result<ReceiveEnd, AllocError>
-        ensures hears { Hears (S.heard source.old) (S.heard source.new) (records_in self.new) }
+        ensures receives { IfOk result (λ end. Grows (S.traffic source.old) (S.traffic source.new)
+            (receipts (records_in self.new) ++ last_call end)) }
+        ensures stops { OnErr result (Grows (S.traffic source.old) (S.traffic source.new)
+            (receipts (records_in self.new))) }
         ensures each { AllByRecursion IsRecord (records_in self.new) }
         ensures few { length (records_in self.new) ≤ most }
         ensures full { IfOk result (λ end. end ≡ More → IsFull most self.new) }

@@ -17,7 +17,7 @@ struct Coming<'a> {
 impl Receive for Coming<'_> {
     ghost use Rattle.std.specs.Prelude.{None};
 
-    ghost heard = { λ _. None };
+    ghost traffic = { λ _. None };
 
     fn receive(&mut self, room: &mut [u8]) -> io::Result<Option<usize>> {
         let Some((length, rest)) = self.lengths.split_first() else {

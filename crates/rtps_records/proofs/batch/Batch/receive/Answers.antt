@@ -1,17 +1,17 @@
 use Rattle.std.proofs.Common.{◌≤◌, ◌<◌, inl, arith, rules, length}
 use Rattle.rtps_records.specs.Batches.{IsFull, records_in}
-use Rattle.rtps_records.proofs.HeardSoFar.{hears_last, hears_more}
+use Rattle.rtps_records.proofs.Received.{ends, full, one_more}
 use Rattle.rtps_records.proofs.batch.Batch.receive.Goals as goal
 
 pub loop-self-smaller : goal.loop-self-smaller
 loop-self-smaller g c =
-    let next = hears_more _ _ _ _ (records_in c.receive_next.new.self) _ c.loop-self.invariant.so_far c.in-More.is c.in_ok-end.ensures.hears in
+    let next = one_more _ _ _ _ (records_in c.receive_next.new.self) _ c.loop-self.invariant.so_far c.in-More.is c.in_ok-end.ensures.receives in
     let room : length (records_in c.loop-self.self) < c.args.most = search rules in
     omega (arith, next.0, room)
 
 pub loop-self-preserved : goal.loop-self-preserved
 loop-self-preserved g c =
-    let next = hears_more _ _ _ _ (records_in c.receive_next.new.self) _ c.loop-self.invariant.so_far c.in-More.is c.in_ok-end.ensures.hears in
+    let next = one_more _ _ _ _ (records_in c.receive_next.new.self) _ c.loop-self.invariant.so_far c.in-More.is c.in_ok-end.ensures.receives in
     let room : length (records_in c.loop-self.self) < c.args.most = search rules in
     record {
       few = omega (arith, next.0, room);
@@ -20,13 +20,17 @@ loop-self-preserved g c =
 
 pub returns-in_default : goal.returns-in_default
 returns-in_default g c =
-    let last = hears_last _ _ _ _ (records_in c.receive_next.new.self) _ c.loop-self.invariant.so_far c.in_default.not-More c.in_ok-end.ensures.hears in
+    let last = ends _ _ _ _ (records_in c.receive_next.new.self) _ c.loop-self.invariant.so_far c.in_default.not-More c.in_ok-end.ensures.receives in
     record {
-      hears = last.1.hears;
-      each = last.1.each;
-      few = rw last.0 c.loop-self.invariant.few;
+      receives = last.grows;
+      stops = tt;
+      each = last.each;
+      few = rw last.same c.loop-self.invariant.few;
       full = λ is. absurd {A = IsFull c.args.most c.receive_next.new.self} (c.in_default.not-More is);
     }
+
+pub returns-after-loop-self-clause-receives : goal.returns-after-loop-self-clause-receives
+returns-after-loop-self-clause-receives g c = full _ _ _ c.loop-self.invariant.so_far
 
 pub returns-after-loop-self-clause-full : goal.returns-after-loop-self-clause-full
 returns-after-loop-self-clause-full g c = λ is.
