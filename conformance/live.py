@@ -7,14 +7,15 @@ Each run starts the program in domain 0, whose first participant has the ports 7
 what it sends back and how it ends. A run that fails names itself. The last line is 'N passed, M failed'.
 """
 
+import signal
 import socket
 import subprocess
 import sys
 import time
 
 HOST = "127.0.0.1"
-DISCOVERY, USER, PEER = 7410, 7411, 7412
-"""Where the program receives, and where a peer does that announces itself."""
+DISCOVERY, USER, PEER, PEER_USER = 7410, 7411, 7412, 7413
+"""Where the program receives, and where a peer does that announces itself: discovery, and user data."""
 SECONDS = 30
 """How long a run may take."""
 
@@ -27,7 +28,13 @@ ANNOUNCED = (
     "3200180001000000f41c0000" + "00" * 12 + "7f000001" + "3100180001000000f51c0000" + "00" * 12 + "7f000001"
     "020008006400000000000000" + "5800040014000000" + "01000000"
 )
-"""The peer announces itself, with port 7412 for its discovery (DDSI-RTPS 8.5.3)."""
+"""The peer announces itself, with port 7412 for its discovery and 7413 for user data (DDSI-RTPS 8.5.3)."""
+PUBLISHED = (
+    "1505640000001000000003c7000003c2000000000100000000030000" + "5a001000" + WRITER
+    + "05000c00" + "07000000" + "5371756172650000" + "07001000" + "0a000000" + "536861706554797065000000"
+    + "1a000c00" + "020000000000000000000000" + "01000000"
+)
+"""The peer announces its writer, which is reliable (DDSI-RTPS 8.5.4)."""
 BEATS = "07011c00" + "000003c7000003c2" + "0000000001000000" + "0000000001000000" + "01000000"
 """Its announcer of writers says that it has number 1."""
 ASKED = (
@@ -47,6 +54,19 @@ def sample(number):
 
 def sample_line(datagram, number):
     return f"{datagram}:1 reader 0 sample {WRITER} {number} - value 424c5545 10 20 30\n"
+
+
+def heartbeat(last):
+    """A datagram in which the writer says that it has the numbers from 1 to this one."""
+    front = HEADER + "07011c00" + "00000107" + "00000102" + "0000000001000000" + "00000000"
+    return bytes.fromhex(front) + last.to_bytes(4, "little") + bytes.fromhex("01000000")
+
+
+def asks_for(base, count):
+    """The ACKNACK in which the reader asks for as many numbers from one on, all neighbours, in hex."""
+    words = base.to_bytes(4, "little") + count.to_bytes(4, "little") + (2**32 - 2 ** (32 - count)).to_bytes(4, "little")
+    front = "5254505302050000" + B + "0e010c00" + A + "06011c00" + "00000107" + "00000102" + "00000000"
+    return front + words.hex() + "01000000"
 
 
 class Unlike(Exception):
@@ -99,16 +119,18 @@ def received(own):
         return None
 
 
-def is_bound(port):
-    """Whether a socket of this machine has a port."""
+def addresses(port):
+    """The addresses at which sockets of this machine have a port, as the system writes them."""
     with open("/proc/net/udp", encoding="ascii") as table:
-        return any(line.split()[1].endswith(f":{port:04X}") for line in list(table)[1:])
+        bound = [line.split()[1].split(":") for line in list(table)[1:]]
+    return [address for address, at in bound if int(at, 16) == port]
 
 
 def wait_until_bound():
-    """Waits until the program has both of its ports; the one for user data is the second."""
+    """Waits until the program has both of its ports, on the loopback interface alone; the one for user data is the second."""
     for _ in range(SECONDS * 50):
-        if is_bound(USER):
+        if addresses(USER):
+            look("the addresses of its sockets", addresses(DISCOVERY) + addresses(USER), ["0100007F"] * 2)
             return
         time.sleep(0.02)
     raise Unlike("the program binds no port")
@@ -126,6 +148,38 @@ def answers_a_peer(program):
                 break
         look("the answer", (answer or b"").hex(), ASKED)
         running.ends(f"0:2 answer 127.0.0.1:7412 {ASKED}\n")
+
+
+def announce(own):
+    """The peer announces itself and its writer, in a datagram each."""
+    for announced in (ANNOUNCED, PUBLISHED):
+        own.sendto(bytes.fromhex(HEADER + announced), (HOST, DISCOVERY))
+
+
+def repairs_a_lost_sample(program):
+    """A sample that is lost is asked for at the locator that its participant named, comes again, and is presented in its turn."""
+    with peer(PEER_USER) as own, Running(program, "--count", "6") as running:
+        wait_until_bound()
+        announce(own)
+        for octets in (sample(1), sample(3), heartbeat(3)):
+            own.sendto(octets, (HOST, USER))
+        answers = [received(own) for _ in range(40)]
+        asked = asks_for(2, 1)
+        look("what is asked for", [answer.hex() for answer in answers if answer], [asked])
+        own.sendto(sample(2), (HOST, USER))
+        lines = f"1:1 reader 0 matched {WRITER}\n" + sample_line(2, 1) + f"4:1 answer {HOST}:{PEER_USER} {asked}\n"
+        running.ends(lines + sample_line(5, 2) + sample_line(5, 3))
+
+
+def hears_announcements_first(program):
+    """Of what stands at both ports, what announces a writer is taken before the writer's data."""
+    with peer() as own, Running(program, "--count", "3") as running:
+        wait_until_bound()
+        running.process.send_signal(signal.SIGSTOP)
+        own.sendto(sample(1), (HOST, USER))
+        announce(own)
+        running.process.send_signal(signal.SIGCONT)
+        running.ends(f"1:1 reader 0 matched {WRITER}\n" + sample_line(2, 1))
 
 
 def prints_what_comes_in_order(program):
@@ -151,9 +205,11 @@ def prints_at_once(program):
 
 
 def ends_after_its_turns(program):
-    """Where nothing comes it ends all the same."""
-    with Running(program, "--count", "1", "--turns", "2", "--summary") as running:
+    """Where nothing comes it ends all the same, after turns of a tenth of a second."""
+    begun = time.monotonic()
+    with Running(program, "--count", "1", "--turns", "5", "--summary") as running:
         running.ends("status 0 0 0 0 - 0 0\n")
+    look("half a second at the least", time.monotonic() - begun >= 0.5, True)
 
 
 def says_that_a_port_is_taken(program):
@@ -170,6 +226,8 @@ def refuses_bad_options_first(program):
 
 RUNS = (
     answers_a_peer,
+    repairs_a_lost_sample,
+    hears_announcements_first,
     prints_what_comes_in_order,
     prints_at_once,
     ends_after_its_turns,

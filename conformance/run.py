@@ -7,8 +7,8 @@ A row is a folder GROUP/NAME: `args` has the words, one a line, as octets; `inpu
 where `#` begins a comment; `stdout`, `stderr` and `status` what the run has to give. The word `{file}` is the name of a
 file that holds what is in `file.hex`. A row with too much for that has `long.py` in place of `input.hex` and `stdout`: its
 `records` and `lines` give the datagrams and the lines one by one. Where a row has the file `memory`, a run may take so many
-MiB of address space; it has one worker, since each thread takes some of its own. Where the status is 2 and the row has no
-`stderr`, the text of standard error is the command line's own and free. A row of `replay` or `samples` is run with every
+MiB of address space; it has one worker, since each thread takes some of its own. Where it has the file `output`, standard
+output is the file named there, or is closed where none is. Where the status is 2 and the row has no `stderr`, the text of standard error is the command line's own and free. A row of `replay` or `samples` is run with every
 batch size and worker count below, which change nothing. A row that fails names itself and shows the first difference. The
 last line is 'N passed, M failed', counted by runs.
 """
@@ -47,9 +47,11 @@ def given(row):
 
 
 def limited(command, row):
-    """A command, held to the memory that a row allows."""
-    mib = content(row / "memory").decode()
-    return ["sh", "-c", f'ulimit -v {int(mib) * 1024} && exec "$0" "$@"', *command] if mib else command
+    """A command, held to the memory and the output that a row allows."""
+    mib, output = content(row / "memory").decode(), (row / "output").exists()
+    limits = f"ulimit -v {int(mib) * 1024} && " if mib else ""
+    to = (content(row / "output").decode().strip() or "&-") if output else ""
+    return ["sh", "-c", f'{limits}exec "$0" "$@"' + (f" >{to}" if output else ""), *command] if mib or output else command
 
 
 def runs_of(row):

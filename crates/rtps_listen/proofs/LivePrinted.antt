@@ -48,8 +48,8 @@ pub prints_live : {C : Type 0} (live : LiveOptions) (raw : Bool) (t : LiveTask C
 unfolding PrintsLive
 prints_live live raw t old new s same is p = inr (
   t.setup.run.config,
-  is.config,
+  is.run.config,
   subst (λ r. ListensBy (text_of r t.setup.run.config live.options.summary) live.count old new s) (sym same)
-      (subst (λ u. ListensBy (text_of raw t.setup.run.config u) live.count old new s) is.summary
+      (subst (λ u. ListensBy (text_of raw t.setup.run.config u) live.count old new s) is.run.summary
       (subst (λ n. ListensBy (text_of raw t.setup.run.config t.setup.run.summary) n old new s) is.datagrams p)),
 )

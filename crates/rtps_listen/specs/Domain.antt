@@ -10,7 +10,7 @@ use Rattle.rtps_text.specs.Replayed.{replay_text}
 use Rattle.rtps_text.specs.declared.live_fault.LiveFault.{LiveFault}
 use Rattle.rtps_text.specs.declared.live_fault.LiveFault.TheVariants as live_fault
 use Rattle.rtps_listen.specs.Configs.{IsCause, IsConfigOf}
-use Rattle.rtps_listen.specs.Printed.{IsBefore}
+use Rattle.rtps_listen.specs.Printed.{IsBefore, IsRunOf}
 use Rattle.rtps_listen.specs.declared.live_task.LiveTask.{LiveTask}
 use Rattle.rtps_listen.specs.declared.fault.ListenFault.{ListenFault}
 use Rattle.rtps_listen.specs.declared.fault.ListenFault.TheVariants.{Run, Socket}
@@ -24,11 +24,10 @@ IsLiveCause options Socket = Unit {0}
 IsLiveCause options (Run fault) = Unit {0}
 IsLiveCause options fault = IsCause options fault
 
--- the task is what options ask for: the domain, the readers, and how many datagrams there are at
--- the most
+-- the task is what options ask for: the run, the domain, and how many datagrams and waits there are
+-- at the most
 pub record IsLiveTaskOf {C : Type 0} (live : LiveOptions) (task : LiveTask C) : Type 0 where
-  pub config : IsConfigOf live.options task.setup.run.config
-  pub summary : task.setup.run.summary ≡ live.options.summary
+  pub run : IsRunOf live.options task.setup.run
   pub domain : task.domain ≡ live.domain
   pub datagrams : task.setup.datagrams ≡ live.count
   pub turns : task.setup.turns ≡ live.turns

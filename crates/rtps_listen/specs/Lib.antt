@@ -5,4 +5,5 @@ pub mod Identities
 pub mod Line
 pub mod Options
 pub mod Printed
+pub mod Program
 pub mod Status

@@ -48,16 +48,19 @@ TaskStops (task.SamplesRaw setup) fault before after old new = StopsLate (task_t
 abbrev pub history_of : ℕ → History
 history_of n = if n == 0 then KeepAll else KeepLast n
 
--- a run is what options ask for: its readers, and `--summary`
-abbrev pub IsRunOf : {C : Type 0} → Options → Setup C → Type 0
-IsRunOf options setup = IsConfigOf options setup.config × (setup.summary ≡ options.summary)
+-- a run is what options ask for: its readers, `--summary`, `--batch` and `--workers`
+pub record IsRunOf {C : Type 0} (options : Options) (setup : Setup C) : Type 0 where
+  pub config : IsConfigOf options setup.config
+  pub summary : setup.summary ≡ options.summary
+  pub batch : setup.pace.batch ≡ options.batch
+  pub workers : setup.pace.workers ≡ options.workers
 
 -- a run whose entries are kept is what options ask for
 abbrev pub AreKeptBy : {C : Type 0} → SamplesOptions → CacheSetup C → Type 0
 AreKeptBy samples setup = IsRunOf samples.options setup.run × (setup.keep ≡ history_of samples.keep)
 
--- the task is what is asked for: by `--own` whose events they are; by the options the readers,
--- `--raw`, `--summary` and `--keep`
+-- the task is what is asked for: by `--own` whose events they are; by the options the run, `--raw`
+-- and `--keep`
 unfoldable pub IsTaskOf : Asked → Task → Type 0
 IsTaskOf (asked.Dump file own) (task.Dump prefix) = WritesPrefix own.now prefix
 IsTaskOf (asked.Dump file own) t = ⊥

@@ -2,8 +2,8 @@
 use Rattle.std.specs.Prelude.{ℕ, List, ◌++◌, codes}
 use Rattle.rtps_records.specs.Faults as records
 use Rattle.rtps_records.specs.declared.fault.RunFault.TheVariants.{CannotRead, NotRecordFile, CutRecord, RecordTooLong, TooManyRecords, CannotWrite, NoMemory}
-use Rattle.rtps_listen.specs.declared.Failure.{Failure}
-use Rattle.rtps_listen.specs.declared.Failure.TheVariants.{Line, Fault}
+use Rattle.rtps_listen.specs.declared.program.Failure.{Failure}
+use Rattle.rtps_listen.specs.declared.program.Failure.TheVariants.{Line, Fault}
 use Rattle.rtps_listen.specs.declared.fault.ListenFault.{ListenFault}
 use Rattle.rtps_listen.specs.declared.fault.ListenFault.TheVariants.{NoText, BadPrefix, BadWriter, Socket, Run}
 

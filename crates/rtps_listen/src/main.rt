@@ -13,15 +13,14 @@ mod domain;
 mod fault;
 mod live_task;
 mod options;
+mod program;
 mod task;
 mod words;
 
-use answering::{RecordFiles, answer};
-use asked::Request;
-use clap::Error;
-use clap::error::ErrorKind;
-use domain::{Domains, answer_live};
+use answering::RecordFiles;
+use domain::Domains;
 use fault::ListenFault;
+use program::{Failure, run};
 use rtps_records::RunFault;
 use rtps_udp::Sockets;
 use std::alloc::Global;
@@ -29,14 +28,13 @@ use std::fs::File;
 use std::io::{self, Read, Stdin, Write};
 use std::process::ExitCode;
 use std::thread::Threads;
-use words::read_words;
 
 /// As many octets as no sample is likely to have.
 const LARGE: usize = 16 << 20;
 
 fn main(rt: HostRuntime) -> ExitCode {
     keep_freed_memory(rt.alloc());
-    match run(&rt, &rt) {
+    match run_line(&rt, &rt) {
         Ok(()) => ExitCode::SUCCESS,
         Err(failure) => report(&rt, failure),
     }
@@ -49,37 +47,14 @@ fn keep_freed_memory(alloc: Global) {
     let _ = Vec::<u8>::with_capacity(alloc, LARGE);
 }
 
-/// Why the program ends with another status than 0.
-#[derive(Drop)]
-enum Failure {
-    /// The command line's own text.
-    Line(Error),
-    Fault(ListenFault),
-}
-
-/// Does what the words ask for; `threads` starts the workers.
-fn run<T: Threads + Sync>(rt: &HostRuntime, threads: &T) -> Result<(), Failure> {
-    let alloc = rt.alloc();
+/// Does what the command line asks for; `threads` starts the workers.
+fn run_line<T: Threads + Sync>(rt: &HostRuntime, threads: &T) -> Result<(), Failure> {
     let words = match words_given(rt) {
         Ok(words) => words,
         Err(fault) => return Err(Failure::Fault(fault)),
     };
-    let asked = match read_words(alloc, words.as_slice()) {
-        Ok(asked) => asked,
-        Err(error) if error.kind() == ErrorKind::OutOfMemory => {
-            return Err(Failure::Fault(ListenFault::Run(RunFault::NoMemory)));
-        }
-        Err(error) => return Err(Failure::Line(error)),
-    };
     let host = Host { rt };
-    let outcome = match &asked {
-        Request::OfFile(asked) => answer(threads, alloc, &host, asked, &mut rt.stdout()),
-        Request::OfDomain(live) => answer_live(threads, alloc, &host, live, &mut rt.stdout()),
-    };
-    match outcome {
-        Ok(()) => Ok(()),
-        Err(fault) => Err(Failure::Fault(fault)),
-    }
+    run(threads, rt.alloc(), &host, words.as_slice(), &mut rt.stdout())
 }
 
 /// The words of the command line, the program's name first.

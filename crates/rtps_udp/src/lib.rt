@@ -1,6 +1,8 @@
 //! The sockets of a participant: where datagrams are received, and where answers go from.
 #![tactic(auto)]
 
+mod addresses;
+mod receiving;
 mod sockets;
 #[cfg(test)]
 mod tests;

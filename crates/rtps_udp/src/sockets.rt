@@ -1,32 +1,50 @@
 //! The sockets of a domain's first participant on this machine.
 
-ghost use Rattle.std.specs.Prelude.{◌≡◌, ◌+◌, ◌*◌, ◌≤◌, IfOk, IfSome, None, length};
+ghost use Rattle.std.specs.Prelude.{◌≡◌, ◌*◌, ◌≤◌, None};
+ghost use Rattle.std.specs.Duration.{as_nanos};
 
+use crate::addresses::{Purpose, address_of, is_answered};
+use crate::receiving::{outcome_of, receive_first};
 use mio::net::UdpSocket;
 use mio::{Events, Interest, Poll, Token};
 use rtps_records::{Exchange, Receive};
 use rtps_types::Locator;
 use std::alloc::Global;
-use std::io::{self, ErrorKind};
-use std::net::{Ipv4Addr, Net, SocketAddr, SocketAddrV4};
+use std::io;
+use std::net::{Net, SocketAddr, SocketAddrV4};
 use std::time::Duration;
 
-/// How many milliseconds datagrams are waited for at the most.
-const WAIT: u64 = 100;
-
-/// The ports of the first participant of a domain, for discovery and for user data: the default
-/// ports of the UDP mapping (DDSI-RTPS 9.6.1.1).
-fn ports_of(domain: u16) -> (u16, u16)
-    requires { domain ≤ 232 }
-    ensures { result ≡ (7410 + 250 * domain, 7411 + 250 * domain) }
+/// How long a turn of waiting is at the most: long enough to cost nothing while nobody sends.
+fn turn() -> Duration
+    ensures { as_nanos result ≡ 100 * 1000000 }
 {
-    let base = 7400 + 250 * domain;
-    (base + 10, base + 11)
+    Duration::from_millis(100)
 }
 
-/// A socket at a port of this machine that its peers on it alone can reach.
-fn bind_at(net: &impl Net, port: u16) -> io::Result<UdpSocket> {
-    UdpSocket::bind(net, SocketAddr::from((Ipv4Addr::LOCALHOST, port)))
+/// A socket whose calls never wait.
+#[derive(Drop)]
+struct Port(UdpSocket);
+
+impl Port {
+    /// The socket of a domain's first participant that has this purpose.
+    fn bind(net: &impl Net, domain: u16, purpose: Purpose) -> io::Result<Port>
+        requires { domain ≤ 232 }
+    {
+        let address = address_of(domain, purpose);
+        Ok(Port(UdpSocket::bind(net, SocketAddr::V4(address))?))
+    }
+}
+
+impl Receive for Port {
+    ghost traffic = { λ _. None };
+
+    #[tactic(auto, unfolding(crate::specs::Receiving::Comes))]
+    fn receive(&mut self, room: &mut [u8]) -> io::Result<Option<usize>> {
+        match self.0.recv_from(room) {
+            Ok((length, _)) => outcome_of(Ok(length)),
+            Err(e) => outcome_of(Err(e)),
+        }
+    }
 }
 
 /// The two sockets of a participant.
@@ -35,9 +53,9 @@ pub struct Sockets {
     poll: Poll,
     events: Events<Global>,
     /// Where discovery's datagrams come to, and where answers go from.
-    metatraffic: UdpSocket,
+    metatraffic: Port,
     /// Where user data come to.
-    user: UdpSocket,
+    user: Port,
 }
 
 impl Sockets {
@@ -46,14 +64,13 @@ impl Sockets {
     pub fn bind(net: &impl Net, alloc: Global, domain: u16) -> io::Result<Sockets>
         requires { domain ≤ 232 }
     {
-        let (metatraffic_port, user_port) = ports_of(domain);
         let poll = Poll::new(net)?;
-        let mut metatraffic = bind_at(net, metatraffic_port)?;
-        let mut user = bind_at(net, user_port)?;
+        let mut metatraffic = Port::bind(net, domain, Purpose::Metatraffic)?;
+        let mut user = Port::bind(net, domain, Purpose::UserData)?;
         poll.registry()
-            .register(&mut metatraffic, Token(0), Interest::READABLE)?;
+            .register(&mut metatraffic.0, Token(0), Interest::READABLE)?;
         poll.registry()
-            .register(&mut user, Token(1), Interest::READABLE)?;
+            .register(&mut user.0, Token(1), Interest::READABLE)?;
         Ok(Sockets {
             poll,
             events: Events::with_capacity(alloc, 2)?,
@@ -63,38 +80,25 @@ impl Sockets {
     }
 }
 
-/// The length of the next datagram that came to a socket, which is put into the room.
-fn received(socket: &UdpSocket, room: &mut [u8]) -> io::Result<Option<usize>>
-    ensures { IfOk result (λ next. IfSome next (λ n. n ≤ length room.new)) }
-{
-    match socket.recv_from(room) {
-        Ok((length, _)) => Ok(Some(length)),
-        Err(e) if e.kind() == ErrorKind::WouldBlock => Ok(None),
-        Err(e) => Err(e),
-    }
-}
-
 impl Receive for Sockets {
-    ghost heard = { λ _. None };
+    ghost traffic = { λ _. None };
 
+    /// Discovery's datagrams come first, so that a writer is known before its samples come.
     fn receive(&mut self, room: &mut [u8]) -> io::Result<Option<usize>> {
-        match received(&self.metatraffic, room)? {
-            Some(length) => Ok(Some(length)),
-            None => received(&self.user, room),
-        }
+        receive_first(&mut self.metatraffic, &mut self.user, room)
     }
 }
 
 impl Exchange for Sockets {
     fn wait(&mut self) -> io::Result<()> {
-        self.poll
-            .poll(&mut self.events, Some(Duration::from_millis(WAIT)))
+        self.poll.poll(&mut self.events, Some(turn()))
     }
 
     fn send(&mut self, to: Locator, octets: &[u8]) {
-        if to.address[0] == 127 {
+        if is_answered(to) {
             let _sent = self
                 .metatraffic
+                .0
                 .send_to(octets, SocketAddr::V4(SocketAddrV4::from(to)));
         }
     }

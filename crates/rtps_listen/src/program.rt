@@ -1,0 +1,72 @@
+//! The program between its words, its host and its standard output.
+
+ghost use Rattle.std.specs.Prelude.{map};
+ghost use Rattle.rtps_listen.specs.Program.{Does, Leaves};
+
+use crate::answering::{RecordFiles, answer};
+use crate::asked::Request;
+use crate::domain::{Domains, answer_live};
+use crate::fault::ListenFault;
+use crate::words::read_words;
+use clap::Error;
+use clap::error::ErrorKind;
+use rtps_records::RunFault;
+use std::alloc::Global;
+use std::convert::AsStr;
+use std::io::Write;
+use std::thread::Threads;
+
+/// Why the program ends with another status than 0.
+#[derive(Drop)]
+pub enum Failure {
+    /// The line asks for nothing that there is; the error has the command line's own text.
+    Line(Error),
+    Fault(ListenFault),
+}
+
+/// Does what the words ask for, the program's name first, with the files and the domains of a host;
+/// `rt` starts the workers.
+///
+/// A bad line is a [`Failure::Line`], and then nothing is opened, joined or written. Any other
+/// failure is the fault of what was asked for, or `NoMemory`.
+#[tactic(auto, unfolding(crate::specs::Program::Leaves))]
+pub fn run<H: RecordFiles + Domains, S: AsStr, W: Write + Send, T: Threads + Sync>(
+    rt: &T,
+    alloc: Global,
+    host: &H,
+    words: &[S],
+    writer: &mut W,
+) -> Result<(), Failure>
+    ensures { Leaves (map S.text words.entry.now) (H.holds host.now)
+        (W.contents writer.old) (W.contents writer.new) result }
+{
+    let request = match read_words(alloc, words) {
+        Ok(request) => request,
+        Err(error) if error.kind() == ErrorKind::OutOfMemory => {
+            return Err(Failure::Fault(ListenFault::Run(RunFault::NoMemory)));
+        }
+        Err(error) => return Err(Failure::Line(error)),
+    };
+    match perform(rt, alloc, host, &request, writer) {
+        Ok(()) => Ok(()),
+        Err(fault) => Err(Failure::Fault(fault)),
+    }
+}
+
+/// Does what was asked for.
+#[tactic(auto, unfolding(crate::specs::Program::Does))]
+fn perform<H: RecordFiles + Domains, W: Write + Send, T: Threads + Sync>(
+    rt: &T,
+    alloc: Global,
+    host: &H,
+    request: &Request<'_>,
+    writer: &mut W,
+) -> Result<(), ListenFault>
+    ensures { Does request.now (H.holds host.now)
+        (W.contents writer.old) (W.contents writer.new) result }
+{
+    match request {
+        Request::OfFile(asked) => answer(rt, alloc, host, asked, writer),
+        Request::OfDomain(live) => answer_live(rt, alloc, host, live, writer),
+    }
+}

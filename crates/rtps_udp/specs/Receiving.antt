@@ -1,0 +1,30 @@
+-- What comes of the calls of sockets.
+use Rattle.std.specs.Prelude.{◌≡◌, ℕ, List, [], ◌∷◌, take, Option, None, Some, ◌⊎◌, Result, Ok, Err}
+use Rattle.std.specs.IoError.{error_kind}
+use Rattle.std.specs.declared.io.Error.{Error}
+use Rattle.std.specs.declared.io.ErrorKind.TheVariants.{WouldBlock}
+use Rattle.rtps_records.specs.Traffic.{Traffic, Exhausted, Failed, Grows, Received}
+
+-- a datagram of this length came; none did, where the socket would wait; or the socket's own error
+unfoldable pub Comes : Result ℕ Error → Result (Option ℕ) Error → Type 0
+Comes (Ok length) outcome = outcome ≡ Ok (Some length)
+Comes (Err e) (Ok next) = (error_kind e ≡ WouldBlock) × (next ≡ None)
+Comes (Err e) (Err other) = ¬ (error_kind e ≡ WouldBlock) × (other ≡ e)
+
+-- the first source gave this, and the second was not asked; or nothing was left of the first, and
+-- the second gave it
+abbrev pub GivesFirst : Traffic → Option (List Traffic) → Option (List Traffic)
+    → Option (List Traffic) → Option (List Traffic) → Type 0
+GivesFirst call first first_then second second_then =
+    (Grows first first_then (call ∷ []) × (second_then ≡ second))
+    ⊎ (Grows first first_then (Exhausted ∷ []) × Grows second second_then (call ∷ []))
+
+-- what two sources give of which the first comes first; nothing is left where neither has any
+unfoldable pub ReceivesFirst : Result (Option ℕ) Error → List ℕ → Option (List Traffic)
+    → Option (List Traffic) → Option (List Traffic) → Option (List Traffic) → Type 0
+ReceivesFirst (Ok (Some n)) room first first_then second second_then =
+    GivesFirst (Received (take n room)) first first_then second second_then
+ReceivesFirst (Ok None) room first first_then second second_then =
+    Grows first first_then (Exhausted ∷ []) × Grows second second_then (Exhausted ∷ [])
+ReceivesFirst (Err e) room first first_then second second_then =
+    GivesFirst Failed first first_then second second_then
