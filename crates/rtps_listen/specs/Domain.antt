@@ -5,8 +5,8 @@ use Rattle.dds_topic.specs.RawMeaning.{raw_decoding}
 use Rattle.dds_topic.specs.ShapeMeaning.{shape_decoding, shape_text}
 use Rattle.rtps_ascii.specs.Hex.{hex_text}
 use Rattle.rtps_discovery.specs.declared.config.Config.{Config}
-use Rattle.rtps_text.specs.Listened.{HearingEnds}
-use Rattle.rtps_text.specs.Replayed.{replay_text}
+use Rattle.rtps_records.specs.Traffic.{Traffic}
+use Rattle.rtps_text.specs.Listened.{Limits, Listened, LiveRun, limits_of, live_run}
 use Rattle.rtps_text.specs.declared.live_fault.LiveFault.{LiveFault}
 use Rattle.rtps_text.specs.declared.live_fault.LiveFault.TheVariants as live_fault
 use Rattle.rtps_listen.specs.Configs.{IsCause, IsConfigOf}
@@ -32,28 +32,35 @@ pub record IsLiveTaskOf {C : Type 0} (live : LiveOptions) (task : LiveTask C) : 
   pub datagrams : task.setup.datagrams ≡ live.count
   pub turns : task.setup.turns ≡ live.turns
 
--- the text of a run over these datagrams, whose samples are shapes of the Shapes demo, or with
--- `--raw` octets
-abbrev pub text_of : Bool → Config → Bool → List (List ℕ) → List ℕ
-text_of true config summary = replay_text (λ v. hex_text v.body) raw_decoding config summary
-text_of false config summary = replay_text shape_text shape_decoding config summary
+-- the run that readers make, whose samples are shapes of the Shapes demo, or with `--raw` octets
+abbrev pub live_run_of : Bool → Config → Bool → LiveRun
+live_run_of true config summary = live_run (λ v. hex_text v.body) raw_decoding config summary
+live_run_of false config summary = live_run shape_text shape_decoding config summary
 
--- some datagrams were received, and of their text was written what a run leaves that ends so
-abbrev pub Ends : (List (List ℕ) → List ℕ) → ℕ → Option (List ℕ) → Option (List ℕ) → Result (Unit {0}) LiveFault → Type 0
-Ends text most old new result =
-    (before : Option (List (List ℕ))) × (after : Option (List (List ℕ))) × HearingEnds text most result before after old new
+-- some datagrams were received, waited for and answered, and of their text was written what a run
+-- leaves that ends so
+abbrev pub Ends : LiveRun → Limits → Option (List ℕ) → Option (List ℕ)
+    → Result (Unit {0}) LiveFault → Type 0
+Ends made limits old new result =
+    (before : Option (List Traffic)) × (after : Option (List Traffic))
+    × Listened made limits result before after old new
 
--- Of the datagrams that are received, so many at the most, all of this text is written, or what a
--- fault leaves. Where the domain can't be joined nothing is.
-unfoldable pub ListensBy : (List (List ℕ) → List ℕ) → ℕ → Option (List ℕ) → Option (List ℕ) → Result (Unit {0}) ListenFault → Type 0
-ListensBy text most old new (Ok u) = Ends text most old new (Ok u)
-ListensBy text most old new (Err Socket) = Keeps old new ⊎ Ends text most old new (Err live_fault.Socket)
-ListensBy text most old new (Err (Run fault)) = Ends text most old new (Err (live_fault.Run fault))
-ListensBy text most old new (Err fault) = ⊥
+-- What `listen` leaves in a domain. Where the domain can't be joined nothing is written.
+unfoldable pub ListensBy : LiveRun → Limits → Option (List ℕ) → Option (List ℕ)
+    → Result (Unit {0}) ListenFault → Type 0
+ListensBy made limits old new (Ok u) = Ends made limits old new (Ok u)
+ListensBy made limits old new (Err Socket) =
+    Keeps old new ⊎ Ends made limits old new (Err live_fault.Socket)
+ListensBy made limits old new (Err (Run fault)) =
+    Ends made limits old new (Err (live_fault.Run fault))
+ListensBy made limits old new (Err fault) = ⊥
 
 -- What is written where `listen` is asked for. What is refused before the domain is joined leaves
 -- nothing written; so does memory that runs out there.
-unfoldable pub PrintsLive : LiveOptions → Option (List ℕ) → Option (List ℕ) → Result (Unit {0}) ListenFault → Type 0
+unfoldable pub PrintsLive : LiveOptions → Option (List ℕ) → Option (List ℕ)
+    → Result (Unit {0}) ListenFault → Type 0
 PrintsLive live old new result =
     (IsErr result × IfErr result IsBefore × Keeps old new)
-    ⊎ ((config : Config) × IsConfigOf live.options config × ListensBy (text_of live.options.raw config live.options.summary) live.count old new result)
+    ⊎ ((config : Config) × IsConfigOf live.options config
+    × ListensBy (live_run_of live.options.raw config live.options.summary)
+    (limits_of live.count live.turns) old new result)

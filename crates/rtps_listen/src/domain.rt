@@ -1,7 +1,7 @@
 //! The readers of a domain, between the words and the sockets.
 
 ghost use Rattle.std.specs.Prelude.{◌≡◌, ◌≤◌, IfErr, IfOk};
-ghost use Rattle.rtps_text.specs.Replayed.{replay_text};
+ghost use Rattle.rtps_text.specs.Listened.{limits_of, live_run};
 ghost use Rattle.rtps_listen.specs.Configs.{Refuses};
 ghost use Rattle.rtps_listen.specs.Domain.{IsLiveCause, IsLiveTaskOf, ListensBy, PrintsLive};
 ghost use Rattle.rtps_listen.specs.Configs.{IsCause};
@@ -40,9 +40,10 @@ where
         domains: &D,
         writer: &mut W,
     ) -> Result<(), ListenFault>
-        ensures { ListensBy (replay_text
+        ensures { ListensBy (live_run
             (C.text_of self.setup.run.catalog) (C.decoding self.setup.run.catalog)
-            self.setup.run.config self.setup.run.summary) self.setup.datagrams
+            self.setup.run.config self.setup.run.summary)
+            (limits_of self.setup.datagrams self.setup.turns)
             (W.contents writer.old) (W.contents writer.new) result }
     {
         let Ok(mut network) = domains.join(alloc, self.domain) else {
