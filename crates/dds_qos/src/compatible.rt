@@ -56,7 +56,7 @@ fn liveliness_met(offered: Liveliness, requested: Liveliness) -> bool
 fn reliability_met(offered: Reliability, requested: Reliability) -> bool
     ensures { result ≡ at_least (reliability_kind offered) (reliability_kind requested) }
 {
-    offered >= requested
+    requested <= offered
 }
 
 /// Whether changes are ordered by their source where that is asked for.

@@ -1,6 +1,6 @@
 //! What can be part of a struct: numbers, truth values, texts, and sequences of such.
 
-ghost use Rattle.std.specs.Prelude.{◌≡◌, OnOk, map};
+ghost use Rattle.std.specs.Prelude.{◌≡◌, ◌+◌, ◌*◌, ◌++◌, ◌∷◌, ◌≤◌, [], IfOk, OnOk, map, vec_capacity, vec_len};
 ghost use Rattle.std.specs.Int.{w8, w16, w32, w64};
 ghost use Rattle.std.specs.String.{string_bytes};
 ghost use Rattle.dds_topic.specs.Answer.{Gives};
@@ -9,7 +9,7 @@ ghost use Rattle.dds_struct.specs.Value.{readable, value, behind, items, behind_
 
 use dds_topic::CatalogError;
 use rtps_cdr::CdrReader;
-use std::alloc::Global;
+use std::alloc::{AllocError, Global};
 
 /// A type whose values are read where a reader is (CORBA CDR 9.3).
 ///
@@ -153,7 +153,21 @@ impl<T: Member> Member for Vec<T> {
     }
 }
 
-/// Reads as many values.
+/// Adds a value. Where there is no room it is made for as many as there are, and for four at first:
+/// it goes by the values that came.
+fn add<T: Drop>(found: &mut Vec<T>, value: T) -> Result<(), AllocError>
+    ensures items { OnOk result (found.new.items ≡ found.old.items ++ value ∷ []) }
+    ensures bounded { vec_capacity found.old ≤ 2 * vec_len found.old + 4
+        → OnOk result (vec_capacity found.new ≤ 2 * vec_len found.new + 4) }
+{
+    if found.len() == found.capacity() {
+        found.reserve_exact(found.len().max(4))?;
+    }
+    found.push_reserved(value);
+    Ok(())
+}
+
+/// Reads as many values. A stranger states how many: no memory is taken for what hasn't come.
 #[tactic(auto, using(crate::proofs::Items::items_step, crate::proofs::Items::items_done, crate::proofs::Items::behind_step, crate::proofs::Items::behind_done, crate::proofs::Items::items_fault))]
 fn read_items<T: Member>(
     alloc: Global,
@@ -162,10 +176,11 @@ fn read_items<T: Member>(
 ) -> Result<Vec<T>, CatalogError>
     ensures value { Gives (λ v. map T.view v.items) result (readable (items (λ c. value T.cdr c) (λ c. behind T.cdr c) count reader.old)) }
     ensures moves { OnOk result (reader.new ≡ behind_items (λ c. behind T.cdr c) count reader.old) }
+    ensures bounded { IfOk result (λ found. vec_capacity found ≤ 2 * vec_len found + 4) }
 {
     let mut found = Vec::new(alloc);
     'items: for _i in 0..count {
-        if found.push(T::read(alloc, reader)?).is_err() {
+        if add(&mut found, T::read(alloc, reader)?).is_err() {
             return Err(CatalogError::NoMemory);
         }
     }

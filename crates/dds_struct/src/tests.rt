@@ -3,11 +3,12 @@
 mod log;
 mod point;
 
-use crate::Structs;
+use crate::{Member, Structs, Text};
 use dds_topic::{Catalog, CatalogError, TextCatalog, Unread};
 use log::Log;
 use point::Point;
-use rtps_types::KeyHash;
+use rtps_cdr::CdrReader;
+use rtps_types::{Endian, KeyHash};
 use std::alloc::Global;
 use std::test::Fail;
 
@@ -127,5 +128,27 @@ fn a_short_key_is_its_own_hash(rt: HostRuntime) -> Result<(), Fail> {
     );
     let cut = points.key_of_payload(alloc, 0, b"\0\0\0\x07\0");
     assert!(rt; cut == Err(MALFORMED));
+    Ok(())
+}
+
+/// Of 2^32 - 1 texts that are stated eight octets hold none: that is malformed, and no want of
+/// memory.
+#[test]
+fn a_stated_count_takes_no_memory(rt: HostRuntime) {
+    let octets = [0xff, 0xff, 0xff, 0xff, 2, 0, 0, 0];
+    let mut reader = CdrReader::new(&octets, Endian::Little);
+    let read = <Vec<Text> as Member>::read(rt.alloc(), &mut reader);
+    assert!(rt; read.err() == Some(MALFORMED));
+}
+
+#[test]
+fn a_text_of_70000_octets_is_read(rt: HostRuntime) -> Result<(), Fail> {
+    let alloc = rt.alloc();
+    let mut octets = Vec::from_slice(alloc, &70_001_u32.to_le_bytes())?;
+    octets.resize(70_004, b'a')?;
+    octets.push(0)?;
+    let mut reader = CdrReader::new(octets.as_slice(), Endian::Little);
+    let text = Text::read(alloc, &mut reader)?;
+    assert_eq!(rt; text.as_str().len(), 70_000);
     Ok(())
 }

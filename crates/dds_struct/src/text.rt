@@ -1,6 +1,6 @@
 //! A text that can be part of a key.
 
-ghost use Rattle.std.specs.Prelude.{◌≡◌, ◌<◌, ◌+◌, ◌^◌, length, true};
+ghost use Rattle.std.specs.Prelude.{◌≡◌, ◌<◌, ◌+◌, ◌-◌, ◌^◌, length, nat_le, true};
 ghost use Rattle.std.specs.Str.{is_utf8};
 ghost use Rattle.std.specs.String.{string_bytes};
 ghost use Rattle.rtps_cdr.specs.Cdr.{Text as TextType};
@@ -30,6 +30,13 @@ impl Text {
     }
 }
 
+/// Whether the length of a text, with its NUL, isn't counted in 32 bits.
+fn is_too_long(text: &str) -> bool
+    ensures { result ≡ nat_le (2 ^ 32 - 1) (length text.now) }
+{
+    text.len() >= TOO_LONG
+}
+
 impl Member for Text {
     ghost cdr = { TextType };
 
@@ -39,7 +46,7 @@ impl Member for Text {
     fn read(alloc: Global, reader: &mut CdrReader<'_>) -> Result<Text, CatalogError> {
         let text = reader.read_string()?;
         let _octets = text.as_bytes();
-        if text.len() >= TOO_LONG {
+        if is_too_long(text) {
             return Err(CatalogError::NoMemory);
         }
         Ok(Text {

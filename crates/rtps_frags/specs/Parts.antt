@@ -1,5 +1,5 @@
 -- The parts of a sample, as they are kept.
-use Rattle.std.specs.Prelude.{◌≡◌, ℕ, suc, ◌+◌, Bool, ◌&&◌, ◌||◌, nat_le, nat_lt, List, Option, Some, if◌then◌else◌}
+use Rattle.std.specs.Prelude.{◌≡◌, ℕ, suc, ◌+◌, ◌*◌, ◌≤◌, Bool, ◌&&◌, ◌||◌, nat_le, nat_lt, List, Option, Some, if◌then◌else◌, vec_capacity}
 use Rattle.rtps_frags.specs.declared.parts.Parts.{Parts}
 use Rattle.rtps_frags.specs.declared.sizes.Sizes.{Sizes}
 use Rattle.rtps_frags.specs.Buffer.{AreNew, AreStored, front_in, runs_in, stored_at}
@@ -13,6 +13,11 @@ IsKept z p = AreStored z (suc p.next) p.next p.there p.buffer.items p.early.entr
 -- or the first of them begins with it
 abbrev pub IsJoinable : {A : Type 0} → Sizes → Parts A → Type 0
 IsJoinable z p = AreStored z p.next p.next p.there p.buffer.items p.early.entries
+
+-- the buffer has room for at most sixteen times the octets in it that came, whatever size the sample
+-- is said to have
+abbrev pub IsBounded : {A : Type 0} → Parts A → Type 0
+IsBounded p = vec_capacity p.buffer ≤ 16 * p.there
 
 -- a fragment, where the parts have it
 abbrev pub part_at : {A : Type 0} → Sizes → Parts A → ℕ → Option (List ℕ)

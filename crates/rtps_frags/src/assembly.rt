@@ -17,7 +17,8 @@ use std::alloc::{Allocator, Global};
 use std::marker::Model;
 
 /// One sample, while its fragments come. What it takes of memory goes by the octets that came, and
-/// not by the sample's size.
+/// not by the sample's size: unless it is spent, its buffer has room for at most sixteen times the
+/// octets in it that came, and so has each chunk that is kept apart.
 #[derive(Drop)]
 pub struct Assembly<A: Allocator = Global> {
     sizes: Sizes,
@@ -27,14 +28,15 @@ pub struct Assembly<A: Allocator = Global> {
 }
 
 impl<A: Allocator> Model for Assembly<A> {
+    ghost use Rattle.std.specs.Prelude.{◌≡◌, false};
     ghost use Rattle.rtps_frags.specs.Kept.{AssemblyView};
-    ghost use Rattle.rtps_frags.specs.Parts.{IsKept, there_in};
+    ghost use Rattle.rtps_frags.specs.Parts.{IsBounded, IsKept, there_in};
 
     ghost Value = { AssemblyView };
 
     ghost view = { λ a. record { sizes = a.sizes; there = there_in a.sizes a.parts; spent = a.spent } };
 
-    ghost invariant = { λ a. IsKept a.sizes a.parts };
+    ghost invariant = { λ a. IsKept a.sizes a.parts × (a.spent ≡ false → IsBounded a.parts) };
 }
 
 impl<A: Allocator + Copy> Assembly<A> {

@@ -1,8 +1,9 @@
 //! Octets that are put at their places.
 
-ghost use Rattle.std.specs.Prelude.{◌≡◌, ◌+◌, ◌-◌, ◌++◌, ◌<◌, ◌^◌, ◌≤◌, IsOk, OnErr, OnOk, length, replicate, vec_capacity, vec_len};
+ghost use Rattle.std.specs.Prelude.{◌≡◌, ◌+◌, ◌-◌, ◌++◌, ◌<◌, ◌^◌, ◌≤◌, max, IfOk, IsOk, OnErr, OnOk, length, replicate, vec_capacity, vec_len};
 ghost use Rattle.rtps_frags.specs.Buffer.{IsPutAt};
 
+use core::mem::replace_with;
 use std::alloc::{AllocError, Allocator};
 
 /// Makes room for so many octets. Where there is none, it is made for as many as are named first,
@@ -16,11 +17,49 @@ pub(crate) fn make_room<A: Allocator>(
     ensures room { OnOk result (length ≤ vec_capacity buffer.new) }
     ensures enough { length ≤ vec_capacity buffer.old
         → IsOk result × (vec_capacity buffer.new ≡ vec_capacity buffer.old) }
+    ensures bound { vec_capacity buffer.new ≤ max (vec_capacity buffer.old) (max room length) }
+    ensures refused { OnErr result (vec_capacity buffer.new ≡ vec_capacity buffer.old) }
 {
     if buffer.capacity() < length {
         buffer.reserve_exact(room.max(length) - buffer.len())?;
     }
     Ok(())
+}
+
+/// A buffer and octets after its own, in room that is there. One by one they make no more, which
+/// the contract of a slice's copy doesn't say; and a buffer that is held by value, whose length
+/// nothing else sees, is filled as fast as by a copy.
+fn with_octets<A: Allocator>(mut buffer: Vec<u8, A>, octets: &[u8]) -> (Vec<u8, A>, ())
+    requires { vec_len buffer + length octets.now ≤ vec_capacity buffer }
+    ensures items { result.0.items ≡ buffer.items ++ octets.now }
+    ensures capacity { vec_capacity result.0 ≡ vec_capacity buffer }
+{
+    for octet in octets {
+        buffer.push_reserved(*octet);
+    }
+    (buffer, ())
+}
+
+/// A buffer and zeros after its octets, up to a place, in room that is there.
+fn with_zeros<A: Allocator>(mut buffer: Vec<u8, A>, end: usize) -> (Vec<u8, A>, ())
+    requires { (vec_len buffer ≤ end) × (end ≤ vec_capacity buffer) }
+    ensures items { result.0.items ≡ buffer.items ++ replicate (end - vec_len buffer) 0 }
+    ensures capacity { vec_capacity result.0 ≡ vec_capacity buffer }
+{
+    for _i in buffer.len()..end {
+        buffer.push_reserved(0);
+    }
+    (buffer, ())
+}
+
+/// A copy of octets, with room for just these.
+pub(crate) fn copy_of<A: Allocator>(alloc: A, octets: &[u8]) -> Result<Vec<u8, A>, AllocError>
+    ensures items { IfOk result (λ copy. copy.items ≡ octets.now) }
+    ensures exact { IfOk result (λ copy. vec_capacity copy ≡ length octets.now) }
+{
+    let room = Vec::with_capacity(alloc, octets.len())?;
+    let (copy, ()) = with_octets(room, octets);
+    Ok(copy)
 }
 
 /// Puts octets at the end.
@@ -32,9 +71,13 @@ pub(crate) fn append<A: Allocator>(
     ensures enough { vec_len buffer.old + length octets.now ≤ vec_capacity buffer.old → IsOk result }
     ensures ok { OnOk result (buffer.new.items ≡ buffer.old.items ++ octets.now) }
     ensures err { OnErr result (buffer.new.items ≡ buffer.old.items) }
+    ensures bound { vec_capacity buffer.new
+        ≤ max (vec_capacity buffer.old) (max room (vec_len buffer.old + length octets.now)) }
+    ensures refused { OnErr result (vec_capacity buffer.new ≡ vec_capacity buffer.old) }
 {
     make_room(buffer, room, buffer.len() + octets.len())?;
-    buffer.extend_from_slice(octets)
+    replace_with(buffer, octets, with_octets);
+    Ok(())
 }
 
 /// Puts zeros after the end, up to a place.
@@ -43,12 +86,15 @@ fn fill_up<A: Allocator>(buffer: &mut Vec<u8, A>, room: usize, end: usize) -> Re
     ensures ok { OnOk result
         (buffer.new.items ≡ buffer.old.items ++ replicate (end - vec_len buffer.old) 0) }
     ensures err { OnErr result (buffer.new.items ≡ buffer.old.items) }
+    ensures bound { vec_capacity buffer.new ≤ max (vec_capacity buffer.old) (max room end) }
+    ensures refused { OnErr result (vec_capacity buffer.new ≡ vec_capacity buffer.old) }
 {
     if end <= buffer.len() {
         return Ok(());
     }
     make_room(buffer, room, end)?;
-    buffer.resize(end, 0)
+    replace_with(buffer, end, with_zeros);
+    Ok(())
 }
 
 /// Puts octets at a place. It may be the end, or past it.
@@ -62,6 +108,9 @@ pub(crate) fn put_at<A: Allocator>(
     ensures enough { at + length octets.now ≤ vec_capacity buffer.old → IsOk result }
     ensures ok { OnOk result (IsPutAt at octets.now buffer.old.items buffer.new.items) }
     ensures err { OnErr result (buffer.new.items ≡ buffer.old.items) }
+    ensures bound { vec_capacity buffer.new
+        ≤ max (vec_capacity buffer.old) (max room (at + length octets.now)) }
+    ensures refused { OnErr result (vec_capacity buffer.new ≡ vec_capacity buffer.old) }
 {
     if at == buffer.len() {
         return append(buffer, room, octets);

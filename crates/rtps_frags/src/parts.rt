@@ -9,12 +9,12 @@ ghost use Rattle.rtps_frags.specs.declared.sizes.Sizes.{Sizes};
 ghost use Rattle.rtps_frags.specs.Buffer.{AreStored};
 ghost use Rattle.rtps_frags.specs.Fragments.{before, fragment_in, last_of, length_of};
 ghost use Rattle.rtps_frags.specs.Missing.{missing_by};
-ghost use Rattle.rtps_frags.specs.Parts.{AreAway, ArePut, IsJoinable, IsKept, holds, part_at};
+ghost use Rattle.rtps_frags.specs.Parts.{AreAway, ArePut, IsBounded, IsJoinable, IsKept, holds, part_at};
 ghost use Rattle.rtps_frags.specs.Runs.{AreApart, Runs, begins_behind, begun_by, covers, starts_at};
 ghost use Rattle.rtps_frags.specs.Spans.{IsAhead};
 ghost use Rattle.rtps_frags.specs.Longer.{longer_by};
 
-use crate::buffer::{append, make_room, put_at};
+use crate::buffer::{append, copy_of, make_room, put_at};
 use crate::sizes::Sizes;
 use rtps_types::{FragSet, set_bit};
 use std::alloc::{AllocError, Allocator};
@@ -32,11 +32,14 @@ pub(crate) struct Chunk<A: Allocator> {
 }
 
 impl<A: Allocator> Model for Chunk<A> {
+    ghost use Rattle.std.specs.Prelude.{◌*◌, ◌≤◌, length, vec_capacity};
     ghost use Rattle.rtps_frags.specs.Runs.{Run};
 
     ghost Value = { Run };
 
     ghost view = { λ c. record { count = c.count; octets = c.octets.items } };
+
+    ghost invariant = { λ c. vec_capacity c.octets ≤ 16 * length c.octets.items };
 }
 
 /// Fragments of a sample as they come: the first one, how many, and octets that begin with them.
@@ -127,7 +130,9 @@ fn next_span<A: Allocator>(
 
 /// The room that is made for octets of a sample where there is none: for sixteen times as many, or
 /// for all.
-fn room(sizes: Sizes, length: usize) -> usize {
+fn room(sizes: Sizes, length: usize) -> usize
+    ensures { result ≤ 16 * length }
+{
     length.saturating_mul(16).min(sizes.sample as usize)
 }
 
@@ -152,6 +157,7 @@ impl<A: Allocator + Copy> Parts<A> {
     /// Nothing came yet.
     pub fn new(alloc: A) -> Parts<A>
         ensures kept { (z : Sizes) → IsKept z result }
+        ensures bounded { IsBounded result }
         ensures none { (z : Sizes) (k : ℕ) → part_at z result k ≡ None }
     {
         Parts {
@@ -192,7 +198,9 @@ impl<A: Allocator + Copy> Parts<A> {
         requires cut { 0 < sizes.fragment }
         requires small { sizes.sample ≤ 67108864 }
         requires kept { IsJoinable sizes self.old }
+        requires bounded { IsBounded self.old }
         ensures kept { IsKept sizes self.new }
+        ensures bounded { OnOk result (IsBounded self.new) }
         ensures same { OnOk result ((k : ℕ) →
             part_at sizes self.new k ≡ part_at sizes self.old k) }
     {
@@ -218,7 +226,9 @@ impl<A: Allocator + Copy> Parts<A> {
         requires fits { length octets.now ≡ length_of sizes self.old.next count }
         requires free { AreStored sizes (self.old.next + count) self.old.next self.old.there
             self.old.buffer.items self.old.early.entries }
+        requires bounded { IsBounded self.old }
         ensures ok { OnOk result (IsJoinable sizes self.new) }
+        ensures bounded { OnOk result (IsBounded self.new) }
         ensures err { OnErr result (IsKept sizes self.new) }
         ensures put { OnOk result
             (ArePut sizes self.old self.new self.old.next count octets.now) }
@@ -251,8 +261,10 @@ impl<A: Allocator + Copy> Parts<A> {
         requires cut { 0 < sizes.fragment }
         requires small { sizes.sample ≤ 67108864 }
         requires kept { IsKept sizes self.old }
+        requires bounded { IsBounded self.old }
         requires free { AreAway sizes self.old piece.start piece.count piece.octets.now }
         ensures kept { IsKept sizes self.new }
+        ensures bounded { OnOk result (IsBounded self.new) }
         ensures put { OnOk result (ArePut sizes self.old self.new
             piece.entry.start piece.entry.count piece.entry.octets.now) }
     {
@@ -268,7 +280,7 @@ impl<A: Allocator + Copy> Parts<A> {
         }
         let chunk = Chunk {
             count: piece.count,
-            octets: Vec::from_slice(alloc, piece.octets)?,
+            octets: copy_of(alloc, piece.octets)?,
         };
         self.latest = piece.start;
         self.early.insert(piece.start, chunk)?;
@@ -295,11 +307,13 @@ impl<A: Allocator + Copy> Parts<A> {
         requires cut { 0 < sizes.fragment }
         requires small { sizes.sample ≤ 67108864 }
         requires kept { IsKept sizes self.old }
+        requires bounded { IsBounded self.old }
         requires free { AreAway sizes self.old piece.start piece.count piece.octets.now }
         requires later { self.old.next < piece.start }
         requires few { before sizes piece.start + length piece.octets.now
             ≤ 2 * (self.old.there + length piece.octets.now) }
         ensures kept { IsKept sizes self.new }
+        ensures bounded { OnOk result (IsBounded self.new) }
         ensures put { OnOk result (ArePut sizes self.old self.new
             piece.entry.start piece.entry.count piece.entry.octets.now) }
         ensures latest { OnOk result (self.new.latest ≡ piece.entry.start) }
@@ -325,8 +339,10 @@ impl<A: Allocator + Copy> Parts<A> {
         requires cut { 0 < sizes.fragment }
         requires small { sizes.sample ≤ 67108864 }
         requires kept { IsKept sizes self.old }
+        requires bounded { IsBounded self.old }
         requires free { AreAway sizes self.old piece.start piece.count piece.octets.now }
         ensures kept { IsKept sizes self.new }
+        ensures bounded { OnOk result (IsBounded self.new) }
         ensures put { IfOk result (λ ends. ends ≡ true → ArePut sizes self.old self.new
             piece.entry.start piece.entry.count piece.entry.octets.now) }
         ensures apart { IfOk result (λ ends. ends ≡ false
@@ -363,10 +379,12 @@ impl<A: Allocator + Copy> Parts<A> {
         requires cut { 0 < sizes.fragment }
         requires small { sizes.sample ≤ 67108864 }
         requires kept { IsKept sizes self.old }
+        requires bounded { IsBounded self.old }
         requires first { 1 ≤ piece.start }
         requires within { piece.start + piece.count ≤ last_of sizes + 1 }
         requires enough { length_of sizes piece.start piece.count ≤ length piece.octets.now }
         ensures kept { IsKept sizes self.new }
+        ensures bounded { OnOk result (IsBounded self.new) }
         ensures added { OnOk result ((k : ℕ) → part_at sizes self.new k
             ≡ option_or (part_at sizes self.old k)
             (if nat_le piece.entry.start k && nat_lt k (piece.entry.start + piece.entry.count)

@@ -116,6 +116,20 @@ fn a_refused_growth_is_out_of_memory(rt: HostRuntime) -> Result<(), Fail> {
     Ok(())
 }
 
+/// Two fragments of a sample that is said to have 64 MiB are taken in with 64 KiB of memory: it goes
+/// by what came, wherever in the sample that lies.
+#[test]
+fn a_stated_size_takes_no_memory(rt: HostRuntime) -> Result<(), Fail> {
+    let heap = LocalHeap::new(rt.alloc(), 65_536)?;
+    let mut sample = Assembly::new(&heap, 67_108_864, 1024);
+    let piece = [7; 1024];
+    sample.add(&heap, 1, 1, &piece)?;
+    sample.add(&heap, 60_000, 1, &piece)?;
+    assert!(rt; sample.missing_up_to(1).is_none());
+    assert!(rt; sample.missing_up_to(2).is_some());
+    Ok(())
+}
+
 /// What is asked of a sample that came whole.
 fn is_just(sample: Assembly<Global>, octets: &[u8]) -> bool {
     sample.is_whole() && sample.whole().as_slice() == octets

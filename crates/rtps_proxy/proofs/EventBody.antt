@@ -73,11 +73,11 @@ module _ (past : List MatchEvent) (time : Option Timestamp) (f : FragmentView) (
         told = told_alike (frags_at time f ∷ past) a.sizes (sample_in a) (payload_of (grown a f).there) told;
         parts = puts_stay a.sizes f.start f.payload a.there f.start f.count none.first within (fits_all a.sizes f.start f.count f.payload none) parts;
         brought = puts_hold (λ k octets. BringsFragment (frags_at time f ∷ past) a.number a.sizes k octets) a.sizes f.start f.payload a.there f.start f.count
-            (λ j le l. inl (sym same, sym cut, le, l, refl)) brought;
+            (λ j le l. inl (sym same, sym cut, le, l, refl, good)) brought;
       }
 
   opened_sound : IsSound (frags_at time f ∷ past) (grown (opened time f) f)
-  opened_sound = grown_sound (opened time f) refl refl (inl (refl, refl, refl, refl)) tt tt
+  opened_sound = grown_sound (opened time f) refl refl (inl (refl, refl, refl, refl, good)) tt tt
 
   more_sound : (a : Begun) → a.number ≡ f.number → a.sizes ≡ sizes_of f → IsSound past a → IsSound (frags_at time f ∷ past) (grown a f)
   more_sound a same cut s = let t = sound_then past (frags_at time f) a s in grown_sound a same cut t.told t.parts t.brought
@@ -123,6 +123,7 @@ found_sound past n (a ∷ bs) all = by_test (eqb a.number n) (found_sound past n
         let start : before a.sizes 1 ≡ 0 = omega arith in (
           record {
             sizes = a.sizes;
+            cut = not_true (is_empty a.sizes) (and_first (not (is_empty a.sizes)) (has_all a.there 1 (last_of a.sizes)) h);
             whole = size ∙ rw start (omega arith);
             told = s.told;
             each = part_from a.sizes s.cut (λ k octets. BringsFragment past a.number a.sizes k octets) 1 (last_of a.sizes) a.there (omega arith) (omega arith) from s.brought;
@@ -135,7 +136,7 @@ found_sound past n (a ∷ bs) all = by_test (eqb a.number n) (found_sound past n
     by_test false rest = rest
 
 together_then : (past : List MatchEvent) (e : MatchEvent) (s : ChangeView) → IsPutTogether past s → IsPutTogether (e ∷ past) s
-together_then past e s t = record { sizes = t.sizes; whole = t.whole; told = inr t.told; each = λ k one le. inr (t.each k one le) }
+together_then past e s t = record { sizes = t.sizes; cut = t.cut; whole = t.whole; told = inr t.told; each = λ k one le. inr (t.each k one le) }
 
 brings_then : (past : List MatchEvent) (e : MatchEvent) (s : ChangeView) → Brings past s → Brings (e ∷ past) s
 brings_then past e s (inl h) = inl (inr h)

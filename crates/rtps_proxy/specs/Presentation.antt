@@ -1,12 +1,13 @@
 -- Presentation in one match (DDSI-RTPS 8.4.12.3, 8.3.7): what a reliable reader presents, against
 -- what the writer's submessages say.
-use Rattle.std.specs.Prelude.{◌≡◌, ℕ, ◌+◌, ◌<◌, ◌≤◌, ◌⊎◌, ◌==◌, List, [], ◌∷◌, ◌++◌, length, Option, IsTrue}
+use Rattle.std.specs.Prelude.{◌≡◌, ℕ, ◌+◌, ◌<◌, ◌≤◌, ◌⊎◌, ◌==◌, Option, IsTrue, false}
+use Rattle.std.specs.Prelude.{List, [], ◌∷◌, ◌++◌, length}
 use Rattle.std.specs.List.{list_any, AllByRecursion}
 use Rattle.rtps_types.specs.declared.time.Timestamp.{Timestamp}
 use Rattle.rtps_receiver.specs.EventBody.{EventBody, Whole, Fragment, Heartbeat, Gap, HeartbeatFrag}
 use Rattle.rtps_frags.specs.declared.sizes.Sizes.{Sizes}
-use Rattle.rtps_frags.specs.Fragments.{fragment_in, last_of}
-use Rattle.rtps_proxy.specs.Fragments.{sizes_of}
+use Rattle.rtps_frags.specs.Fragments.{fragment_in, is_empty, last_of}
+use Rattle.rtps_proxy.specs.Fragments.{is_faulty, sizes_of}
 use Rattle.rtps_proxy.specs.History.{MatchEvent, ChangeView, is_new, names, change_of}
 use Rattle.rtps_proxy.specs.Received.{ready}
 
@@ -33,10 +34,16 @@ abbrev pub CameWhole : List MatchEvent → ChangeView → Type 0
 CameWhole [] s = ⊥
 CameWhole (e ∷ past) s = IsSample e.time e.body s ⊎ CameWhole past s
 
--- a DATA_FRAG of a number, cut so, brought these octets as fragment k
+-- a DATA_FRAG of a number, cut so and without a fault, brought these octets as fragment k
 abbrev pub IsFragment : ℕ → Sizes → ℕ → List ℕ → EventBody → Type 0
 IsFragment n z k octets (Whole c) = ⊥
-IsFragment n z k octets (Fragment f) = (f.number ≡ n) × (sizes_of f ≡ z) × (f.start ≤ k) × (k < f.start + f.count) × (fragment_in z f.start f.payload k ≡ octets)
+IsFragment n z k octets (Fragment f) =
+    (f.number ≡ n)
+    × (sizes_of f ≡ z)
+    × (f.start ≤ k)
+    × (k < f.start + f.count)
+    × (fragment_in z f.start f.payload k ≡ octets)
+    × (is_faulty f ≡ false)
 IsFragment n z k octets (Heartbeat h) = ⊥
 IsFragment n z k octets (Gap g) = ⊥
 IsFragment n z k octets (HeartbeatFrag h) = ⊥
@@ -44,12 +51,18 @@ IsFragment n z k octets (HeartbeatFrag h) = ⊥
 -- a DATA_FRAG of the match brought it
 abbrev pub BringsFragment : List MatchEvent → ℕ → Sizes → ℕ → List ℕ → Type 0
 BringsFragment [] n z k octets = ⊥
-BringsFragment (e ∷ past) n z k octets = IsFragment n z k octets e.body ⊎ BringsFragment past n z k octets
+BringsFragment (e ∷ past) n z k octets =
+    IsFragment n z k octets e.body ⊎ BringsFragment past n z k octets
 
--- a DATA_FRAG, cut so, says of the sample all but its payload
+-- a DATA_FRAG, cut so and without a fault, says of the sample all but its payload
 abbrev pub IsToldBy : Sizes → ChangeView → Option Timestamp → EventBody → Type 0
 IsToldBy z s time (Whole c) = ⊥
-IsToldBy z s time (Fragment f) = (f.number ≡ s.number) × (sizes_of f ≡ z) × (time ≡ s.time) × (f.info ≡ s.info)
+IsToldBy z s time (Fragment f) =
+    (f.number ≡ s.number)
+    × (sizes_of f ≡ z)
+    × (time ≡ s.time)
+    × (f.info ≡ s.info)
+    × (is_faulty f ≡ false)
 IsToldBy z s time (Heartbeat h) = ⊥
 IsToldBy z s time (Gap g) = ⊥
 IsToldBy z s time (HeartbeatFrag h) = ⊥
@@ -59,13 +72,16 @@ abbrev pub IsTold : List MatchEvent → Sizes → ChangeView → Type 0
 IsTold [] z s = ⊥
 IsTold (e ∷ past) z s = IsToldBy z s e.time e.body ⊎ IsTold past z s
 
--- DATA_FRAGs of the match, all cut alike, brought the sample: one says all but its payload, and
--- each fragment of the payload was brought by one, octet for octet
+-- DATA_FRAGs of the match, all cut alike, brought the sample, which has octets, as its fragments
+-- have: one says all but its payload, and each fragment of the payload was brought by one, octet
+-- for octet
 pub record IsPutTogether (past : List MatchEvent) (s : ChangeView) : Type 0 where
   pub sizes : Sizes
+  pub cut : is_empty sizes ≡ false
   pub whole : length s.payload ≡ sizes.sample
   pub told : IsTold past sizes s
-  pub each : (k : ℕ) → 1 ≤ k → k ≤ last_of sizes → BringsFragment past s.number sizes k (fragment_in sizes 1 s.payload k)
+  pub each : (k : ℕ) → 1 ≤ k → k ≤ last_of sizes
+      → BringsFragment past s.number sizes k (fragment_in sizes 1 s.payload k)
 
 -- a DATA of the match brought the sample, or its DATA_FRAGs did
 abbrev pub Brings : List MatchEvent → ChangeView → Type 0

@@ -26,8 +26,9 @@ pub fn an_answer_names_its_members()
 {}
 
 /// In the match of a reliable reader the sequence numbers of the samples rise strictly; a DATA of
-/// the match, or DATA_FRAGs with all its fragments, brought each sample by then; and each number
-/// that a sample passes over was given up by then, by a GAP or an accepted HEARTBEAT of the match.
+/// the match, or DATA_FRAGs without a fault that have all its fragments, brought each sample by
+/// then; and each number that a sample passes over was given up by then, by a GAP or an accepted
+/// HEARTBEAT of the match.
 pub fn presents_in_order()
     ensures rising { (past : List MatchEvent) →
         RisesStrictly (map (λ s. s.number) (presented past)) }

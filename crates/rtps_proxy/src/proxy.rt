@@ -102,8 +102,9 @@ impl<A: Allocator + Copy> WriterProxy<A> {
         effects: &mut Effects<'a, A>,
     ) -> Result<(), ProxyError>
         requires { GivesNothing effects.old }
-        ensures { TakesIn self.old self.new (match_event time brought.now)
+        ensures takes { TakesIn self.old self.new (match_event time brought.now)
             (given_in effects.new result) }
+        ensures lent { self.old.spent ≡ true → effects.new ≡ effects.old }
     {
         if self.spent {
             return Err(AllocError);

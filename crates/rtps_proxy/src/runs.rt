@@ -2,20 +2,22 @@
 //! ones where they are, and a run that comes or goes moves those on the side where there are fewer:
 //! most numbers come at one end or the other.
 
-ghost use Rattle.std.specs.Prelude.{◌≡◌, ◌+◌, ◌-◌, ◌<◌, ◌≤◌, ◌∷◌, ◌++◌, [], if◌then◌else◌, is_ok, IfOk, OnErr, length, take, drop, vec_len};
+ghost use Rattle.std.specs.Prelude.{◌≡◌, ◌+◌, ◌-◌, ◌*◌, ◌<◌, ◌≤◌, ◌∷◌, ◌++◌, [], if◌then◌else◌, is_ok, IfOk, OnErr, length, take, drop, vec_len};
 
 use crate::effects::ProxyError;
 use rtps_types::Number;
 use std::alloc::Allocator;
 use std::marker::Model;
 
-/// Runs in order, each by its first and its last number.
+/// Runs in order, each by its first and its last number. Of places it keeps at most five times as
+/// many as there are runs, and three.
 #[derive(Drop)]
 pub(crate) struct Runs<A: Allocator> {
     /// Room, and after it the runs.
     list: Vec<(Number, Number), A>,
     room: usize,
     ghost within: { room ≤ vec_len list },
+    ghost few: { room ≤ 4 * (vec_len list - room) + 3 },
 }
 
 impl<A: Allocator> Model for Runs<A> {
@@ -74,10 +76,11 @@ impl<A: Allocator> Runs<A> {
         if self.list.len() - last <= from {
             self.list[first] = run;
             cut(&mut self.list, first + 1, last + 1);
+            self.room = less_room(&mut self.list, self.room);
             return;
         }
         lift(&mut self.list, self.room, first, last, run);
-        self.room += last - first;
+        self.room = less_room(&mut self.list, self.room + (last - first));
     }
 
     /// Gives up the first runs.
@@ -85,15 +88,23 @@ impl<A: Allocator> Runs<A> {
         requires { count ≤ length self.old }
         ensures { self.new ≡ drop count self.old }
     {
-        let room = self.room + count;
-        // Up to four fifths of the list may be room.
-        if room / 4 <= self.list.len() - room {
-            self.room = room;
-            return;
-        }
-        self.room = 0;
-        cut(&mut self.list, 0, room);
+        self.room = less_room(&mut self.list, self.room + count);
     }
+}
+
+/// The room before runs, which begin at a place. Up to four fifths of a list may be room: where more
+/// of it would be, the runs are moved to its front.
+fn less_room<A: Allocator>(list: &mut Vec<(Number, Number), A>, room: usize) -> usize
+    requires { room ≤ vec_len list.old }
+    ensures within { result ≤ vec_len list.new }
+    ensures few { result ≤ 4 * (vec_len list.new - result) + 3 }
+    ensures same { drop result list.new.items ≡ drop room list.old.items }
+{
+    if room / 4 <= list.len() - room {
+        return room;
+    }
+    cut(list, 0, room);
+    0
 }
 
 /// Takes the runs from `from` on and before `to` out.
@@ -113,9 +124,11 @@ fn place_before<A: Allocator>(
     list: &mut Vec<(Number, Number), A>,
     room: usize,
 ) -> Result<usize, ProxyError>
-    requires { room < vec_len list.old }
+    requires some { room < vec_len list.old }
+    requires few { room ≤ 4 * (vec_len list.old - room) + 3 }
     ensures len { vec_len list.old ≤ vec_len list.new }
     ensures within { IfOk result (λ place. place < vec_len list.new) }
+    ensures few { IfOk result (λ place. place ≤ 4 * (vec_len list.new - place) + 3) }
     ensures behind { IfOk result (λ place.
         drop (place + 1) list.new.items ≡ drop room list.old.items) }
     ensures err { OnErr result (list.new.items ≡ list.old.items) }

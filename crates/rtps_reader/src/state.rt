@@ -132,6 +132,7 @@ impl<A: Allocator + Copy> ReaderState<A> {
         ensures err { OnErr result (self.new.spent ≡ true) }
         ensures spent { self.old.spent ≡ true → IsErr result }
         ensures still { self.old.spent ≡ true → (self.new ≡ self.old) × (output.new ≡ output.old) }
+        ensures lent { self.old.spent ≡ true → effects.new ≡ effects.old }
         ensures nothing { OnOk result (GivesNothing effects.new) }
     {
         if self.spent {

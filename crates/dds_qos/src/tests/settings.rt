@@ -22,6 +22,22 @@ fn is_taken<A: Allocator + Copy>(alloc: A, id: u16, value: &[u8]) -> Result<bool
     Ok(Settings::read(&list).is_ok())
 }
 
+/// The name of a partition may be long: that is no want of memory.
+#[test]
+fn a_partition_of_1000_octets_is_copied(rt: HostRuntime) -> Result<(), Fail> {
+    let alloc = rt.alloc();
+    let mut octets = Vec::new(alloc);
+    // One name in 1,012 octets, of 1,001 with its NUL.
+    octets.extend_from_slice(&[0x29, 0, 0xf4, 3, 1, 0, 0, 0, 0xe9, 3, 0, 0])?;
+    octets.resize(12 + 1000, b'a')?;
+    octets.extend_from_slice(&[0, 0, 0, 0, 1, 0, 0, 0])?;
+    let list = ParamList::new(octets.as_slice(), Endian::Little)?;
+    let offered = offered_from(alloc, &list)?;
+    assert_eq!(rt; offered.partitions.names().len(), 1);
+    assert_eq!(rt; offered.partitions.names()[0].as_str().len(), 1000);
+    Ok(())
+}
+
 /// Each parameter that is known, by its id, with a value that is as short as it may be.
 const LEAST: [(u16, &[u8]); 20] = [
     (0x02, &[100, 0, 0, 0, 0, 0, 0, 0]),

@@ -16,7 +16,7 @@ returns g c =
     let a = c.self.inside in
     let p = a.parts in
     let some : is_empty a.sizes ≡ false = sym c.is_empty.ensures ∙ c.if-is_empty.false in
-    ap (λ n. n == a.sizes.sample) (c.upto.ensures ∙ sym c.self.invariant.kept.full)
-    ∙ full_is a.sizes p.next (front_in a.sizes p.next p.buffer.items) (runs_in a.sizes p.buffer.items p.early.entries) c.self.invariant.kept (some_octets a.sizes (ap not some))
-    ∙ come_is a.sizes (there_in a.sizes p) a.spent (ltb (last_of a.sizes) p.next) c.if-self.false some (whole_is a.sizes p.next (front_in a.sizes p.next p.buffer.items) (runs_in a.sizes p.buffer.items p.early.entries) c.self.invariant.kept)
+    ap (λ n. n == a.sizes.sample) (c.upto.ensures ∙ sym c.self.invariant.0.kept.full)
+    ∙ full_is a.sizes p.next (front_in a.sizes p.next p.buffer.items) (runs_in a.sizes p.buffer.items p.early.entries) c.self.invariant.0.kept (some_octets a.sizes (ap not some))
+    ∙ come_is a.sizes (there_in a.sizes p) a.spent (ltb (last_of a.sizes) p.next) c.if-self.false some (whole_is a.sizes p.next (front_in a.sizes p.next p.buffer.items) (runs_in a.sizes p.buffer.items p.early.entries) c.self.invariant.0.kept)
     ∙ ap has_come c.self.view_is

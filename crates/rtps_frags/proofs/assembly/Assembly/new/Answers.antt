@@ -5,7 +5,7 @@ use Rattle.rtps_frags.proofs.Listed.{none_listed}
 use Rattle.rtps_frags.proofs.assembly.Assembly.new.Goals as goal
 
 pub invariant_of-result : goal.invariant_of-result
-invariant_of-result g c = c.new.ensures.kept (record { sample = c.args.sample_size; fragment = c.args.fragment_size })
+invariant_of-result g c = (c.new.ensures.kept (record { sample = c.args.sample_size; fragment = c.args.fragment_size }), λ _. c.new.ensures.bounded)
 
 pub returns-clause-there : goal.returns-clause-there
 returns-clause-there g c =

@@ -24,10 +24,10 @@ returns-clause-payload g c =
     let a = c.self.inside in
     let p = a.parts in
     let come : has_come (record { sizes = a.sizes; there = there_in a.sizes p; spent = a.spent }) ≡ true = ap has_come c.self.view_is ∙ c.requires in
-    let whole : has_all (there_in a.sizes p) 1 (last_of a.sizes) ≡ ltb (last_of a.sizes) p.next = whole_is a.sizes p.next (front_in a.sizes p.next p.buffer.items) (runs_in a.sizes p.buffer.items p.early.entries) c.self.invariant.kept in
+    let whole : has_all (there_in a.sizes p) 1 (last_of a.sizes) ≡ ltb (last_of a.sizes) p.next = whole_is a.sizes p.next (front_in a.sizes p.next p.buffer.items) (runs_in a.sizes p.buffer.items p.early.entries) c.self.invariant.0.kept in
     let beyond : last_of a.sizes < p.next = above (last_of a.sizes) p.next (sym whole ∙ all_from (record { sizes = a.sizes; there = there_in a.sizes p; spent = a.spent }) come) in
-    let payload : payload_of (there_in a.sizes p) ≡ front_in a.sizes p.next p.buffer.items = payload_is a.sizes p.next (front_in a.sizes p.next p.buffer.items) (runs_in a.sizes p.buffer.items p.early.entries) c.self.invariant.kept (cut_from (record { sizes = a.sizes; there = there_in a.sizes p; spent = a.spent }) come) beyond in
-    let all : front_in a.sizes p.next p.buffer.items ≡ p.buffer.items = buffer_is a.sizes (cut_from (record { sizes = a.sizes; there = there_in a.sizes p; spent = a.spent }) come) p.next p.there p.buffer.items p.early.entries c.self.invariant beyond in
+    let payload : payload_of (there_in a.sizes p) ≡ front_in a.sizes p.next p.buffer.items = payload_is a.sizes p.next (front_in a.sizes p.next p.buffer.items) (runs_in a.sizes p.buffer.items p.early.entries) c.self.invariant.0.kept (cut_from (record { sizes = a.sizes; there = there_in a.sizes p; spent = a.spent }) come) beyond in
+    let all : front_in a.sizes p.next p.buffer.items ≡ p.buffer.items = buffer_is a.sizes (cut_from (record { sizes = a.sizes; there = there_in a.sizes p; spent = a.spent }) come) p.next p.there p.buffer.items p.early.entries c.self.invariant.0 beyond in
     c.new.ensures ∙ sym all ∙ sym payload ∙ ap (λ (k : AssemblyView). payload_of k.there) c.self.view_is
 
 pub returns-clause-size : goal.returns-clause-size
@@ -35,7 +35,7 @@ returns-clause-size g c =
     let a = c.self.inside in
     let p = a.parts in
     let come : has_come (record { sizes = a.sizes; there = there_in a.sizes p; spent = a.spent }) ≡ true = ap has_come c.self.view_is ∙ c.requires in
-    let whole : has_all (there_in a.sizes p) 1 (last_of a.sizes) ≡ ltb (last_of a.sizes) p.next = whole_is a.sizes p.next (front_in a.sizes p.next p.buffer.items) (runs_in a.sizes p.buffer.items p.early.entries) c.self.invariant.kept in
+    let whole : has_all (there_in a.sizes p) 1 (last_of a.sizes) ≡ ltb (last_of a.sizes) p.next = whole_is a.sizes p.next (front_in a.sizes p.next p.buffer.items) (runs_in a.sizes p.buffer.items p.early.entries) c.self.invariant.0.kept in
     let beyond : last_of a.sizes < p.next = above (last_of a.sizes) p.next (sym whole ∙ all_from (record { sizes = a.sizes; there = there_in a.sizes p; spent = a.spent }) come) in
-    let all : front_in a.sizes p.next p.buffer.items ≡ p.buffer.items = buffer_is a.sizes (cut_from (record { sizes = a.sizes; there = there_in a.sizes p; spent = a.spent }) come) p.next p.there p.buffer.items p.early.entries c.self.invariant beyond in
-    ap length c.new.ensures ∙ ap length (sym all) ∙ size_is a.sizes p.next (front_in a.sizes p.next p.buffer.items) (runs_in a.sizes p.buffer.items p.early.entries) c.self.invariant.kept (cut_from (record { sizes = a.sizes; there = there_in a.sizes p; spent = a.spent }) come) beyond ∙ ap (λ (k : AssemblyView). k.sizes.sample) c.self.view_is
+    let all : front_in a.sizes p.next p.buffer.items ≡ p.buffer.items = buffer_is a.sizes (cut_from (record { sizes = a.sizes; there = there_in a.sizes p; spent = a.spent }) come) p.next p.there p.buffer.items p.early.entries c.self.invariant.0 beyond in
+    ap length c.new.ensures ∙ ap length (sym all) ∙ size_is a.sizes p.next (front_in a.sizes p.next p.buffer.items) (runs_in a.sizes p.buffer.items p.early.entries) c.self.invariant.0.kept (cut_from (record { sizes = a.sizes; there = there_in a.sizes p; spent = a.spent }) come) beyond ∙ ap (λ (k : AssemblyView). k.sizes.sample) c.self.view_is

@@ -53,6 +53,7 @@ loop-at-preserved-in_ok-put g c =
     in
     record {
       kept = c.put.ensures.kept;
+      bounded = c.in_ok-put.ensures.bounded;
       low = omega (arith, low, more);
       high = omega (arith, c.min-until.ensures);
       added = put_added (part_at z c.args.self.now) (part_at z c.loop-at.self) (fragment_in z piece.start piece.octets.now) piece.start at until low more c.loop-at.invariant.added (part_at z c.put.new.self)
@@ -73,6 +74,7 @@ loop-at-preserved g c =
     let within : until ≤ c.stretch_from-is_there.result.1 = omega (arith, c.min-until.ensures) in
     record {
       kept = c.loop-at.invariant.kept;
+      bounded = c.loop-at.invariant.bounded;
       low = omega (arith, low, more);
       high = omega (arith, c.min-until.ensures);
       added = there_added (part_at z c.args.self.now) (part_at z c.loop-at.self) (fragment_in z piece.start piece.octets.now) piece.start at until low more c.loop-at.invariant.added

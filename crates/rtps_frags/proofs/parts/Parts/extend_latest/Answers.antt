@@ -102,6 +102,21 @@ returns-clause-kept g c =
     let entries = (c.get_mut.follows.holds run).0 ∙ ap (λ (r : Run). set_value (starts p.latest) p.early.entries (record { count = r.count + piece.count; octets = r.octets })) c.chunk.view_is in
     rw entries (placed_longer_stored c.args.sizes c.requires.cut p.next p.there p.buffer.items p.early.entries c.requires.kept piece.start piece.count piece.octets.now c.requires.free p.latest c.in-Some.chunk.now found ends none c.put_at.new.buffer.items put)
 
+pub returns-clause-bounded : goal.returns-clause-bounded
+returns-clause-bounded g c =
+    let p = c.args.self.now in
+    let piece = c.args.piece in
+    let found : lookup (starts p.latest) p.early.entries ≡ Some c.in-Some.chunk.now = sym c.get_mut.ensures.value ∙ ap option_copied_mut c.in-Some.is in
+    let count : c.chunk.inside.count ≡ c.in-Some.chunk.now.count = ap (λ (r : Run). r.count) c.chunk.view_is in
+    let ends : p.latest + c.in-Some.chunk.now.count ≡ piece.start = omega (arith, count, c.if-piece-self.false, c.if-piece-self-2.false) in
+    let own : c.chunk.inside.octets.items ≡ c.in-Some.chunk.now.octets = ap (λ (r : Run). r.octets) c.chunk.view_is in
+    let none : c.in-Some.chunk.now.octets ≡ [] = sym own ∙ none_by c.chunk.inside.octets.items c.chunk.inside.octets.len c.chunk.inside.octets.ok.0 (sym c.is_empty.ensures ∙ c.if-not-is_empty.false) in
+    let put : IsPutAt (before c.args.sizes piece.start) piece.octets.now p.buffer.items c.put_at.new.buffer.items = subst (λ n. IsPutAt n piece.octets.now p.buffer.items c.put_at.new.buffer.items) c.before-2.ensures c.in_ok-put_at.ensures.ok in
+    let stored = placed_longer_stored c.args.sizes c.requires.cut p.next p.there p.buffer.items p.early.entries c.requires.kept piece.start piece.count piece.octets.now c.requires.free p.latest c.in-Some.chunk.now found ends none c.put_at.new.buffer.items put in
+    let size = put.size in
+    let filled = stored.filled in
+    omega (arith, filled, size, c.put_at.ensures.bound, c.room.ensures, c.before-2.ensures, c.requires.bounded)
+
 pub returns-clause-put : goal.returns-clause-put
 returns-clause-put g c = λ _ k.
     let p = c.args.self.now in

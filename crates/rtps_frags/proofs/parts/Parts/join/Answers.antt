@@ -26,6 +26,7 @@ loop-sizes-preserved g c =
       | then-is_empty w ↦ (
           let none : c.in-Some.chunk.octets ≡ [] = sym own ∙ none_by c.chunk.inside.octets.items c.chunk.inside.octets.len c.chunk.inside.octets.ok.0 (sym c.is_empty.ensures ∙ w.if-is_empty.true) in
           record {
+            bounded = rw w.self-is c.loop-sizes.invariant.bounded;
             kept = rw (w.self-is, count) (placed_joined z c.requires.cut old.next old.there old.buffer.items c.in-Some.chunk rest kept none);
             same = λ k. rw (w.self-is, count) (placed_finds z c.requires.cut old.next old.there old.buffer.items c.in-Some.chunk rest kept none k ∙ was k);
           })
@@ -33,6 +34,7 @@ loop-sizes-preserved g c =
           let some : c.in-Some.chunk.octets ≡ [] → ⊥ = (λ e. some_by c.chunk.inside.octets.items c.chunk.inside.octets.len c.chunk.inside.octets.ok.0 (sym c.is_empty.ensures ∙ w.if-is_empty.false) (own ∙ e)) in
           record {
             kept = rw w.self-is w.in_ok-put_next.ensures.ok;
+            bounded = rw w.self-is w.in_ok-put_next.ensures.bounded;
             same = λ k. rw w.self-is (
                 w.in_ok-put_next.ensures.put k
                 ∙ ap (λ n. cond (leb old.next k && ltb k (old.next + n)) (Some (fragment_in z old.next w.as_slice.result.now k)) (stored_at z old.next old.buffer.items rest k)) count

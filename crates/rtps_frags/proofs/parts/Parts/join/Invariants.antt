@@ -1,10 +1,11 @@
 use Rattle.std.proofs.Common.{◌≡◌, ℕ, length}
-use Rattle.rtps_frags.specs.Parts.{IsJoinable, part_at}
+use Rattle.rtps_frags.specs.Parts.{IsBounded, IsJoinable, part_at}
 use Rattle.rtps_frags.proofs.parts.Parts.join.Given as goal
 
 abbrev pub invariant-loop-sizes : goal.invariant-loop-sizes
 invariant-loop-sizes g l = record {
   kept : IsJoinable l.fn.sizes l.self;
+  bounded : IsBounded l.self;
   same : (k : ℕ) → part_at l.fn.sizes l.self k ≡ part_at l.fn.sizes l.fn.self k;
 }
 

@@ -40,7 +40,7 @@ returns-clause-kept g c =
     let early : c.extend_latest.new.self.early.entries ≡ p.early.entries = c.in_ok-extend_latest.ensures.apart c.if-branch.false in
     let same = c.in_ok-extend_latest.ensures.same c.if-branch.false in
     let later = behind c.args.sizes c.requires.cut p.next p.there p.buffer.items p.early.entries c.requires.kept piece.start piece.count piece.octets.now c.requires.free c.if-piece-self.false in
-    rw (c.extend_latest.ensures.next, same.0, same.1, c.in_ok-insert.ensures.entries, c.in_ok-from_slice.ensures.items, early) (own_stored c.args.sizes c.requires.cut p.next p.there p.buffer.items p.early.entries c.requires.kept piece.start piece.count piece.octets.now c.requires.free later)
+    rw (c.extend_latest.ensures.next, same.0, same.1, c.in_ok-insert.ensures.entries, c.in_ok-copy_of.ensures.items, early) (own_stored c.args.sizes c.requires.cut p.next p.there p.buffer.items p.early.entries c.requires.kept piece.start piece.count piece.octets.now c.requires.free later)
 
 pub returns-clause-put : goal.returns-clause-put
 returns-clause-put g c = λ k.
@@ -49,4 +49,4 @@ returns-clause-put g c = λ k.
     let early : c.extend_latest.new.self.early.entries ≡ p.early.entries = c.in_ok-extend_latest.ensures.apart c.if-branch.false in
     let same = c.in_ok-extend_latest.ensures.same c.if-branch.false in
     let later = behind c.args.sizes c.requires.cut p.next p.there p.buffer.items p.early.entries c.requires.kept piece.start piece.count piece.octets.now c.requires.free c.if-piece-self.false in
-    rw (c.extend_latest.ensures.next, same.0, c.in_ok-insert.ensures.entries, c.in_ok-from_slice.ensures.items, early) (own_put c.args.sizes c.requires.cut p.next p.there p.buffer.items p.early.entries c.requires.kept piece.start piece.count piece.octets.now c.requires.free later k)
+    rw (c.extend_latest.ensures.next, same.0, c.in_ok-insert.ensures.entries, c.in_ok-copy_of.ensures.items, early) (own_put c.args.sizes c.requires.cut p.next p.there p.buffer.items p.early.entries c.requires.kept piece.start piece.count piece.octets.now c.requires.free later k)

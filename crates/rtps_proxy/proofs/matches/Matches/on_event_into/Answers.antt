@@ -33,7 +33,7 @@ returns-clause-stands g c ms all =
     let kept : AllStand ms c.self.inside.proxies.entries = subst (AllStand ms) (sym c.self.view_is) all in
     let found = matched w e ms c.self.inside.proxies.entries c.in-Some.proxy.now kept some in
     subst (AllStand (extended w e ms)) (sym (c.get_mut.follows.holds c.on_event_into.new.self).0)
-    (found.after c.on_event_into.new.self c.in_ok-on_event_into.ensures.pairing (c.in_ok-on_event_into.ensures.stands found.match.past found.stands))
+    (found.after c.on_event_into.new.self c.in_ok-on_event_into.ensures.takes.pairing (c.in_ok-on_event_into.ensures.takes.stands found.match.past found.stands))
 
 pub returns-clause-effects : goal.returns-clause-effects
 returns-clause-effects g c ms all =
@@ -42,7 +42,7 @@ returns-clause-effects g c ms all =
     let some : lookup (λ k. is_eq (guid_order w k)) c.self.inside.proxies.entries ≡ Some c.in-Some.proxy.now = sym c.get_mut.ensures.value ∙ ap option_copied_mut c.in-Some.is in
     let kept : AllStand ms c.self.inside.proxies.entries = subst (AllStand ms) (sym c.self.view_is) all in
     let found = matched w e ms c.self.inside.proxies.entries c.in-Some.proxy.now kept some in
-    rw (found.is, found.pairing) (c.in_ok-on_event_into.ensures.effects found.match.past found.stands)
+    rw (found.is, found.pairing) (c.in_ok-on_event_into.ensures.takes.effects found.match.past found.stands)
 
 pub returns-in_err-on_event_into-clause-err : goal.returns-in_err-on_event_into-clause-err
 returns-in_err-on_event_into-clause-err g c =
@@ -54,7 +54,7 @@ returns-in_err-on_event_into-clause-err g c =
       was = c.in-Some.proxy.now;
       kept = c.on_event_into.new.self;
       found = some;
-      pairing = c.on_event_into.ensures.pairing;
+      pairing = c.on_event_into.ensures.takes.pairing;
       spent = spent;
       others = (c.get_mut.follows.holds c.on_event_into.new.self).0;
     } in

@@ -13,7 +13,8 @@ returns-then-len-last g c =
     let fits : room + c.args.to ≤ length all = omega (arith, size, c.requires.within, c.self.inside.within) in
     let some : room + from < room + c.args.to = omega (arith, c.requires.some) in
     let same : room + c.args.to - 1 + 1 ≡ room + c.args.to = omega arith in
-    ap (drop room) (c.cut.ensures ∙ ap (λ k. take (room + from + 1) (set all (room + from) run) ++ drop k (set all (room + from) run)) same ∙ replaced all (room + from) (room + c.args.to) run some fits)
+    c.less_room-self-inside.ensures.same
+    ∙ ap (drop room) (c.cut.ensures ∙ ap (λ k. take (room + from + 1) (set all (room + from) run) ++ drop k (set all (room + from) run)) same ∙ replaced all (room + from) (room + c.args.to) run some fits)
     ∙ behind_room room from c.args.to all run (omega arith)
     ∙ ap (λ v. take from v ++ run ∷ drop c.args.to v) c.self.view_is
 
@@ -25,7 +26,8 @@ returns g c =
     let run = c.args.run in
     let before : room + c.args.from - room ≡ c.args.from = omega arith in
     let behind : room + to - 1 + 1 ≡ room + to = omega (arith, c.requires.some) in
-    c.lift.ensures.items
+    c.less_room-self-inside-2.ensures.same
+    ∙ c.lift.ensures.items
     ∙ ap₂ (λ k m. take k (drop room all) ++ run ∷ drop m all) before behind
     ∙ ap (λ r. take c.args.from (drop room all) ++ run ∷ r) (sym (drop-drop to room all))
     ∙ ap (λ v. take c.args.from v ++ run ∷ drop to v) c.self.view_is
