@@ -16,8 +16,8 @@ use Rattle.rtps_proxy.specs.Matches.{Match}
 use Rattle.rtps_discovery.specs.Announcement.{Leave, Offer}
 use Rattle.rtps_discovery.specs.Changes.{ChangeAt, changes}
 use Rattle.rtps_discovery.specs.Ends.{Covers, end_of, end_order, has_due, has_end, has_prefix, is_due, is_last}
-use Rattle.rtps_discovery.specs.Known.{Known, Participant, expired, has_expired, is_of, known_after, moved, passed, prefix_order}
-use Rattle.rtps_discovery.specs.Lease.{has_ended, is_after}
+use Rattle.rtps_discovery.specs.Known.{Known, Participant, lapsed_by, expired, has_expired, is_of, known_after, moved, passed, prefix_order}
+use Rattle.rtps_discovery.specs.Lease.{is_after}
 use Rattle.rtps_discovery.specs.Kept.{Applies, HeldView, IsKnown}
 use Rattle.rtps_discovery.proofs.Ends.{both_equal, prefix_itself}
 use Rattle.rtps_discovery.proofs.Guids.{equal_from, prefix_total}
@@ -75,9 +75,6 @@ due_is ends ps moment p covers = both_ways (has_due ends moment p) (is_after mom
     back None is h = absurd cc
     back (Some l) is h = end_due ends moment l p h (covers p l ∙ ap (is_last l) is ∙ eq-eqb l l refl)
 
-abbrev ends_by : ℕ → GuidPrefix × Participant → Bool
-ends_by moment e = has_ended moment e.1.heard e.1.lease
-
 none_above : (p q : GuidPrefix) (f : GuidPrefix × Participant → Bool) (es : List (GuidPrefix × Participant)) → at p q ≡ true → AllByRecursion (λ y. prefix_order q y ≡ Less) (keys_of es) → has_prefix (keys_of (filter f es)) p ≡ false
 none_above p q f [] is above = refl
 none_above p q f (e ∷ es) is above = by_test (f e) (none_above p q f es is above.1)
@@ -89,20 +86,20 @@ none_above p q f (e ∷ es) is above = by_test (f e) (none_above p q f es is abo
     by_test true more = rw apart more
     by_test false more = more
 
-pub expired_is : (moment : ℕ) (ps : List (GuidPrefix × Participant)) (p : GuidPrefix) → IsStrictlySortedBy prefix_order (keys_of ps) → has_prefix (keys_of (filter (ends_by moment) ps)) p ≡ is_after moment (end_of (lookup (at p) ps))
+pub expired_is : (moment : ℕ) (ps : List (GuidPrefix × Participant)) (p : GuidPrefix) → IsStrictlySortedBy prefix_order (keys_of ps) → has_prefix (keys_of (filter (lapsed_by moment) ps)) p ≡ is_after moment (end_of (lookup (at p) ps))
 expired_is moment [] p up = refl
 expired_is moment (e ∷ es) p up = by_key (at p e.0) refl (expired_is moment es p (sorted_tail prefix_order e.0 (keys_of es) up))
   where
-    by_key : (b : Bool) → at p e.0 ≡ b → has_prefix (keys_of (filter (ends_by moment) es)) p ≡ is_after moment (end_of (lookup (at p) es))
-        → has_prefix (keys_of (if ends_by moment e then e ∷ filter (ends_by moment) es else filter (ends_by moment) es)) p ≡ is_after moment (end_of (cond b (Some e.1) (lookup (at p) es)))
-    by_key true is more = by_end (ends_by moment e) refl
+    by_key : (b : Bool) → at p e.0 ≡ b → has_prefix (keys_of (filter (lapsed_by moment) es)) p ≡ is_after moment (end_of (lookup (at p) es))
+        → has_prefix (keys_of (if lapsed_by moment e then e ∷ filter (lapsed_by moment) es else filter (lapsed_by moment) es)) p ≡ is_after moment (end_of (cond b (Some e.1) (lookup (at p) es)))
+    by_key true is more = by_end (lapsed_by moment e) refl
       where
-        by_end : (t : Bool) → ends_by moment e ≡ t → has_prefix (keys_of (if t then e ∷ filter (ends_by moment) es else filter (ends_by moment) es)) p ≡ ends_by moment e
+        by_end : (t : Bool) → lapsed_by moment e ≡ t → has_prefix (keys_of (if t then e ∷ filter (lapsed_by moment) es else filter (lapsed_by moment) es)) p ≡ lapsed_by moment e
         by_end true h = rw (is, h) refl
-        by_end false h = none_above p e.0 (ends_by moment) es is (sorted_head prefix_order e.0 (keys_of es) up) ∙ sym h
-    by_key false is more = by_end (ends_by moment e)
+        by_end false h = none_above p e.0 (lapsed_by moment) es is (sorted_head prefix_order e.0 (keys_of es) up) ∙ sym h
+    by_key false is more = by_end (lapsed_by moment e)
       where
-        by_end : (t : Bool) → has_prefix (keys_of (if t then e ∷ filter (ends_by moment) es else filter (ends_by moment) es)) p ≡ is_after moment (end_of (lookup (at p) es))
+        by_end : (t : Bool) → has_prefix (keys_of (if t then e ∷ filter (lapsed_by moment) es else filter (lapsed_by moment) es)) p ≡ is_after moment (end_of (lookup (at p) es))
         by_end true = rw is more
         by_end false = more
 
@@ -193,21 +190,21 @@ one_due (e ∷ es) moment h = by_test (nat_lt e.0 moment) refl h (λ k. one_due 
     by_test true less k more = record { who = e.1; ended = rw (less, prefix_itself e.1) refl }
     by_test false less k more = let d : Due es moment = more k in record { who = d.who; ended = or_later (nat_lt e.0 moment && at d.who e.1) (has_due es moment d.who) d.ended }
 
-ended_any : (moment : ℕ) (ps : List (GuidPrefix × Participant)) (p : GuidPrefix) → is_after moment (end_of (lookup (at p) ps)) ≡ true → list_any (ends_by moment) ps ≡ true
+ended_any : (moment : ℕ) (ps : List (GuidPrefix × Participant)) (p : GuidPrefix) → is_after moment (end_of (lookup (at p) ps)) ≡ true → list_any (lapsed_by moment) ps ≡ true
 ended_any moment [] p h = absurd cc
 ended_any moment (e ∷ es) p h = by_key (at p e.0) h (λ k. ended_any moment es p k)
   where
-    by_key : (b : Bool) → is_after moment (end_of (cond b (Some e.1) (lookup (at p) es))) ≡ true → (is_after moment (end_of (lookup (at p) es)) ≡ true → list_any (ends_by moment) es ≡ true) → (ends_by moment e || list_any (ends_by moment) es) ≡ true
-    by_key true h more = ap (λ b. b || list_any (ends_by moment) es) h
-    by_key false h more = or_later (ends_by moment e) (list_any (ends_by moment) es) (more h)
+    by_key : (b : Bool) → is_after moment (end_of (cond b (Some e.1) (lookup (at p) es))) ≡ true → (is_after moment (end_of (lookup (at p) es)) ≡ true → list_any (lapsed_by moment) es ≡ true) → (lapsed_by moment e || list_any (lapsed_by moment) es) ≡ true
+    by_key true h more = ap (λ b. b || list_any (lapsed_by moment) es) h
+    by_key false h more = or_later (lapsed_by moment e) (list_any (lapsed_by moment) es) (more h)
 
-none_ends : (moment : ℕ) (ps : List (GuidPrefix × Participant)) → ((p : GuidPrefix) → has_prefix (keys_of (filter (ends_by moment) ps)) p ≡ false) → list_any (ends_by moment) ps ≡ false
+none_ends : (moment : ℕ) (ps : List (GuidPrefix × Participant)) → ((p : GuidPrefix) → has_prefix (keys_of (filter (lapsed_by moment) ps)) p ≡ false) → list_any (lapsed_by moment) ps ≡ false
 none_ends moment [] none = refl
-none_ends moment (e ∷ es) none = by_end (ends_by moment e) none (λ k. none_ends moment es k)
+none_ends moment (e ∷ es) none = by_end (lapsed_by moment e) none (λ k. none_ends moment es k)
   where
-    by_end : (b : Bool) → ((p : GuidPrefix) → has_prefix (keys_of (if b then e ∷ filter (ends_by moment) es else filter (ends_by moment) es)) p ≡ false)
-        → (((p : GuidPrefix) → has_prefix (keys_of (filter (ends_by moment) es)) p ≡ false) → list_any (ends_by moment) es ≡ false) → (b || list_any (ends_by moment) es) ≡ false
-    by_end true none more = ap (λ b. b || has_prefix (keys_of (filter (ends_by moment) es)) e.0) (sym (prefix_itself e.0)) ∙ none e.0
+    by_end : (b : Bool) → ((p : GuidPrefix) → has_prefix (keys_of (if b then e ∷ filter (lapsed_by moment) es else filter (lapsed_by moment) es)) p ≡ false)
+        → (((p : GuidPrefix) → has_prefix (keys_of (filter (lapsed_by moment) es)) p ≡ false) → list_any (lapsed_by moment) es ≡ false) → (b || list_any (lapsed_by moment) es) ≡ false
+    by_end true none more = ap (λ b. b || has_prefix (keys_of (filter (lapsed_by moment) es)) e.0) (sym (prefix_itself e.0)) ∙ none e.0
     by_end false none more = more none
 
 -- by the index, and by the definition

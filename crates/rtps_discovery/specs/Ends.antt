@@ -1,17 +1,22 @@
 -- The last moments of leases, in order, each with its participant.
 use Rattle.std.specs.Prelude.{◌≡◌, ℕ, ◌-◌, ◌^◌, ◌==◌, nat_lt, List, [], ◌∷◌, Bool, false, ◌&&◌, Option, Some, None, if◌then◌else◌}
 use Rattle.std.specs.List.{list_any}
+use Rattle.std.specs.List.Sorted.{IsStrictlySortedBy}
 use Rattle.std.specs.Map.{lookup}
 use Rattle.std.specs.Ordering.{is_eq, nat_cmp, ordering_then}
 use Rattle.std.specs.declared.cmp.Ordering.{Ordering}
 use Rattle.rtps_types.specs.declared.identity.GuidPrefix.{GuidPrefix}
 use Rattle.rtps_types.specs.Order.{octet_order}
-use Rattle.rtps_discovery.specs.Known.{Participant, prefix_order}
+use Rattle.rtps_discovery.specs.Known.{Participant, same_prefix}
 use Rattle.rtps_discovery.specs.Lease.{deadline}
 
 -- by moment, then by the octets of the participant
 abbrev pub end_order : ℕ × GuidPrefix → ℕ × GuidPrefix → Ordering
 end_order a b = ordering_then (nat_cmp a.0 b.0) (octet_order a.1.0 b.1.0)
+
+-- they are in order
+abbrev pub AreSorted : List (ℕ × GuidPrefix) → Type 0
+AreSorted ends = IsStrictlySortedBy end_order ends
 
 -- one of them is before a moment
 abbrev pub is_due : List (ℕ × GuidPrefix) → ℕ → Bool
@@ -38,7 +43,9 @@ end_of (Some x) = deadline x.heard x.lease
 
 -- the last moments of one participant's lease are now this one, and the others stay
 abbrev pub Renews : GuidPrefix → Option ℕ → List (ℕ × GuidPrefix) → List (ℕ × GuidPrefix) → Type 0
-Renews prefix last old new = (m : ℕ) (p : GuidPrefix) → has_end new m p ≡ (if is_eq (prefix_order prefix p) then is_last m last else has_end old m p)
+Renews prefix last old new =
+    (m : ℕ) (p : GuidPrefix)
+    → has_end new m p ≡ (if same_prefix prefix p then is_last m last else has_end old m p)
 
 -- the lease of a participant ends then, and then alone
 abbrev pub EndsAt : GuidPrefix → Option ℕ → List (ℕ × GuidPrefix) → Type 0
@@ -46,12 +53,16 @@ EndsAt prefix last ends = (m : ℕ) → has_end ends m prefix ≡ is_last m last
 
 -- the last moments are those of these participants
 abbrev pub Covers : List (ℕ × GuidPrefix) → List (GuidPrefix × Participant) → Type 0
-Covers ends ps = (p : GuidPrefix) → EndsAt p (end_of (lookup (λ q. is_eq (prefix_order p q)) ps)) ends
+Covers ends ps = (p : GuidPrefix) → EndsAt p (end_of (lookup (same_prefix p) ps)) ends
 
--- the lease of a participant has ended at this moment, by the ends
+-- this is the end of a lease of a participant, and it is before a moment
+abbrev pub is_end_before : ℕ → GuidPrefix → ℕ × GuidPrefix → Bool
+is_end_before moment p e = nat_lt e.0 moment && same_prefix p e.1
+
+-- the lease of a participant has ended by a moment, by the ends
 abbrev pub has_due : List (ℕ × GuidPrefix) → ℕ → GuidPrefix → Bool
-has_due ends moment p = list_any (λ (e : ℕ × GuidPrefix). nat_lt e.0 moment && is_eq (prefix_order p e.1)) ends
+has_due ends moment p = list_any (is_end_before moment p) ends
 
 -- a participant is among these
 abbrev pub has_prefix : List GuidPrefix → GuidPrefix → Bool
-has_prefix prefixes p = list_any (λ q. is_eq (prefix_order p q)) prefixes
+has_prefix prefixes p = list_any (same_prefix p) prefixes

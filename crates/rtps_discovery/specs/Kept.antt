@@ -4,7 +4,6 @@ use Rattle.std.specs.List.{AllByRecursion}
 use Rattle.std.specs.List.Sorted.{IsStrictlySortedBy}
 use Rattle.std.specs.Map.{keys_of, lookup}
 use Rattle.std.specs.Option.{unwrap_or}
-use Rattle.std.specs.Ordering.{is_eq}
 use Rattle.std.specs.Str.{bytes_eq}
 use Rattle.rtps_types.specs.declared.identity.Guid.{Guid}
 use Rattle.rtps_types.specs.declared.identity.GuidPrefix.{GuidPrefix}
@@ -15,7 +14,7 @@ use Rattle.rtps_proxy.specs.Matches.{AllStand, Match, is_at}
 use Rattle.rtps_discovery.specs.Announcement.{Announcement, Offer}
 use Rattle.rtps_discovery.specs.Changes.{ChangeAt, changes, changes_run, known_run}
 use Rattle.rtps_discovery.specs.Ends.{Covers}
-use Rattle.rtps_discovery.specs.Known.{Known, Participant, Wish, is_fixed, known_after, own_or, prefix_order, publications_reader, publications_writer, subscriptions_reader, subscriptions_writer, writer_at}
+use Rattle.rtps_discovery.specs.Known.{Known, Participant, Wish, is_fixed, known_after, own_or, prefix_order, same_prefix, publications_reader, publications_writer, subscriptions_reader, subscriptions_writer, writer_at}
 use Rattle.rtps_discovery.specs.OneWriter.{column, has_rank, matched_from}
 use Rattle.rtps_discovery.specs.declared.held.Held as held
 
@@ -54,7 +53,7 @@ ranks_at g ranks = unwrap_or (lookup (is_at g) ranks) []
 
 -- what is known of a participant, if it is known
 abbrev pub participant_in : GuidPrefix → List (GuidPrefix × Participant) → Option Participant
-participant_in p participants = lookup (λ q. is_eq (prefix_order p q)) participants
+participant_in p participants = lookup (same_prefix p) participants
 
 -- where answers go to a writer that offers this
 abbrev pub locators_by : HeldView → GuidPrefix → Option Offer → List Locator

@@ -56,12 +56,15 @@ pub record Known : Type 0 where
 abbrev pub prefix_order : GuidPrefix → GuidPrefix → Ordering
 prefix_order a b = octet_order a.0 b.0
 
+abbrev pub same_prefix : GuidPrefix → GuidPrefix → Bool
+same_prefix p q = is_eq (prefix_order p q)
+
 -- what is known of a writer, a participant, and the reader of ours with a rank
 abbrev pub writer_at : Known → Guid → Option Offer
 writer_at k g = lookup (is_at g) k.writers
 
 abbrev pub participant_at : Known → GuidPrefix → Option Participant
-participant_at k p = lookup (λ q. is_eq (prefix_order p q)) k.participants
+participant_at k p = lookup (same_prefix p) k.participants
 
 abbrev pub reader_at : List (Option Wish) → ℕ → Option Wish
 reader_at [] rank = None
@@ -83,7 +86,9 @@ by_fault (Some policy) = Refused policy
 
 -- the same topic, the same type, and a partition in common
 abbrev pub is_near : Wish → Offer → Bool
-is_near r w = bytes_eq r.topic w.topic && (bytes_eq r.type_name w.type_name && share_partition w.partitions r.partitions)
+is_near r w =
+    bytes_eq r.topic w.topic
+    && (bytes_eq r.type_name w.type_name && share_partition w.partitions r.partitions)
 
 -- how a reader is with a writer: apart, or joined or refused by the first policy that isn't met
 abbrev pub standing_of : Wish → Offer → Standing
@@ -107,7 +112,8 @@ is_fixed fixed rank g = list_any (λ p. p.0 == rank && same_guid p.1 g) fixed
 
 -- the pairs that are matched: the fixed ones, and those that are joined
 abbrev pub is_matched : Known → ℕ → Guid → Bool
-is_matched k rank g = is_fixed k.fixed rank g || is_joined (standing (reader_at k.readers rank) (writer_at k g))
+is_matched k rank g =
+    is_fixed k.fixed rank g || is_joined (standing (reader_at k.readers rank) (writer_at k g))
 
 -- where answers to a writer go: to its own locators, else to the default ones of its participant
 abbrev pub own_or : List Locator → Option Participant → List Locator
@@ -164,6 +170,14 @@ announcer own p writer reader locators = record {
   past = [];
 }
 
+-- our builtin reader of writers is matched with a participant's announcer of them, and that of
+-- readers with its announcer of readers
+abbrev pub of_publications : GuidPrefix → GuidPrefix → Facts → Match
+of_publications own p f = announcer own p publications_writer publications_reader f.metatraffic
+
+abbrev pub of_subscriptions : GuidPrefix → GuidPrefix → Facts → Match
+of_subscriptions own p f = announcer own p subscriptions_writer subscriptions_reader f.metatraffic
+
 -- the match with an announcer begins, where the participant has that announcer
 abbrev pub where_announced : Bool → Match → List Match → List Match
 where_announced announces m ms = if announces then begun m ms else ms
@@ -171,8 +185,12 @@ where_announced announces m ms = if announces then begun m ms else ms
 -- a match begins with each announcer of endpoints that a participant has
 abbrev pub with_announcers : GuidPrefix → GuidPrefix → Facts → List Match → List Match
 with_announcers own p f ms =
-    where_announced f.announces_readers (announcer own p subscriptions_writer subscriptions_reader f.metatraffic)
-    (where_announced f.announces_writers (announcer own p publications_writer publications_reader f.metatraffic) ms)
+    where_announced f.announces_readers (of_subscriptions own p f)
+    (where_announced f.announces_writers (of_publications own p f) ms)
+
+-- what is known of a participant that says this of itself at a moment
+abbrev pub heard_at : ℕ → Facts → Participant
+heard_at moment f = record { locators = f.locators; lease = f.lease; heard = moment }
 
 -- a participant is among these
 abbrev pub is_of : List GuidPrefix → GuidPrefix → Bool
@@ -183,8 +201,11 @@ is_of gone p = list_any (λ q. bytes_eq q.0 p.0) gone
 -- far. With a participant go its announcers, its writers and its readers.
 abbrev pub known_after : Known → Announcement → Known
 known_after k (Comes p f) = record k {
-  participants = insert_entry prefix_order k.participants p (record { locators = f.locators; lease = f.lease; heard = k.moment });
-  announcers = if is_some (participant_at k p) then k.announcers else with_announcers k.own p f k.announcers;
+  participants = insert_entry prefix_order k.participants p (heard_at k.moment f);
+  announcers =
+      if is_some (participant_at k p)
+      then k.announcers
+      else with_announcers k.own p f k.announcers;
 }
 known_after k (Leave gone) = record k {
   participants = filter (λ e. not (is_of gone e.0)) k.participants;
@@ -203,13 +224,17 @@ known_after k (AsksNoMore g) = record k { remote_readers = remove_key (is_at g) 
 abbrev pub moved : ℕ → Known → Known
 moved moment k = record k { moment = max k.moment moment }
 
+-- the lease of this participant has ended by a moment
+abbrev pub lapsed_by : ℕ → GuidPrefix × Participant → Bool
+lapsed_by moment e = has_ended moment e.1.heard e.1.lease
+
 -- somebody's lease has ended
 abbrev pub has_expired : Known → Bool
-has_expired k = list_any (λ (e : GuidPrefix × Participant). has_ended k.moment e.1.heard e.1.lease) k.participants
+has_expired k = list_any (lapsed_by k.moment) k.participants
 
 -- the participants whose leases have ended, in order
 abbrev pub expired : Known → List GuidPrefix
-expired k = keys_of (filter (λ (e : GuidPrefix × Participant). has_ended k.moment e.1.heard e.1.lease) k.participants)
+expired k = keys_of (filter (lapsed_by k.moment) k.participants)
 
 -- a moment comes, and then they leave together
 abbrev pub passed : ℕ → Known → Known

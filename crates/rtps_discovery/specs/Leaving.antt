@@ -28,10 +28,15 @@ abbrev pub gone_by : {X : Type 0} → List GuidPrefix → List (Guid × X) → L
 gone_by [] es = []
 gone_by (p ∷ ps) es = filter (are_of p) es ++ gone_by ps (filter (λ e. not (are_of p e)) es)
 
+-- the matches once those with the announcers of a participant ended
+abbrev pub ended_of : GuidPrefix → List Match → List Match
+ended_of p ms =
+    ended (endpoint p subscriptions_writer) (ended (endpoint p publications_writer) ms)
+
 -- the matches once those with the announcers of these participants ended
 abbrev pub ended_by : List GuidPrefix → List Match → List Match
 ended_by [] ms = ms
-ended_by (p ∷ ps) ms = ended_by ps (ended (endpoint p subscriptions_writer) (ended (endpoint p publications_writer) ms))
+ended_by (p ∷ ps) ms = ended_by ps (ended_of p ms)
 
 -- a writer that is gone, and what it offered
 abbrev pub gone_of : {A : Type 0} → Gone A → Guid × Offer
@@ -39,7 +44,8 @@ gone_of g = (g.writer, g.offer)
 
 -- what the reader of one rank hears as this writer goes
 abbrev pub ending : {A : Type 0} → ℕ → Option Wish → Gone A → List ChangeAt
-ending rank r g = met (has_rank g.fixed) g.writer [] rank (standing r (Some g.offer)) (standing r None)
+ending rank r g =
+    met (has_rank g.fixed) g.writer [] rank (standing r (Some g.offer)) (standing r None)
 
 -- what the readers hear, from this rank on, as these writers go
 abbrev pub endings : {A : Type 0} → List (Gone A) → ℕ → List (Option Wish) → List ChangeAt

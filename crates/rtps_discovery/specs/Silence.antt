@@ -1,11 +1,8 @@
 -- Who is forgotten for silence, and with whom (DDSI-RTPS 8.5.3.2).
-use Rattle.std.specs.Prelude.{◌≡◌, ℕ, max, filter, Option, Some, None, Bool, false, not, if◌then◌else◌}
+use Rattle.std.specs.Prelude.{◌≡◌, ℕ, max, filter, List, Option, Some, None, Bool, false, not, if◌then◌else◌}
 use Rattle.std.specs.List.Sorted.{IsStrictlySortedBy}
 use Rattle.std.specs.Map.{keys_of}
-use Rattle.rtps_types.specs.declared.identity.Guid.{Guid}
 use Rattle.rtps_types.specs.declared.identity.GuidPrefix.{GuidPrefix}
-use Rattle.rtps_proxy.specs.Matches.{Match}
-use Rattle.rtps_discovery.specs.Announcement.{Offer}
 use Rattle.rtps_discovery.specs.Known.{Known, Participant, participant_at, passed, prefix_order}
 use Rattle.rtps_discovery.specs.Lease.{has_ended}
 
@@ -18,19 +15,33 @@ has_lapsed moment (Some x) = has_ended moment x.heard x.lease
 abbrev pub is_silent : ℕ → Known → GuidPrefix → Bool
 is_silent moment k p = has_lapsed (max k.moment moment) (participant_at k p)
 
+-- what of a list isn't a participant's that was forgotten, by whose each of it is
+abbrev pub unforgotten : {X : Type 0} → ℕ → Known → (X → GuidPrefix) → List X → List X
+unforgotten moment k whose xs = filter (λ x. not (is_silent moment k (whose x))) xs
+
 -- Once a moment has passed, a participant is known exactly where it was and its lease hasn't
 -- ended; and what is left of all lists is what isn't of one that was forgotten, in the same order.
 pub record AreForgotten (moment : ℕ) (k : Known) : Type 0 where
-  pub participant : (p : GuidPrefix) → participant_at (passed moment k) p ≡ (if is_silent moment k p then None else participant_at k p)
-  pub participants : (passed moment k).participants ≡ filter (λ (e : GuidPrefix × Participant). not (is_silent moment k e.0)) k.participants
-  pub announcers : (passed moment k).announcers ≡ filter (λ (m : Match). not (is_silent moment k m.pairing.writer.prefix)) k.announcers
-  pub writers : (passed moment k).writers ≡ filter (λ (e : Guid × Offer). not (is_silent moment k e.0.prefix)) k.writers
-  pub remote_readers : (passed moment k).remote_readers ≡ filter (λ (g : Guid). not (is_silent moment k g.prefix)) k.remote_readers
+  pub participant : (p : GuidPrefix) → participant_at (passed moment k) p
+      ≡ (if is_silent moment k p then None else participant_at k p)
+  pub participants : (passed moment k).participants
+      ≡ unforgotten moment k (λ e. e.0) k.participants
+  pub announcers : (passed moment k).announcers
+      ≡ unforgotten moment k (λ m. m.pairing.writer.prefix) k.announcers
+  pub writers : (passed moment k).writers
+      ≡ unforgotten moment k (λ e. e.0.prefix) k.writers
+  pub remote_readers : (passed moment k).remote_readers
+      ≡ unforgotten moment k (λ g. g.prefix) k.remote_readers
+
+-- participants are in the order of the octets of their prefixes
+abbrev pub AreInOrder : Known → Type 0
+AreInOrder k = IsStrictlySortedBy prefix_order (keys_of k.participants)
 
 -- whatever is known, where participants are in order
 abbrev pub SilenceIsForgotten : Type 0
-SilenceIsForgotten = (moment : ℕ) (k : Known) → IsStrictlySortedBy prefix_order (keys_of k.participants) → AreForgotten moment k
+SilenceIsForgotten = (moment : ℕ) (k : Known) → AreInOrder k → AreForgotten moment k
 
 -- it doesn't matter how often moments pass: the greater of two forgets all that both do
 abbrev pub MomentsBetweenAddNothing : Type 0
-MomentsBetweenAddNothing = (m n : ℕ) (k : Known) → IsStrictlySortedBy prefix_order (keys_of k.participants) → passed m (passed n k) ≡ passed (max m n) k
+MomentsBetweenAddNothing =
+    (m n : ℕ) (k : Known) → AreInOrder k → passed m (passed n k) ≡ passed (max m n) k

@@ -118,6 +118,23 @@ impl<A: Allocator + Copy> Discovery<A> {
         Ok(ended)
     }
 
+    /// Whether a growth was refused, so that [`step`](Discovery::step) and
+    /// [`expire`](Discovery::expire) answer out of memory from now on.
+    pub fn is_spent(&self) -> bool
+        ensures { result ≡ self.now.spent }
+    {
+        self.spent // and stays so
+    }
+
+    /// Has each later call of [`step`](Discovery::step) and [`expire`](Discovery::expire) answer
+    /// out of memory and change nothing: for a caller who was refused memory for what came of an
+    /// event, so that this was taken in by half.
+    pub fn spend(&mut self)
+        ensures { self.new ≡ record self.old { spent = true } }
+    {
+        self.spent = true; // for good
+    }
+
     /// The greatest moment so far, in milliseconds; 0 at the start.
     pub fn moment(&self) -> u64
         ensures { result ≡ self.now.kept.moment }

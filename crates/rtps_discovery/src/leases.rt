@@ -4,7 +4,7 @@ ghost use Rattle.std.specs.Prelude.{◌≡◌, ◌||◌, ◌<◌, ℕ, [], IfNon
 ghost use Rattle.std.specs.Ordering.{is_eq};
 ghost use Rattle.rtps_types.specs.declared.identity.GuidPrefix.{GuidPrefix};
 ghost use Rattle.std.specs.List.Sorted.{IsStrictlySortedBy, IsStrictlySortedBy-prop};
-ghost use Rattle.rtps_discovery.specs.Ends.{EndsAt, Renews, end_of, end_order, has_due, has_end, has_prefix, is_due, soonest_of};
+ghost use Rattle.rtps_discovery.specs.Ends.{AreSorted, EndsAt, Renews, end_of, end_order, has_due, has_end, has_prefix, is_due, soonest_of};
 ghost use Rattle.rtps_discovery.specs.Known.{prefix_order};
 ghost use Rattle.rtps_discovery.specs.Lease.{deadline, milliseconds};
 
@@ -55,7 +55,7 @@ pub(crate) struct Leases<A: Allocator> {
     soonest: u64,
 
     ghost first: { soonest ≡ soonest_of ends.keys },
-    ghost sorted: { IsStrictlySortedBy end_order ends.keys } by { IsStrictlySortedBy-prop end_order ends.keys },
+    ghost sorted: { AreSorted ends.keys } by { IsStrictlySortedBy-prop end_order ends.keys },
 }
 
 impl<A: Allocator> Model for Leases<A> {
@@ -79,11 +79,11 @@ fn soonest_of<A: Allocator>(ends: &BTreeSet<(u64, GuidPrefix), A>) -> u64
 
 /// The participant of the first end, if it is before a moment.
 fn next_due(ends: &mut Iter<'_, (u64, GuidPrefix)>, moment: u64) -> Option<GuidPrefix>
-    requires { IsStrictlySortedBy end_order ends.old }
+    requires { AreSorted ends.old }
     ensures some { IfSome result (λ p. (q : GuidPrefix) → has_due ends.old moment q
         ≡ (is_eq (prefix_order q p) || has_due ends.new moment q)) }
     ensures none { IfNone result ((q : GuidPrefix) → has_due ends.old moment q ≡ false) }
-    ensures sorted { IsStrictlySortedBy end_order ends.new }
+    ensures sorted { AreSorted ends.new }
     ensures fewer { OnSome result (length ends.new < length ends.old) }
 {
     let end = ends.next()?;
@@ -196,7 +196,8 @@ impl<A: Allocator + Copy> Leases<A> {
         earlier: Option<u64>,
         last: Option<u64>,
     ) -> Result<(), AllocError>
-        ensures { OnOk result (EndsAt prefix earlier self.old → Renews prefix last self.old self.new) }
+        ensures { OnOk result (EndsAt prefix earlier self.old
+            → Renews prefix last self.old self.new) }
     {
         self.end(prefix, earlier);
         self.begin(prefix, last)?;

@@ -5,12 +5,12 @@ ghost use Rattle.std.specs.List.{flat_map};
 ghost use Rattle.std.specs.List.Sorted.{IsStrictlySortedBy};
 ghost use Rattle.std.specs.Map.{keys_of};
 ghost use Rattle.rtps_types.specs.declared.identity.Guid.{Guid};
-ghost use Rattle.rtps_proxy.specs.Matches.{AllStand, Match, ended};
+ghost use Rattle.rtps_proxy.specs.Matches.{AllStand, Match};
 ghost use Rattle.rtps_discovery.specs.Announcement as announcement;
 ghost use Rattle.rtps_discovery.specs.Ends.{Covers};
 ghost use Rattle.rtps_discovery.specs.Kept.{Applies, kept, ranks_at};
-ghost use Rattle.rtps_discovery.specs.Known.{is_of, prefix_order, publications_writer, subscriptions_writer};
-ghost use Rattle.rtps_discovery.specs.Leaving.{any_of, are_of, ended_by, ending, endings, endpoint, gone_by, gone_of, reranked};
+ghost use Rattle.rtps_discovery.specs.Known.{is_of, prefix_order};
+ghost use Rattle.rtps_discovery.specs.Leaving.{any_of, are_of, ended_by, ended_of, ending, endings, gone_by, gone_of, reranked};
 ghost use Rattle.rtps_discovery.specs.Seen.{change_seen};
 ghost use Rattle.rtps_discovery.specs.Sized.{are_sized};
 
@@ -208,9 +208,8 @@ fn rerank<A: Allocator + Copy>(
 
 /// Ends the matches of our builtin readers with the announcers of a participant.
 fn end_announcers<A: Allocator + Copy>(announcers: &mut Matches<A>, prefix: GuidPrefix)
-    ensures { (ms : List Match) → AllStand ms announcers.old → AllStand
-        (ended (endpoint prefix subscriptions_writer)
-        (ended (endpoint prefix publications_writer) ms)) announcers.new }
+    ensures { (ms : List Match) → AllStand ms announcers.old
+        → AllStand (ended_of prefix ms) announcers.new }
 {
     announcers.end(Guid {
         prefix,

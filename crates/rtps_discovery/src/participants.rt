@@ -5,7 +5,7 @@ ghost use Rattle.rtps_proxy.specs.Matches.{AllStand, Match};
 ghost use Rattle.rtps_discovery.specs.Announcement as announcement;
 ghost use Rattle.rtps_discovery.specs.Changes.{ChangeAt};
 ghost use Rattle.rtps_discovery.specs.Kept.{Applies, kept};
-ghost use Rattle.rtps_discovery.specs.Known.{announcer, where_announced};
+ghost use Rattle.rtps_discovery.specs.Known.{announcer, publications_reader, publications_writer, subscriptions_reader, subscriptions_writer, where_announced};
 ghost use Rattle.rtps_discovery.specs.Seen.{facts_seen};
 
 use crate::addressed::{
@@ -20,28 +20,29 @@ use rtps_proxy::{Matches, ProxyConfig};
 use rtps_types::{EntityId, Guid, GuidPrefix, Locator, Locators};
 use std::alloc::{AllocError, Allocator};
 
-/// A builtin reader of ours, and the writer of a participant that announces to it.
+/// A builtin reader of ours, and the writer of a participant that announces to it, if there is one.
 #[derive(Clone, Copy)]
 struct Link {
     own: GuidPrefix,
     prefix: GuidPrefix,
     writer: EntityId,
     reader: EntityId,
+    /// Whether the participant has this announcer.
+    announces: bool,
 }
 
 /// Begins the match of a builtin reader with an announcer, if the participant has this announcer.
 fn begin_where<A: Allocator + Copy>(
-    announces: bool,
     alloc: A,
     link: Link,
     metatraffic: &[Locator],
     announcers: &mut Matches<A>,
 ) -> Result<(), AllocError>
     ensures { (ms : List Match) → AllStand ms announcers.old
-        → OnOk result (AllStand (where_announced announces (announcer link.own link.prefix
+        → OnOk result (AllStand (where_announced link.announces (announcer link.own link.prefix
         link.writer link.reader metatraffic.now) ms) announcers.new) }
 {
-    if !announces {
+    if !link.announces {
         return Ok(());
     }
     let config = ProxyConfig {
@@ -55,6 +56,44 @@ fn begin_where<A: Allocator + Copy>(
         locators: Locators::copied(alloc, metatraffic)?,
     };
     announcers.begin(alloc, config)
+}
+
+/// Our builtin reader of writers, and the announcer of a participant's writers.
+fn publications(own: GuidPrefix, prefix: GuidPrefix, announces: bool) -> Link
+    ensures { result ≡ record {
+      own = own;
+      prefix = prefix;
+      writer = publications_writer;
+      reader = publications_reader;
+      announces = announces;
+    } }
+{
+    Link {
+        own,
+        prefix,
+        writer: ENTITYID_SEDP_BUILTIN_PUBLICATIONS_ANNOUNCER,
+        reader: ENTITYID_SEDP_BUILTIN_PUBLICATIONS_DETECTOR,
+        announces,
+    }
+}
+
+/// Our builtin reader of readers, and the announcer of a participant's readers.
+fn subscriptions(own: GuidPrefix, prefix: GuidPrefix, announces: bool) -> Link
+    ensures { result ≡ record {
+      own = own;
+      prefix = prefix;
+      writer = subscriptions_writer;
+      reader = subscriptions_reader;
+      announces = announces;
+    } }
+{
+    Link {
+        own,
+        prefix,
+        writer: ENTITYID_SEDP_BUILTIN_SUBSCRIPTIONS_ANNOUNCER,
+        reader: ENTITYID_SEDP_BUILTIN_SUBSCRIPTIONS_DETECTOR,
+        announces,
+    }
 }
 
 impl<A: Allocator + Copy> Held<A> {
@@ -82,31 +121,11 @@ impl<A: Allocator + Copy> Held<A> {
             return Ok(());
         }
         let metatraffic = collected(alloc, facts.metatraffic)?;
-        let publications = Link {
-            own: self.own,
-            prefix,
-            writer: ENTITYID_SEDP_BUILTIN_PUBLICATIONS_ANNOUNCER,
-            reader: ENTITYID_SEDP_BUILTIN_PUBLICATIONS_DETECTOR,
-        };
-        let subscriptions = Link {
-            writer: ENTITYID_SEDP_BUILTIN_SUBSCRIPTIONS_ANNOUNCER,
-            reader: ENTITYID_SEDP_BUILTIN_SUBSCRIPTIONS_DETECTOR,
-            ..publications
-        };
-        begin_where(
-            facts.announces_writers,
-            alloc,
-            publications,
-            metatraffic.as_slice(),
-            &mut self.announcers,
-        )?;
-        begin_where(
-            facts.announces_readers,
-            alloc,
-            subscriptions,
-            metatraffic.as_slice(),
-            &mut self.announcers,
-        )?;
+        let to = metatraffic.as_slice();
+        let writers = publications(self.own, prefix, facts.announces_writers);
+        begin_where(alloc, writers, to, &mut self.announcers)?;
+        let readers = subscriptions(self.own, prefix, facts.announces_readers);
+        begin_where(alloc, readers, to, &mut self.announcers)?;
         Ok(())
     }
 }

@@ -1,6 +1,6 @@
 //! What each reader has to do in a batch.
 
-ghost use Rattle.std.specs.Prelude.{◌≡◌, ◌+◌, ◌-◌, ◌<◌, ◌≤◌, ℕ, IfOk, List, OnOk, drop, false, length, map, slice_index_or, take};
+ghost use Rattle.std.specs.Prelude.{◌≡◌, ◌+◌, ◌-◌, ◌<◌, ◌≤◌, ℕ, IfOk, IsErr, List, OnErr, OnOk, drop, false, length, map, slice_index_or, take, true};
 ghost use Rattle.rtps_discovery.specs.Kept.{IsKnown};
 ghost use Rattle.rtps_discovery.specs.Known.{Known};
 ghost use Rattle.rtps_receiver.specs.Events.{EventView, view};
@@ -52,6 +52,7 @@ fn plan_next<A: Allocator + Copy>(
     ensures count { OnOk result (length planning.new.lists.items
         ≡ length planning.old.lists.items) }
     ensures within { IfOk result (λ next. (first < next) × (next ≤ length events.now)) }
+    ensures ok { discovery.old.spent ≡ false → OnOk result (discovery.new.spent ≡ false) }
     ensures planned { (k : Known) (es : List EventView) → IsKnown k discovery.old.kept
         → IfOk result (λ next. ReadsAs (map view events.now) es first (next - first)
         → IsPlanned es k (take (next - first) (drop first es)) planning.old planning.new
@@ -82,7 +83,9 @@ fn plan_events<A: Allocator + Copy>(
     events: &[Event<'_>],
     discovery: &mut Discovery<A>,
 ) -> Result<Planning<A>, AllocError>
+    requires { discovery.old.spent ≡ false }
     ensures few { IfOk result (λ planning. length planning.lists.items ≤ 256) }
+    ensures ok { OnOk result (discovery.new.spent ≡ false) }
     ensures planned { (k : Known) → IsKnown k discovery.old.kept → IfOk result (λ planning.
         AreAllPlanned k (map view events.now) (map view events.now) planning
         discovery.new.kept) }
@@ -128,17 +131,17 @@ fn ranks_of<A: Allocator + Copy>(alloc: A, jobs: &[Job<A>]) -> Result<Vec<u32, A
     Ok(ranks)
 }
 
-/// What each reader has to do at the events of a batch, and what discovery answers to them.
-/// Discovery takes the events in. Steps point into `events`; no event is copied.
-///
-/// An error is a refused growth, after which discovery may have taken in some of the events.
-pub fn plan<A: Allocator + Copy>(
+/// What each reader has to do at the events of a batch, and what discovery answers to them, for a
+/// discovery that isn't spent.
+fn planned<A: Allocator + Copy>(
     alloc: A,
     events: &[Event<'_>],
     discovery: &mut Discovery<A>,
 ) -> Result<Plan<A>, AllocError>
-    ensures { (k : Known) → IsKnown k discovery.old.kept → IfOk result (λ plan.
+    requires { discovery.old.spent ≡ false }
+    ensures planned { (k : Known) → IsKnown k discovery.old.kept → IfOk result (λ plan.
         IsPlan k (map view events.now) plan discovery.new.kept) }
+    ensures ok { OnOk result (discovery.new.spent ≡ false) }
 {
     let planning = plan_events(alloc, events, discovery)?;
     let readers = planning.lists.len();
@@ -149,4 +152,31 @@ pub fn plan<A: Allocator + Copy>(
         answers: planning.answers,
     };
     Ok(Plan { jobs, rest })
+}
+
+/// What each reader has to do at the events of a batch, and what discovery answers to them.
+/// Discovery takes the events in. Steps point into `events`; no event is copied.
+///
+/// An error is a refused growth, after which discovery is spent: it may have taken in some of the
+/// events, and what came of them is lost. A spent one is refused, and stays as it was.
+pub fn plan<A: Allocator + Copy>(
+    alloc: A,
+    events: &[Event<'_>],
+    discovery: &mut Discovery<A>,
+) -> Result<Plan<A>, AllocError>
+    ensures planned { (k : Known) → IsKnown k discovery.old.kept → IfOk result (λ plan.
+        IsPlan k (map view events.now) plan discovery.new.kept) }
+    ensures ok { OnOk result (discovery.new.spent ≡ false) }
+    ensures err { OnErr result (discovery.new.spent ≡ true) }
+    ensures spent { discovery.old.spent ≡ true → IsErr result }
+    ensures still { discovery.old.spent ≡ true → discovery.new ≡ discovery.old }
+{
+    if discovery.is_spent() {
+        return Err(AllocError);
+    }
+    let planned = planned(alloc, events, discovery);
+    if planned.is_err() {
+        discovery.spend();
+    }
+    planned
 }

@@ -221,6 +221,7 @@ pub(crate) fn plan_announcement<A: Allocator + Copy>(
 ) -> Result<(), AllocError>
     ensures count { OnOk result (length planning.new.lists.items
         ≡ length planning.old.lists.items) }
+    ensures ok { OnOk result (discovery.new.spent ≡ false) }
     ensures planned { (k : Known) (es : List EventView) → IsKnown k discovery.old.kept
         → slice_get es index ≡ Some (view event.now)
         → addressed.is_discovery event.now.writer ≡ true

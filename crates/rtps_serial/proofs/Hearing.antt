@@ -62,7 +62,7 @@ ties_rank a b = by_test (nat_lt a b) (a == b) (nat_lt b a) (b == a) refl refl re
     by_test false true false false i j k n = absurd (grind (arith, nat_tests))
     by_test false false false false i j k n = absurd (grind (arith, nat_tests))
 
-map_map : {X Y Z : Type 0} (f : X → Y) (g : Y → Z) (xs : List X) → map g (map f xs) ≡ map (λ x. g (f x)) xs
+pub map_map : {X Y Z : Type 0} (f : X → Y) (g : Y → Z) (xs : List X) → map g (map f xs) ≡ map (λ x. g (f x)) xs
 map_map f g [] = refl
 map_map f g (x ∷ xs) = ap (λ l. g (f x) ∷ l) (map_map f g xs)
 

@@ -19,3 +19,4 @@ pub mod Listing
 pub mod Agreeing
 pub mod Stretching
 pub mod Lasting
+pub mod ByRecord

@@ -167,7 +167,7 @@ none_sent rank k [] = refl
 none_sent rank k (s ∷ ss) = none_sent rank k ss
 
 -- of what a reader puts out at a step, its notices
-heard_at : {M : Type 0} (decoding : Decoding M) (place : Place) (rank : ℕ) (r : Reader) (d : StepView) → notices_by rank (puts_at decoding place rank r d) ≡ tells decoding r place d
+pub heard_at : {M : Type 0} (decoding : Decoding M) (place : Place) (rank : ℕ) (r : Reader) (d : StepView) → notices_by rank (puts_at decoding place rank r d) ≡ tells decoding r place d
 heard_at decoding place rank r d =
     notices_by-append rank (map (NoticeOf rank) (tells decoding r place d)) (map (sent_by rank) (sends r place d))
     ∙ ap (λ l. notices_by rank (map (NoticeOf rank) (tells decoding r place d)) ++ l) (none_sent rank rank (sends r place d))
@@ -182,7 +182,7 @@ heard_run decoding place rank r (d ∷ ds) =
     ∙ ap (λ l. tells decoding r place d ++ l) (heard_run decoding place rank (reader_after r d) ds)
 
 -- and none of another reader's
-other_at : {M : Type 0} (decoding : Decoding M) (place : Place) (rank k : ℕ) (r : Reader) (d : StepView) → eqb k rank ≡ false → notices_by rank (puts_at decoding place k r d) ≡ []
+pub other_at : {M : Type 0} (decoding : Decoding M) (place : Place) (rank k : ℕ) (r : Reader) (d : StepView) → eqb k rank ≡ false → notices_by rank (puts_at decoding place k r d) ≡ []
 other_at decoding place rank k r d h =
     notices_by-append rank (map (NoticeOf k) (tells decoding r place d)) (map (sent_by k) (sends r place d))
     ∙ ap (λ l. notices_by rank (map (NoticeOf k) (tells decoding r place d)) ++ l) (none_sent rank k (sends r place d))

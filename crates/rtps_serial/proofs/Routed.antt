@@ -159,7 +159,7 @@ put_of_steps {M} d place w (s ∷ ss) up =
 -- ---- an event
 
 -- no announcement changes our readers
-readers_after : (k : Known) (a : Announcement) → (known_after k a).readers ≡ k.readers
+pub readers_after : (k : Known) (a : Announcement) → (known_after k a).readers ≡ k.readers
 readers_after k (Comes p f) = refl
 readers_after k (Leave gone) = refl
 readers_after k (Offers g w) = refl
@@ -171,7 +171,7 @@ readers_run : (k : Known) (said : List Announcement) → (known_run k said).read
 readers_run k [] = refl
 readers_run k (a ∷ said) = readers_run (known_after k a) said ∙ readers_after k a
 
-readers_if : (b : Bool) (j k : Known) → j.readers ≡ k.readers → (if b then j else k).readers ≡ k.readers
+pub readers_if : (b : Bool) (j k : Known) → j.readers ≡ k.readers → (if b then j else k).readers ≡ k.readers
 readers_if true j k e = e
 readers_if false j k e = refl
 

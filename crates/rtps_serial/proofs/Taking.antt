@@ -78,8 +78,9 @@ pub taken : {C V M A : Type 0} (view : V → M) (decoding : C → Decoding M) (d
     → admitted ≡ record old { failed = true } → IsSteppedFrom admitted stepped
     → ((w : World M) → WorldStands {A = A} view w w.put admitted.discovery.kept admitted.readers []
     → WorldStands view (world_run (decoding admitted.catalog) w (events_of admitted.config.own admitted.index octets)) w.put stepped.discovery.kept stepped.readers reports)
+    → (admitted.discovery.spent ≡ false → stepped.discovery.spent ≡ false)
     → IsFinishedFrom stepped new → StandsAt decoding (datagrams ++ octets ∷ []) new
-taken {C} {V} {M} {A} view decoding datagrams octets old admitted stepped new reports kept is step stands finish =
+taken {C} {V} {M} {A} view decoding datagrams octets old admitted stepped new reports kept is step stands unspent finish =
     let all = datagrams ++ octets ∷ [] in
     let catalog : new.catalog ≡ old.catalog = finish.catalog ∙ step.catalog ∙ ap (λ (e : EngineView C). e.catalog) is in
     let config : new.config ≡ old.config = finish.config ∙ step.config ∙ ap (λ (e : EngineView C). e.config) is in
@@ -94,6 +95,7 @@ taken {C} {V} {M} {A} view decoding datagrams octets old admitted stepped new re
       sound = finish.sound;
       index = omega (arith, index, kept.index, length-append datagrams (octets ∷ []));
       known = subst (λ (d : DiscoveryView). IsKnown (run_by decoding new all).known d.kept) (sym finish.discovery) there.known;
+      unspent = ap (λ (d : DiscoveryView). d.spent) finish.discovery ∙ unspent (ap (λ (e : EngineView C). e.discovery.spent) is ∙ kept.unspent);
       count = ap length finish.readers ∙ readers ∙ kept.count ∙ fixed;
       readers = subst (AllStand (run_by decoding new all)) (sym finish.readers) there.readers.readers;
       shows = record {

@@ -6,3 +6,4 @@ pub mod Standing
 pub mod Outcome
 pub mod Turn
 pub mod Presentation
+pub mod ByRecord

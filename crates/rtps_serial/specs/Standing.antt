@@ -56,8 +56,9 @@ AllStart readers states = AllStandBy {M = Unit {0}} readers (λ rank. []) states
 
 -- there is a state for each reader of the world, and it keeps that reader; and all that the world
 -- put out are these reports, after what was put out earlier
-pub record ReadersStand {V M A : Type 0} (view : V → M) (w : World M) (earlier : List (ReportView M))
-    (states : List ReaderView) (reports : List (Report V A)) : Type 0 where
+pub record ReadersStand {V M A : Type 0} (view : V → M) (w : World M)
+    (earlier : List (ReportView M)) (states : List ReaderView) (reports : List (Report V A))
+    : Type 0 where
   pub count : length states ≡ reader_count w
   pub readers : AllStand w states
   pub put : w.put ≡ earlier ++ map (report_view view) reports
@@ -93,6 +94,7 @@ pub record StandsAt {C M : Type 0} (decoding : C → Decoding M) (datagrams : Li
   pub sound : engine.failed ≡ false
   pub index : engine.index ≡ length datagrams
   pub known : IsKnown (run_by decoding engine datagrams).known engine.discovery.kept
+  pub unspent : engine.discovery.spent ≡ false
   pub count : length engine.readers ≡ length engine.config.readers.items
   pub readers : AllStand (run_by decoding engine datagrams) engine.readers
   pub shows : ShowsAt decoding datagrams engine

@@ -219,6 +219,8 @@ impl<C: Catalog, A: Allocator + Copy> SerialEngine<C, A> {
     ) -> Result<(), AllocError>
         requires { length octets.now ≤ 65507 }
         ensures same { IsSteppedFrom self.old self.new }
+        ensures unspent { self.old.discovery.spent ≡ false
+            → OnOk result (self.new.discovery.spent ≡ false) }
         ensures stands { (w : World C.Meaning)
             → WorldStands {A = A} C.view w w.put self.old.discovery.kept self.old.readers []
             → OnOk result (WorldStands C.view (world_run (C.decoding self.old.catalog) w
@@ -282,8 +284,10 @@ impl<C: Catalog, A: Allocator + Copy> SerialEngine<C, A> {
     /// What is known of the others, as the run knows it after the last datagram that was taken;
     /// once a datagram has been out of memory, it may know more.
     pub fn discovery(&self) -> &Discovery<A>
-        ensures { (datagrams : List (List ℕ)) → StandsAt C.decoding datagrams self.now
+        ensures known { (datagrams : List (List ℕ)) → StandsAt C.decoding datagrams self.now
             → IsKnown (run_by C.decoding self.now datagrams).known result.now.kept }
+        ensures unspent { (datagrams : List (List ℕ)) → StandsAt C.decoding datagrams self.now
+            → result.now.spent ≡ false }
     {
         &self.discovery
     }

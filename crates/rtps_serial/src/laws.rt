@@ -8,11 +8,14 @@ ghost use Rattle.dds_topic.specs.Decoding.{Decoding};
 ghost use Rattle.rtps_reader.specs.Listed.{match_order};
 ghost use Rattle.rtps_serial.specs.declared.outcome.Outcome.{Outcome};
 ghost use Rattle.rtps_serial.specs.declared.outcome.Report.{Report};
+ghost use Rattle.rtps_receiver.specs.Events.{EventView};
+ghost use Rattle.rtps_serial.specs.ByRecord.{AreAlike, run_by_record, world_by_record};
 ghost use Rattle.rtps_serial.specs.Outcome.{Adds, report_view};
 ghost use Rattle.rtps_serial.specs.Presentation.{IsPresented, Never, events_in, is_fixed, stretches_in};
 ghost use Rattle.rtps_serial.specs.Run.{is_reliable_at, run};
 ghost use Rattle.rtps_serial.specs.Seen.{Agrees, is_listed, is_matched_at, matches_seen};
 ghost use Rattle.rtps_serial.specs.Turn.{AreInOrder};
+ghost use Rattle.rtps_serial.specs.World.{World, world_after};
 ghost use Rattle.rtps_types.specs.declared.identity.Guid.{Guid};
 
 use std::alloc::Allocator;
@@ -68,4 +71,15 @@ pub fn matches_listed<M>()
         (rank : ℕ) (writer : Guid)
         → is_listed (matches_seen (run decoding config datagrams)) rank writer
         ≡ is_matched_at (run decoding config datagrams) rank writer }
+{}
+
+/// Whatever events come: where the records of an event are applied one by one, and readers hear
+/// what one record changes before the next is applied, each rank has the same reader as in the
+/// world's step, which takes the event rank by rank; it gives out the same notices in the same
+/// order, and the same answers are sent in the same order. And so it is after any datagrams.
+pub fn by_record<M>()
+    ensures event { (decoding : Decoding M) (w : World M) (e : EventView)
+        → AreAlike (world_by_record decoding w e) (world_after decoding w e) }
+    ensures run { (decoding : Decoding M) (config : Config) (datagrams : List (List ℕ))
+        → AreAlike (run_by_record decoding config datagrams) (run decoding config datagrams) }
 {}

@@ -138,6 +138,7 @@ fn take_announcement<C: Catalog, A: Allocator + Copy>(
 ) -> Result<(), AllocError>
     ensures same { readers.new.decoder ≡ readers.old.decoder }
     ensures count { length readers.new.states.items ≡ length readers.old.states.items }
+    ensures unspent { OnOk result (discovery.new.spent ≡ false) }
     ensures stands { addressed.is_discovery event.now.writer ≡ true
         → (w : World C.Meaning) (earlier : List (ReportView C.Meaning))
         → WorldStands C.view w earlier discovery.old.kept readers.old.states.items reports.old.items
@@ -162,6 +163,7 @@ fn take_event<C: Catalog, A: Allocator + Copy>(
 ) -> Result<(), AllocError>
     ensures same { readers.new.decoder ≡ readers.old.decoder }
     ensures count { length readers.new.states.items ≡ length readers.old.states.items }
+    ensures unspent { discovery.old.spent ≡ false → OnOk result (discovery.new.spent ≡ false) }
     ensures stands { (w : World C.Meaning) (earlier : List (ReportView C.Meaning))
         → WorldStands C.view w earlier discovery.old.kept readers.old.states.items reports.old.items
         → OnOk result (WorldStands C.view (world_after (C.decoding readers.old.decoder) w
@@ -188,6 +190,7 @@ pub(crate) fn take_events<C: Catalog, A: Allocator + Copy>(
 ) -> Result<(), AllocError>
     ensures same { readers.new.decoder ≡ readers.old.decoder }
     ensures count { length readers.new.states.items ≡ length readers.old.states.items }
+    ensures unspent { discovery.old.spent ≡ false → OnOk result (discovery.new.spent ≡ false) }
     ensures stands { (w : World C.Meaning)
         → WorldStands {A = A} C.view w w.put discovery.old.kept readers.old.states.items []
         → OnOk result (WorldStands C.view (world_run (C.decoding readers.old.decoder) w

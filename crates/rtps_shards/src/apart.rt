@@ -8,9 +8,9 @@ use std::alloc::{AllocError, Global};
 use std::thread;
 use std::thread::Threads;
 
-/// A place for each job, and an empty one after every two. A list is worked on half by half: whoever
-/// would do what is in the empty place has started a thread for each of the two jobs by then, and
-/// only waits for them, so that its processor is free.
+/// A place for each job, and an empty one after every two. A list is worked on half by half:
+/// whoever would do what is in the empty place has started a thread for each of the two jobs by
+/// then, and only waits for them, so that its processor is free.
 fn spaced<J: Drop>(alloc: Global, jobs: Vec<J>) -> Result<Vec<Option<J>>, AllocError>
     ensures { IfOk result (λ places. somes places.items ≡ jobs.items) }
 {

@@ -87,8 +87,8 @@ fn job(alloc: Global, rank: u32, all: &[(usize, usize)]) -> Result<Job, AllocErr
     Ok(Job { rank, steps })
 }
 
-/// A job for each of so many readers: rank 1 takes in the last two events, each other rank all three,
-/// by one step or by two. Steps go past the last event, too.
+/// A job for each of so many readers: rank 1 takes in the last two events, each other rank all
+/// three, by one step or by two. Steps go past the last event, too.
 fn jobs_of<C: Catalog>(alloc: Global, ranks: u32) -> Result<Vec<Posted<C::Value>>, AllocError> {
     let mut jobs = Vec::new(alloc);
     for rank in 0..ranks {

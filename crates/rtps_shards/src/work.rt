@@ -91,8 +91,8 @@ impl<V: Drop> Thief<Posted<V>> {
     /// which the jobs were stolen. What the catalog keeps from one value to the next is this call's
     /// own.
     ///
-    /// An error is a refused growth: what the call has stolen is gone, with its results, and what it
-    /// hasn't is on the board still.
+    /// An error is a refused growth: what the call has stolen is gone, with its results, and what
+    /// it hasn't is on the board still.
     #[tactic(auto, using(crate::proofs::Crews::works_none, crate::proofs::Crews::works_more))]
     pub fn work<C: Catalog<Value = V>, G: Gate>(
         &mut self,

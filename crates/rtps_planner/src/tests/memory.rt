@@ -9,7 +9,7 @@ use crate::*;
 use linked_list_allocator::LocalHeap;
 use rtps_discovery::{Config, Discovery, check};
 use rtps_receiver::Event;
-use std::alloc::Global;
+use std::alloc::{AllocError, Global};
 use std::test::Fail;
 
 /// Whether outputs are put together in a heap of this size, or memory is refused.
@@ -69,5 +69,36 @@ fn refused_growths_plan_nothing(rt: HostRuntime) -> Result<(), Fail> {
         }
     }
     assert!(rt; refused && planned);
+    Ok(())
+}
+
+/// Takes what there is of a heap, down to pieces of two octets.
+fn all_of(alloc: Global, heap: &LocalHeap) -> Result<Vec<Vec<u8, &LocalHeap>>, AllocError> {
+    let mut taken = Vec::new(alloc);
+    for power in 0..15 {
+        for _ in 0..8 {
+            let size = 32_768_usize >> power;
+            if let Ok(piece) = Vec::<u8, &LocalHeap>::with_capacity(heap, size) {
+                taken.push(piece)?;
+            }
+        }
+    }
+    Ok(taken)
+}
+
+#[test]
+fn a_refused_plan_is_the_last(rt: HostRuntime) -> Result<(), Fail> {
+    let config = two_readers(rt.alloc())?;
+    check(&config)?;
+    let events = six_events(rt.alloc())?;
+    let heap = LocalHeap::new(rt.alloc(), 65_536)?;
+    let mut discovery = Discovery::new(&heap, &config)?;
+    assert!(rt; plan(&heap, &events, &mut discovery).is_ok());
+    let mut taken = all_of(rt.alloc(), &heap)?;
+    assert!(rt; plan(&heap, &events, &mut discovery).is_err());
+    taken.clear();
+    // There is memory again, but the events of the refused plan are lost.
+    assert!(rt; discovery.is_spent());
+    assert!(rt; plan(&heap, &events, &mut discovery).is_err());
     Ok(())
 }

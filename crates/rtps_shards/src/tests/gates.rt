@@ -143,7 +143,8 @@ fn the_job_with_the_fewest_events_is_taken_last(rt: HostRuntime) -> Result<(), F
     Ok(())
 }
 
-/// A gate that holds the job of rank 1 until so many others have ended; it gives up after ten seconds.
+/// A gate that holds the job of rank 1 until so many others have ended; it gives up after ten
+/// seconds.
 #[derive(Drop)]
 struct Holding<'a, R> {
     rt: &'a R,

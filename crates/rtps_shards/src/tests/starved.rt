@@ -1,9 +1,10 @@
-//! Jobs that are out of memory.
+//! Jobs that are out of memory, and what has run of a job as it begins and ends.
 
 ghost use Rattle.std.specs.Prelude.{◌≤◌};
 
 use super::gates::Counting;
 use super::run;
+use crate::Gate;
 use dds_topic::{Catalog, CatalogError, Shapes};
 use rtps_types::KeyHash;
 use std::alloc::{AllocError, Global};
@@ -99,6 +100,59 @@ fn a_job_out_of_memory_fails_the_batch(rt: HostRuntime) -> Result<(), Fail> {
             // Where a worker is out of memory the others run all jobs that are left.
             assert!(rt; workers == 1 || gate.saw_each_once(3));
         }
+    }
+    Ok(())
+}
+
+/// A gate that looks how many values were decoded as each job begins, and as it ends.
+#[derive(Drop)]
+struct Watching<'a> {
+    decoded: &'a AtomicU64,
+    began: [AtomicU64; 3],
+    ended: [AtomicU64; 3],
+}
+
+impl<'a> Watching<'a> {
+    fn look(&self, seen: &[AtomicU64; 3], rank: u32) {
+        if let Some(seen) = seen.get(rank as usize) {
+            seen.store(self.decoded.load(Ordering::SeqCst), Ordering::SeqCst);
+        }
+    }
+}
+
+impl<'a> Gate for Watching<'a> {
+    fn enter(&self, rank: u32) {
+        self.look(&self.began, rank);
+    }
+
+    fn leave(&self, rank: u32) {
+        self.look(&self.ended, rank);
+    }
+}
+
+/// Three numbers that were not seen yet.
+fn unseen() -> [AtomicU64; 3] {
+    [AtomicU64::new(9), AtomicU64::new(9), AtomicU64::new(9)]
+}
+
+#[test]
+fn a_job_enters_before_it_runs_and_leaves_after(rt: HostRuntime) -> Result<(), Fail> {
+    let catalog = Starved {
+        catalog: Shapes,
+        refused: 8,
+        decoded: AtomicU64::new(0),
+    };
+    let gate = Watching {
+        decoded: &catalog.decoded,
+        began: unseen(),
+        ended: unseen(),
+    };
+    // One worker runs three jobs one after the other, which decode three, two and three values.
+    let results = run(&rt, rt.alloc(), &catalog, &gate, (3, 1))?.len();
+    assert_eq!(rt; results, 3);
+    for (rank, began, ended) in [(0, 0, 3), (1, 3, 5), (2, 5, 8)] {
+        assert_eq!(rt; gate.began[rank].load(Ordering::SeqCst), began);
+        assert_eq!(rt; gate.ended[rank].load(Ordering::SeqCst), ended);
     }
     Ok(())
 }

@@ -14,6 +14,7 @@ loop-first-init g c =
     record {
       few = omega (arith, count, c.readers.ensures.few);
       within = omega arith;
+      unspent = c.requires;
       planned = λ k known. record {
         known = known;
         count = count ∙ ap length (c.readers.ensures.known ∙ known.readers);
@@ -40,6 +41,7 @@ loop-first-preserved g c =
     record {
       few = omega (arith, count, c.loop-first.invariant.few);
       within = fits.1;
+      unspent = c.in_ok-first.ensures.ok c.loop-first.invariant.unspent;
       planned = λ k known.
           let was = c.loop-first.invariant.planned k known in
           subst (λ l. AreAllPlanned k all l c.plan_next.new.planning c.plan_next.new.discovery.kept)

@@ -1,4 +1,4 @@
-use Rattle.std.proofs.Common.{◌-◌, ◌≤◌, length, map, take}
+use Rattle.std.proofs.Common.{◌≡◌, ◌-◌, ◌≤◌, false, length, map, take}
 use Rattle.rtps_receiver.specs.Events.{view}
 use Rattle.rtps_discovery.specs.Kept.{IsKnown}
 use Rattle.rtps_discovery.specs.Known.{Known}
@@ -10,6 +10,7 @@ abbrev pub invariant-loop-first : goal.invariant-loop-first
 invariant-loop-first g l = record {
   few : length l.planning.lists.items ≤ 256;
   within : l.first ≤ length l.events;
+  unspent : l.discovery.spent ≡ false;
   planned : (k : Known) → IsKnown k l.fn.discovery.kept → AreAllPlanned k (map view l.events) (take l.first (map view l.events)) l.planning l.discovery.kept;
 }
 

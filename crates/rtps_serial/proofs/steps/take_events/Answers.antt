@@ -23,6 +23,7 @@ loop-event-preserved g c =
     = λ w. world_run_more d w (map view items) i (view event) below ∙ ap (world_after d (world_run d w (take i (map view items)))) (get_or-map view items i event ∙ ap view read) in
     record {
       same = c.in_ok-take_event.ensures.same ∙ c.loop-event.invariant.same;
+      unspent = λ old. c.in_ok-take_event.ensures.unspent (c.loop-event.invariant.unspent old);
       count = c.in_ok-take_event.ensures.count ∙ c.loop-event.invariant.count;
       stands = λ w old. subst (λ (v : World g.C.Catalog.Meaning). WorldStands f v w.put new.discovery.kept new.readers.states.items new.reports.items) (sym (more w))
           (subst (λ k. WorldStands f (world_after (g.C.Catalog.decoding k) (world_run d w (take i (map view items))) (view event)) w.put new.discovery.kept new.readers.states.items new.reports.items) c.loop-event.invariant.same

@@ -1,4 +1,4 @@
-use Rattle.std.proofs.Common.{◌≡◌, [], length, map, take}
+use Rattle.std.proofs.Common.{◌≡◌, [], false, length, map, take}
 use Rattle.rtps_receiver.specs.Events.{view}
 use Rattle.rtps_serial.specs.Run.{world_run}
 use Rattle.rtps_serial.specs.Standing.{WorldStands}
@@ -9,6 +9,7 @@ use Rattle.rtps_serial.proofs.steps.take_events.Given as goal
 abbrev pub invariant-loop-event : goal.invariant-loop-event
 invariant-loop-event g l = record {
   same : l.readers.decoder ≡ l.fn.readers.decoder;
+  unspent : l.fn.discovery.spent ≡ false → l.discovery.spent ≡ false;
   count : length l.readers.states.items ≡ length l.fn.readers.states.items;
   stands : (w : World g.C.Catalog.Meaning) → WorldStands {A = g.row.A.Denot} g.C.Catalog.view w w.put l.fn.discovery.kept l.fn.readers.states.items []
       → WorldStands g.C.Catalog.view (world_run (g.C.Catalog.decoding l.fn.readers.decoder) w (take l.event-index (map view l.events))) w.put l.discovery.kept l.readers.states.items l.reports.items;

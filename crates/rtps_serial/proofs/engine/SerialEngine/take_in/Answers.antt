@@ -8,7 +8,7 @@ use Rattle.rtps_serial.proofs.engine.SerialEngine.take_in.Goals as goal
 
 pub returns-clause-stands : goal.returns-clause-stands
 returns-clause-stands g c datagrams kept =
-    taken g.C.Catalog.view g.C.Catalog.decoding datagrams c.args.octets.now c.args.self.now c.admit.new.self c.report.new.self c.finish.new.self c.report.new.reports.items kept c.in_ok-admit.ensures.ok.2 c.report.ensures.same c.in_ok-report.ensures.stands c.finish.ensures
+    taken g.C.Catalog.view g.C.Catalog.decoding datagrams c.args.octets.now c.args.self.now c.admit.new.self c.report.new.self c.finish.new.self c.report.new.reports.items kept c.in_ok-admit.ensures.ok.2 c.report.ensures.same c.in_ok-report.ensures.stands c.in_ok-report.ensures.unspent c.finish.ensures
 
 pub returns-clause-adds : goal.returns-clause-adds
 returns-clause-adds g c datagrams kept =

@@ -2,10 +2,10 @@ use Rattle.std.proofs.Common.{◌≡◌, ◌∙◌, ap, length, map, rules}
 use Rattle.rtps_receiver.specs.Events.{view}
 use Rattle.rtps_planner.specs.Job.{job_of}
 use Rattle.rtps_planner.specs.Plan.{jobs_by}
-use Rattle.rtps_planner.proofs.planner.plan.Goals as goal
+use Rattle.rtps_planner.proofs.planner.planned.Goals as goal
 
-pub returns : goal.returns
-returns g c k known =
+pub returns-clause-planned : goal.returns-clause-planned
+returns-clause-planned g c k known =
     let es = map view c.args.events.now in
     let planned = c.in_ok-planning.ensures.planned k known in
     let readers : c.len-readers.result ≡ length c.in_ok-planning.planning.lists.items = search rules in

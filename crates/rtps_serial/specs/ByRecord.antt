@@ -1,0 +1,67 @@
+-- An event record by record (DDSI-RTPS 8.5.3, 8.5.4): what a record changes is heard by the readers
+-- before the next record is applied.
+use Rattle.std.specs.Prelude.{◌≡◌, ◌<◌, ℕ, List, [], ◌∷◌, ◌++◌, map, if◌then◌else◌}
+use Rattle.rtps_types.specs.declared.place.Place.{Place}
+use Rattle.rtps_receiver.specs.Events.{EventView}
+use Rattle.rtps_discovery.specs.Addressed.{is_discovery}
+use Rattle.rtps_discovery.specs.Announcement.{Announcement}
+use Rattle.rtps_discovery.specs.declared.config.Config.{Config}
+use Rattle.rtps_discovery.specs.Changes.{changes}
+use Rattle.rtps_discovery.specs.Known.{Known, known_after}
+use Rattle.rtps_discovery.specs.Records.{announcements, answered, noted}
+use Rattle.dds_topic.specs.Decoding.{Decoding}
+use Rattle.rtps_serial.specs.Run.{events_from, first_world}
+use Rattle.rtps_serial.specs.Seen.{answers_in, notices_by, reader_count}
+use Rattle.rtps_serial.specs.Steps.{change_step, steps_run}
+use Rattle.rtps_serial.specs.World.{World, answer_put, world_after}
+
+-- the world in which this is known, and all else is the same
+abbrev pub knowing : {M : Type 0} → Known → World M → World M
+knowing k w = record { known = k; readers = w.readers; put = w.put }
+
+-- an event of an announcer has come, and discovery has answered it; no record is applied yet
+abbrev pub world_answered : {M : Type 0} → World M → EventView → World M
+world_answered w e = record {
+  known = noted w.known e;
+  readers = w.readers;
+  put = w.put ++ answer_put e.place (answered w.known e);
+}
+
+-- one record: it is made known, and then each change that it brings is a step of one reader
+abbrev pub record_taken : {M : Type 0} → Decoding M → Place → World M → Announcement → World M
+record_taken decoding place w a =
+    let k = known_after w.known a in
+    steps_run decoding place (knowing k w) (map change_step (changes w.known k))
+
+-- one record after the other
+abbrev pub records_taken : {M : Type 0} → Decoding M → Place → World M → List Announcement
+    → World M
+records_taken decoding place w [] = w
+records_taken decoding place w (a ∷ more) =
+    records_taken decoding place (record_taken decoding place w a) more
+
+-- an event, record by record; one of a user's writer has no records
+abbrev pub world_by_record : {M : Type 0} → Decoding M → World M → EventView → World M
+world_by_record decoding w e =
+    if is_discovery e.writer
+    then records_taken decoding e.place (world_answered w e) (announcements w.known e)
+    else world_after decoding w e
+
+-- events one after the other, each record by record
+abbrev pub records_run : {M : Type 0} → Decoding M → World M → List EventView → World M
+records_run decoding w [] = w
+records_run decoding w (e ∷ es) = records_run decoding (world_by_record decoding w e) es
+
+-- the world after a list of datagrams, record by record
+abbrev pub run_by_record : {M : Type 0} → Decoding M → Config → List (List ℕ) → World M
+run_by_record decoding config datagrams =
+    records_run decoding (first_world config) (events_from config.own 0 datagrams)
+
+-- In two worlds the same is known, each rank has the same reader, which gave out the same notices
+-- in the same order, and the same answers were sent in the same order.
+pub record AreAlike {M : Type 0} (one other : World M) : Type 0 where
+  pub known : one.known ≡ other.known
+  pub readers : (rank : ℕ) → one.readers rank ≡ other.readers rank
+  pub told : (rank : ℕ) → rank < reader_count one
+      → notices_by rank one.put ≡ notices_by rank other.put
+  pub answers : answers_in one.put ≡ answers_in other.put
