@@ -174,7 +174,8 @@ fn read_items<T: Member>(
     reader: &mut CdrReader<'_>,
     count: u32,
 ) -> Result<Vec<T>, CatalogError>
-    ensures value { Gives (λ v. map T.view v.items) result (readable (items (λ c. value T.cdr c) (λ c. behind T.cdr c) count reader.old)) }
+    ensures value { Gives (λ v. map T.view v.items) result (readable
+        (items (λ c. value T.cdr c) (λ c. behind T.cdr c) count reader.old)) }
     ensures moves { OnOk result (reader.new ≡ behind_items (λ c. behind T.cdr c) count reader.old) }
     ensures bounded { IfOk result (λ found. vec_capacity found ≤ 2 * vec_len found + 4) }
 {

@@ -14,8 +14,8 @@ IsKept z p = AreStored z (suc p.next) p.next p.there p.buffer.items p.early.entr
 abbrev pub IsJoinable : {A : Type 0} → Sizes → Parts A → Type 0
 IsJoinable z p = AreStored z p.next p.next p.there p.buffer.items p.early.entries
 
--- the buffer has room for at most sixteen times the octets in it that came, whatever size the sample
--- is said to have
+-- the buffer has room for at most sixteen times the octets in it that came, whatever size the
+-- sample is said to have
 abbrev pub IsBounded : {A : Type 0} → Parts A → Type 0
 IsBounded p = vec_capacity p.buffer ≤ 16 * p.there
 
@@ -29,7 +29,9 @@ holds p k = (nat_le 1 k && nat_lt k p.next) || covers p.early.entries k
 
 -- the fragments that are there, by rising number, each with its octets
 abbrev pub there_in : {A : Type 0} → Sizes → Parts A → There
-there_in z p = there_of z p.next (front_in z p.next p.buffer.items) (runs_in z p.buffer.items p.early.entries)
+there_in z p =
+    there_of z p.next (front_in z p.next p.buffer.items)
+    (runs_in z p.buffer.items p.early.entries)
 
 -- fragments of which none is there, and octets that are just theirs
 abbrev pub AreAway : {A : Type 0} → Sizes → Parts A → ℕ → ℕ → List ℕ → Type 0
@@ -37,4 +39,7 @@ AreAway z p start count octets = AreNew z p.next p.buffer.items p.early.entries 
 
 -- fragments are there that weren't, and those that were
 abbrev pub ArePut : {A : Type 0} → Sizes → Parts A → Parts A → ℕ → ℕ → List ℕ → Type 0
-ArePut z old new start count octets = (k : ℕ) → part_at z new k ≡ (if nat_le start k && nat_lt k (start + count) then Some (fragment_in z start octets k) else part_at z old k)
+ArePut z old new start count octets =
+    (k : ℕ) → part_at z new k
+    ≡ (if nat_le start k && nat_lt k (start + count) then Some (fragment_in z start octets k)
+    else part_at z old k)

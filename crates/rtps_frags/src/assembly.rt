@@ -34,7 +34,11 @@ impl<A: Allocator> Model for Assembly<A> {
 
     ghost Value = { AssemblyView };
 
-    ghost view = { λ a. record { sizes = a.sizes; there = there_in a.sizes a.parts; spent = a.spent } };
+    ghost view = { λ a. record {
+      sizes = a.sizes;
+      there = there_in a.sizes a.parts;
+      spent = a.spent;
+    } };
 
     ghost invariant = { λ a. IsKept a.sizes a.parts × (a.spent ≡ false → IsBounded a.parts) };
 }

@@ -68,7 +68,8 @@ pub(crate) fn append<A: Allocator>(
     room: usize,
     octets: &[u8],
 ) -> Result<(), AllocError>
-    ensures enough { vec_len buffer.old + length octets.now ≤ vec_capacity buffer.old → IsOk result }
+    ensures enough { vec_len buffer.old + length octets.now ≤ vec_capacity buffer.old
+        → IsOk result }
     ensures ok { OnOk result (buffer.new.items ≡ buffer.old.items ++ octets.now) }
     ensures err { OnErr result (buffer.new.items ≡ buffer.old.items) }
     ensures bound { vec_capacity buffer.new

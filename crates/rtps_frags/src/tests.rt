@@ -116,8 +116,8 @@ fn a_refused_growth_is_out_of_memory(rt: HostRuntime) -> Result<(), Fail> {
     Ok(())
 }
 
-/// Two fragments of a sample that is said to have 64 MiB are taken in with 64 KiB of memory: it goes
-/// by what came, wherever in the sample that lies.
+/// Two fragments of a sample that is said to have 64 MiB are taken in with 64 KiB of memory: it
+/// goes by what came, wherever in the sample that lies.
 #[test]
 fn a_stated_size_takes_no_memory(rt: HostRuntime) -> Result<(), Fail> {
     let heap = LocalHeap::new(rt.alloc(), 65_536)?;

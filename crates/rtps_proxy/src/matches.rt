@@ -122,6 +122,7 @@ impl<A: Allocator + Copy> Matches<A> {
             (match_event time brought.now) (given_where is_matched effects.new)) }
         ensures nothing { IfOk result (λ is_matched. is_matched ≡ false
             → GivesNothing effects.new) }
+        ensures lent { IfOk result (λ is_matched. is_matched ≡ false → effects.new ≡ effects.old) }
         ensures err { OnErr result (IsSpentAt writer self.old self.new) }
     {
         let Some(proxy) = self.proxies.get_mut(&writer) else {

@@ -92,8 +92,8 @@ impl<A: Allocator> Runs<A> {
     }
 }
 
-/// The room before runs, which begin at a place. Up to four fifths of a list may be room: where more
-/// of it would be, the runs are moved to its front.
+/// The room before runs, which begin at a place. Up to four fifths of a list may be room: where
+/// more of it would be, the runs are moved to its front.
 fn less_room<A: Allocator>(list: &mut Vec<(Number, Number), A>, room: usize) -> usize
     requires { room ≤ vec_len list.old }
     ensures within { result ≤ vec_len list.new }
