@@ -37,9 +37,9 @@ impl<C: Catalog> Participant<C> {
         put(&mut self.ports[rank], self.alloc, outlet)
     }
 
-    /// Sends the backlog of a rank through its outlet, the oldest notice first, until the backlog is
-    /// empty or the outlet hands a notice back, its ring being full. Gives how many notices still
-    /// wait: 0 where nothing is attached. No memory is taken, and nobody is waited for.
+    /// Sends the backlog of a rank through its outlet, the oldest notice first, until it is empty
+    /// or the outlet hands a notice back, its ring being full. Gives how many notices still wait: 0
+    /// where nothing is attached. No memory is taken, and nobody is waited for.
     pub fn deliver(&mut self, rank: u32) -> usize
         ensures same { (self.new.engine ≡ self.old.engine) × (self.new.batches ≡ self.old.batches) }
         ensures ports { MatchOption (slice_index_or self.old.ports rank None)

@@ -83,9 +83,9 @@ fn run_paired<C: Catalog, G: Gate, R: Threads + Sync>(
 impl<C: Catalog> Participant<C> {
     /// Takes the next datagrams, at most 4,096 of at most 65,507 octets each, and gives the notices
     /// of each reader and what is to be sent, as [`rtps_serial::SerialEngine::take`] gives them of
-    /// one datagram after another. The readers' jobs are run by so many workers, 1 to 64: one is the
-    /// caller, several have a thread each, for which the caller waits. `gate` is called as each job
-    /// begins and ends. Where there is more than one worker, more than 1 MiB of datagrams are
+    /// one datagram after another. The readers' jobs are run by so many workers, 1 to 64: one is
+    /// the caller, several have a thread each, for which the caller waits. `gate` is called as each
+    /// job begins and ends. Where there is more than one worker, more than 1 MiB of datagrams are
     /// decoded on as many threads as there are processors.
     ///
     /// What a reader with an outlet reports is not in the outcome: it is added to the end of the

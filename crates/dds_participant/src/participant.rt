@@ -1,6 +1,6 @@
 //! A participant: what it keeps, and what is asked of it between batches.
 
-ghost use Rattle.std.specs.Prelude.{◌≡◌, [], IfOk, List, ℕ, length, map};
+ghost use Rattle.std.specs.Prelude.{◌≡◌, [], IfOk, List, ℕ, false, length, map};
 ghost use Rattle.rtps_discovery.specs.Config.{check_of};
 ghost use Rattle.rtps_discovery.specs.Kept.{IsKnown};
 ghost use Rattle.rtps_serial.specs.Seen.{matches_seen, status_seen};
@@ -163,8 +163,10 @@ impl<C: Catalog> Participant<C> {
     /// What is known of the others, as the run knows it after the last batch that was taken; once a
     /// batch has been out of memory, it may know more.
     pub fn discovery(&self) -> &Discovery
-        ensures { (datagrams : List (List ℕ)) → StandsAt C.decoding datagrams self.now.engine
+        ensures known { (datagrams : List (List ℕ)) → StandsAt C.decoding datagrams self.now.engine
             → IsKnown (run_by C.decoding self.now.engine datagrams).known result.now.kept }
+        ensures unspent { (datagrams : List (List ℕ)) → StandsAt C.decoding datagrams
+            self.now.engine → result.now.spent ≡ false }
     {
         &self.discovery
     }

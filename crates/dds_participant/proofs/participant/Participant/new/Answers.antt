@@ -16,6 +16,7 @@ returns-clause-stands g c =
       sound = refl;
       index = refl;
       known = c.in_ok-discovery.ensures.known;
+      unspent = c.in_ok-discovery.ensures.ok;
       count = count;
       readers = all;
       shows = shows_first g.C.Catalog.decoding (record { catalog = c.args.catalog; config = c.args.config; index = 0; failed = false; discovery = c.in_ok-discovery.discovery; readers = states; statuses = c.in_ok-statuses.statuses.items }) count shown all;
