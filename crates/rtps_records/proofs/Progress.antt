@@ -6,11 +6,11 @@ use Rattle.std.specs.Io.KnownBytes.{Appends, Consumes, IsAtEnd}
 use Rattle.std.proofs.KnownBytes.{Consumes-trans, Appends-trans, Appends-nil, Appends-kept, Keeps-refl}
 use Rattle.rtps_records.specs.declared.fault.RunFault.{RunFault}
 use Rattle.rtps_records.specs.declared.fault.RunFault.TheVariants.{CannotRead, NotRecordFile, CutRecord, RecordTooLong, TooManyRecords, CannotWrite, NoMemory}
-use Rattle.rtps_records.specs.RecordFile.{magic, frame, Holds, EndsBy, IsRecord, IsPartial, FaultHere, FaultFirst, Reads}
+use Rattle.rtps_records.specs.RecordFile.{magic, frame, Holds, EndsBy, IsOther, IsRecord, IsPartial, FaultHere, FaultFirst, Reads}
 use Rattle.rtps_records.specs.Text.{IsFront, Says, Ends, text_of}
 use Rattle.rtps_records.proofs.Printed.{ends_here}
 use Rattle.rtps_records.proofs.OneReading.{one_reading, records_first}
-use Rattle.rtps_records.specs.Runs.{WroteAll, WroteRead, WroteFront, WroteReadFront, Moves, PutsFront, Spills, Stops, Closes, ClosesNot}
+use Rattle.rtps_records.specs.Runs.{IsFrontOf, WroteAll, WroteRead, WroteFront, WroteReadFront, Moves, PutsFront, Spills, Stops, Closes, ClosesNot}
 
 -- n records were read; what is said of them was written or is kept back
 pub record Progress (said : List (List ℕ) → List ℕ → Type 0) (before now old new : Option (List ℕ)) (n : ℕ) (kept : List ℕ) : Type 0 where
@@ -189,7 +189,10 @@ stops_first text NoMemory before after old h = absurd h
 pub stops_at_once : (text : List (List ℕ) → List ℕ) (before after old : Option (List ℕ)) → Stops text NoMemory before after old old
 unfolding Stops WroteFront
 stops_at_once text None after old = ([], Appends-nil old, tt)
-stops_at_once text (Some input) after old = ([], Appends-nil old, λ records fault r. (text records, refl))
+stops_at_once text (Some input) after old =
+    let front : IsFrontOf text [] input =
+    record { front = λ records fault r. (text records, refl); other = λ other. refl } in
+    ([], Appends-nil old, front)
 
 -- what was said begins the text of all records, of which those come first that it was said of
 abbrev pub SaidIsFront : (List (List ℕ) → List ℕ → Type 0) → (List (List ℕ) → List ℕ) → Type 0
@@ -211,14 +214,24 @@ read_first input (Some left) records all fault read each few r =
     let same : flat_map frame records ++ left ≡ flat_map frame all ++ r.0 = ap (drop 4) (sym here.whole ∙ r.1.whole) in
     records_first records all 0 left r.0 fault each r.1.each same (omega (arith, few)) (subst (λ k. EndsBy fault k r.0) (sym (zero-add (length all))) r.2)
 
+-- an input of which the magic was read is a record file
+no_other : (input : List ℕ) (now : Option (List ℕ)) (records : List (List ℕ))
+    → Consumes (Some input) now (magic ++ flat_map frame records) → ¬ IsOther input
+no_other input None records read other = absurd read
+no_other input (Some left) records read other =
+    other (flat_map frame records ++ left) (read ∙ append_assoc magic (flat_map frame records) left)
+
 -- what begins the text of all records that begin so is a front of the text of the whole input
 front_of_all : (whole : List (List ℕ) → List ℕ) (before now : Option (List ℕ)) (records : List (List ℕ)) (put : List ℕ) → Consumes before now (magic ++ flat_map frame records)
     → AllByRecursion IsRecord records → length records ≤ 4294967295 → ((more : List (List ℕ)) → IsFront put (whole (records ++ more)))
-    → IfSome before (λ input. (all : List (List ℕ)) (fault : Option RunFault) → Reads input all fault → IsFront put (whole all))
+    → IfSome before (IsFrontOf whole put)
 front_of_all whole None now records put read each few fronts = tt
-front_of_all whole (Some input) now records put read each few fronts = λ all fault r.
-    let first = read_first input now records all fault read each few r in
-    subst (λ l. IsFront put (whole l)) (sym first.1) (fronts first.0)
+front_of_all whole (Some input) now records put read each few fronts = record {
+  front = λ all fault r.
+      let first = read_first input now records all fault read each few r in
+      subst (λ l. IsFront put (whole l)) (sym first.1) (fronts first.0);
+  other = λ other. absurd (no_other input now records read other);
+}
 
 put_front : (said : List (List ℕ) → List ℕ → Type 0) (text whole : List (List ℕ) → List ℕ) (before now old mid new : Option (List ℕ)) (n : ℕ) (kept : List ℕ)
     → n ≤ 4294967295 → Progress said before now old mid n kept → SaidIsFront said text → ((records : List (List ℕ)) → text records ≡ whole records) → PutsFront mid new kept
@@ -270,10 +283,13 @@ at_end (Some rest) n few end = (few, end)
 
 -- where the records are all, a front of their text is a front of the text of the whole input
 front_of_these : (whole : List (List ℕ) → List ℕ) (before : Option (List ℕ)) (records : List (List ℕ)) (end : Option RunFault) (put : List ℕ) → IfSome before (λ input. Reads input records end)
-    → IsFront put (whole records) → IfSome before (λ input. (all : List (List ℕ)) (fault : Option RunFault) → Reads input all fault → IsFront put (whole all))
+    → IsFront put (whole records) → IfSome before (IsFrontOf whole put)
 front_of_these whole None records end put reads front = tt
-front_of_these whole (Some input) records end put reads front = λ all fault r.
-    subst (λ l. IsFront put (whole l)) (one_reading input records all end fault reads r).0 front
+front_of_these whole (Some input) records end put reads front = record {
+  front = λ all fault r.
+      subst (λ l. IsFront put (whole l)) (one_reading input records all end fault reads r).0 front;
+  other = λ other. absurd (other (flat_map frame records ++ reads.0) reads.1.whole);
+}
 
 -- a front of the text of the records that were read was written, and so is what is left of them
 wrote_at_end : (whole : List (List ℕ) → List ℕ) (before now after old new : Option (List ℕ)) (records : List (List ℕ)) (put : List ℕ) (end : Option RunFault)

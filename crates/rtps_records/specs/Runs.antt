@@ -20,12 +20,19 @@ WroteRead text before after old new =
     × (((length taken < 4) × Keeps old new)
     ⊎ ((records : List (List ℕ)) × (rest : List ℕ) × Holds taken records rest × IsPartial (length records) rest × Appends old new (text records)))
 
--- what was written is a front of the text of the whole input, whatever its records and its end are;
--- where nothing was written it is too
-unfoldable pub WroteFront : (List (List ℕ) → List ℕ) → Option (List ℕ) → Option (List ℕ) → Option (List ℕ) → Type 0
+-- Octets are a front of the text of an input: of that of its records, whatever they and its end
+-- are. An input that is no record file has no text.
+pub record IsFrontOf (text : List (List ℕ) → List ℕ) (put input : List ℕ)
+    : Type 0 where
+  pub front : (records : List (List ℕ)) (fault : Option RunFault) → Reads input records fault
+      → IsFront put (text records)
+  pub other : IsOther input → put ≡ []
+
+-- what was written is a front of the text of the whole input; where nothing was written it is too
+unfoldable pub WroteFront : (List (List ℕ) → List ℕ) → Option (List ℕ) → Option (List ℕ)
+    → Option (List ℕ) → Type 0
 WroteFront text before old new =
-    (put : List ℕ) × Appends old new put
-    × IfSome before (λ input. (records : List (List ℕ)) (fault : Option RunFault) → Reads input records fault → IsFront put (text records))
+    (put : List ℕ) × Appends old new put × IfSome before (IsFrontOf text put)
 
 -- A part of the input was read, as a read fault leaves it. What was written is a front of the text
 -- of the records in it.

@@ -1,9 +1,9 @@
 -- What a run says of records.
 use Rattle.std.specs.Prelude.{◌≡◌, ℕ, ◌+◌, List, [], ◌∷◌, ◌++◌, length}
 
--- a text begins with what was said
-abbrev pub IsFront : List ℕ → List ℕ → Type 0
-IsFront said text = (rest : List ℕ) × (text ≡ said ++ rest)
+-- a list begins with another, as a text does with what was said
+abbrev pub IsFront : {A : Type 0} → List A → List A → Type 0
+IsFront {A} said text = (rest : List A) × (text ≡ said ++ rest)
 
 -- the texts of records that are numbered from n
 abbrev pub text_from : (ℕ → List ℕ → List ℕ) → ℕ → List (List ℕ) → List ℕ

@@ -53,7 +53,7 @@ module _ {X : Type 0} (place : X → Place) where
   front_none p xs (q ∷ ps) later = front_later p q (at q xs) (along ps xs) later.0 (all_at q xs) (front_none p xs ps later.1)
 
   -- the next ones are those at the next place
-  front_next : (p : Place) (ps : List Place) (xs : List X) (n : ℕ) → AllByRecursion (λ q. not_after q p ≡ false) ps → drop n xs ≡ along (p ∷ ps) xs → front_at place p (drop n xs) ≡ at p xs
+  pub front_next : (p : Place) (ps : List Place) (xs : List X) (n : ℕ) → AllByRecursion (λ q. not_after q p ≡ false) ps → drop n xs ≡ along (p ∷ ps) xs → front_at place p (drop n xs) ≡ at p xs
   front_next p ps xs n later e = ap (front_at place p) e ∙ front_all p (at p xs) (along ps xs) (all_at p xs) (front_none p xs ps later)
 
   -- and those at later ones are left

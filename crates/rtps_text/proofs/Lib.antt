@@ -1,12 +1,14 @@
 pub mod Along
 pub mod Batches
 pub mod Caching
+pub mod Calls
 pub mod Due
 pub mod Fronts
 pub mod Hearing
 pub mod Rows
 pub mod Run
 pub mod Sampled
+pub mod Sent
 pub mod Sliced
 pub mod Turns
 pub mod Viewing

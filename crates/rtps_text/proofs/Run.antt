@@ -76,6 +76,14 @@ goes_on decoding own index [] more w = put_stays decoding w (events_from own ind
 goes_on decoding own index (octets ∷ records) more w =
     goes_on_behind decoding (events_from own (index + 1) records) (events_from own (index + 1) (records ++ more)) (goes_on decoding own (index + 1) records more) w (events_of own index octets)
 
+-- what a run puts out over more records begins with what it puts out over the first ones
+pub put_on : {C M : Type 0} (decoding : C → Decoding M) (engine : EngineView C)
+    (records more : List (List ℕ)) → (extra : List (ReportView M))
+    × ((run_by decoding engine (records ++ more)).put
+    ≡ (run_by decoding engine records).put ++ extra)
+put_on decoding engine records more =
+    goes_on (decoding engine.catalog) engine.config.own 0 records more (first_world engine.config)
+
 -- what was said of the first records begins the whole text of all
 pub fronts : {C M : Type 0} (text : C → M → List ℕ) (decoding : C → Decoding M) (summary : Bool) (engine : EngineView C) (records more : List (List ℕ)) (said : List ℕ)
     → HasSaid text decoding records said engine → IsFront said (text_by text decoding engine summary (records ++ more))

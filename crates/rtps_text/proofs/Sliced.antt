@@ -103,7 +103,7 @@ filter_map f q (x ∷ xs) = by_test (q (f x)) (filter_map f q xs)
     by_test true rest = ap (λ l. f x ∷ l) rest
     by_test false rest = rest
 
-drop_map : {X Y : Type 0} (f : X → Y) (n : ℕ) (xs : List X) → drop n (map f xs) ≡ map f (drop n xs)
+pub drop_map : {X Y : Type 0} (f : X → Y) (n : ℕ) (xs : List X) → drop n (map f xs) ≡ map f (drop n xs)
 drop_map f zero xs = refl
 drop_map f (suc n) [] = refl
 drop_map f (suc n) (x ∷ xs) = drop_map f n xs
@@ -122,7 +122,7 @@ here_or_later x c p at later = let g : same_place x c ≡ true = at in let h : n
 just_here : (x p : Place) → same_place x p ≡ true → is_before x p ≡ false
 just_here x p at = let g : same_place x p ≡ true = at in grind (arith, nat_tests, g)
 
-rising_later : (bs : List Place) (p : Place) (cs : List Place) → AreRising (bs ++ p ∷ cs) → AllByRecursion (λ b. not_after p b ≡ false) bs × AllByRecursion (λ c. not_after c p ≡ false) cs
+pub rising_later : (bs : List Place) (p : Place) (cs : List Place) → AreRising (bs ++ p ∷ cs) → AllByRecursion (λ b. not_after p b ≡ false) bs × AllByRecursion (λ c. not_after c p ≡ false) cs
 rising_later [] p cs rising = (tt, rising.0)
 rising_later (b ∷ bs) p cs rising =
     let rest = rising_later bs p cs rising.1 in

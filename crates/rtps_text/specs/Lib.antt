@@ -7,5 +7,6 @@ pub mod Line
 pub mod Listened
 pub mod Live
 pub mod Replayed
+pub mod Sending
 pub mod Slices
 pub mod Told

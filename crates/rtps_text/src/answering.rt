@@ -1,36 +1,96 @@
 //! The answers of a batch, on their way to writers.
 
-ghost use Rattle.std.specs.Prelude.{[]};
-ghost use Rattle.rtps_records.specs.Heard.{Hears};
+ghost use Rattle.std.specs.Prelude.{◌≡◌, false, map};
+ghost use Rattle.rtps_planner.specs.Commuting.{answers_at};
+ghost use Rattle.rtps_reader.specs.Notices.{answer_view};
+ghost use Rattle.dds_participant.specs.Given.{said_view};
+ghost use Rattle.rtps_records.specs.Traffic.{Grows};
+ghost use Rattle.rtps_text.specs.Sending.{AreAnswersByPlace, AreBy, HasNoAnswer, IsPlaceOf, Sends, given_sends, place_sends, replies_sends, sendings, to_each};
 
+use crate::slices::{replies_before, rest, said_before};
 use dds_participant::Given;
 use rtps_records::Exchange;
-use rtps_types::Locator;
+use rtps_serial::Answer;
+use rtps_types::{Locator, Place, Reply};
 
-/// Sends the answers of a batch, each one whole to each of its locators: discovery's first, and
-/// then those of each reader in their order, by rank (DDSI-RTPS 8.3.7.1, ACKNACK, and 8.3.7.11,
-/// NACK_FRAG).
+/// Sends the answers of a batch in the order of the run, each one whole and once to each of its
+/// locators: place by place, discovery's answers first, and then those of each reader, by rank
+/// (DDSI-RTPS 8.3.8.1, AckNack, and 8.3.8.10, NackFrag). So what is sent of a run is the same
+/// however it is cut into batches.
 ///
 /// `given` is what [`run_in_order`](dds_participant::Participant::run_in_order) gave of the batch.
 /// An answer without locators goes nowhere. A send that the network refuses is no error: that
 /// datagram is lost, as any may be, and the next heartbeat of its writer is answered again. Nothing
-/// is received.
+/// is received, and no memory is taken.
 pub fn send_answers<V: Drop, N: Exchange>(network: &mut N, given: &Given<V>)
-    ensures { Hears (N.heard network.old) (N.heard network.new) [] }
+    ensures { Sends (AreAnswersByPlace given.now) (N.traffic network.old) (N.traffic network.new)
+        (given_sends given.now) }
 {
-    for answer in &given.answers {
+    if !has_answer(given) {
+        return;
+    }
+    for place in &given.places {
+        send_at(network, given, *place);
+    }
+}
+
+/// Whether there is an answer in what a batch gave.
+fn has_answer<V: Drop>(given: &Given<V>) -> bool
+    ensures { result ≡ false → HasNoAnswer given.now }
+{
+    for output in &given.outputs {
+        if !output.answers.is_empty() {
+            return true;
+        }
+    }
+    !given.answers.is_empty()
+}
+
+/// Sends the answers of a batch at a place: discovery's, and then those of each reader, by rank.
+fn send_at<V: Drop, N: Exchange>(network: &mut N, given: &Given<V>, place: Place)
+    ensures { Sends (IsPlaceOf given.now place) (N.traffic network.old) (N.traffic network.new)
+        (place_sends given.now place) }
+{
+    send_said(network, &given.answers, place);
+    for output in &given.outputs {
+        send_replies(network, &output.answers, place);
+    }
+}
+
+/// Sends discovery's answers at a place.
+fn send_said<N: Exchange>(network: &mut N, answers: &[Answer], place: Place)
+    ensures { Sends (AreBy place (map said_view answers.now))
+        (N.traffic network.old) (N.traffic network.new)
+        (replies_sends (answers_at place (map said_view answers.now))) }
+{
+    let left = rest(answers, said_before(answers, place));
+    for answer in left {
+        if answer.place != place {
+            return;
+        }
         send_to(network, answer.to.as_slice(), answer.octets.as_slice());
     }
-    for output in &given.outputs {
-        for (_, reply) in &output.answers {
-            send_to(network, reply.to.as_slice(), reply.octets.as_slice());
+}
+
+/// Sends a reader's answers at a place.
+fn send_replies<N: Exchange>(network: &mut N, replies: &[(Place, Reply)], place: Place)
+    ensures { Sends (AreBy place (map answer_view replies.now))
+        (N.traffic network.old) (N.traffic network.new)
+        (replies_sends (answers_at place (map answer_view replies.now))) }
+{
+    let left = rest(replies, replies_before(replies, place));
+    for (at, reply) in left {
+        if *at != place {
+            return;
         }
+        send_to(network, reply.to.as_slice(), reply.octets.as_slice());
     }
 }
 
 /// Sends an answer to each of these locators.
 fn send_to<N: Exchange>(network: &mut N, to: &[Locator], octets: &[u8])
-    ensures { Hears (N.heard network.old) (N.heard network.new) [] }
+    ensures { Grows (N.traffic network.old) (N.traffic network.new)
+        (sendings (to_each to.now octets.now)) }
 {
     for locator in to {
         network.send(*locator, octets);

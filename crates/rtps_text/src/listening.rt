@@ -2,9 +2,9 @@
 
 ghost use Rattle.std.specs.Prelude.{◌≡◌, []};
 ghost use Rattle.dds_participant.specs.Given.{HoldsNothing};
-ghost use Rattle.rtps_text.specs.Live.{IsLive};
-ghost use Rattle.rtps_text.specs.Listened.{HearingEnds};
-ghost use Rattle.rtps_text.specs.Replayed.{HasSaid, replay_text, text_by};
+ghost use Rattle.rtps_text.specs.Live.{IsLive, live_by};
+ghost use Rattle.rtps_text.specs.Listened.{Listened, limits_of, live_run};
+ghost use Rattle.rtps_text.specs.Replayed.{HasSaid};
 
 use crate::live::Live;
 use crate::live_fault::LiveFault;
@@ -16,13 +16,20 @@ use std::alloc::Global;
 use std::io::Write;
 use std::thread::Threads;
 
-/// Receives datagrams, gives them to the readers of a configuration as they come, and writes the
-/// lines that [`replay`](crate::replay) writes of the same datagrams in a file; what the readers
-/// answer is sent. The lines of what came are written and flushed before more is received. With
-/// `summary` the matches and the status of each reader come at the end, also where no datagram can
-/// be received any more.
+/// Receives datagrams, gives them to the readers of a configuration as they come, sends what they
+/// answer, each answer once to each of its locators, and writes the lines that
+/// [`replay`](crate::replay) writes of the same datagrams in a file. The answers to what came are
+/// sent first, so that a slow writer holds up none; then its lines are written and flushed, before
+/// more is received. With `summary` the matches and the status of each reader come at the end, also
+/// where no datagram can be received any more.
 ///
-/// It ends after as many datagrams as the setup says, and after as many waits for some.
+/// It ends after as many datagrams as the setup says, and after as many waits for some. Before each
+/// wait all that came was received and answered.
+///
+/// [`LiveFault::Socket`] where the network fails, as it waits or receives: what came before is
+/// answered and written, the summary too. [`LiveFault::Run`] with `CannotWrite` where a write
+/// fails, which comes after the answers to all that was received; and with `NoMemory`. A front of
+/// the text may have been written then.
 pub fn listen<C: TextCatalog, N: Exchange, W: Write, T: Threads + Sync>(
     rt: &T,
     alloc: Global,
@@ -32,10 +39,11 @@ pub fn listen<C: TextCatalog, N: Exchange, W: Write, T: Threads + Sync>(
 ) -> Result<(), LiveFault>
 where
     C::Value: Sync,
-    ensures { HearingEnds
-        (replay_text (C.text_of setup.run.catalog) (C.decoding setup.run.catalog)
+    ensures { Listened
+        (live_run (C.text_of setup.run.catalog) (C.decoding setup.run.catalog)
         setup.run.config setup.run.summary)
-        setup.datagrams result (N.heard network.old) (N.heard network.new)
+        (limits_of setup.datagrams setup.turns) result
+        (N.traffic network.old) (N.traffic network.new)
         (W.contents writer.old) (W.contents writer.new) }
 {
     let LiveSetup {
@@ -77,9 +85,9 @@ where
     C::Value: Sync,
     requires live { IsLive live }
     requires fresh { HasSaid C.text_of C.decoding [] [] live.run.participant.engine }
-    ensures { HearingEnds
-        (text_by C.text_of C.decoding live.entry.run.participant.engine live.entry.run.summary)
-        live.entry.left result (N.heard network.old) (N.heard network.new)
+    ensures { Listened
+        (live_by C.text_of C.decoding live.entry.run.participant.engine live.entry.run.summary)
+        (limits_of live.entry.left turns) result (N.traffic network.old) (N.traffic network.new)
         (W.contents writer.old) (W.contents writer.new) }
 {
     let mut lines = Lines::new(live.run.alloc, writer);
@@ -100,9 +108,9 @@ where
     requires fresh { HasSaid C.text_of C.decoding [] [] live.run.participant.engine }
     requires empty { lines.old.text.items ≡ [] }
     ensures same_writer { lines.new.writer.ghost_name ≡ lines.old.writer.ghost_name }
-    ensures prints { HearingEnds
-        (text_by C.text_of C.decoding live.entry.run.participant.engine live.entry.run.summary)
-        live.entry.left result (N.heard network.old) (N.heard network.new)
+    ensures prints { Listened
+        (live_by C.text_of C.decoding live.entry.run.participant.engine live.entry.run.summary)
+        (limits_of live.entry.left turns) result (N.traffic network.old) (N.traffic network.new)
         (W.contents lines.old.writer.now) (W.contents lines.new.writer.now) }
 {
     let end = live.take_turns(rt, turns, network, lines)?;

@@ -1,10 +1,9 @@
 //! A run over datagrams as they are received, a batch at a time.
 
-ghost use Rattle.std.specs.Prelude.{◌≡◌, ◌<◌, ◌≤◌, ◌⊎◌, [], IfErr, IfOk, OnErr, OnOk};
-ghost use Rattle.rtps_records.specs.declared.fault.RunFault.TheVariants.{CannotWrite, NoMemory};
+ghost use Rattle.std.specs.Prelude.{◌≡◌, ◌<◌, ◌≤◌, [], IfErr, IfOk, OnOk};
 ghost use Rattle.rtps_records.specs.declared.receive_end.ReceiveEnd.TheVariants.{More};
 ghost use Rattle.dds_participant.specs.Ports.{NoneAttached};
-ghost use Rattle.rtps_text.specs.Live.{GoesOn, IsLive, StopsShort};
+ghost use Rattle.rtps_text.specs.Live.{GoesOn, IsLive, StopsShort, TakesTurns, TurnsStop};
 ghost use Rattle.rtps_text.specs.Batched.{IsSameRun};
 ghost use Rattle.rtps_text.specs.Replayed.{HasSaid};
 
@@ -74,11 +73,11 @@ where
         }
     }
 
-    /// Receives what has come, a batch at the most, gives it to the readers, writes its lines, and
-    /// sends its answers.
+    /// Receives what has come, a batch at the most, gives it to the readers, sends its answers, and
+    /// writes its lines. The answers go first, so that a slow writer holds up none.
     ///
-    /// `CannotWrite` where a write fails, and `NoMemory`; a front of the lines may have been
-    /// written then.
+    /// `CannotWrite` where a write fails, after the answers, and `NoMemory`; a front of the lines
+    /// may have been written then.
     fn take<N: Exchange, W: Write, T: Threads + Sync>(
         &mut self,
         rt: &T,
@@ -92,28 +91,28 @@ where
         ensures live { OnOk result (IsLive self.new) }
         ensures empty { OnOk result (lines.new.text.items ≡ []) }
         ensures same { OnOk result (IsSameRun self.old.run self.new.run) }
-        ensures goes_on { OnOk result (GoesOn C.text_of C.decoding self.old self.new
-            (N.heard network.old) (N.heard network.new)
-            (W.contents lines.old.writer.now) (W.contents lines.new.writer.now)) }
+        ensures goes_on { IfOk result (λ end. GoesOn C.text_of C.decoding self.old self.new
+            (N.traffic network.old) (N.traffic network.new)
+            (W.contents lines.old.writer.now) (W.contents lines.new.writer.now) end) }
         ensures fewer { IfOk result (λ end. end ≡ More → self.new.left < self.old.left) }
-        ensures fault { IfErr result (λ fault. (fault ≡ CannotWrite) ⊎ (fault ≡ NoMemory)) }
-        ensures front { OnErr result (StopsShort C.text_of C.decoding self.old
-            (N.heard network.old) (N.heard network.new)
+        ensures stops { IfErr result (λ fault. StopsShort C.text_of C.decoding self.old fault
+            (N.traffic network.old) (N.traffic network.new)
             (W.contents lines.old.writer.now) (W.contents lines.new.writer.now)) }
     {
         let most = self.most();
         let end = self.batch.receive(network, most)?;
         self.left -= self.batch.len() as u32;
         self.run.take_records(rt, &self.batch)?;
+        send_answers(network, &self.run.given);
         self.printer
             .print_last(rt, &self.run.given, &mut self.texts, lines)?;
         lines.close()?;
         lines.text.clear();
-        send_answers(network, &self.run.given);
         Ok(end)
     }
 
-    /// Takes batches until all that came was received, or no more may be.
+    /// Takes batches until all that came was received, or the network fails; or no more may be,
+    /// where it answers [`ReceiveEnd::More`].
     fn take_all<N: Exchange, W: Write, T: Threads + Sync>(
         &mut self,
         rt: &T,
@@ -126,12 +125,12 @@ where
         ensures live { OnOk result (IsLive self.new) }
         ensures empty { OnOk result (lines.new.text.items ≡ []) }
         ensures same { OnOk result (IsSameRun self.old.run self.new.run) }
-        ensures goes_on { OnOk result (GoesOn C.text_of C.decoding self.old self.new
-            (N.heard network.old) (N.heard network.new)
-            (W.contents lines.old.writer.now) (W.contents lines.new.writer.now)) }
-        ensures fault { IfErr result (λ fault. (fault ≡ CannotWrite) ⊎ (fault ≡ NoMemory)) }
-        ensures front { OnErr result (StopsShort C.text_of C.decoding self.old
-            (N.heard network.old) (N.heard network.new)
+        ensures goes_on { IfOk result (λ end. GoesOn C.text_of C.decoding self.old self.new
+            (N.traffic network.old) (N.traffic network.new)
+            (W.contents lines.old.writer.now) (W.contents lines.new.writer.now) end) }
+        ensures all { IfOk result (λ end. end ≡ More → self.new.left ≡ 0) }
+        ensures stops { IfErr result (λ fault. StopsShort C.text_of C.decoding self.old fault
+            (N.traffic network.old) (N.traffic network.new)
             (W.contents lines.old.writer.now) (W.contents lines.new.writer.now)) }
     {
         while self.left > 0 {
@@ -140,7 +139,7 @@ where
                 return Ok(end);
             }
         }
-        Ok(ReceiveEnd::Drained)
+        Ok(ReceiveEnd::More)
     }
 
     /// Waits for datagrams so many times at the most, and takes each time all that have come.
@@ -157,25 +156,28 @@ where
         ensures live { OnOk result (IsLive self.new) }
         ensures empty { OnOk result (lines.new.text.items ≡ []) }
         ensures same { OnOk result (IsSameRun self.old.run self.new.run) }
-        ensures goes_on { OnOk result (GoesOn C.text_of C.decoding self.old self.new
-            (N.heard network.old) (N.heard network.new)
+        ensures takes { IfOk result (λ end. TakesTurns C.text_of C.decoding turns end
+            self.old self.new (N.traffic network.old) (N.traffic network.new)
             (W.contents lines.old.writer.now) (W.contents lines.new.writer.now)) }
-        ensures fault { IfErr result (λ fault. (fault ≡ CannotWrite) ⊎ (fault ≡ NoMemory)) }
-        ensures front { OnErr result (StopsShort C.text_of C.decoding self.old
-            (N.heard network.old) (N.heard network.new)
+        ensures stops { IfErr result (λ fault. TurnsStop C.text_of C.decoding turns self.old fault
+            (N.traffic network.old) (N.traffic network.new)
             (W.contents lines.old.writer.now) (W.contents lines.new.writer.now)) }
     {
-        for _ in 0..turns {
+        let mut end = ReceiveEnd::Drained;
+        for _turn in 0..turns {
             if self.left == 0 {
-                break;
+                return Ok(end);
             }
-            if network.wait().is_err() {
-                return Ok(ReceiveEnd::Fault);
+            match network.wait() {
+                Ok(()) => {}
+                Err(_) => return Ok(ReceiveEnd::Fault),
             }
-            if self.take_all(rt, network, lines)? == ReceiveEnd::Fault {
-                return Ok(ReceiveEnd::Fault);
+            end = self.take_all(rt, network, lines)?;
+            match end {
+                ReceiveEnd::Fault => return Ok(end),
+                _ => {}
             }
         }
-        Ok(ReceiveEnd::Drained)
+        Ok(end)
     }
 }

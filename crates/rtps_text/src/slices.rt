@@ -132,7 +132,7 @@ fn notices_before<V>(notices: &[Notice<V>], place: Place) -> usize
 }
 
 /// How many answers of a reader come before a place, where they are by place.
-fn replies_before(replies: &[(Place, Reply)], place: Place) -> usize
+pub(crate) fn replies_before(replies: &[(Place, Reply)], place: Place) -> usize
     ensures { IsPartitionedBy (λ r. is_before r.0 place) replies.now → drop result replies.now
         ≡ filter (λ r. not (is_before r.0 place)) replies.now }
 {
@@ -140,7 +140,7 @@ fn replies_before(replies: &[(Place, Reply)], place: Place) -> usize
 }
 
 /// How many answers of discovery come before a place, where they are by place.
-fn said_before(answers: &[Answer], place: Place) -> usize
+pub(crate) fn said_before(answers: &[Answer], place: Place) -> usize
     ensures { IsPartitionedBy (λ a. is_before a.place place) answers.now → drop result answers.now
         ≡ filter (λ a. not (is_before a.place place)) answers.now }
 {
@@ -148,7 +148,7 @@ fn said_before(answers: &[Answer], place: Place) -> usize
 }
 
 /// The items from one on.
-fn rest<T>(items: &[T], from: usize) -> &[T]
+pub(crate) fn rest<T>(items: &[T], from: usize) -> &[T]
     ensures { result.now ≡ drop from items.now }
 {
     items.get(from..).unwrap_or(&[])

@@ -128,9 +128,9 @@ fn keeps_the_records_before_a_fault(rt: HostRuntime) -> Result<(), Fail> {
 
 /// Takes one octet a call, and fails behind so many.
 #[derive(Drop)]
-struct Slow {
-    taken: Vec<u8>,
-    most: usize,
+pub(super) struct Slow {
+    pub(super) taken: Vec<u8>,
+    pub(super) most: usize,
 }
 
 impl Write for Slow {

@@ -3,13 +3,14 @@
 ghost use Rattle.rtps_discovery.specs.Config.{check_of};
 ghost use Rattle.std.specs.Prelude.{◌≡◌, Ok};
 
+use super::entries::Slow;
 use super::runs::{FILE, FIRST, Given, LINES, PACES, config_of};
 use super::{octets, text};
 use crate::{LiveFault, LiveSetup, Pace, Setup, listen};
 use dds_qos::Reliability;
 use dds_topic::Shapes;
 use rtps_discovery::Config;
-use rtps_records::{Exchange, Receive};
+use rtps_records::{Exchange, Receive, RunFault};
 use rtps_types::Locator;
 use std::alloc::Global;
 use std::io::{self, Error, ErrorKind};
@@ -59,7 +60,7 @@ impl<'a> Wire<'a> {
 impl Receive for Wire<'_> {
     ghost use Rattle.std.specs.Prelude.{None};
 
-    ghost heard = { λ _. None };
+    ghost traffic = { λ _. None };
 
     fn receive(&mut self, room: &mut [u8]) -> io::Result<Option<usize>> {
         let Some(octets) = self.datagrams.get(self.taken) else {
@@ -211,5 +212,23 @@ fn sends_what_it_answers(rt: HostRuntime) -> Result<(), Fail> {
     };
     assert_eq!(rt; (to.address, to.port), ([127, 0, 0, 1], 7412));
     assert_eq!(rt; sent.as_slice(), asked.as_slice());
+    Ok(())
+}
+
+#[test]
+fn sends_what_it_answers_before_it_prints(rt: HostRuntime) -> Result<(), Fail> {
+    let announced = octets(rt.alloc(), &ANNOUNCED[..2])?;
+    let beats = octets(rt.alloc(), &ANNOUNCED[2..])?;
+    let datagrams = [announced.as_slice(), beats.as_slice()];
+    let mut wire = Wire::new(rt.alloc(), &datagrams, 2, After::Nothing);
+    let config = config_of(rt.alloc(), Given::Unmatched)?;
+    let setup = live_setup(config, PACES[3], 2, 1);
+    let mut broken = Slow {
+        taken: Vec::new(rt.alloc()),
+        most: 0,
+    };
+    let outcome = listen(&rt, rt.alloc(), setup, &mut wire, &mut broken);
+    assert_eq!(rt; outcome, Err(LiveFault::Run(RunFault::CannotWrite)));
+    assert_eq!(rt; wire.sent.len(), 1);
     Ok(())
 }

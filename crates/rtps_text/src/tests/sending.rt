@@ -20,7 +20,7 @@ struct Kept {
 impl Receive for Kept {
     ghost use Rattle.std.specs.Prelude.{None};
 
-    ghost heard = { λ _. None };
+    ghost traffic = { λ _. None };
 
     fn receive(&mut self, _room: &mut [u8]) -> io::Result<Option<usize>> {
         Ok(None)
@@ -38,8 +38,18 @@ impl Exchange for Kept {
     }
 }
 
-const PLACE: Place = Place {
+const FIRST: Place = Place {
     datagram: 0,
+    submessage: 1,
+};
+
+const SECOND: Place = Place {
+    datagram: 0,
+    submessage: 2,
+};
+
+const THIRD: Place = Place {
+    datagram: 4,
     submessage: 1,
 };
 
@@ -64,10 +74,10 @@ fn reply(alloc: Global, ports: &[u16], octet: u8) -> Result<Reply, AllocError> {
 }
 
 /// Discovery's answer of one octet to these ports.
-fn answer(alloc: Global, ports: &[u16], octet: u8) -> Result<Answer, AllocError> {
+fn answer(alloc: Global, place: Place, ports: &[u16], octet: u8) -> Result<Answer, AllocError> {
     let Reply { to, octets } = reply(alloc, ports, octet)?;
     Ok(Answer {
-        place: PLACE,
+        place,
         rank: None,
         to,
         octets,
@@ -75,10 +85,10 @@ fn answer(alloc: Global, ports: &[u16], octet: u8) -> Result<Answer, AllocError>
 }
 
 /// What a reader gives out that sends these answers alone.
-fn output(alloc: Global, replies: &[(u16, u8)]) -> Result<Output<Shape>, AllocError> {
+fn output(alloc: Global, replies: &[(Place, u16, u8)]) -> Result<Output<Shape>, AllocError> {
     let mut answers = Vec::new(alloc);
-    for (port, octet) in replies {
-        answers.push((PLACE, reply(alloc, &[*port], *octet)?))?;
+    for (place, port, octet) in replies {
+        answers.push((*place, reply(alloc, &[*port], *octet)?))?;
     }
     Ok(Output {
         notices: Vec::new(alloc),
@@ -87,19 +97,32 @@ fn output(alloc: Global, replies: &[(u16, u8)]) -> Result<Output<Shape>, AllocEr
 }
 
 #[test]
-fn answers_go_to_each_locator_and_by_rank(rt: HostRuntime) -> Result<(), Fail> {
+fn answers_go_by_place_and_to_each_locator(rt: HostRuntime) -> Result<(), Fail> {
     let alloc = rt.alloc();
     let mut given = Given::new(alloc);
-    given.answers.push(answer(alloc, &[7412, 7414], 1)?)?;
-    given.answers.push(answer(alloc, &[], 2)?)?;
-    given.outputs.push(output(alloc, &[(7416, 3), (7412, 4)])?)?;
+    given.places = [FIRST, SECOND, THIRD].to_vec(alloc)?;
+    given
+        .answers
+        .push(answer(alloc, SECOND, &[7412, 7414], 1)?)?;
+    given.answers.push(answer(alloc, THIRD, &[], 2)?)?;
+    let first = [(FIRST, 7416, 3), (SECOND, 7416, 4)];
+    given.outputs.push(output(alloc, &first)?)?;
     given.outputs.push(output(alloc, &[])?)?;
-    given.outputs.push(output(alloc, &[(7418, 5)])?)?;
+    let last = [(FIRST, 7418, 5), (FIRST, 7412, 6), (THIRD, 7418, 7)];
+    given.outputs.push(output(alloc, &last)?)?;
     let mut network = Kept {
         sent: Vec::new(alloc),
     };
     send_answers(&mut network, &given);
-    let wanted = [(7412, 1), (7414, 1), (7416, 3), (7412, 4), (7418, 5)];
+    let wanted = [
+        (7416, 3),
+        (7418, 5),
+        (7412, 6),
+        (7412, 1),
+        (7414, 1),
+        (7416, 4),
+        (7418, 7),
+    ];
     assert_eq!(rt; network.sent.as_slice(), wanted.as_slice());
     Ok(())
 }

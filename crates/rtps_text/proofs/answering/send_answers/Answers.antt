@@ -1,12 +1,19 @@
-use Rattle.std.proofs.Common.{[]}
-use Rattle.rtps_records.proofs.HeardSoFar.{Hears-nil, Hears-trans}
+use Rattle.rtps_text.proofs.Calls.{sends_none}
+use Rattle.rtps_text.proofs.Sent.{nothing_sends, place_sent, places_sent}
 use Rattle.rtps_text.proofs.answering.send_answers.Goals as goal
 
-pub loop-answer-init : goal.loop-answer-init
-loop-answer-init g c = Hears-nil (g.N.Receive.heard c.args.network.now)
+pub returns-then-not-has_answer : goal.returns-then-not-has_answer
+returns-then-not-has_answer g c =
+    sends_none _ _ _ (λ by. nothing_sends c.args.given.now
+    (c.has_answer.ensures c.if-not-has_answer.true))
 
-pub loop-answer-preserved : goal.loop-answer-preserved
-loop-answer-preserved g c = Hears-trans _ _ _ [] [] c.loop-answer.invariant c.send_to.ensures
+pub loop-place-preserved : goal.loop-place-preserved
+loop-place-preserved g c =
+    place_sent c.args.given.now c.deref-place-items.result.now _ _ _ c.loop-place.place-index _
+    c.deref-place-items.ensures.value c.loop-place-test.true c.send_at.ensures
+    c.loop-place.invariant
 
-pub loop-reply-preserved : goal.loop-reply-preserved
-loop-reply-preserved g c = Hears-trans _ _ _ [] [] c.loop-reply.invariant c.send_to-in-loop-reply.ensures
+pub returns : goal.returns
+returns g c =
+    places_sent c.args.given.now c.deref-place-items.result.now _ _ c.loop-place.place-index
+    c.deref-place-items.ensures.value c.loop-place-test.false c.loop-place.invariant

@@ -1,12 +1,10 @@
-use Rattle.std.proofs.Common.{[]}
-use Rattle.rtps_records.specs.Heard.{Hears}
+use Rattle.std.proofs.Common.{take}
+use Rattle.std.specs.List.{flat_map}
+use Rattle.rtps_text.specs.Sending.{AreAnswersByPlace, Sends, place_sends}
 use Rattle.rtps_text.proofs.answering.send_answers.Given as goal
 
-abbrev pub invariant-loop-answer : goal.invariant-loop-answer
-invariant-loop-answer g l = Hears (g.N.Receive.heard l.fn.network) (g.N.Receive.heard l.network) []
-
-abbrev pub invariant-loop-reply : goal.invariant-loop-reply
-invariant-loop-reply g l = Hears (g.N.Receive.heard l.fn.network) (g.N.Receive.heard l.network) []
-
-abbrev pub invariant-loop-output : goal.invariant-loop-output
-invariant-loop-output g l = Hears (g.N.Receive.heard l.fn.network) (g.N.Receive.heard l.network) []
+abbrev pub invariant-loop-place : goal.invariant-loop-place
+invariant-loop-place g l =
+    Sends (AreAnswersByPlace l.given)
+    (g.N.Receive.traffic l.fn.network) (g.N.Receive.traffic l.network)
+    (flat_map (place_sends l.given) (take l.place-index l.given.places.items))
