@@ -9,12 +9,12 @@ use Rattle.rtps_proxy.specs.Replies.{ReplyView}
 use Rattle.rtps_reader.specs.declared.notice.Notice.{Notice}
 use Rattle.rtps_reader.specs.declared.notice.Output.{Output}
 use Rattle.rtps_reader.specs.Notices as reader
-use Rattle.rtps_serial.specs.declared.outcome.Outcome.{Outcome}
-use Rattle.rtps_serial.specs.Outcome.{Adds, answer_view, notices_in}
-use Rattle.rtps_serial.specs.Seen.{answers_in, notices_by}
-use Rattle.rtps_serial.specs.World.{World}
-use Rattle.rtps_serial.proofs.Dealt.{answers_in-append}
-use Rattle.rtps_serial.proofs.Places.{all_append, all_weaker}
+use Rattle.rtps_run.specs.declared.outcome.Outcome.{Outcome}
+use Rattle.rtps_run.specs.Outcome.{Adds, answer_view, notices_in}
+use Rattle.rtps_run.specs.Seen.{answers_in, notices_by}
+use Rattle.rtps_run.specs.World.{World}
+use Rattle.rtps_run.proofs.Dealt.{answers_in-append}
+use Rattle.rtps_run.proofs.Places.{all_append, all_weaker}
 use Rattle.rtps_planner.specs.declared.jobs.Rest.{Rest}
 use Rattle.rtps_planner.specs.Commuting.{answers_at, merged, same_place}
 use Rattle.rtps_planner.specs.declared.outputs.GatherFault.{GatherFault}

@@ -4,8 +4,8 @@ use Rattle.std.proofs.Math.ListN.{get_or-map}
 use Rattle.std.proofs.lemmas.List.{length-map, take_more}
 use Rattle.rtps_types.specs.declared.identity.GuidPrefix.{GuidPrefix}
 use Rattle.rtps_receiver.specs.Events.{EventView, events_of}
-use Rattle.rtps_serial.specs.Run.{events_from}
-use Rattle.rtps_serial.proofs.Running.{events_more}
+use Rattle.rtps_run.specs.Run.{events_from}
+use Rattle.rtps_run.proofs.Running.{events_more}
 
 abbrev pub lent : List (Bor (List ℕ)) → List (List ℕ)
 lent ds = map (λ d. d.now) ds

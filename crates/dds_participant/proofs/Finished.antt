@@ -1,6 +1,6 @@
 -- A batch is finished after it was handed on.
 use Rattle.std.proofs.Common.{◌≡◌, ℕ, subst}
-use Rattle.rtps_serial.specs.Standing.{EngineView}
+use Rattle.rtps_run.specs.Standing.{EngineView}
 use Rattle.dds_participant.specs.Batch.{IsFinishedBy}
 use Rattle.dds_participant.specs.Kept.{ParticipantView}
 

@@ -10,14 +10,14 @@ use Rattle.rtps_proxy.specs.Replies.{ReplyView}
 use Rattle.rtps_reader.specs.declared.notice.Output.{Output}
 use Rattle.rtps_reader.specs.Notices as reader
 use Rattle.rtps_reader.specs.Standing.{ReaderView}
-use Rattle.rtps_serial.specs.declared.outcome.Answer.{Answer}
-use Rattle.rtps_serial.specs.Outcome.{answer_view}
-use Rattle.rtps_serial.specs.Run.{events_from, world_run}
-use Rattle.rtps_serial.specs.Seen.{notices_by, reader_count}
-use Rattle.rtps_serial.specs.World as world
-use Rattle.rtps_serial.specs.World.{NoticeOf, AnswerView, World}
-use Rattle.rtps_serial.proofs.Places.{PlacesRise, rise_from}
-use Rattle.rtps_serial.proofs.Running.{count_stays}
+use Rattle.rtps_run.specs.declared.outcome.Answer.{Answer}
+use Rattle.rtps_run.specs.Outcome.{answer_view}
+use Rattle.rtps_run.specs.Run.{events_from, world_run}
+use Rattle.rtps_run.specs.Seen.{notices_by, reader_count}
+use Rattle.rtps_run.specs.World as world
+use Rattle.rtps_run.specs.World.{NoticeOf, AnswerView, World}
+use Rattle.rtps_run.proofs.Places.{PlacesRise, rise_from}
+use Rattle.rtps_run.proofs.Running.{count_stays}
 use Rattle.rtps_planner.specs.declared.jobs.Plan.{Plan}
 use Rattle.rtps_planner.specs.Commuting.{Parts, answers_at, discovery_sends, merged, merged_below, notices_at, parts_of}
 use Rattle.rtps_planner.specs.Gather.{AreRising}

@@ -5,10 +5,10 @@ use Rattle.std.specs.declared.vec.Vec.{Vec}
 use Rattle.rtps_reader.specs.declared.notice.Notice.{Notice}
 use Rattle.rtps_reader.specs.declared.notice.Output.{Output}
 use Rattle.rtps_reader.specs.Notices.{notice_view}
-use Rattle.rtps_serial.specs.declared.outcome.Outcome.{Outcome}
-use Rattle.rtps_serial.specs.Outcome.{Adds}
-use Rattle.rtps_serial.specs.Seen.{notices_by}
-use Rattle.rtps_serial.specs.World.{World}
+use Rattle.rtps_run.specs.declared.outcome.Outcome.{Outcome}
+use Rattle.rtps_run.specs.Outcome.{Adds}
+use Rattle.rtps_run.specs.Seen.{notices_by}
+use Rattle.rtps_run.specs.World.{World}
 use Rattle.dds_outlet.specs.Ring.{Sending}
 use Rattle.dds_participant.specs.Given.{IsGiven, told_in}
 use Rattle.dds_participant.specs.declared.given.Given.{Given}

@@ -8,7 +8,7 @@ use Rattle.std.proofs.lemmas.Bool.Decides.{nat_tests}
 use Rattle.std.proofs.lemmas.Cmp.{nat_cmp_total}
 use Rattle.std.proofs.lemmas.List.Sums.{sum_by-cons}
 use Rattle.std.proofs.lemmas.List.Sorted.{ranks_by, sum_by-IsPermutation}
-use Rattle.rtps_serial.proofs.OneOrder.{one_order, rises_sorted}
+use Rattle.rtps_run.proofs.OneOrder.{one_order, rises_sorted}
 
 abbrev pub comes_before : ℕ → ℕ → Bool
 comes_before x y = is_lt (nat_cmp x y)

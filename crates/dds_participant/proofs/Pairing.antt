@@ -10,7 +10,7 @@ use Rattle.rtps_receiver.specs.Events.{EventView}
 use Rattle.dds_topic.specs.Decoding.{Decoding}
 use Rattle.rtps_reader.specs.Notices.{answer_view, notice_view}
 use Rattle.rtps_reader.specs.Standing.{ReaderView}
-use Rattle.rtps_serial.specs.Standing.{StandsFor}
+use Rattle.rtps_run.specs.Standing.{StandsFor}
 use Rattle.rtps_planner.specs.declared.jobs.Job as plan_job
 use Rattle.rtps_planner.specs.Job.{Job, job_sent, job_told}
 use Rattle.rtps_planner.specs.Plan.{job_at, job_seen, jobs_by, steps_seen}

@@ -7,7 +7,7 @@ use Rattle.std.specs.List.{AllZip, flat_map, range_with_len}
 use Rattle.rtps_types.specs.declared.identity.GuidPrefix.{GuidPrefix}
 use Rattle.rtps_receiver.specs.declared.event.Event.{Event}
 use Rattle.rtps_receiver.specs.Events.{events_of, view}
-use Rattle.rtps_serial.specs.Run.{events_from}
+use Rattle.rtps_run.specs.Run.{events_from}
 use Rattle.rtps_shards.specs.Piles.{AllOk, given_by}
 use Rattle.dds_participant.specs.Pieces.{IsPiece}
 use Rattle.dds_participant.proofs.Decoding.{lent}

@@ -6,9 +6,9 @@ use Rattle.std.proofs.lemmas.Bool.{cases_lt}
 use Rattle.std.proofs.lemmas.Bool.Decides.{nat_tests}
 use Rattle.dds_topic.specs.Decoding.{Decoding}
 use Rattle.rtps_reader.specs.declared.status.Status.{Status}
-use Rattle.rtps_serial.specs.Seen.{reader_count, status_at}
-use Rattle.rtps_serial.specs.Standing.{EngineView, ShowsAt, run_by}
-use Rattle.rtps_serial.proofs.Running.{run_count}
+use Rattle.rtps_run.specs.Seen.{reader_count, status_at}
+use Rattle.rtps_run.specs.Standing.{EngineView, ShowsAt, run_by}
+use Rattle.rtps_run.proofs.Running.{run_count}
 use Rattle.dds_outlet.specs.declared.row.Look.{Look}
 use Rattle.dds_outlet.specs.Rows.{idle, look_at}
 use Rattle.dds_participant.specs.Publishing.{ShowsWorld, row_of}

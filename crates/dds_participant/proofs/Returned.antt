@@ -9,7 +9,7 @@ use Rattle.std.proofs.lemmas.List.Sorted.{All-permutation, IsPermutation-append_
 use Rattle.dds_topic.specs.Decoding.{Decoding}
 use Rattle.rtps_reader.specs.declared.notice.Output.{Output}
 use Rattle.rtps_reader.specs.Standing.{ReaderView}
-use Rattle.rtps_serial.specs.Standing.{StandsFor}
+use Rattle.rtps_run.specs.Standing.{StandsFor}
 use Rattle.rtps_shards.specs.declared.jobs.JobResult.{JobResult}
 use Rattle.rtps_shards.specs.declared.jobs.Posted.{Posted}
 use Rattle.dds_participant.specs.declared.readers.Parted.{Parted}

@@ -3,11 +3,11 @@ use Rattle.std.proofs.Common.{◌≡◌, ◌<◌, ℕ, zero, suc, List, [], ◌�
 use Rattle.std.proofs.Common.{map, Global}
 use Rattle.rtps_reader.specs.declared.notice.Notice.{Notice}
 use Rattle.rtps_reader.specs.declared.notice.Output.{Output}
-use Rattle.rtps_serial.specs.declared.outcome.Outcome.{Outcome}
-use Rattle.rtps_serial.specs.declared.outcome.Answer.{Answer}
-use Rattle.rtps_serial.specs.Outcome.{Adds, answer_view, notices_in}
-use Rattle.rtps_serial.specs.Seen.{answers_in, notices_by}
-use Rattle.rtps_serial.specs.World.{World}
+use Rattle.rtps_run.specs.declared.outcome.Outcome.{Outcome}
+use Rattle.rtps_run.specs.declared.outcome.Answer.{Answer}
+use Rattle.rtps_run.specs.Outcome.{Adds, answer_view, notices_in}
+use Rattle.rtps_run.specs.Seen.{answers_in, notices_by}
+use Rattle.rtps_run.specs.World.{World}
 use Rattle.rtps_planner.specs.Commuting.{merged}
 use Rattle.dds_participant.specs.Given.{AreAnswersAlong, AreNoticesAlong, IsGiven, said_view, sent_in, told_in}
 use Rattle.dds_participant.specs.Handing.{AreHandedOn}

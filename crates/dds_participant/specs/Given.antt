@@ -7,12 +7,12 @@ use Rattle.rtps_proxy.specs.Replies.{ReplyView}
 use Rattle.rtps_reader.specs.declared.notice.Notice.{Notice}
 use Rattle.rtps_reader.specs.declared.notice.Output.{Output}
 use Rattle.rtps_reader.specs.Notices as reader
-use Rattle.rtps_serial.specs.declared.errors.EngineError.{EngineError}
-use Rattle.rtps_serial.specs.declared.errors.EngineError.TheVariants.{NoMemory, Failed, Spent}
-use Rattle.rtps_serial.specs.declared.outcome.Answer.{Answer}
-use Rattle.rtps_serial.specs.Outcome.{answer_view}
-use Rattle.rtps_serial.specs.Seen.{notices_by, reader_count}
-use Rattle.rtps_serial.specs.World.{World}
+use Rattle.rtps_run.specs.declared.errors.EngineError.{EngineError}
+use Rattle.rtps_run.specs.declared.errors.EngineError.TheVariants.{NoMemory, Failed, Spent}
+use Rattle.rtps_run.specs.declared.outcome.Answer.{Answer}
+use Rattle.rtps_run.specs.Outcome.{answer_view}
+use Rattle.rtps_run.specs.Seen.{notices_by, reader_count}
+use Rattle.rtps_run.specs.World.{World}
 use Rattle.rtps_planner.specs.Commuting.{Parts, answers_at, merged, notices_at}
 use Rattle.rtps_planner.specs.Gather.{AreRising}
 use Rattle.rtps_planner.specs.Plan.{discovery_sending}

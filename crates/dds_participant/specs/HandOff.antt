@@ -2,8 +2,8 @@
 use Rattle.std.specs.Prelude.{◌≡◌, ℕ, List, ◌++◌, map}
 use Rattle.rtps_reader.specs.declared.notice.Notice.{Notice}
 use Rattle.rtps_reader.specs.Notices.{notice_view}
-use Rattle.rtps_serial.specs.Seen.{notices_by}
-use Rattle.rtps_serial.specs.World.{World}
+use Rattle.rtps_run.specs.Seen.{notices_by}
+use Rattle.rtps_run.specs.World.{World}
 use Rattle.dds_participant.specs.Ports.{PortView}
 
 -- What was sent after the notices that were sent earlier, followed by what waits, is what the run

@@ -4,7 +4,7 @@ use Rattle.std.specs.declared.alloc.Global.{Global}
 use Rattle.std.specs.declared.vec.Vec.{Vec}
 use Rattle.rtps_reader.specs.declared.notice.Notice.{Notice}
 use Rattle.rtps_reader.specs.declared.notice.Output.{Output}
-use Rattle.rtps_serial.specs.declared.outcome.Outcome.{Outcome}
+use Rattle.rtps_run.specs.declared.outcome.Outcome.{Outcome}
 use Rattle.dds_participant.specs.Ports.{HasRoomFor, PortView, left_of, port_with}
 use Rattle.dds_participant.specs.declared.given.Given.{Given}
 use Rattle.dds_participant.specs.declared.ports.Port.{Port}

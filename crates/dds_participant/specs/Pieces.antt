@@ -6,7 +6,7 @@ use Rattle.std.specs.declared.vec.Vec.{Vec}
 use Rattle.rtps_types.specs.declared.identity.GuidPrefix.{GuidPrefix}
 use Rattle.rtps_receiver.specs.declared.event.Event.{Event}
 use Rattle.rtps_receiver.specs.Events.{view}
-use Rattle.rtps_serial.specs.Run.{events_from}
+use Rattle.rtps_run.specs.Run.{events_from}
 
 -- what is given of a piece are its events, if anything is given; the piece has this index among
 -- those of the datagrams

@@ -3,8 +3,8 @@ use Rattle.std.specs.Prelude.{◌≡◌, ℕ, List}
 use Rattle.std.specs.List.{enumerate_from}
 use Rattle.std.specs.Option.{option_map}
 use Rattle.rtps_reader.specs.declared.status.Status.{Status}
-use Rattle.rtps_serial.specs.Seen.{status_seen}
-use Rattle.rtps_serial.specs.World.{World}
+use Rattle.rtps_run.specs.Seen.{status_seen}
+use Rattle.rtps_run.specs.World.{World}
 use Rattle.dds_outlet.specs.declared.row.RowView.{RowView}
 use Rattle.dds_outlet.specs.Rows.{look_at}
 

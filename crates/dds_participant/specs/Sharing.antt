@@ -8,7 +8,7 @@ use Rattle.dds_topic.specs.Decoding.{Decoding}
 use Rattle.rtps_reader.specs.declared.notice.Output.{Output}
 use Rattle.rtps_reader.specs.Notices.{answer_view, notice_view}
 use Rattle.rtps_reader.specs.Standing.{ReaderView}
-use Rattle.rtps_serial.specs.Standing.{AllStandBy}
+use Rattle.rtps_run.specs.Standing.{AllStandBy}
 use Rattle.rtps_planner.specs.Job.{job_sent, job_told}
 use Rattle.rtps_planner.specs.Plan.{job_seen, jobs_by}
 use Rattle.rtps_planner.specs.declared.jobs.Job as plan_job

@@ -1,7 +1,7 @@
 //! What a batch gives, in lists that are kept from one batch to the next.
 
-ghost use Rattle.rtps_serial.specs.Outcome.{Adds};
-ghost use Rattle.rtps_serial.specs.World.{World};
+ghost use Rattle.rtps_run.specs.Outcome.{Adds};
+ghost use Rattle.rtps_run.specs.World.{World};
 ghost use Rattle.std.specs.Prelude.{◌≡◌, ◌≤◌, IfOk, length};
 ghost use Rattle.rtps_planner.specs.declared.outputs.GatherFault.TheVariants as gather_fault;
 ghost use Rattle.rtps_planner.specs.Gather.{ranks_of};
@@ -10,7 +10,7 @@ ghost use Rattle.dds_participant.specs.Given.{HoldsNothing, IsGiven, ranked_from
 use dds_topic::Catalog;
 use rtps_planner::{GatherFault, Rest, gather};
 use rtps_reader::Output;
-use rtps_serial::{Answer, Outcome};
+use rtps_run::{Answer, Outcome};
 use rtps_types::Place;
 use std::alloc::{AllocError, Global};
 

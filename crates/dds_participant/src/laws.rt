@@ -3,9 +3,9 @@
 ghost use Rattle.std.specs.Prelude.{◌≡◌, ℕ, List, None, Option, Some, slice_index_or};
 ghost use Rattle.std.specs.declared.alloc.Global.{Global};
 ghost use Rattle.rtps_reader.specs.declared.notice.Notice.{Notice};
-ghost use Rattle.rtps_serial.specs.declared.outcome.Outcome.{Outcome};
-ghost use Rattle.rtps_serial.specs.Outcome.{Adds};
-ghost use Rattle.rtps_serial.specs.World.{World};
+ghost use Rattle.rtps_run.specs.declared.outcome.Outcome.{Outcome};
+ghost use Rattle.rtps_run.specs.Outcome.{Adds};
+ghost use Rattle.rtps_run.specs.World.{World};
 ghost use Rattle.dds_outlet.specs.Ring.{Sending};
 ghost use Rattle.dds_participant.specs.declared.given.Given.{Given};
 ghost use Rattle.dds_participant.specs.Given.{IsGiven};

@@ -3,17 +3,15 @@
 ghost use Rattle.std.specs.Prelude.{◌≡◌, [], IfOk, List, ℕ, false, length, map};
 ghost use Rattle.rtps_discovery.specs.Config.{check_of};
 ghost use Rattle.rtps_discovery.specs.Kept.{IsKnown};
-ghost use Rattle.rtps_serial.specs.Seen.{matches_seen, status_seen};
-ghost use Rattle.rtps_serial.specs.Standing.{Answers, ShowsAt, StandsAt, Starts, run_by};
+ghost use Rattle.rtps_run.specs.Seen.{matches_seen, status_seen};
+ghost use Rattle.rtps_run.specs.Standing.{Answers, ShowsAt, StandsAt, Starts, run_by};
 ghost use Rattle.dds_participant.specs.Ports.{NoneAttached};
 
 use crate::ports::{Port, no_ports};
 use dds_topic::Catalog;
 use rtps_discovery::{Config, Discovery, check};
 use rtps_reader::{ReaderState, Status};
-use rtps_serial::{
-    EngineError, StartError, all_matches, first_readers, first_statuses, fixed_by_rank,
-};
+use rtps_run::{EngineError, StartError, all_matches, first_readers, first_statuses, fixed_by_rank};
 use rtps_types::Guid;
 use std::alloc::Global;
 use std::collections::BTreeSet;
@@ -89,7 +87,7 @@ impl<C: Catalog> Participant<C> {
     /// A participant for this configuration: its readers with their fixed matches, to which nothing
     /// came yet. [`StartError::Config`] exactly where [`check`] refuses the configuration, else an
     /// error is a refused growth.
-    #[tactic(auto, unfolding(rtps_serial::specs::Standing::Starts))]
+    #[tactic(auto, unfolding(rtps_run::specs::Standing::Starts))]
     pub fn new(alloc: Global, config: Config, catalog: C) -> Result<Participant<C>, StartError>
         ensures starts { Starts (check_of config) result }
         ensures same { IfOk result (λ p. (p.engine.catalog ≡ catalog)
@@ -146,7 +144,7 @@ impl<C: Catalog> Participant<C> {
     /// The matches that there are now, a rank and a writer each. A refusal changes nothing:
     /// [`EngineError::Failed`] where the participant has failed, and else
     /// [`EngineError::NoMemory`].
-    #[tactic(auto, unfolding(rtps_serial::specs::Standing::Answers))]
+    #[tactic(auto, unfolding(rtps_run::specs::Standing::Answers))]
     pub fn matches(&self, alloc: Global) -> Result<BTreeSet<(u32, Guid)>, EngineError>
         ensures answers { Answers result self.now.engine }
         ensures matches { (datagrams : List (List ℕ))

@@ -1,7 +1,7 @@
 //! The row of a participant on a board of statuses.
 
 ghost use Rattle.std.specs.Prelude.{◌≡◌, ◌∷◌, ◌++◌, [], IfOk, List, MatchResult, ℕ};
-ghost use Rattle.rtps_serial.specs.Standing.{ShowsAt, run_by};
+ghost use Rattle.rtps_run.specs.Standing.{ShowsAt, run_by};
 ghost use Rattle.dds_outlet.specs.Rows.{row_view};
 ghost use Rattle.dds_participant.specs.Publishing.{ShowsWorld, row_of};
 

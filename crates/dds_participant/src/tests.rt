@@ -14,7 +14,7 @@ use crate::*;
 use dds_topic::{Catalog, Shape, Shapes};
 use rtps_discovery::{Config, ReaderConfig};
 use rtps_reader::{Body, Notice, NoticeKind, Status};
-use rtps_serial::Report;
+use rtps_run::Report;
 use rtps_shards::{Gate, NoGate};
 use rtps_types::{EntityId, Guid, GuidPrefix, Locators};
 use std::alloc::{AllocError, Global};

@@ -15,15 +15,15 @@ use Rattle.rtps_reader.specs.declared.notice.Notice.{Notice}
 use Rattle.rtps_reader.specs.declared.notice.Output.{Output}
 use Rattle.rtps_reader.specs.Notices as reader
 use Rattle.rtps_reader.specs.Reader.{Reader, reader_run}
-use Rattle.rtps_serial.specs.declared.outcome.Outcome.{Outcome}
-use Rattle.rtps_serial.specs.Outcome.{Adds, answer_view, notices_in}
-use Rattle.rtps_serial.specs.Presentation.{not_after}
-use Rattle.rtps_serial.specs.Run.{world_run}
-use Rattle.rtps_serial.specs.Seen.{answers_in, notices_by, reader_count}
-use Rattle.rtps_serial.specs.World.{World, doings, known_after_event}
-use Rattle.rtps_serial.proofs.Dealt.{answers_in-append}
-use Rattle.rtps_serial.proofs.Places.{PlacesRise, all_append, all_map, all_weaker}
-use Rattle.rtps_serial.proofs.Running.{count_stays}
+use Rattle.rtps_run.specs.declared.outcome.Outcome.{Outcome}
+use Rattle.rtps_run.specs.Outcome.{Adds, answer_view, notices_in}
+use Rattle.rtps_run.specs.Presentation.{not_after}
+use Rattle.rtps_run.specs.Run.{world_run}
+use Rattle.rtps_run.specs.Seen.{answers_in, notices_by, reader_count}
+use Rattle.rtps_run.specs.World.{World, doings, known_after_event}
+use Rattle.rtps_run.proofs.Dealt.{answers_in-append}
+use Rattle.rtps_run.proofs.Places.{PlacesRise, all_append, all_map, all_weaker}
+use Rattle.rtps_run.proofs.Running.{count_stays}
 use Rattle.rtps_planner.specs.Commuting.{answers_at, merged, parts_of, same_place}
 use Rattle.rtps_planner.specs.Job.{Job, discovery_answer, discovery_answers, job_of, job_sent, job_told}
 use Rattle.rtps_planner.specs.Gather.{AreRising, IsGathered, IsOutputOf, StandAmong, is_among, parts_in, ranks_of, sending_by, sent_by, times}

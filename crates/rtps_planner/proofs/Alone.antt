@@ -12,12 +12,12 @@ use Rattle.rtps_proxy.specs.Replies.{ReplyView}
 use Rattle.rtps_reader.specs.declared.notice.Notice.{Notice}
 use Rattle.rtps_reader.specs.Reader.{Reader, placed, reader_after, reader_run, sends, tells}
 use Rattle.rtps_reader.specs.Steps.{StepView}
-use Rattle.rtps_serial.specs.Run.{world_run}
-use Rattle.rtps_serial.specs.Seen.{notices_by, reader_count}
-use Rattle.rtps_serial.specs.World as world
-use Rattle.rtps_serial.specs.World.{ReportView, NoticeOf, AnswerOf, World, answer_put, discovery_puts, doings, puts_at, puts_below, puts_run, world_after}
-use Rattle.rtps_serial.proofs.Routed.{readers_stay}
-use Rattle.rtps_serial.proofs.Matched.{told_more, told_run}
+use Rattle.rtps_run.specs.Run.{world_run}
+use Rattle.rtps_run.specs.Seen.{notices_by, reader_count}
+use Rattle.rtps_run.specs.World as world
+use Rattle.rtps_run.specs.World.{ReportView, NoticeOf, AnswerOf, World, answer_put, discovery_puts, doings, puts_at, puts_below, puts_run, world_after}
+use Rattle.rtps_run.proofs.Routed.{readers_stay}
+use Rattle.rtps_run.proofs.Matched.{told_more, told_run}
 use Rattle.rtps_planner.specs.Commuting.{IsDiscovered, IsPart, answers_by, is_of}
 use Rattle.rtps_planner.specs.Job.{Job, discovery_answer, discovery_answers, job_of, known_after_events, job_run, job_sent, job_told}
 

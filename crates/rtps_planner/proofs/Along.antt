@@ -7,10 +7,10 @@ use Rattle.rtps_receiver.specs.Events.{EventView}
 use Rattle.rtps_discovery.specs.Known.{Known}
 use Rattle.dds_topic.specs.Decoding.{Decoding}
 use Rattle.rtps_reader.specs.Reader.{Reader, reader_run}
-use Rattle.rtps_serial.specs.Presentation.{not_after}
-use Rattle.rtps_serial.specs.World.{doings, known_after_event}
-use Rattle.rtps_serial.proofs.Matched.{told_run}
-use Rattle.rtps_serial.proofs.Places.{PlacesRise, all_map}
+use Rattle.rtps_run.specs.Presentation.{not_after}
+use Rattle.rtps_run.specs.World.{doings, known_after_event}
+use Rattle.rtps_run.proofs.Matched.{told_run}
+use Rattle.rtps_run.proofs.Places.{PlacesRise, all_map}
 use Rattle.rtps_planner.specs.Commuting.{answers_at, notices_at, same_place}
 use Rattle.rtps_planner.specs.Job.{discovery_answer, discovery_answers, job_of, job_sent, job_told}
 use Rattle.rtps_planner.proofs.Alone.{sent_front, sent_run, told_front}

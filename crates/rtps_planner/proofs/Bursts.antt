@@ -15,9 +15,9 @@ use Rattle.rtps_discovery.specs.Addressed.{is_discovery, writer_of}
 use Rattle.rtps_discovery.specs.Kept.{matched_ranks}
 use Rattle.rtps_discovery.specs.Known.{Known, Wish, reader_at}
 use Rattle.rtps_reader.specs.Steps.{asks_of}
-use Rattle.rtps_serial.specs.Steps.{ReaderStep, step_by}
-use Rattle.rtps_serial.specs.World.{addressed_to, doings, known_after_event}
-use Rattle.rtps_serial.proofs.Hearing.{other_known}
+use Rattle.rtps_run.specs.Steps.{ReaderStep, step_by}
+use Rattle.rtps_run.specs.World.{addressed_to, doings, known_after_event}
+use Rattle.rtps_run.proofs.Hearing.{other_known}
 use Rattle.rtps_planner.specs.Job.{Job, discovery_answers, job_of, known_after_events}
 use Rattle.rtps_planner.specs.Plan.{AreFrom, is_from, is_named, ranks_named, taken_in}
 use Rattle.rtps_planner.proofs.Planned.{event_asked, no_answer, taken_at}

@@ -3,9 +3,9 @@ use Rattle.std.proofs.Common.{◌≡◌, ℕ, ◌+◌, List, [], ◌∷◌, leng
 use Rattle.std.specs.List.{flat_map}
 use Rattle.rtps_types.specs.declared.identity.GuidPrefix.{GuidPrefix}
 use Rattle.dds_topic.specs.Decoding.{Decoding}
-use Rattle.rtps_serial.specs.Run.{events_from, first_world, world_run}
-use Rattle.rtps_serial.specs.World.{World}
-use Rattle.rtps_serial.proofs.Running.{events_more, world_run-append}
+use Rattle.rtps_run.specs.Run.{events_from, first_world, world_run}
+use Rattle.rtps_run.specs.World.{World}
+use Rattle.rtps_run.proofs.Running.{events_more, world_run-append}
 use Rattle.rtps_planner.specs.Cut.{EveryCut, batch_run}
 
 batches_run : {M : Type 0} (decoding : Decoding M) (own : GuidPrefix) (index : ℕ) (w : World M) (batches : List (List (List ℕ)))

@@ -17,19 +17,19 @@ use Rattle.rtps_proxy.specs.Replies.{ReplyView}
 use Rattle.rtps_reader.specs.declared.notice.Notice.{Notice}
 use Rattle.rtps_reader.specs.declared.notice.Output.{Output}
 use Rattle.rtps_reader.specs.Notices as reader
-use Rattle.rtps_serial.specs.declared.outcome.Answer.{Answer}
-use Rattle.rtps_serial.specs.declared.turn.ReportKind.TheVariants as kind
-use Rattle.rtps_serial.specs.declared.turn.Turn.{Turn}
-use Rattle.rtps_serial.specs.Outcome.{answer_view}
-use Rattle.rtps_serial.specs.Presentation.{not_after}
-use Rattle.rtps_serial.specs.Seen.{answers_in}
-use Rattle.rtps_serial.specs.Turn.{turn_order}
-use Rattle.rtps_serial.specs.World as world
-use Rattle.rtps_serial.specs.World.{ReportView, NoticeOf, AnswerView}
-use Rattle.rtps_serial.proofs.Dealt.{answers_in-append}
-use Rattle.rtps_serial.proofs.OneOrder.{Rises, filter-map, filter_none, one_order, rises_map, rises_sorted, rises_then, stable_by}
-use Rattle.rtps_serial.proofs.Places.{all_append, all_weaker}
-use Rattle.rtps_serial.proofs.Turns.{alike_turns, discovery_first, discovery_turn, equal_turns, later_place, level, lower_first, same_rank, then_first, then_second, turn_at, turns_total}
+use Rattle.rtps_run.specs.declared.outcome.Answer.{Answer}
+use Rattle.rtps_run.specs.declared.turn.ReportKind.TheVariants as kind
+use Rattle.rtps_run.specs.declared.turn.Turn.{Turn}
+use Rattle.rtps_run.specs.Outcome.{answer_view}
+use Rattle.rtps_run.specs.Presentation.{not_after}
+use Rattle.rtps_run.specs.Seen.{answers_in}
+use Rattle.rtps_run.specs.Turn.{turn_order}
+use Rattle.rtps_run.specs.World as world
+use Rattle.rtps_run.specs.World.{ReportView, NoticeOf, AnswerView}
+use Rattle.rtps_run.proofs.Dealt.{answers_in-append}
+use Rattle.rtps_run.proofs.OneOrder.{Rises, filter-map, filter_none, one_order, rises_map, rises_sorted, rises_then, stable_by}
+use Rattle.rtps_run.proofs.Places.{all_append, all_weaker}
+use Rattle.rtps_run.proofs.Turns.{alike_turns, discovery_first, discovery_turn, equal_turns, later_place, level, lower_first, same_rank, then_first, then_second, turn_at, turns_total}
 use Rattle.rtps_planner.specs.Commuting.{Parts, answers_at, discovery_sends, is_of, merged, merged_below, notices_at, same_place}
 use Rattle.rtps_planner.specs.Gather.{AreRising, StandAmong, answer_turn, sending_by, sends_of, sent_by, turn_of}
 use Rattle.rtps_planner.specs.Plan.{discovery_sending}

@@ -8,11 +8,11 @@ use Rattle.rtps_types.specs.declared.place.Place.{Place}
 use Rattle.rtps_proxy.specs.Replies.{ReplyView}
 use Rattle.rtps_reader.specs.declared.notice.Notice.{Notice}
 use Rattle.rtps_reader.specs.declared.notice.Output.{Output}
-use Rattle.rtps_serial.specs.declared.outcome.Answer.{Answer}
-use Rattle.rtps_serial.specs.declared.outcome.Outcome.{Outcome}
-use Rattle.rtps_serial.specs.Outcome.{answer_view}
-use Rattle.rtps_serial.specs.Seen.{answers_in}
-use Rattle.rtps_serial.specs.Turn.{turn_order}
+use Rattle.rtps_run.specs.declared.outcome.Answer.{Answer}
+use Rattle.rtps_run.specs.declared.outcome.Outcome.{Outcome}
+use Rattle.rtps_run.specs.Outcome.{answer_view}
+use Rattle.rtps_run.specs.Seen.{answers_in}
+use Rattle.rtps_run.specs.Turn.{turn_order}
 use Rattle.rtps_planner.specs.declared.jobs.Rest.{Rest}
 use Rattle.rtps_planner.specs.Commuting.{merged}
 use Rattle.rtps_planner.specs.Gather.{AreRising, IsGathered, StandAmong, fault_of, is_among, lists_with, parts_in, ranks_of, sends_of, sent_by, times, turn_of}

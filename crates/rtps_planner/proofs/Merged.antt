@@ -16,15 +16,15 @@ use Rattle.rtps_proxy.specs.Replies.{ReplyView}
 use Rattle.rtps_reader.specs.declared.notice.Notice.{Notice}
 use Rattle.rtps_reader.specs.Reader.{Reader, placed, reader_after, reader_run, sends, tells}
 use Rattle.rtps_reader.specs.Steps.{StepView, asks_of}
-use Rattle.rtps_serial.specs.Presentation.{not_after}
-use Rattle.rtps_serial.specs.Seen.{reader_count}
-use Rattle.rtps_serial.specs.World as world
-use Rattle.rtps_serial.specs.World.{ReportView, NoticeOf, World, addressed_to, answer_put, changes_for, discovery_puts, doing_of, doings, known_after_event, puts_at, puts_below, puts_run, world_after}
-use Rattle.rtps_serial.proofs.Routed.{readers_stay}
-use Rattle.rtps_serial.proofs.Matched.{told_run}
-use Rattle.rtps_serial.proofs.OneOrder.{filter_none}
-use Rattle.rtps_serial.proofs.Places.{PlacesRise, all_append, all_weaker}
-use Rattle.rtps_serial.proofs.Turns.{no_answer, sends_at, tells_at}
+use Rattle.rtps_run.specs.Presentation.{not_after}
+use Rattle.rtps_run.specs.Seen.{reader_count}
+use Rattle.rtps_run.specs.World as world
+use Rattle.rtps_run.specs.World.{ReportView, NoticeOf, World, addressed_to, answer_put, changes_for, discovery_puts, doing_of, doings, known_after_event, puts_at, puts_below, puts_run, world_after}
+use Rattle.rtps_run.proofs.Routed.{readers_stay}
+use Rattle.rtps_run.proofs.Matched.{told_run}
+use Rattle.rtps_run.proofs.OneOrder.{filter_none}
+use Rattle.rtps_run.proofs.Places.{PlacesRise, all_append, all_weaker}
+use Rattle.rtps_run.proofs.Turns.{no_answer, sends_at, tells_at}
 use Rattle.rtps_planner.specs.Commuting.{IsByPlace, Parts, answers_at, discovery_sends, merged, merged_below, notices_at, parts_of, same_place}
 use Rattle.rtps_planner.specs.Job.{discovery_answer, discovery_answers, job_of, job_sent, job_told}
 use Rattle.rtps_planner.proofs.Alone.{sent_front, sent_run, told_front}

@@ -22,9 +22,9 @@ use Rattle.rtps_discovery.specs.Known.{Known, Wish, is_fixed, is_matched, reader
 use Rattle.rtps_discovery.specs.Records.{answered, changes_by}
 use Rattle.rtps_reader.specs.Reader.{placed}
 use Rattle.rtps_reader.specs.Steps.{asks_of}
-use Rattle.rtps_serial.specs.Steps.{ReaderStep, step_by}
-use Rattle.rtps_serial.proofs.Hearing.{announced_doings, asked_from}
-use Rattle.rtps_serial.specs.World.{addressed_to, changes_for, doing_of, doings}
+use Rattle.rtps_run.specs.Steps.{ReaderStep, step_by}
+use Rattle.rtps_run.proofs.Hearing.{announced_doings, asked_from}
+use Rattle.rtps_run.specs.World.{addressed_to, changes_for, doing_of, doings}
 use Rattle.rtps_planner.specs.declared.steps.Burst.{Burst}
 use Rattle.rtps_planner.specs.declared.steps.PlannedStep.{PlannedStep}
 use Rattle.rtps_planner.specs.declared.steps.PlannedStep.TheVariants as step

@@ -9,8 +9,8 @@ use Rattle.std.proofs.lemmas.Option.{slice_get-get_or, slice_get_within}
 use Rattle.rtps_receiver.specs.Events.{EventView}
 use Rattle.rtps_discovery.specs.Kept.{IsKnown, HeldView}
 use Rattle.rtps_discovery.specs.Known.{Known}
-use Rattle.rtps_serial.specs.World.{doings, known_after_event}
-use Rattle.rtps_serial.proofs.Routed.{readers_stay}
+use Rattle.rtps_run.specs.World.{doings, known_after_event}
+use Rattle.rtps_run.proofs.Routed.{readers_stay}
 use Rattle.rtps_planner.specs.Job.{Job, discovery_answer, discovery_answers, job_of, known_after_events}
 use Rattle.rtps_planner.specs.declared.jobs.Job as plan_job
 use Rattle.rtps_planner.specs.declared.steps.PlannedStep.{PlannedStep}

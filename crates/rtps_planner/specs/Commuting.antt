@@ -7,10 +7,10 @@ use Rattle.dds_topic.specs.Decoding.{Decoding}
 use Rattle.rtps_proxy.specs.Replies.{ReplyView}
 use Rattle.rtps_reader.specs.declared.notice.Notice.{Notice}
 use Rattle.rtps_reader.specs.Reader.{Reader}
-use Rattle.rtps_serial.specs.Run.{world_run}
-use Rattle.rtps_serial.specs.Seen.{notices_by, reader_count}
-use Rattle.rtps_serial.specs.World as world
-use Rattle.rtps_serial.specs.World.{ReportView, NoticeOf, AnswerOf, AnswerView, World}
+use Rattle.rtps_run.specs.Run.{world_run}
+use Rattle.rtps_run.specs.Seen.{notices_by, reader_count}
+use Rattle.rtps_run.specs.World as world
+use Rattle.rtps_run.specs.World.{ReportView, NoticeOf, AnswerOf, AnswerView, World}
 use Rattle.rtps_planner.specs.Job.{discovery_answers, job_of, known_after_events, job_run, job_sent, job_told}
 
 -- ---- each reader by itself

@@ -4,8 +4,8 @@ use Rattle.std.specs.List.{flat_map}
 use Rattle.rtps_types.specs.declared.identity.GuidPrefix.{GuidPrefix}
 use Rattle.rtps_discovery.specs.declared.config.Config.{Config}
 use Rattle.dds_topic.specs.Decoding.{Decoding}
-use Rattle.rtps_serial.specs.Run.{events_from, first_world, run, world_run}
-use Rattle.rtps_serial.specs.World.{World}
+use Rattle.rtps_run.specs.Run.{events_from, first_world, run, world_run}
+use Rattle.rtps_run.specs.World.{World}
 
 -- the run that takes batch after batch, from a world after so many datagrams
 abbrev pub batch_run : {M : Type 0} → Decoding M → GuidPrefix → ℕ → World M

@@ -11,15 +11,15 @@ use Rattle.rtps_proxy.specs.Replies.{ReplyView}
 use Rattle.rtps_reader.specs.declared.notice.Notice.{Notice}
 use Rattle.rtps_reader.specs.declared.notice.Output.{Output}
 use Rattle.rtps_reader.specs.Notices as reader
-use Rattle.rtps_serial.specs.declared.outcome.Answer.{Answer}
-use Rattle.rtps_serial.specs.declared.outcome.Outcome.{Outcome}
-use Rattle.rtps_serial.specs.declared.turn.ReportKind.TheVariants as kind
-use Rattle.rtps_serial.specs.declared.turn.Turn.{Turn}
-use Rattle.rtps_serial.specs.Outcome.{answer_view}
-use Rattle.rtps_serial.specs.Presentation.{not_after}
-use Rattle.rtps_serial.specs.Seen.{answers_in}
-use Rattle.rtps_serial.specs.Turn.{turn_order}
-use Rattle.rtps_serial.specs.World.{AnswerView, World}
+use Rattle.rtps_run.specs.declared.outcome.Answer.{Answer}
+use Rattle.rtps_run.specs.declared.outcome.Outcome.{Outcome}
+use Rattle.rtps_run.specs.declared.turn.ReportKind.TheVariants as kind
+use Rattle.rtps_run.specs.declared.turn.Turn.{Turn}
+use Rattle.rtps_run.specs.Outcome.{answer_view}
+use Rattle.rtps_run.specs.Presentation.{not_after}
+use Rattle.rtps_run.specs.Seen.{answers_in}
+use Rattle.rtps_run.specs.Turn.{turn_order}
+use Rattle.rtps_run.specs.World.{AnswerView, World}
 use Rattle.rtps_planner.specs.declared.jobs.Rest.{Rest}
 use Rattle.rtps_planner.specs.declared.outputs.GatherFault.{GatherFault}
 use Rattle.rtps_planner.specs.declared.outputs.GatherFault.TheVariants as fault

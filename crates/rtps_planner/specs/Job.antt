@@ -11,7 +11,7 @@ use Rattle.rtps_proxy.specs.Replies.{ReplyView}
 use Rattle.rtps_reader.specs.declared.notice.Notice.{Notice}
 use Rattle.rtps_reader.specs.Reader.{Reader, placed, reader_after, reader_run, sends, tells}
 use Rattle.rtps_reader.specs.Steps.{StepView}
-use Rattle.rtps_serial.specs.World.{doings, known_after_event}
+use Rattle.rtps_run.specs.World.{doings, known_after_event}
 
 -- what is asked of a reader, each with the place of the event that asks it
 abbrev pub Job : Type 0

@@ -12,8 +12,8 @@ use Rattle.rtps_discovery.specs.Changes as changes
 use Rattle.rtps_discovery.specs.Known.{Known, Wish, reader_at}
 use Rattle.rtps_discovery.specs.Seen.{becomes_seen}
 use Rattle.rtps_reader.specs.Steps.{StepView, asks_of}
-use Rattle.rtps_serial.specs.World.{AnswerView, doing_of}
-use Rattle.rtps_serial.specs.Outcome.{answer_view}
+use Rattle.rtps_run.specs.World.{AnswerView, doing_of}
+use Rattle.rtps_run.specs.Outcome.{answer_view}
 use Rattle.rtps_proxy.specs.Matches.{same_guid}
 use Rattle.rtps_proxy.specs.Replies.{ReplyView}
 use Rattle.rtps_types.specs.declared.place.Place.{Place}

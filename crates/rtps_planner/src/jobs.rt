@@ -3,7 +3,7 @@
 ghost use Rattle.std.specs.Prelude.{◌^◌, ◌≤◌};
 
 use crate::steps::PlannedStep;
-use rtps_serial::Answer;
+use rtps_run::Answer;
 use std::alloc::{Allocator, Global};
 
 /// What one reader has to do in a batch.

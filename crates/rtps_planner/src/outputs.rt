@@ -3,13 +3,13 @@
 ghost use Rattle.std.specs.Prelude.{◌≡◌, ◌==◌, ◌++◌, IfOk, None, OnOk, map, nat_lt, not, set, true};
 ghost use Rattle.std.specs.List.{list_any};
 ghost use Rattle.rtps_reader.specs.Notices as reader;
-ghost use Rattle.rtps_serial.specs.Outcome.{answer_view};
+ghost use Rattle.rtps_run.specs.Outcome.{answer_view};
 ghost use Rattle.rtps_planner.specs.declared.outputs.GatherFault.TheVariants as fault;
 ghost use Rattle.rtps_planner.specs.Gather.{AreSorted, IsGathered, IsJudged, fault_of, is_among, lists_with, ranks_of, sending_by, sends_of, times, turn_of};
 
 use crate::jobs::Rest;
 use rtps_reader::{Notice, Output};
-use rtps_serial::{Answer, Outcome, ReportKind, Turn, empty_lists};
+use rtps_run::{Answer, Outcome, ReportKind, Turn, empty_lists};
 use rtps_types::{Place, Reply};
 use std::alloc::{AllocError, Allocator};
 use thiserror::Error;

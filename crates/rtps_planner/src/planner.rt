@@ -10,7 +10,7 @@ use crate::jobs::{Job, Plan, Rest};
 use crate::steps::{Burst, PlannedStep, Planning, plan_announcement, plan_burst};
 use rtps_discovery::{Discovery, is_discovery};
 use rtps_receiver::Event;
-use rtps_serial::empty_lists;
+use rtps_run::empty_lists;
 use rtps_types::{EntityId, Guid};
 use std::alloc::{AllocError, Allocator};
 

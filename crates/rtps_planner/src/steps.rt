@@ -10,14 +10,14 @@ ghost use Rattle.rtps_discovery.specs.Seen.{change_seen};
 ghost use Rattle.rtps_receiver.specs.Events.{EventView, view};
 ghost use Rattle.rtps_proxy.specs.Replies.{reply_view};
 ghost use Rattle.rtps_reader.specs.Reader.{placed};
-ghost use Rattle.rtps_serial.specs.Outcome.{answer_view};
-ghost use Rattle.rtps_serial.specs.World.{changes_for};
+ghost use Rattle.rtps_run.specs.Outcome.{answer_view};
+ghost use Rattle.rtps_run.specs.World.{changes_for};
 ghost use Rattle.rtps_planner.specs.Plan.{AreFrom, Grow, IsPlanned, burst_at, discovery_sending, events_at, is_named, step_seen, steps_seen, taken_in};
 ghost use Rattle.rtps_planner.specs.declared.steps.PlannedStep.TheVariants as planned;
 
 use rtps_discovery::{Becomes, Discovery, MatchChange, Reader, is_for};
 use rtps_receiver::Event;
-use rtps_serial::Answer;
+use rtps_run::Answer;
 use rtps_types::{EntityId, Guid, Place, Reply};
 use std::alloc::{AllocError, Allocator, Global};
 

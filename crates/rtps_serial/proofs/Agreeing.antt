@@ -26,12 +26,12 @@ use Rattle.dds_topic.specs.Decoding.{Decoding}
 use Rattle.rtps_reader.specs.Reader.{Reader, all_begun, first_matches, fresh_with, reader_after, reader_run, pairing_of}
 use Rattle.rtps_reader.specs.Steps.{StepView, Takes, Begins, Ends, Refused, asks_of}
 use Rattle.rtps_reader.proofs.Begun.{match_begun, same_self}
-use Rattle.rtps_serial.specs.Presentation as start
-use Rattle.rtps_serial.specs.Run.{entity_of, first_world, fixed_of, is_reliable_at, run, events_from, world_run}
-use Rattle.rtps_serial.specs.Seen.{Agrees}
-use Rattle.rtps_serial.specs.World.{World, addressed_to, changes_for, doing_of, doings, known_after_event, world_after}
-use Rattle.rtps_serial.proofs.Matched.{ended_match, extend, extended_match}
-use Rattle.rtps_serial.proofs.Routed.{readers_stay}
+use Rattle.rtps_run.specs.Presentation as start
+use Rattle.rtps_run.specs.Run.{entity_of, first_world, fixed_of, is_reliable_at, run, events_from, world_run}
+use Rattle.rtps_run.specs.Seen.{Agrees}
+use Rattle.rtps_run.specs.World.{World, addressed_to, changes_for, doing_of, doings, known_after_event, world_after}
+use Rattle.rtps_run.proofs.Matched.{ended_match, extend, extended_match}
+use Rattle.rtps_run.proofs.Routed.{readers_stay}
 
 -- ---- whether there is a match with a writer
 

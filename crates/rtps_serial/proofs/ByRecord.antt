@@ -17,15 +17,15 @@ use Rattle.dds_topic.specs.Decoding.{Decoding}
 use Rattle.rtps_reader.specs.Reader.{Reader, reader_after, reader_run, tells}
 use Rattle.rtps_reader.specs.Steps.{StepView}
 use Rattle.rtps_serial.specs.ByRecord.{AreAlike, knowing, record_taken, records_run, records_taken, run_by_record, world_answered, world_by_record}
-use Rattle.rtps_serial.specs.Run.{events_from, first_world, run, world_run}
-use Rattle.rtps_serial.specs.Seen.{answers_in, notices_by, reader_count}
-use Rattle.rtps_serial.specs.Steps.{ReaderStep, change_step, step_puts, steps_run, world_stepped}
-use Rattle.rtps_serial.specs.World.{World, answer_put, changes_for, discovery_puts, doing_of, doings, puts_at, puts_below, puts_run, world_after}
-use Rattle.rtps_serial.proofs.Dealt.{answers_in-append, notices_by-append}
-use Rattle.rtps_serial.proofs.Hearing.{announced_doings, announced_known, announced_puts, map_map}
-use Rattle.rtps_serial.proofs.Matched.{heard_at, other_at, told_more, told_run}
-use Rattle.rtps_serial.proofs.OneOrder.{filter-map}
-use Rattle.rtps_serial.proofs.Routed.{asks_for, known_of_steps, reader_of_steps, readers_after, readers_if, readers_stay}
+use Rattle.rtps_run.specs.Run.{events_from, first_world, run, world_run}
+use Rattle.rtps_run.specs.Seen.{answers_in, notices_by, reader_count}
+use Rattle.rtps_run.specs.Steps.{ReaderStep, change_step, step_puts, steps_run, world_stepped}
+use Rattle.rtps_run.specs.World.{World, answer_put, changes_for, discovery_puts, doing_of, doings, puts_at, puts_below, puts_run, world_after}
+use Rattle.rtps_run.proofs.Dealt.{answers_in-append, notices_by-append}
+use Rattle.rtps_run.proofs.Hearing.{announced_doings, announced_known, announced_puts, map_map}
+use Rattle.rtps_run.proofs.Matched.{heard_at, other_at, told_more, told_run}
+use Rattle.rtps_run.proofs.OneOrder.{filter-map}
+use Rattle.rtps_run.proofs.Routed.{asks_for, known_of_steps, reader_of_steps, readers_after, readers_if, readers_stay}
 
 -- ---- the notices of one reader, whatever the order of the ranks
 

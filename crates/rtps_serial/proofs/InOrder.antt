@@ -13,22 +13,22 @@ use Rattle.rtps_discovery.specs.declared.config.Config.{Config}
 use Rattle.dds_topic.specs.Decoding.{Decoding}
 use Rattle.rtps_reader.specs.declared.notice.Notice.{Notice}
 use Rattle.rtps_reader.specs.Notices.{notice_view}
-use Rattle.rtps_serial.specs.declared.outcome.Answer.{Answer}
-use Rattle.rtps_serial.specs.declared.outcome.Outcome.{Outcome}
-use Rattle.rtps_serial.specs.declared.outcome.Report.{Report}
-use Rattle.rtps_serial.specs.declared.outcome.Report.TheVariants as report
-use Rattle.rtps_serial.specs.declared.turn.ReportKind.{ReportKind}
-use Rattle.rtps_serial.specs.declared.turn.ReportKind.TheVariants as kind
-use Rattle.rtps_serial.specs.Outcome.{Adds, answer_view, notices_in, report_view}
-use Rattle.rtps_serial.specs.Run.{events_from, first_world, run, world_run}
-use Rattle.rtps_serial.specs.Seen.{answers_in, notices_by, reader_count}
-use Rattle.rtps_serial.specs.Turn.{AreInOrder, notices_from, reports_of, turn_of, turn_order}
-use Rattle.rtps_serial.specs.World.{ReportView, NoticeOf, AnswerOf, AnswerView, World}
-use Rattle.rtps_serial.proofs.Dealt.{answers_in-append, notices_by-append}
-use Rattle.rtps_serial.proofs.OneOrder.{filter-map, one_order, rises_map, rises_sorted, stable_by}
-use Rattle.rtps_serial.proofs.Places.{PlacesRise, rise_from}
-use Rattle.rtps_serial.proofs.Running.{count_stays, events_more, world_run-append}
-use Rattle.rtps_serial.proofs.Turns.{alike_turns, before, equal_turns, put_all, put_turn, run_none, run_puts, run_rises, same_kind, same_rank, turns_total, view_turn, weak}
+use Rattle.rtps_run.specs.declared.outcome.Answer.{Answer}
+use Rattle.rtps_run.specs.declared.outcome.Outcome.{Outcome}
+use Rattle.rtps_run.specs.declared.outcome.Report.{Report}
+use Rattle.rtps_run.specs.declared.outcome.Report.TheVariants as report
+use Rattle.rtps_run.specs.declared.turn.ReportKind.{ReportKind}
+use Rattle.rtps_run.specs.declared.turn.ReportKind.TheVariants as kind
+use Rattle.rtps_run.specs.Outcome.{Adds, answer_view, notices_in, report_view}
+use Rattle.rtps_run.specs.Run.{events_from, first_world, run, world_run}
+use Rattle.rtps_run.specs.Seen.{answers_in, notices_by, reader_count}
+use Rattle.rtps_run.specs.Turn.{AreInOrder, notices_from, reports_of, turn_of, turn_order}
+use Rattle.rtps_run.specs.World.{ReportView, NoticeOf, AnswerOf, AnswerView, World}
+use Rattle.rtps_run.proofs.Dealt.{answers_in-append, notices_by-append}
+use Rattle.rtps_run.proofs.OneOrder.{filter-map, one_order, rises_map, rises_sorted, stable_by}
+use Rattle.rtps_run.proofs.Places.{PlacesRise, rise_from}
+use Rattle.rtps_run.proofs.Running.{count_stays, events_more, world_run-append}
+use Rattle.rtps_run.proofs.Turns.{alike_turns, before, equal_turns, put_all, put_turn, run_none, run_puts, run_rises, same_kind, same_rank, turns_total, view_turn, weak}
 
 -- a test that passes only notices of one rank
 abbrev Only : {M : Type 0} → ℕ → (ReportView M → Bool) → Type 0

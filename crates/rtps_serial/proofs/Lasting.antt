@@ -23,15 +23,15 @@ use Rattle.dds_topic.specs.Decoding.{Decoding}
 use Rattle.rtps_reader.specs.declared.notice.Notice.{Notice}
 use Rattle.rtps_reader.specs.Reader.{Reader, reader_after, tells}
 use Rattle.rtps_reader.specs.Steps.{asks_of}
-use Rattle.rtps_serial.specs.Presentation.{Since, Stretch, first_since, is_fixed, stretches, stretches_in}
+use Rattle.rtps_run.specs.Presentation.{Since, Stretch, first_since, is_fixed, stretches, stretches_in}
 use Rattle.rtps_proxy.specs.History.{match_event_of}
-use Rattle.rtps_serial.specs.Run.{events_from, first_world, run, world_run}
-use Rattle.rtps_serial.specs.Seen.{notices_by, reader_count}
-use Rattle.rtps_serial.specs.World.{World, addressed_to, changes_for, doing_of, doings, world_after}
+use Rattle.rtps_run.specs.Run.{events_from, first_world, run, world_run}
+use Rattle.rtps_run.specs.Seen.{notices_by, reader_count}
+use Rattle.rtps_run.specs.World.{World, addressed_to, changes_for, doing_of, doings, world_after}
 use Rattle.rtps_serial.proofs.Agreeing.{first_fixed, fixed_kept, fixed_stay, noted_alike, touches}
-use Rattle.rtps_serial.proofs.Routed.{readers_stay}
-use Rattle.rtps_serial.proofs.Matched.{told_more, told_run}
-use Rattle.rtps_serial.proofs.Places.{all_append}
+use Rattle.rtps_run.proofs.Routed.{readers_stay}
+use Rattle.rtps_run.proofs.Matched.{told_more, told_run}
+use Rattle.rtps_run.proofs.Places.{all_append}
 use Rattle.rtps_serial.proofs.Presenting.{none_told}
 use Rattle.rtps_serial.proofs.Stretching.{is_cut, told_uncut, uncut}
 

@@ -17,9 +17,9 @@ use Rattle.rtps_reader.specs.Listed.{match_order, with_writers}
 use Rattle.rtps_proxy.specs.Matches.{Match, match_with, same_guid}
 use Rattle.rtps_reader.specs.Reader.{Reader}
 use Rattle.rtps_reader.proofs.Following.{inserted}
-use Rattle.rtps_serial.specs.Seen.{is_listed, matches_below}
+use Rattle.rtps_run.specs.Seen.{is_listed, matches_below}
 use Rattle.rtps_serial.proofs.Agreeing.{has, some_if, turned}
-use Rattle.rtps_serial.proofs.Turns.{then_first, then_second}
+use Rattle.rtps_run.proofs.Turns.{then_first, then_second}
 
 matches_total : IsTotalOrder match_order
 matches_total =

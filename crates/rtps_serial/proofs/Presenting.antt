@@ -21,19 +21,19 @@ use Rattle.rtps_reader.specs.declared.notice.Notice.{Notice}
 use Rattle.rtps_reader.specs.Reader.{Facts, Reader, all_begun, first_matches, reader_after, reader_run, tells, pairing_of}
 use Rattle.rtps_reader.specs.Steps.{StepView, asks_of}
 use Rattle.rtps_reader.proofs.Begun.{match_begun}
-use Rattle.rtps_serial.specs.Presentation.{IsPresented, Since, TheStart, Never, Stretch, events_after, events_for, events_in, first_since, is_fixed, stretch, stretches, stretches_in}
-use Rattle.rtps_serial.specs.Run.{entity_of, events_from, first_world, fixed_of, is_reliable_at, run, world_run}
-use Rattle.rtps_serial.specs.Seen.{Agrees, notices_by, reader_count}
-use Rattle.rtps_serial.specs.World.{World, addressed_to, changes_for, doings, world_after}
+use Rattle.rtps_run.specs.Presentation.{IsPresented, Since, TheStart, Never, Stretch, events_after, events_for, events_in, first_since, is_fixed, stretch, stretches, stretches_in}
+use Rattle.rtps_run.specs.Run.{entity_of, events_from, first_world, fixed_of, is_reliable_at, run, world_run}
+use Rattle.rtps_run.specs.Seen.{Agrees, notices_by, reader_count}
+use Rattle.rtps_run.specs.World.{World, addressed_to, changes_for, doings, world_after}
 use Rattle.rtps_serial.proofs.Agreeing.{agrees_after, agrees_first, first_has, has}
-use Rattle.rtps_serial.proofs.Routed.{readers_stay}
-use Rattle.rtps_serial.proofs.Running.{wish_at}
-use Rattle.rtps_serial.proofs.Dealt.{notices_by-append}
-use Rattle.rtps_serial.proofs.Matched.{told_more, told_run}
-use Rattle.rtps_serial.proofs.Places.{PlacesFall, PlacesRise, all_weaker, events_since, places_fall, places_rise}
+use Rattle.rtps_run.proofs.Routed.{readers_stay}
+use Rattle.rtps_run.proofs.Running.{wish_at}
+use Rattle.rtps_run.proofs.Dealt.{notices_by-append}
+use Rattle.rtps_run.proofs.Matched.{told_more, told_run}
+use Rattle.rtps_run.proofs.Places.{PlacesFall, PlacesRise, all_weaker, events_since, places_fall, places_rise}
 use Rattle.rtps_serial.proofs.Stretching.{Follows, IsNow, IsSettled, all_settled, follows_changes, follows_missed, follows_other, follows_taken, nothing_first}
 use Rattle.rtps_serial.proofs.Taken.{HasNumber, all_have_numbers}
-use Rattle.rtps_serial.proofs.Turns.{put_all, run_none, run_puts}
+use Rattle.rtps_run.proofs.Turns.{put_all, run_none, run_puts}
 
 -- ---- one event
 

@@ -24,11 +24,11 @@ use Rattle.rtps_reader.specs.declared.notice.NoticeKind.TheVariants.{Sample as A
 use Rattle.rtps_reader.specs.Reader.{Reader, fresh_with, loses, lost_at, presented, reader_after, reader_run, ready_at, tells, told_of}
 use Rattle.rtps_reader.specs.Steps.{Takes, Begins, Ends, asks_of}
 use Rattle.rtps_reader.proofs.Begun.{match_begun, same_self}
-use Rattle.rtps_serial.specs.Presentation.{ArePresented, IsPresented, PresentedSince, Shown, Since, TheStart, ThePlace, Never, Stretch, events_after, shown_first, shown_in, stretch, stretches, stretches_by}
-use Rattle.rtps_serial.specs.World.{doing_of}
-use Rattle.rtps_serial.proofs.Matched.{either_way, ended_match, extend, extended_match, other_way, samples_told, told_by_other, told_run}
-use Rattle.rtps_serial.proofs.Places.{PlacesFall, all_append, all_weaker, later_fall}
-use Rattle.rtps_serial.proofs.Shown.{first_presented, samples_of, shown, shown_after}
+use Rattle.rtps_run.specs.Presentation.{ArePresented, IsPresented, PresentedSince, Shown, Since, TheStart, ThePlace, Never, Stretch, events_after, shown_first, shown_in, stretch, stretches, stretches_by}
+use Rattle.rtps_run.specs.World.{doing_of}
+use Rattle.rtps_run.proofs.Matched.{either_way, ended_match, extend, extended_match, other_way, samples_told, told_by_other, told_run}
+use Rattle.rtps_run.proofs.Places.{PlacesFall, all_append, all_weaker, later_fall}
+use Rattle.rtps_run.proofs.Shown.{first_presented, samples_of, shown, shown_after}
 use Rattle.rtps_serial.proofs.Taken.{HasNumber, brought_number}
 
 -- ---- stretches of notices

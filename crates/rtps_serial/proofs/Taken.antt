@@ -22,8 +22,8 @@ use Rattle.rtps_receiver.specs.Events.{EventView, event_behind, events_behind, e
 use Rattle.rtps_proxy.specs.History.{ChangeView, match_event_of}
 use Rattle.rtps_proxy.specs.Presentation.{Brings, CameWhole, IsSample, IsTold, IsToldBy}
 use Rattle.rtps_frags.specs.declared.sizes.Sizes.{Sizes}
-use Rattle.rtps_serial.specs.Run.{events_from}
-use Rattle.rtps_serial.proofs.Places.{all_append}
+use Rattle.rtps_run.specs.Run.{events_from}
+use Rattle.rtps_run.proofs.Places.{all_append}
 
 -- a change in one piece has a number that a change may have
 abbrev pub HasNumber : EventBody → Type 0

@@ -10,10 +10,10 @@ use Rattle.rtps_discovery.specs.Changes.{changes}
 use Rattle.rtps_discovery.specs.Known.{Known, known_after}
 use Rattle.rtps_discovery.specs.Records.{announcements, answered, noted}
 use Rattle.dds_topic.specs.Decoding.{Decoding}
-use Rattle.rtps_serial.specs.Run.{events_from, first_world}
-use Rattle.rtps_serial.specs.Seen.{answers_in, notices_by, reader_count}
-use Rattle.rtps_serial.specs.Steps.{change_step, steps_run}
-use Rattle.rtps_serial.specs.World.{World, answer_put, world_after}
+use Rattle.rtps_run.specs.Run.{events_from, first_world}
+use Rattle.rtps_run.specs.Seen.{answers_in, notices_by, reader_count}
+use Rattle.rtps_run.specs.Steps.{change_step, steps_run}
+use Rattle.rtps_run.specs.World.{World, answer_put, world_after}
 
 -- the world in which this is known, and all else is the same
 abbrev pub knowing : {M : Type 0} → Known → World M → World M

@@ -4,18 +4,19 @@ ghost use Rattle.std.specs.Prelude.{◌≡◌, ◌^◌, ◌≤◌, ◌<◌, ◌+
 ghost use Rattle.rtps_discovery.specs.Config.{check_of};
 ghost use Rattle.rtps_discovery.specs.Kept.{IsKnown};
 ghost use Rattle.rtps_receiver.specs.Events.{events_of};
-ghost use Rattle.rtps_serial.specs.Outcome.{Adds, report_view};
-ghost use Rattle.rtps_serial.specs.Run.{world_run};
-ghost use Rattle.rtps_serial.specs.Seen.{matches_seen, status_seen};
-ghost use Rattle.rtps_serial.specs.Standing.{Answers, IsFinishedFrom, IsSteppedFrom, Leaves, ShowsAt, StandsAt, Starts, Refuses, Takes, WorldStands, datagram_limit, run_by};
-ghost use Rattle.rtps_serial.specs.World.{World};
+ghost use Rattle.rtps_run.specs.Outcome.{Adds, report_view};
+ghost use Rattle.rtps_run.specs.Run.{world_run};
+ghost use Rattle.rtps_run.specs.Seen.{matches_seen, status_seen};
+ghost use Rattle.rtps_run.specs.Standing.{Answers, IsFinishedFrom, IsSteppedFrom, Leaves, ShowsAt, StandsAt, Starts, Refuses, Takes, WorldStands, datagram_limit, run_by};
+ghost use Rattle.rtps_run.specs.World.{World};
 
 use crate::deal::dealt;
-use crate::errors::{EngineError, StartError};
-use crate::outcome::{Outcome, Report};
+use rtps_run::{EngineError, StartError};
+use rtps_run::{Outcome, Report};
 use crate::readers::Readers;
-use crate::start::{first_readers, first_statuses, fixed_by_rank};
-use crate::steps::{all_matches, show_all, take_events};
+use rtps_run::{first_readers, first_statuses, fixed_by_rank};
+use rtps_run::{all_matches, show_all};
+use crate::steps::take_events;
 use dds_topic::{Catalog, Decoder};
 use rtps_discovery::{Config, Discovery, check};
 use rtps_reader::Status;
@@ -45,7 +46,7 @@ pub struct SerialEngine<C: Catalog, A: Allocator = Global> {
 
 impl<C: Catalog, A: Allocator> Model for SerialEngine<C, A> {
     ghost use Rattle.std.specs.Prelude.{◌≡◌, ◌≤◌, length};
-    ghost use Rattle.rtps_serial.specs.Standing.{EngineView};
+    ghost use Rattle.rtps_run.specs.Standing.{EngineView};
 
     ghost Value = { EngineView C };
 
@@ -100,7 +101,7 @@ impl<C: Catalog> SerialEngine<C> {
 
 impl<C: Catalog, A: Allocator + Copy> SerialEngine<C, A> {
     /// The same as [`SerialEngine::new`] over any allocator. Values come from `values`.
-    #[tactic(auto, unfolding(crate::specs::Standing::Starts))]
+    #[tactic(auto, unfolding(rtps_run::specs::Standing::Starts))]
     pub fn new_in(
         alloc: A,
         values: Global,
@@ -136,7 +137,7 @@ impl<C: Catalog, A: Allocator + Copy> SerialEngine<C, A> {
     ///
     /// [`EngineError::Failed`] and [`EngineError::Spent`] leave `reports` as it was,
     /// [`EngineError::NoMemory`] leaves it empty.
-    #[tactic(auto, unfolding(crate::specs::Standing::Takes, crate::specs::Standing::Refuses, crate::specs::Standing::Leaves))]
+    #[tactic(auto, unfolding(rtps_run::specs::Standing::Takes, rtps_run::specs::Standing::Refuses, rtps_run::specs::Standing::Leaves))]
     pub fn take_in_order(
         &mut self,
         alloc: A,
@@ -170,7 +171,7 @@ impl<C: Catalog, A: Allocator + Copy> SerialEngine<C, A> {
     ///
     /// When a datagram is out of memory the engine has failed: from then on it answers
     /// [`EngineError::Failed`], and its statuses are those before that datagram.
-    #[tactic(auto, unfolding(crate::specs::Standing::Takes, crate::specs::Standing::Refuses))]
+    #[tactic(auto, unfolding(rtps_run::specs::Standing::Takes, rtps_run::specs::Standing::Refuses))]
     pub fn take_in(&mut self, alloc: A, octets: &[u8]) -> Result<Outcome<C::Value, A>, EngineError>
         requires { length octets.now ≤ 65507 }
         ensures takes { Takes result self.old self.new }
@@ -192,7 +193,7 @@ impl<C: Catalog, A: Allocator + Copy> SerialEngine<C, A> {
     }
 
     /// Refuses a datagram before it is looked at, or has the engine failed until it is taken.
-    #[tactic(auto, unfolding(crate::specs::Standing::Refuses))]
+    #[tactic(auto, unfolding(rtps_run::specs::Standing::Refuses))]
     fn admit(&mut self) -> Result<(), EngineError>
         ensures ok { OnOk result ((self.old.failed ≡ false) × (self.old.index < datagram_limit)
             × (self.new ≡ record self.old { failed = true })) }
@@ -267,7 +268,7 @@ impl<C: Catalog, A: Allocator + Copy> SerialEngine<C, A> {
 
     /// The matches that there are now, a rank and a writer each. A refusal changes nothing:
     /// [`EngineError::Failed`] where the engine has failed, and else [`EngineError::NoMemory`].
-    #[tactic(auto, unfolding(crate::specs::Standing::Answers))]
+    #[tactic(auto, unfolding(rtps_run::specs::Standing::Answers))]
     pub fn matches(&self, alloc: A) -> Result<BTreeSet<(u32, Guid), A>, EngineError>
         ensures answers { Answers result self.now }
         ensures matches { (datagrams : List (List ℕ)) → StandsAt C.decoding datagrams self.now

@@ -5,12 +5,12 @@ ghost use Rattle.rtps_discovery.specs.Addressed as addressed;
 ghost use Rattle.rtps_reader.specs.Notices.{answer_view, notice_view};
 ghost use Rattle.rtps_reader.specs.Standing.{ReaderView};
 ghost use Rattle.rtps_reader.specs.Steps.{asked};
-ghost use Rattle.rtps_serial.specs.Outcome.{report_view};
-ghost use Rattle.rtps_serial.specs.Standing.{ReadersStand};
-ghost use Rattle.rtps_serial.specs.Steps.{step_by, world_stepped};
-ghost use Rattle.rtps_serial.specs.World.{NoticeOf, ReportView, World, sent_by};
+ghost use Rattle.rtps_run.specs.Outcome.{report_view};
+ghost use Rattle.rtps_run.specs.Standing.{ReadersStand};
+ghost use Rattle.rtps_run.specs.Steps.{step_by, world_stepped};
+ghost use Rattle.rtps_run.specs.World.{NoticeOf, ReportView, World, sent_by};
 
-use crate::outcome::{Answer, Report};
+use rtps_run::{Answer, Report};
 use dds_topic::{Catalog, Decoder};
 use rtps_discovery::is_for;
 use rtps_reader::{Notice, Output, ReaderState, Step};

@@ -1,30 +1,25 @@
 //! The steps of discovery and of the readers, one event after another.
 
-ghost use Rattle.std.specs.Prelude.{◌≡◌, ℕ, ◌<◌, ◌++◌, [], IfOk, List, None, OnOk, false, length, map, slice_index_or, true};
+ghost use Rattle.std.specs.Prelude.{◌≡◌, ◌++◌, [], IfOk, List, None, OnOk, false, length, map, true};
 ghost use Rattle.std.specs.Option.{option_map};
 ghost use Rattle.rtps_receiver.specs.Events.{view};
 ghost use Rattle.rtps_discovery.specs.Addressed as addressed;
-ghost use Rattle.rtps_discovery.specs.Seen.{becomes_seen, change_seen};
+ghost use Rattle.rtps_discovery.specs.Seen.{change_seen};
 ghost use Rattle.rtps_proxy.specs.Replies.{reply_view};
-ghost use Rattle.rtps_reader.specs.declared.status.Status as status;
-ghost use Rattle.rtps_reader.specs.Standing.{ReaderView};
-ghost use Rattle.rtps_reader.specs.Steps.{asked};
-ghost use Rattle.rtps_serial.specs.Outcome.{report_view};
-ghost use Rattle.rtps_serial.specs.Run.{world_run};
-ghost use Rattle.rtps_serial.specs.Seen.{matches_below};
-ghost use Rattle.rtps_serial.specs.Standing.{AllStand, ReadersStand, WorldStands};
-ghost use Rattle.rtps_serial.specs.Steps.{AreByRank, change_step, event_steps, steps_run};
-ghost use Rattle.rtps_serial.specs.World.{ReportView, World, answer_put, doing_of, world_after};
+ghost use Rattle.rtps_run.specs.Outcome.{report_view};
+ghost use Rattle.rtps_run.specs.Run.{world_run};
+ghost use Rattle.rtps_run.specs.Standing.{ReadersStand, WorldStands};
+ghost use Rattle.rtps_run.specs.Steps.{AreByRank, change_step, event_steps, steps_run};
+ghost use Rattle.rtps_run.specs.World.{ReportView, World, answer_put, world_after};
 
-use crate::outcome::{Answer, Report};
 use crate::readers::Readers;
 use dds_topic::Catalog;
-use rtps_discovery::{Becomes, Discovery, MatchChange, is_discovery};
-use rtps_reader::{ReaderState, Status, Step, StepKind};
+use rtps_discovery::{Discovery, MatchChange, is_discovery};
+use rtps_reader::Step;
 use rtps_receiver::Event;
+use rtps_run::{Answer, Report, asked_by};
 use rtps_types::{Guid, Place, Reply};
 use std::alloc::{AllocError, Allocator};
-use std::collections::BTreeSet;
 
 /// Gives an event to the readers of these ranks, where it names them.
 fn take_by_ranks<C: Catalog, A: Allocator + Copy>(
@@ -49,23 +44,6 @@ fn take_by_ranks<C: Catalog, A: Allocator + Copy>(
         }
     }
     Ok(())
-}
-
-/// What a change of what is known asks of the reader that hears of it.
-pub fn asked_by<A: Allocator>(what: &Becomes<A>) -> StepKind<'_>
-    ensures { asked result ≡ doing_of (becomes_seen what.now) }
-{
-    match what {
-        Becomes::Match(writer, locators) => StepKind::Match {
-            writer: *writer,
-            locators: locators.as_slice(),
-        },
-        Becomes::Unmatch(writer) => StepKind::Unmatch { writer: *writer },
-        Becomes::Refuse(writer, policy) => StepKind::Refuse {
-            writer: *writer,
-            policy: *policy,
-        },
-    }
 }
 
 /// Gives each change of what is known to the reader that hears of it, one after the other.
@@ -204,29 +182,3 @@ pub(crate) fn take_events<C: Catalog, A: Allocator + Copy>(
     Ok(())
 }
 
-/// The matches of all readers, which are by rank: a rank and a writer each. An error is a refused
-/// growth.
-pub fn all_matches<C: Catalog, A: Allocator + Copy>(
-    alloc: A,
-    readers: &[ReaderState<A>],
-) -> Result<BTreeSet<(u32, Guid), A>, AllocError>
-    ensures { (w : World C.Meaning) → AllStand w readers.now
-        → IfOk result (λ matches. matches.keys ≡ matches_below w.readers (length readers.now)) }
-{
-    let mut matches = BTreeSet::new(alloc);
-    for reader in readers {
-        reader.add_matches(&mut matches)?;
-    }
-    Ok(matches)
-}
-
-/// Writes down the status of each reader, by its rank.
-pub fn show_all<A: Allocator + Copy>(readers: &[ReaderState<A>], statuses: &mut [Status])
-    requires { length statuses.old ≡ length readers.now }
-    ensures { (rank : ℕ) (s : status.Status) (r : ReaderView) → rank < length readers.now
-        → slice_index_or statuses.new rank s ≡ (slice_index_or readers.now rank r).status }
-{
-    for at in 0..readers.len() {
-        statuses[at] = readers[at].status();
-    }
-}

@@ -6,7 +6,7 @@ use Rattle.rtps_reader.specs.declared.notice.Notice.{Notice}
 use Rattle.rtps_reader.specs.Notices.{answer_view, notice_view}
 use Rattle.rtps_reader.specs.Reader.{Reader}
 use Rattle.rtps_reader.specs.Standing.{StandsAt}
-use Rattle.rtps_serial.specs.Standing.{StandsFor}
+use Rattle.rtps_run.specs.Standing.{StandsFor}
 use Rattle.rtps_planner.specs.Job.{Job, job_run, job_sent, job_told}
 use Rattle.rtps_planner.specs.Plan.{steps_seen}
 use Rattle.rtps_shards.specs.declared.jobs.JobResult.{JobResult}

@@ -18,7 +18,7 @@ use rtps_planner::PlannedStep;
 use rtps_proxy::Effects;
 use rtps_reader::Step;
 use rtps_receiver::Event;
-use rtps_serial::asked_by;
+use rtps_run::asked_by;
 use std::alloc::{AllocError, Global};
 
 /// The event at an index and so many more that follow it, as far as there are any.

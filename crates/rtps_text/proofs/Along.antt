@@ -8,9 +8,9 @@ use Rattle.std.proofs.lemmas.Grind.{flat_map-append}
 use Rattle.std.proofs.lemmas.List.{drop-drop, map-append}
 use Rattle.rtps_types.specs.declared.place.Place.{Place}
 use Rattle.rtps_proxy.specs.Replies.{ReplyView}
-use Rattle.rtps_serial.specs.Presentation.{not_after}
-use Rattle.rtps_serial.specs.World as world
-use Rattle.rtps_serial.specs.World.{ReportView, NoticeOf, AnswerOf}
+use Rattle.rtps_run.specs.Presentation.{not_after}
+use Rattle.rtps_run.specs.World as world
+use Rattle.rtps_run.specs.World.{ReportView, NoticeOf, AnswerOf}
 use Rattle.rtps_planner.specs.Commuting.{Parts, answers_at, discovery_sends, merged, merged_below, notices_at, same_place}
 use Rattle.rtps_planner.specs.Gather.{AreRising}
 use Rattle.rtps_text.specs.Replayed.{put_line, put_lines}

@@ -20,13 +20,13 @@ use Rattle.rtps_records.specs.Runs.{Moves, PutsFront}
 use Rattle.rtps_records.proofs.Progress.{EndsHere, Progress, many_more, moved}
 use Rattle.dds_topic.specs.Decoding.{Decoding}
 use Rattle.rtps_discovery.specs.declared.config.Config.{Config}
-use Rattle.rtps_serial.specs.Run.{run}
-use Rattle.rtps_serial.specs.Standing.{EngineView, StandsAt, run_by}
-use Rattle.rtps_serial.proofs.Running.{run_count}
+use Rattle.rtps_run.specs.Run.{run}
+use Rattle.rtps_run.specs.Standing.{EngineView, StandsAt, run_by}
+use Rattle.rtps_run.proofs.Running.{run_count}
 use Rattle.rtps_planner.specs.Commuting.{merged}
 use Rattle.rtps_text.specs.Batched.{MovesBefore, RunsBatch, TakesRecords}
 use Rattle.rtps_planner.specs.Gather.{AreRising}
-use Rattle.rtps_serial.specs.World.{World}
+use Rattle.rtps_run.specs.World.{World}
 use Rattle.dds_participant.specs.Given.{AreAnswersAlong, AreNoticesAlong, IsGiven, parts_given, said_view, sent_in, told_in}
 use Rattle.rtps_text.specs.Replayed.{HasSaid, put_line, put_lines}
 use Rattle.rtps_text.specs.Slices.{AreByPlace, AreLeft, AreTexts, all_lines, merged_lines, places_lines, starts}

@@ -13,8 +13,8 @@ use Rattle.std.proofs.KnownBytes.{Appends-nil, Appends-trans}
 use Rattle.rtps_records.specs.Runs.{Moves, PutsFront}
 use Rattle.rtps_records.specs.Text.{IsFront}
 use Rattle.rtps_reader.specs.declared.notice.Output.{Output}
-use Rattle.rtps_serial.specs.Seen.{notices_by}
-use Rattle.rtps_serial.specs.World.{ReportView}
+use Rattle.rtps_run.specs.Seen.{notices_by}
+use Rattle.rtps_run.specs.World.{ReportView}
 use borrow.Author.Count.{below_more}
 use Rattle.dds_cache.specs.declared.history.History.{History}
 use Rattle.rtps_reader.specs.declared.notice.Notice.{Notice}

@@ -10,7 +10,7 @@ use Rattle.std.specs.declared.vec.Vec.{Vec}
 use Rattle.rtps_records.specs.Runs.{Moves, PutsFront}
 use Rattle.rtps_records.proofs.Progress.{Progress}
 use Rattle.dds_topic.specs.Decoding.{Decoding}
-use Rattle.rtps_serial.specs.Standing.{EngineView}
+use Rattle.rtps_run.specs.Standing.{EngineView}
 use Rattle.rtps_text.specs.Replayed.{HasSaid}
 use Rattle.rtps_text.proofs.Batches.{shared_lines}
 use Rattle.rtps_types.specs.declared.place.Place.{Place}

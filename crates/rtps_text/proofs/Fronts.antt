@@ -8,11 +8,11 @@ use Rattle.rtps_reader.specs.declared.notice.Notice.{Notice}
 use Rattle.std.specs.declared.alloc.Global.{Global}
 use Rattle.rtps_reader.specs.declared.notice.Output.{Output}
 use Rattle.rtps_reader.specs.Notices.{answer_view, notice_view}
-use Rattle.rtps_serial.specs.World.{NoticeOf}
+use Rattle.rtps_run.specs.World.{NoticeOf}
 use Rattle.rtps_planner.specs.Commuting.{Parts, same_place}
 use Rattle.rtps_text.specs.Replayed.{put_lines}
 use Rattle.rtps_proxy.specs.Replies.{ReplyView}
-use Rattle.rtps_serial.specs.declared.outcome.Answer.{Answer}
+use Rattle.rtps_run.specs.declared.outcome.Answer.{Answer}
 use Rattle.dds_participant.specs.Given.{parts_given, said_view, sent_in, told_in}
 use Rattle.dds_participant.specs.declared.given.Given.{Given}
 use Rattle.rtps_text.specs.Slices.{answer_lines, cursor_after, first_answers, first_notices, lists_after, lists_lines, next_said, part_lines, parts_lines, places_lines}

@@ -15,12 +15,12 @@ use Rattle.rtps_records.specs.declared.fault.RunFault.{RunFault}
 use Rattle.rtps_records.specs.declared.fault.RunFault.TheVariants.{NoMemory}
 use Rattle.std.proofs.lemmas.Bool.Decides.{nat_tests}
 use Rattle.rtps_reader.specs.declared.status.Status.{Status}
-use Rattle.rtps_serial.specs.Seen.{reader_count, status_at, status_seen}
+use Rattle.rtps_run.specs.Seen.{reader_count, status_at, status_seen}
 use Rattle.rtps_types.specs.declared.identity.GuidPrefix.{GuidPrefix}
 use Rattle.rtps_receiver.specs.Events.{EventView, events_of}
-use Rattle.rtps_serial.specs.World.{ReportView, World, discovery_puts, puts_below, world_after}
-use Rattle.rtps_serial.specs.Run.{events_from, first_world, world_run}
-use Rattle.rtps_serial.specs.Standing.{EngineView, StandsAt, run_by}
+use Rattle.rtps_run.specs.World.{ReportView, World, discovery_puts, puts_below, world_after}
+use Rattle.rtps_run.specs.Run.{events_from, first_world, world_run}
+use Rattle.rtps_run.specs.Standing.{EngineView, StandsAt, run_by}
 use Rattle.rtps_text.specs.Replayed.{HasSaid, put_line, replay_text, status_lines, status_text, summary_text, text_by}
 
 -- a text that grows begins as before

@@ -19,11 +19,11 @@ use Rattle.rtps_discovery.specs.declared.config.Config.{Config}
 use Rattle.rtps_reader.specs.Notices.{notice_view}
 use Rattle.rtps_reader.specs.declared.notice.Notice.{Notice}
 use Rattle.rtps_reader.specs.declared.notice.Output.{Output}
-use Rattle.rtps_serial.specs.Run.{run}
-use Rattle.rtps_serial.specs.Seen.{notices_by}
-use Rattle.rtps_serial.specs.Standing.{EngineView, StandsAt, run_by}
-use Rattle.rtps_serial.specs.World.{World}
-use Rattle.rtps_serial.proofs.Running.{run_count}
+use Rattle.rtps_run.specs.Run.{run}
+use Rattle.rtps_run.specs.Seen.{notices_by}
+use Rattle.rtps_run.specs.Standing.{EngineView, StandsAt, run_by}
+use Rattle.rtps_run.specs.World.{World}
+use Rattle.rtps_run.proofs.Running.{run_count}
 use Rattle.dds_participant.specs.Given.{IsGiven, told_in}
 use Rattle.dds_participant.specs.declared.given.Given.{Given}
 use Rattle.rtps_text.specs.Batched.{RunsBatch}

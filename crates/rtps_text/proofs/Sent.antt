@@ -18,8 +18,8 @@ use Rattle.rtps_proxy.specs.Replies.{ReplyView}
 use Rattle.rtps_reader.specs.declared.notice.Notice.{Notice}
 use Rattle.rtps_reader.specs.declared.notice.Output.{Output}
 use Rattle.rtps_reader.specs.Notices.{answer_view}
-use Rattle.rtps_serial.specs.World as world
-use Rattle.rtps_serial.specs.World.{ReportView, NoticeOf, World}
+use Rattle.rtps_run.specs.World as world
+use Rattle.rtps_run.specs.World.{ReportView, NoticeOf, World}
 use Rattle.rtps_planner.specs.Commuting.{Parts, answers_at, discovery_sends, merged, merged_below, notices_at, same_place}
 use Rattle.rtps_planner.specs.Gather.{AreRising}
 use Rattle.dds_participant.specs.Given.{AreAnswersAlong, IsGiven, parts_given, said_view, sent_in}

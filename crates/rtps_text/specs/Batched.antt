@@ -7,7 +7,7 @@ use Rattle.rtps_records.specs.Runs.{Moves}
 use Rattle.rtps_records.specs.Batches.{ReadsBatch}
 use Rattle.rtps_records.specs.declared.batch_end.BatchEnd.{BatchEnd}
 use Rattle.dds_topic.specs.Decoding.{Decoding}
-use Rattle.rtps_serial.specs.Standing.{EngineView, StandsAt, run_by}
+use Rattle.rtps_run.specs.Standing.{EngineView, StandsAt, run_by}
 use Rattle.dds_participant.specs.Given.{IsGiven}
 use Rattle.dds_participant.specs.Ports.{NoneAttached}
 use Rattle.dds_participant.specs.declared.given.Given.{Given}

@@ -12,9 +12,9 @@ use Rattle.dds_cache.specs.declared.history.History.{History}
 use Rattle.rtps_reader.specs.Notices.{notice_view}
 use Rattle.rtps_reader.specs.declared.notice.Notice.{Notice}
 use Rattle.rtps_reader.specs.declared.notice.Output.{Output}
-use Rattle.rtps_serial.specs.Seen.{notices_by}
-use Rattle.rtps_serial.specs.Standing.{EngineView, StandsAt, run_by}
-use Rattle.rtps_serial.specs.World.{ReportView}
+use Rattle.rtps_run.specs.Seen.{notices_by}
+use Rattle.rtps_run.specs.Standing.{EngineView, StandsAt, run_by}
+use Rattle.rtps_run.specs.World.{ReportView}
 
 -- a cache in which nothing was done
 pub record IsEmpty {V : Type 0} (history : History) (cache : CacheView V) : Type 0 where

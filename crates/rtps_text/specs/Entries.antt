@@ -23,10 +23,10 @@ use Rattle.dds_cache.specs.declared.state.ViewState.{ViewState}
 use Rattle.dds_cache.specs.declared.state.ViewState.TheVariants as view
 use Rattle.rtps_discovery.specs.declared.config.Config.{Config}
 use Rattle.rtps_reader.specs.declared.notice.Notice.{Notice}
-use Rattle.rtps_serial.specs.Run.{run}
-use Rattle.rtps_serial.specs.Seen.{notices_by, reader_count}
-use Rattle.rtps_serial.specs.Standing.{EngineView}
-use Rattle.rtps_serial.specs.World.{ReportView}
+use Rattle.rtps_run.specs.Run.{run}
+use Rattle.rtps_run.specs.Seen.{notices_by, reader_count}
+use Rattle.rtps_run.specs.Standing.{EngineView}
+use Rattle.rtps_run.specs.World.{ReportView}
 use Rattle.rtps_ascii.specs.Hex.{hex_text}
 use Rattle.rtps_text.specs.Line.{◌then◌, time_text}
 use Rattle.rtps_text.specs.Replayed.{summary_text}

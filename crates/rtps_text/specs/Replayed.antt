@@ -5,10 +5,10 @@ use Rattle.rtps_types.specs.declared.identity.Guid.{Guid}
 use Rattle.dds_topic.specs.Decoding.{Decoding}
 use Rattle.rtps_discovery.specs.declared.config.Config.{Config}
 use Rattle.rtps_reader.specs.declared.status.Status.{Status}
-use Rattle.rtps_serial.specs.World.{ReportView, NoticeOf, AnswerOf, World}
-use Rattle.rtps_serial.specs.Run.{run}
-use Rattle.rtps_serial.specs.Seen.{matches_seen, reader_count, status_at}
-use Rattle.rtps_serial.specs.Standing.{EngineView, StandsAt, run_by}
+use Rattle.rtps_run.specs.World.{ReportView, NoticeOf, AnswerOf, World}
+use Rattle.rtps_run.specs.Run.{run}
+use Rattle.rtps_run.specs.Seen.{matches_seen, reader_count, status_at}
+use Rattle.rtps_run.specs.Standing.{EngineView, StandsAt, run_by}
 use Rattle.rtps_text.specs.Told.{answer_line, heard_line, match_line, status_line}
 
 -- the line of what is put out

@@ -5,7 +5,7 @@ use Rattle.rtps_types.specs.declared.locator.Locator.{Locator}
 use Rattle.rtps_types.specs.declared.place.Place.{Place}
 use Rattle.rtps_records.specs.Traffic.{Grows, Sent, Traffic}
 use Rattle.rtps_proxy.specs.Replies.{ReplyView}
-use Rattle.rtps_serial.specs.World.{ReportView, NoticeOf, AnswerOf}
+use Rattle.rtps_run.specs.World.{ReportView, NoticeOf, AnswerOf}
 use Rattle.rtps_planner.specs.Commuting.{answers_at, merged}
 use Rattle.rtps_planner.specs.Gather.{AreRising}
 use Rattle.dds_participant.specs.Given.{AreAnswersAlong, parts_given, said_view, sent_in}

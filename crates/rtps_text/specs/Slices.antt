@@ -7,7 +7,7 @@ use Rattle.std.specs.declared.vec.Vec.{Vec}
 use Rattle.rtps_types.specs.declared.place.Place.{Place}
 use Rattle.rtps_proxy.specs.Replies.{ReplyView}
 use Rattle.rtps_reader.specs.declared.notice.Notice.{Notice}
-use Rattle.rtps_serial.specs.World.{NoticeOf}
+use Rattle.rtps_run.specs.World.{NoticeOf}
 use Rattle.rtps_planner.specs.Commuting.{Parts, answers_at, merged, notices_at, same_place}
 use Rattle.rtps_planner.specs.Gather.{AreRising}
 use Rattle.dds_participant.specs.Given.{AreAnswersAlong, AreNoticesAlong, parts_given, said_view, sent_in, told_in}

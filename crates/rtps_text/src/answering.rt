@@ -10,7 +10,7 @@ ghost use Rattle.rtps_text.specs.Sending.{AreAnswersByPlace, AreBy, HasNoAnswer,
 use crate::slices::{replies_before, rest, said_before};
 use dds_participant::Given;
 use rtps_records::Exchange;
-use rtps_serial::Answer;
+use rtps_run::Answer;
 use rtps_types::{Locator, Place, Reply};
 
 /// Sends the answers of a batch in the order of the run, each one whole and once to each of its

@@ -5,7 +5,7 @@ ghost use Rattle.std.specs.List.{flat_map};
 ghost use Rattle.rtps_records.specs.Runs.{Moves, PutsFront};
 ghost use Rattle.rtps_records.specs.declared.fault.RunFault.TheVariants.{CannotWrite, NoMemory};
 ghost use Rattle.dds_cache.specs.Cache.{IsHistory};
-ghost use Rattle.rtps_serial.specs.World.{ReportView};
+ghost use Rattle.rtps_run.specs.World.{ReportView};
 ghost use Rattle.rtps_text.specs.Caches.{Accepts, AllAccept, AllHeard, IsEmpty};
 ghost use Rattle.rtps_text.specs.Entries.{entry_line, entry_lines, sample_view};
 ghost use Rattle.dds_cache.specs.declared.history.History.{History};

@@ -7,7 +7,7 @@ ghost use Rattle.rtps_records.specs.Batches.{records_in};
 ghost use Rattle.rtps_records.specs.RecordFile.{IsRecord};
 ghost use Rattle.rtps_records.specs.Runs.{Closes, ClosesNot};
 ghost use Rattle.rtps_records.specs.Text.{Ends};
-ghost use Rattle.rtps_serial.specs.Standing.{StandsAt, run_by};
+ghost use Rattle.rtps_run.specs.Standing.{StandsAt, run_by};
 ghost use Rattle.dds_participant.specs.Given.{HoldsNothing, IsGiven};
 ghost use Rattle.dds_participant.specs.Ports.{NoneAttached};
 ghost use Rattle.rtps_text.specs.Replayed.{HasSaid, text_by};

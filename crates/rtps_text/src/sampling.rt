@@ -5,7 +5,7 @@ ghost use Rattle.std.specs.Io.{StartsWith};
 ghost use Rattle.std.specs.Io.KnownBytes.{Appends};
 ghost use Rattle.rtps_records.specs.Runs.{PutsFront, WroteAll};
 ghost use Rattle.rtps_records.specs.declared.fault.RunFault.TheVariants.{CannotWrite, NoMemory};
-ghost use Rattle.rtps_serial.specs.Standing.{StandsAt, run_by};
+ghost use Rattle.rtps_run.specs.Standing.{StandsAt, run_by};
 ghost use Rattle.dds_participant.specs.Ports.{NoneAttached};
 ghost use Rattle.rtps_text.specs.Caches.{AllAccept, AreKept, StopsLate};
 ghost use Rattle.rtps_text.specs.Entries.{samples_by, samples_text};

@@ -4,7 +4,7 @@ ghost use Rattle.std.specs.Prelude.{◌≡◌, ◌+◌, ◌≤◌, ◌++◌, ◌
 ghost use Rattle.std.specs.Io.{StartsWith};
 ghost use Rattle.std.specs.List.Sorted.{IsPartitionedBy};
 ghost use Rattle.rtps_reader.specs.Notices.{answer_view, notice_view};
-ghost use Rattle.rtps_serial.specs.World.{NoticeOf};
+ghost use Rattle.rtps_run.specs.World.{NoticeOf};
 ghost use Rattle.dds_participant.specs.Given.{parts_given, said_view};
 ghost use Rattle.rtps_text.specs.Replayed.{put_lines};
 ghost use Rattle.rtps_text.specs.Slices.{AreByPlace, AreLeft, IsLeft, is_before, answer_lines, cursor_after, first_answers, first_notices, lists_after, lists_lines, next_said, part_lines, parts_lines, starts};
@@ -15,7 +15,7 @@ use crate::notice::push_notice;
 use dds_participant::Given;
 use dds_topic::TextCatalog;
 use rtps_reader::{Notice, Output};
-use rtps_serial::Answer;
+use rtps_run::Answer;
 use rtps_types::{Place, Reply};
 use std::alloc::{AllocError, Allocator, Global};
 

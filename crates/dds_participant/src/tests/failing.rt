@@ -7,7 +7,7 @@ use crate::*;
 use dds_outlet::{Inlet, outlet};
 use dds_topic::{Catalog, CatalogError, Shape, Shapes};
 use rtps_reader::Status;
-use rtps_serial::EngineError;
+use rtps_run::EngineError;
 use rtps_shards::NoGate;
 use rtps_types::KeyHash;
 use std::alloc::{AllocError, Global};

@@ -3,7 +3,7 @@
 use super::{no_locators, no_octets, place};
 use crate::*;
 use rtps_reader::{Notice, NoticeKind, Output};
-use rtps_serial::{Answer, Outcome};
+use rtps_run::{Answer, Outcome};
 use rtps_types::{EntityId, Guid, GuidPrefix, Reply};
 use std::alloc::{AllocError, Allocator, Global};
 use std::test::Fail;

@@ -5,7 +5,7 @@ use dds_participant::Given;
 use dds_topic::Shape;
 use rtps_reader::Output;
 use rtps_records::{Exchange, Receive};
-use rtps_serial::Answer;
+use rtps_run::Answer;
 use rtps_types::{Locator, Locators, Octets, Place, Reply};
 use std::alloc::{AllocError, Global};
 use std::io;

@@ -1,6 +1,6 @@
 use Rattle.std.proofs.Common.{◌≡◌, map, take}
 use Rattle.rtps_receiver.specs.Events.{view}
-use Rattle.rtps_serial.specs.Run.{events_from}
+use Rattle.rtps_run.specs.Run.{events_from}
 use Rattle.dds_participant.proofs.decode.decoded_alone.Given as goal
 
 -- the events of the datagrams so far are there

@@ -1,5 +1,5 @@
-use Rattle.rtps_serial.proofs.Places.{rise_from}
-use Rattle.rtps_serial.specs.Run.{events_from}
+use Rattle.rtps_run.proofs.Places.{rise_from}
+use Rattle.rtps_run.specs.Run.{events_from}
 use Rattle.rtps_planner.proofs.Merged.{by_places}
 use Rattle.rtps_planner.proofs.laws.by_place.Goals as goal
 

@@ -1,6 +1,6 @@
 use Rattle.std.proofs.Common.{◌≡◌, ◌++◌, map}
 use Rattle.rtps_reader.specs.Notices as reader
-use Rattle.rtps_serial.specs.Outcome.{answer_view}
+use Rattle.rtps_run.specs.Outcome.{answer_view}
 use Rattle.rtps_planner.specs.Gather.{sending_by}
 use Rattle.rtps_planner.proofs.outputs.push_answers.Given as goal
 

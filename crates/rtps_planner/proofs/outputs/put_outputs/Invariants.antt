@@ -1,5 +1,5 @@
 use Rattle.std.proofs.Common.{◌≡◌, ◌++◌, map}
-use Rattle.rtps_serial.specs.Outcome.{answer_view}
+use Rattle.rtps_run.specs.Outcome.{answer_view}
 use Rattle.rtps_planner.specs.Gather.{lists_with, sends_of}
 use Rattle.rtps_planner.proofs.outputs.put_outputs.Given as goal
 

@@ -1,7 +1,7 @@
 use Rattle.std.proofs.Common.{◌≡◌, ◌++◌, ◌∙◌, ◌∷◌, [], append-nil, append_assoc, ap, refl, rules, if◌then◌else◌, ◌==◌, subst, sym}
 use Rattle.std.proofs.lemmas.List.{nil_from_length}
 use Rattle.rtps_discovery.specs.Seen.{change_seen}
-use Rattle.rtps_serial.specs.World.{doing_of}
+use Rattle.rtps_run.specs.World.{doing_of}
 use Rattle.rtps_planner.specs.declared.steps.PlannedStep.{PlannedStep}
 use Rattle.rtps_planner.specs.declared.steps.PlannedStep.TheVariants as step
 use Rattle.rtps_planner.specs.Plan.{Grow, step_seen}

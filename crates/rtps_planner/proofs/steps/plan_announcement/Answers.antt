@@ -2,10 +2,10 @@ use Rattle.std.proofs.Common.{◌++◌, ◌∙◌, ap, append-nil, map, subst, s
 use Rattle.rtps_receiver.specs.Events.{view}
 use Rattle.rtps_discovery.specs.Kept.{IsKnown}
 use Rattle.rtps_reader.specs.Reader.{placed}
-use Rattle.rtps_serial.specs.Outcome.{answer_view}
-use Rattle.rtps_serial.specs.World.{doings}
-use Rattle.rtps_serial.proofs.Answered.{on_ok_then}
-use Rattle.rtps_serial.proofs.Hearing.{announced_known}
+use Rattle.rtps_run.specs.Outcome.{answer_view}
+use Rattle.rtps_run.specs.World.{doings}
+use Rattle.rtps_run.proofs.Answered.{on_ok_then}
+use Rattle.rtps_run.proofs.Hearing.{announced_known}
 use Rattle.rtps_planner.specs.Job.{discovery_answer}
 use Rattle.rtps_planner.specs.Plan.{discovery_sending}
 use Rattle.rtps_planner.proofs.Planned.{announced_answer, changes_asked, grow_same, list_to, there_is}

@@ -1,7 +1,7 @@
 use Rattle.std.proofs.Common.{◌<◌, ◌++◌, ◌∙◌, [], ap, append-nil, map, subst, sym}
 use Rattle.rtps_discovery.specs.Kept.{IsKnown}
-use Rattle.rtps_serial.specs.Outcome.{answer_view}
-use Rattle.rtps_serial.proofs.Answered.{on_ok_then}
+use Rattle.rtps_run.specs.Outcome.{answer_view}
+use Rattle.rtps_run.proofs.Answered.{on_ok_then}
 use Rattle.rtps_planner.specs.Plan.{burst_at, discovery_sending, events_at}
 use Rattle.rtps_planner.proofs.Bursts.{burst_asked, users_answers, users_known}
 use Rattle.rtps_planner.proofs.Planned.{grow_same}

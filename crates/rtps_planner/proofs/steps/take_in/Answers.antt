@@ -1,6 +1,6 @@
 use Rattle.std.proofs.Common.{◌≡◌, ◌-◌, ◌++◌, ◌∙◌, ap, get_or, length, map, rules}
 use Rattle.std.specs.Prelude.{◌+◌, vec_len}
-use Rattle.rtps_serial.proofs.Answered.{on_ok_then}
+use Rattle.rtps_run.proofs.Answered.{on_ok_then}
 use Rattle.rtps_planner.specs.Plan.{events_at, steps_seen, taken_in}
 use Rattle.rtps_planner.specs.declared.steps.PlannedStep.TheVariants as step
 use Rattle.rtps_planner.proofs.Planned.{last_kept, last_more, step_more}

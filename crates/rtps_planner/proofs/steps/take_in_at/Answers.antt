@@ -1,5 +1,5 @@
 use Rattle.std.proofs.Common.{◌≡◌, ◌<◌, get_or, length, map, rules}
-use Rattle.rtps_serial.proofs.Answered.{on_ok_then}
+use Rattle.rtps_run.proofs.Answered.{on_ok_then}
 use Rattle.rtps_planner.specs.Plan.{events_at, taken_in}
 use Rattle.rtps_planner.proofs.Planned.{grow_at}
 use Rattle.rtps_planner.proofs.steps.take_in_at.Goals as goal

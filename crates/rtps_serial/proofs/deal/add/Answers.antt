@@ -1,6 +1,6 @@
 use Rattle.std.proofs.Common.{refl}
-use Rattle.rtps_serial.proofs.Answered.{on_ok_then}
-use Rattle.rtps_serial.proofs.Dealt.{deal_answer, deal_notice}
+use Rattle.rtps_run.proofs.Answered.{on_ok_then}
+use Rattle.rtps_run.proofs.Dealt.{deal_answer, deal_notice}
 use Rattle.rtps_serial.proofs.deal.add.Goals as goal
 
 pub returns-in-Notice : goal.returns-in-Notice

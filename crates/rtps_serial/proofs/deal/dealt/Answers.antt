@@ -1,7 +1,7 @@
 use Rattle.std.proofs.Common.{◌≡◌, ◌++◌, ◌∙◌, ◌∷◌, [], append-nil, append_assoc, ap, map, rules, subst, sym}
 use Rattle.std.proofs.lemmas.List.{map_push, nil_from_length}
 use Rattle.rtps_reader.specs.Notices.{notice_view}
-use Rattle.rtps_serial.specs.Outcome.{Deals, report_view}
+use Rattle.rtps_run.specs.Outcome.{Deals, report_view}
 use Rattle.rtps_serial.proofs.deal.dealt.Goals as goal
 
 pub loop-report-init : goal.loop-report-init

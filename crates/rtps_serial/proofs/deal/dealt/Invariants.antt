@@ -1,5 +1,5 @@
 use Rattle.std.proofs.Common.{◌≡◌, ◌++◌, map}
-use Rattle.rtps_serial.specs.Outcome.{Deals, report_view}
+use Rattle.rtps_run.specs.Outcome.{Deals, report_view}
 use Rattle.rtps_serial.proofs.deal.dealt.Given as goal
 
 -- what was given so far is dealt out

@@ -1,5 +1,5 @@
-use Rattle.rtps_serial.specs.Run.{run}
-use Rattle.rtps_serial.specs.Seen.{reader_count}
+use Rattle.rtps_run.specs.Run.{run}
+use Rattle.rtps_run.specs.Seen.{reader_count}
 use Rattle.rtps_serial.proofs.Listing.{below_listed, below_sorted}
 use Rattle.rtps_serial.proofs.laws.matches_listed.Goals as goal
 

@@ -1,8 +1,8 @@
 use Rattle.std.proofs.Common.{◌≡◌, ◌++◌, map}
 use Rattle.std.specs.Vec.Iter.{drain_items}
 use Rattle.rtps_reader.specs.Notices.{answer_view}
-use Rattle.rtps_serial.specs.Outcome.{report_view}
-use Rattle.rtps_serial.specs.World.{sent_by}
+use Rattle.rtps_run.specs.Outcome.{report_view}
+use Rattle.rtps_run.specs.World.{sent_by}
 use Rattle.rtps_serial.proofs.readers.report_answers.Given as goal
 
 -- what was added, with the answers that are left, is all of them

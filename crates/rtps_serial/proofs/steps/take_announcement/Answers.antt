@@ -1,13 +1,13 @@
 use Rattle.std.proofs.Common.{◌≡◌, ◌++◌, ◌∙◌, ap, map, subst, sym}
 use Rattle.rtps_receiver.specs.Events.{view}
 use Rattle.rtps_discovery.specs.Seen.{change_seen}
-use Rattle.rtps_serial.specs.Outcome.{report_view}
-use Rattle.rtps_serial.specs.Standing.{ReadersStand}
-use Rattle.rtps_serial.specs.Steps.{change_step, steps_run}
-use Rattle.rtps_serial.specs.World.{answer_put, discovery_puts}
-use Rattle.rtps_serial.proofs.Answered.{on_ok_then}
-use Rattle.rtps_serial.proofs.Hearing.{announced_puts, announcement_stands}
-use Rattle.rtps_serial.proofs.Routed.{discovered, discovered_stands}
+use Rattle.rtps_run.specs.Outcome.{report_view}
+use Rattle.rtps_run.specs.Standing.{ReadersStand}
+use Rattle.rtps_run.specs.Steps.{change_step, steps_run}
+use Rattle.rtps_run.specs.World.{answer_put, discovery_puts}
+use Rattle.rtps_run.proofs.Answered.{on_ok_then}
+use Rattle.rtps_run.proofs.Hearing.{announced_puts, announcement_stands}
+use Rattle.rtps_run.proofs.Routed.{discovered, discovered_stands}
 use Rattle.rtps_serial.proofs.steps.take_announcement.Goals as goal
 
 pub returns-clause-stands : goal.returns-clause-stands

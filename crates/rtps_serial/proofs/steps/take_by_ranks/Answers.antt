@@ -2,9 +2,9 @@ use Rattle.std.proofs.Common.{◌≡◌, ◌<◌, ◌∷◌, [], ◌∙◌, ap, 
 use Rattle.std.proofs.lemmas.List.{get_or_default, take_all}
 use Rattle.rtps_receiver.specs.Events.{view}
 use Rattle.rtps_reader.specs.Steps.{asked, asks_of}
-use Rattle.rtps_serial.specs.Standing.{ReadersStand}
-use Rattle.rtps_serial.specs.Steps.{event_steps, step_by, steps_run, world_stepped}
-use Rattle.rtps_serial.proofs.Reached.{entity_stays, named_step, ranks_more, unnamed_step}
+use Rattle.rtps_run.specs.Standing.{ReadersStand}
+use Rattle.rtps_run.specs.Steps.{event_steps, step_by, steps_run, world_stepped}
+use Rattle.rtps_run.proofs.Reached.{entity_stays, named_step, ranks_more, unnamed_step}
 use Rattle.rtps_serial.proofs.steps.take_by_ranks.Goals as goal
 use Rattle.rtps_serial.proofs.steps.take_by_ranks.Goals.{then-is_named+in_ok-step, else-is_named}
 

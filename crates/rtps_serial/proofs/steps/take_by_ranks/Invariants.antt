@@ -1,8 +1,8 @@
 use Rattle.std.proofs.Common.{◌≡◌, List, length, take}
 use Rattle.rtps_receiver.specs.Events.{view}
-use Rattle.rtps_serial.specs.Standing.{ReadersStand}
-use Rattle.rtps_serial.specs.Steps.{event_steps, steps_run}
-use Rattle.rtps_serial.specs.World.{ReportView, World}
+use Rattle.rtps_run.specs.Standing.{ReadersStand}
+use Rattle.rtps_run.specs.Steps.{event_steps, steps_run}
+use Rattle.rtps_run.specs.World.{ReportView, World}
 use Rattle.rtps_serial.proofs.steps.take_by_ranks.Given as goal
 
 -- the readers of the ranks so far took the event in

@@ -1,8 +1,8 @@
 use Rattle.std.proofs.Common.{◌≡◌, List, length, map, take}
 use Rattle.rtps_discovery.specs.Seen.{change_seen}
-use Rattle.rtps_serial.specs.Standing.{ReadersStand}
-use Rattle.rtps_serial.specs.Steps.{change_step, steps_run}
-use Rattle.rtps_serial.specs.World.{ReportView, World}
+use Rattle.rtps_run.specs.Standing.{ReadersStand}
+use Rattle.rtps_run.specs.Steps.{change_step, steps_run}
+use Rattle.rtps_run.specs.World.{ReportView, World}
 use Rattle.rtps_serial.proofs.steps.take_changes.Given as goal
 
 -- the readers took the changes so far in

@@ -1,13 +1,13 @@
 use Rattle.std.proofs.Common.{◌≡◌, ◌++◌, ◌∙◌, append-nil, ap, false, map, subst, sym}
 use Rattle.rtps_receiver.specs.Events.{view}
 use Rattle.rtps_discovery.specs.Addressed.{is_discovery}
-use Rattle.rtps_serial.specs.Outcome.{report_view}
-use Rattle.rtps_serial.specs.Standing.{ReadersStand}
-use Rattle.rtps_serial.specs.Steps.{event_steps, steps_run}
-use Rattle.rtps_serial.specs.World.{discovery_puts}
-use Rattle.rtps_serial.proofs.Answered.{on_ok_then}
-use Rattle.rtps_serial.proofs.Hearing.{no_puts, user_stands}
-use Rattle.rtps_serial.proofs.Routed.{discovered, discovered_stands}
+use Rattle.rtps_run.specs.Outcome.{report_view}
+use Rattle.rtps_run.specs.Standing.{ReadersStand}
+use Rattle.rtps_run.specs.Steps.{event_steps, steps_run}
+use Rattle.rtps_run.specs.World.{discovery_puts}
+use Rattle.rtps_run.proofs.Answered.{on_ok_then}
+use Rattle.rtps_run.proofs.Hearing.{no_puts, user_stands}
+use Rattle.rtps_run.proofs.Routed.{discovered, discovered_stands}
 use Rattle.rtps_serial.proofs.steps.take_event.Goals as goal
 
 pub returns-clause-stands : goal.returns-clause-stands

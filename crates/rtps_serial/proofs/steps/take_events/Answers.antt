@@ -2,10 +2,10 @@ use Rattle.std.proofs.Common.{◌≡◌, ◌+◌, ◌<◌, ◌∙◌, ap, arith,
 use Rattle.std.proofs.Math.ListN.{get_or-map}
 use Rattle.std.proofs.lemmas.List.{length-map}
 use Rattle.rtps_receiver.specs.Events.{view}
-use Rattle.rtps_serial.specs.Run.{world_run}
-use Rattle.rtps_serial.specs.Standing.{WorldStands}
-use Rattle.rtps_serial.specs.World.{World, world_after}
-use Rattle.rtps_serial.proofs.Running.{world_run_more}
+use Rattle.rtps_run.specs.Run.{world_run}
+use Rattle.rtps_run.specs.Standing.{WorldStands}
+use Rattle.rtps_run.specs.World.{World, world_after}
+use Rattle.rtps_run.proofs.Running.{world_run_more}
 use Rattle.rtps_serial.proofs.steps.take_events.Goals as goal
 
 pub loop-event-preserved : goal.loop-event-preserved

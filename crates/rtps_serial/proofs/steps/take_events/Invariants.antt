@@ -1,8 +1,8 @@
 use Rattle.std.proofs.Common.{◌≡◌, [], false, length, map, take}
 use Rattle.rtps_receiver.specs.Events.{view}
-use Rattle.rtps_serial.specs.Run.{world_run}
-use Rattle.rtps_serial.specs.Standing.{WorldStands}
-use Rattle.rtps_serial.specs.World.{World}
+use Rattle.rtps_run.specs.Run.{world_run}
+use Rattle.rtps_run.specs.Standing.{WorldStands}
+use Rattle.rtps_run.specs.World.{World}
 use Rattle.rtps_serial.proofs.steps.take_events.Given as goal
 
 -- the events so far were taken in

@@ -2,7 +2,7 @@ use Rattle.std.proofs.Common.{◌≡◌, ◌≤◌, ◌++◌, ℕ, List, get_or,
 use Rattle.rtps_records.specs.Runs.{Moves}
 use Rattle.dds_cache.specs.Standing.{CacheView}
 use Rattle.dds_cache.specs.declared.history.History.{History}
-use Rattle.rtps_serial.specs.World.{ReportView}
+use Rattle.rtps_run.specs.World.{ReportView}
 use Rattle.rtps_text.specs.Caches.{AllHeard}
 use Rattle.rtps_text.specs.Entries.{entry_lines}
 use Rattle.rtps_text.proofs.caches.print_caches.Given as goal

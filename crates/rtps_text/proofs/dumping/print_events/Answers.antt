@@ -2,7 +2,7 @@ use Rattle.std.proofs.Common.{◌∙◌, arith, refl, rules}
 use Rattle.rtps_records.proofs.NextRead.{at_fault, is_end, is_fault, is_record}
 use Rattle.rtps_records.proofs.Printed.{says_one_more, texts_begin}
 use Rattle.rtps_records.proofs.Progress.{ended, fails_writing, one_more, printed, spilled, started, stops_first, stops_here, stops_without, stops_writing}
-use Rattle.rtps_serial.proofs.Answered.{on_ok_then}
+use Rattle.rtps_run.proofs.Answered.{on_ok_then}
 use Rattle.rtps_text.proofs.dumping.print_events.Goals as goal
 
 pub returns-in_err-open-clause-fault : goal.returns-in_err-open-clause-fault

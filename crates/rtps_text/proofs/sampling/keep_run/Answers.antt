@@ -1,8 +1,8 @@
 use Rattle.std.proofs.Common.{◌∙◌, ap, arith, refl, rules, subst, sym, None, Some}
 use Rattle.rtps_records.proofs.NextRead.{at_fault}
 use Rattle.rtps_records.proofs.Progress.{ended, started, stops_at_once, stops_first, stops_here}
-use Rattle.rtps_serial.proofs.Answered.{on_ok_then}
-use Rattle.rtps_serial.specs.Standing.{EngineView}
+use Rattle.rtps_run.proofs.Answered.{on_ok_then}
+use Rattle.rtps_run.specs.Standing.{EngineView}
 use Rattle.dds_participant.specs.Kept.{ParticipantView}
 use Rattle.dds_participant.specs.Ports.{NoneAttached}
 use Rattle.rtps_text.proofs.Batches.{after_end, after_fault, after_more}

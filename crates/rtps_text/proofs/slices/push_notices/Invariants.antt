@@ -1,7 +1,7 @@
 use Rattle.std.proofs.Common.{◌≡◌, ◌++◌, ◌+◌, length, map, drop}
 use Rattle.std.specs.Io.{StartsWith}
 use Rattle.rtps_reader.specs.Notices.{notice_view}
-use Rattle.rtps_serial.specs.World.{NoticeOf}
+use Rattle.rtps_run.specs.World.{NoticeOf}
 use Rattle.rtps_text.specs.Replayed.{put_lines}
 use Rattle.rtps_text.specs.Slices.{first_notices}
 use Rattle.rtps_text.proofs.slices.push_notices.Given as goal

@@ -1,7 +1,7 @@
 use Rattle.std.proofs.Common.{◌≡◌, ◌∙◌, ap, arith, false, length, map, refl, rules, slice_index_or}
 use Rattle.rtps_reader.specs.Standing.{ReaderView, facts_in}
-use Rattle.rtps_serial.specs.Run.{fixed_of}
-use Rattle.rtps_serial.proofs.Taking.{starts_here, shows_first}
+use Rattle.rtps_run.specs.Run.{fixed_of}
+use Rattle.rtps_run.proofs.Taking.{starts_here, shows_first}
 use Rattle.dds_participant.proofs.participant.Participant.new.Goals as goal
 
 pub returns-clause-stands : goal.returns-clause-stands

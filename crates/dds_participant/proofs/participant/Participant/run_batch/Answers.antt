@@ -1,9 +1,9 @@
 use Rattle.std.proofs.Common.{◌≡◌, ◌∙◌, refl, ap, arith, length, map, subst, sym}
 use Rattle.std.proofs.lemmas.List.{length-map}
-use Rattle.rtps_serial.specs.Outcome.{Adds}
-use Rattle.rtps_serial.specs.World.{World}
+use Rattle.rtps_run.specs.Outcome.{Adds}
+use Rattle.rtps_run.specs.World.{World}
 use Rattle.dds_participant.specs.Kept.{ParticipantView}
-use Rattle.rtps_serial.specs.Standing.{EngineView}
+use Rattle.rtps_run.specs.Standing.{EngineView}
 use Rattle.dds_participant.specs.Ports.{NoneAttached}
 use Rattle.dds_participant.proofs.Finished.{handed_finish}
 use Rattle.dds_participant.proofs.Unattached.{outcome_same}

@@ -1,8 +1,8 @@
 use Rattle.std.proofs.Common.{◌∙◌, sym}
-use Rattle.rtps_serial.specs.Run.{run}
-use Rattle.rtps_serial.specs.Seen.{reader_count, status_at}
-use Rattle.rtps_serial.proofs.Running.{run_count}
-use Rattle.rtps_serial.proofs.Taking.{copied}
+use Rattle.rtps_run.specs.Run.{run}
+use Rattle.rtps_run.specs.Seen.{reader_count, status_at}
+use Rattle.rtps_run.proofs.Running.{run_count}
+use Rattle.rtps_run.proofs.Taking.{copied}
 use Rattle.dds_participant.proofs.participant.Participant.status.Goals as goal
 
 pub returns : goal.returns

@@ -1,5 +1,5 @@
 use Rattle.std.proofs.Common.{◌≡◌, ◌∙◌, ap, arith, get_or, length, refl, sym, drop}
-use Rattle.rtps_serial.proofs.Running.{front_back}
+use Rattle.rtps_run.proofs.Running.{front_back}
 use Rattle.rtps_serial.proofs.engine.SerialEngine.finish.Goals as goal
 
 pub returns : goal.returns

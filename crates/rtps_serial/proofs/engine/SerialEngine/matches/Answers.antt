@@ -1,7 +1,7 @@
 use Rattle.std.proofs.Common.{◌∙◌, ap, sym}
-use Rattle.rtps_serial.specs.Seen.{matches_below}
-use Rattle.rtps_serial.specs.Run.{run}
-use Rattle.rtps_serial.proofs.Running.{run_count}
+use Rattle.rtps_run.specs.Seen.{matches_below}
+use Rattle.rtps_run.specs.Run.{run}
+use Rattle.rtps_run.proofs.Running.{run_count}
 use Rattle.rtps_serial.proofs.engine.SerialEngine.matches.Goals as goal
 
 pub returns-in_ok-all_matches-clause-matches : goal.returns-in_ok-all_matches-clause-matches

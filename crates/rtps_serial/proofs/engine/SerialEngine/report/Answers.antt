@@ -1,8 +1,8 @@
 use Rattle.std.proofs.Common.{◌≡◌, ◌∙◌, ap, map, subst, sym}
 use Rattle.rtps_receiver.specs.Events.{events_of, view}
-use Rattle.rtps_serial.specs.Run.{world_run}
-use Rattle.rtps_serial.specs.Standing.{WorldStands}
-use Rattle.rtps_serial.proofs.Answered.{on_ok_then}
+use Rattle.rtps_run.specs.Run.{world_run}
+use Rattle.rtps_run.specs.Standing.{WorldStands}
+use Rattle.rtps_run.proofs.Answered.{on_ok_then}
 use Rattle.rtps_serial.proofs.engine.SerialEngine.report.Goals as goal
 
 pub returns-clause-stands : goal.returns-clause-stands

@@ -1,9 +1,9 @@
 use Rattle.std.proofs.Common.{◌≡◌, ◌++◌, ◌∷◌, [], ◌∙◌, ap, length, map, rules, sym}
-use Rattle.rtps_serial.specs.Outcome.{report_view}
-use Rattle.rtps_serial.specs.Standing.{EngineView, run_by}
-use Rattle.rtps_serial.proofs.Dealt.{adds_dealt}
-use Rattle.rtps_serial.proofs.Running.{run_count}
-use Rattle.rtps_serial.proofs.Taking.{put_taken, taken}
+use Rattle.rtps_run.specs.Outcome.{report_view}
+use Rattle.rtps_run.specs.Standing.{EngineView, run_by}
+use Rattle.rtps_run.proofs.Dealt.{adds_dealt}
+use Rattle.rtps_run.proofs.Running.{run_count}
+use Rattle.rtps_run.proofs.Taking.{put_taken, taken}
 use Rattle.rtps_serial.proofs.engine.SerialEngine.take_in.Goals as goal
 
 pub returns-clause-stands : goal.returns-clause-stands

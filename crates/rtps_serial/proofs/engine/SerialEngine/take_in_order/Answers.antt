@@ -1,6 +1,6 @@
 use Rattle.std.proofs.Common.{◌∙◌, sym}
-use Rattle.rtps_serial.proofs.Answered.{ok_of}
-use Rattle.rtps_serial.proofs.Taking.{put_taken, taken}
+use Rattle.rtps_run.proofs.Answered.{ok_of}
+use Rattle.rtps_run.proofs.Taking.{put_taken, taken}
 use Rattle.rtps_serial.proofs.engine.SerialEngine.take_in_order.Goals as goal
 
 pub returns-clause-stands : goal.returns-clause-stands

@@ -2,12 +2,12 @@ use Rattle.std.proofs.Common.{◌≡◌, ◌<◌, ◌++◌, ◌∙◌, ap, arith
 use Rattle.rtps_reader.specs.Notices.{answer_view, notice_view}
 use Rattle.rtps_reader.specs.Reader.{sends, tells}
 use Rattle.rtps_reader.specs.Steps.{asked}
-use Rattle.rtps_serial.specs.Outcome.{report_view}
-use Rattle.rtps_serial.specs.Seen.{notices_by}
-use Rattle.rtps_serial.specs.Steps.{step_by}
-use Rattle.rtps_serial.specs.World.{NoticeOf, sent_by}
-use Rattle.rtps_serial.proofs.Answered.{on_ok_then}
-use Rattle.rtps_serial.proofs.Stepped.{state_of, step_stands}
+use Rattle.rtps_run.specs.Outcome.{report_view}
+use Rattle.rtps_run.specs.Seen.{notices_by}
+use Rattle.rtps_run.specs.Steps.{step_by}
+use Rattle.rtps_run.specs.World.{NoticeOf, sent_by}
+use Rattle.rtps_run.proofs.Answered.{on_ok_then}
+use Rattle.rtps_run.proofs.Stepped.{state_of, step_stands}
 use Rattle.rtps_serial.proofs.readers.Readers.step.Goals as goal
 
 pub returns-clause-stands : goal.returns-clause-stands

@@ -1,4 +1,4 @@
-use Rattle.rtps_serial.proofs.Answered.{on_ok}
+use Rattle.rtps_run.proofs.Answered.{on_ok}
 use Rattle.rtps_text.proofs.Batches.{moved_front}
 use Rattle.rtps_text.proofs.Run.{on_err}
 use Rattle.rtps_text.proofs.Turns.{of_memory}

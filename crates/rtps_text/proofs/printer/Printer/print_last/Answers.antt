@@ -1,4 +1,4 @@
-use Rattle.rtps_serial.proofs.Answered.{on_ok_then}
+use Rattle.rtps_run.proofs.Answered.{on_ok_then}
 use Rattle.rtps_text.proofs.Batches.{moved_front}
 use Rattle.rtps_text.proofs.Due.{due_begun, due_next, front_on, moves_on, spelled_lines}
 use Rattle.rtps_text.proofs.Run.{on_err}

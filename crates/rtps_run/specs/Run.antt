@@ -1,0 +1,64 @@
+-- The run of one thread, which takes the submessages of all datagrams one by one.
+use Rattle.std.specs.Prelude.{ℕ, ◌+◌, Bool, false, true, List, [], ◌∷◌, ◌++◌, map, filter, slice_index_or, ◌==◌}
+use Rattle.rtps_types.specs.declared.identity.EntityId.{EntityId}
+use Rattle.rtps_types.specs.declared.identity.GuidPrefix.{GuidPrefix}
+use Rattle.dds_qos.specs.declared.policies.Reliability.{Reliability}
+use Rattle.dds_qos.specs.declared.policies.Reliability.TheVariants.{BestEffort, Reliable}
+use Rattle.rtps_receiver.specs.Events.{EventView, events_of}
+use Rattle.rtps_discovery.specs.Addressed.{unknown_entity}
+use Rattle.rtps_discovery.specs.declared.config.Config.{Config}
+use Rattle.rtps_discovery.specs.declared.config.FixedMatch.{FixedMatch}
+use Rattle.rtps_discovery.specs.declared.config.ReaderConfig.{ReaderConfig}
+use Rattle.rtps_discovery.specs.Start.{first_known}
+use Rattle.dds_topic.specs.Decoding.{Decoding}
+use Rattle.rtps_reader.specs.Reader.{Facts, Reader, first_reader}
+use Rattle.rtps_run.specs.World.{World, world_after}
+
+-- the entity of the reader of a rank
+abbrev pub entity_of : List ReaderConfig → ℕ → EntityId
+entity_of readers rank = slice_index_or (map (λ r. r.entity) readers) rank unknown_entity
+
+-- a reliability asks for what is missing (DDS 1.4, 2.2.3.14)
+abbrev pub is_reliable : Reliability → Bool
+is_reliable BestEffort = false
+is_reliable Reliable = true
+
+-- whether the reader of a rank asks for what is missing
+abbrev pub is_reliable_at : List ReaderConfig → ℕ → Bool
+is_reliable_at readers rank =
+    slice_index_or (map (λ r. is_reliable r.requested.policies.reliability) readers) rank false
+
+-- the writers that the reader of a rank is matched with from the start
+abbrev pub fixed_of : List FixedMatch → ℕ → List Facts
+fixed_of fixed rank = map (λ m. (m.writer, m.locators)) (filter (λ m. m.rank == rank) fixed)
+
+-- the reader of a rank at the start, where these are its fixed matches
+abbrev pub reader_first : GuidPrefix → List ReaderConfig → ℕ → List Facts → Reader
+reader_first own readers rank fixed =
+    first_reader own (entity_of readers rank) (is_reliable_at readers rank) fixed
+
+-- the world at the start: nothing came, nobody is known but our readers, and there are the fixed
+-- matches
+abbrev pub first_world : {M : Type 0} → Config → World M
+first_world config = record {
+  known = first_known config;
+  readers = λ rank.
+      reader_first config.own config.readers.items rank (fixed_of config.fixed.items rank);
+  put = [];
+}
+
+-- the events of a list of datagrams, of which the first has this index in the run
+abbrev pub events_from : GuidPrefix → ℕ → List (List ℕ) → List EventView
+events_from own index [] = []
+events_from own index (datagram ∷ datagrams) =
+    events_of own index datagram ++ events_from own (index + 1) datagrams
+
+-- the events one by one
+abbrev pub world_run : {M : Type 0} → Decoding M → World M → List EventView → World M
+world_run decoding w [] = w
+world_run decoding w (e ∷ es) = world_run decoding (world_after decoding w e) es
+
+-- the world after a list of datagrams
+abbrev pub run : {M : Type 0} → Decoding M → Config → List (List ℕ) → World M
+run decoding config datagrams =
+    world_run decoding (first_world config) (events_from config.own 0 datagrams)

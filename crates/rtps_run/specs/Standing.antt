@@ -1,0 +1,166 @@
+-- What an engine keeps, and when that is what follows from a list of datagrams.
+use Rattle.std.specs.Prelude.{◌≡◌, ◌+◌, ◌++◌, ◌^◌, ◌<◌, ◌≤◌, false, Bool, true, ℕ, List, [], length, map, slice_index_or, Some, Result, Ok, Err}
+use Rattle.std.specs.Option.{option_map}
+use Rattle.dds_topic.specs.Decoding.{Decoding}
+use Rattle.rtps_discovery.specs.declared.config.Config.{Config}
+use Rattle.rtps_discovery.specs.declared.faults.ConfigFault.{ConfigFault}
+use Rattle.rtps_discovery.specs.Kept.{DiscoveryView, IsKnown, HeldView}
+use Rattle.rtps_discovery.specs.Known.{reader_at}
+use Rattle.rtps_reader.specs.declared.notice.Notice.{Notice}
+use Rattle.rtps_reader.specs.declared.status.Status.{Status}
+use Rattle.rtps_reader.specs.Reader.{Reader}
+use Rattle.rtps_reader.specs.Standing as reader
+use Rattle.rtps_reader.specs.Standing.{ReaderView}
+use Rattle.rtps_run.specs.declared.errors.EngineError.{EngineError}
+use Rattle.rtps_run.specs.declared.errors.EngineError.TheVariants.{NoMemory, Failed, Spent}
+use Rattle.rtps_run.specs.declared.errors.StartError.{StartError}
+use Rattle.rtps_run.specs.declared.errors.StartError.TheVariants as start
+use Rattle.rtps_run.specs.declared.outcome.Report.{Report}
+use Rattle.rtps_run.specs.Outcome.{report_view}
+use Rattle.rtps_run.specs.Run.{run}
+use Rattle.rtps_run.specs.Seen.{notices_by, reader_count, status_at}
+use Rattle.rtps_run.specs.World.{ReportView, World}
+
+-- what an engine keeps, without where it lies in memory
+pub record EngineView (C : Type 0) : Type 0 where
+  pub catalog : C
+  pub config : Config
+  -- how many datagrams were taken
+  pub index : ℕ
+  pub failed : Bool
+  pub discovery : DiscoveryView
+  -- by rank, and the statuses after the last datagram that was taken
+  pub readers : List ReaderView
+  pub statuses : List Status
+
+-- the state of a rank keeps the reader of that rank, which gave out these notices
+pub record StandsFor {M : Type 0} (r : Reader) (given : List (Notice M)) (rank : ℕ)
+    (state : ReaderView) : Type 0 where
+  pub stands : reader.StandsAt r given state
+  pub ranked : state.rank ≡ rank
+
+-- each state keeps the reader of its rank, which gave out the notices of that rank
+abbrev pub AllStandBy : {M : Type 0} → (ℕ → Reader) → (ℕ → List (Notice M)) → List ReaderView
+    → Type 0
+AllStandBy readers given states =
+    (rank : ℕ) (other : ReaderView) → rank < length states
+    → StandsFor (readers rank) (given rank) rank (slice_index_or states rank other)
+
+-- each state keeps the reader of its rank in the world, with the notices that it put out
+abbrev pub AllStand : {M : Type 0} → World M → List ReaderView → Type 0
+AllStand w states = AllStandBy w.readers (λ rank. notices_by rank w.put) states
+
+-- each state keeps the reader of its rank, which gave out no notice yet
+abbrev pub AllStart : (ℕ → Reader) → List ReaderView → Type 0
+AllStart readers states = AllStandBy {M = Unit {0}} readers (λ rank. []) states
+
+-- there is a state for each reader of the world, and it keeps that reader; and all that the world
+-- put out are these reports, after what was put out earlier
+pub record ReadersStand {V M A : Type 0} (view : V → M) (w : World M)
+    (earlier : List (ReportView M)) (states : List ReaderView) (reports : List (Report V A))
+    : Type 0 where
+  pub count : length states ≡ reader_count w
+  pub readers : AllStand w states
+  pub put : w.put ≡ earlier ++ map (report_view view) reports
+
+-- each reader is known, and by its own entity
+abbrev pub AllKnown : {M : Type 0} → World M → Type 0
+AllKnown w =
+    (rank : ℕ) → rank < reader_count w
+    → option_map (λ r. r.entity) (reader_at w.known.readers rank) ≡ Some (w.readers rank).entity
+
+-- the same with what discovery keeps, which is what the world knows
+pub record WorldStands {V M A : Type 0} (view : V → M) (w : World M) (earlier : List (ReportView M))
+    (discovery : HeldView) (states : List ReaderView) (reports : List (Report V A)) : Type 0 where
+  pub known : IsKnown w.known discovery
+  pub named : AllKnown w
+  pub readers : ReadersStand view w earlier states reports
+
+-- the run of the engine's configuration over a list of datagrams
+abbrev pub run_by : {C M : Type 0} → (C → Decoding M) → EngineView C → List (List ℕ) → World M
+run_by decoding engine datagrams = run (decoding engine.catalog) engine.config datagrams
+
+-- the statuses are those after these datagrams
+pub record ShowsAt {C M : Type 0} (decoding : C → Decoding M) (datagrams : List (List ℕ))
+    (engine : EngineView C) : Type 0 where
+  pub count : length engine.statuses ≡ length engine.config.readers.items
+  pub statuses : (rank : ℕ) (other : Status) → rank < length engine.statuses
+      → slice_index_or engine.statuses rank other
+      ≡ status_at (run_by decoding engine datagrams) rank
+
+-- the engine keeps what follows from these datagrams
+pub record StandsAt {C M : Type 0} (decoding : C → Decoding M) (datagrams : List (List ℕ))
+    (engine : EngineView C) : Type 0 where
+  pub sound : engine.failed ≡ false
+  pub index : engine.index ≡ length datagrams
+  pub known : IsKnown (run_by decoding engine datagrams).known engine.discovery.kept
+  pub unspent : engine.discovery.spent ≡ false
+  pub count : length engine.readers ≡ length engine.config.readers.items
+  pub readers : AllStand (run_by decoding engine datagrams) engine.readers
+  pub shows : ShowsAt decoding datagrams engine
+
+-- a run has at most 2^48 datagrams
+abbrev pub datagram_limit : ℕ
+datagram_limit = 2 ^ 48
+
+-- How a datagram is taken, and when each refusal comes: Failed exactly where an earlier datagram
+-- was out of memory, which leaves the engine failed, Spent exactly where one datagram more would
+-- pass the limit. Either leaves the engine as it was.
+unfoldable pub Takes : {C X : Type 0} → Result X EngineError → EngineView C → EngineView C → Type 0
+Takes (Ok x) old new =
+    (old.failed ≡ false) × (old.index < datagram_limit)
+    × (new.failed ≡ false) × (new.index ≡ old.index + 1)
+Takes (Err Failed) old new = (old.failed ≡ true) × (new ≡ old)
+Takes (Err Spent) old new = (old.failed ≡ false) × (datagram_limit ≤ old.index) × (new ≡ old)
+Takes (Err NoMemory) old new =
+    (old.failed ≡ false) × (old.index < datagram_limit) × (new.failed ≡ true)
+
+-- why a datagram is refused before it is looked at
+unfoldable pub Refuses : {C : Type 0} → EngineError → EngineView C → Type 0
+Refuses Failed engine = engine.failed ≡ true
+Refuses Spent engine = (engine.failed ≡ false) × (datagram_limit ≤ engine.index)
+Refuses NoMemory engine = ⊥
+
+-- only discovery and the readers have changed
+pub record IsSteppedFrom {C : Type 0} (old new : EngineView C) : Type 0 where
+  pub catalog : new.catalog ≡ old.catalog
+  pub config : new.config ≡ old.config
+  pub index : new.index ≡ old.index
+  pub failed : new.failed ≡ old.failed
+  pub statuses : new.statuses ≡ old.statuses
+  pub count : length new.readers ≡ length old.readers
+
+-- one datagram more is taken, and the statuses are those of the readers
+pub record IsFinishedFrom {C : Type 0} (old new : EngineView C) : Type 0 where
+  pub catalog : new.catalog ≡ old.catalog
+  pub config : new.config ≡ old.config
+  pub index : new.index ≡ old.index + 1
+  pub sound : new.failed ≡ false
+  pub discovery : new.discovery ≡ old.discovery
+  pub readers : new.readers ≡ old.readers
+  pub count : length new.statuses ≡ length old.statuses
+  pub statuses : (rank : ℕ) (s : Status) (r : ReaderView) → rank < length old.readers
+      → slice_index_or new.statuses rank s ≡ (slice_index_or old.readers rank r).status
+
+-- What a refused datagram leaves of what the caller lent: Failed and Spent leave it as it was, and
+-- NoMemory leaves nothing.
+unfoldable pub Leaves : {X Y : Type 0} → Result X EngineError → List Y → List Y → Type 0
+Leaves (Ok x) old new = Unit {0}
+Leaves (Err Failed) old new = new ≡ old
+Leaves (Err Spent) old new = new ≡ old
+Leaves (Err NoMemory) old new = new ≡ []
+
+-- when a question to the engine is refused: Failed exactly where it has failed
+unfoldable pub Answers : {C X : Type 0} → Result X EngineError → EngineView C → Type 0
+Answers (Ok x) engine = engine.failed ≡ false
+Answers (Err Failed) engine = engine.failed ≡ true
+Answers (Err Spent) engine = ⊥
+Answers (Err NoMemory) engine = engine.failed ≡ false
+
+-- when an engine is refused, by what the check of its configuration says
+unfoldable pub Starts : {X : Type 0} → Result (Unit {0}) ConfigFault → Result X StartError → Type 0
+Starts (Ok u) (Ok x) = Unit {0}
+Starts (Ok u) (Err start.NoMemory) = Unit {0}
+Starts (Ok u) (Err (start.Config fault)) = ⊥
+Starts (Err fault) (Ok x) = ⊥
+Starts (Err fault) (Err e) = e ≡ start.Config fault

@@ -1,0 +1,17 @@
+//! The run of one thread, in definitions, and what every engine that gives it uses
+//! (DDSI-RTPS 8.3.4, 8.4.10): what an engine starts with, keeps, gives, and refuses.
+#![tactic(auto)]
+
+mod errors;
+mod lists;
+mod outcome;
+mod readers;
+mod start;
+mod turn;
+
+pub use errors::{EngineError, StartError};
+pub use lists::{empty_lists, push_by};
+pub use outcome::{Answer, Outcome, Report};
+pub use readers::{all_matches, asked_by, show_all};
+pub use start::{first_readers, first_statuses, fixed_by_rank};
+pub use turn::{ReportKind, Turn};

@@ -1,0 +1,61 @@
+//! What an engine asks of its readers, and what it shows of them.
+
+ghost use Rattle.std.specs.Prelude.{◌≡◌, ℕ, ◌<◌, IfOk, length, slice_index_or};
+ghost use Rattle.rtps_discovery.specs.Seen.{becomes_seen};
+ghost use Rattle.rtps_reader.specs.declared.status.Status as status;
+ghost use Rattle.rtps_reader.specs.Standing.{ReaderView};
+ghost use Rattle.rtps_reader.specs.Steps.{asked};
+ghost use Rattle.rtps_run.specs.Seen.{matches_below};
+ghost use Rattle.rtps_run.specs.Standing.{AllStand};
+ghost use Rattle.rtps_run.specs.World.{World, doing_of};
+
+use dds_topic::Catalog;
+use rtps_discovery::Becomes;
+use rtps_reader::{ReaderState, Status, StepKind};
+use rtps_types::Guid;
+use std::alloc::{AllocError, Allocator};
+use std::collections::BTreeSet;
+
+/// What a change of what is known asks of the reader that hears of it.
+pub fn asked_by<A: Allocator>(what: &Becomes<A>) -> StepKind<'_>
+    ensures { asked result ≡ doing_of (becomes_seen what.now) }
+{
+    match what {
+        Becomes::Match(writer, locators) => StepKind::Match {
+            writer: *writer,
+            locators: locators.as_slice(),
+        },
+        Becomes::Unmatch(writer) => StepKind::Unmatch { writer: *writer },
+        Becomes::Refuse(writer, policy) => StepKind::Refuse {
+            writer: *writer,
+            policy: *policy,
+        },
+    }
+}
+
+/// The matches of all readers, which are by rank: a rank and a writer each. An error is a refused
+/// growth.
+pub fn all_matches<C: Catalog, A: Allocator + Copy>(
+    alloc: A,
+    readers: &[ReaderState<A>],
+) -> Result<BTreeSet<(u32, Guid), A>, AllocError>
+    ensures { (w : World C.Meaning) → AllStand w readers.now
+        → IfOk result (λ matches. matches.keys ≡ matches_below w.readers (length readers.now)) }
+{
+    let mut matches = BTreeSet::new(alloc);
+    for reader in readers {
+        reader.add_matches(&mut matches)?;
+    }
+    Ok(matches)
+}
+
+/// Writes down the status of each reader, by its rank.
+pub fn show_all<A: Allocator + Copy>(readers: &[ReaderState<A>], statuses: &mut [Status])
+    requires { length statuses.old ≡ length readers.now }
+    ensures { (rank : ℕ) (s : status.Status) (r : ReaderView) → rank < length readers.now
+        → slice_index_or statuses.new rank s ≡ (slice_index_or readers.now rank r).status }
+{
+    for at in 0..readers.len() {
+        statuses[at] = readers[at].status();
+    }
+}

@@ -1,0 +1,85 @@
+//! The readers of a configuration, at the start.
+
+ghost use Rattle.std.specs.Prelude.{◌≡◌, List, ℕ, ◌<◌, ◌≤◌, IfOk, length, map, slice_index_or};
+ghost use Rattle.rtps_reader.specs.Reader.{Facts};
+ghost use Rattle.rtps_reader.specs.Standing.{facts_in};
+ghost use Rattle.rtps_run.specs.Run.{fixed_of, is_reliable, reader_first};
+ghost use Rattle.rtps_run.specs.Standing.{AllStart};
+
+use crate::lists::{empty_lists, push_by};
+use dds_qos::Reliability;
+use rtps_discovery::{FixedMatch, ReaderConfig};
+use rtps_reader::{ReaderState, Status};
+use rtps_types::{GuidPrefix, Locators, WriterFacts};
+use std::alloc::{AllocError, Allocator};
+
+/// The writers that each of so many readers is matched with from the start, by rank. An error is a
+/// refused growth.
+pub fn fixed_by_rank<A: Allocator + Copy>(
+    alloc: A,
+    readers: usize,
+    fixed: &[FixedMatch],
+) -> Result<Vec<Vec<WriterFacts<A>, A>, A>, AllocError>
+    ensures count { IfOk result (λ lists. length lists.items ≡ readers) }
+    ensures fixed { IfOk result (λ lists. (rank : ℕ) (other : _) → rank < readers
+        → map facts_in (slice_index_or lists.items rank other).items ≡ fixed_of fixed.now rank) }
+{
+    let mut lists = empty_lists(alloc, readers)?;
+    for pair in fixed {
+        let locators = Locators::copied(alloc, pair.locators.as_slice())?;
+        let facts = WriterFacts {
+            writer: pair.writer,
+            locators,
+        };
+        push_by(&mut lists, pair.rank, facts)?;
+    }
+    Ok(lists)
+}
+
+/// Whether a reader asks for what is missing.
+fn is_reliable(reader: &ReaderConfig) -> bool
+    ensures { result ≡ is_reliable reader.now.requested.policies.reliability }
+{
+    matches!(reader.requested.policies.reliability, Reliability::Reliable)
+}
+
+/// The readers of a participant, to which nothing came yet, by rank: `own` is its prefix, and
+/// `fixed` has the writers that each is matched with from the start, by rank too. An error is a
+/// refused growth.
+pub fn first_readers<A: Allocator + Copy>(
+    alloc: A,
+    own: GuidPrefix,
+    readers: &[ReaderConfig],
+    fixed: &[Vec<WriterFacts<A>, A>],
+) -> Result<Vec<ReaderState<A>, A>, AllocError>
+    requires fixed { length fixed.now ≡ length readers.now }
+    requires few { length readers.now ≤ 256 }
+    ensures count { IfOk result (λ states. length states.items ≡ length readers.now) }
+    ensures start { (matched : ℕ → List Facts) → ((rank : ℕ) (other : _) → rank < length readers.now
+        → map facts_in (slice_index_or fixed.now rank other).items ≡ matched rank)
+        → IfOk result (λ states. AllStart (λ rank. reader_first own readers.now rank
+        (matched rank)) states.items) }
+{
+    let mut states = Vec::new(alloc);
+    for (rank, reader) in readers.iter().enumerate() {
+        let fixed = fixed[rank].as_slice();
+        let reliable = is_reliable(reader);
+        let state = ReaderState::new(alloc, rank as u32, own, reader.entity, reliable, fixed)?;
+        states.push(state)?;
+    }
+    Ok(states)
+}
+
+/// The statuses of these readers. An error is a refused growth.
+pub fn first_statuses<A: Allocator + Copy>(
+    alloc: A,
+    readers: &[ReaderState<A>],
+) -> Result<Vec<Status, A>, AllocError>
+    ensures { IfOk result (λ statuses. statuses.items ≡ map (λ r. r.status) readers.now) }
+{
+    let mut statuses = Vec::new(alloc);
+    for reader in readers {
+        statuses.push(reader.status())?;
+    }
+    Ok(statuses)
+}

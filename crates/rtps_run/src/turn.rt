@@ -1,0 +1,95 @@
+//! The order in which a run puts things out.
+
+ghost use Rattle.std.specs.Prelude.{◌≡◌, ◌^◌, ◌≤◌, ◌++◌, IfOk, OnOk, map, vec_len};
+ghost use Rattle.rtps_run.specs.declared.outcome.Report.TheVariants as report;
+ghost use Rattle.rtps_run.specs.Turn.{AreInOrder, notices_from, turn_of};
+
+use crate::outcome::{Outcome, Report};
+use rtps_reader::Notice;
+use rtps_types::Place;
+use std::alloc::{AllocError, Allocator};
+
+/// Which kind of report it is; of one reader at one place notices come first.
+#[derive(Clone, Copy, Debug, PartialEq, Eq, PartialOrd, Ord)]
+pub enum ReportKind {
+    Notice,
+    Answer,
+}
+
+/// When a report comes: by place; at one place what discovery reports before what readers do, and
+/// these by rank; of one reader its notices before its answer.
+#[derive(Clone, Copy, Debug, PartialEq, Eq, PartialOrd, Ord)]
+pub struct Turn {
+    /// The event that caused the report.
+    pub place: Place,
+    /// The rank of the reader, or `None` for discovery.
+    pub rank: Option<u32>,
+    pub kind: ReportKind,
+}
+
+impl<V, A: Allocator> Report<V, A> {
+    /// When it comes.
+    pub fn turn(&self) -> Turn
+        ensures { result ≡ turn_of self.now }
+    {
+        match self {
+            Report::Notice { rank, notice } => Turn {
+                place: notice.place,
+                rank: Some(*rank),
+                kind: ReportKind::Notice,
+            },
+            Report::Answer(answer) => Turn {
+                place: answer.place,
+                rank: answer.rank,
+                kind: ReportKind::Answer,
+            },
+        }
+    }
+}
+
+impl<V: Drop, A: Allocator + Copy> Outcome<V, A> {
+    /// All that it has, in the order in which a run of one thread puts it out: by place, then by
+    /// rank, and of one reader its notices before its answer. What comes at one turn, as the
+    /// notices of one reader at one place, keeps its order. An error is a refused growth, and the
+    /// outcome is gone.
+    pub fn in_order(self, alloc: A) -> Result<Vec<Report<V, A>, A>, AllocError>
+        ensures { IfOk result (λ reports. AreInOrder self reports.items) }
+    {
+        let mut reports = Vec::new(alloc);
+        push_lists(&mut reports, self.notices)?;
+        for answer in self.answers {
+            reports.push(Report::Answer(answer))?;
+        }
+        reports.sort_by_key(|report| report.turn())?;
+        Ok(reports)
+    }
+}
+
+/// Moves the notices of a rank after the reports.
+fn push_notices<V: Drop, A: Allocator>(
+    reports: &mut Vec<Report<V, A>, A>,
+    rank: u32,
+    notices: Vec<Notice<V>, A>,
+) -> Result<(), AllocError>
+    ensures { OnOk result (reports.new.items
+        ≡ reports.old.items ++ map (report.Notice rank) notices.items) }
+{
+    for notice in notices {
+        reports.push(Report::Notice { rank, notice })?;
+    }
+    Ok(())
+}
+
+/// Moves the notices of all ranks after the reports.
+fn push_lists<V: Drop, A: Allocator>(
+    reports: &mut Vec<Report<V, A>, A>,
+    lists: Vec<Vec<Notice<V>, A>, A>,
+) -> Result<(), AllocError>
+    requires { vec_len lists ≤ 2 ^ 32 }
+    ensures { OnOk result (reports.new.items ≡ reports.old.items ++ notices_from 0 lists.items) }
+{
+    for (rank, notices) in lists.into_iter().enumerate() {
+        push_notices(reports, rank as u32, notices)?;
+    }
+    Ok(())
+}
