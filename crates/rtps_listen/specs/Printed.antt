@@ -12,7 +12,7 @@ use Rattle.dds_cache.specs.declared.history.History.{History}
 use Rattle.dds_cache.specs.declared.history.History.TheVariants.{KeepLast, KeepAll}
 use Rattle.rtps_text.specs.Caches.{StopsLate}
 use Rattle.rtps_text.specs.Entries.{samples_text}
-use Rattle.rtps_text.specs.EventLines.{lines_of}
+use Rattle.rtps_lines.specs.EventLines.{lines_of}
 use Rattle.rtps_text.specs.declared.setup.CacheSetup.{CacheSetup}
 use Rattle.rtps_text.specs.declared.setup.Setup.{Setup}
 use Rattle.rtps_text.specs.Replayed.{replay_text}

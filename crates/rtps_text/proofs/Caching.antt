@@ -19,7 +19,8 @@ use borrow.Author.Count.{below_more}
 use Rattle.dds_cache.specs.declared.history.History.{History}
 use Rattle.rtps_reader.specs.declared.notice.Notice.{Notice}
 use Rattle.rtps_text.specs.Caches.{Accepts, AllAccept, AllHeard, HasHeard, IsEmpty}
-use Rattle.rtps_text.specs.Entries.{all_taken, any_entry, cache_lines, entry_line, entry_lines, sample_view}
+use Rattle.rtps_lines.specs.Entry.{entry_line, sample_view}
+use Rattle.rtps_text.specs.Entries.{all_taken, any_entry, cache_lines, entry_lines}
 use Rattle.rtps_text.proofs.Run.{Printed, front_more, printed_front, printed_more}
 use Rattle.rtps_text.proofs.Viewing.{taken_same}
 

@@ -5,7 +5,6 @@ pub mod Calls
 pub mod Due
 pub mod Fronts
 pub mod Hearing
-pub mod Rows
 pub mod Run
 pub mod Sampled
 pub mod Sent

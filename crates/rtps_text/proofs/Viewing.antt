@@ -18,7 +18,8 @@ use Rattle.dds_cache.specs.Instances.{brought, has_live, is_disposed, is_end, is
 use Rattle.dds_cache.specs.declared.entry.Entry.{Entry}
 use Rattle.dds_cache.specs.declared.history.History.{History}
 use Rattle.dds_cache.specs.declared.history.History.TheVariants.{KeepLast, KeepAll}
-use Rattle.rtps_text.specs.Entries.{all_taken, content_view, sample_view}
+use Rattle.rtps_lines.specs.Entry.{content_view, sample_view}
+use Rattle.rtps_text.specs.Entries.{all_taken}
 
 -- ---- notices that were accepted, the newest first
 

@@ -2,11 +2,8 @@ pub mod Ahead
 pub mod Batched
 pub mod Caches
 pub mod Entries
-pub mod EventLines
-pub mod Line
 pub mod Listened
 pub mod Live
 pub mod Replayed
 pub mod Sending
 pub mod Slices
-pub mod Told

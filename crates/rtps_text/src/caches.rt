@@ -7,11 +7,12 @@ ghost use Rattle.rtps_records.specs.declared.fault.RunFault.TheVariants.{CannotW
 ghost use Rattle.dds_cache.specs.Cache.{IsHistory};
 ghost use Rattle.rtps_run.specs.World.{ReportView};
 ghost use Rattle.rtps_text.specs.Caches.{Accepts, AllAccept, AllHeard, IsEmpty};
-ghost use Rattle.rtps_text.specs.Entries.{entry_line, entry_lines, sample_view};
+ghost use Rattle.rtps_lines.specs.Entry.{entry_line, sample_view};
+ghost use Rattle.rtps_text.specs.Entries.{entry_lines};
 ghost use Rattle.dds_cache.specs.declared.history.History.{History};
 
-use crate::entry::push_entry;
-use crate::last_line::LastLine;
+use rtps_lines::push_entry;
+use rtps_lines::LastLine;
 use dds_cache::{Condition, DataReader, History, Taken};
 use dds_topic::TextCatalog;
 use rtps_reader::{Notice, Output};

@@ -3,9 +3,9 @@
 ghost use Rattle.std.specs.Prelude.{◌≡◌, IfErr, None, OnOk, []};
 ghost use Rattle.rtps_records.specs.Runs.{Stops, WroteAll};
 ghost use Rattle.rtps_records.specs.Text.{text_of};
-ghost use Rattle.rtps_text.specs.EventLines.{lines_of};
+ghost use Rattle.rtps_lines.specs.EventLines.{lines_of};
 
-use crate::event_lines::push_events;
+use rtps_lines::push_events;
 use rtps_records::{Buffer, Lines, Records, RunFault};
 use rtps_types::GuidPrefix;
 use std::alloc::{Allocator, Global};

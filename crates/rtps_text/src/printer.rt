@@ -14,7 +14,7 @@ ghost use Rattle.rtps_text.specs.Slices.{AreByPlace, AreTexts, all_lines, merged
 
 use crate::beside::write_and_read_beside;
 use crate::held::Turn;
-use crate::last_line::LastLine;
+use rtps_lines::LastLine;
 use crate::printing::print_places;
 use crate::running::RunLines;
 use crate::setup::Pace;

@@ -6,7 +6,7 @@ ghost use Rattle.rtps_records.specs.declared.fault.RunFault.TheVariants.{CannotW
 ghost use Rattle.dds_participant.specs.Given.{parts_given};
 ghost use Rattle.rtps_text.specs.Slices.{AreTexts, places_lines};
 
-use crate::last_line::LastLine;
+use rtps_lines::LastLine;
 use crate::slices::Cursors;
 use dds_participant::Given;
 use dds_topic::TextCatalog;

@@ -13,7 +13,7 @@ ghost use Rattle.rtps_text.specs.Replayed.{summary_text};
 
 use crate::caches::{accept_each, new_caches, print_caches};
 use crate::closing::push_summary;
-use crate::last_line::LastLine;
+use rtps_lines::LastLine;
 use crate::replaying::run_batch;
 use crate::running::RunLines;
 use crate::setup::CacheSetup;

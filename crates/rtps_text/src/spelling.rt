@@ -5,7 +5,7 @@ ghost use Rattle.std.specs.Io.{StartsWith};
 ghost use Rattle.dds_participant.specs.Given.{parts_given};
 ghost use Rattle.rtps_text.specs.Slices.{AreByPlace, AreTexts, IsSliceOf, merged_lines, places_lines};
 
-use crate::last_line::LastLine;
+use rtps_lines::LastLine;
 use crate::slices::Cursors;
 use dds_participant::Given;
 use dds_topic::TextCatalog;

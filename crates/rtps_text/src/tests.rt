@@ -3,7 +3,6 @@
 mod answers;
 mod entries;
 mod fragments;
-mod lines;
 mod listening;
 mod matches;
 mod runs;

@@ -1,5 +1,5 @@
 use Rattle.std.proofs.Common.{rules, subst}
-use Rattle.rtps_text.specs.Entries.{entry_line, sample_view}
+use Rattle.rtps_lines.specs.Entry.{entry_line, sample_view}
 use Rattle.rtps_text.proofs.Caching.{entry_more}
 use Rattle.rtps_text.proofs.Run.{Printed, on_err, printed_front, printed_more, printed_spilled, printed_stop}
 use Rattle.rtps_text.proofs.caches.print_entries.Goals as goal

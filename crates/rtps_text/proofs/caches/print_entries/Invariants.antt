@@ -1,6 +1,6 @@
 use Rattle.std.proofs.Common.{◌≡◌, ◌++◌, drop, map}
 use Rattle.std.specs.List.{flat_map}
-use Rattle.rtps_text.specs.Entries.{entry_line, sample_view}
+use Rattle.rtps_lines.specs.Entry.{entry_line, sample_view}
 use Rattle.rtps_text.proofs.Run.{Printed}
 use Rattle.rtps_text.proofs.caches.print_entries.Given as goal
 

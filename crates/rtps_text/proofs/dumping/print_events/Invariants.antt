@@ -1,7 +1,7 @@
 use Rattle.std.proofs.Common.{◌≡◌, ◌-◌, ◌≤◌}
 use Rattle.rtps_records.specs.Text.{text_of}
 use Rattle.rtps_records.proofs.Progress.{Progress}
-use Rattle.rtps_text.specs.EventLines.{lines_of}
+use Rattle.rtps_lines.specs.EventLines.{lines_of}
 use Rattle.rtps_text.proofs.dumping.print_events.Given as goal
 
 abbrev pub invariant-loop-octets : goal.invariant-loop-octets

@@ -1,0 +1,4 @@
+pub mod Entry
+pub mod EventLines
+pub mod Line
+pub mod Told

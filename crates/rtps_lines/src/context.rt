@@ -1,0 +1,72 @@
+//! What comes before an event's body: its place and its context.
+
+ghost use Rattle.std.specs.Prelude.{◌≡◌, ◌++◌, OnOk, length};
+ghost use Rattle.std.specs.Io.{StartsWith};
+ghost use Rattle.std.specs.Int.{w32, to_be_bytes};
+ghost use Rattle.rtps_ascii.specs.Hex.{hex_text};
+ghost use Rattle.rtps_receiver.specs.Events.{view};
+ghost use Rattle.rtps_lines.specs.Line.{context_text, place_text, time_text};
+
+use rtps_ascii::{push_hex_array, push_number, push_octet};
+use rtps_receiver::Event;
+use rtps_types::{Place, Timestamp};
+use std::alloc::{AllocError, Allocator};
+
+/// Adds a place, as datagram and submessage with a colon between.
+pub(crate) fn push_place<A: Allocator>(out: &mut Vec<u8, A>, place: Place) -> Result<(), AllocError>
+    ensures ok { OnOk result (out.new.items ≡ out.old.items ++ place_text place) }
+    ensures keeps { StartsWith out.new.items out.old.items }
+{
+    push_number(out, place.datagram)?;
+    push_octet(out, b':')?;
+    push_number(out, u64::from(place.submessage))
+}
+
+/// Adds a time in hex, seconds and fraction with a dot between, or a dash for none.
+pub(crate) fn push_time<A: Allocator>(
+    out: &mut Vec<u8, A>,
+    time: Option<Timestamp>,
+) -> Result<(), AllocError>
+    ensures ok { OnOk result (out.new.items ≡ out.old.items ++ time_text time) }
+    ensures keeps { StartsWith out.new.items out.old.items }
+{
+    let Some(time) = time else {
+        return push_octet(out, b'-');
+    };
+    let mut digits = [b'.'; 17];
+    let (seconds, rest) = digits.split_at_mut(8);
+    let (_, fraction) = rest.split_at_mut(1);
+    write_hex(time.seconds, seconds);
+    write_hex(time.fraction, fraction);
+    out.extend_from_slice(&digits)
+}
+
+/// Writes a number as eight digits.
+fn write_hex(number: u32, digits: &mut [u8])
+    requires { length digits.old ≡ 8 }
+    ensures { digits.new ≡ hex_text (to_be_bytes w32 number) }
+{
+    match hex::encode_to_slice(&number.to_be_bytes(), digits) {
+        Ok(()) => {}
+        Err(_) => unreachable!(),
+    }
+}
+
+/// Adds an event's place, source, time, writer and reader.
+pub(crate) fn push_context<A: Allocator>(
+    out: &mut Vec<u8, A>,
+    event: &Event<'_>,
+) -> Result<(), AllocError>
+    ensures ok { OnOk result (out.new.items ≡ out.old.items ++ context_text (view event.now)) }
+    ensures keeps { StartsWith out.new.items out.old.items }
+{
+    push_place(out, event.place)?;
+    push_octet(out, b' ')?;
+    push_hex_array(out, &event.source.0)?;
+    push_octet(out, b' ')?;
+    push_time(out, event.time)?;
+    push_octet(out, b' ')?;
+    push_hex_array(out, &event.writer.0)?;
+    push_octet(out, b' ')?;
+    push_hex_array(out, &event.reader.0)
+}

@@ -1,0 +1,27 @@
+//! The lines that are printed of events, of what readers report and answer, and of what caches hold.
+#![tactic(auto)]
+
+mod answer;
+mod body;
+mod context;
+mod entry;
+mod event_lines;
+mod guid;
+mod last_line;
+mod line;
+mod locators;
+mod notice;
+mod numbers;
+mod sample;
+mod summary;
+
+pub use answer::push_answer;
+pub use entry::push_entry;
+pub use event_lines::push_events;
+pub use last_line::LastLine;
+pub use line::push_line;
+pub use notice::push_notice;
+pub use summary::{push_match, push_status};
+
+#[cfg(test)]
+mod tests;

@@ -1,0 +1,98 @@
+//! The line of what a reader reports.
+
+ghost use Rattle.std.specs.Prelude.{◌≡◌, ◌++◌, OnOk};
+ghost use Rattle.std.specs.Io.{StartsWith};
+ghost use Rattle.std.specs.Fmt.{decimal};
+ghost use Rattle.rtps_reader.specs.Notices.{kind_view, notice_view};
+ghost use Rattle.rtps_lines.specs.Line.{◌then◌};
+ghost use Rattle.rtps_lines.specs.Told.{guid_text, heard_line, notice_text};
+
+use crate::last_line::LastLine;
+use crate::sample::push_presented;
+use dds_topic::TextCatalog;
+use rtps_ascii::{push_number, push_octet, push_word};
+use rtps_reader::{Notice, NoticeKind};
+use rtps_types::Guid;
+use std::alloc::{AllocError, Allocator};
+
+/// Adds the line of a notice of the reader of this rank, with its end. `last` keeps what the line
+/// before it began with.
+pub fn push_notice<C: TextCatalog, A: Allocator, B: Allocator + Copy>(
+    out: &mut Vec<u8, A>,
+    last: &mut LastLine<B>,
+    catalog: &C,
+    rank: u32,
+    notice: &Notice<C::Value>,
+) -> Result<(), AllocError>
+    ensures ok { OnOk result (out.new.items ≡ out.old.items ++
+        heard_line (C.text_of catalog.now) rank (notice_view C.view notice.now)) }
+    ensures keeps { StartsWith out.new.items out.old.items }
+{
+    last.push_place(out, notice.place)?;
+    push_word(out, " reader ")?;
+    push_number(out, u64::from(rank))?;
+    push_octet(out, b' ')?;
+    push_kind(out, last, catalog, notice.writer, &notice.what)?;
+    push_octet(out, b'\n')
+}
+
+/// Adds what is reported of a writer.
+fn push_kind<C: TextCatalog, A: Allocator, B: Allocator + Copy>(
+    out: &mut Vec<u8, A>,
+    last: &mut LastLine<B>,
+    catalog: &C,
+    writer: Guid,
+    what: &NoticeKind<C::Value>,
+) -> Result<(), AllocError>
+    ensures ok { OnOk result (out.new.items ≡ out.old.items ++
+        notice_text (C.text_of catalog.now) writer (kind_view C.view what.now)) }
+    ensures keeps { StartsWith out.new.items out.old.items }
+{
+    match what {
+        NoticeKind::Sample { number, time, body } => {
+            push_about(out, last, "sample", writer)?;
+            push_octet(out, b' ')?;
+            last.push_change(out, *number, *time)?;
+            push_octet(out, b' ')?;
+            push_presented(out, catalog, body)
+        }
+        NoticeKind::Matched => push_about(out, last, "matched", writer),
+        NoticeKind::Unmatched => push_about(out, last, "unmatched", writer),
+        NoticeKind::Incompatible { policy } => {
+            push_counted(out, last, "incompatible", writer, u64::from(*policy))
+        }
+        NoticeKind::Lost { count } => push_counted(out, last, "lost", writer, *count),
+    }
+}
+
+/// Adds a word and the writer that it is about.
+fn push_about<A: Allocator, B: Allocator + Copy>(
+    out: &mut Vec<u8, A>,
+    last: &mut LastLine<B>,
+    word: &str,
+    writer: Guid,
+) -> Result<(), AllocError>
+    ensures ok { OnOk result (out.new.items ≡ out.old.items ++ (word.now then guid_text writer)) }
+    ensures keeps { StartsWith out.new.items out.old.items }
+{
+    push_word(out, word)?;
+    push_octet(out, b' ')?;
+    last.push_writer(out, writer)
+}
+
+/// Adds a word, the writer that it is about, and a number.
+fn push_counted<A: Allocator, B: Allocator + Copy>(
+    out: &mut Vec<u8, A>,
+    last: &mut LastLine<B>,
+    word: &str,
+    writer: Guid,
+    number: u64,
+) -> Result<(), AllocError>
+    ensures ok { OnOk result (out.new.items ≡ out.old.items ++
+        (word.now then guid_text writer then decimal number)) }
+    ensures keeps { StartsWith out.new.items out.old.items }
+{
+    push_about(out, last, word, writer)?;
+    push_octet(out, b' ')?;
+    push_number(out, number)
+}
