@@ -11,7 +11,9 @@ use crate::ports::{Port, no_ports};
 use dds_topic::Catalog;
 use rtps_discovery::{Config, Discovery, check};
 use rtps_reader::{ReaderState, Status};
-use rtps_run::{EngineError, StartError, all_matches, first_readers, first_statuses, fixed_by_rank};
+use rtps_run::{
+    EngineError, StartError, all_matches, first_readers, first_statuses, fixed_by_rank,
+};
 use rtps_types::Guid;
 use std::alloc::Global;
 use std::collections::BTreeSet;

@@ -54,7 +54,13 @@ fn run_line<T: Threads + Sync>(rt: &HostRuntime, threads: &T) -> Result<(), Fail
         Err(fault) => return Err(Failure::Fault(fault)),
     };
     let host = Host { rt };
-    run(threads, rt.alloc(), &host, words.as_slice(), &mut rt.stdout())
+    run(
+        threads,
+        rt.alloc(),
+        &host,
+        words.as_slice(),
+        &mut rt.stdout(),
+    )
 }
 
 /// The words of the command line, the program's name first.

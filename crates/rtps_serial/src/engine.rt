@@ -11,16 +11,16 @@ ghost use Rattle.rtps_run.specs.Standing.{Answers, IsFinishedFrom, IsSteppedFrom
 ghost use Rattle.rtps_run.specs.World.{World};
 
 use crate::deal::dealt;
-use rtps_run::{EngineError, StartError};
-use rtps_run::{Outcome, Report};
 use crate::readers::Readers;
-use rtps_run::{first_readers, first_statuses, fixed_by_rank};
-use rtps_run::{all_matches, show_all};
 use crate::steps::take_events;
 use dds_topic::{Catalog, Decoder};
 use rtps_discovery::{Config, Discovery, check};
 use rtps_reader::Status;
 use rtps_receiver::events;
+use rtps_run::{
+    EngineError, Outcome, Report, StartError, all_matches, first_readers, first_statuses,
+    fixed_by_rank, show_all,
+};
 use rtps_types::Guid;
 use std::alloc::{AllocError, Allocator, Global};
 use std::collections::BTreeSet;

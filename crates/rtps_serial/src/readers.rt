@@ -10,10 +10,10 @@ ghost use Rattle.rtps_run.specs.Standing.{ReadersStand};
 ghost use Rattle.rtps_run.specs.Steps.{step_by, world_stepped};
 ghost use Rattle.rtps_run.specs.World.{NoticeOf, ReportView, World, sent_by};
 
-use rtps_run::{Answer, Report};
 use dds_topic::{Catalog, Decoder};
 use rtps_discovery::is_for;
 use rtps_reader::{Notice, Output, ReaderState, Step};
+use rtps_run::{Answer, Report};
 use rtps_types::{EntityId, Place, Reply};
 use std::alloc::{AllocError, Allocator};
 

@@ -181,4 +181,3 @@ pub(crate) fn take_events<C: Catalog, A: Allocator + Copy>(
     }
     Ok(())
 }
-

@@ -11,10 +11,9 @@ ghost use Rattle.rtps_lines.specs.Entry.{entry_line, sample_view};
 ghost use Rattle.rtps_text.specs.Entries.{entry_lines};
 ghost use Rattle.dds_cache.specs.declared.history.History.{History};
 
-use rtps_lines::push_entry;
-use rtps_lines::LastLine;
 use dds_cache::{Condition, DataReader, History, Taken};
 use dds_topic::TextCatalog;
+use rtps_lines::{LastLine, push_entry};
 use rtps_reader::{Notice, Output};
 use rtps_records::{Lines, RunFault};
 use std::alloc::{AllocError, Allocator, Global};

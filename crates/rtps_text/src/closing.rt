@@ -6,9 +6,9 @@ ghost use Rattle.rtps_run.specs.Seen.{reader_count};
 ghost use Rattle.rtps_run.specs.Standing.{StandsAt, run_by};
 ghost use Rattle.rtps_text.specs.Replayed.{match_lines, status_lines, status_text, summary_text};
 
-use rtps_lines::{push_match, push_status};
 use dds_participant::Participant;
 use dds_topic::Catalog;
+use rtps_lines::{push_match, push_status};
 use rtps_reader::Status;
 use rtps_types::Guid;
 use std::alloc::{AllocError, Allocator, Global};

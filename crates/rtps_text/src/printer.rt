@@ -14,7 +14,6 @@ ghost use Rattle.rtps_text.specs.Slices.{AreByPlace, AreTexts, all_lines, merged
 
 use crate::beside::write_and_read_beside;
 use crate::held::Turn;
-use rtps_lines::LastLine;
 use crate::printing::print_places;
 use crate::running::RunLines;
 use crate::setup::Pace;
@@ -23,6 +22,7 @@ use crate::spelling::Spelling;
 use crate::texts::Texts;
 use dds_participant::Given;
 use dds_topic::TextCatalog;
+use rtps_lines::LastLine;
 use rtps_records::{Lines, Records, RunFault};
 use std::alloc::{AllocError, Global};
 use std::io::{Read, Write};

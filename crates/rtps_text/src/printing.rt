@@ -6,10 +6,10 @@ ghost use Rattle.rtps_records.specs.declared.fault.RunFault.TheVariants.{CannotW
 ghost use Rattle.dds_participant.specs.Given.{parts_given};
 ghost use Rattle.rtps_text.specs.Slices.{AreTexts, places_lines};
 
-use rtps_lines::LastLine;
 use crate::slices::Cursors;
 use dds_participant::Given;
 use dds_topic::TextCatalog;
+use rtps_lines::LastLine;
 use rtps_records::{Lines, RunFault};
 use std::alloc::{AllocError, Allocator};
 use std::io::Write;

@@ -13,12 +13,12 @@ ghost use Rattle.rtps_text.specs.Replayed.{summary_text};
 
 use crate::caches::{accept_each, new_caches, print_caches};
 use crate::closing::push_summary;
-use rtps_lines::LastLine;
 use crate::replaying::run_batch;
 use crate::running::RunLines;
 use crate::setup::CacheSetup;
 use dds_cache::{DataReader, History};
 use dds_topic::TextCatalog;
+use rtps_lines::LastLine;
 use rtps_records::{Batch, BatchEnd, Lines, Records, RunFault};
 use std::alloc::{AllocError, Allocator, Global};
 use std::io::{Read, Write};

@@ -9,11 +9,9 @@ ghost use Rattle.dds_participant.specs.Given.{parts_given, said_view};
 ghost use Rattle.rtps_text.specs.Replayed.{put_lines};
 ghost use Rattle.rtps_text.specs.Slices.{AreByPlace, AreLeft, IsLeft, is_before, answer_lines, cursor_after, first_answers, first_notices, lists_after, lists_lines, next_said, part_lines, parts_lines, starts};
 
-use rtps_lines::push_answer;
-use rtps_lines::LastLine;
-use rtps_lines::push_notice;
 use dds_participant::Given;
 use dds_topic::TextCatalog;
+use rtps_lines::{LastLine, push_answer, push_notice};
 use rtps_reader::{Notice, Output};
 use rtps_run::Answer;
 use rtps_types::{Place, Reply};

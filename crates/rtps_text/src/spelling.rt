@@ -5,10 +5,10 @@ ghost use Rattle.std.specs.Io.{StartsWith};
 ghost use Rattle.dds_participant.specs.Given.{parts_given};
 ghost use Rattle.rtps_text.specs.Slices.{AreByPlace, AreTexts, IsSliceOf, merged_lines, places_lines};
 
-use rtps_lines::LastLine;
 use crate::slices::Cursors;
 use dds_participant::Given;
 use dds_topic::TextCatalog;
+use rtps_lines::LastLine;
 use rtps_shards::map_apart;
 use rtps_types::Place;
 use std::alloc::{AllocError, Global};
