@@ -17,7 +17,7 @@ from pathlib import Path
 from gate.crates import joined_sum, tree_sum
 
 RECORD = "record.json"
-IN_PLACE = ("rattle-last-used", "offered.json")
+IN_PLACE = ("rattle-last-used", "offered.json", "linked-compared", "facades-compared")
 """Files of its work that the toolchain writes in place."""
 
 
