@@ -40,7 +40,7 @@ module _ {C E : Type 0} (p : E → Bool) (f : E → C) where
   enough cs all zero es h so = sym (append-nil cs) ∙ ap (λ l. cs ++ map f l) (sym (first_zero p es)) ∙ so
   enough cs all (suc m) es h so = absurd (omega (arith, h))
 
--- so many more are wanted
+-- n more are wanted
 pub more_wanted : {C E : Type 0} (f : E → C) (cs old : List C) (fs : List E) (left max : ℕ) → length cs + left ≡ length old + max → cs ≡ old ++ map f fs → left ≡ max - length fs
 more_wanted f cs old fs left max sum is =
     let both = length-append old (map f fs) in let same = length-map fs f in let whole : length cs ≡ length (old ++ map f fs) = ap length is in omega (arith, sum, both, same, whole)
@@ -51,7 +51,7 @@ none_left p f cs all m so = sym (append-nil cs) ∙ so
 pub one_less : {C : Type 0} (cs now : List C) (c : C) (left sum : ℕ) → 0 < left → now ≡ cs ++ c ∷ [] → length cs + left ≡ sum → length now + (left - 1) ≡ sum
 one_less cs now c left sum some is before = let more = length-append cs (c ∷ []) in let whole : length now ≡ length (cs ++ c ∷ []) = ap length is in omega (arith, some, more, whole, before)
 
--- the first of two lists, and then of the second as many as are wanted then
+-- the first of two lists, and then what is still wanted of the second
 pub first_both : {E : Type 0} (p : E → Bool) (m : ℕ) (xs ys : List E) → first_by p m (xs ++ ys) ≡ first_by p m xs ++ first_by p (m - length (first_by p m xs)) ys
 first_both p m [] ys = ap (λ n. first_by p n ys) (omega arith)
 first_both p zero (x ∷ xs) ys = sym (first_zero p ys) ∙ ap (λ n. first_by p n ys) (omega arith)
@@ -163,7 +163,7 @@ module _ {M : Type 0} (find : KeyHash → Option InstanceView) (flags : Conditio
       ap (λ l. l ++ map f (first_by p (m - 1) (placed (n + 1) rest))) more ∙ ap (λ k. (cs ++ c ∷ []) ++ map f (first_by p (m - 1) (placed k rest))) (sym (on n))
       ∙ one_more p f cs all m (n, e) (placed (suc n) rest) c left j.0 j.1 (ap (λ l. cs ++ map f (first_by p m (placed n l))) (sym cut) ∙ so)
 
-  -- of two parts of a list the first so many of the one, and then of the other
+  -- of two parts of a list the first n of the one, and then of the other
   pub both_chosen : (old new : List (ℕ × Entry M)) (start mid now : List Chosen) (max left : ℕ) → start ≡ [] → (mid ≡ start ++ map f (first_by p max old)) × (left ≡ max - length (first_by p max old)) → now ≡ mid ++ map f (first_by p left new) → now ≡ map f (first_by p max (old ++ new))
   both_chosen old new start mid now max left none one is =
       is ∙ ap (λ l. l ++ map f (first_by p left new)) (one.0 ∙ ap (λ l. l ++ map f (first_by p max old)) none) ∙ ap (λ m. map f (first_by p max old) ++ map f (first_by p m new)) one.1

@@ -23,7 +23,7 @@ zeros (suc n) = 0 ∷ zeros n
 abbrev pub least : KeyHash
 least = record { 0 = zeros 16 }
 
--- octets of zero come before all others that are as many
+-- octets of zero come before all others of their count
 zeros_first : (n : ℕ) (ys : List ℕ) → n ≤ length ys → is_gt (slice_cmp nat_cmp (zeros n) ys) ≡ false
 zeros_first zero [] h = refl
 zeros_first zero (y ∷ ys) h = refl

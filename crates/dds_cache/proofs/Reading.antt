@@ -21,7 +21,7 @@ use Rattle.dds_cache.proofs.Choosing.{number_apart, number_itself}
 use Rattle.dds_cache.proofs.Taking.{After, chosen, chosen_after, each_keeps}
 
 module _ {M : Type 0} where
-  -- the first so many that pass are marked
+  -- the first ones that pass are marked
   abbrev pub marks : (ℕ × Entry M → Bool) → ℕ → List (ℕ × Entry M) → List (ℕ × Entry M)
   marks p m [] = []
   marks p zero (e ∷ es) = e ∷ es

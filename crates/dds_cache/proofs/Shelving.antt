@@ -1,4 +1,4 @@
--- What becomes of the entries of a cache, and what stays true of them.
+-- How the entries of a cache change, and what stays true of them.
 use Rattle.std.proofs.Common.{◌≡◌, ℕ, ◌+◌, ◌-◌, ◌<◌, ◌≤◌, ◌^◌, Bool, true, false, List, [], ◌∷◌, ◌++◌, length, Some, None, refl, sym, ap, ◌∙◌, subst, arith, append_assoc}
 use Rattle.std.specs.Prelude.{Option, count_by, filter, if◌then◌else◌, is_some, not, position, slice_get, IfSome, IsSome, ◌↔◌, option_to_list}
 use Rattle.std.specs.Borrow.{Bor}

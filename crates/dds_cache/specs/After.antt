@@ -1,4 +1,4 @@
--- What a cache keeps after what a read lent is given back.
+-- What a cache keeps after the borrow of a read ends.
 use Rattle.std.specs.Prelude.{◌≡◌, ℕ, List, ◌∷◌, Result, OnErr, OnOk, ⊤}
 use Rattle.std.specs.Borrow.{Fml, MutBor, follows_so}
 use mathlib.Core.Option.{none}
@@ -16,6 +16,6 @@ WasReadFrom {M} old max flags r new =
     × ((past : List (Done M)) → StandsAt past old → OnOk r (StandsAt (WasRead max flags ∷ past) new))
     × ((past : List (Done M)) → StandsAt past old → OnErr r (StandsAt past new))
 
--- this holds of the cache once what a read lent is given back
+-- this holds of the cache once the borrow of a read ends
 abbrev pub ends_read : (V A : RattleType) (a : alloc.Ghosts A.Denot) → MutBor (CacheView V.Denot) → (CacheView V.Denot → Type 0) → Fml
 ends_read V A a s P = follows_so (the_row V A a) (the_row V A a) s.ghost_name none (λ _ _. ⊤) P

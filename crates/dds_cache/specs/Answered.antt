@@ -40,7 +40,7 @@ abbrev pub shown_by : {M : Type 0} → List (Done M) → Cached M → Entry M �
 shown_by past c e =
     shown e (sample_state e.is_read) (view_state (c.is_new e.key)) (state_of past e.key)
 
--- the first so many entries that meet a condition, in the order in which they were accepted
+-- the first max entries that meet a condition, in the order in which they were accepted
 abbrev pub answered_by : {M : Type 0} → List (Done M) → Cached M → ℕ → Condition → List (Sample M)
 answered_by past c max flags = map (shown_by past c) (first_by (meets past c flags) max c.entries)
 

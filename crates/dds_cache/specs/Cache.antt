@@ -65,8 +65,8 @@ abbrev pub without_oldest : {M : Type 0} → KeyHash → List (Entry M) → List
 without_oldest k [] = []
 without_oldest k (e ∷ es) = if is_of k e then es else e ∷ without_oldest k es
 
--- where the last so many are kept of an instance, its oldest entry leaves when there is one more,
--- whether it was read or not
+-- where the last n are kept of an instance, its oldest entry leaves when there is one more, whether
+-- it was read or not
 abbrev pub kept_by : {M : Type 0} → History → KeyHash → List (Entry M) → List (Entry M)
 kept_by (KeepLast n) k es = if nat_lt n (length (filter (is_of k) es)) then without_oldest k es else es
 kept_by KeepAll k es = es
@@ -82,7 +82,7 @@ meets past c flags e =
     (not flags.not_read || not e.is_read)
     && ((not flags.new || c.is_new e.key) && (not flags.alive || is_alive past e.key))
 
--- the first so many that pass a test; the list in which those are read; and the list without them
+-- the first max that pass a test; the list in which those are read; and the list without them
 abbrev pub first_by : {E : Type 0} → (E → Bool) → ℕ → List E → List E
 first_by p max [] = []
 first_by p zero (e ∷ es) = []
@@ -92,14 +92,14 @@ first_by p (suc max) (e ∷ es) = if p e then e ∷ first_by p max es else first
 abbrev pub marked : {M : Type 0} → Entry M → Entry M
 marked e = record e { is_read = true }
 
--- the list in which the first so many that pass a test are read
+-- the list in which the first max that pass a test are read
 abbrev pub marked_by : {M : Type 0} → (Entry M → Bool) → ℕ → List (Entry M) → List (Entry M)
 marked_by p max [] = []
 marked_by p zero (e ∷ es) = e ∷ es
 marked_by p (suc max) (e ∷ es) =
     if p e then marked e ∷ marked_by p max es else e ∷ marked_by p (suc max) es
 
--- the list without the first so many that pass a test
+-- the list without the first max that pass a test
 abbrev pub left_by : {E : Type 0} → (E → Bool) → ℕ → List E → List E
 left_by p max [] = []
 left_by p zero (e ∷ es) = e ∷ es

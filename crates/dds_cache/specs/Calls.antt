@@ -5,7 +5,7 @@ use Rattle.rtps_types.specs.declared.identity.KeyHash.{KeyHash}
 use Rattle.rtps_reader.specs.declared.notice.Notice.{Notice}
 use Rattle.dds_cache.specs.declared.condition.Condition.{Condition}
 
--- a notice was accepted; or so many entries at most that meet a condition were read, or taken. What
+-- a notice was accepted; or at most max entries that meet a condition were read, or taken. What
 -- was done with a cache is the list of these, the newest first.
 pub data Done (M : Type 0) : Type 0 where
   Accepted : Notice M → Done M

@@ -49,7 +49,7 @@ joined_by is_value p live = if joins is_value p live then insert_key pair_order 
 
 -- ---- what is known of the instance
 
--- the number of the entry, where the last so many are kept
+-- the number of the entry, where only the last ones are kept
 abbrev pub numbered : History → ℕ → InstanceView → InstanceView
 numbered (KeepLast most) n i = with_number n i
 numbered KeepAll n i = i
@@ -75,7 +75,7 @@ kept_numbers most ns = if nat_lt most (length ns) then drop 1 ns else ns
 abbrev pub given_up : ℕ → List ℕ → Option ℕ
 given_up most ns = if nat_lt most (length ns) then slice_get ns 0 else None
 
--- an instance with the number of an entry that came, where the last so many are kept
+-- an instance with the number of an entry that came, where only the last ones are kept
 abbrev pub counted : History → ℕ → InstanceView → InstanceView
 counted (KeepLast most) n i = with_numbers (kept_numbers most (insert_key nat_cmp i.numbers n)) i
 counted KeepAll n i = i

@@ -1,4 +1,4 @@
--- What leaves a cache untaken, where the last so many are kept of an instance (DDS 1.4, 2.2.3.18).
+-- What leaves a cache untaken, where only the last ones are kept of an instance (DDS 1.4, 2.2.3.18).
 use Rattle.std.specs.Prelude.{◌≡◌, ℕ, List, [], ◌∷◌, ◌++◌, map, filter, length, nat_lt, false, if◌then◌else◌, ◌⊎◌}
 use Rattle.rtps_types.specs.declared.identity.KeyHash.{KeyHash}
 use Rattle.dds_cache.specs.declared.entry.Entry.{Entry}

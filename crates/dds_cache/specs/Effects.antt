@@ -15,7 +15,7 @@ use Rattle.dds_cache.specs.Cache.{first_by, marked}
 use Rattle.dds_cache.specs.Instances.{alive_by, state_by}
 use Rattle.dds_cache.specs.Standing.{InstanceView, Parts, alive_in, count_in, disposed_in, is_key, is_number, new_in}
 
--- ---- what becomes of an instance
+-- ---- the changes of an instance
 
 -- an instance as it is made: new, not disposed, with no live writers and no entries
 abbrev pub fresh : InstanceView
@@ -121,8 +121,8 @@ abbrev pub looked : {M : Type 0} → List (ℕ × Entry M) → List ℕ → List
 looked es [] = []
 looked es (n ∷ ns) = with_found n (lookup (is_number n) es) (looked es ns)
 
--- the first so many of some entries that pass a test are added, as they are chosen, and so many
--- more are wanted
+-- the first entries that pass a test are added, as they are chosen, n at most, and this many more
+-- are wanted
 abbrev pub AddsFirst : {C E : Type 0} → (E → Bool) → (E → C) → ℕ → List E → List C → List C → ℕ → Type 0
 AddsFirst p f max es old new left =
     (new ≡ old ++ map f (first_by p max es)) × (left ≡ max - length (first_by p max es))

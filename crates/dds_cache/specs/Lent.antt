@@ -12,12 +12,12 @@ use Rattle.dds_cache.specs.declared.entry.Sample.{Sample}
 use Rattle.dds_cache.specs.Effects.{shown_as}
 use Rattle.dds_cache.specs.Standing.{is_number}
 
--- a value that is lent, as the value itself; a disposal stays as it is
+-- a borrowed value, as the value itself; a disposal stays as it is
 abbrev pub lent_content : {M : Type 0} → Content (Bor M) → Content M
 lent_content (content.Value v) = content.Value v.now
 lent_content content.Disposed = content.Disposed
 
--- a sample whose value is lent, as one with the value
+-- a sample whose value is borrowed, as one with the value
 abbrev pub lent_sample : {M : Type 0} → Sample (Bor M) → Sample M
 lent_sample s = record {
   place = s.place;

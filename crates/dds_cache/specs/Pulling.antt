@@ -11,8 +11,8 @@ pub record HasNext {V A : Type 0} (ring : Receiving V A) : Type 0 where
   pub rest : List (Notice V)
   pub next : ring.next ≡ first ∷ rest
 
--- These notices were accepted as they came out of the ring, each once, in order, and at most as many
--- as it has places. Where it is known what comes last, what comes next is the rest of it.
+-- These notices were accepted as they came out of the ring, each once, in order, and at most one for
+-- each of its places. Where it is known what comes last, what comes next is the rest of it.
 pub record Pulls {V A : Type 0} (moved : List (Notice V)) (old new : CacheView V)
     (before after : Receiving V A) : Type 0 where
   pub received : after.received ≡ before.received ++ moved

@@ -48,7 +48,7 @@ pub record InstanceView : Type 0 where
   pub is_new : Bool
   -- how many writers are live in it
   pub live : ℕ
-  -- the numbers of its entries, where the last so many are kept
+  -- the numbers of its entries, where only the last ones are kept
   pub numbers : List ℕ
 
 -- what contracts see of what is known of an instance
@@ -156,7 +156,7 @@ numbers es = map (λ e. e.0) es
 abbrev pub of_key : {M : Type 0} → KeyHash → ℕ × Entry M → Bool
 of_key k e = is_of k e.1
 
--- the numbers of an instance's entries, where the last so many are kept; else none
+-- the numbers of an instance's entries, where only the last ones are kept; else none
 abbrev pub numbers_kept : {M : Type 0} → History → KeyHash → List (ℕ × Entry M) → List ℕ
 numbers_kept (KeepLast n) k es = numbers (filter (of_key k) es)
 numbers_kept KeepAll k es = []

@@ -11,7 +11,7 @@ use crate::shelf::Shelf;
 use std::alloc::{Allocator, Global};
 
 /// The entries that a read answers, in order of acceptance. They stay in the cache: their values
-/// are lent.
+/// are borrowed.
 #[derive(Drop)]
 pub struct Answers<V, A: Allocator = Global> {
     /// All entries of the cache.
@@ -21,7 +21,7 @@ pub struct Answers<V, A: Allocator = Global> {
 }
 
 impl<V> Entry<V> {
-    /// The entry with the states that it was chosen with; its value is lent.
+    /// The entry with the states that it was chosen with; its value is borrowed.
     fn lend(&self, chosen: Chosen) -> Seen<'_, V>
         ensures { lent_sample result ≡ shown_as self.now chosen }
     {

@@ -131,7 +131,7 @@ fn judge_place<V, A: Allocator>(
     }
 }
 
-/// What is asked for: so many entries at most, that meet a condition.
+/// What is asked for: at most `max` entries that meet a condition.
 #[derive(Clone, Copy)]
 struct Wanted {
     max: usize,

@@ -42,7 +42,7 @@ pub struct Sample<T> {
     pub instance: InstanceState,
 }
 
-/// An entry that stays in the cache: its value is lent.
+/// An entry that stays in the cache, with its value borrowed.
 pub type Seen<'a, V> = Sample<&'a V>;
 
 /// An entry that left the cache.

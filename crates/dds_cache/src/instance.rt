@@ -21,7 +21,7 @@ pub(crate) struct Instance<A: Allocator> {
     pub is_new: bool,
     /// How many writers are live in it.
     pub live: usize,
-    /// The numbers of its entries, where the last so many are kept.
+    /// The numbers of its entries, where only the last ones are kept.
     pub numbers: BTreeSet<u64, A>,
 }
 

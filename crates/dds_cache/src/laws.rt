@@ -29,8 +29,8 @@ pub fn states_step<V>()
 {}
 
 /// Where all entries are kept, what was accepted is what is left, in order, and what takes
-/// answered: each value and each disposal once. Where the last so many are kept of an instance,
-/// none has more than so many. What leaves there as a notice is accepted, and what stays, are what
+/// answered: each value and each disposal once. Where the last `n` are kept of an instance, none
+/// has more than `n`. What leaves there as a notice is accepted, and what stays, are what
 /// was there before with the entry of the notice, and each that so left an instance was accepted
 /// before all that are there.
 pub fn kept_or_taken<V>()

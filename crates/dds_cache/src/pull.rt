@@ -36,9 +36,9 @@ impl<V: Drop, A: Allocator + Copy> DataReader<V, A> {
     }
 
     /// Accepts what comes out of a ring, each notice once and in order, and answers how many it
-    /// accepted. It ends where the ring gives none, or after as many as the ring has places. After
-    /// a refused growth the notice that found no memory is back in the ring: it is the first of the
-    /// next pull or pop.
+    /// accepted. It ends where the ring gives none, or after one notice for each place of the ring.
+    /// After a refused growth the notice that found no memory is back in the ring: it is the first
+    /// of the next pull or pop.
     pub fn pull<B: Allocator>(
         &mut self,
         alloc: A,

@@ -22,7 +22,7 @@ use std::alloc::{AllocError, AllocFailed, Allocator, Global};
 use std::marker::Model;
 
 /// A reader's cache (DDS 1.4, 2.2.2.5): the values and the disposals of the notices that it
-/// accepted, until they are taken or, where the last so many are kept of an instance, until newer
+/// accepted, until they are taken or, where only the last ones are kept of an instance, until newer
 /// ones of the instance come.
 #[derive(Drop)]
 pub struct DataReader<V, A: Allocator = Global> {

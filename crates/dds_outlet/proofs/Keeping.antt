@@ -63,7 +63,7 @@ pub forks : (at : ℕ) (v : Known) → Forks AllFit at v v v
 forks at v x seats all here =
     snoc_fits x (set seats at v) v (set_fits x seats at v all (all at v here)) (all at v here)
 
--- a seat takes in what another knew
+-- a seat learns what another knew
 pub merges : (at : ℕ) (v : Known) (other : ℕ) (w : Known)
     → Merges AllFit at v other w w (known false 0 0 0)
 merges at v other w x seats all here apart there =

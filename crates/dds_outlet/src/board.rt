@@ -33,9 +33,9 @@ type BoardReader = Reader<Shown, Known, OneHistory>;
 /// if let Some(mut reader) = board.reader() {
 ///     // in the thread that receives
 ///     let published = board.publish(&rt, Row { batch: 1, statuses });
-///     let told = board.tell();
+///     let knowledge = board.tell();
 ///     // in the other thread: the row that was published, or a later one
-///     reader.learn(told);
+///     reader.learn(knowledge);
 ///     let look = reader.look(0);
 /// }
 /// board.end(&rt);

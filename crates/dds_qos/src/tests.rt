@@ -8,7 +8,7 @@ use rtps_types::Duration;
 use std::alloc::Allocator;
 use std::test::Fail;
 
-/// The octets that hex digits spell; blanks are for the eye.
+/// The octets of a text in hex; blanks are for the eye.
 fn octets_of<A: Allocator + Copy>(alloc: A, text: &str) -> Result<Vec<u8, A>, Fail> {
     let mut octets = Vec::new(alloc);
     for part in text.split_ascii_whitespace() {

@@ -83,7 +83,7 @@ pub(crate) fn locator_in(mut value: CdrReader<'_>) -> Option<Option<Locator>>
     Some(kept_locator(kind, port, octets))
 }
 
-/// The guid that sixteen octets spell.
+/// The guid that sixteen octets encode.
 fn guid_of(octets: &[u8]) -> Option<Guid>
     ensures { result ≡ values.guid_of octets.now }
 {

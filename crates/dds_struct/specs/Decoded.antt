@@ -13,7 +13,7 @@ use Rattle.dds_topic.specs.declared.unread.Unread.TheVariants as unread
 use Rattle.dds_struct.specs.Value.{readable, value}
 use Rattle.dds_struct.specs.Key.{key_hash}
 
--- the value of a type that a body spells, in the byte order of its encapsulation
+-- the value of a type that a body encodes, in the byte order of its encapsulation
 abbrev pub body_of : (t : CdrType) → ℕ → List ℕ → Result (ValueOf t) Unread
 body_of t kind body = and_then (order_by kind) (λ e. readable (value t (start e body)))
 

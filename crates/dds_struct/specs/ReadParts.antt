@@ -66,7 +66,7 @@ both s t c middle ahead (Ok x) (Ok y) first second = record {
 abbrev Gives : (t : CdrType) → Result (List (ValueOf t)) CdrFault → List (ValueOf t) → Type 0
 Gives t r vs = r ≡ Ok vs
 
--- as many items, one after the other
+-- `count` items, one after the other
 pub record All (t : CdrType) (c ahead : Cursor) (n : ℕ) (r : Result (List (ValueOf t)) CdrFault) : Type 0 where
   pub found : (vs : List (ValueOf t)) → r ≡ Ok vs → (length vs ≡ n) × TakesAll t c ahead vs
   pub only : (vs : List (ValueOf t)) (after : Cursor) → length vs ≡ n → TakesAll t c after vs → (r ≡ Ok vs) × (ahead ≡ after)
@@ -138,7 +138,7 @@ items_are t c middle ahead n (Err f) first all = record {
       absurd (cc ((all.only ws after many (rw (one.1) (parts.2))).0));
 }
 
--- a sequence: a count, and as many items
+-- a sequence: a count, and the items that it counts
 pub counted : (t : CdrType) (c middle ahead : Cursor) (a : Result ℕ CdrFault) (r : ℕ → Result (List (ValueOf t)) CdrFault) → Is (Unsigned 4) c middle a → ((n : ℕ) → a ≡ Ok n → All t middle ahead n (r n)) →
     Is (Sequence t) c ahead (and_then a r)
 counted t c middle ahead (Err f) r first others = record {

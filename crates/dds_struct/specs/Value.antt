@@ -9,17 +9,17 @@ use Rattle.rtps_cdr.specs.Following.{and_then}
 use Rattle.dds_topic.specs.declared.unread.Unread.{Unread as UnreadCode}
 use Rattle.dds_topic.specs.declared.unread.Unread.TheVariants as unread
 
--- as many items, one after the other
+-- `count` items, one after the other
 unfoldable pub items : {A : Type 0} → (Cursor → Result A CdrFault) → (Cursor → Cursor) → ℕ → Cursor → Result (List A) CdrFault
 items read behind zero c = Ok []
 items read behind (suc n) c = and_then (read c) (λ x. and_then (items read behind n (behind c)) (λ xs. Ok (x ∷ xs)))
 
--- where a reader is after so many items
+-- where a reader is after `count` items
 unfoldable pub behind_items : (Cursor → Cursor) → ℕ → Cursor → Cursor
 behind_items behind zero c = c
 behind_items behind (suc n) c = behind_items behind n (behind c)
 
--- after a count, as many items
+-- after a count, the items that it counts
 abbrev pub behind_counted : (Cursor → Cursor) → Result ℕ CdrFault → Cursor → Cursor
 behind_counted behind (Ok n) c = behind_items behind n c
 behind_counted behind (Err f) c = c

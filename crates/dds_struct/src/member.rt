@@ -153,8 +153,8 @@ impl<T: Member> Member for Vec<T> {
     }
 }
 
-/// Adds a value. Where there is no room it is made for as many as there are, and for four at first:
-/// it goes by the values that came.
+/// Adds a value. A full list doubles its room, from four on, so that memory grows with the values
+/// that came, not with the count that a stranger states.
 fn add<T: Drop>(found: &mut Vec<T>, value: T) -> Result<(), AllocError>
     ensures items { OnOk result (found.new.items ≡ found.old.items ++ value ∷ []) }
     ensures bounded { vec_capacity found.old ≤ 2 * vec_len found.old + 4
@@ -167,7 +167,7 @@ fn add<T: Drop>(found: &mut Vec<T>, value: T) -> Result<(), AllocError>
     Ok(())
 }
 
-/// Reads as many values. A stranger states how many: no memory is taken for what hasn't come.
+/// Reads `count` values. The count is a stranger's: no memory is taken for what hasn't come.
 #[tactic(auto, using(crate::proofs::Items::items_step, crate::proofs::Items::items_done, crate::proofs::Items::behind_step, crate::proofs::Items::behind_done, crate::proofs::Items::items_fault))]
 fn read_items<T: Member>(
     alloc: Global,

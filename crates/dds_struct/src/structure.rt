@@ -14,7 +14,7 @@ use rtps_cdr::{CdrReader, CdrWriter};
 use std::alloc::{AllocError, Allocator, Global};
 
 /// A struct that is the data type of a topic: its members, those of its key, by which its
-/// instances are told apart, and its text.
+/// instances are distinguished, and its text.
 pub trait Structure: Sized + Drop {
     // How a value is represented, and how its key, as a struct of its own.
     ghost cdr: { CdrType };

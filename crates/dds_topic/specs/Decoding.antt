@@ -9,5 +9,5 @@ pub record Decoding (M : Type 0) : Type 0 where
   pub meaning : ℕ → List ℕ → Result M Unread
   -- the hash of a value's key
   pub hash : M → KeyHash
-  -- the hash of the key that the body of a key payload spells
+  -- the hash of the key that the body of a key payload encodes
   pub hash_of_key : ℕ → List ℕ → Result KeyHash Unread

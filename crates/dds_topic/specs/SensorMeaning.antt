@@ -40,7 +40,7 @@ key_of s = written key_type 0 Little (s.0, s.1)
 abbrev pub hash_of : ℕ → ℕ → KeyHash
 hash_of station channel = record { 0 = written key_type 0 Big (station, channel) ++ replicate 8 0 }
 
--- the hash of the key that the body of a key payload spells
+-- the hash of the key that the body of a key payload encodes
 abbrev pub sensor_hash_of_key : ℕ → List ℕ → Result KeyHash UnreadCode
 sensor_hash_of_key kind body = and_then (order_by kind) (λ e. and_then (key_in (start e body)) (λ key. Ok (hash_of key.0 key.1)))
 

@@ -63,7 +63,7 @@ color_key color = written Text 0 Little color
 abbrev pub color_hash : List ℕ → KeyHash
 color_hash color = record { 0 = md5 (written Text 0 Big color) }
 
--- the hash of the color that the body of a key payload spells
+-- the hash of the color that the body of a key payload encodes
 abbrev pub shape_hash_of_key : ℕ → List ℕ → Result KeyHash UnreadCode
 shape_hash_of_key kind body = and_then (order_by kind) (λ e. and_then (color_of (start e body)) (λ color. Ok (color_hash color)))
 

@@ -49,7 +49,7 @@ pub record BodiesAreShapes : Type 0 where
   pub little : (body : List ℕ) → Answers (IsShape (start Little body)) (shape_meaning 1 body)
   pub other : (kind : ℕ) (body : List ℕ) → 1 < kind → shape_meaning kind body ≡ Err Encapsulation
 
--- a key payload spells the key that its front encodes, and nothing after it counts
+-- a key payload has the key that its front encodes, and nothing after it counts
 pub record PayloadsAreKeys : Type 0 where
   pub big : (body : List ℕ) → Answers (IsKey (start Big body)) (shape_hash_of_key 0 body)
   pub little : (body : List ℕ) → Answers (IsKey (start Little body)) (shape_hash_of_key 1 body)

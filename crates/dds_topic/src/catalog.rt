@@ -9,7 +9,7 @@ use crate::CatalogError;
 use rtps_types::KeyHash;
 use std::alloc::{AllocError, Allocator, Global};
 
-/// One data type: how its payloads are decoded, and how its values are told apart.
+/// One data type: how its payloads are decoded, and by which key its instances are distinguished.
 ///
 /// Unless it is out of memory, each answer is a function of its input, which the catalog names:
 /// what a body means and the hashes of keys (`decoding`), and the octets of a value's key (`key`).
@@ -33,7 +33,7 @@ pub trait Catalog: Send + Sync + Drop {
     // What bodies mean, and the hashes of keys.
     ghost decoding: { Self → Decoding Meaning };
 
-    // The octets that spell a value's key.
+    // The octets that encode a value's key.
     ghost key: { Self → Meaning → List ℕ };
 
     // What is printed of a value, where the catalog prints.
@@ -63,7 +63,7 @@ pub trait Catalog: Send + Sync + Drop {
     fn key_payload(&self, alloc: Global, value: &Self::Value) -> Result<Vec<u8>, AllocError>
         ensures { IfOk result (λ v. v.items ≡ key self.now (view value.now)) };
 
-    /// The hash of the key that the body of a key payload spells; it is unread as a value is.
+    /// The hash of the key that the body of a key payload encodes; the errors are those of a value.
     fn key_of_payload(&self, alloc: Global, kind: u16, body: &[u8]) -> Result<KeyHash, CatalogError>
         ensures { Gives (λ h. h) result ((decoding self.now).hash_of_key kind body.now) };
 

@@ -61,7 +61,7 @@ impl<C: Catalog> Decoder<C> {
         self.catalog.key_by(&mut self.memo, self.alloc, value)
     }
 
-    /// The hash of the key that the body of a key payload spells; the errors are those of
+    /// The hash of the key that the body of a key payload encodes; the errors are those of
     /// [`Catalog::key_of_payload`].
     pub fn key_of_payload(&self, kind: u16, body: &[u8]) -> Result<KeyHash, CatalogError>
         ensures { Gives (λ h. h) result ((C.decoding self.now).hash_of_key kind body.now) }

@@ -8,7 +8,7 @@ ghost use Rattle.rtps_ascii.specs.Hex.{hex_text};
 use crate::word::push_octet;
 use std::alloc::{AllocError, Allocator};
 
-/// Up to so many octets are spelled out on the stack first.
+/// Up to this many octets are formatted on the stack first: one copy is faster than many pushes.
 const SHORT: usize = 16;
 
 /// Adds octets in hex, in lower case; a dash where there are none.

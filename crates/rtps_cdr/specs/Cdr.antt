@@ -46,7 +46,7 @@ abbrev pub IsGap : Gaps → ℕ → List ℕ → Type 0
 IsGap Free n gap = length gap ≡ n
 IsGap Zeros n gap = gap ≡ replicate n 0
 
--- a number of that many octets, aligned to its size: a gap, and a field that spells it
+-- a number of that many octets, aligned to its size: a gap, and a field that encodes it
 -- (CORBA CDR 9.3.1)
 pub record IsNumber (g : Gaps) (size at : ℕ) (e : Endian) (octets : List ℕ) (n : ℕ) : Type 0 where
   pub gap : List ℕ

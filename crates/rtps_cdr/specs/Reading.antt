@@ -107,13 +107,13 @@ text_in c = text_from c.endian c.octets c.position
 abbrev pub octets_in : ℕ → Cursor → Read (List ℕ)
 octets_in n c = octets_from n c.octets c.position
 
--- as many items as wanted, one after the other
+-- the wanted number of items, one after the other
 unfoldable pub items_in : {A : Type 0} → (Cursor → Read A) → ℕ → Cursor → Read (List A)
 items_in read zero c = Ok ([], c.position)
 items_in read (suc n) c =
     followed_by (read c) (λ x behind. followed_by (items_in read n (placed c behind)) (λ xs after. Ok (x ∷ xs, after)))
 
--- a sequence: a count, and as many items
+-- a sequence: a count, and the items that it counts
 abbrev pub sequence_in : {A : Type 0} → (Cursor → Read A) → Cursor → Read (List A)
 sequence_in read c = followed_by (number_in 4 c) (λ count behind. items_in read count (placed c behind))
 

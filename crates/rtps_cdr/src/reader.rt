@@ -11,7 +11,7 @@ use crate::{CdrFault, Strings};
 use rtps_types::Endian;
 use std::marker::Model;
 
-/// Reads values from octets that are lent to it.
+/// Reads values from borrowed octets.
 ///
 /// Alignment is counted from the first octet, and the octets of a gap are free. Each read moves
 /// after its value; after a fault the reader is where it was. Nothing is copied, and no

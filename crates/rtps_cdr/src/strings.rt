@@ -56,7 +56,7 @@ impl<'a> Iterator for Strings<'a> {
     }
 }
 
-/// The place after as many texts.
+/// The place after `count` texts.
 #[tactic(auto, using(crate::proofs::Texts::places_end))]
 fn behind_strings(
     octets: &[u8],

@@ -9,7 +9,7 @@ use std::test::Fail;
 /// Octets that each are their place.
 const PLACES: [u8; 16] = [0, 1, 2, 3, 4, 5, 6, 7, 8, 9, 10, 11, 12, 13, 14, 15];
 
-/// A reader that has passed so many octets.
+/// A reader that has passed `octets` octets.
 fn behind(octets: &[u8], count: usize, endian: Endian) -> Result<CdrReader<'_>, CdrFault> {
     let mut reader = CdrReader::new(octets, endian);
     reader.read_octets(count)?;
@@ -30,7 +30,7 @@ const ALIGNED: [(usize, u16, u32, u64); 9] = [
     (8, 0x0809, 0x0809_0a0b, 0x0809_0a0b_0c0d_0e0f),
 ];
 
-/// The numbers of 16, 32 and 64 bits that a reader finds after so many of [`PLACES`].
+/// The numbers of 16, 32 and 64 bits that a reader finds after the first `count` of [`PLACES`].
 fn found(start: usize, endian: Endian) -> Result<(u16, u32, u64), CdrFault> {
     Ok((
         behind(&PLACES, start, endian)?.read_u16()?,

@@ -133,7 +133,7 @@ has_writer (Some r) ws g h = by_found (lookup (is_at g) ws) refl
     by_found None e = let apart : true ≡ false = rw e at h in absurd (true≢false apart)
     by_found (Some w) e = keyed ws g w e
 
--- ---- what becomes of one pair
+-- ---- the changes of one pair
 
 become_one : (k rank : ℕ) (x y : Becomes) → Contains (at k x ∷ []) (at rank y) → (k ≡ rank) × (x ≡ y)
 become_one k rank x y c =

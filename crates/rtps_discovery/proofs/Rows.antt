@@ -164,7 +164,7 @@ goes_by_key number =
 abbrev leaves : EventView
 leaves = of_participants 2 (disposed (0 ∷ 0 ∷ 1 ∷ 0xc1 ∷ [])) []
 
--- ---- what comes of it
+-- ---- the results
 
 abbrev known_with : List EventView → Known
 known_with [] = start

@@ -16,12 +16,12 @@ pub data Becomes : Type 0 where
   Unmatches : Guid → Becomes
   Refuses : Guid → ℕ → Becomes
 
--- what becomes of the reader of a rank and a writer
+-- a change of the match of the reader of a rank
 pub record ChangeAt : Type 0 where
   pub rank : ℕ
   pub what : Becomes
 
--- this becomes of the reader of that rank and a writer
+-- this change, of the reader of that rank
 abbrev pub at : ℕ → Becomes → ChangeAt
 at rank what = record { rank = rank; what = what }
 
@@ -37,7 +37,7 @@ told k g ls (Refused q) Apart = []
 told k g ls (Refused q) Joined = at k (Matches g ls) ∷ []
 told k g ls (Refused q) (Refused p) = if q == p then [] else at k (Refuses g p) ∷ []
 
--- what a reader hears of a writer; nothing, where a fixed match joins them
+-- the changes of a reader and a writer; none, where a fixed match joins them
 abbrev pub at_pair : List (ℕ × Guid) → ℕ → Guid → List Locator → Standing → Standing → List ChangeAt
 at_pair fixed k g ls before after = if is_fixed fixed k g then [] else told k g ls before after
 

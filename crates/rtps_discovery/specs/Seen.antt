@@ -65,10 +65,10 @@ becomes_seen (becoming.Match g locators) = changes.Matches g locators
 becomes_seen (becoming.Unmatch g) = changes.Unmatches g
 becomes_seen (becoming.Refuse g policy) = changes.Refuses g policy
 
--- what contracts see of what becomes of the reader of a rank and a writer
+-- what contracts see of a change of a match
 abbrev pub change_seen : {A : Type 0} → MatchChange A → changes.ChangeAt
 change_seen c = record { rank = c.rank; what = becomes_seen c.what }
 
--- what is lent, if something is
+-- what is borrowed, if something is
 abbrev pub lent : {X : Type 0} → Option (Bor X) → Option X
 lent o = option_map (λ b. b.now) o

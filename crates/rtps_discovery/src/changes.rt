@@ -23,7 +23,7 @@ pub enum Becomes<A: Allocator = Global> {
     Refuse(Guid, u32),
 }
 
-/// What a reader of ours hears of a writer (DDS 1.4, 2.2.4.1).
+/// A change of a match of one of our readers (DDS 1.4, 2.2.4.1).
 #[derive(Debug, Drop)]
 pub struct MatchChange<A: Allocator = Global> {
     /// The rank of the reader.
@@ -75,7 +75,7 @@ fn tell_refusal<A: Allocator>(
     Ok(())
 }
 
-/// Puts what becomes of a pair after the changes.
+/// Adds the changes of a pair.
 fn tell<A: Allocator + Copy>(
     alloc: A,
     pair: Pair<'_>,

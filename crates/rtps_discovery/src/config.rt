@@ -84,7 +84,7 @@ impl Config {
     }
 
     /// Puts a reader after the others, so that its rank is how many there were. `AllocError` where
-    /// memory is refused, and then it is let go and the configuration asks for what it did.
+    /// memory is refused; then the reader is dropped and the configuration is unchanged.
     pub fn add_reader(&mut self, reader: ReaderConfig) -> Result<(), AllocError>
         ensures added { OnOk result (self.new.readers.items
             ≡ self.old.readers.items ++ reader ∷ []) }
@@ -98,8 +98,8 @@ impl Config {
     }
 
     /// Puts a match that there is from the start after the others: of the reader of this rank with
-    /// a writer, and where answers to it go. `AllocError` where memory is refused, and then the
-    /// locators are let go and the configuration asks for what it did.
+    /// a writer, and where answers to it go. `AllocError` where memory is refused; then the
+    /// locators are dropped and the configuration is unchanged.
     pub fn add_fixed(
         &mut self,
         rank: u32,

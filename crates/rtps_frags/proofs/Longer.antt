@@ -302,7 +302,7 @@ set_is k low (r ∷ rs) was run h found =
           )
     ]
 
--- the run that starts with a fragment ends before so many others, and is made longer by them
+-- the run that starts with a fragment ends before others, and is made longer by them
 pub record IsExtended (first start count : ℕ) (octets : List ℕ) (old new : Runs) : Type 0 where
   pub run : Run
   pub found : lookup (starts first) old ≡ Some run

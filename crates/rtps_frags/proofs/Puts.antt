@@ -34,7 +34,7 @@ put_holds P (f ∷ fs) k octets here all =
       | inr w ↦ elim (eqb_tells f.0 k) [ inl v ↦ rw (w.0, v.0) all | inr v ↦ rw (w.0, v.0) (here, all) ]
     ]
 
--- so many more
+-- n more
 pub puts_stay : (z : Sizes) (start : ℕ) (octets : List ℕ) (there : There) (k count : ℕ) → 1 ≤ k → k + count ≤ suc (last_of z)
     → ((j : ℕ) → k ≤ j → j < k + count → length (fragment_in z start octets j) ≡ upto z j - before z j) → AreFragments z 0 there → AreFragments z 0 (with_fragments z start octets there k count)
 puts_stay z start octets there k zero one within fits h = h

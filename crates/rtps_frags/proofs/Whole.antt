@@ -44,7 +44,7 @@ at_front xs ys b n e =
     ap (λ m. take n (drop m (xs ++ ys))) none ∙ ap (λ m. take m (xs ++ ys)) (sym e) ∙ take-append_seam xs ys
 
 module _ (z : Sizes) where
-  -- the fragments from k on, so many, and no others
+  -- the next fragments from k on, and no others
   abbrev pub IsFrom : ℕ → ℕ → There → Type 0
   IsFrom k zero [] = Unit {0}
   IsFrom k zero (f ∷ fs) = ⊥

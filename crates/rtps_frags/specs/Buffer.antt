@@ -4,7 +4,7 @@ use Rattle.rtps_frags.specs.declared.sizes.Sizes.{Sizes}
 use Rattle.rtps_frags.specs.Fragments.{before, last_of, length_of, upto}
 use Rattle.rtps_frags.specs.Runs.{AreKept, Run, Runs, kept_at}
 
--- so many octets from a place on
+-- n octets from a place on
 abbrev pub stretch : ℕ → ℕ → List ℕ → List ℕ
 stretch at n octets = take n (drop at octets)
 
@@ -32,7 +32,7 @@ abbrev pub runs_in : Sizes → List ℕ → Runs → Runs
 runs_in z buffer [] = []
 runs_in z buffer (r ∷ rs) = (r.0, record { count = r.1.count; octets = octets_in z buffer r }) ∷ runs_in z buffer rs
 
--- a run that has no octets of its own has so many in the buffer, and any other has none
+-- a run that has no octets of its own has n in the buffer, and any other has none
 abbrev pub if_none : List ℕ → ℕ → ℕ
 if_none [] n = n
 if_none (octet ∷ octets) n = 0
@@ -42,7 +42,7 @@ abbrev pub placed : Sizes → Runs → ℕ
 placed z [] = 0
 placed z (r ∷ rs) = if_none r.1.octets (length_of z r.0 r.1.count) + placed z rs
 
--- the front and the runs, of which so many octets are in the buffer, and holes that are no longer
+-- the front and the runs, of which `there` octets are in the buffer, and holes that are no longer
 pub record AreStored (z : Sizes) (low next there : ℕ) (buffer : List ℕ) (runs : Runs) : Type 0 where
   pub kept : AreKept z low next (front_in z next buffer) (runs_in z buffer runs)
   pub counted : there ≡ upto z (next - 1) + placed z runs

@@ -34,7 +34,7 @@ is_outside z start count = start == 0 || (count == 0 || nat_lt (last_of z) (star
 abbrev pub length_of : Sizes → ℕ → ℕ → ℕ
 length_of z start count = upto z (start + count - 1) - before z start
 
--- what is wrong with them, in so many octets: the first fault
+-- what is wrong with them in a payload of this length: the first fault
 unfoldable pub fault_of : Sizes → ℕ → ℕ → ℕ → Option FragFault
 fault_of z start count octets =
     if is_empty z then Some BadSizes
@@ -61,7 +61,7 @@ abbrev pub with_fragments : Sizes → ℕ → List ℕ → There → ℕ → ℕ
 with_fragments z start octets there k zero = there
 with_fragments z start octets there k (suc count) = with_fragments z start octets (with_fragment there k (fragment_in z start octets k)) (suc k) count
 
--- each fragment from k on is there, so many
+-- each of the next fragments from k on is there
 abbrev pub has_all : There → ℕ → ℕ → Bool
 has_all there k zero = true
 has_all there k (suc count) = has there k && has_all there (suc k) count

@@ -2,6 +2,6 @@
 use Rattle.std.specs.Prelude.{ℕ, ◌+◌, ◌++◌, List}
 use Rattle.rtps_frags.specs.Runs.{Run}
 
--- it has so many fragments more, with these octets
+-- it has `count` fragments more, with these octets
 abbrev pub longer_by : Run → ℕ → List ℕ → Run
 longer_by r count octets = record { count = r.count + count; octets = r.octets ++ octets }

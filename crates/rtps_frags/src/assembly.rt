@@ -44,7 +44,7 @@ impl<A: Allocator> Model for Assembly<A> {
 }
 
 impl<A: Allocator + Copy> Assembly<A> {
-    /// A sample of so many octets, cut into fragments of so many, of which nothing came yet.
+    /// A sample of this size in octets, cut into fragments of this size, of which nothing came yet.
     pub fn new(alloc: A, sample_size: u32, fragment_size: u16) -> Assembly<A>
         ensures sizes { result.sizes
             ≡ (record { sample = sample_size; fragment = fragment_size }) }

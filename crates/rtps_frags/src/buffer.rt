@@ -6,8 +6,8 @@ ghost use Rattle.rtps_frags.specs.Buffer.{IsPutAt};
 use core::mem::replace_with;
 use std::alloc::{AllocError, Allocator};
 
-/// Makes room for so many octets. Where there is none, it is made for as many as are named first,
-/// or for just these.
+/// Makes room for `length` octets more. Where there is none, room is reserved for `room` octets, or
+/// for just these where that is refused.
 pub(crate) fn make_room<A: Allocator>(
     buffer: &mut Vec<u8, A>,
     room: usize,

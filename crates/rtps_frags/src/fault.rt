@@ -48,7 +48,7 @@ impl From<AllocError> for AddError {
 /// The greatest sample that is put together.
 const MAX_SAMPLE: u32 = 67_108_864;
 
-/// What is wrong with `count` fragments from `start` on in so many octets: the first fault of
+/// What is wrong with `count` fragments from `start` on in a payload of `octets`: the first of
 /// these, a size of 0, a sample that is too large, no such fragments, too few octets.
 #[tactic(auto, unfolding(crate::specs::Fragments::fault_of))]
 pub fn fault_in(sizes: Sizes, start: u32, count: u16, octets: usize) -> Option<FragFault>

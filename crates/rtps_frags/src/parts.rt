@@ -128,8 +128,8 @@ fn next_span<A: Allocator>(
     }
 }
 
-/// The room that is made for octets of a sample where there is none: for sixteen times as many, or
-/// for all.
+/// The room that is made for octets of a sample where there is none: for sixteen times their
+/// number, or for the whole sample.
 fn room(sizes: Sizes, length: usize) -> usize
     ensures { result ≤ 16 * length }
 {
@@ -419,8 +419,8 @@ impl<A: Allocator> Parts<A> {
         Some(self.missing_from_next(count))
     }
 
-    /// Those of so many fragments from the least missing one on that are missing. The chunks are
-    /// walked through beside the fragments.
+    /// The missing ones among the next `count` fragments, from the least missing one on. The chunks
+    /// are walked through beside the fragments.
     fn missing_from_next(&self, count: u32) -> FragSet
         requires some { 0 < count }
         requires few { count ≤ 256 }

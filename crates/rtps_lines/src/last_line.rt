@@ -15,7 +15,7 @@ use rtps_ascii::{push_number, push_octet};
 use rtps_types::{Guid, Number, Place, Timestamp};
 use std::alloc::{AllocError, Allocator, Global};
 
-/// A place, a writer and a change, each with its text, so that it need not be spelled again.
+/// A place, a writer and a change, each with its text, so that it need not be formatted again.
 #[derive(Drop)]
 pub struct LastLine<A: Allocator = Global> {
     place: Option<Place>,

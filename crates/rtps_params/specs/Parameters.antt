@@ -6,7 +6,7 @@ use Rattle.rtps_params.specs.declared.front.ParamFault.{ParamFault}
 use Rattle.rtps_params.specs.declared.front.ParamFault.TheVariants.{Short, NoEnd, OddLength}
 use Rattle.rtps_params.specs.Reading.{Parameter, Contents, answer}
 
--- two octets that spell an id, two that spell a length, and what follows
+-- two octets of an id, two of a length, and what follows
 pub record HasHead (e : Endian) (id len : ℕ) (octets more : List ℕ) : Type 0 where
   pub first : ℕ
   pub second : ℕ

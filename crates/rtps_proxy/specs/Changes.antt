@@ -6,7 +6,7 @@ use Rattle.rtps_proxy.specs.declared.change.Payload.{Payload}
 use Rattle.rtps_proxy.specs.declared.change.Payload.TheVariants as payload
 use Rattle.rtps_proxy.specs.History.{ChangeView}
 
--- the octets of a payload, lent or kept
+-- the octets of a payload, borrowed or kept
 abbrev pub octets_of : {A : Type 0} → Payload A → List ℕ
 octets_of (payload.Lent octets) = octets.now
 octets_of (payload.Kept octets) = octets

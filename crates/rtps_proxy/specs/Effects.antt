@@ -90,7 +90,7 @@ pub record GivesNothing {A : Type 0} (effects : Effects A) : Type 0 where
   pub ready : effects.ready.items ≡ []
   pub answer : effects.answer ≡ None
 
--- what a call gives that puts it into effects which are lent
+-- what a call gives that puts it into the caller's effects
 abbrev pub given_in : {A T E : Type 0} → Effects A → Result T E → Result (Effects A) E
 given_in effects (Ok done) = Ok effects
 given_in effects (Err e) = Err e

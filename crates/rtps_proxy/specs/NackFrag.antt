@@ -37,7 +37,7 @@ pub record Nack : Type 0 where
   pub missing : NumberSet
   pub count : ℕ
 
--- the answer, where this is missing and so many were answered before
+-- the answer, where this is missing, with the count after the earlier one
 abbrev pub nack_by : ℕ → ℕ → NumberSet → Nack
 nack_by number earlier missing = record { number = number; missing = missing; count = (earlier + 1) % 2 ^ 32 }
 

@@ -103,8 +103,8 @@ impl<A: Allocator + Copy> Matches<A> {
     }
 
     /// Gives an event to the match with its writer as [`Matches::on_event`] does, and puts what the
-    /// proxy makes of it into effects that are lent and give nothing yet, so that nothing is moved
-    /// on the way; says whether there is such a match. After a refused growth the effects may have
+    /// proxy makes of it into the caller's effects, which are empty, so that nothing is moved on the
+    /// way; returns whether there is such a match. After a refused growth the effects may have
     /// a part of it.
     pub fn on_event_into<'a>(
         &mut self,

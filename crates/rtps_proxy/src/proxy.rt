@@ -91,8 +91,8 @@ impl<A: Allocator + Copy> WriterProxy<A> {
         Ok(effects)
     }
 
-    /// Takes in what an event brings as [`WriterProxy::on_event`] does, and puts what the event
-    /// gives into effects that are lent, so that nothing is moved on the way. After a refused
+    /// Takes an event as [`WriterProxy::on_event`] does, and puts what it gives into the caller's
+    /// effects, so that nothing is moved on the way. After a refused
     /// growth they may have a part of it.
     pub fn on_event_into<'a>(
         &mut self,

@@ -43,7 +43,7 @@ pub refused_then : {M : Type 0} (a b : List (Notice M)) → refused_by (a ++ b) 
 refused_then [] b = refl
 refused_then (n ∷ a) b = rw (refused_then a b, append_twice (refused_in n.what) (refused_by a) (refused_by b)) refl
 
--- what notices add: so many matches that began, these refusals, so many losses and so many samples
+-- what notices add: b matches that began, these refusals, n losses and k samples
 pub record Adds {M : Type 0} (b : ℕ) (rs : List ℕ) (n k : ℕ) (more : List (Notice M)) : Type 0 where
   pub beginnings : count_of is_beginning more ≡ b
   pub refused : refused_by more ≡ rs
@@ -89,7 +89,7 @@ adds_end M place w = record { beginnings = refl; refused = refl; lost = refl; sa
 pub adds_refusal : (M : Type 0) (place : Place) (w : Guid) (policy : ℕ) → Adds {M = M} 0 (policy ∷ []) 0 0 (notice_of place w (Incompatible policy))
 adds_refusal M place w policy = record { beginnings = refl; refused = refl; lost = refl; samples = refl }
 
--- counts grow by so much, whatever was counted
+-- counts grow by these, whatever was counted
 pub record GrowBy (b : ℕ) (rs : List ℕ) (n k : ℕ) (old new : Counts) : Type 0 where
   pub begun : (x : ℕ) → old.matched_total ≡ capped x → new.matched_total ≡ capped (x + b)
   pub refused : (ps : List ℕ) → old.incompatible_total ≡ capped (length ps) → new.incompatible_total ≡ capped (length (ps ++ rs))

@@ -20,7 +20,7 @@ use Rattle.rtps_reader.specs.Steps.{Takes, Begins, Ends, Refused}
 use Rattle.rtps_reader.specs.Status.{capped, status_of}
 use Rattle.rtps_reader.proofs.Counting.{Adds, GrowBy, adds_end, adds_match, adds_none, adds_refusal, adds_told, first_status, grow_event, grow_match, grow_none, grow_refusal, status_adds}
 
--- there are as many matches as are kept
+-- there is one match for each that is kept
 pub as_many : (ms : List Match) (ss : List (Guid × ProxyView)) → AllStand ms ss → length ss ≡ length ms
 as_many [] [] all = refl
 as_many [] (s ∷ ss) all = absurd all

@@ -101,9 +101,9 @@ impl<A: Allocator + Copy> ReaderState<A> {
         self.step_with(alloc, decoder, step, &mut effects, output)
     }
 
-    /// Takes one step as [`ReaderState::step`] does. What its match gives on the way is put into
-    /// effects that are lent, of which nothing is left then but room for changes: lent from step to
-    /// step, their memory is used again.
+    /// Takes one step as [`ReaderState::step`] does. What its match gives on the way is put into the
+    /// caller's effects, and is moved on from there: only their room is left, which the next step
+    /// uses again.
     pub fn step_with<'a, C: Catalog>(
         &mut self,
         alloc: A,

@@ -36,7 +36,7 @@ pub(crate) struct Counts {
 }
 
 impl Counts {
-    /// So many matches began, and nothing else was counted.
+    /// The counts of a reader with this number of matches from the start.
     pub(crate) fn of_fixed(matches: usize) -> Counts
         ensures { result ≡ record {
           matched_total = capped (0 + matches);
@@ -90,7 +90,7 @@ impl Counts {
         }
     }
 
-    /// The status where there are so many matches now.
+    /// The status where `matches` is the number of matches now.
     pub(crate) fn status(self, matches: usize) -> Status
         ensures { result ≡ status_by self matches }
     {

@@ -18,7 +18,7 @@ pub struct Step<'a> {
 /// What a step asks.
 #[derive(Clone, Copy, Debug)]
 pub enum StepKind<'a> {
-    /// To take in what came from a writer.
+    /// To take what came from a writer.
     Event {
         writer: Guid,
         time: Option<Timestamp>,

@@ -13,7 +13,7 @@ use std::alloc::Allocator;
 use std::io::Read;
 
 impl<'a, R: Read> Records<'a, R, ()> {
-    /// The records that are to be read from a reader, many at a time, into room that is lent; first
+    /// The records that are to be read from a reader, many at a time, into the caller's batch; first
     /// [`Records::open`] them. No memory is taken.
     pub fn in_batches(reader: &'a mut R) -> Records<'a, R, ()>
         ensures same_reader { result.reader.ghost_name ≡ reader.entry.ghost_name }
@@ -27,8 +27,8 @@ impl<'a, R: Read> Records<'a, R, ()> {
         }
     }
 
-    /// Reads the next records into a batch, in the place of those that are there: as many as
-    /// `most`, fewer where there is no room for a longest one after them, or up to the end of the
+    /// Reads the next records into a batch, in the place of those that are there: `most` of them,
+    /// fewer where there is no room for a longest one after them, or up to the end of the
     /// file or its first fault, which [`Records::next`] reports. Where it answers
     /// [`BatchEnd::More`] there is one at least.
     ///

@@ -77,7 +77,7 @@ impl<A: Allocator> Batch<A> {
         }
     }
 
-    /// Receives datagrams in the place of the records that are there: as many as `most`, fewer
+    /// Receives datagrams in the place of the records that are there: `most` of them, fewer
     /// where there is no room for a longest one after them, where all that came was received
     /// ([`ReceiveEnd::Drained`]), or where the source fails ([`ReceiveEnd::Fault`]).
     ///

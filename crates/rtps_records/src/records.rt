@@ -15,7 +15,7 @@ use crate::transfer::fill;
 use std::alloc::{AllocError, Allocator};
 use std::io::Read;
 
-/// The records of a file, in order. `B` is where one of them is kept while it is lent: a
+/// The records of a file, in order. `B` is where one of them is kept while it is borrowed: a
 /// [`Buffer`].
 pub struct Records<'a, R, B: Drop = Buffer> {
     pub(crate) reader: &'a mut R,
@@ -177,7 +177,7 @@ pub(crate) fn read_record<R: Read>(
     Ok(Some(told))
 }
 
-/// The length that four octets spell, of which they are the one spelling.
+/// The length that four octets encode; each length has one encoding.
 fn length_of(head: &[u8; 4]) -> u32
     ensures told { result ≡ from_be_bytes w32 head.now }
     ensures spelled { to_be_bytes w32 result ≡ head.now }

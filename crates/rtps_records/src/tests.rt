@@ -132,7 +132,7 @@ const FILE: &[u8; 21] = b"RDG1\0\0\0\x02hi\0\0\0\0\0\0\0\x03abc";
 
 const TEXT: &[u8; 12] = b"0 2\n1 0\n2 3\n";
 
-/// How much of the text is there once so many octets of the file were read.
+/// How much of the text is there once this many octets of the file were read.
 fn text_len(read: usize) -> usize {
     match read {
         0..=9 => 0,
@@ -374,8 +374,7 @@ fn writes_a_part_of_a_long_text_before_a_fault(rt: HostRuntime) -> Result<(), Fa
     Ok(())
 }
 
-/// Whether a long text is written whole where there are so many octets of memory; else a part of it
-/// is.
+/// Whether a long text is written whole where there is this much memory; else a part of it is.
 fn is_written_whole(alloc: Global, file: &[u8], text: &str, memory: usize) -> Result<bool, Fail> {
     let heap = LocalHeap::new(alloc, memory)?;
     let mut out = Vec::new(alloc);

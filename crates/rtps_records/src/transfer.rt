@@ -55,8 +55,8 @@ pub(crate) fn fill<R: Read>(reader: &mut R, buffer: &mut [u8]) -> Filled
     Filled { count, failed }
 }
 
-/// Writes all octets, or as many of them as the writer takes. An interrupted write is tried again;
-/// one that fails, or takes nothing, is `CannotWrite`.
+/// Writes all octets, or those that the writer takes before it fails. An interrupted write is tried
+/// again; one that fails, or takes nothing, is `CannotWrite`.
 pub(crate) fn put_all<W: Write>(writer: &mut W, octets: &[u8]) -> Result<(), RunFault>
     ensures ok { OnOk result (Appends (W.contents writer.old) (W.contents writer.new) octets.now) }
     ensures fault { IfErr result (λ fault. fault ≡ CannotWrite) }

@@ -142,7 +142,7 @@ pub record IsFinishedFrom {C : Type 0} (old new : EngineView C) : Type 0 where
   pub statuses : (rank : ℕ) (s : Status) (r : ReaderView) → rank < length old.readers
       → slice_index_or new.statuses rank s ≡ (slice_index_or old.readers rank r).status
 
--- What a refused datagram leaves of what the caller lent: Failed and Spent leave it as it was, and
+-- What a refused datagram leaves in the caller's list: Failed and Spent leave it as it was, and
 -- NoMemory leaves nothing.
 unfoldable pub Leaves : {X Y : Type 0} → Result X EngineError → List Y → List Y → Type 0
 Leaves (Ok x) old new = Unit {0}

@@ -48,7 +48,7 @@ event_steps w e ranks =
     map (λ rank. step_by rank (asks_of e))
     (filter (λ rank. is_for e.reader (w.readers rank).entity) ranks)
 
--- a change of what is known is a step of the reader that hears of it
+-- a change of what is known is a step of its reader
 abbrev pub change_step : ChangeAt → ReaderStep
 change_step c = step_by c.rank (doing_of c.what)
 

@@ -30,7 +30,7 @@ pub data ReportView (M : Type 0) : Type 0 where
 -- all that is known, all readers, and all that was put out since the start, in order
 pub record World (M : Type 0) : Type 0 where
   pub known : Known
-  -- each reader by its rank, counted from 0; there are as many as are known
+  -- each reader by its rank, counted from 0, for each that is known
   pub readers : ℕ → Reader
   pub put : List (ReportView M)
 

@@ -13,7 +13,7 @@ use rtps_reader::{ReaderState, Status};
 use rtps_types::{GuidPrefix, Locators, WriterFacts};
 use std::alloc::{AllocError, Allocator};
 
-/// The writers that each of so many readers is matched with from the start, by rank. An error is a
+/// The writers that each of these readers is matched with from the start, by rank. An error is a
 /// refused growth.
 pub fn fixed_by_rank<A: Allocator + Copy>(
     alloc: A,

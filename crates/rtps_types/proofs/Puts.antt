@@ -26,12 +26,12 @@ puts_outside at field old new e h =
       count = simp (length-append, length-take, length-drop) (omega arith);
     }
 
--- as many octets as were wanted spell a number
+-- octets of the wanted count encode a number
 pub length-spelled : (e : Endian) (n x : ℕ) → length (spelled e n x) ≡ n
 length-spelled Big n x = length-bytes_high_first n x
 length-spelled Little n x = length-bytes_low_first 0 n x
 
--- what spells a number reads as it
+-- the octets of a number are read as it
 pub number-spelled : (e : Endian) (n x : ℕ) (rest : List ℕ) → x < 256 ^ n → number e n (spelled e n x ++ rest) ≡ x
 number-spelled Big n x rest h = big_number-reads_back n x rest h
 number-spelled Little n x rest h = little_number-reads_back n x rest h

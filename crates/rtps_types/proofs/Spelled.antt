@@ -1,4 +1,4 @@
--- Octets as numbers: as many octets are ordered as the numbers that they spell, the highest octet first.
+-- Octets as numbers: lists of one length are ordered as the numbers that they encode, the highest octet first.
 use Rattle.std.proofs.Common.{◌≡◌, ℕ, zero, suc, ◌+◌, ◌*◌, ◌^◌, ◌<◌, ◌≤◌, List, [], ◌∷◌, length, take, drop, refl, sym, ap, ◌∙◌, arith}
 use Rattle.std.specs.Prelude.{◌≢◌, slice_index}
 use Rattle.std.proofs.Math.Nat.{add-mul, mul-le-mul_right}

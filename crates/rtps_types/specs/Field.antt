@@ -1,4 +1,4 @@
--- The numbers that octets spell, in either byte order (DDSI-RTPS 9.3.2, 9.4.2.5).
+-- The numbers that octets encode, in either byte order (DDSI-RTPS 9.3.2, 9.4.2.5).
 use Rattle.std.specs.Prelude.{◌≡◌, ℕ, ℤ, ◌+◌, ◌*◌, ◌/◌, ◌%◌, ◌^◌, List, ◌++◌, length, take, drop, Option, Some, None, option_and_then, nat_le, if◌then◌else◌}
 use Rattle.std.specs.Option.{option_map}
 use Rattle.std.specs.Int.{w64, cast_signed, cast_unsigned}
@@ -6,7 +6,7 @@ use Rattle.byteorder.specs.Endian.{big_number, little_number, big_bytes, little_
 use Rattle.rtps_types.specs.declared.field.Endian.{Endian}
 use Rattle.rtps_types.specs.declared.field.Endian.TheVariants.{Big, Little}
 
--- the number that the first n octets spell
+-- the number that the first n octets encode
 abbrev pub number : Endian → ℕ → List ℕ → ℕ
 number Big n octets = big_number n octets
 number Little n octets = little_number n octets
@@ -28,20 +28,20 @@ sequence_number_at e octets at =
 abbrev pub octets_at : ℕ → List ℕ → ℕ → Option (List ℕ)
 octets_at n octets at = if nat_le (at + n) (length octets) then Some (take n (drop at octets)) else None
 
--- the n octets that spell a number
+-- the n octets that encode a number
 abbrev pub spelled : Endian → ℕ → ℕ → List ℕ
 spelled Big n x = big_bytes n x
 spelled Little n x = little_bytes n x
 
--- the eight octets that spell a sequence number
+-- the eight octets that encode a sequence number
 abbrev pub spelled_sn : Endian → ℤ → List ℕ
 spelled_sn e z = spelled e 4 (cast_unsigned w64 z / 2 ^ 32) ++ spelled e 4 (cast_unsigned w64 z % 2 ^ 32)
 
--- the octets with a field put in at a place, over as many octets as the field has
+-- the octets with a field written over those from a place on
 abbrev pub put_at : ℕ → List ℕ → List ℕ → List ℕ
 put_at at field octets = take at octets ++ (field ++ drop (at + length field) octets)
 
--- there are as many octets as before, and only the n octets at a place may be others
+-- the count of octets is as before, and only the n octets at a place may be others
 pub record StaysOutside (at n : ℕ) (old new : List ℕ) : Type 0 where
   pub before : take at new ≡ take at old
   pub behind : drop (at + n) new ≡ drop (at + n) old

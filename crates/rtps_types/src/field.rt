@@ -77,7 +77,7 @@ pub fn get_octets<const N: usize>(octets: &[u8], at: usize) -> Option<[u8; N]>
     octets.get(at..)?.first_chunk::<N>().copied()
 }
 
-/// Puts octets in at `at`, over as many others, which have to be there.
+/// Overwrites the octets from `at` on, which have to be there.
 #[tactic(auto, using(crate::proofs::Puts::puts_outside))]
 pub fn put_octets(octets: &mut [u8], at: usize, field: &[u8])
     requires { at + length field.now ≤ length octets.old }

@@ -1,4 +1,4 @@
-//! The values that RTPS messages carry, and the numbers that octets spell.
+//! The values that RTPS messages carry, and the numbers that octets encode.
 //!
 //! Names and layouts are those of DDSI-RTPS 2.5, sections 8.2, 9.3 and 9.4.2. Nothing here takes
 //! memory.

@@ -1,4 +1,4 @@
-//! The order of octets, by the numbers that they spell: a comparison takes in up to eight of them.
+//! The order of octets, by the numbers that they encode: up to eight of them are compared at once.
 
 ghost use Rattle.std.specs.Prelude.{◌≡◌, ◌+◌, ◌*◌, ◌^◌, drop};
 ghost use Rattle.std.specs.Ordering.{ordering_then};
@@ -27,7 +27,7 @@ pub(crate) fn order_of_twelve(left: &[u8; 12], right: &[u8; 12]) -> Ordering
     BigEndian::read_u32(&left[8..]).cmp(&BigEndian::read_u32(&right[8..]))
 }
 
-/// The number that the last four of twelve octets and four more spell.
+/// The number that the last four of twelve octets and four more encode.
 fn last_eight(octets: &[u8; 12], end: &[u8; 4]) -> u64
     ensures { result ≡ big_number 4 (drop 8 octets.now) * 2 ^ 32 + big_number 4 end.now }
 {

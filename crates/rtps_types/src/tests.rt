@@ -38,7 +38,7 @@ struct Spelled {
     little: [u8; 8],
 }
 
-/// Sequence numbers, as both byte orders spell them.
+/// Sequence numbers in both byte orders.
 const SPELLED: [Spelled; 6] = [
     Spelled {
         number: 1,

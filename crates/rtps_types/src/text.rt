@@ -28,7 +28,7 @@ pub enum TextFault {
     /// An identity or a part of a moment hasn't two digits for each of its octets.
     #[error("the number of hex digits is wrong")]
     Length,
-    /// There are as many characters, and one of them isn't a hex digit.
+    /// The number of characters is right, and one of them isn't a hex digit.
     #[error("a character isn't a hex digit")]
     Digit,
     /// There is no number in decimal digits alone, or it is out of its range.

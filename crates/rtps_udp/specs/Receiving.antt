@@ -1,4 +1,4 @@
--- What comes of the calls of sockets.
+-- The results of the calls of sockets.
 use Rattle.std.specs.Prelude.{◌≡◌, ℕ, List, [], ◌∷◌, take, Option, None, Some, ◌⊎◌, Result, Ok, Err}
 use Rattle.std.specs.IoError.{error_kind}
 use Rattle.std.specs.declared.io.Error.{Error}

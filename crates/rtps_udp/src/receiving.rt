@@ -1,4 +1,4 @@
-//! What comes of the calls of a socket.
+//! The results of a socket's calls.
 
 ghost use Rattle.std.specs.Prelude.{◌≤◌, IfOk, IfSome, length};
 ghost use Rattle.rtps_udp.specs.Receiving.{Comes, ReceivesFirst};

@@ -9,7 +9,7 @@ use Rattle.rtps_wire.specs.Header.{header_of}
 use Rattle.rtps_wire.specs.Reading.{runs_to_end}
 use Rattle.rtps_wire.specs.Submessage.{Item, parts_of}
 
--- four octets of header, the last two of which spell a length, and then a body before a rest
+-- four octets of header, the last two of which encode a length, and then a body before a rest
 pub record IsFramed (id flags : ℕ) (octets body rest : List ℕ) : Type 0 where
   pub third : ℕ
   pub fourth : ℕ

@@ -15,7 +15,7 @@ use Rattle.rtps_wire.specs.Submessage.{Content, Item, parts_of, view}
 abbrev pub runs_to_end : ℕ → ℕ → Bool
 runs_to_end id stated = stated == 0 && not (id == 0x01 || id == 0x09)
 
--- how long a body is, of which so many octets are left
+-- how long a body is where `left` octets are left
 abbrev pub body_length : ℕ → ℕ → ℕ → ℕ
 body_length id stated left = if runs_to_end id stated then left else stated
 

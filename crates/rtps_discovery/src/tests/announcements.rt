@@ -29,7 +29,7 @@ pub(super) const WRITER: &str = "00030000 5a001000 0a0a0a0a0a0a0a0a0a0a0a0a 0000
 const READER: &str = "0002ffff 80010004 aaaaaaaa 005a0010 0a0a0a0a0a0a0a0a0a0a0a0a 00000107 \
     0005000c 00000007 53717561 72650000 00070010 0000000a 53686170 65547970 65000000 00010000";
 
-/// The octets that hex digits spell; blanks are for the eye.
+/// The octets of a text in hex; blanks are for the eye.
 pub(super) fn octets_of<A: Allocator + Copy>(alloc: A, text: &str) -> Result<Vec<u8, A>, Fail> {
     let mut octets = Vec::new(alloc);
     for part in text.split_ascii_whitespace() {

@@ -35,7 +35,7 @@ fn knows_writer(discovery: &Discovery) -> bool {
     }
 }
 
-/// Whether their reader is known, and our own is lent.
+/// Whether their reader is known, and our own is listed.
 fn knows_readers(discovery: &Discovery) -> bool {
     let entity = EntityId([0, 0, 1, 7]);
     let known = match discovery.remote_readers().next() {

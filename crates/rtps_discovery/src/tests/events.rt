@@ -119,7 +119,7 @@ pub(super) const OFFERS: Said = Said {
     ..COMES
 };
 
-/// What becomes of a reader and a writer: the port of the first locator, or the policy, with it.
+/// A change of a match, with the port of the first locator, or the policy.
 #[derive(Clone, Copy, Debug, PartialEq)]
 enum Became {
     Match(u16),
@@ -127,7 +127,7 @@ enum Became {
     Refuse(u32),
 }
 
-/// A change: the rank, the third octet of the writer's entity, and what becomes of them.
+/// A change: the rank, the third octet of the writer's entity, and its kind.
 type Heard = (u32, u8, Became);
 
 fn heard_of(change: &MatchChange) -> Heard {
@@ -235,7 +235,7 @@ fn first_unheard_from_start(
     first_unheard(alloc, &mut discovery, steps)
 }
 
-/// What becomes of one writer, record by record.
+/// The changes of one writer, record by record.
 const ONE_WRITER: [(Said, &[Heard]); 16] = [
     // Nobody is heard whose participant isn't known.
     (OFFERS, &[]),

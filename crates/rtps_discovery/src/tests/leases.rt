@@ -94,7 +94,7 @@ const ENDPOINT_GUID: &str = "5a001000";
 const SQUARES: &str = "05000c00 07000000 53717561 72650000 \
     07001000 0a000000 53686170 65547970 65000000";
 
-/// What becomes of a reader and a writer.
+/// A change of the match of a reader and a writer.
 #[derive(Clone, Copy, Debug, PartialEq)]
 enum Became {
     Matched,

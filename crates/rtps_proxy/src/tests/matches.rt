@@ -31,11 +31,11 @@ enum Happens {
     Asking(u8, u64, i32),
 }
 
-/// What comes of it: the change that is ready, and the count of the answer; none where the writer
+/// The result: the change that is ready, and the count of the answer; none where the writer
 /// isn't matched.
 type Given = Option<(Option<u64>, Option<u8>)>;
 
-/// Gives what happens to the matches; what comes of it, or that memory was refused.
+/// Gives what happens to the matches; its result, or that memory was refused.
 fn come_of<A: Allocator + Copy>(
     alloc: A,
     matches: &mut Matches<A>,
@@ -90,7 +90,7 @@ fn given<A: Allocator + Copy>(
     Ok(Some((ready, count)))
 }
 
-/// What happens, what comes of it, and how many matches there are then.
+/// What happens, its result, and how many matches there are then.
 const STEPS: [(Happens, Given, usize); 17] = [
     (Happens::Whole(1, 1), None, 0),
     (Happens::Begin(3), None, 1),

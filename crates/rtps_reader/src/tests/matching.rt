@@ -22,9 +22,9 @@ const PLACE: Place = Place {
 /// What the reader is asked to do.
 #[derive(Clone, Copy)]
 enum Asks {
-    /// To take in the change of this number.
+    /// To take the change of this number.
     Change(u64),
-    /// To take in a heartbeat from the first to the last number, with this count.
+    /// To take a heartbeat from the first to the last number, with this count.
     Heartbeat(u64, u64, i32),
     /// To begin the match, with answers to this port.
     Match(u16),

@@ -102,7 +102,7 @@ fn presents(notice: &Notice<Shape>, expected: u64) -> bool {
     }
 }
 
-/// Whether a notice tells that so many numbers are lost.
+/// Whether a notice reports this count of lost numbers.
 fn tells_lost(notice: &Notice<Shape>, expected: u64) -> bool {
     match &notice.what {
         NoticeKind::Lost { count } => *count == expected,

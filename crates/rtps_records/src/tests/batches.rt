@@ -1,4 +1,4 @@
-//! Records in batches: the same records as one by one, in as many as are asked for and have room.
+//! Records in batches: the same records as one by one, up to what is asked for and has room.
 
 ghost use Rattle.std.specs.Prelude.{◌≤◌};
 

@@ -5,7 +5,7 @@ use Rattle.byteorder.specs.Endian.{big_number}
 use Rattle.rtps_types.proofs.Spelled.{sixteen_order, then_alike, then_apart}
 use Rattle.rtps_types.proofs.order.order_of_sixteen.Goals as goal
 
--- the number that the last eight octets spell
+-- the number that the last eight octets encode
 abbrev back : List ℕ → List ℕ → ℕ
 back octets end = big_number 4 (drop 8 octets) * 2 ^ 32 + big_number 4 end
 
