@@ -45,7 +45,7 @@ impl From<AllocError> for AddError {
     }
 }
 
-/// The greatest sample that is put together.
+/// The greatest sample that is put together, 64 MiB: its size is a stranger's word.
 const MAX_SAMPLE: u32 = 67_108_864;
 
 /// What is wrong with `count` fragments from `start` on in a payload of `octets`: the first of

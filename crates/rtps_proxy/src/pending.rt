@@ -21,7 +21,7 @@ use rtps_wire::ChangeInfo;
 use std::alloc::{AllocError, Allocator};
 
 /// How many samples may be put together at a time, besides the next one that a reliable reader
-/// awaits.
+/// awaits: a writer that begins samples and ends none takes no more memory than these.
 pub(crate) const SEATS: usize = 64;
 
 /// A sample of which fragments came, and what the first DATA_FRAG of it said.

@@ -17,7 +17,7 @@ use rtps_receiver::Whole;
 use rtps_types::Timestamp;
 use std::alloc::Allocator;
 
-/// How many changes may wait.
+/// How many changes may wait: a writer that never sends the missing one takes no more memory.
 const ROOM: usize = 65_536;
 
 impl<A: Allocator + Copy> BestEffort<A> {

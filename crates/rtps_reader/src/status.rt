@@ -105,7 +105,7 @@ impl Counts {
     }
 }
 
-/// The greatest total that is reported.
+/// The greatest total that is reported: totals are a signed `long` in DDS 1.4, 2.2.4.1.
 pub(crate) const MOST: u64 = 2_147_483_647;
 
 /// A total and some more, up to the greatest that is reported.
