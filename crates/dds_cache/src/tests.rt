@@ -7,7 +7,7 @@ mod pull;
 use crate::{Condition, Content, DataReader, InstanceState, Sample, SampleState, ViewState};
 use dds_topic::Unread;
 use rtps_reader::{Body, Notice, NoticeKind};
-use rtps_types::{EntityId, Guid, GuidPrefix, KeyHash, Number, Place};
+use rtps_types::{EntityId, Guid, GuidPrefix, KeyHash, Number, Place, PolicyId};
 use std::alloc::{AllocError, Allocator};
 use std::test::Fail;
 
@@ -77,7 +77,9 @@ fn notice(octet: u8, number: u64, what: What) -> Result<Notice<u64>, Fail> {
             body,
         },
         (None, What::Matched) => NoticeKind::Matched,
-        (None, What::Incompatible) => NoticeKind::Incompatible { policy: 11 },
+        (None, What::Incompatible) => NoticeKind::Incompatible {
+            policy: PolicyId::Reliability,
+        },
         (None, What::Lost) => NoticeKind::Lost { count: number },
         (None, _) => NoticeKind::Unmatched,
     };

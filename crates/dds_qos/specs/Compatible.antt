@@ -1,11 +1,12 @@
--- Whether what a writer offers meets what a reader asks for, policy by policy (DDS 1.4, 2.2.3, and
--- the ids of its table of policies).
+-- Whether what a writer offers meets what a reader asks for, policy by policy (DDS 1.4, 2.2.3).
 use Rattle.std.specs.Prelude.{ℕ, nat_lt, ◌==◌, List, [], ◌∷◌, Option, Some, None, Bool, not, ◌&&◌, ◌||◌, if◌then◌else◌}
 use Rattle.std.specs.List.{list_any}
 use Rattle.std.specs.Str.{bytes_eq}
 use Rattle.std.specs.Ordering.{is_gt}
 use Rattle.rtps_types.specs.declared.time.Duration.{Duration}
 use Rattle.rtps_types.specs.Duration.{duration_order}
+use Rattle.rtps_types.specs.declared.policy.PolicyId.{PolicyId}
+use Rattle.rtps_types.specs.declared.policy.PolicyId.TheVariants as policy
 use Rattle.dds_qos.specs.declared.policies.Policies.{Policies}
 use Rattle.dds_qos.specs.declared.policies.Presentation.{Presentation}
 use Rattle.dds_qos.specs.declared.policies.Liveliness.{Liveliness}
@@ -80,26 +81,26 @@ abbrev pub liveliness_met : Liveliness → Liveliness → Bool
 liveliness_met o r =
     at_least (liveliness_kind o.kind) (liveliness_kind r.kind) && at_most o.lease_duration r.lease_duration
 
--- each policy by its id, and whether the offered one meets the requested one
-abbrev pub policies_met : Policies → Policies → List (ℕ × Bool)
+-- each policy by rising id, and whether the offered one meets the requested one
+abbrev pub policies_met : Policies → Policies → List (PolicyId × Bool)
 policies_met o r =
-    (2, at_least (durability_kind o.durability) (durability_kind r.durability))
-    ∷ (3, presentation_met o.presentation r.presentation)
-    ∷ (4, at_most o.deadline r.deadline)
-    ∷ (5, at_most o.latency_budget r.latency_budget)
-    ∷ (6, ownership_kind o.ownership == ownership_kind r.ownership)
-    ∷ (8, liveliness_met o.liveliness r.liveliness)
-    ∷ (11, at_least (reliability_kind o.reliability) (reliability_kind r.reliability))
-    ∷ (12, at_least (order_kind o.destination_order) (order_kind r.destination_order))
+    (policy.Durability, at_least (durability_kind o.durability) (durability_kind r.durability))
+    ∷ (policy.Presentation, presentation_met o.presentation r.presentation)
+    ∷ (policy.Deadline, at_most o.deadline r.deadline)
+    ∷ (policy.LatencyBudget, at_most o.latency_budget r.latency_budget)
+    ∷ (policy.Ownership, ownership_kind o.ownership == ownership_kind r.ownership)
+    ∷ (policy.Liveliness, liveliness_met o.liveliness r.liveliness)
+    ∷ (policy.Reliability, at_least (reliability_kind o.reliability) (reliability_kind r.reliability))
+    ∷ (policy.DestinationOrder, at_least (order_kind o.destination_order) (order_kind r.destination_order))
     ∷ []
 
--- the first id of those that aren't met
-abbrev pub first_unmet : List (ℕ × Bool) → Option ℕ
+-- the first of those that aren't met
+abbrev pub first_unmet : List (PolicyId × Bool) → Option PolicyId
 first_unmet [] = None
-first_unmet ((id, met) ∷ rest) = if met then first_unmet rest else Some id
+first_unmet ((p, met) ∷ rest) = if met then first_unmet rest else Some p
 
--- the least id of a policy that isn't met
-unfoldable pub first_fault : Policies → Policies → Option ℕ
+-- the policy of the least id that isn't met
+unfoldable pub first_fault : Policies → Policies → Option PolicyId
 first_fault o r = first_unmet (policies_met o r)
 
 -- no name at all is the partition of the empty name (DDS 1.4, 2.2.3.13)

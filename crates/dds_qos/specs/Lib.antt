@@ -4,4 +4,3 @@ pub mod Offering
 pub mod Seen
 pub mod Settings
 pub mod Values
-pub mod PolicyNames

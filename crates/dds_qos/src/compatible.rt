@@ -11,7 +11,7 @@ use crate::{
     DestinationOrder, Durability, Liveliness, Offered, Ownership, Policies, Presentation,
     Reliability, Requested,
 };
-use rtps_types::Duration;
+use rtps_types::{Duration, PolicyId};
 use std::alloc::Allocator;
 
 /// Whether data outlives its writing at least as long.
@@ -66,51 +66,65 @@ fn order_met(offered: DestinationOrder, requested: DestinationOrder) -> bool
     offered >= requested
 }
 
-/// Each policy by its id, and whether the offered one meets the requested one.
-fn policies_met(offered: &Policies, requested: &Policies) -> [(u32, bool); 8]
+/// Each policy by rising id, and whether the offered one meets the requested one.
+fn policies_met(offered: &Policies, requested: &Policies) -> [(PolicyId, bool); 8]
     ensures { result ≡ compatible.policies_met offered.now requested.now }
 {
     [
-        (2, durability_met(offered.durability, requested.durability)),
         (
-            3,
+            PolicyId::Durability,
+            durability_met(offered.durability, requested.durability),
+        ),
+        (
+            PolicyId::Presentation,
             presentation_met(offered.presentation, requested.presentation),
         ),
-        (4, at_most(offered.deadline, requested.deadline)),
-        (5, at_most(offered.latency_budget, requested.latency_budget)),
-        (6, ownership_met(offered.ownership, requested.ownership)),
-        (8, liveliness_met(offered.liveliness, requested.liveliness)),
         (
-            11,
+            PolicyId::Deadline,
+            at_most(offered.deadline, requested.deadline),
+        ),
+        (
+            PolicyId::LatencyBudget,
+            at_most(offered.latency_budget, requested.latency_budget),
+        ),
+        (
+            PolicyId::Ownership,
+            ownership_met(offered.ownership, requested.ownership),
+        ),
+        (
+            PolicyId::Liveliness,
+            liveliness_met(offered.liveliness, requested.liveliness),
+        ),
+        (
+            PolicyId::Reliability,
             reliability_met(offered.reliability, requested.reliability),
         ),
         (
-            12,
+            PolicyId::DestinationOrder,
             order_met(offered.destination_order, requested.destination_order),
         ),
     ]
 }
 
-/// The first id that isn't met.
-fn first_unmet(policies: &[(u32, bool)]) -> Option<u32>
+/// The first policy that isn't met.
+fn first_unmet(policies: &[(PolicyId, bool)]) -> Option<PolicyId>
     ensures { result ≡ compatible.first_unmet policies.now }
 {
-    for &(id, is_met) in policies {
+    for &(policy, is_met) in policies {
         if !is_met {
-            return Some(id);
+            return Some(policy);
         }
     }
     None
 }
 
-/// The least id of a policy that what is offered doesn't meet: 2 durability, 3 presentation,
-/// 4 deadline, 5 latency budget, 6 ownership, 8 liveliness, 11 reliability, 12 destination order
-/// (DDS 1.4, 2.2.3). `None` where all are met. No memory is taken.
+/// The policy of the least id that what is offered doesn't meet (DDS 1.4, 2.2.3). `None` where all
+/// are met. No memory is taken.
 #[tactic(auto, unfolding(crate::specs::Compatible::first_fault))]
 pub fn first_fault<A: Allocator, B: Allocator>(
     offered: &Offered<A>,
     requested: &Requested<B>,
-) -> Option<u32>
+) -> Option<PolicyId>
     ensures { result ≡ compatible.first_fault offered.now.policies requested.now.policies }
 {
     first_unmet(&policies_met(&offered.policies, &requested.policies))

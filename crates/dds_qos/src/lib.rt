@@ -6,7 +6,6 @@ mod compatible;
 mod fault;
 mod kinds;
 mod listed_locators;
-mod names;
 mod partitions;
 mod policies;
 mod records;
@@ -18,7 +17,6 @@ mod values;
 pub use compatible::{first_fault, share_partition};
 pub use fault::{Malformed, QosFault};
 pub use listed_locators::ListedLocators;
-pub use names::policy_name;
 pub use partitions::Partitions;
 pub use policies::{
     AccessScope, DestinationOrder, Durability, INFINITE, Liveliness, LivelinessKind, Ownership,

@@ -100,17 +100,3 @@ fn variants_have_the_numbers_of_messages(rt: HostRuntime) {
     ];
     assert_eq!(rt; order, [0, 1]);
 }
-
-#[test]
-fn policies_have_names(rt: HostRuntime) {
-    for (policy, name) in [
-        (2, Some("Durability")),
-        (11, Some("Reliability")),
-        (12, Some("DestinationOrder")),
-        (0, None),
-        (7, None),
-        (u32::MAX, None),
-    ] {
-        assert_eq!(rt; policy_name(policy), name);
-    }
-}

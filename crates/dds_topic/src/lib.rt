@@ -12,6 +12,7 @@ mod decoder;
 mod encapsulation;
 #[cfg(test)]
 mod example;
+mod failing;
 pub mod laws;
 mod raw;
 mod shape;
@@ -25,6 +26,7 @@ pub use color::Color;
 pub use color_keys::ColorKeys;
 pub use decoder::Decoder;
 pub use encapsulation::byte_order;
+pub use failing::FailingCatalog;
 pub use raw::{Raw, RawValue};
 pub use rtps_cdr::NoMemory;
 pub use shape::Shape;

@@ -8,13 +8,17 @@ use Rattle.std.specs.declared.cmp.Ordering.{Ordering}
 use Rattle.std.specs.declared.cmp.Ordering.TheVariants.{Less, Equal, Greater}
 use Rattle.std.proofs.lemmas.Grind.{common_steps}
 use Rattle.std.proofs.lemmas.List.Elements.{Contains-append_cases, Contains-append_left, Contains-append_right}
+use Rattle.rtps_types.specs.Policy.{same_policy}
+use Rattle.rtps_types.proofs.Policies.{policy_is, policy_isnt}
+use Rattle.rtps_types.specs.declared.policy.PolicyId.{PolicyId}
 use Rattle.rtps_types.specs.Order.{guid_order}
 use Rattle.rtps_types.specs.declared.identity.Guid.{Guid}
 use Rattle.rtps_types.specs.declared.locator.Locator.{Locator}
 use Rattle.rtps_proxy.specs.Matches.{is_at}
 use Rattle.rtps_proxy.proofs.Matching.{exact}
 use Rattle.rtps_discovery.specs.Announcement.{Offer}
-use Rattle.rtps_discovery.specs.Changes.{Becomes, ChangeAt, Matches, Unmatches, Refuses, at, at_pair, both, changes, row, rows, told}
+use Rattle.rtps_types.specs.MatchChange.{MatchChange, Matches, Unmatches, Refuses}
+use Rattle.rtps_discovery.specs.Changes.{ChangeAt, at, at_pair, both, changes, row, rows, told}
 use Rattle.rtps_discovery.specs.Differences.{ChangesAreDifferences, IsRefused}
 use Rattle.rtps_discovery.proofs.Following.{in_order}
 use Rattle.rtps_discovery.specs.Known.{Known, Standing, Apart, Joined, Refused, Wish, is_fixed, is_joined, is_matched, locators_at, reader_at, standing, writer_at}
@@ -135,7 +139,7 @@ has_writer (Some r) ws g h = by_found (lookup (is_at g) ws) refl
 
 -- ---- the changes of one pair
 
-become_one : (k rank : ℕ) (x y : Becomes) → Contains (at k x ∷ []) (at rank y) → (k ≡ rank) × (x ≡ y)
+become_one : (k rank : ℕ) (x y : MatchChange) → Contains (at k x ∷ []) (at rank y) → (k ≡ rank) × (x ≡ y)
 become_one k rank x y c =
     let is : at k x ≡ at rank y = one_in (at k x) (at rank y) c in
     (ap (λ (d : ChangeAt). d.rank) is, ap (λ (d : ChangeAt). d.what) is)
@@ -166,7 +170,7 @@ begins_told k rank h g ls ms (Refused q) Apart c = absurd (none_in _ c)
 begins_told k rank h g ls ms (Refused q) Joined c =
     let is = become_one k rank (Matches h ls) (Matches g ms) c in let what : Matches h ls ≡ Matches g ms = is.1 in
     record { ranks = is.0; writers = cc; locators = cc; before = refl; after = refl }
-begins_told k rank h g ls ms (Refused q) (Refused p) c = by_test (q == p) c
+begins_told k rank h g ls ms (Refused q) (Refused p) c = by_test (same_policy q p) c
   where
     by_test : (t : Bool) → Contains (if t then [] else at k (Refuses h p) ∷ []) (at rank (Matches g ms)) → Begins k rank h g ls ms (Refused q) (Refused p)
     by_test true d = absurd (none_in _ d)
@@ -207,7 +211,7 @@ ends_told k rank h g ls Joined (Refused p) c = by_part (first_or (at k (Unmatche
 ends_told k rank h g ls (Refused q) Apart c = absurd (none_in _ c)
 ends_told k rank h g ls (Refused q) Joined c =
     let is = become_one k rank (Matches h ls) (Unmatches g) c in let what : Matches h ls ≡ Unmatches g = is.1 in absurd cc
-ends_told k rank h g ls (Refused q) (Refused p) c = by_test (q == p) c
+ends_told k rank h g ls (Refused q) (Refused p) c = by_test (same_policy q p) c
   where
     by_test : (t : Bool) → Contains (if t then [] else at k (Refuses h p) ∷ []) (at rank (Unmatches g)) → EndsAt k rank h g (Refused q) (Refused p)
     by_test true d = absurd (none_in _ d)
@@ -220,13 +224,13 @@ told_ends k g ls Joined Joined y n = absurd (true≢false n)
 told_ends k g ls Joined (Refused p) y n = at_first (at k (Unmatches g)) (at k (Refuses g p) ∷ [])
 told_ends k g ls (Refused q) b y n = absurd (true≢false (sym y))
 
-pub record RefusesAt (k rank : ℕ) (h g : Guid) (policy : ℕ) (a b : Standing) : Type 0 where
+pub record RefusesAt (k rank : ℕ) (h g : Guid) (policy : PolicyId) (a b : Standing) : Type 0 where
   pub ranks : k ≡ rank
   pub writers : h ≡ g
   pub before : a ≡ Refused policy → ⊥
   pub after : b ≡ Refused policy
 
-refuses_told : (k rank : ℕ) (h g : Guid) (ls : List Locator) (policy : ℕ) (a b : Standing) → Contains (told k h ls a b) (at rank (Refuses g policy)) → RefusesAt k rank h g policy a b
+refuses_told : (k rank : ℕ) (h g : Guid) (ls : List Locator) (policy : PolicyId) (a b : Standing) → Contains (told k h ls a b) (at rank (Refuses g policy)) → RefusesAt k rank h g policy a b
 refuses_told k rank h g ls policy Apart Apart c = absurd (none_in _ c)
 refuses_told k rank h g ls policy Apart Joined c =
     let is = become_one k rank (Matches h ls) (Refuses g policy) c in let what : Matches h ls ≡ Refuses g policy = is.1 in absurd cc
@@ -246,29 +250,29 @@ refuses_told k rank h g ls policy Joined (Refused p) c = by_part (first_or (at k
 refuses_told k rank h g ls policy (Refused q) Apart c = absurd (none_in _ c)
 refuses_told k rank h g ls policy (Refused q) Joined c =
     let is = become_one k rank (Matches h ls) (Refuses g policy) c in let what : Matches h ls ≡ Refuses g policy = is.1 in absurd cc
-refuses_told k rank h g ls policy (Refused q) (Refused p) c = by_test (q == p) refl c
+refuses_told k rank h g ls policy (Refused q) (Refused p) c = by_test (same_policy q p) refl c
   where
-    by_test : (t : Bool) → (q == p) ≡ t → Contains (if t then [] else at k (Refuses h p) ∷ []) (at rank (Refuses g policy)) → RefusesAt k rank h g policy (Refused q) (Refused p)
+    by_test : (t : Bool) → same_policy q p ≡ t → Contains (if t then [] else at k (Refuses h p) ∷ []) (at rank (Refuses g policy)) → RefusesAt k rank h g policy (Refused q) (Refused p)
     by_test true e d = absurd (none_in _ d)
     by_test false e d =
         let is = become_one k rank (Refuses h p) (Refuses g policy) d in let what : Refuses h p ≡ Refuses g policy = is.1 in
         let policies : p ≡ policy = cc in
-        record { ranks = is.0; writers = cc; before = λ f. let same : q ≡ policy = cc in let unlike : q ≡ p → ⊥ = grind (arith, common_steps) in unlike cc; after = cc }
+        record { ranks = is.0; writers = cc; before = λ f. let same : q ≡ policy = cc in policy_isnt q p e (same ∙ sym policies); after = cc }
 
-told_refuses : (k : ℕ) (g : Guid) (ls : List Locator) (policy : ℕ) (a b : Standing) → (a ≡ Refused policy → ⊥) → b ≡ Refused policy → Contains (told k g ls a b) (at k (Refuses g policy))
+told_refuses : (k : ℕ) (g : Guid) (ls : List Locator) (policy : PolicyId) (a b : Standing) → (a ≡ Refused policy → ⊥) → b ≡ Refused policy → Contains (told k g ls a b) (at k (Refuses g policy))
 told_refuses k g ls policy a Apart n y = absurd cc
 told_refuses k g ls policy a Joined n y = absurd cc
 told_refuses k g ls policy Apart (Refused p) n y = let is : p ≡ policy = cc in subst (λ q. Contains (at k (Refuses g p) ∷ []) (at k (Refuses g q))) is (at_first (at k (Refuses g p)) [])
 told_refuses k g ls policy Joined (Refused p) n y =
     let is : p ≡ policy = cc in
     later_in (at k (Unmatches g)) (at k (Refuses g p) ∷ []) (at k (Refuses g policy)) (subst (λ q. Contains (at k (Refuses g p) ∷ []) (at k (Refuses g q))) is (at_first (at k (Refuses g p)) []))
-told_refuses k g ls policy (Refused q) (Refused p) n y = by_test (q == p) refl
+told_refuses k g ls policy (Refused q) (Refused p) n y = by_test (same_policy q p) refl
   where
     is : p ≡ policy
     is = cc
 
-    by_test : (t : Bool) → (q == p) ≡ t → Contains (if t then [] else at k (Refuses g p) ∷ []) (at k (Refuses g policy))
-    by_test true e = let same : q ≡ p = grind (arith, common_steps) in absurd (n (ap Refused (same ∙ is)))
+    by_test : (t : Bool) → same_policy q p ≡ t → Contains (if t then [] else at k (Refuses g p) ∷ []) (at k (Refuses g policy))
+    by_test true e = absurd (n (ap Refused (policy_is q p e ∙ is)))
     by_test false e = subst (λ q. Contains (at k (Refuses g p) ∷ []) (at k (Refuses g q))) is (at_first (at k (Refuses g p)) [])
 
 -- ---- the pairs
@@ -469,7 +473,7 @@ end_from before after fixed rank g h =
     from_one_pair before after rank g (at rank (Unmatches g)) known free
     (told_ends rank g (locators_at after g) (was before rank g) (was after rank g) joined unmatched.1)
 
-refuse_is : (before after : Known) → before.fixed ≡ after.fixed → (rank : ℕ) (g : Guid) (policy : ℕ) → Contains (changes before after) (at rank (Refuses g policy))
+refuse_is : (before after : Known) → before.fixed ≡ after.fixed → (rank : ℕ) (g : Guid) (policy : PolicyId) → Contains (changes before after) (at rank (Refuses g policy))
     → IsRefused after rank g policy × (IsRefused before rank g policy → ⊥)
 refuse_is before after fixed rank g policy h =
     let pair = at_one_pair before after (at rank (Refuses g policy)) h in
@@ -480,10 +484,10 @@ refuse_is before after fixed rank g policy h =
     let other : was before rank g ≡ Refused policy → ⊥ = moved_to (λ n v. was before n v ≡ Refused policy → ⊥) pair.rank rank pair.writer g one.ranks one.writers one.before in
     (record { free = free_after; refused = refused }, λ was_refused. other was_refused.refused)
 
-refused_isnt_apart : (s : Standing) (policy : ℕ) → s ≡ Refused policy → is_apart s ≡ false
+refused_isnt_apart : (s : Standing) (policy : PolicyId) → s ≡ Refused policy → is_apart s ≡ false
 refused_isnt_apart s policy h = rw h refl
 
-refuse_from : (before after : Known) → before.fixed ≡ after.fixed → (rank : ℕ) (g : Guid) (policy : ℕ)
+refuse_from : (before after : Known) → before.fixed ≡ after.fixed → (rank : ℕ) (g : Guid) (policy : PolicyId)
     → IsRefused after rank g policy × (IsRefused before rank g policy → ⊥) → Contains (changes before after) (at rank (Refuses g policy))
 refuse_from before after fixed rank g policy h =
     let free : is_fixed before.fixed rank g ≡ false = subst (λ f. is_fixed f rank g ≡ false) (sym fixed) h.0.free in

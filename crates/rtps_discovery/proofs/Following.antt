@@ -9,6 +9,7 @@ use Rattle.std.proofs.lemmas.Bool.Decides.{nat_tests}
 use Rattle.std.proofs.lemmas.List.Elements.{All-from_recursion}
 use Rattle.std.proofs.lemmas.List.Kept.{AllPairs-cons}
 use Rattle.std.proofs.lemmas.Map.Keys.{sorted_head, sorted_tail}
+use Rattle.rtps_types.specs.Policy.{same_policy}
 use Rattle.rtps_types.specs.declared.identity.Guid.{Guid}
 use Rattle.rtps_types.specs.declared.locator.Locator.{Locator}
 use Rattle.rtps_types.specs.Order.{guid_order}
@@ -65,7 +66,7 @@ told_of k g ls Joined Joined = tt
 told_of k g ls Joined (Refused p) = (record { rank = refl; writer = refl }, (record { rank = refl; writer = refl }, tt))
 told_of k g ls (Refused q) Apart = tt
 told_of k g ls (Refused q) Joined = (record { rank = refl; writer = refl }, tt)
-told_of k g ls (Refused q) (Refused p) = by_test (q == p)
+told_of k g ls (Refused q) (Refused p) = by_test (same_policy q p)
   where
     by_test : (b : Bool) → AllByRecursion (IsOf k g) (if b then [] else told k g ls Apart (Refused p))
     by_test true = tt
@@ -80,7 +81,7 @@ told_follow k g ls Joined Joined = tt
 told_follow k g ls Joined (Refused p) = ((rw (number_itself k, itself g) refl, tt), (tt, tt))
 told_follow k g ls (Refused q) Apart = tt
 told_follow k g ls (Refused q) Joined = (tt, tt)
-told_follow k g ls (Refused q) (Refused p) = by_test (q == p)
+told_follow k g ls (Refused q) (Refused p) = by_test (same_policy q p)
   where
     by_test : (b : Bool) → Follow (if b then [] else told k g ls Apart (Refused p))
     by_test true = tt

@@ -24,3 +24,4 @@ pub mod Hearing
 pub mod Starting
 pub mod Ranked
 pub mod Listing
+pub mod Announcers

@@ -14,7 +14,9 @@ use Rattle.dds_qos.specs.Defaults.{default_policies}
 use Rattle.dds_qos.specs.Settings.{is_sound_by, settings_of}
 use Rattle.dds_qos.specs.Values.{duration_in, reliability_in, locator_in, guid_in}
 use Rattle.dds_qos.specs.declared.policies.Reliability.TheVariants.{Reliable}
-use Rattle.rtps_discovery.specs.Changes.{ChangeAt, Matches, Unmatches, Refuses, at, changes}
+use Rattle.rtps_types.specs.declared.policy.PolicyId.TheVariants as policy
+use Rattle.rtps_types.specs.MatchChange.{Matches, Unmatches, Refuses}
+use Rattle.rtps_discovery.specs.Changes.{ChangeAt, at, changes}
 use Rattle.rtps_discovery.specs.Known.{Known, moved, passed}
 use Rattle.rtps_discovery.specs.Lease.{deadline, lease_of}
 use Rattle.rtps_discovery.specs.Records.{changes_by, known_by}
@@ -213,7 +215,7 @@ unfolding params.reading_behind changes
 nobody_speaks = refl
 
 -- refused by its reliability, once; then it is reliable
-is_refused : changes_by (known_with (comes ∷ [])) (offers_less 1) ≡ at 0 (Refuses w 11) ∷ []
+is_refused : changes_by (known_with (comes ∷ [])) (offers_less 1) ≡ at 0 (Refuses w policy.Reliability) ∷ []
 unfolding params.reading_behind cdr.text_from str.is_utf8 str.chars utf8.encode changes first_fault
     is_sound_by settings_of said_in duration_in reliability_in locator_in guid_in
 is_refused = refl
@@ -231,7 +233,7 @@ then_it_is_matched = refl
 
 -- a matched writer that offers less, or another topic
 match_is_refused :
-    changes_by (known_with (offers 1 ∷ comes ∷ [])) (offers_less 2) ≡ at 0 (Unmatches w) ∷ at 0 (Refuses w 11) ∷ []
+    changes_by (known_with (offers 1 ∷ comes ∷ [])) (offers_less 2) ≡ at 0 (Unmatches w) ∷ at 0 (Refuses w policy.Reliability) ∷ []
 unfolding params.reading_behind cdr.text_from str.is_utf8 str.chars utf8.encode changes first_fault
     is_sound_by settings_of said_in duration_in reliability_in locator_in guid_in
 match_is_refused = refl
@@ -255,7 +257,7 @@ record_waits = refl
 
 three_at_once :
     changes_by (known_with (offers_less 2 ∷ offers 3 ∷ comes ∷ [])) (offers 1)
-    ≡ at 0 (Matches w (at_port 7413 ∷ [])) ∷ at 0 (Unmatches w) ∷ at 0 (Refuses w 11) ∷ at 0 (Matches w (at_port 7413 ∷ [])) ∷ []
+    ≡ at 0 (Matches w (at_port 7413 ∷ [])) ∷ at 0 (Unmatches w) ∷ at 0 (Refuses w policy.Reliability) ∷ at 0 (Matches w (at_port 7413 ∷ [])) ∷ []
 unfolding params.reading_behind cdr.text_from str.is_utf8 str.chars utf8.encode changes first_fault
     is_sound_by settings_of said_in duration_in reliability_in locator_in guid_in
 three_at_once = refl

@@ -6,23 +6,19 @@ use Rattle.std.specs.Map.{keys_of}
 use Rattle.std.specs.BTreeSet.{insert_key}
 use Rattle.rtps_types.specs.declared.identity.Guid.{Guid}
 use Rattle.rtps_types.specs.declared.locator.Locator.{Locator}
+use Rattle.rtps_types.specs.MatchChange.{MatchChange, Matches, Unmatches, Refuses}
 use Rattle.rtps_types.specs.Order.{guid_order}
+use Rattle.rtps_types.specs.Policy.{same_policy}
 use Rattle.rtps_discovery.specs.Announcement.{Announcement}
 use Rattle.rtps_discovery.specs.Known.{Known, Standing, Apart, Joined, Refused, Wish, is_fixed, known_after, locators_at, standing, writer_at}
-
--- what becomes of a reader and a writer
-pub data Becomes : Type 0 where
-  Matches : Guid → List Locator → Becomes
-  Unmatches : Guid → Becomes
-  Refuses : Guid → ℕ → Becomes
 
 -- a change of the match of the reader of a rank
 pub record ChangeAt : Type 0 where
   pub rank : ℕ
-  pub what : Becomes
+  pub what : MatchChange
 
 -- this change, of the reader of that rank
-abbrev pub at : ℕ → Becomes → ChangeAt
+abbrev pub at : ℕ → MatchChange → ChangeAt
 at rank what = record { rank = rank; what = what }
 
 -- an end first; a refusal only where it is new or of another policy
@@ -35,7 +31,7 @@ told k g ls Joined Joined = []
 told k g ls Joined (Refused p) = at k (Unmatches g) ∷ at k (Refuses g p) ∷ []
 told k g ls (Refused q) Apart = []
 told k g ls (Refused q) Joined = at k (Matches g ls) ∷ []
-told k g ls (Refused q) (Refused p) = if q == p then [] else at k (Refuses g p) ∷ []
+told k g ls (Refused q) (Refused p) = if same_policy q p then [] else at k (Refuses g p) ∷ []
 
 -- the changes of a reader and a writer; none, where a fixed match joins them
 abbrev pub at_pair : List (ℕ × Guid) → ℕ → Guid → List Locator → Standing → Standing → List ChangeAt

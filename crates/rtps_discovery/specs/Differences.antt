@@ -8,25 +8,27 @@ use Rattle.std.specs.declared.cmp.Ordering.{Ordering}
 use Rattle.std.specs.declared.cmp.Ordering.TheVariants.{Less, Equal, Greater}
 use Rattle.rtps_types.specs.declared.identity.Guid.{Guid}
 use Rattle.rtps_types.specs.declared.locator.Locator.{Locator}
+use Rattle.rtps_types.specs.declared.policy.PolicyId.{PolicyId}
 use Rattle.rtps_types.specs.Order.{guid_order}
-use Rattle.rtps_discovery.specs.Changes.{Becomes, ChangeAt, Matches, Unmatches, Refuses, at, changes}
+use Rattle.rtps_types.specs.MatchChange.{MatchChange, Matches, Unmatches, Refuses}
+use Rattle.rtps_discovery.specs.Changes.{ChangeAt, at, changes}
 use Rattle.rtps_discovery.specs.Known.{Known, Refused, is_fixed, is_matched, locators_at, reader_at, standing, writer_at}
 
 -- a reader and a writer would be matched, but for this policy
-pub record IsRefused (k : Known) (rank : ℕ) (g : Guid) (policy : ℕ) : Type 0 where
+pub record IsRefused (k : Known) (rank : ℕ) (g : Guid) (policy : PolicyId) : Type 0 where
   pub free : is_fixed k.fixed rank g ≡ false
   pub refused : standing (reader_at k.readers rank) (writer_at k g) ≡ Refused policy
 
 -- ---- the order of changes
 
 -- the writer that becomes something
-abbrev pub writer_in : Becomes → Guid
+abbrev pub writer_in : MatchChange → Guid
 writer_in (Matches g ls) = g
 writer_in (Unmatches g) = g
 writer_in (Refuses g policy) = g
 
 -- at one reader and of one writer an end comes first, and then a refusal
-abbrev pub ends_first : Becomes → Becomes → Bool
+abbrev pub ends_first : MatchChange → MatchChange → Bool
 ends_first (Unmatches g) (Refuses h policy) = true
 ends_first a b = false
 
@@ -51,7 +53,7 @@ pub record AreDifferences (before after : Known) : Type 0 where
   pub end : (rank : ℕ) (g : Guid) →
       Contains (changes before after) (at rank (Unmatches g))
       ↔ ((is_matched before rank g ≡ true) × (is_matched after rank g ≡ false))
-  pub refuse : (rank : ℕ) (g : Guid) (policy : ℕ) →
+  pub refuse : (rank : ℕ) (g : Guid) (policy : PolicyId) →
       Contains (changes before after) (at rank (Refuses g policy))
       ↔ (IsRefused after rank g policy × (IsRefused before rank g policy → ⊥))
   pub order : IsStrictlySortedBy guid_order (keys_of after.writers) → AllPairs (λ a b. IsTrue (comes_before a b)) (changes before after)

@@ -14,6 +14,7 @@ use Rattle.rtps_types.specs.declared.identity.EntityId.{EntityId}
 use Rattle.rtps_types.specs.declared.identity.Guid.{Guid}
 use Rattle.rtps_types.specs.declared.identity.GuidPrefix.{GuidPrefix}
 use Rattle.rtps_types.specs.declared.locator.Locator.{Locator}
+use Rattle.rtps_types.specs.declared.policy.PolicyId.{PolicyId}
 use Rattle.rtps_types.specs.declared.time.Duration.{Duration}
 use Rattle.rtps_types.specs.Order.{guid_order, octet_order}
 use Rattle.dds_qos.specs.declared.policies.Policies.{Policies}
@@ -73,14 +74,14 @@ reader_at (r ∷ rs) (suc rank) = reader_at rs rank
 
 -- ---- how a reader is with a writer
 
--- they have nothing to do with each other, they are joined, or a policy refuses it, by its id
+-- they have nothing to do with each other, they are joined, or refused for a policy
 pub data Standing : Type 0 where
   Apart : Standing
   Joined : Standing
-  Refused : ℕ → Standing
+  Refused : PolicyId → Standing
 
 -- joined where no policy is at fault, else refused by that one
-abbrev pub by_fault : Option ℕ → Standing
+abbrev pub by_fault : Option PolicyId → Standing
 by_fault None = Joined
 by_fault (Some policy) = Refused policy
 

@@ -20,3 +20,4 @@ pub mod Ranked
 pub mod Pairs
 pub mod Asking
 pub mod FaultNames
+pub mod Announcer

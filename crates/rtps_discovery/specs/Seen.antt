@@ -3,6 +3,7 @@ use Rattle.std.specs.Prelude.{[], ◌∷◌, Option}
 use Rattle.std.specs.Borrow.{Bor}
 use Rattle.std.specs.Option.{option_map}
 use Rattle.dds_qos.specs.Seen.{names_seen, settings_seen}
+use Rattle.rtps_types.specs.MatchChange.{match_change_view}
 use Rattle.rtps_discovery.specs.declared.announcement.Announcement.{Announcement}
 use Rattle.rtps_discovery.specs.declared.announcement.Announcement.TheVariants as announced
 use Rattle.rtps_discovery.specs.declared.announcement.Facts.{Facts}
@@ -10,8 +11,6 @@ use Rattle.rtps_discovery.specs.declared.announcement.Offer.{Offer}
 use Rattle.rtps_discovery.specs.Announcement as announcement
 use Rattle.rtps_discovery.specs.Changes as changes
 use Rattle.rtps_discovery.specs.Known as known
-use Rattle.rtps_discovery.specs.declared.changes.Becomes.{Becomes}
-use Rattle.rtps_discovery.specs.declared.changes.Becomes.TheVariants as becoming
 use Rattle.rtps_discovery.specs.declared.changes.MatchChange.{MatchChange}
 use Rattle.rtps_discovery.specs.declared.standing.Standing.{Standing}
 use Rattle.rtps_discovery.specs.declared.standing.Standing.TheVariants as stands
@@ -59,15 +58,9 @@ standing_seen stands.Apart = known.Apart
 standing_seen stands.Joined = known.Joined
 standing_seen (stands.Refused policy) = known.Refused policy
 
--- what contracts see of what becomes of a reader and a writer
-abbrev pub becomes_seen : {A : Type 0} → Becomes A → changes.Becomes
-becomes_seen (becoming.Match g locators) = changes.Matches g locators
-becomes_seen (becoming.Unmatch g) = changes.Unmatches g
-becomes_seen (becoming.Refuse g policy) = changes.Refuses g policy
-
 -- what contracts see of a change of a match
 abbrev pub change_seen : {A : Type 0} → MatchChange A → changes.ChangeAt
-change_seen c = record { rank = c.rank; what = becomes_seen c.what }
+change_seen c = record { rank = c.rank; what = match_change_view c.what }
 
 -- what is borrowed, if something is
 abbrev pub lent : {X : Type 0} → Option (Bor X) → Option X

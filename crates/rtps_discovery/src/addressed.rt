@@ -1,8 +1,9 @@
-//! Whom an event of a datagram is for.
+//! Which readers an event of a datagram is for.
 
 ghost use Rattle.std.specs.Prelude.{◌≡◌};
 ghost use Rattle.rtps_discovery.specs.Addressed.{is_discovery, is_for};
 
+use crate::announcer::Announcer;
 use rtps_types::EntityId;
 
 /// No entity in particular (DDSI-RTPS 9.3.1.2).
@@ -39,12 +40,11 @@ pub(crate) const ENTITYID_SEDP_BUILTIN_SUBSCRIPTIONS_DETECTOR: EntityId = Entity
 ]);
 
 /// Whether the events of a writer are discovery's alone: those of the three announcers.
+#[tactic(auto, using(crate::proofs::Announcers::discovers))]
 pub fn is_discovery(writer: EntityId) -> bool
     ensures { result ≡ is_discovery writer }
 {
-    writer == ENTITYID_SPDP_BUILTIN_PARTICIPANT_ANNOUNCER
-        || writer == ENTITYID_SEDP_BUILTIN_PUBLICATIONS_ANNOUNCER
-        || writer == ENTITYID_SEDP_BUILTIN_SUBSCRIPTIONS_ANNOUNCER
+    Announcer::of(writer).is_some()
 }
 
 /// Whether an event with this reader id is for our reader with this entity: the reader id is its

@@ -9,26 +9,15 @@ ghost use Rattle.rtps_discovery.specs.Seen.{change_seen, lent, standing_seen};
 use crate::faults::READER_LIMIT;
 use crate::known::{Ranks, Reader, Writer};
 use crate::standing::{Standing, standing_between};
-use rtps_types::{Guid, Locator, Locators};
+use rtps_types::{Guid, Locator, Locators, MatchChangeKind, PolicyId, WriterFacts};
 use std::alloc::{AllocError, Allocator, Global};
-
-/// What becomes of a reader and a writer.
-#[derive(Debug, Drop)]
-pub enum Becomes<A: Allocator = Global> {
-    /// A match begins; answers to the writer go to these locators.
-    Match(Guid, Locators<A>),
-    /// A match ends.
-    Unmatch(Guid),
-    /// They would be matched, but for the policy with this id (DDS 1.4, 2.3.3).
-    Refuse(Guid, u32),
-}
 
 /// A change of a match of one of our readers (DDS 1.4, 2.2.4.1).
 #[derive(Debug, Drop)]
 pub struct MatchChange<A: Allocator = Global> {
     /// The rank of the reader.
     pub rank: u32,
-    pub what: Becomes<A>,
+    pub what: MatchChangeKind<A>,
 }
 
 /// One of our readers and a writer, and where answers to the writer go.
@@ -50,7 +39,7 @@ fn is_joined(standing: Standing) -> bool
 fn tell_refusal<A: Allocator>(
     pair: Pair<'_>,
     before: Standing,
-    policy: u32,
+    policy: PolicyId,
     changes: &mut Vec<MatchChange<A>, A>,
 ) -> Result<(), AllocError>
     ensures { OnOk result (map change_seen changes.new.items
@@ -61,7 +50,7 @@ fn tell_refusal<A: Allocator>(
     match before {
         Standing::Apart => {}
         Standing::Joined => {
-            let what = Becomes::Unmatch(pair.writer);
+            let what = MatchChangeKind::Unmatch(pair.writer);
             changes.push(MatchChange { rank, what })?;
         }
         Standing::Refused(earlier) => {
@@ -70,7 +59,10 @@ fn tell_refusal<A: Allocator>(
             }
         }
     }
-    let what = Becomes::Refuse(pair.writer, policy);
+    let what = MatchChangeKind::Refuse {
+        writer: pair.writer,
+        policy,
+    };
     changes.push(MatchChange { rank, what })?;
     Ok(())
 }
@@ -89,9 +81,13 @@ fn tell<A: Allocator + Copy>(
 {
     let rank = pair.rank;
     let what = match after {
-        Standing::Apart if is_joined(before) => Becomes::Unmatch(pair.writer),
+        Standing::Apart if is_joined(before) => MatchChangeKind::Unmatch(pair.writer),
         Standing::Joined if !is_joined(before) => {
-            Becomes::Match(pair.writer, Locators::copied(alloc, pair.locators)?)
+            let locators = Locators::copied(alloc, pair.locators)?;
+            MatchChangeKind::Match(WriterFacts {
+                writer: pair.writer,
+                locators,
+            })
         }
         Standing::Apart | Standing::Joined => return Ok(()),
         Standing::Refused(policy) => return tell_refusal(pair, before, policy, changes),

@@ -4,11 +4,13 @@
 
 mod addressed;
 mod announcement;
+mod announcer;
 mod changes;
 mod config;
 mod discovery;
 mod effects;
 mod endpoints;
+mod events;
 mod expire;
 mod faults;
 mod gone;
@@ -32,7 +34,8 @@ pub use addressed::{
     ENTITYID_SEDP_BUILTIN_PUBLICATIONS_ANNOUNCER, ENTITYID_SEDP_BUILTIN_SUBSCRIPTIONS_ANNOUNCER,
     ENTITYID_SPDP_BUILTIN_PARTICIPANT_ANNOUNCER, ENTITYID_UNKNOWN, is_discovery, is_for,
 };
-pub use changes::{Becomes, MatchChange};
+pub use announcer::Announcer;
+pub use changes::MatchChange;
 pub use config::{Config, FixedMatch, ReaderConfig};
 pub use discovery::Discovery;
 pub use effects::DiscoveryEffects;

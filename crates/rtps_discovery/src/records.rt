@@ -13,13 +13,9 @@ ghost use Rattle.rtps_discovery.specs.Known.{Known};
 ghost use Rattle.rtps_discovery.specs.Records as records;
 ghost use Rattle.rtps_discovery.specs.Seen.{announcement_seen, change_seen};
 
-use crate::addressed::{
-    ENTITYID_SEDP_BUILTIN_PUBLICATIONS_ANNOUNCER, ENTITYID_SEDP_BUILTIN_PUBLICATIONS_DETECTOR,
-    ENTITYID_SEDP_BUILTIN_SUBSCRIPTIONS_ANNOUNCER, ENTITYID_SEDP_BUILTIN_SUBSCRIPTIONS_DETECTOR,
-    ENTITYID_SPDP_BUILTIN_PARTICIPANT_ANNOUNCER, ENTITYID_SPDP_BUILTIN_PARTICIPANT_DETECTOR,
-    is_for,
-};
+use crate::addressed::{ENTITYID_SPDP_BUILTIN_PARTICIPANT_DETECTOR, is_for};
 use crate::announcement::{Announcement, participant_said, reader_said, writer_said};
+use crate::announcer::announces_writers;
 use crate::changes::MatchChange;
 use crate::effects::DiscoveryEffects;
 use crate::held::Held;
@@ -57,24 +53,11 @@ fn endpoint_in<'a, A: Allocator>(
         ≡ records.endpoint_in source writer (change_view change.now) }
 {
     let said = said_in(ENDPOINT_GUID, change.info, change.payload.as_slice())?;
-    if writer == ENTITYID_SEDP_BUILTIN_PUBLICATIONS_ANNOUNCER {
+    if announces_writers(writer) {
         writer_said(source, change.info.hash, said)
     } else {
         reader_said(source, change.info.hash, said)
     }
-}
-
-/// The builtin reader of ours that an announcer announces to, if it is one of endpoints.
-fn detector_of(writer: EntityId) -> Option<EntityId>
-    ensures { result ≡ records.detector_of writer }
-{
-    if writer == ENTITYID_SEDP_BUILTIN_PUBLICATIONS_ANNOUNCER {
-        return Some(ENTITYID_SEDP_BUILTIN_PUBLICATIONS_DETECTOR);
-    }
-    if writer == ENTITYID_SEDP_BUILTIN_SUBSCRIPTIONS_ANNOUNCER {
-        return Some(ENTITYID_SEDP_BUILTIN_SUBSCRIPTIONS_DETECTOR);
-    }
-    None
 }
 
 impl<A: Allocator + Copy> Held<A> {
@@ -143,7 +126,7 @@ impl<A: Allocator + Copy> Held<A> {
 
     /// Applies what an event of the participants' announcer says, and gives what our readers hear
     /// of it.
-    fn hear_participant(
+    pub fn hear_participant(
         &mut self,
         alloc: A,
         event: &Event<'_>,
@@ -165,7 +148,7 @@ impl<A: Allocator + Copy> Held<A> {
 
     /// Gives an event to the match with its writer, an announcer of endpoints, if there is one; and
     /// applies what the changes say that are ready then.
-    fn hear_announcer(
+    pub fn hear_announcer(
         &mut self,
         alloc: A,
         event: &Event<'_>,
@@ -194,28 +177,5 @@ impl<A: Allocator + Copy> Held<A> {
             changes,
             answer: effects.answer,
         })
-    }
-
-    /// Takes an event in.
-    pub fn take(&mut self, alloc: A, event: &Event<'_>) -> Result<DiscoveryEffects<A>, AllocError>
-        ensures known { (k : Known) → IsKnown k (kept self.old)
-            → OnOk result (IsKnown (records.known_by k (view event.now)) (kept self.new)) }
-        ensures effects { (k : Known) → IsKnown k (kept self.old) → IfOk result (AreHeard
-            (records.changes_by k (view event.now)) (records.answered k (view event.now))) }
-    {
-        if event.writer == ENTITYID_SPDP_BUILTIN_PARTICIPANT_ANNOUNCER {
-            let changes = self.hear_participant(alloc, event)?;
-            return Ok(DiscoveryEffects {
-                changes,
-                answer: None,
-            });
-        }
-        let Some(reader) = detector_of(event.writer) else {
-            return Ok(DiscoveryEffects::none(alloc));
-        };
-        if !is_for(event.reader, reader) {
-            return Ok(DiscoveryEffects::none(alloc));
-        }
-        self.hear_announcer(alloc, event)
     }
 }

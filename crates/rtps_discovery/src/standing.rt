@@ -6,6 +6,7 @@ ghost use Rattle.rtps_discovery.specs.Seen.{lent, standing_seen};
 
 use crate::known::{Reader, Writer};
 use dds_qos::{first_fault, share_partition};
+use rtps_types::PolicyId;
 use std::alloc::Allocator;
 
 /// What a reader and a writer have to do with each other.
@@ -15,8 +16,8 @@ pub(crate) enum Standing {
     Apart,
     /// They are matched.
     Joined,
-    /// They would be, but for the policy with this id.
-    Refused(u32),
+    /// They would be, but for this policy.
+    Refused(PolicyId),
 }
 
 /// Whether they have the same topic, the same type and a partition in common.

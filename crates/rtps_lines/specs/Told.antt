@@ -5,11 +5,13 @@ use Rattle.std.specs.Fmt.{decimal}
 use Rattle.rtps_types.specs.declared.identity.Guid.{Guid}
 use Rattle.rtps_types.specs.declared.locator.Locator.{Locator}
 use Rattle.rtps_types.specs.declared.place.Place.{Place}
+use Rattle.rtps_types.specs.declared.policy.PolicyId.{PolicyId}
 use Rattle.dds_topic.specs.Answer.{code_of}
 use Rattle.rtps_reader.specs.declared.body.Body.{Body}
 use Rattle.rtps_reader.specs.declared.body.Body.TheVariants as body
 use Rattle.rtps_reader.specs.declared.status.Status.{Status}
 use Rattle.rtps_types.specs.Number.{value_of}
+use Rattle.rtps_types.specs.Policy.{policy_id}
 use Rattle.rtps_reader.specs.declared.notice.Notice.{Notice}
 use Rattle.rtps_reader.specs.declared.notice.NoticeKind.{NoticeKind}
 use Rattle.rtps_reader.specs.declared.notice.NoticeKind.TheVariants.{Sample, Matched, Unmatched, Incompatible, Lost}
@@ -33,7 +35,7 @@ abbrev pub notice_text : {M : Type 0} → (M → List ℕ) → Guid → NoticeKi
 notice_text text w (Sample n time b) = codes "sample" then guid_text w then decimal (value_of n) then time_text time then sample_text text b
 notice_text text w Matched = codes "matched" then guid_text w
 notice_text text w Unmatched = codes "unmatched" then guid_text w
-notice_text text w (Incompatible policy) = codes "incompatible" then guid_text w then decimal policy
+notice_text text w (Incompatible policy) = codes "incompatible" then guid_text w then decimal (policy_id policy)
 notice_text text w (Lost count) = codes "lost" then guid_text w then decimal count
 
 -- a notice of the reader of a rank, its values by their texts
@@ -67,9 +69,9 @@ abbrev pub match_line : ℕ → Guid → List ℕ
 match_line rank w = codes "match" then decimal rank then (guid_text w ++ codes "\n")
 
 -- a policy by its id; a dash for none
-abbrev pub policy_text : Option ℕ → List ℕ
+abbrev pub policy_text : Option PolicyId → List ℕ
 policy_text None = codes "-"
-policy_text (Some policy) = decimal policy
+policy_text (Some policy) = decimal (policy_id policy)
 
 -- how many matches there were and are, and how many writers offer too little, with the policy that
 -- was reported last

@@ -59,7 +59,7 @@ fn push_kind<C: TextCatalog, A: Allocator, B: Allocator + Copy>(
         NoticeKind::Matched => push_about(out, last, "matched", writer),
         NoticeKind::Unmatched => push_about(out, last, "unmatched", writer),
         NoticeKind::Incompatible { policy } => {
-            push_counted(out, last, "incompatible", writer, u64::from(*policy))
+            push_counted(out, last, "incompatible", writer, u64::from(policy.id()))
         }
         NoticeKind::Lost { count } => push_counted(out, last, "lost", writer, *count),
     }

@@ -7,7 +7,7 @@ ghost use Rattle.rtps_lines.specs.Told.{match_line, matches_text, policy_text, s
 use crate::guid::push_guid;
 use rtps_ascii::{push_number, push_octet, push_word};
 use rtps_reader::Status;
-use rtps_types::Guid;
+use rtps_types::{Guid, PolicyId};
 use std::alloc::{AllocError, Allocator};
 
 /// Adds the line of a match between the reader of this rank and a writer, with its end.
@@ -61,12 +61,12 @@ fn push_matches<A: Allocator>(out: &mut Vec<u8, A>, status: &Status) -> Result<(
 }
 
 /// Adds a policy by its id, or a dash for none.
-fn push_policy<A: Allocator>(out: &mut Vec<u8, A>, policy: Option<u32>) -> Result<(), AllocError>
+fn push_policy<A: Allocator>(out: &mut Vec<u8, A>, policy: Option<PolicyId>) -> Result<(), AllocError>
     ensures ok { OnOk result (out.new.items ≡ out.old.items ++ policy_text policy) }
     ensures keeps { StartsWith out.new.items out.old.items }
 {
     let Some(policy) = policy else {
         return push_octet(out, b'-');
     };
-    push_number(out, u64::from(policy))
+    push_number(out, u64::from(policy.id()))
 }

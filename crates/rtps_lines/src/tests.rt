@@ -3,7 +3,7 @@
 use crate::{LastLine, push_answer, push_match, push_notice, push_status};
 use dds_topic::{Raw, RawValue};
 use rtps_reader::{Notice, NoticeKind, Status};
-use rtps_types::{EntityId, Guid, GuidPrefix, Locator, Place};
+use rtps_types::{EntityId, Guid, GuidPrefix, Locator, Place, PolicyId};
 use std::alloc::{AllocError, Global};
 use std::test::Fail;
 
@@ -51,7 +51,9 @@ fn prints_what_is_reported_of_matches(rt: HostRuntime) -> Result<(), Fail> {
             "4294967296:2 reader 3 unmatched 0102030405060708090a0b0c000001c2\n",
         ),
         (
-            NoticeKind::Incompatible { policy: 11 },
+            NoticeKind::Incompatible {
+                policy: PolicyId::Reliability,
+            },
             "4294967296:2 reader 3 incompatible 0102030405060708090a0b0c000001c2 11\n",
         ),
         (
@@ -135,7 +137,7 @@ fn prints_matches_and_statuses(rt: HostRuntime) -> Result<(), Fail> {
         matched_total: 4,
         matched_now: 3,
         incompatible_total: 2_147_483_647,
-        last_policy: Some(23),
+        last_policy: Some(PolicyId::DestinationOrder),
         lost_total: 5,
         samples: 60,
     };
@@ -151,7 +153,7 @@ fn prints_matches_and_statuses(rt: HostRuntime) -> Result<(), Fail> {
     push_status(&mut out, 12, &quiet)?;
     let lines = "match 0 0102030405060708090a0b0c000001c2
 match 12 0102030405060708090a0b0c000001c2
-status 0 4 3 2147483647 23 5 60
+status 0 4 3 2147483647 12 5 60
 status 12 4 3 0 - 5 60
 ";
     assert_eq!(rt; out.as_slice(), lines.as_bytes());

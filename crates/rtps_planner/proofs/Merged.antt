@@ -15,11 +15,11 @@ use Rattle.dds_topic.specs.Decoding.{Decoding}
 use Rattle.rtps_proxy.specs.Replies.{ReplyView}
 use Rattle.rtps_reader.specs.declared.notice.Notice.{Notice}
 use Rattle.rtps_reader.specs.Reader.{Reader, placed, reader_after, reader_run, sends, tells}
-use Rattle.rtps_reader.specs.Steps.{StepView, asks_of}
+use Rattle.rtps_reader.specs.Steps.{Changes, StepView, asks_of}
 use Rattle.rtps_run.specs.Presentation.{not_after}
 use Rattle.rtps_run.specs.Seen.{reader_count}
 use Rattle.rtps_run.specs.World as world
-use Rattle.rtps_run.specs.World.{ReportView, NoticeOf, World, addressed_to, answer_put, changes_for, discovery_puts, doing_of, doings, known_after_event, puts_at, puts_below, puts_run, world_after}
+use Rattle.rtps_run.specs.World.{ReportView, NoticeOf, World, addressed_to, answer_put, changes_for, discovery_puts, doings, known_after_event, puts_at, puts_below, puts_run, world_after}
 use Rattle.rtps_run.proofs.Routed.{readers_stay}
 use Rattle.rtps_run.proofs.Matched.{told_run}
 use Rattle.rtps_run.proofs.OneOrder.{filter_none}
@@ -137,27 +137,27 @@ module _ {M : Type 0} (decoding : Decoding M) (place : Place) (rank : ℕ) where
   IsSplit r ds = puts_run decoding place rank r ds ≡ map (NoticeOf rank) (told_run decoding place r ds) ++ map (world.sent_by rank) (sent_run place r ds)
 
   -- a change of what is known is not answered
-  unanswered : (r : Reader) (cs : List ChangeAt) → sent_run place r (map (λ (c : ChangeAt). doing_of c.what) cs) ≡ []
+  unanswered : (r : Reader) (cs : List ChangeAt) → sent_run place r (map (λ (c : ChangeAt). Changes c.what) cs) ≡ []
   unanswered r [] = refl
-  unanswered r (c ∷ cs) = ap (λ l. l ++ sent_run place (reader_after r (doing_of c.what)) (map (λ (c : ChangeAt). doing_of c.what) cs)) (no_answer decoding place rank r c.what) ∙ unanswered (reader_after r (doing_of c.what)) cs
+  unanswered r (c ∷ cs) = ap (λ l. l ++ sent_run place (reader_after r (Changes c.what)) (map (λ (c : ChangeAt). Changes c.what) cs)) (no_answer decoding place rank r c.what) ∙ unanswered (reader_after r (Changes c.what)) cs
 
   heard_alone : (r : Reader) (cs : List ChangeAt)
-      → puts_run decoding place rank r (map (λ (c : ChangeAt). doing_of c.what) cs) ≡ map (NoticeOf rank) (told_run decoding place r (map (λ (c : ChangeAt). doing_of c.what) cs))
+      → puts_run decoding place rank r (map (λ (c : ChangeAt). Changes c.what) cs) ≡ map (NoticeOf rank) (told_run decoding place r (map (λ (c : ChangeAt). Changes c.what) cs))
   heard_alone r [] = refl
   heard_alone r (c ∷ cs) =
-      let d = doing_of c.what in
-      let rest = map (λ (c : ChangeAt). doing_of c.what) cs in
+      let d = Changes c.what in
+      let rest = map (λ (c : ChangeAt). Changes c.what) cs in
       let told = tells decoding r place d in
       ap (λ ss. (map (NoticeOf rank) told ++ map (world.sent_by rank) ss) ++ puts_run decoding place rank (reader_after r d) rest) (no_answer decoding place rank r c.what)
       ∙ ap (λ l. l ++ puts_run decoding place rank (reader_after r d) rest) (append-nil (map (NoticeOf rank) told))
       ∙ ap (λ l. map (NoticeOf rank) told ++ l) (heard_alone (reader_after r d) cs)
       ∙ sym (map-append (NoticeOf rank) told (told_run decoding place (reader_after r d) rest))
 
-  changes_split : (r : Reader) (cs : List ChangeAt) → IsSplit r (map (λ (c : ChangeAt). doing_of c.what) cs)
+  changes_split : (r : Reader) (cs : List ChangeAt) → IsSplit r (map (λ (c : ChangeAt). Changes c.what) cs)
   changes_split r cs =
       heard_alone r cs
-      ∙ sym (append-nil (map (NoticeOf rank) (told_run decoding place r (map (λ (c : ChangeAt). doing_of c.what) cs))))
-      ∙ ap (λ ss. map (NoticeOf rank) (told_run decoding place r (map (λ (c : ChangeAt). doing_of c.what) cs)) ++ map (world.sent_by rank) ss) (sym (unanswered r cs))
+      ∙ sym (append-nil (map (NoticeOf rank) (told_run decoding place r (map (λ (c : ChangeAt). Changes c.what) cs))))
+      ∙ ap (λ ss. map (NoticeOf rank) (told_run decoding place r (map (λ (c : ChangeAt). Changes c.what) cs)) ++ map (world.sent_by rank) ss) (sym (unanswered r cs))
 
   one_split : (r : Reader) (d : StepView) → IsSplit r (d ∷ [])
   one_split r d =

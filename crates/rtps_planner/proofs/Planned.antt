@@ -10,21 +10,22 @@ use Rattle.std.proofs.lemmas.List.{drop-drop, get_or_default, get_or-replicate, 
 use Rattle.std.proofs.lemmas.List.Elements.{filter-append}
 use Rattle.std.proofs.lemmas.Bool.Decides.{eqb_tells}
 use Rattle.std.proofs.lemmas.Option.{slice_get-get_or}
+use Rattle.rtps_types.specs.MatchChange.{match_change_view}
 use Rattle.rtps_types.specs.declared.place.Place.{Place}
 use Rattle.rtps_receiver.specs.Events.{EventView}
-use Rattle.rtps_discovery.specs.declared.changes.Becomes.{Becomes}
+use Rattle.rtps_types.specs.declared.match_change.MatchChangeKind.{MatchChangeKind}
 use Rattle.rtps_discovery.specs.declared.changes.MatchChange.{MatchChange}
 use Rattle.rtps_discovery.specs.Changes.{ChangeAt}
-use Rattle.rtps_discovery.specs.Seen.{becomes_seen, change_seen}
+use Rattle.rtps_discovery.specs.Seen.{change_seen}
 use Rattle.rtps_discovery.specs.Addressed.{is_discovery, writer_of}
 use Rattle.rtps_discovery.specs.Kept.{matched_ranks}
 use Rattle.rtps_discovery.specs.Known.{Known, Wish, is_fixed, is_matched, reader_at, writer_at}
 use Rattle.rtps_discovery.specs.Records.{answered, changes_by}
 use Rattle.rtps_reader.specs.Reader.{placed}
-use Rattle.rtps_reader.specs.Steps.{asks_of}
+use Rattle.rtps_reader.specs.Steps.{Changes, asks_of}
 use Rattle.rtps_run.specs.Steps.{ReaderStep, step_by}
 use Rattle.rtps_run.proofs.Hearing.{announced_doings, asked_from}
-use Rattle.rtps_run.specs.World.{addressed_to, changes_for, doing_of, doings}
+use Rattle.rtps_run.specs.World.{addressed_to, changes_for, doings}
 use Rattle.rtps_planner.specs.declared.steps.Burst.{Burst}
 use Rattle.rtps_planner.specs.declared.steps.PlannedStep.{PlannedStep}
 use Rattle.rtps_planner.specs.declared.steps.PlannedStep.TheVariants as step
@@ -106,28 +107,28 @@ changes_asked_at place changes rank = map (λ what. (place, what)) (changes_for 
 -- those after a change, which are of the rank where the test says so
 abbrev front : {A : Type 0} → Place → ℕ → Bool → MatchChange A → List (MatchChange A) → Job
 front place rank b d xs =
-    map (λ what. (place, what)) (map (λ (c : ChangeAt). doing_of c.what)
+    map (λ what. (place, what)) (map (λ (c : ChangeAt). Changes c.what)
     (if b then change_seen d ∷ filter (λ (c : ChangeAt). c.rank == rank) (map change_seen xs) else filter (λ (c : ChangeAt). c.rank == rank) (map change_seen xs)))
 
 -- one change more
 pub change_more : {A : Type 0} (es : List EventView) (e : EventView) (event : ℕ) (changes : List (MatchChange A)) (c : MatchChange A) (s : PlannedStep A) (rank : ℕ)
-    → step_seen es s ≡ (e.place, doing_of (change_seen c).what) ∷ []
+    → step_seen es s ≡ (e.place, Changes (change_seen c).what) ∷ []
     → changes_asked_at e.place changes rank ++ (if c.rank == rank then step_seen es s else []) ≡ changes_asked_at e.place (changes ++ c ∷ []) rank
 change_more {A} es e event [] c s rank is = by_test (c.rank == rank)
   where
-    by_test : (b : Bool) → (if b then step_seen es s else []) ≡ map (λ what. (e.place, what)) (map (λ (c : ChangeAt). doing_of c.what) (if b then change_seen c ∷ [] else []))
+    by_test : (b : Bool) → (if b then step_seen es s else []) ≡ map (λ what. (e.place, what)) (map (λ (c : ChangeAt). Changes c.what) (if b then change_seen c ∷ [] else []))
     by_test true = is
     by_test false = refl
 change_more {A} es e event (d ∷ ds) c s rank is = by_test (d.rank == rank) (change_more es e event ds c s rank is)
   where
     by_test : (b : Bool) → changes_asked_at e.place ds rank ++ (if c.rank == rank then step_seen es s else []) ≡ changes_asked_at e.place (ds ++ c ∷ []) rank → front e.place rank b d ds ++ (if c.rank == rank then step_seen es s else []) ≡ front e.place rank b d (ds ++ c ∷ [])
-    by_test true rest = ap (λ l. (e.place, doing_of (change_seen d).what) ∷ l) rest
+    by_test true rest = ap (λ l. (e.place, Changes (change_seen d).what) ∷ l) rest
     by_test false rest = rest
 
 -- what a step of one change asks
-pub hears_one : {A : Type 0} (es : List EventView) (e : EventView) (event : ℕ) (what : Becomes A) → slice_get es event ≡ Some e
-    → step_seen es (step.Change event what) ≡ (e.place, doing_of (becomes_seen what)) ∷ []
-hears_one es e event what is = ap (λ (o : Option EventView). option_to_list (option_map (λ (d : EventView). (d.place, doing_of (becomes_seen what))) o)) is
+pub hears_one : {A : Type 0} (es : List EventView) (e : EventView) (event : ℕ) (what : MatchChangeKind A) → slice_get es event ≡ Some e
+    → step_seen es (step.Change event what) ≡ (e.place, Changes (match_change_view what)) ∷ []
+hears_one es e event what is = ap (λ (o : Option EventView). option_to_list (option_map (λ (d : EventView). (d.place, Changes (match_change_view what))) o)) is
 
 -- ---- a burst, for the readers of some ranks
 

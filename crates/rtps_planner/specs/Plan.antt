@@ -4,15 +4,15 @@ use Rattle.std.specs.List.{AllByRecursion, flat_map, slice_get}
 use Rattle.std.specs.Str.{bytes_eq}
 use Rattle.std.specs.Option.{option_map}
 use Rattle.std.specs.declared.vec.Vec.{Vec}
+use Rattle.rtps_types.specs.MatchChange.{match_change_view}
 use Rattle.rtps_types.specs.declared.identity.EntityId.{EntityId}
 use Rattle.rtps_types.specs.declared.identity.Guid.{Guid}
 use Rattle.rtps_receiver.specs.Events.{EventView}
 use Rattle.rtps_discovery.specs.Addressed.{is_for, writer_of}
 use Rattle.rtps_discovery.specs.Changes as changes
 use Rattle.rtps_discovery.specs.Known.{Known, Wish, reader_at}
-use Rattle.rtps_discovery.specs.Seen.{becomes_seen}
-use Rattle.rtps_reader.specs.Steps.{StepView, asks_of}
-use Rattle.rtps_run.specs.World.{AnswerView, doing_of}
+use Rattle.rtps_reader.specs.Steps.{Changes, StepView, asks_of}
+use Rattle.rtps_run.specs.World.{AnswerView}
 use Rattle.rtps_run.specs.Outcome.{answer_view}
 use Rattle.rtps_proxy.specs.Matches.{same_guid}
 use Rattle.rtps_proxy.specs.Replies.{ReplyView}
@@ -35,14 +35,14 @@ abbrev pub events_at : List EventView → ℕ → ℕ → List EventView
 events_at es first more = take (more + 1) (drop first es)
 
 -- to hear what becomes of a match, at the event of an index; nothing where there is no such event
-abbrev pub heard_at : List EventView → ℕ → changes.Becomes → Job
+abbrev pub heard_at : List EventView → ℕ → MatchChange → Job
 heard_at es event what =
-    option_to_list (option_map (λ e. (e.place, doing_of what)) (slice_get es event))
+    option_to_list (option_map (λ e. (e.place, Changes what)) (slice_get es event))
 
 -- what a step asks, by the events that it points into; nothing where there are none
 abbrev pub step_seen : {A : Type 0} → List EventView → PlannedStep A → Job
 step_seen es (step.TakeIn first more) = map taken_in (events_at es first more)
-step_seen es (step.Change event what) = heard_at es event (becomes_seen what)
+step_seen es (step.Change event what) = heard_at es event (match_change_view what)
 
 -- what the steps of a job ask, one after the other
 abbrev pub steps_seen : {A : Type 0} → List EventView → List (PlannedStep A) → Job

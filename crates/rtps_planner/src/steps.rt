@@ -15,10 +15,10 @@ ghost use Rattle.rtps_run.specs.World.{changes_for};
 ghost use Rattle.rtps_planner.specs.Plan.{AreFrom, Grow, IsPlanned, burst_at, discovery_sending, events_at, is_named, step_seen, steps_seen, taken_in};
 ghost use Rattle.rtps_planner.specs.declared.steps.PlannedStep.TheVariants as planned;
 
-use rtps_discovery::{Becomes, Discovery, MatchChange, Reader, is_for};
+use rtps_discovery::{Discovery, MatchChange, Reader, is_for};
 use rtps_receiver::Event;
 use rtps_run::Answer;
-use rtps_types::{EntityId, Guid, Place, Reply};
+use rtps_types::{EntityId, Guid, MatchChangeKind, Place, Reply};
 use std::alloc::{AllocError, Allocator, Global};
 
 /// For so many steps room is made at first.
@@ -29,8 +29,8 @@ const FIRST_ROOM: usize = 8;
 pub enum PlannedStep<A: Allocator = Global> {
     /// The reader takes in the event at an index, and so many more that follow it there.
     TakeIn { first: usize, more: usize },
-    /// The reader hears what becomes of a match, which the event at this index announces.
-    Change { event: usize, what: Becomes<A> },
+    /// A match changes, as the event at this index announces.
+    Change { event: usize, what: MatchChangeKind<A> },
 }
 
 /// Puts a step after the others. Where the list is full, room is made for four times as many, since

@@ -4,6 +4,7 @@ use Rattle.std.specs.Prelude.{filter}
 use Rattle.std.proofs.lemmas.Bool.Decides.{nat_tests}
 use Rattle.std.proofs.lemmas.List.{append-nil, map-append}
 use Rattle.std.proofs.lemmas.List.Sums.{sum_by-append}
+use Rattle.rtps_types.specs.declared.policy.PolicyId.{PolicyId}
 use Rattle.rtps_types.specs.declared.identity.Guid.{Guid}
 use Rattle.rtps_types.specs.declared.place.Place.{Place}
 use Rattle.rtps_proxy.specs.History.{MatchEvent, ChangeView}
@@ -35,7 +36,7 @@ count_then test (n ∷ a) b =
 pub lost_then : {M : Type 0} (a b : List (Notice M)) → lost_by (a ++ b) ≡ lost_by a + lost_by b
 lost_then a b = ap sum (map-append (λ n. lost_in n.what) a b) ∙ sum_by-append (λ n. n) (map (λ n. lost_in n.what) a) (map (λ n. lost_in n.what) b)
 
-append_twice : (p q r : List ℕ) → (p ++ q) ++ r ≡ p ++ (q ++ r)
+append_twice : (p q r : List PolicyId) → (p ++ q) ++ r ≡ p ++ (q ++ r)
 append_twice [] q r = refl
 append_twice (x ∷ p) q r = ap (λ l. x ∷ l) (append_twice p q r)
 
@@ -44,7 +45,7 @@ refused_then [] b = refl
 refused_then (n ∷ a) b = rw (refused_then a b, append_twice (refused_in n.what) (refused_by a) (refused_by b)) refl
 
 -- what notices add: b matches that began, these refusals, n losses and k samples
-pub record Adds {M : Type 0} (b : ℕ) (rs : List ℕ) (n k : ℕ) (more : List (Notice M)) : Type 0 where
+pub record Adds {M : Type 0} (b : ℕ) (rs : List PolicyId) (n k : ℕ) (more : List (Notice M)) : Type 0 where
   pub beginnings : count_of is_beginning more ≡ b
   pub refused : refused_by more ≡ rs
   pub lost : lost_by more ≡ n
@@ -86,14 +87,14 @@ adds_match M place w = record { beginnings = refl; refused = refl; lost = refl; 
 pub adds_end : (M : Type 0) (place : Place) (w : Guid) → Adds {M = M} 0 [] 0 0 (notice_of place w Unmatched)
 adds_end M place w = record { beginnings = refl; refused = refl; lost = refl; samples = refl }
 
-pub adds_refusal : (M : Type 0) (place : Place) (w : Guid) (policy : ℕ) → Adds {M = M} 0 (policy ∷ []) 0 0 (notice_of place w (Incompatible policy))
+pub adds_refusal : (M : Type 0) (place : Place) (w : Guid) (policy : PolicyId) → Adds {M = M} 0 (policy ∷ []) 0 0 (notice_of place w (Incompatible policy))
 adds_refusal M place w policy = record { beginnings = refl; refused = refl; lost = refl; samples = refl }
 
--- counts grow by these, whatever was counted
-pub record GrowBy (b : ℕ) (rs : List ℕ) (n k : ℕ) (old new : Counts) : Type 0 where
+-- counts grow by so much, whatever was counted
+pub record GrowBy (b : ℕ) (rs : List PolicyId) (n k : ℕ) (old new : Counts) : Type 0 where
   pub begun : (x : ℕ) → old.matched_total ≡ capped x → new.matched_total ≡ capped (x + b)
-  pub refused : (ps : List ℕ) → old.incompatible_total ≡ capped (length ps) → new.incompatible_total ≡ capped (length (ps ++ rs))
-  pub last : (ps : List ℕ) → old.last_policy ≡ last_of ps → new.last_policy ≡ last_of (ps ++ rs)
+  pub refused : (ps : List PolicyId) → old.incompatible_total ≡ capped (length ps) → new.incompatible_total ≡ capped (length (ps ++ rs))
+  pub last : (ps : List PolicyId) → old.last_policy ≡ last_of ps → new.last_policy ≡ last_of (ps ++ rs)
   pub lost : (x : ℕ) → old.lost_total ≡ capped x → new.lost_total ≡ capped (x + n)
   pub samples : (x : ℕ) → old.samples ≡ capped x → new.samples ≡ capped (x + k)
 
@@ -104,22 +105,22 @@ still t x is = omega (arith, is)
 more_of : (t x n : ℕ) → t ≡ capped x → capped (t + n) ≡ capped (x + n)
 more_of t x n is = omega (arith, is)
 
-none_refused : (t : ℕ) (ps : List ℕ) → t ≡ capped (length ps) → t ≡ capped (length (ps ++ []))
-none_refused t ps is = is ∙ ap (λ (l : List ℕ). capped (length l)) (sym (append-nil ps))
+none_refused : (t : ℕ) (ps : List PolicyId) → t ≡ capped (length ps) → t ≡ capped (length (ps ++ []))
+none_refused t ps is = is ∙ ap (λ (l : List PolicyId). capped (length l)) (sym (append-nil ps))
 
-same_last : (p : Option ℕ) (ps : List ℕ) → p ≡ last_of ps → p ≡ last_of (ps ++ [])
+same_last : (p : Option PolicyId) (ps : List PolicyId) → p ≡ last_of ps → p ≡ last_of (ps ++ [])
 same_last p ps is = is ∙ ap last_of (sym (append-nil ps))
 
-length-push : (ps : List ℕ) (p : ℕ) → length (ps ++ p ∷ []) ≡ length ps + 1
+length-push : (ps : List PolicyId) (p : PolicyId) → length (ps ++ p ∷ []) ≡ length ps + 1
 length-push [] p = refl
 length-push (q ∷ ps) p = let rest = length-push ps p in omega arith
 
-last_push : (ps : List ℕ) (p : ℕ) → Some p ≡ last_of (ps ++ p ∷ [])
+last_push : (ps : List PolicyId) (p : PolicyId) → Some p ≡ last_of (ps ++ p ∷ [])
 last_push [] p = refl
 last_push (q ∷ []) p = refl
 last_push (q ∷ r ∷ ps) p = last_push (r ∷ ps) p
 
-one_refused : (t : ℕ) (ps : List ℕ) (p : ℕ) → t ≡ capped (length ps) → capped (t + 1) ≡ capped (length (ps ++ p ∷ []))
+one_refused : (t : ℕ) (ps : List PolicyId) (p : PolicyId) → t ≡ capped (length ps) → capped (t + 1) ≡ capped (length (ps ++ p ∷ []))
 one_refused t ps p is = more_of t (length ps) 1 is ∙ ap capped (sym (length-push ps p))
 
 pub grow_event : (c : Counts) (n k : ℕ) → GrowBy 0 [] n k c (counts_after c n k)
@@ -131,11 +132,11 @@ grow_none c = record { begun = still c.matched_total; refused = none_refused c.i
 pub grow_match : (c : Counts) → GrowBy 1 [] 0 0 c (record c { matched_total = capped (c.matched_total + 1) })
 grow_match c = record { begun = λ x is. more_of c.matched_total x 1 is; refused = none_refused c.incompatible_total; last = same_last c.last_policy; lost = still c.lost_total; samples = still c.samples }
 
-pub grow_refusal : (c : Counts) (policy : ℕ) → GrowBy 0 (policy ∷ []) 0 0 c (record c { incompatible_total = capped (c.incompatible_total + 1); last_policy = Some policy })
+pub grow_refusal : (c : Counts) (policy : PolicyId) → GrowBy 0 (policy ∷ []) 0 0 c (record c { incompatible_total = capped (c.incompatible_total + 1); last_policy = Some policy })
 grow_refusal c policy = record { begun = still c.matched_total; refused = λ ps is. one_refused c.incompatible_total ps policy is; last = λ ps is. last_push ps policy; lost = still c.lost_total; samples = still c.samples }
 
 -- a status by its parts
-abbrev of_parts : ℕ → ℕ → ℕ → Option ℕ → ℕ → ℕ → Status
+abbrev of_parts : ℕ → ℕ → ℕ → Option PolicyId → ℕ → ℕ → Status
 of_parts total now refused last lost samples = record {
   matched_total = total;
   matched_now = now;
@@ -145,7 +146,7 @@ of_parts total now refused last lost samples = record {
   samples = samples;
 }
 
-same_parts : (t t1 m m1 i i1 : ℕ) (p p1 : Option ℕ) (l l1 s s1 : ℕ) → t ≡ t1 → m ≡ m1 → i ≡ i1 → p ≡ p1 → l ≡ l1 → s ≡ s1 → of_parts t m i p l s ≡ of_parts t1 m1 i1 p1 l1 s1
+same_parts : (t t1 m m1 i i1 : ℕ) (p p1 : Option PolicyId) (l l1 s s1 : ℕ) → t ≡ t1 → m ≡ m1 → i ≡ i1 → p ≡ p1 → l ≡ l1 → s ≡ s1 → of_parts t m i p l s ≡ of_parts t1 m1 i1 p1 l1 s1
 same_parts t t1 m m1 i i1 p p1 l l1 s s1 et em ei ep el es = rw (et, em, ei, ep, el, es) refl
 
 sum_of : (a b c n : ℕ) → c ≡ a + b → b ≡ n → a + n ≡ c
@@ -155,14 +156,14 @@ fixed_and : (f f1 a b c n : ℕ) → f1 ≡ f → c ≡ a + b → b ≡ n → (f
 fixed_and f f1 a b c n same sum is = omega (arith, same, sum, is)
 
 -- the status counts these notices too
-pub status_adds : {M : Type 0} (r r1 : Reader) (given added : List (Notice M)) (old new : Counts) (before now b : ℕ) (rs : List ℕ) (n k : ℕ) → r1.fixed ≡ r.fixed → now ≡ length r1.matches
+pub status_adds : {M : Type 0} (r r1 : Reader) (given added : List (Notice M)) (old new : Counts) (before now b : ℕ) (rs : List PolicyId) (n k : ℕ) → r1.fixed ≡ r.fixed → now ≡ length r1.matches
     → Adds b rs n k added → GrowBy b rs n k old new → status_by old before ≡ status_of r given → status_by new now ≡ status_of r1 (given ++ added)
 status_adds r r1 given added old new before now b rs n k fixed count adds grow is =
     let refused : refused_by given ++ rs ≡ refused_by (given ++ added) = sym (refused_then given added ∙ ap (λ l. refused_by given ++ l) adds.refused) in
     same_parts new.matched_total _ now _ new.incompatible_total _ new.last_policy _ new.lost_total _ new.samples _
     (grow.begun (r.fixed + count_of is_beginning given) (ap (λ (s : Status). s.matched_total) is) ∙ ap capped (fixed_and r.fixed r1.fixed _ _ _ b fixed (count_then is_beginning given added) adds.beginnings))
     count
-    (grow.refused (refused_by given) (ap (λ (s : Status). s.incompatible_total) is) ∙ ap (λ (l : List ℕ). capped (length l)) refused)
+    (grow.refused (refused_by given) (ap (λ (s : Status). s.incompatible_total) is) ∙ ap (λ (l : List PolicyId). capped (length l)) refused)
     (grow.last (refused_by given) (ap (λ (s : Status). s.last_policy) is) ∙ ap last_of refused)
     (grow.lost (lost_by given) (ap (λ (s : Status). s.lost_total) is) ∙ ap capped (sum_of _ _ _ n (lost_then given added) adds.lost))
     (grow.samples (count_of is_sample given) (ap (λ (s : Status). s.samples) is) ∙ ap capped (sum_of _ _ _ k (count_then is_sample given added) adds.samples))

@@ -11,6 +11,7 @@ use Rattle.std.specs.declared.cmp.Ordering.{Ordering}
 use Rattle.std.specs.declared.cmp.Ordering.TheVariants.{Less, Equal, Greater}
 use Rattle.std.proofs.lemmas.Cmp.{nat_list_cmp_total, on_total, then_total}
 use Rattle.std.proofs.lemmas.List.Kept.{IsStrictlySortedBy-filter}
+use Rattle.rtps_types.specs.MatchChange.{Matches, Unmatches, Refuses}
 use Rattle.rtps_types.specs.Order.{guid_order}
 use Rattle.rtps_types.specs.declared.identity.EntityId.{EntityId}
 use Rattle.rtps_types.specs.declared.identity.Guid.{Guid}
@@ -20,7 +21,7 @@ use Rattle.rtps_proxy.specs.Kept.{Pairing}
 use Rattle.rtps_proxy.specs.Matches.{Match, begun, ended, extended, fresh, match_with, same_guid}
 use Rattle.rtps_proxy.proofs.Matching.{exact, same_is}
 use Rattle.rtps_reader.specs.Reader.{Facts, Reader, all_begun, extended_by, first_reader, fresh_with, reader_after, reader_run, pairing_of}
-use Rattle.rtps_reader.specs.Steps.{StepView, Takes, Begins, Ends, Refused}
+use Rattle.rtps_reader.specs.Steps.{StepView, Takes, Changes}
 use Rattle.rtps_reader.proofs.Begun.{swapped}
 
 -- two writers that are one with a third are one
@@ -151,9 +152,9 @@ order_begun m ms up = subst (IsStrictlySortedBy guid_order) (sym (writers_begun 
 
 order_after : (r : Reader) (d : StepView) → InOrder r.matches → InOrder (reader_after r d).matches
 order_after r (Takes w e) up = subst (IsStrictlySortedBy guid_order) (sym (writers_extended w e r.matches)) up
-order_after r (Begins w locators) up = order_begun (fresh_with r (w, locators)) r.matches up
-order_after r (Ends w) up = subst (IsStrictlySortedBy guid_order) (sym (writers_ended w r.matches)) (IsStrictlySortedBy-filter guid_order (λ g. not (same_guid g w)) (writers_of r.matches) up)
-order_after r (Refused w policy) up = up
+order_after r (Changes (Matches w locators)) up = order_begun (fresh_with r (w, locators)) r.matches up
+order_after r (Changes (Unmatches w)) up = subst (IsStrictlySortedBy guid_order) (sym (writers_ended w r.matches)) (IsStrictlySortedBy-filter guid_order (λ g. not (same_guid g w)) (writers_of r.matches) up)
+order_after r (Changes (Refuses w policy)) up = up
 
 order_run : (r : Reader) (ds : List StepView) → InOrder r.matches → InOrder (reader_run r ds).matches
 order_run r [] up = up

@@ -1,6 +1,8 @@
 -- What a reader keeps after a step.
 use Rattle.std.proofs.Common.{◌≡◌, ◌+◌, ℕ, false, suc, List, [], ◌∷◌, ◌++◌, length, Option, Some, None, refl, sym, ap, ◌∙◌, subst}
 use Rattle.std.proofs.lemmas.List.{length-map}
+use Rattle.rtps_types.specs.declared.policy.PolicyId.{PolicyId}
+use Rattle.rtps_types.specs.MatchChange.{Matches, Unmatches, Refuses}
 use Rattle.rtps_types.specs.declared.identity.Guid.{Guid}
 use Rattle.rtps_types.specs.declared.locator.Locator.{Locator}
 use Rattle.rtps_types.specs.declared.place.Place.{Place}
@@ -16,7 +18,7 @@ use Rattle.rtps_reader.specs.declared.stateful.StatefulReader.{StatefulReader}
 use Rattle.rtps_reader.specs.declared.status.Counts.{Counts}
 use Rattle.rtps_reader.specs.Reader.{Reader, fresh_with, lost_at, notice_of, reader_after, ready_at, tells, told_of, pairing_of}
 use Rattle.rtps_reader.specs.Standing.{IsSameReader, StandsAt, counts_after, counts_given, kept_by, status_by}
-use Rattle.rtps_reader.specs.Steps.{Takes, Begins, Ends, Refused}
+use Rattle.rtps_reader.specs.Steps.{Takes, Changes}
 use Rattle.rtps_reader.specs.Status.{capped, status_of}
 use Rattle.rtps_reader.proofs.Counting.{Adds, GrowBy, adds_end, adds_match, adds_none, adds_refusal, adds_told, first_status, grow_event, grow_match, grow_none, grow_refusal, status_adds}
 
@@ -28,7 +30,7 @@ as_many (m ∷ ms) [] all = absurd all
 as_many (m ∷ ms) (s ∷ ss) all = ap suc (as_many ms ss all.1)
 
 -- what is kept of a reader that differs by its matches alone, once it gave out some notices more
-pub stands_more : {M A : Type 0} (r r1 : Reader) (given added : List (Notice M)) (old new : StatefulReader A) (b : ℕ) (rs : List ℕ) (n k : ℕ)
+pub stands_more : {M A : Type 0} (r r1 : Reader) (given added : List (Notice M)) (old new : StatefulReader A) (b : ℕ) (rs : List PolicyId) (n k : ℕ)
     → StandsAt r given (kept_by false old) → IsSameReader old new → r1 ≡ record r { matches = r1.matches } → AllStand r1.matches new.matches
     → Adds b rs n k added → GrowBy b rs n k old.counts new.counts → StandsAt r1 (given ++ added) (kept_by false new)
 stands_more r r1 given added old new b rs n k stands same only all adds grow = record {
@@ -60,9 +62,9 @@ stands_taken {M} {A} d r given place w e old new taken stands same all are count
 -- a match began
 pub stands_begun : {M A : Type 0} (d : Decoding M) (r : Reader) (given : List (Notice M)) (place : Place) (w : Guid) (locators : List Locator) (old new : StatefulReader A)
     → StandsAt r given (kept_by false old) → IsSameReader old new → AllStand (begun (fresh (pairing_of old.own old.entity old.reliable (w, locators))) r.matches) new.matches → new.counts ≡ record old.counts { matched_total = capped (old.counts.matched_total + 1) }
-    → StandsAt (reader_after r (Begins w locators)) (given ++ tells d r place (Begins w locators)) (kept_by false new)
+    → StandsAt (reader_after r (Changes (Matches w locators))) (given ++ tells d r place (Changes (Matches w locators))) (kept_by false new)
 stands_begun {M} d r given place w locators old new stands same all counts =
-    stands_more r (reader_after r (Begins w locators)) given (notice_of place w Matched) old new 1 [] 0 0 stands same refl (subst (λ m. AllStand (begun m r.matches) new.matches) ours all) (adds_match M place w) (subst (GrowBy 1 [] 0 0 old.counts) (sym counts) (grow_match old.counts))
+    stands_more r (reader_after r (Changes (Matches w locators))) given (notice_of place w Matched) old new 1 [] 0 0 stands same refl (subst (λ m. AllStand (begun m r.matches) new.matches) ours all) (adds_match M place w) (subst (GrowBy 1 [] 0 0 old.counts) (sym counts) (grow_match old.counts))
   where
     ours : fresh (pairing_of old.own old.entity old.reliable (w, locators)) ≡ fresh_with r (w, locators)
     ours =
@@ -73,16 +75,16 @@ stands_begun {M} d r given place w locators old new stands same all counts =
 -- a match ended
 pub stands_ended : {M A : Type 0} (d : Decoding M) (r : Reader) (given : List (Notice M)) (place : Place) (w : Guid) (old new : StatefulReader A)
     → StandsAt r given (kept_by false old) → IsSameReader old new → AllStand (ended w r.matches) new.matches → new.counts ≡ old.counts
-    → StandsAt (reader_after r (Ends w)) (given ++ tells d r place (Ends w)) (kept_by false new)
+    → StandsAt (reader_after r (Changes (Unmatches w))) (given ++ tells d r place (Changes (Unmatches w))) (kept_by false new)
 stands_ended {M} d r given place w old new stands same all counts =
-    stands_more r (reader_after r (Ends w)) given (notice_of place w Unmatched) old new 0 [] 0 0 stands same refl all (adds_end M place w) (subst (GrowBy 0 [] 0 0 old.counts) (sym counts) (grow_none old.counts))
+    stands_more r (reader_after r (Changes (Unmatches w))) given (notice_of place w Unmatched) old new 0 [] 0 0 stands same refl all (adds_end M place w) (subst (GrowBy 0 [] 0 0 old.counts) (sym counts) (grow_none old.counts))
 
 -- a writer was refused
-pub stands_refused : {M A : Type 0} (d : Decoding M) (r : Reader) (given : List (Notice M)) (place : Place) (w : Guid) (policy : ℕ) (old new : StatefulReader A)
+pub stands_refused : {M A : Type 0} (d : Decoding M) (r : Reader) (given : List (Notice M)) (place : Place) (w : Guid) (policy : PolicyId) (old new : StatefulReader A)
     → StandsAt r given (kept_by false old) → IsSameReader old new → new.matches ≡ old.matches → new.counts ≡ record old.counts { incompatible_total = capped (old.counts.incompatible_total + 1); last_policy = Some policy }
-    → StandsAt (reader_after r (Refused w policy)) (given ++ tells d r place (Refused w policy)) (kept_by false new)
+    → StandsAt (reader_after r (Changes (Refuses w policy))) (given ++ tells d r place (Changes (Refuses w policy))) (kept_by false new)
 stands_refused {M} d r given place w policy old new stands same kept counts =
-    stands_more r (reader_after r (Refused w policy)) given (notice_of place w (Incompatible policy)) old new 0 (policy ∷ []) 0 0 stands same refl (subst (AllStand r.matches) (sym kept) stands.matches)
+    stands_more r (reader_after r (Changes (Refuses w policy))) given (notice_of place w (Incompatible policy)) old new 0 (policy ∷ []) 0 0 stands same refl (subst (AllStand r.matches) (sym kept) stands.matches)
     (adds_refusal M place w policy) (subst (GrowBy 0 (policy ∷ []) 0 0 old.counts) (sym counts) (grow_refusal old.counts policy))
 
 -- the status at the start

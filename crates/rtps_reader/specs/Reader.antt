@@ -1,6 +1,7 @@
 -- A reader, by all that it was asked to do (DDSI-RTPS 8.4.10 to 8.4.12): its matches, each with its
 -- history.
 use Rattle.std.specs.Prelude.{ℕ, List, [], ◌∷◌, ◌++◌, length, map, Bool, ◌==◌, Option, Some, None, if◌then◌else◌}
+use Rattle.rtps_types.specs.MatchChange.{Matches, Unmatches, Refuses}
 use Rattle.rtps_types.specs.Nearest.{nearest}
 use Rattle.rtps_types.specs.declared.identity.EntityId.{EntityId}
 use Rattle.rtps_types.specs.declared.identity.Guid.{Guid}
@@ -17,7 +18,7 @@ use Rattle.rtps_reader.specs.declared.notice.Notice.{Notice}
 use Rattle.rtps_reader.specs.declared.notice.NoticeKind.{NoticeKind}
 use Rattle.rtps_reader.specs.declared.notice.NoticeKind.TheVariants as kind
 use Rattle.rtps_reader.specs.Body.{body_by}
-use Rattle.rtps_reader.specs.Steps.{StepView, Takes, Begins, Ends, Refused}
+use Rattle.rtps_reader.specs.Steps.{StepView, Takes, Changes}
 
 -- how many numbers are given up at an event, the changes that are ready then, and what is said to
 -- the writer
@@ -87,9 +88,9 @@ notice_of place w what = record { place = place; writer = w; what = what } ∷ [
 -- the notices that a reader gives out at a step: of an event none, where its writer isn't matched
 abbrev pub tells : {M : Type 0} → Decoding M → Reader → Place → StepView → List (Notice M)
 tells decoding r place (Takes w e) = told_of decoding place w e (match_with w r.matches)
-tells decoding r place (Begins w locators) = notice_of place w kind.Matched
-tells decoding r place (Ends w) = notice_of place w kind.Unmatched
-tells decoding r place (Refused w policy) = notice_of place w (kind.Incompatible policy)
+tells decoding r place (Changes (Matches w locators)) = notice_of place w kind.Matched
+tells decoding r place (Changes (Unmatches w)) = notice_of place w kind.Unmatched
+tells decoding r place (Changes (Refuses w policy)) = notice_of place w (kind.Incompatible policy)
 
 -- what is said, with the place of the event that it answers
 abbrev pub placed : Place → Option ReplyView → List (Place × ReplyView)
@@ -104,9 +105,9 @@ sent_of place e (Some m) = placed place (answer_at m e)
 -- what a reader sends at a step
 abbrev pub sends : Reader → Place → StepView → List (Place × ReplyView)
 sends r place (Takes w e) = sent_of place e (match_with w r.matches)
-sends r place (Begins w locators) = []
-sends r place (Ends w) = []
-sends r place (Refused w policy) = []
+sends r place (Changes (Matches w locators)) = []
+sends r place (Changes (Unmatches w)) = []
+sends r place (Changes (Refuses w policy)) = []
 
 -- a match once an event came for it
 abbrev pub extended_by : MatchEvent → Match → Match
@@ -116,10 +117,10 @@ extended_by e m = record { pairing = m.pairing; past = e ∷ m.past }
 -- begins with no history, also where there was one with that writer; at its end it is forgotten
 abbrev pub reader_after : Reader → StepView → Reader
 reader_after r (Takes w e) = record r { matches = extended w e r.matches }
-reader_after r (Begins w locators) =
+reader_after r (Changes (Matches w locators)) =
     record r { matches = begun (fresh_with r (w, locators)) r.matches }
-reader_after r (Ends w) = record r { matches = ended w r.matches }
-reader_after r (Refused w policy) = r
+reader_after r (Changes (Unmatches w)) = record r { matches = ended w r.matches }
+reader_after r (Changes (Refuses w policy)) = r
 
 -- one step after the other
 abbrev pub reader_run : Reader → List StepView → Reader

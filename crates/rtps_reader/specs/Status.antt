@@ -1,6 +1,7 @@
 -- The status of a reader: its matches, and the notices that it gave out, counted
 -- (DDS 1.4, 2.2.4.1).
 use Rattle.std.specs.Prelude.{ℕ, ◌+◌, Bool, true, false, List, [], ◌∷◌, ◌++◌, length, map, filter, sum, min, Option, Some, None}
+use Rattle.rtps_types.specs.declared.policy.PolicyId.{PolicyId}
 use Rattle.rtps_reader.specs.declared.notice.Notice.{Notice}
 use Rattle.rtps_reader.specs.declared.notice.NoticeKind.{NoticeKind}
 use Rattle.rtps_reader.specs.declared.notice.NoticeKind.TheVariants.{Sample, Matched, Incompatible, Lost}
@@ -27,7 +28,7 @@ lost_in (Lost count) = count
 lost_in kind = 0
 
 -- the policy for which a notice says that a writer is incompatible
-abbrev pub refused_in : {M : Type 0} → NoticeKind M → List ℕ
+abbrev pub refused_in : {M : Type 0} → NoticeKind M → List PolicyId
 refused_in (Incompatible policy) = policy ∷ []
 refused_in kind = []
 
@@ -40,12 +41,12 @@ abbrev pub lost_by : {M : Type 0} → List (Notice M) → ℕ
 lost_by given = sum (map (λ n. lost_in n.what) given)
 
 -- the policies of these notices, in order
-abbrev pub refused_by : {M : Type 0} → List (Notice M) → List ℕ
+abbrev pub refused_by : {M : Type 0} → List (Notice M) → List PolicyId
 refused_by [] = []
 refused_by (n ∷ given) = refused_in n.what ++ refused_by given
 
 -- the last of some policies
-abbrev pub last_of : List ℕ → Option ℕ
+abbrev pub last_of : List PolicyId → Option PolicyId
 last_of [] = None
 last_of (p ∷ []) = Some p
 last_of (p ∷ q ∷ ps) = last_of (q ∷ ps)

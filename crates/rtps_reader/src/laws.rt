@@ -3,6 +3,7 @@
 ghost use Rattle.std.specs.Prelude.{◌≡◌, Bool, List, None, Some, if◌then◌else◌, map};
 ghost use Rattle.std.specs.List.Sorted.{IsStrictlySortedBy};
 ghost use Rattle.std.specs.Option.{option_map};
+ghost use Rattle.rtps_types.specs.MatchChange.{Matches, Unmatches};
 ghost use Rattle.rtps_types.specs.declared.identity.EntityId.{EntityId};
 ghost use Rattle.rtps_types.specs.declared.identity.Guid.{Guid};
 ghost use Rattle.rtps_types.specs.declared.identity.GuidPrefix.{GuidPrefix};
@@ -11,7 +12,7 @@ ghost use Rattle.rtps_types.specs.Order.{guid_order};
 ghost use Rattle.rtps_proxy.specs.History.{MatchEvent};
 ghost use Rattle.rtps_proxy.specs.Matches.{match_with, same_guid};
 ghost use Rattle.rtps_reader.specs.Reader.{Facts, Reader, extended_by, first_reader, fresh_with, reader_after, reader_run};
-ghost use Rattle.rtps_reader.specs.Steps.{Begins, StepView, Ends, Takes};
+ghost use Rattle.rtps_reader.specs.Steps.{StepView, Takes, Changes};
 
 /// What a step does to the match with each writer. An event of a writer extends the history of its
 /// match, if there is one. A match that begins has no history, whatever there was before. After an
@@ -22,11 +23,11 @@ pub fn matches_follow()
         ≡ (if same_guid writer other then option_map (extended_by event) (match_with other r.matches)
         else match_with other r.matches) }
     ensures begun { (r : Reader) (writer other : Guid) (locators : List Locator)
-        → match_with other (reader_after r (Begins writer locators)).matches
+        → match_with other (reader_after r (Changes (Matches writer locators))).matches
         ≡ (if same_guid writer other then Some (fresh_with r (writer, locators))
         else match_with other r.matches) }
     ensures ended { (r : Reader) (writer other : Guid)
-        → match_with other (reader_after r (Ends writer)).matches
+        → match_with other (reader_after r (Changes (Unmatches writer))).matches
         ≡ (if same_guid writer other then None else match_with other r.matches) }
 {}
 

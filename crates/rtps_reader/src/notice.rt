@@ -1,7 +1,7 @@
 //! What a reader gives out.
 
 use crate::body::Body;
-use rtps_types::{Guid, Number, Place, Reply, Timestamp};
+use rtps_types::{Guid, Number, Place, PolicyId, Reply, Timestamp};
 use std::alloc::{Allocator, Global};
 
 /// What a reader reports of a match. The notices of a reader come in the order of their causes.
@@ -27,9 +27,10 @@ pub enum NoticeKind<V> {
     Matched,
     /// A match ended.
     Unmatched,
-    /// A writer offers less than is requested; the policy by its id.
+    /// A writer offers less of a policy than is requested (DDS 1.4, 2.2.4.1,
+    /// REQUESTED_INCOMPATIBLE_QOS).
     Incompatible {
-        policy: u32,
+        policy: PolicyId,
     },
     /// Numbers will not come any more; how many (DDS 1.4, 2.2.4.1, SAMPLE_LOST).
     Lost {

@@ -74,7 +74,7 @@ impl<A: Allocator + Copy> ReaderState<A> {
         &mut self,
         alloc: A,
         decoder: &mut Decoder<C>,
-        step: &Step<'_>,
+        step: &Step<'_, A>,
         output: &mut Output<C::Value, A>,
     ) -> Result<(), ReaderError>
         ensures stands { (r : Reader) (given : List (Notice C.Meaning)) → StandsAt r given self.old
@@ -108,7 +108,7 @@ impl<A: Allocator + Copy> ReaderState<A> {
         &mut self,
         alloc: A,
         decoder: &mut Decoder<C>,
-        step: &Step<'a>,
+        step: &Step<'a, A>,
         effects: &mut Effects<'a, A>,
         output: &mut Output<C::Value, A>,
     ) -> Result<(), ReaderError>

@@ -1,23 +1,27 @@
 //! A reader that keeps state of each writer that it is matched with.
 
-ghost use Rattle.std.specs.Prelude.{◌≡◌, ◌++◌, List, IfOk, OnOk, false, map};
+ghost use Rattle.std.specs.Prelude.{◌≡◌, ◌++◌, List, IfOk, OnOk, false, length, map, take};
 ghost use Rattle.rtps_proxy.specs.Effects.{GivesNothing, match_event};
 ghost use Rattle.rtps_proxy.specs.Matches.{AllStand, AreTaken, Match, begun, extended, fresh, given_where, match_with};
+ghost use Rattle.rtps_types.specs.MatchChange.{match_change_view};
+ghost use Rattle.dds_topic.specs.Decoding.{Decoding};
 ghost use Rattle.rtps_reader.specs.declared.notice.Notice.{Notice};
 ghost use Rattle.rtps_reader.specs.Notices.{answer_view, notice_view};
 ghost use Rattle.rtps_reader.specs.Reader.{Reader, first_reader, pairing_of, reader_after, sends};
 ghost use Rattle.rtps_reader.specs.Reader.{tells};
 ghost use Rattle.rtps_reader.specs.Standing.{IsSameReader, KeepsFront, StandsAt, StartsAt, counts_given, facts_in, kept_by};
-ghost use Rattle.rtps_reader.specs.Steps.{asked};
+ghost use Rattle.rtps_reader.specs.Steps.{Changes, asked};
 
-use crate::notice::{NoticeKind, Output};
+use crate::notice::{Notice, NoticeKind, Output};
 use crate::present::{present, tell};
 use crate::status::Counts;
 use crate::step::{Step, StepKind};
 use dds_topic::{Catalog, Decoder};
 use rtps_proxy::{Effects, Matches, ProxyConfig};
 use rtps_receiver::Body;
-use rtps_types::{EntityId, Guid, GuidPrefix, Locator, Locators, Timestamp, WriterFacts};
+use rtps_types::{
+    EntityId, Guid, GuidPrefix, Locator, Locators, MatchChangeKind, Place, Timestamp, WriterFacts,
+};
 use std::alloc::{AllocError, Allocator};
 
 /// A reader that keeps state of each writer that it is matched with (DDSI-RTPS 8.4.10,
@@ -67,7 +71,7 @@ impl<A: Allocator + Copy> StatefulReader<A> {
         &mut self,
         alloc: A,
         decoder: &mut Decoder<C>,
-        step: &Step<'a>,
+        step: &Step<'a, A>,
         effects: &mut Effects<'a, A>,
         output: &mut Output<C::Value, A>,
     ) -> Result<(), AllocError>
@@ -100,24 +104,46 @@ impl<A: Allocator + Copy> StatefulReader<A> {
                 }
                 present(decoder, step.place, writer, effects, output)
             }
-            StepKind::Match { writer, locators } => {
-                self.begin(alloc, writer, locators)?;
+            StepKind::Change(change) => {
+                self.change::<C>(alloc, step.place, change, &mut output.notices)
+            }
+        }
+    }
+
+    /// Begins, ends or refuses a match, and reports that.
+    fn change<C: Catalog>(
+        &mut self,
+        alloc: A,
+        place: Place,
+        change: &MatchChangeKind<A>,
+        notices: &mut Vec<Notice<C::Value>, A>,
+    ) -> Result<(), AllocError>
+        ensures stands { (decoding : Decoding C.Meaning) (r : Reader) (given : List (Notice C.Meaning))
+            → StandsAt r given (kept_by false self.old)
+            → OnOk result (StandsAt (reader_after r (Changes (match_change_view change.now)))
+            (given ++ tells decoding r place (Changes (match_change_view change.now)))
+            (kept_by false self.new)) }
+        ensures notices { (decoding : Decoding C.Meaning) (r : Reader)
+            → OnOk result (map (notice_view C.view) notices.new.items
+            ≡ map (notice_view C.view) notices.old.items
+            ++ tells decoding r place (Changes (match_change_view change.now))) }
+        ensures reader { IsSameReader self.old self.new }
+        ensures kept { take (length notices.old.items) notices.new.items ≡ notices.old.items }
+    {
+        match change {
+            MatchChangeKind::Match(facts) => {
+                self.begin(alloc, facts.writer, facts.locators.as_slice())?;
                 self.counts = self.counts.with_match();
-                tell::<C, A>(step.place, writer, NoticeKind::Matched, &mut output.notices)
+                tell::<C, A>(place, facts.writer, NoticeKind::Matched, notices)
             }
-            StepKind::Unmatch { writer } => {
-                self.matches.end(writer);
-                tell::<C, A>(
-                    step.place,
-                    writer,
-                    NoticeKind::Unmatched,
-                    &mut output.notices,
-                )
+            MatchChangeKind::Unmatch(writer) => {
+                self.matches.end(*writer);
+                tell::<C, A>(place, *writer, NoticeKind::Unmatched, notices)
             }
-            StepKind::Refuse { writer, policy } => {
-                self.counts = self.counts.with_refusal(policy);
-                let what = NoticeKind::Incompatible { policy };
-                tell::<C, A>(step.place, writer, what, &mut output.notices)
+            MatchChangeKind::Refuse { writer, policy } => {
+                self.counts = self.counts.with_refusal(*policy);
+                let what = NoticeKind::Incompatible { policy: *policy };
+                tell::<C, A>(place, *writer, what, notices)
             }
         }
     }

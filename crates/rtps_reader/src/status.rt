@@ -5,6 +5,7 @@ ghost use Rattle.rtps_reader.specs.Standing.{counts_after, status_by};
 ghost use Rattle.rtps_reader.specs.Status.{capped};
 
 use rtps_proxy::Effects;
+use rtps_types::PolicyId;
 use std::alloc::Allocator;
 
 /// The status of a reader: its matches now, and totals since its start (DDS 1.4, 2.2.4.1). Totals
@@ -17,8 +18,8 @@ pub struct Status {
     pub matched_now: u64,
     /// How many times a writer was found to offer less than is requested.
     pub incompatible_total: u32,
-    /// The policy of the last such time, by its id.
-    pub last_policy: Option<u32>,
+    /// The policy of the last such time.
+    pub last_policy: Option<PolicyId>,
     /// How many numbers were given up.
     pub lost_total: u32,
     /// How many changes were presented, unread ones and ends of instances too.
@@ -30,7 +31,7 @@ pub struct Status {
 pub(crate) struct Counts {
     pub(crate) matched_total: u32,
     pub(crate) incompatible_total: u32,
-    pub(crate) last_policy: Option<u32>,
+    pub(crate) last_policy: Option<PolicyId>,
     pub(crate) lost_total: u32,
     pub(crate) samples: u32,
 }
@@ -77,7 +78,7 @@ impl Counts {
     }
 
     /// The counts once a writer was refused for a policy.
-    pub(crate) fn with_refusal(self, policy: u32) -> Counts
+    pub(crate) fn with_refusal(self, policy: PolicyId) -> Counts
         ensures { result ≡ record self {
           incompatible_total = capped (self.incompatible_total + 1);
           last_policy = Some policy;

@@ -21,12 +21,12 @@ use Rattle.rtps_discovery.specs.Seen.{change_seen}
 use Rattle.rtps_discovery.specs.declared.changes.MatchChange.{MatchChange}
 use Rattle.dds_topic.specs.Decoding.{Decoding}
 use Rattle.rtps_reader.specs.Standing.{ReaderView}
-use Rattle.rtps_reader.specs.Steps.{StepView, asks_of}
+use Rattle.rtps_reader.specs.Steps.{Changes, StepView, asks_of}
 use Rattle.rtps_run.specs.declared.outcome.Report.{Report}
 use Rattle.rtps_run.specs.Seen.{reader_count}
 use Rattle.rtps_run.specs.Standing.{AllKnown, ReadersStand, WorldStands}
 use Rattle.rtps_run.specs.Steps.{AreByRank, ReaderStep, change_step, event_steps, step_by, steps_run}
-use Rattle.rtps_run.specs.World.{ReportView, World, addressed_to, answer_put, changes_for, discovery_puts, doing_of, doings, known_after_event, world_after}
+use Rattle.rtps_run.specs.World.{ReportView, World, addressed_to, answer_put, changes_for, discovery_puts, doings, known_after_event, world_after}
 use Rattle.rtps_run.proofs.OneOrder.{Rises, filter-map, rises_map, rises_sorted, stable_by}
 use Rattle.rtps_run.proofs.Routed.{asks_for, comes_before, discovered, event_stands, named_after, not_before}
 
@@ -71,7 +71,7 @@ pub changes_asked : {A : Type 0} (changes sorted : List (MatchChange A)) (rank :
 changes_asked {A} changes sorted rank h =
     ap (map (λ (s : ReaderStep). s.what)) (filter-map (λ (s : ReaderStep). s.rank == rank) change_step (map change_seen sorted))
     ∙ map_map change_step (λ (s : ReaderStep). s.what) (filter (λ (c : ChangeAt). c.rank == rank) (map change_seen sorted))
-    ∙ ap (map (λ (c : ChangeAt). doing_of c.what))
+    ∙ ap (map (λ (c : ChangeAt). Changes c.what))
     (filter-map (λ (c : ChangeAt). c.rank == rank) change_seen sorted
     ∙ ap (map change_seen) (stable_by earlier changes sorted h.stable (λ (c : MatchChange A). c.rank == rank) alike)
     ∙ sym (filter-map (λ (c : ChangeAt). c.rank == rank) change_seen changes))

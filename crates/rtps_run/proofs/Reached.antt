@@ -4,13 +4,14 @@ use Rattle.std.specs.Prelude.{filter}
 use Rattle.std.proofs.lemmas.Bool.Decides.{nat_tests}
 use Rattle.std.proofs.lemmas.List.{map-append, take_more}
 use Rattle.std.proofs.lemmas.List.Elements.{filter-append}
+use Rattle.rtps_types.specs.MatchChange.{Matches, Unmatches, Refuses}
 use Rattle.rtps_types.specs.declared.place.Place.{Place}
 use Rattle.rtps_receiver.specs.Events.{EventView}
 use Rattle.rtps_discovery.specs.Addressed.{is_for}
 use Rattle.dds_topic.specs.Decoding.{Decoding}
 use Rattle.rtps_reader.specs.Reader.{Reader, reader_after}
 use Rattle.rtps_reader.specs.Standing.{ReaderView}
-use Rattle.rtps_reader.specs.Steps.{StepView, Takes, Begins, Ends, Refused, asks_of}
+use Rattle.rtps_reader.specs.Steps.{StepView, Takes, Changes, asks_of}
 use Rattle.rtps_run.specs.declared.outcome.Report.{Report}
 use Rattle.rtps_run.specs.Standing.{ReadersStand}
 use Rattle.rtps_run.specs.Steps.{ReaderStep, event_steps, step_by, steps_run, world_stepped}
@@ -29,9 +30,9 @@ steps_more d place w ss i other h = ap (steps_run d place w) (take_more ss i oth
 -- a reader stays who it is
 pub same_entity : (r : Reader) (what : StepView) → (reader_after r what).entity ≡ r.entity
 same_entity r (Takes w e) = refl
-same_entity r (Begins w locators) = refl
-same_entity r (Ends w) = refl
-same_entity r (Refused w policy) = refl
+same_entity r (Changes (Matches w locators)) = refl
+same_entity r (Changes (Unmatches w)) = refl
+same_entity r (Changes (Refuses w policy)) = refl
 
 entity_if : (b : Bool) (r : Reader) (what : StepView) → (if b then reader_after r what else r).entity ≡ r.entity
 entity_if true r what = same_entity r what

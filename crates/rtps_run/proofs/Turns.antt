@@ -16,7 +16,8 @@ use Rattle.rtps_types.specs.declared.place.Place.{Place}
 use Rattle.rtps_types.specs.Place.{place_order}
 use Rattle.rtps_receiver.specs.Events.{EventView}
 use Rattle.rtps_discovery.specs.Addressed.{is_addressed, is_discovery}
-use Rattle.rtps_discovery.specs.Changes.{Becomes, ChangeAt, Matches, Unmatches, Refuses}
+use Rattle.rtps_types.specs.MatchChange.{MatchChange, Matches, Unmatches, Refuses}
+use Rattle.rtps_discovery.specs.Changes.{ChangeAt}
 use Rattle.rtps_discovery.specs.Known.{Known, Wish, is_matched, reader_at}
 use Rattle.rtps_discovery.specs.Records.{answered, changes_by}
 use Rattle.dds_topic.specs.Decoding.{Decoding}
@@ -26,7 +27,7 @@ use Rattle.rtps_proxy.specs.Replies.{ReplyView}
 use Rattle.rtps_reader.specs.declared.notice.Notice.{Notice}
 use Rattle.rtps_reader.specs.declared.notice.NoticeKind.TheVariants as notice
 use Rattle.rtps_reader.specs.Reader.{Reader, answer_at, loses, lost_at, placed, presented, reader_after, ready_at, sends, sent_of, tells, told_of}
-use Rattle.rtps_reader.specs.Steps.{StepView, Takes, Begins, Ends, Refused, asks_of}
+use Rattle.rtps_reader.specs.Steps.{StepView, Takes, Changes, asks_of}
 use Rattle.rtps_run.specs.declared.outcome.Report.{Report}
 use Rattle.rtps_run.specs.declared.outcome.Report.TheVariants as report
 use Rattle.rtps_run.specs.declared.turn.ReportKind.{ReportKind}
@@ -37,7 +38,7 @@ use Rattle.rtps_run.specs.Presentation.{not_after}
 use Rattle.rtps_run.specs.Run.{world_run}
 use Rattle.rtps_run.specs.Seen.{notices_by, reader_count}
 use Rattle.rtps_run.specs.Turn.{kind_order, turn_of, turn_order}
-use Rattle.rtps_run.specs.World.{ReportView, NoticeOf, AnswerOf, World, addressed_to, answer_put, changes_for, discovery_puts, doing_of, doings, puts_at, puts_below, puts_run, sent_by, world_after}
+use Rattle.rtps_run.specs.World.{ReportView, NoticeOf, AnswerOf, World, addressed_to, answer_put, changes_for, discovery_puts, doings, puts_at, puts_below, puts_run, sent_by, world_after}
 use Rattle.rtps_run.proofs.Routed.{readers_stay}
 use Rattle.rtps_run.proofs.Dealt.{notices_by-append}
 use Rattle.rtps_run.proofs.Matched.{heard_event, none_below}
@@ -179,9 +180,9 @@ told_at {M} d place w e (Some m) = all_append (λ n. n.place ≡ place) (loses p
 
 pub tells_at : {M : Type 0} (d : Decoding M) (r : Reader) (place : Place) (asks : StepView) → AllByRecursion (λ (n : Notice M). n.place ≡ place) (tells d r place asks)
 tells_at d r place (Takes w e) = told_at d place w e (match_with w r.matches)
-tells_at d r place (Begins w locators) = (refl, tt)
-tells_at d r place (Ends w) = (refl, tt)
-tells_at d r place (Refused w policy) = (refl, tt)
+tells_at d r place (Changes (Matches w locators)) = (refl, tt)
+tells_at d r place (Changes (Unmatches w)) = (refl, tt)
+tells_at d r place (Changes (Refuses w policy)) = (refl, tt)
 
 placed_at : (place : Place) (o : Option ReplyView) → AllByRecursion (λ (s : Place × ReplyView). s.0 ≡ place) (placed place o)
 placed_at place None = tt
@@ -193,9 +194,9 @@ sent_at place e (Some m) = placed_at place (answer_at m e)
 
 pub sends_at : (r : Reader) (place : Place) (asks : StepView) → AllByRecursion (λ (s : Place × ReplyView). s.0 ≡ place) (sends r place asks)
 sends_at r place (Takes w e) = sent_at place e (match_with w r.matches)
-sends_at r place (Begins w locators) = tt
-sends_at r place (Ends w) = tt
-sends_at r place (Refused w policy) = tt
+sends_at r place (Changes (Matches w locators)) = tt
+sends_at r place (Changes (Unmatches w)) = tt
+sends_at r place (Changes (Refuses w policy)) = tt
 
 hears_turn : {M : Type 0} (place : Place) (rank : ℕ) (ns : List (Notice M)) → AllByRecursion (λ n. n.place ≡ place) ns → AllByRecursion (λ p. put_turn p ≡ turn_at place rank kind.Notice) (map (NoticeOf rank) ns)
 hears_turn place rank [] h = tt
@@ -246,19 +247,19 @@ module _ {M : Type 0} (d : Decoding M) (place : Place) (rank : ℕ) where
       (rises_level (turn_at place rank kind.Notice) _ (step_told r a)) (rises_level (turn_at place rank kind.Answer) _ (step_sent r a))
 
   -- a match that begins, ends or is refused is not answered
-  pub no_answer : (r : Reader) (b : Becomes) → sends r place (doing_of b) ≡ []
+  pub no_answer : (r : Reader) (b : MatchChange) → sends r place (Changes b) ≡ []
   no_answer r (Matches w locators) = refl
   no_answer r (Unmatches w) = refl
   no_answer r (Refuses w policy) = refl
 
   -- so changes of what is known bring notices alone
-  changes_told : (r : Reader) (cs : List ChangeAt) → Notices (puts_run d place rank r (map (λ (c : ChangeAt). doing_of c.what) cs))
+  changes_told : (r : Reader) (cs : List ChangeAt) → Notices (puts_run d place rank r (map (λ (c : ChangeAt). Changes c.what) cs))
   changes_told r [] = tt
   changes_told r (c ∷ cs) =
-      all_append (λ p. put_turn p ≡ turn_at place rank kind.Notice) (puts_at d place rank r (doing_of c.what)) (puts_run d place rank (reader_after r (doing_of c.what)) (map (λ (c : ChangeAt). doing_of c.what) cs))
-      (subst (λ (ss : List (Place × ReplyView)). Notices (map (NoticeOf rank) (tells d r place (doing_of c.what)) ++ map (sent_by rank) ss)) (sym (no_answer r c.what))
-      (subst Notices (sym (append-nil (map (NoticeOf rank) (tells d r place (doing_of c.what))))) (step_told r (doing_of c.what))))
-      (changes_told (reader_after r (doing_of c.what)) cs)
+      all_append (λ p. put_turn p ≡ turn_at place rank kind.Notice) (puts_at d place rank r (Changes c.what)) (puts_run d place rank (reader_after r (Changes c.what)) (map (λ (c : ChangeAt). Changes c.what) cs))
+      (subst (λ (ss : List (Place × ReplyView)). Notices (map (NoticeOf rank) (tells d r place (Changes c.what)) ++ map (sent_by rank) ss)) (sym (no_answer r c.what))
+      (subst Notices (sym (append-nil (map (NoticeOf rank) (tells d r place (Changes c.what))))) (step_told r (Changes c.what))))
+      (changes_told (reader_after r (Changes c.what)) cs)
 
 -- what a reader puts out at an event comes by turn: its notices, and then its answer
 reader_rises : {M : Type 0} (d : Decoding M) (k : Known) (rank : ℕ) (r : Reader) (e : EventView) → Rises (before {M = M}) (puts_run d e.place rank r (doings k rank e))

@@ -9,9 +9,9 @@ use Rattle.rtps_discovery.specs.Changes.{ChangeAt}
 use Rattle.rtps_discovery.specs.declared.changes.MatchChange.{MatchChange}
 use Rattle.dds_topic.specs.Decoding.{Decoding}
 use Rattle.rtps_reader.specs.Reader.{reader_after}
-use Rattle.rtps_reader.specs.Steps.{StepView, asks_of}
+use Rattle.rtps_reader.specs.Steps.{Changes, StepView, asks_of}
 use Rattle.rtps_run.specs.Seen.{reader_count}
-use Rattle.rtps_run.specs.World.{ReportView, World, doing_of, puts_at}
+use Rattle.rtps_run.specs.World.{ReportView, World, puts_at}
 
 -- what is asked of the reader of a rank
 pub record ReaderStep : Type 0 where
@@ -50,7 +50,7 @@ event_steps w e ranks =
 
 -- a change of what is known is a step of its reader
 abbrev pub change_step : ChangeAt → ReaderStep
-change_step c = step_by c.rank (doing_of c.what)
+change_step c = step_by c.rank (Changes c.what)
 
 -- these changes by rank, and those of one rank in the order in which they came
 pub record AreByRank {A : Type 0} (old new : List (MatchChange A)) : Type 0 where

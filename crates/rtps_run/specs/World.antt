@@ -5,14 +5,14 @@ use Rattle.rtps_types.specs.declared.locator.Locator.{Locator}
 use Rattle.rtps_types.specs.declared.place.Place.{Place}
 use Rattle.rtps_receiver.specs.Events.{EventView}
 use Rattle.rtps_discovery.specs.Addressed.{is_addressed, is_discovery}
-use Rattle.rtps_discovery.specs.Changes.{Becomes, ChangeAt, Matches, Unmatches, Refuses}
+use Rattle.rtps_discovery.specs.Changes.{ChangeAt}
 use Rattle.rtps_discovery.specs.Known.{Known, Wish, is_matched, reader_at}
 use Rattle.rtps_discovery.specs.Records.{answered, changes_by, known_by}
 use Rattle.dds_topic.specs.Decoding.{Decoding}
 use Rattle.rtps_proxy.specs.Replies.{ReplyView}
 use Rattle.rtps_reader.specs.declared.notice.Notice.{Notice}
 use Rattle.rtps_reader.specs.Reader.{Reader, reader_after, reader_run, sends, tells}
-use Rattle.rtps_reader.specs.Steps.{StepView, Begins, Ends, Refused, asks_of}
+use Rattle.rtps_reader.specs.Steps.{StepView, Changes, asks_of}
 
 -- an answering datagram: the place that it answers, the rank of the reader that sends it (none:
 -- discovery does), where it goes and its octets
@@ -34,15 +34,9 @@ pub record World (M : Type 0) : Type 0 where
   pub readers : ℕ → Reader
   pub put : List (ReportView M)
 
--- what a change of what is known asks of a reader
-abbrev pub doing_of : Becomes → StepView
-doing_of (Matches writer locators) = Begins writer locators
-doing_of (Unmatches writer) = Ends writer
-doing_of (Refuses writer policy) = Refused writer policy
-
 -- what these changes ask of the reader of a rank, in order
 abbrev pub changes_for : ℕ → List ChangeAt → List StepView
-changes_for rank changes = map (λ c. doing_of c.what) (filter (λ c. c.rank == rank) changes)
+changes_for rank changes = map (λ c. Changes c.what) (filter (λ c. c.rank == rank) changes)
 
 -- a user's event is for a reader that it is addressed to, by what is known at that moment
 abbrev pub addressed_to : Known → ℕ → EventView → Option Wish → List StepView

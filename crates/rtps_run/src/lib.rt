@@ -12,6 +12,6 @@ mod turn;
 pub use errors::{EngineError, StartError};
 pub use lists::{empty_lists, push_by};
 pub use outcome::{Answer, Outcome, Report};
-pub use readers::{all_matches, asked_by, show_all};
+pub use readers::{all_matches, show_all};
 pub use start::{first_readers, first_statuses, fixed_by_rank};
 pub use turn::{ReportKind, Turn};

@@ -1,37 +1,17 @@
-//! What an engine asks of its readers, and what it shows of them.
+//! What an engine shows of its readers.
 
 ghost use Rattle.std.specs.Prelude.{◌≡◌, ℕ, ◌<◌, IfOk, length, slice_index_or};
-ghost use Rattle.rtps_discovery.specs.Seen.{becomes_seen};
 ghost use Rattle.rtps_reader.specs.declared.status.Status as status;
 ghost use Rattle.rtps_reader.specs.Standing.{ReaderView};
-ghost use Rattle.rtps_reader.specs.Steps.{asked};
 ghost use Rattle.rtps_run.specs.Seen.{matches_below};
 ghost use Rattle.rtps_run.specs.Standing.{AllStand};
-ghost use Rattle.rtps_run.specs.World.{World, doing_of};
+ghost use Rattle.rtps_run.specs.World.{World};
 
 use dds_topic::Catalog;
-use rtps_discovery::Becomes;
-use rtps_reader::{ReaderState, Status, StepKind};
+use rtps_reader::{ReaderState, Status};
 use rtps_types::Guid;
 use std::alloc::{AllocError, Allocator};
 use std::collections::BTreeSet;
-
-/// What a change of what is known asks of the reader that hears of it.
-pub fn asked_by<A: Allocator>(what: &Becomes<A>) -> StepKind<'_>
-    ensures { asked result ≡ doing_of (becomes_seen what.now) }
-{
-    match what {
-        Becomes::Match(writer, locators) => StepKind::Match {
-            writer: *writer,
-            locators: locators.as_slice(),
-        },
-        Becomes::Unmatch(writer) => StepKind::Unmatch { writer: *writer },
-        Becomes::Refuse(writer, policy) => StepKind::Refuse {
-            writer: *writer,
-            policy: *policy,
-        },
-    }
-}
 
 /// The matches of all readers, which are by rank: a rank and a writer each. An error is a refused
 /// growth.

@@ -11,7 +11,8 @@ use Rattle.rtps_types.specs.declared.identity.GuidPrefix.{GuidPrefix}
 use Rattle.rtps_receiver.specs.Events.{EventView}
 use Rattle.rtps_discovery.specs.Addressed.{is_addressed, is_discovery, writer_of}
 use Rattle.rtps_discovery.specs.Announcement.{Announcement, Comes, Leave, Offers, Withdraws, Asks, AsksNoMore}
-use Rattle.rtps_discovery.specs.Changes.{Becomes, ChangeAt, Matches, Unmatches, Refuses, at, changes, changes_run, known_run}
+use Rattle.rtps_types.specs.MatchChange.{MatchChange, Matches, Unmatches, Refuses}
+use Rattle.rtps_discovery.specs.Changes.{ChangeAt, at, changes, changes_run, known_run}
 use Rattle.rtps_discovery.specs.declared.config.Config.{Config}
 use Rattle.rtps_discovery.specs.declared.config.FixedMatch.{FixedMatch}
 use Rattle.rtps_discovery.specs.Known.{Known, Wish, is_fixed, is_joined, is_matched, known_after, locators_at, reader_at}
@@ -24,12 +25,12 @@ use Rattle.rtps_proxy.specs.Matches.{Match, begun, extended, fresh, match_with, 
 use Rattle.rtps_proxy.proofs.Matching.{same_is}
 use Rattle.dds_topic.specs.Decoding.{Decoding}
 use Rattle.rtps_reader.specs.Reader.{Reader, all_begun, first_matches, fresh_with, reader_after, reader_run, pairing_of}
-use Rattle.rtps_reader.specs.Steps.{StepView, Takes, Begins, Ends, Refused, asks_of}
+use Rattle.rtps_reader.specs.Steps.{StepView, Takes, Changes, asks_of}
 use Rattle.rtps_reader.proofs.Begun.{match_begun, same_self}
 use Rattle.rtps_run.specs.Presentation as start
 use Rattle.rtps_run.specs.Run.{entity_of, first_world, fixed_of, is_reliable_at, run, events_from, world_run}
 use Rattle.rtps_run.specs.Seen.{Agrees}
-use Rattle.rtps_run.specs.World.{World, addressed_to, changes_for, doing_of, doings, known_after_event, world_after}
+use Rattle.rtps_run.specs.World.{World, addressed_to, changes_for, doings, known_after_event, world_after}
 use Rattle.rtps_run.proofs.Matched.{ended_match, extend, extended_match}
 use Rattle.rtps_run.proofs.Routed.{readers_stay}
 
@@ -57,9 +58,9 @@ has_begun g m ms = ap (λ (o : Option Match). is_some o) (match_begun g m ms) �
 -- what a step makes of it
 abbrev after_doing : Guid → Bool → StepView → Bool
 after_doing g b (Takes w c) = b
-after_doing g b (Begins w ls) = same_guid w g || b
-after_doing g b (Ends w) = not (same_guid w g) && b
-after_doing g b (Refused w policy) = b
+after_doing g b (Changes (Matches w ls)) = same_guid w g || b
+after_doing g b (Changes (Unmatches w)) = not (same_guid w g) && b
+after_doing g b (Changes (Refuses w policy)) = b
 
 abbrev after_doings : Guid → Bool → List StepView → Bool
 after_doings g b [] = b
@@ -67,9 +68,9 @@ after_doings g b (d ∷ ds) = after_doings g (after_doing g b d) ds
 
 has_done : (g : Guid) (r : Reader) (d : StepView) → has g (reader_after r d).matches ≡ after_doing g (has g r.matches) d
 has_done g r (Takes w c) = ap (λ (o : Option Match). is_some o) (extended_match g w c r.matches) ∙ still_some (same_guid g w) (extend c) (match_with g r.matches)
-has_done g r (Begins w ls) = has_begun g (fresh_with r (w, ls)) r.matches
-has_done g r (Ends w) = ap (λ (o : Option Match). is_some o) (ended_match g w r.matches) ∙ none_if (same_guid w g) (match_with g r.matches)
-has_done g r (Refused w policy) = refl
+has_done g r (Changes (Matches w ls)) = has_begun g (fresh_with r (w, ls)) r.matches
+has_done g r (Changes (Unmatches w)) = ap (λ (o : Option Match). is_some o) (ended_match g w r.matches) ∙ none_if (same_guid w g) (match_with g r.matches)
+has_done g r (Changes (Refuses w policy)) = refl
 
 has_run : (g : Guid) (r : Reader) (ds : List StepView) → has g (reader_run r ds).matches ≡ after_doings g (has g r.matches) ds
 has_run g r [] = refl
@@ -78,7 +79,7 @@ has_run g r (d ∷ ds) = has_run g (reader_after r d) ds ∙ ap (λ b. after_doi
 -- ---- what changes make of it
 
 -- a change begins or ends a match with the writer
-abbrev pub touches : Guid → Becomes → Bool
+abbrev pub touches : Guid → MatchChange → Bool
 touches g (Matches w ls) = same_guid w g
 touches g (Unmatches w) = same_guid w g
 touches g (Refuses w policy) = false
@@ -87,13 +88,13 @@ abbrev presence : ℕ → Guid → Bool → List ChangeAt → Bool
 presence rank g b cs = after_doings g b (changes_for rank cs)
 
 abbrev after_change : ℕ → Guid → Bool → ChangeAt → Bool
-after_change rank g b c = if c.rank == rank then after_doing g b (doing_of c.what) else b
+after_change rank g b c = if c.rank == rank then after_doing g b (Changes c.what) else b
 
 one_change : (rank : ℕ) (g : Guid) (b : Bool) (c : ChangeAt) (cs : List ChangeAt) → presence rank g b (c ∷ cs) ≡ presence rank g (after_change rank g b c) cs
 one_change rank g b c cs = by_test (c.rank == rank)
   where
-    by_test : (t : Bool) → after_doings g b (map (λ (d : ChangeAt). doing_of d.what) (if t then c ∷ filter (λ d. d.rank == rank) cs else filter (λ d. d.rank == rank) cs))
-        ≡ after_doings g (if t then after_doing g b (doing_of c.what) else b) (changes_for rank cs)
+    by_test : (t : Bool) → after_doings g b (map (λ (d : ChangeAt). Changes d.what) (if t then c ∷ filter (λ d. d.rank == rank) cs else filter (λ d. d.rank == rank) cs))
+        ≡ after_doings g (if t then after_doing g b (Changes c.what) else b) (changes_for rank cs)
     by_test true = refl
     by_test false = refl
 
@@ -105,20 +106,20 @@ changes_then rank g b (c ∷ xs) ys =
     ∙ ap (λ t. presence rank g t ys) (sym (one_change rank g b c xs))
 
 -- a change of the reader and the writer sets whether they are matched
-sets : (g : Guid) (t b : Bool) (x : Becomes) → (touches g x ≡ true → after_doing g t (doing_of x) ≡ t) → touches g x ≡ true → after_doing g b (doing_of x) ≡ t
+sets : (g : Guid) (t b : Bool) (x : MatchChange) → (touches g x ≡ true → after_doing g t (Changes x) ≡ t) → touches g x ≡ true → after_doing g b (Changes x) ≡ t
 sets g t b (Matches w ls) h is = rw is (sym (ap (λ s. s || t) is) ∙ h is)
 sets g t b (Unmatches w) h is = rw is (sym (ap (λ s. not s && t) is) ∙ h is)
 sets g t b (Refuses w policy) h is = absurd (true≢false (sym is))
 
 -- and another leaves it
-leaves : (g : Guid) (b : Bool) (x : Becomes) → touches g x ≡ false → after_doing g b (doing_of x) ≡ b
+leaves : (g : Guid) (b : Bool) (x : MatchChange) → touches g x ≡ false → after_doing g b (Changes x) ≡ b
 leaves g b (Matches w ls) other = rw other refl
 leaves g b (Unmatches w) other = rw other refl
 leaves g b (Refuses w policy) other = refl
 
 -- whether they are matched after a change of the reader and the writer: the same after each of these
 abbrev AllSet : ℕ → Guid → Bool → List ChangeAt → Type 0
-AllSet rank g t cs = (x : Becomes) → Contains cs (at rank x) → touches g x ≡ true → after_doing g t (doing_of x) ≡ t
+AllSet rank g t cs = (x : MatchChange) → Contains cs (at rank x) → touches g x ≡ true → after_doing g t (Changes x) ≡ t
 
 later_set : (rank : ℕ) (g : Guid) (t : Bool) (c : ChangeAt) (cs : List ChangeAt) → AllSet rank g t (c ∷ cs) → AllSet rank g t cs
 later_set rank g t c cs all x h = all x (later_in c cs (at rank x) h)
@@ -126,11 +127,11 @@ later_set rank g t c cs all x h = all x (later_in c cs (at rank x) h)
 one_set : (rank : ℕ) (g : Guid) (t : Bool) (c : ChangeAt) (cs : List ChangeAt) → AllSet rank g t (c ∷ cs) → after_change rank g t c ≡ t
 one_set rank g t c cs all = by_rank (c.rank == rank) refl
   where
-    by_touch : (b : Bool) → touches g c.what ≡ b → Contains (c ∷ cs) (at rank c.what) → after_doing g t (doing_of c.what) ≡ t
+    by_touch : (b : Bool) → touches g c.what ≡ b → Contains (c ∷ cs) (at rank c.what) → after_doing g t (Changes c.what) ≡ t
     by_touch true is there = all c.what there is
     by_touch false other there = leaves g t c.what other
 
-    by_rank : (b : Bool) → (c.rank == rank) ≡ b → (if b then after_doing g t (doing_of c.what) else t) ≡ t
+    by_rank : (b : Bool) → (c.rank == rank) ≡ b → (if b then after_doing g t (Changes c.what) else t) ≡ t
     by_rank true e =
         let same : c.rank ≡ rank = grind (arith, nat_tests) in
         by_touch (touches g c.what) refl (subst (λ k. Contains (c ∷ cs) (at k c.what)) same (at_first c cs))
@@ -142,7 +143,7 @@ stays rank g t [] all = refl
 stays rank g t (c ∷ cs) all = one_change rank g t c cs ∙ ap (λ b. presence rank g b cs) (one_set rank g t c cs all) ∙ stays rank g t cs (later_set rank g t c cs all)
 
 -- and where there is such a change, it becomes so
-becomes : (rank : ℕ) (g : Guid) (t b : Bool) (x : Becomes) (cs : List ChangeAt) → touches g x ≡ true → Contains cs (at rank x) → AllSet rank g t cs → presence rank g b cs ≡ t
+becomes : (rank : ℕ) (g : Guid) (t b : Bool) (x : MatchChange) (cs : List ChangeAt) → touches g x ≡ true → Contains cs (at rank x) → AllSet rank g t cs → presence rank g b cs ≡ t
 becomes rank g t b x [] is there all = absurd (none_in (at rank x) there)
 becomes rank g t b x (c ∷ cs) is there all = by_part (first_or c cs (at rank x) there) (λ later. becomes rank g t (after_change rank g b c) x cs is later (later_set rank g t c cs all))
   where
@@ -150,7 +151,7 @@ becomes rank g t b x (c ∷ cs) is there all = by_part (first_or c cs (at rank x
     by_part (inl here) rest =
         one_change rank g b c cs
         ∙ ap (λ d. presence rank g (after_change rank g b d) cs) here
-        ∙ ap (λ s. presence rank g (if s then after_doing g b (doing_of x) else b) cs) (eq-eqb rank rank refl)
+        ∙ ap (λ s. presence rank g (if s then after_doing g b (Changes x) else b) cs) (eq-eqb rank rank refl)
         ∙ ap (λ d. presence rank g d cs) (sets g t b x (all x there) is)
         ∙ stays rank g t cs (later_set rank g t c cs all)
     by_part (inr later) rest = one_change rank g b c cs ∙ rest later

@@ -8,19 +8,20 @@ use Rattle.rtps_types.specs.declared.place.Place.{Place}
 use Rattle.rtps_receiver.specs.Events.{EventView}
 use Rattle.rtps_discovery.specs.Addressed.{is_discovery}
 use Rattle.rtps_discovery.specs.Announcement.{Announcement}
-use Rattle.rtps_discovery.specs.Changes.{Becomes, ChangeAt, Matches, Unmatches, Refuses, changes, changes_run, known_run}
+use Rattle.rtps_types.specs.MatchChange.{MatchChange, Matches, Unmatches, Refuses}
+use Rattle.rtps_discovery.specs.Changes.{ChangeAt, changes, changes_run, known_run}
 use Rattle.rtps_discovery.specs.declared.config.Config.{Config}
 use Rattle.rtps_discovery.specs.Known.{Known, known_after}
 use Rattle.rtps_discovery.specs.Records.{announcements, answered, changes_by, noted}
 use Rattle.rtps_proxy.specs.Replies.{ReplyView}
 use Rattle.dds_topic.specs.Decoding.{Decoding}
 use Rattle.rtps_reader.specs.Reader.{Reader, reader_after, reader_run, tells}
-use Rattle.rtps_reader.specs.Steps.{StepView}
+use Rattle.rtps_reader.specs.Steps.{Changes, StepView}
 use Rattle.rtps_serial.specs.ByRecord.{AreAlike, knowing, record_taken, records_run, records_taken, run_by_record, world_answered, world_by_record}
 use Rattle.rtps_run.specs.Run.{events_from, first_world, run, world_run}
 use Rattle.rtps_run.specs.Seen.{answers_in, notices_by, reader_count}
 use Rattle.rtps_run.specs.Steps.{ReaderStep, change_step, step_puts, steps_run, world_stepped}
-use Rattle.rtps_run.specs.World.{World, answer_put, changes_for, discovery_puts, doing_of, doings, puts_at, puts_below, puts_run, world_after}
+use Rattle.rtps_run.specs.World.{World, answer_put, changes_for, discovery_puts, doings, puts_at, puts_below, puts_run, world_after}
 use Rattle.rtps_run.proofs.Dealt.{answers_in-append, notices_by-append}
 use Rattle.rtps_run.proofs.Hearing.{announced_doings, announced_known, announced_puts, map_map}
 use Rattle.rtps_run.proofs.Matched.{heard_at, other_at, told_more, told_run}
@@ -61,7 +62,7 @@ module _ {M : Type 0} (d : Decoding M) (place : Place) (rank : ℕ) where
 
 -- ---- a change is answered by no reader
 
-unanswered : {M : Type 0} (d : Decoding M) (place : Place) (rank : ℕ) (r : Reader) (what : Becomes) → answers_in (puts_at d place rank r (doing_of what)) ≡ []
+unanswered : {M : Type 0} (d : Decoding M) (place : Place) (rank : ℕ) (r : Reader) (what : MatchChange) → answers_in (puts_at d place rank r (Changes what)) ≡ []
 unanswered d place rank r (Matches g ls) = refl
 unanswered d place rank r (Unmatches g) = refl
 unanswered d place rank r (Refuses g policy) = refl
@@ -74,16 +75,16 @@ answers_of_steps d place w (c ∷ cs) =
     ∙ ap (λ l. answers_in w.put ++ l) (by_count (nat_lt c.rank (reader_count w)))
     ∙ append-nil (answers_in w.put)
   where
-    by_count : (b : Bool) → answers_in (if b then puts_at d place c.rank (w.readers c.rank) (doing_of c.what) else []) ≡ []
+    by_count : (b : Bool) → answers_in (if b then puts_at d place c.rank (w.readers c.rank) (Changes c.what) else []) ≡ []
     by_count true = unanswered d place c.rank (w.readers c.rank) c.what
     by_count false = refl
 
-unanswered_run : {M : Type 0} (d : Decoding M) (place : Place) (rank : ℕ) (r : Reader) (cs : List ChangeAt) → answers_in (puts_run d place rank r (map (λ (c : ChangeAt). doing_of c.what) cs)) ≡ []
+unanswered_run : {M : Type 0} (d : Decoding M) (place : Place) (rank : ℕ) (r : Reader) (cs : List ChangeAt) → answers_in (puts_run d place rank r (map (λ (c : ChangeAt). Changes c.what) cs)) ≡ []
 unanswered_run d place rank r [] = refl
 unanswered_run d place rank r (c ∷ cs) =
-    answers_in-append (puts_at d place rank r (doing_of c.what)) (puts_run d place rank (reader_after r (doing_of c.what)) (map (λ (c : ChangeAt). doing_of c.what) cs))
-    ∙ ap (λ l. l ++ answers_in (puts_run d place rank (reader_after r (doing_of c.what)) (map (λ (c : ChangeAt). doing_of c.what) cs))) (unanswered d place rank r c.what)
-    ∙ unanswered_run d place rank (reader_after r (doing_of c.what)) cs
+    answers_in-append (puts_at d place rank r (Changes c.what)) (puts_run d place rank (reader_after r (Changes c.what)) (map (λ (c : ChangeAt). Changes c.what) cs))
+    ∙ ap (λ l. l ++ answers_in (puts_run d place rank (reader_after r (Changes c.what)) (map (λ (c : ChangeAt). Changes c.what) cs))) (unanswered d place rank r c.what)
+    ∙ unanswered_run d place rank (reader_after r (Changes c.what)) cs
 
 unanswered_below : {M : Type 0} (d : Decoding M) (k : Known) (e : EventView) (readers : ℕ → Reader) (n : ℕ) → is_discovery e.writer ≡ true → answers_in (puts_below d k e readers n) ≡ []
 unanswered_below d k e readers zero is = refl
@@ -107,8 +108,8 @@ told_both d place r (x ∷ xs) ys =
 
 both_for : (rank : ℕ) (xs ys : List ChangeAt) → changes_for rank (xs ++ ys) ≡ changes_for rank xs ++ changes_for rank ys
 both_for rank xs ys =
-    ap (map (λ (c : ChangeAt). doing_of c.what)) (filter-append (λ (c : ChangeAt). c.rank == rank) xs ys)
-    ∙ map-append (λ (c : ChangeAt). doing_of c.what) (filter (λ (c : ChangeAt). c.rank == rank) xs) (filter (λ (c : ChangeAt). c.rank == rank) ys)
+    ap (map (λ (c : ChangeAt). Changes c.what)) (filter-append (λ (c : ChangeAt). c.rank == rank) xs ys)
+    ∙ map-append (λ (c : ChangeAt). Changes c.what) (filter (λ (c : ChangeAt). c.rank == rank) xs) (filter (λ (c : ChangeAt). c.rank == rank) ys)
 
 change_asks : (rank : ℕ) (cs : List ChangeAt) → asks_for rank (map change_step cs) ≡ changes_for rank cs
 change_asks rank cs =

@@ -10,7 +10,8 @@ use Rattle.rtps_types.specs.declared.place.Place.{Place}
 use Rattle.rtps_receiver.specs.Events.{EventView}
 use Rattle.rtps_discovery.specs.Addressed.{is_addressed, is_discovery, writer_of}
 use Rattle.rtps_discovery.specs.Announcement.{Announcement}
-use Rattle.rtps_discovery.specs.Changes.{Becomes, ChangeAt, Matches, Unmatches, Refuses, at, changes, changes_run}
+use Rattle.rtps_types.specs.MatchChange.{MatchChange, Matches, Unmatches, Refuses}
+use Rattle.rtps_discovery.specs.Changes.{ChangeAt, at, changes, changes_run}
 use Rattle.rtps_discovery.specs.declared.config.Config.{Config}
 use Rattle.rtps_discovery.specs.Known as known
 use Rattle.rtps_discovery.specs.Known.{Known, Wish, is_matched, known_after, reader_at}
@@ -22,12 +23,12 @@ use Rattle.rtps_proxy.proofs.Matching.{same_is}
 use Rattle.dds_topic.specs.Decoding.{Decoding}
 use Rattle.rtps_reader.specs.declared.notice.Notice.{Notice}
 use Rattle.rtps_reader.specs.Reader.{Reader, reader_after, tells}
-use Rattle.rtps_reader.specs.Steps.{asks_of}
+use Rattle.rtps_reader.specs.Steps.{Changes, asks_of}
 use Rattle.rtps_run.specs.Presentation.{Since, Stretch, first_since, is_fixed, stretches, stretches_in}
 use Rattle.rtps_proxy.specs.History.{match_event_of}
 use Rattle.rtps_run.specs.Run.{events_from, first_world, run, world_run}
 use Rattle.rtps_run.specs.Seen.{notices_by, reader_count}
-use Rattle.rtps_run.specs.World.{World, addressed_to, changes_for, doing_of, doings, world_after}
+use Rattle.rtps_run.specs.World.{World, addressed_to, changes_for, doings, world_after}
 use Rattle.rtps_serial.proofs.Agreeing.{first_fixed, fixed_kept, fixed_stay, noted_alike, touches}
 use Rattle.rtps_run.proofs.Routed.{readers_stay}
 use Rattle.rtps_run.proofs.Matched.{told_more, told_run}
@@ -44,7 +45,7 @@ one_stretch {M} g since ns whole = ap (λ (ss : List (Stretch M)). length ss) (a
 module _ (rank : ℕ) (g : Guid) where
   -- no change of the reader begins or ends a match with the writer
   abbrev Untouched : List ChangeAt → Type 0
-  Untouched cs = (x : Becomes) → Contains cs (at rank x) → touches g x ≡ false
+  Untouched cs = (x : MatchChange) → Contains cs (at rank x) → touches g x ≡ false
 
   untouched : (before after : Known) → before.fixed ≡ after.fixed → known.is_fixed before.fixed rank g ≡ true → Untouched (changes before after)
   untouched before after stay fixed (Matches w ls) there = by_writer (same_guid w g) refl
@@ -76,7 +77,7 @@ module _ (rank : ℕ) (g : Guid) where
       by_part (inr later) rest = rest later
 
   -- such changes are reported by no notice that begins or ends a match with the writer
-  one_whole : {M : Type 0} (decoding : Decoding M) (place : Place) (r : Reader) (x : Becomes) → touches g x ≡ false → AllByRecursion (λ n. is_cut g n ≡ false) (tells decoding r place (doing_of x))
+  one_whole : {M : Type 0} (decoding : Decoding M) (place : Place) (r : Reader) (x : MatchChange) → touches g x ≡ false → AllByRecursion (λ n. is_cut g n ≡ false) (tells decoding r place (Changes x))
   one_whole decoding place r (Matches w ls) other = (ap (λ t. t && true) other, tt)
   one_whole decoding place r (Unmatches w) other = (ap (λ t. t && true) other, tt)
   one_whole decoding place r (Refuses w policy) other = (and-false (same_guid w g), tt)
@@ -86,11 +87,11 @@ module _ (rank : ℕ) (g : Guid) where
   changes_whole {M} decoding place r (c ∷ cs) all = by_rank (c.rank == rank) refl (λ s. changes_whole decoding place s cs (λ x there. all x (later_in c cs (at rank x) there)))
     where
       by_rank : (b : Bool) → (c.rank == rank) ≡ b → ((s : Reader) → AllByRecursion (λ n. is_cut g n ≡ false) (told_run decoding place s (changes_for rank cs)))
-          → AllByRecursion (λ n. is_cut g n ≡ false) (told_run decoding place r (map (λ (d : ChangeAt). doing_of d.what) (if b then c ∷ filter (λ d. d.rank == rank) cs else filter (λ d. d.rank == rank) cs)))
+          → AllByRecursion (λ n. is_cut g n ≡ false) (told_run decoding place r (map (λ (d : ChangeAt). Changes d.what) (if b then c ∷ filter (λ d. d.rank == rank) cs else filter (λ d. d.rank == rank) cs)))
       by_rank true is rest =
           let same : c.rank ≡ rank = grind (arith, nat_tests) in
-          all_append (λ (n : Notice M). is_cut g n ≡ false) (tells decoding r place (doing_of c.what)) (told_run decoding place (reader_after r (doing_of c.what)) (changes_for rank cs))
-          (one_whole decoding place r c.what (all c.what (subst (λ k. Contains (c ∷ cs) (at k c.what)) same (at_first c cs)))) (rest (reader_after r (doing_of c.what)))
+          all_append (λ (n : Notice M). is_cut g n ≡ false) (tells decoding r place (Changes c.what)) (told_run decoding place (reader_after r (Changes c.what)) (changes_for rank cs))
+          (one_whole decoding place r c.what (all c.what (subst (λ k. Contains (c ∷ cs) (at k c.what)) same (at_first c cs)))) (rest (reader_after r (Changes c.what)))
       by_rank false is rest = rest r
 
   -- nor are events of users' writers

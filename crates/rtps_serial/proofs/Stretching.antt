@@ -9,7 +9,8 @@ use Rattle.rtps_types.specs.declared.identity.Guid.{Guid}
 use Rattle.rtps_types.specs.declared.place.Place.{Place}
 use Rattle.rtps_receiver.specs.Events.{EventView}
 use Rattle.rtps_discovery.specs.Addressed.{writer_of}
-use Rattle.rtps_discovery.specs.Changes.{Becomes, ChangeAt, Matches, Unmatches, Refuses}
+use Rattle.rtps_types.specs.MatchChange.{MatchChange, Matches, Unmatches, Refuses}
+use Rattle.rtps_discovery.specs.Changes.{ChangeAt}
 use Rattle.rtps_proxy.specs.Effects.{ready_of}
 use Rattle.rtps_proxy.specs.History.{MatchEvent, ChangeView, match_event_of}
 use Rattle.rtps_proxy.specs.Matches.{Match, match_with, same_guid}
@@ -22,10 +23,9 @@ use Rattle.rtps_reader.specs.declared.notice.Notice.{Notice}
 use Rattle.rtps_reader.specs.declared.notice.NoticeKind.{NoticeKind}
 use Rattle.rtps_reader.specs.declared.notice.NoticeKind.TheVariants.{Sample as ASample, Matched, Unmatched, Incompatible, Lost}
 use Rattle.rtps_reader.specs.Reader.{Reader, fresh_with, loses, lost_at, presented, reader_after, reader_run, ready_at, tells, told_of}
-use Rattle.rtps_reader.specs.Steps.{Takes, Begins, Ends, asks_of}
+use Rattle.rtps_reader.specs.Steps.{Takes, Changes, asks_of}
 use Rattle.rtps_reader.proofs.Begun.{match_begun, same_self}
 use Rattle.rtps_run.specs.Presentation.{ArePresented, IsPresented, PresentedSince, Shown, Since, TheStart, ThePlace, Never, Stretch, events_after, shown_first, shown_in, stretch, stretches, stretches_by}
-use Rattle.rtps_run.specs.World.{doing_of}
 use Rattle.rtps_run.proofs.Matched.{either_way, ended_match, extend, extended_match, other_way, samples_told, told_by_other, told_run}
 use Rattle.rtps_run.proofs.Places.{PlacesFall, all_append, all_weaker, later_fall}
 use Rattle.rtps_run.proofs.Shown.{first_presented, samples_of, shown, shown_after}
@@ -190,32 +190,32 @@ module _ {M : Type 0} (decoding : Decoding M) (reliable : Bool) (g : Guid) (firs
   }
 
   -- a change of what is known, at a place after which these submessages are left
-  follows_change : (place : Place) (r : Reader) (given : List (Notice M)) (left : List EventView) (x : Becomes) → PlacesFall all → events_after place all ≡ reverse_aux left []
-      → Follows decoding reliable g first all r given left → Follows decoding reliable g first all (reader_after r (doing_of x)) (given ++ tells decoding r place (doing_of x)) left
+  follows_change : (place : Place) (r : Reader) (given : List (Notice M)) (left : List EventView) (x : MatchChange) → PlacesFall all → events_after place all ≡ reverse_aux left []
+      → Follows decoding reliable g first all r given left → Follows decoding reliable g first all (reader_after r (Changes x)) (given ++ tells decoding r place (Changes x)) left
   follows_change place r given left (Matches w ls) falls here f = by_writer (same_guid w g) refl
     where
       one : Match
       one = fresh_with r (w, ls)
 
-      by_writer : (b : Bool) → same_guid w g ≡ b → Follows decoding reliable g first all (reader_after r (Begins w ls)) (given ++ tells decoding r place (Begins w ls)) left
+      by_writer : (b : Bool) → same_guid w g ≡ b → Follows decoding reliable g first all (reader_after r (Changes (Matches w ls))) (given ++ tells decoding r place (Changes (Matches w ls))) left
       by_writer true is =
-          anew r (reader_after r (Begins w ls)) given (record { place = place; writer = w; what = Matched }) left (ThePlace place) falls f refl
+          anew r (reader_after r (Changes (Matches w ls))) given (record { place = place; writer = w; what = Matched }) left (ThePlace place) falls f refl
           (λ old ys. rw is refl)
           (subst (λ (o : Option Match). IsNow decoding reliable all left (ThePlace place) [] o) (sym (match_begun g one r.matches ∙ ap (λ t. if t then Some one else match_with g r.matches) is))
           (record { mine = []; past = refl; asks = f.asks; numbers = tt; given = λ asks. refl; events = here }))
       by_writer false other =
-          left_alone r (reader_after r (Begins w ls)) given (record { place = place; writer = w; what = Matched } ∷ []) left f refl
+          left_alone r (reader_after r (Changes (Matches w ls))) given (record { place = place; writer = w; what = Matched } ∷ []) left f refl
           (match_begun g one r.matches ∙ ap (λ t. if t then Some one else match_with g r.matches) other)
           (ap (λ t. t && true) other, tt) (rw other refl)
   follows_change place r given left (Unmatches w) falls here f = by_writer (same_guid w g) refl
     where
-      by_writer : (b : Bool) → same_guid w g ≡ b → Follows decoding reliable g first all (reader_after r (Ends w)) (given ++ tells decoding r place (Ends w)) left
+      by_writer : (b : Bool) → same_guid w g ≡ b → Follows decoding reliable g first all (reader_after r (Changes (Unmatches w))) (given ++ tells decoding r place (Changes (Unmatches w))) left
       by_writer true is =
-          anew r (reader_after r (Ends w)) given (record { place = place; writer = w; what = Unmatched }) left Never falls f refl
+          anew r (reader_after r (Changes (Unmatches w))) given (record { place = place; writer = w; what = Unmatched }) left Never falls f refl
           (λ old ys. rw is refl)
           (subst (λ (o : Option Match). IsNow decoding reliable all left Never [] o) (sym (ended_match g w r.matches ∙ ap (λ t. if t then None else match_with g r.matches) is)) (refl, refl))
       by_writer false other =
-          left_alone r (reader_after r (Ends w)) given (record { place = place; writer = w; what = Unmatched } ∷ []) left f refl
+          left_alone r (reader_after r (Changes (Unmatches w))) given (record { place = place; writer = w; what = Unmatched } ∷ []) left f refl
           (ended_match g w r.matches ∙ ap (λ t. if t then None else match_with g r.matches) other)
           (ap (λ t. t && true) other, tt) (rw other refl)
   follows_change place r given left (Refuses w policy) falls here f =
@@ -227,12 +227,12 @@ module _ {M : Type 0} (decoding : Decoding M) (reliable : Bool) (g : Guid) (firs
   -- all changes of an event, one after the other
   pub follows_changes : (place : Place) (r : Reader) (given : List (Notice M)) (left : List EventView) (cs : List ChangeAt) → PlacesFall all → events_after place all ≡ reverse_aux left []
       → Follows decoding reliable g first all r given left
-      → Follows decoding reliable g first all (reader_run r (map (λ c. doing_of c.what) cs)) (given ++ told_run decoding place r (map (λ c. doing_of c.what) cs)) left
+      → Follows decoding reliable g first all (reader_run r (map (λ c. Changes c.what) cs)) (given ++ told_run decoding place r (map (λ c. Changes c.what) cs)) left
   follows_changes place r given left [] falls here f = subst (λ ns. Follows decoding reliable g first all r ns left) (sym (append-nil given)) f
   follows_changes place r given left (c ∷ cs) falls here f =
-      subst (λ ns. Follows decoding reliable g first all (reader_run (reader_after r (doing_of c.what)) (map (λ (c : ChangeAt). doing_of c.what) cs)) ns left)
-      (append_assoc given (tells decoding r place (doing_of c.what)) (told_run decoding place (reader_after r (doing_of c.what)) (map (λ (c : ChangeAt). doing_of c.what) cs)))
-      (follows_changes place (reader_after r (doing_of c.what)) (given ++ tells decoding r place (doing_of c.what)) left cs falls here (follows_change place r given left c.what falls here f))
+      subst (λ ns. Follows decoding reliable g first all (reader_run (reader_after r (Changes c.what)) (map (λ (c : ChangeAt). Changes c.what) cs)) ns left)
+      (append_assoc given (tells decoding r place (Changes c.what)) (told_run decoding place (reader_after r (Changes c.what)) (map (λ (c : ChangeAt). Changes c.what) cs)))
+      (follows_changes place (reader_after r (Changes c.what)) (given ++ tells decoding r place (Changes c.what)) left cs falls here (follows_change place r given left c.what falls here f))
 
   ready_is : (m : Match) (past : List MatchEvent) (c : MatchEvent) → m.pairing.reliable ≡ true → m.past ≡ past → ready_at m c ≡ ready past c
   ready_is m past c asks came = ap (λ b. ready_of b m.past c) asks ∙ ap (λ p. ready p c) came

@@ -15,9 +15,9 @@ ghost use Rattle.rtps_run.specs.World.{ReportView, World, answer_put, world_afte
 use crate::readers::Readers;
 use dds_topic::Catalog;
 use rtps_discovery::{Discovery, MatchChange, is_discovery};
-use rtps_reader::Step;
+use rtps_reader::{Step, StepKind};
 use rtps_receiver::Event;
-use rtps_run::{Answer, Report, asked_by};
+use rtps_run::{Answer, Report};
 use rtps_types::{Guid, Place, Reply};
 use std::alloc::{AllocError, Allocator};
 
@@ -65,7 +65,7 @@ fn take_changes<C: Catalog, A: Allocator + Copy>(
     for change in changes {
         let step = Step {
             place,
-            what: asked_by(&change.what),
+            what: StepKind::Change(&change.what),
         };
         readers.step(alloc, change.rank, &step, reports)?;
     }

@@ -1,7 +1,7 @@
 //! The steps of a job.
 
 ghost use Rattle.std.specs.Prelude.{◌≡◌, List, OnOk, drop, map, option_to_list, take, ◌+◌};
-ghost use Rattle.rtps_discovery.specs.Seen.{becomes_seen};
+ghost use Rattle.rtps_types.specs.MatchChange.{match_change_view};
 ghost use Rattle.rtps_receiver.specs.Events.{view};
 ghost use Rattle.rtps_proxy.specs.Effects.{GivesNothing};
 ghost use Rattle.rtps_reader.specs.declared.notice.Notice.{Notice};
@@ -13,12 +13,11 @@ ghost use Rattle.rtps_shards.specs.Results.{HasTaken, share};
 
 use crate::jobs::JobResult;
 use dds_topic::{Catalog, Decoder};
-use rtps_discovery::Becomes;
 use rtps_planner::PlannedStep;
 use rtps_proxy::Effects;
-use rtps_reader::Step;
+use rtps_reader::{Step, StepKind};
 use rtps_receiver::Event;
-use rtps_run::asked_by;
+use rtps_types::MatchChangeKind;
 use std::alloc::{AllocError, Global};
 
 /// The event at an index and so many more that follow it, as far as there are any.
@@ -29,16 +28,20 @@ fn stretch<'a>(events: &'a [Event<'a>], first: usize, more: usize) -> &'a [Event
     &rest[..more.saturating_add(1).min(rest.len())]
 }
 
-/// The step in which a reader hears what becomes of a match, which the event at an index announces;
+/// The step by which a match changes, at the place of the event of this index, which announces it;
 /// none where there is no such event.
-fn change_at<'a>(events: &'a [Event<'a>], event: usize, what: &'a Becomes) -> Option<Step<'a>>
+fn change_at<'a>(
+    events: &'a [Event<'a>],
+    event: usize,
+    what: &'a MatchChangeKind,
+) -> Option<Step<'a>>
     ensures { map (λ s. (s.place, asked s.what)) (option_to_list result)
-        ≡ heard_at (map view events.now) event (becomes_seen what.now) }
+        ≡ heard_at (map view events.now) event (match_change_view what.now) }
 {
     let event = events.get(event)?;
     Some(Step {
         place: event.place,
-        what: asked_by(what),
+        what: StepKind::Change(what),
     })
 }
 

@@ -8,3 +8,4 @@ pub mod Walks
 pub mod Texts
 pub mod Decimals
 pub mod Moments
+pub mod Policies

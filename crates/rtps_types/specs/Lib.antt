@@ -12,3 +12,5 @@ pub mod Named
 pub mod Text
 pub mod NumberText
 pub mod TimeText
+pub mod Policy
+pub mod MatchChange

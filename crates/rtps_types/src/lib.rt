@@ -8,10 +8,12 @@ mod field;
 mod identity;
 pub mod laws;
 mod locator;
+mod match_change;
 mod number;
 mod octets;
 mod order;
 mod place;
+mod policy;
 mod set;
 #[cfg(test)]
 mod tests;
@@ -25,9 +27,11 @@ pub use field::{
 };
 pub use identity::{EntityId, Guid, GuidPrefix, KeyHash};
 pub use locator::{Locator, Locators};
+pub use match_change::MatchChangeKind;
 pub use number::{MAX_NUMBER, Number, SequenceNumber};
 pub use octets::Octets;
 pub use place::Place;
+pub use policy::PolicyId;
 pub use set::{FragSet, FragmentNumberSet, Members, SequenceNumberSet, SnSet, set_bit};
 pub use text::TextFault;
 pub use time::{Duration, Timestamp};

@@ -227,3 +227,20 @@ fn lists_keep_their_items(rt: HostRuntime) -> Result<(), Fail> {
     assert_eq!(rt; octets.as_slice(), [0x52, 0x54].as_slice());
     Ok(())
 }
+
+#[test]
+fn policies_have_ids_and_names(rt: HostRuntime) {
+    for (policy, id, name) in [
+        (PolicyId::Durability, 2, "Durability"),
+        (PolicyId::Presentation, 3, "Presentation"),
+        (PolicyId::Deadline, 4, "Deadline"),
+        (PolicyId::LatencyBudget, 5, "LatencyBudget"),
+        (PolicyId::Ownership, 6, "Ownership"),
+        (PolicyId::Liveliness, 8, "Liveliness"),
+        (PolicyId::Reliability, 11, "Reliability"),
+        (PolicyId::DestinationOrder, 12, "DestinationOrder"),
+    ] {
+        assert_eq!(rt; policy.id(), id);
+        assert_eq!(rt; policy.name(), name);
+    }
+}

@@ -6,6 +6,7 @@ ghost use Rattle.dds_outlet.specs.Rows.{row_view};
 
 use crate::*;
 use rtps_reader::Status;
+use rtps_types::PolicyId;
 use std::alloc::{AllocError, Global};
 use std::sync::Wait;
 use std::test::Fail;
@@ -17,7 +18,7 @@ fn status_of(batch: u64, rank: u32) -> Status {
         matched_total: 2,
         matched_now: 1,
         incompatible_total: 3,
-        last_policy: Some(11),
+        last_policy: Some(PolicyId::Reliability),
         lost_total: rank,
         samples: u32::try_from(batch).unwrap_or(u32::MAX),
     }

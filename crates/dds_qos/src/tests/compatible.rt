@@ -146,7 +146,7 @@ const LESS: [(Policies, u32); 12] = [
     ),
 ];
 
-/// The fault of an offer of these policies where those in the middle are asked for.
+/// The id of the policy that isn't met by an offer of these policies where those in the middle are asked for.
 fn fault_of<A: Allocator + Copy>(alloc: A, policies: Policies) -> Option<u32> {
     let offered = Offered {
         policies,
@@ -156,7 +156,8 @@ fn fault_of<A: Allocator + Copy>(alloc: A, policies: Policies) -> Option<u32> {
         policies: MIDDLE,
         partitions: Partitions::new(Vec::<String<A>, A>::new(alloc)),
     };
-    first_fault(&offered, &requested)
+    let policy = first_fault(&offered, &requested)?;
+    Some(policy.id())
 }
 
 #[test]

@@ -6,10 +6,10 @@ use crate::addressed::{
     ENTITYID_SEDP_BUILTIN_SUBSCRIPTIONS_ANNOUNCER, ENTITYID_SPDP_BUILTIN_PARTICIPANT_ANNOUNCER,
     ENTITYID_UNKNOWN,
 };
-use crate::{Becomes, Config, Discovery, MatchChange, ReaderConfig, check};
+use crate::{Config, Discovery, MatchChange, ReaderConfig, check};
 use dds_qos::Durability;
 use rtps_receiver::{Body, Event, Whole};
-use rtps_types::{EntityId, Guid, KeyHash, Locators, Number, Place};
+use rtps_types::{EntityId, Guid, KeyHash, Locators, MatchChangeKind, Number, Place};
 use rtps_wire::{ChangeInfo, Form};
 use std::alloc::{Allocator, Global};
 use std::test::Fail;
@@ -132,15 +132,16 @@ type Heard = (u32, u8, Became);
 
 fn heard_of(change: &MatchChange) -> Heard {
     let (writer, became) = match &change.what {
-        Becomes::Match(writer, locators) => {
-            let port = locators
+        MatchChangeKind::Match(facts) => {
+            let port = facts
+                .locators
                 .as_slice()
                 .first()
                 .map_or(0, |locator| locator.port);
-            (writer, Became::Match(port))
+            (&facts.writer, Became::Match(port))
         }
-        Becomes::Unmatch(writer) => (writer, Became::Unmatch),
-        Becomes::Refuse(writer, policy) => (writer, Became::Refuse(*policy)),
+        MatchChangeKind::Unmatch(writer) => (writer, Became::Unmatch),
+        MatchChangeKind::Refuse { writer, policy } => (writer, Became::Refuse(policy.id())),
     };
     (change.rank, writer.entity.0[2], became)
 }

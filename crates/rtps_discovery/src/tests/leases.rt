@@ -6,9 +6,9 @@ use crate::addressed::{
     ENTITYID_SEDP_BUILTIN_PUBLICATIONS_ANNOUNCER, ENTITYID_SPDP_BUILTIN_PARTICIPANT_ANNOUNCER,
     ENTITYID_UNKNOWN,
 };
-use crate::{Becomes, Config, Discovery, MatchChange, ReaderConfig, check};
+use crate::{Config, Discovery, MatchChange, ReaderConfig, check};
 use rtps_receiver::{Body, Event, Whole};
-use rtps_types::{EntityId, Guid, GuidPrefix, Locators, Number, Place};
+use rtps_types::{EntityId, Guid, GuidPrefix, Locators, MatchChangeKind, Number, Place};
 use rtps_wire::{ChangeInfo, Form};
 use std::alloc::{AllocError, Allocator, Global};
 use std::test::Fail;
@@ -110,9 +110,9 @@ type Heard = (u32, u8, u8, Became);
 
 fn heard_of(change: &MatchChange) -> Heard {
     let (writer, became) = match &change.what {
-        Becomes::Match(writer, _) => (writer, Matched),
-        Becomes::Unmatch(writer) => (writer, Unmatched),
-        Becomes::Refuse(writer, _) => (writer, Became::Refused),
+        MatchChangeKind::Match(facts) => (&facts.writer, Matched),
+        MatchChangeKind::Unmatch(writer) => (writer, Unmatched),
+        MatchChangeKind::Refuse { writer, .. } => (writer, Became::Refused),
     };
     (change.rank, writer.prefix.0[0], writer.entity.0[2], became)
 }

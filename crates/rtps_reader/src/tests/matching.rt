@@ -4,7 +4,10 @@ use crate::*;
 use dds_topic::{Decoder, Shape, Shapes};
 use linked_list_allocator::LocalHeap;
 use rtps_receiver::{Body as EventBody, Heartbeat, Whole};
-use rtps_types::{EntityId, Guid, GuidPrefix, Locator, Number, Place};
+use rtps_types::{
+    EntityId, Guid, GuidPrefix, Locator, Locators, MatchChangeKind, Number, Place, PolicyId,
+    WriterFacts,
+};
 use rtps_wire::{ChangeInfo, Form};
 use std::alloc::{AllocError, Allocator, Global};
 use std::test::Fail;
@@ -30,7 +33,7 @@ enum Asks {
     Match(u16),
     Unmatch,
     /// To report the writer for this policy.
-    Refuse(u32),
+    Refuse(PolicyId),
 }
 
 /// What the reader reports.
@@ -41,12 +44,12 @@ enum Told {
     Lost(u64),
     Matched,
     Unmatched,
-    Incompatible(u32),
+    Incompatible(PolicyId),
 }
 
 /// The matches that began and those that there are, the refusals and the last policy, the lost
 /// numbers, and the samples.
-type Counted = (u32, u64, u32, Option<u32>, u32, u32);
+type Counted = (u32, u64, u32, Option<PolicyId>, u32, u32);
 
 /// What is asked; what is reported; the port and the count of the answer; and the status after it.
 type Row = (Asks, Told, Option<(u16, u8)>, Counted);
@@ -110,22 +113,22 @@ const STEPS: [Row; 15] = [
         (3, 1, 0, None, 2, 3),
     ),
     (
-        Asks::Refuse(11),
-        Told::Incompatible(11),
+        Asks::Refuse(PolicyId::Reliability),
+        Told::Incompatible(PolicyId::Reliability),
         None,
-        (3, 1, 1, Some(11), 2, 3),
+        (3, 1, 1, Some(PolicyId::Reliability), 2, 3),
     ),
     (
-        Asks::Refuse(2),
-        Told::Incompatible(2),
+        Asks::Refuse(PolicyId::Durability),
+        Told::Incompatible(PolicyId::Durability),
         None,
-        (3, 1, 2, Some(2), 2, 3),
+        (3, 1, 2, Some(PolicyId::Durability), 2, 3),
     ),
     (
         Asks::Heartbeat(1, 2, 1),
         Told::Nothing,
         Some((7413, 1)),
-        (3, 1, 2, Some(2), 2, 3),
+        (3, 1, 2, Some(PolicyId::Durability), 2, 3),
     ),
 ];
 
@@ -180,7 +183,7 @@ fn stepped<A: Allocator + Copy>(
     alloc: A,
     values: Global,
     reader: &mut ReaderState<A>,
-    what: StepKind<'_>,
+    what: StepKind<'_, A>,
 ) -> Result<Output<Shape, A>, ReaderError> {
     let mut output = Output {
         notices: Vec::new(alloc),
@@ -225,11 +228,18 @@ fn given<A: Allocator + Copy>(
                 port,
                 address: [127, 0, 0, 1],
             }];
-            let locators = &locators;
-            stepped(alloc, values, reader, StepKind::Match { writer, locators })
+            let locators = Locators::copied(alloc, &locators)?;
+            let begins = MatchChangeKind::Match(WriterFacts { writer, locators });
+            stepped(alloc, values, reader, StepKind::Change(&begins))
         }
-        Asks::Unmatch => stepped(alloc, values, reader, StepKind::Unmatch { writer }),
-        Asks::Refuse(policy) => stepped(alloc, values, reader, StepKind::Refuse { writer, policy }),
+        Asks::Unmatch => {
+            let ends = MatchChangeKind::Unmatch(writer);
+            stepped(alloc, values, reader, StepKind::Change(&ends))
+        }
+        Asks::Refuse(policy) => {
+            let refuses = MatchChangeKind::Refuse { writer, policy };
+            stepped(alloc, values, reader, StepKind::Change(&refuses))
+        }
     })
 }
 
@@ -312,7 +322,7 @@ fn a_match_without_memory(rt: HostRuntime) -> Result<(), Fail> {
                 refused = true;
                 assert_eq!(rt; error, AllocError);
                 // The reader is spent: nothing else is taken, where memory would be left too.
-                for asks in [Asks::Unmatch, Asks::Refuse(2)] {
+                for asks in [Asks::Unmatch, Asks::Refuse(PolicyId::Durability)] {
                     let again = given(&heap, rt.alloc(), &mut reader, asks)?;
                     assert!(rt; again.is_err());
                 }

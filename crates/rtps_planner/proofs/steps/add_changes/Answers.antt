@@ -1,7 +1,7 @@
 use Rattle.std.proofs.Common.{◌≡◌, ◌++◌, ◌∙◌, ◌∷◌, [], append-nil, append_assoc, ap, refl, rules, if◌then◌else◌, ◌==◌, subst, sym}
 use Rattle.std.proofs.lemmas.List.{nil_from_length}
+use Rattle.rtps_reader.specs.Steps.{Changes}
 use Rattle.rtps_discovery.specs.Seen.{change_seen}
-use Rattle.rtps_run.specs.World.{doing_of}
 use Rattle.rtps_planner.specs.declared.steps.PlannedStep.{PlannedStep}
 use Rattle.rtps_planner.specs.declared.steps.PlannedStep.TheVariants as step
 use Rattle.rtps_planner.specs.Plan.{Grow, step_seen}
@@ -25,7 +25,7 @@ loop-change-preserved g c =
     record {
       grows = λ es e is.
           let step : PlannedStep g.row.A.Denot = step.Change c.args.event change.what in
-          let one : step_seen es step ≡ (e.place, doing_of (change_seen change).what) ∷ [] = hears_one es e c.args.event change.what is in
+          let one : step_seen es step ≡ (e.place, Changes (change_seen change).what) ∷ [] = hears_one es e c.args.event change.what is in
           grow_more es old mid new (changes_asked_at e.place done) (λ at. if change.rank == at then step_seen es step else []) (changes_asked_at e.place (done ++ change ∷ []))
           (λ rank. change_more es e c.args.event done change step rank one) (c.loop-change.invariant.grows es e is) (c.in_ok-add_step.ensures es);
       left = c.loop-change.invariant.left ∙ ap (λ l. done ++ l) taken ∙ sym (append_assoc done (change ∷ []) c.next.new.self.rest.items);

@@ -1,7 +1,6 @@
 use Rattle.std.proofs.Common.{◌≡◌, ◌<◌, ◌+◌, ◌∷◌, [], ◌++◌, ◌∙◌, ap, arith, length, map, subst, sym, take}
 use Rattle.std.proofs.lemmas.List.{map_push, take_all, take_more}
 use Rattle.rtps_discovery.specs.Seen.{change_seen}
-use Rattle.rtps_reader.specs.Steps.{StepView}
 use Rattle.rtps_run.specs.Standing.{ReadersStand}
 use Rattle.rtps_run.specs.Steps.{change_step, step_by, steps_run, world_stepped}
 use Rattle.rtps_run.proofs.Reached.{steps_run-append}
@@ -27,8 +26,7 @@ loop-change-preserved g c =
           let stands = c.loop-change.invariant.stands w earlier old in
           let after : ReadersStand g.C.Catalog.view (world_stepped d place v (change_step (change_seen change))) earlier c.step.new.self.states.items c.step.new.reports.items
           = subst (λ k. ReadersStand g.C.Catalog.view (world_stepped (g.C.Catalog.decoding k) place v (change_step (change_seen change))) earlier c.step.new.self.states.items c.step.new.reports.items) c.loop-change.invariant.same
-          (subst (λ (a : StepView). ReadersStand g.C.Catalog.view (world_stepped (g.C.Catalog.decoding c.loop-change.readers.decoder) place v (step_by change.rank a)) earlier c.step.new.self.states.items c.step.new.reports.items) c.asked_by.ensures
-          (c.in_ok-step.ensures.stands v earlier stands)) in
+          (c.in_ok-step.ensures.stands v earlier stands) in
           rw (more, steps_run-append d place w (map change_step (map change_seen (take i changes))) (change_step (change_seen change) ∷ [])) after;
     }
 

@@ -1,13 +1,11 @@
-use Rattle.std.proofs.Common.{◌≡◌, ◌+◌, ◌++◌, ◌∙◌, append-nil, false, map, refl, sym, ap, subst}
+use Rattle.std.proofs.Common.{◌≡◌, ◌++◌, ◌∙◌, append-nil, false, map, sym, ap, subst}
 use Rattle.rtps_proxy.specs.Effects.{match_event}
 use Rattle.rtps_proxy.specs.Matches.{AreTaken, given_where, match_with}
-use Rattle.rtps_reader.specs.declared.status.Counts.{Counts}
 use Rattle.rtps_reader.specs.Notices.{answer_view, notice_view}
 use Rattle.rtps_reader.specs.Reader.{reader_after, sends, tells}
 use Rattle.rtps_reader.specs.Standing.{StandsAt, kept_by}
-use Rattle.rtps_reader.specs.Status.{capped}
 use Rattle.rtps_reader.specs.Steps.{StepView, Takes, asked}
-use Rattle.rtps_reader.proofs.Stepping.{stands_begun, stands_ended, stands_refused, stands_taken}
+use Rattle.rtps_reader.proofs.Stepping.{stands_taken}
 use Rattle.rtps_reader.proofs.Telling.{none_said, none_told, on_ok, on_ok_then, said_taken, told_taken}
 use Rattle.rtps_reader.proofs.stateful.StatefulReader.step.Goals as goal
 
@@ -77,20 +75,10 @@ returns-else-not-is_matched-clause-answers g c r given stands =
     on_ok_then c.present.result c.present.ensures.answers (λ said. subst (λ (a : StepView). map answer_view c.present.new.output.answers.items ≡ old ++ sends r place a) (sym is)
     (said ∙ ap (λ l. old ++ l) (said_taken place (match_with w r.matches) e c.take.new.effects taken)))
 
-pub returns-in_ok-begin-in-Match-clause-stands : goal.returns-in_ok-begin-in-Match-clause-stands
-returns-in_ok-begin-in-Match-clause-stands g c r given stands =
-    let begun = c.in_ok-begin-in-Match.ensures in
-    let counts : c.with_match-self.result ≡ record c.args.self.now.counts { matched_total = capped (c.args.self.now.counts.matched_total + 1) }
-    = c.with_match-self.ensures ∙ ap (λ (k : Counts). record k { matched_total = capped (k.matched_total + 1) }) begun.counts in
-    rw c.in-Match.is (on_ok c.tell.result (stands_begun (g.C.Catalog.decoding c.args.decoder.now) r given c.args.step.now.place c.in-Match.writer c.in-Match.locators.now c.args.self.now _ stands
-    (record { rank = begun.reader.rank; own = begun.reader.own; entity = begun.reader.entity; reliable = begun.reader.reliable }) (begun.stands r.matches stands.matches) counts))
+pub returns-in-Change-clause-stands : goal.returns-in-Change-clause-stands
+returns-in-Change-clause-stands g c r given stands =
+    rw c.in-Change.is (c.change.ensures.stands (g.C.Catalog.decoding c.args.decoder.now) r given stands)
 
-pub returns-in-Unmatch-clause-stands : goal.returns-in-Unmatch-clause-stands
-returns-in-Unmatch-clause-stands g c r given stands =
-    rw c.in-Unmatch.is (on_ok c.tell-in-Unmatch.result (stands_ended (g.C.Catalog.decoding c.args.decoder.now) r given c.args.step.now.place c.in-Unmatch.writer c.args.self.now _ stands
-    (record { rank = refl; own = refl; entity = refl; reliable = refl }) (c.end.ensures r.matches stands.matches) refl))
-
-pub returns-in-Refuse-clause-stands : goal.returns-in-Refuse-clause-stands
-returns-in-Refuse-clause-stands g c r given stands =
-    rw c.in-Refuse.is (on_ok c.tell-in-Refuse.result (stands_refused (g.C.Catalog.decoding c.args.decoder.now) r given c.args.step.now.place c.in-Refuse.writer c.in-Refuse.policy c.args.self.now _ stands
-    (record { rank = refl; own = refl; entity = refl; reliable = refl }) refl c.with_refusal-self.ensures))
+pub returns-in-Change-clause-notices : goal.returns-in-Change-clause-notices
+returns-in-Change-clause-notices g c r given stands =
+    rw c.in-Change.is (c.change.ensures.notices (g.C.Catalog.decoding c.args.decoder.now) r)

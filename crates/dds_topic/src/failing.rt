@@ -1,0 +1,83 @@
+//! A catalog that runs out of memory, for tests.
+
+use crate::{Catalog, CatalogError, TextCatalog};
+use rtps_types::KeyHash;
+use std::alloc::{AllocError, Allocator, Global};
+use std::sync::atomic::{AtomicU64, Ordering};
+
+/// A catalog that finds no memory for one value and else answers as another one does, to test what
+/// becomes of whoever decodes by it.
+#[derive(Drop)]
+pub struct FailingCatalog<C> {
+    /// Whose answers are given.
+    pub catalog: C,
+    /// The value that finds no memory, counted from 0 in the order in which they are decoded.
+    pub fails_at: u64,
+    /// How many values were decoded so far, by whatever thread; 0 at first.
+    pub decoded: AtomicU64,
+}
+
+impl<C: Catalog> Catalog for FailingCatalog<C> {
+    type Value = C::Value;
+
+    type Memo = C::Memo;
+
+    ghost Meaning = { C.Meaning };
+
+    ghost view = { C.view };
+
+    ghost decoding = { λ s. C.decoding s.catalog };
+
+    ghost key = { λ s. C.key s.catalog };
+
+    ghost text_of = { λ s. C.text_of s.catalog };
+
+    fn decode(&self, alloc: Global, kind: u16, body: &[u8]) -> Result<C::Value, CatalogError> {
+        if self.decoded.fetch_add(1, Ordering::SeqCst) == self.fails_at {
+            return Err(CatalogError::NoMemory);
+        }
+        self.catalog.decode(alloc, kind, body)
+    }
+
+    fn key_of(&self, alloc: Global, value: &C::Value) -> Result<KeyHash, AllocError> {
+        self.catalog.key_of(alloc, value)
+    }
+
+    fn key_by(
+        &self,
+        memo: &mut C::Memo,
+        alloc: Global,
+        value: &C::Value,
+    ) -> Result<KeyHash, AllocError> {
+        self.catalog.key_by(memo, alloc, value)
+    }
+
+    fn key_payload(&self, alloc: Global, value: &C::Value) -> Result<Vec<u8>, AllocError> {
+        self.catalog.key_payload(alloc, value)
+    }
+
+    fn key_of_payload(
+        &self,
+        alloc: Global,
+        kind: u16,
+        body: &[u8],
+    ) -> Result<KeyHash, CatalogError> {
+        self.catalog.key_of_payload(alloc, kind, body)
+    }
+
+    ghost key_again = { λ s v. C.key_again s.catalog v };
+}
+
+impl<C: TextCatalog> TextCatalog for FailingCatalog<C> {
+    fn push_text<A: Allocator>(
+        &self,
+        out: &mut Vec<u8, A>,
+        value: &C::Value,
+    ) -> Result<(), AllocError> {
+        self.catalog.push_text(out, value)
+    }
+
+    fn text(&self, alloc: Global, value: &C::Value) -> Result<Vec<u8>, AllocError> {
+        self.catalog.text(alloc, value)
+    }
+}
