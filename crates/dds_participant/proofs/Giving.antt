@@ -1,5 +1,5 @@
 -- What a batch gives is what the run puts out more.
-use Rattle.std.proofs.Common.{◌≡◌, ℕ, zero, suc, ◌<◌, ◌≤◌, List, [], ◌∷◌, ◌++◌, length, map, Global, get_or, inl, inr, refl, sym, ap, ◌∙◌, subst, arith}
+use Rattle.std.proofs.Common.{◌≡◌, ℕ, zero, suc, ◌<◌, ◌≤◌, List, [], ◌∷◌, ◌++◌, length, map, Global, get_or, None, Some, inl, inr, refl, sym, ap, ◌∙◌, subst, arith}
 use Rattle.std.proofs.lemmas.Bool.{cases_lt}
 use Rattle.rtps_types.specs.declared.identity.GuidPrefix.{GuidPrefix}
 use Rattle.rtps_types.specs.declared.place.Place.{Place}
@@ -10,25 +10,23 @@ use Rattle.rtps_proxy.specs.Replies.{ReplyView}
 use Rattle.rtps_reader.specs.declared.notice.Output.{Output}
 use Rattle.rtps_reader.specs.Notices as reader
 use Rattle.rtps_reader.specs.Standing.{ReaderView}
-use Rattle.rtps_run.specs.declared.outcome.Answer.{Answer}
-use Rattle.rtps_run.specs.Outcome.{answer_view}
 use Rattle.rtps_run.specs.Run.{events_from, world_run}
 use Rattle.rtps_run.specs.Seen.{notices_by, reader_count}
-use Rattle.rtps_run.specs.World as world
-use Rattle.rtps_run.specs.World.{NoticeOf, AnswerView, World}
+use Rattle.rtps_run.specs.World.{NoticeOf, World, sent_by}
 use Rattle.rtps_run.proofs.Places.{PlacesRise, rise_from}
 use Rattle.rtps_run.proofs.Running.{count_stays}
 use Rattle.rtps_planner.specs.declared.jobs.Plan.{Plan}
-use Rattle.rtps_planner.specs.Commuting.{Parts, answers_at, discovery_sends, merged, merged_below, notices_at, parts_of}
-use Rattle.rtps_planner.specs.Gather.{AreRising}
+use Rattle.rtps_planner.specs.Commuting.{Parts, answers_at, merged, merged_below, notices_at, parts_of}
+use Rattle.rtps_planner.specs.Gather.{AreRising, sent_in}
 use Rattle.rtps_planner.specs.Job.{discovery_answers, job_of, job_sent, job_told}
-use Rattle.rtps_planner.specs.Plan.{IsPlan, discovery_sending}
+use Rattle.rtps_planner.specs.Plan.{IsPlan}
 use Rattle.rtps_planner.proofs.Adding.{rising}
 use Rattle.rtps_planner.proofs.Alone.{parts}
 use Rattle.rtps_planner.proofs.Along.{answers_along, sent_along, told_along}
+use Rattle.rtps_planner.proofs.Judged.{sent_at, sent_past}
 use Rattle.rtps_planner.proofs.Merged.{by_places}
 use Rattle.dds_participant.specs.Batch.{shares_in}
-use Rattle.dds_participant.specs.Given.{AreAnswersAlong, AreNoticesAlong, IsGiven, parts_given, said_view, sent_in, told_in}
+use Rattle.dds_participant.specs.Given.{AreAnswersAlong, AreNoticesAlong, IsGiven, parts_given, told_in}
 use Rattle.dds_participant.specs.declared.given.Given.{Given}
 use Rattle.dds_participant.specs.declared.readers.Parted.{Parted}
 use Rattle.dds_participant.specs.Sharing.{AreRun}
@@ -47,16 +45,6 @@ module _ {V M : Type 0} (f : V → M) where
   told_past (o ∷ os) (suc rank) past = told_past os rank (omega (arith, past))
 
 module _ {V : Type 0} where
-  pub sent_at : (outputs : List (Output V Global)) (rank : ℕ) (other : Output V Global) → rank < length outputs → sent_in outputs rank ≡ map reader.answer_view (get_or outputs rank other).answers.items
-  sent_at [] rank other below = absurd (omega (arith, below))
-  sent_at (o ∷ os) zero other below = refl
-  sent_at (o ∷ os) (suc rank) other below = sent_at os rank other (omega (arith, below))
-
-  pub sent_past : (outputs : List (Output V Global)) (rank : ℕ) → length outputs ≤ rank → sent_in outputs rank ≡ []
-  sent_past [] rank past = refl
-  sent_past (o ∷ os) zero past = absurd (omega (arith, past))
-  sent_past (o ∷ os) (suc rank) past = sent_past os rank (omega (arith, past))
-
   some_output : (outputs : List (Output V Global)) (rank : ℕ) → rank < length outputs → Output V Global
   some_output [] rank below = absurd (omega (arith, below))
   some_output (o ∷ os) rank below = o
@@ -71,32 +59,16 @@ module _ {M : Type 0} (a b : Parts M) where
   below_same p zero same = refl
   below_same p (suc n) same =
       let here = same n (omega arith) in
-      ap (λ l. l ++ (map (NoticeOf n) (notices_at p (a.told n)) ++ map (world.sent_by n) (answers_at p (a.sent n)))) (below_same p n (λ rank less. same rank (omega (arith, less))))
-      ∙ ap (λ l. merged_below p b n ++ (map (NoticeOf n) (notices_at p l) ++ map (world.sent_by n) (answers_at p (a.sent n)))) here.0
-      ∙ ap (λ l. merged_below p b n ++ (map (NoticeOf n) (notices_at p (b.told n)) ++ map (world.sent_by n) (answers_at p l))) here.1
+      ap (λ l. l ++ (map (NoticeOf n) (notices_at p (a.told n)) ++ map (sent_by (Some n)) (answers_at p (a.sent n)))) (below_same p n (λ rank less. same rank (omega (arith, less))))
+      ∙ ap (λ l. merged_below p b n ++ (map (NoticeOf n) (notices_at p l) ++ map (sent_by (Some n)) (answers_at p (a.sent n)))) here.0
+      ∙ ap (λ l. merged_below p b n ++ (map (NoticeOf n) (notices_at p (b.told n)) ++ map (sent_by (Some n)) (answers_at p l))) here.1
 
   pub merged_same : (n : ℕ) (places : List Place) → a.answers ≡ b.answers → AreSameBelow n → merged a n places ≡ merged b n places
   merged_same n [] said same = refl
   merged_same n (p ∷ ps) said same =
-      ap (λ l. (map discovery_sends (answers_at p l) ++ merged_below p a n) ++ merged a n ps) said
-      ∙ ap (λ l. (map discovery_sends (answers_at p b.answers) ++ l) ++ merged a n ps) (below_same p n same)
-      ∙ ap (λ l. (map discovery_sends (answers_at p b.answers) ++ merged_below p b n) ++ l) (merged_same n ps said same)
-
--- ---- discovery's answers
-
-abbrev unranked_view : AnswerView → Place × ReplyView
-unranked_view s = (s.place, record { to = s.to; octets = s.octets })
-
-said_of_view : (xs : List (Answer Global)) → map said_view xs ≡ map unranked_view (map answer_view xs)
-said_of_view [] = refl
-said_of_view (a ∷ xs) = ap (λ l. said_view a ∷ l) (said_of_view xs)
-
-view_of_said : (ss : List (Place × ReplyView)) → map unranked_view (map discovery_sending ss) ≡ ss
-view_of_said [] = refl
-view_of_said (s ∷ ss) = ap (λ l. s ∷ l) (view_of_said ss)
-
-said_is : (xs : List (Answer Global)) (ss : List (Place × ReplyView)) → map answer_view xs ≡ map discovery_sending ss → map said_view xs ≡ ss
-said_is xs ss is = said_of_view xs ∙ ap (map unranked_view) is ∙ view_of_said ss
+      ap (λ l. (map (sent_by None) (answers_at p l) ++ merged_below p a n) ++ merged a n ps) said
+      ∙ ap (λ l. (map (sent_by None) (answers_at p b.answers) ++ l) ++ merged a n ps) (below_same p n same)
+      ∙ ap (λ l. (map (sent_by None) (answers_at p b.answers) ++ merged_below p b n) ++ l) (merged_same n ps said same)
 
 -- ---- what isn't there is by place
 
@@ -132,11 +104,8 @@ module _ {V M : Type 0} (f : V → M) (decoding : Decoding M) (w : World M) (es 
       let other = some_output outputs rank below in
       ap (λ l. sent_in l rank) put ∙ sent_at p.outputs.items rank other (inside rank below) ∙ (ran.outputs rank other (inside rank below)).sent
 
-  view_is : map answer_view given.answers.items ≡ map discovery_sending (discovery_answers w.known es)
-  view_is = ap (map answer_view) said ∙ planned.answers
-
-  answers_are : map said_view given.answers.items ≡ discovery_answers w.known es
-  answers_are = said_is given.answers.items (discovery_answers w.known es) view_is
+  answers_are : map reader.answer_view given.answers.items ≡ discovery_answers w.known es
+  answers_are = ap (map reader.answer_view) said ∙ planned.answers
 
   merged_are : merged (parts_given f given) (length outputs) given.places.items ≡ merged (parts_of decoding w.known w.readers es) (reader_count w) places
   merged_are =
@@ -163,10 +132,9 @@ module _ {V M : Type 0} (f : V → M) (decoding : Decoding M) (w : World M) (es 
     put = by_places decoding w es up ∙ ap (λ l. w.put ++ l) (sym merged_are);
     told = λ rank below. (parts decoding w es rank).told (subst (λ n. rank < n) total below) ∙ ap (λ l. notices_by rank w.put ++ l) (sym (told_is rank below));
     places = subst AreRising (sym placed) (rising es up);
-    said = subst (λ l. AreAnswersAlong l (map said_view given.answers.items)) (sym placed) (subst (AreAnswersAlong places) (sym answers_are) (answers_along w.known es up));
+    said = subst (λ l. AreAnswersAlong l (map reader.answer_view given.answers.items)) (sym placed) (subst (AreAnswersAlong places) (sym answers_are) (answers_along w.known es up));
     notices = notices_along;
     answers = sent_by_place;
-    unranked = view_is ∙ ap (map discovery_sending) (sym answers_are);
   }
 
 pub run_gives : {V M : Type 0} (f : V → M) (decoding : Decoding M) (w : World M) (es : List EventView) (own : GuidPrefix) (index : ℕ) (datagrams : List (List ℕ)) (plan : Plan Global) (kept : HeldView) (old : List ReaderView) (p : Parted V) (given : Given V)

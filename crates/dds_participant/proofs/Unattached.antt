@@ -3,13 +3,15 @@ use Rattle.std.proofs.Common.{◌≡◌, ◌<◌, ℕ, zero, suc, List, [], ◌�
 use Rattle.std.proofs.Common.{map, Global}
 use Rattle.rtps_reader.specs.declared.notice.Notice.{Notice}
 use Rattle.rtps_reader.specs.declared.notice.Output.{Output}
+use Rattle.rtps_reader.specs.Notices as reader
 use Rattle.rtps_run.specs.declared.outcome.Outcome.{Outcome}
 use Rattle.rtps_run.specs.declared.outcome.Answer.{Answer}
 use Rattle.rtps_run.specs.Outcome.{Adds, answer_view, notices_in}
 use Rattle.rtps_run.specs.Seen.{answers_in, notices_by}
 use Rattle.rtps_run.specs.World.{World}
 use Rattle.rtps_planner.specs.Commuting.{merged}
-use Rattle.dds_participant.specs.Given.{AreAnswersAlong, AreNoticesAlong, IsGiven, said_view, sent_in, told_in}
+use Rattle.rtps_planner.specs.Gather.{sent_in}
+use Rattle.dds_participant.specs.Given.{AreAnswersAlong, AreNoticesAlong, IsGiven, told_in}
 use Rattle.dds_participant.specs.Handing.{AreHandedOn}
 use Rattle.dds_participant.specs.Ports.{NoneAttached, PortView, left_of, port_with, ports_view}
 use Rattle.dds_participant.specs.declared.given.Given.{Given}
@@ -59,13 +61,12 @@ pub given_same : {V M : Type 0} (f : V → M) (before after : World M) (whole : 
 given_same {V} f before after whole outputs e h = record {
   readers = ap length e ∙ h.readers;
   put = h.put
-      ∙ ap (λ (os : List (Output V Global)). before.put ++ merged (record { answers = map said_view whole.answers.items; told = told_in f os; sent = sent_in os }) (length os) whole.places.items) (sym e);
+      ∙ ap (λ (os : List (Output V Global)). before.put ++ merged (record { answers = map reader.answer_view whole.answers.items; told = told_in f os; sent = sent_in os }) (length os) whole.places.items) (sym e);
   told = λ rank below. h.told rank (subst (λ (os : List (Output V Global)). rank < length os) e below) ∙ ap (λ (os : List (Output V Global)). notices_by rank before.put ++ told_in f os rank) (sym e);
   places = h.places;
   said = h.said;
   notices = λ rank. subst (λ (os : List (Output V Global)). AreNoticesAlong whole.places.items (told_in f os rank)) (sym e) (h.notices rank);
   answers = λ rank. subst (λ (os : List (Output V Global)). AreAnswersAlong whole.places.items (sent_in os rank)) (sym e) (h.answers rank);
-  unranked = h.unranked;
 }
 
 pub outcome_same : {V M : Type 0} (f : V → M) (before after : World M) (whole outcome : Outcome V Global) → outcome.notices.items ≡ whole.notices.items → outcome.answers ≡ whole.answers → Adds f before after whole → Adds f before after outcome

@@ -9,34 +9,22 @@ use Rattle.rtps_reader.specs.declared.notice.Output.{Output}
 use Rattle.rtps_reader.specs.Notices as reader
 use Rattle.rtps_run.specs.declared.errors.EngineError.{EngineError}
 use Rattle.rtps_run.specs.declared.errors.EngineError.TheVariants.{NoMemory, Failed, Spent}
-use Rattle.rtps_run.specs.declared.outcome.Answer.{Answer}
-use Rattle.rtps_run.specs.Outcome.{answer_view}
 use Rattle.rtps_run.specs.Seen.{notices_by, reader_count}
 use Rattle.rtps_run.specs.World.{World}
 use Rattle.rtps_planner.specs.Commuting.{Parts, answers_at, merged, notices_at}
-use Rattle.rtps_planner.specs.Gather.{AreRising}
-use Rattle.rtps_planner.specs.Plan.{discovery_sending}
+use Rattle.rtps_planner.specs.Gather.{AreRising, sent_in}
 use Rattle.dds_participant.specs.declared.given.Given.{Given}
 
--- what the reader of a rank gives out, and what it sends; nothing where there is no such reader
+-- what the reader of a rank gives out; nothing where there is no such reader
 abbrev pub told_in : {V M : Type 0} → (V → M) → List (Output V Global) → ℕ → List (Notice M)
 told_in f [] rank = []
 told_in f (o ∷ os) zero = map (reader.notice_view f) o.notices.items
 told_in f (o ∷ os) (suc rank) = told_in f os rank
 
-abbrev pub sent_in : {V : Type 0} → List (Output V Global) → ℕ → List (Place × ReplyView)
-sent_in [] rank = []
-sent_in (o ∷ os) zero = map reader.answer_view o.answers.items
-sent_in (o ∷ os) (suc rank) = sent_in os rank
-
--- an answer of discovery, with its place
-abbrev pub said_view : Answer Global → Place × ReplyView
-said_view a = (a.place, record { to = a.to; octets = a.octets })
-
 -- the parts of a batch: what discovery answers, and what each reader gives out and sends
 abbrev pub parts_given : {V M : Type 0} → (V → M) → Given V → Parts M
 parts_given f given = record {
-  answers = map said_view given.answers.items;
+  answers = map reader.answer_view given.answers.items;
   told = told_in f given.outputs.items;
   sent = sent_in given.outputs.items;
 }
@@ -58,12 +46,9 @@ pub record IsGiven {V M : Type 0} (f : V → M) (before after : World M) (given 
   pub told : (rank : ℕ) → rank < length given.outputs.items → notices_by rank after.put
       ≡ notices_by rank before.put ++ told_in f given.outputs.items rank
   pub places : AreRising given.places.items
-  pub said : AreAnswersAlong given.places.items (map said_view given.answers.items)
+  pub said : AreAnswersAlong given.places.items (map reader.answer_view given.answers.items)
   pub notices : (rank : ℕ) → AreNoticesAlong given.places.items (told_in f given.outputs.items rank)
   pub answers : (rank : ℕ) → AreAnswersAlong given.places.items (sent_in given.outputs.items rank)
-  -- discovery's answers are of no rank
-  pub unranked : map answer_view given.answers.items
-      ≡ map discovery_sending (map said_view given.answers.items)
 
 -- nothing is in the lists
 pub record HoldsNothing {V : Type 0} (given : Given V) : Type 0 where
@@ -77,8 +62,3 @@ unfoldable pub LeavesLists : {V : Type 0} → EngineError → Given V → Given 
 LeavesLists Failed old new = new ≡ old
 LeavesLists Spent old new = new ≡ old
 LeavesLists NoMemory old new = HoldsNothing new
-
--- outputs with their ranks, from a rank on
-abbrev pub ranked_from : {V : Type 0} → ℕ → List (Output V Global) → List (ℕ × Output V Global)
-ranked_from rank [] = []
-ranked_from rank (o ∷ os) = (rank, o) ∷ ranked_from (suc rank) os

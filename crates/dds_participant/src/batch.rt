@@ -25,14 +25,11 @@ use crate::participant::Participant;
 use crate::readers::{Paired, Parted, pair, part};
 use dds_topic::Catalog;
 use rtps_planner::plan;
-use rtps_run::{EngineError, Outcome, show_all};
+use rtps_run::{DATAGRAM_LIMIT, EngineError, Outcome, show_all};
 use rtps_shards::{Batch, Gate, run_jobs};
 use std::alloc::{AllocError, Global};
 use std::mem;
 use std::thread::Threads;
-
-/// A run has at most 2^48 datagrams.
-const DATAGRAM_LIMIT: u64 = 281_474_976_710_656;
 
 /// Who runs a batch.
 #[derive(Clone, Copy, Debug)]

@@ -3,15 +3,12 @@
 ghost use Rattle.rtps_run.specs.Outcome.{Adds};
 ghost use Rattle.rtps_run.specs.World.{World};
 ghost use Rattle.std.specs.Prelude.{◌≡◌, ◌≤◌, IfOk, length};
-ghost use Rattle.rtps_planner.specs.declared.outputs.GatherFault.TheVariants as gather_fault;
-ghost use Rattle.rtps_planner.specs.Gather.{ranks_of};
-ghost use Rattle.dds_participant.specs.Given.{HoldsNothing, IsGiven, ranked_from};
+ghost use Rattle.dds_participant.specs.Given.{HoldsNothing, IsGiven};
 
 use dds_topic::Catalog;
-use rtps_planner::{GatherFault, Rest, gather};
 use rtps_reader::Output;
-use rtps_run::{Answer, Outcome};
-use rtps_types::Place;
+use rtps_run::Outcome;
+use rtps_types::{Place, Reply};
 use std::alloc::{AllocError, Global};
 
 /// What a batch gives, in lists that a caller lends to
@@ -27,8 +24,8 @@ use std::alloc::{AllocError, Global};
 pub struct Given<V> {
     /// The places of the batch's events, each after those before it. At some there may be nothing.
     pub places: Vec<Place>,
-    /// What discovery answers.
-    pub answers: Vec<Answer>,
+    /// What discovery answers, each with the place of the event that it answers.
+    pub answers: Vec<(Place, Reply)>,
     /// What each reader gives out and sends, by rank. A reader with an outlet has no notice here.
     pub outputs: Vec<Output<V>>,
 }
@@ -46,32 +43,6 @@ impl<V: Drop> Given<V> {
     }
 }
 
-/// Ranks, and outputs by rank.
-type Ranked<V> = (Vec<u32>, Vec<(u32, Output<V>)>);
-
-/// Outputs with their ranks, and the ranks.
-fn ranked<V: Drop>(alloc: Global, outputs: Vec<Output<V>>) -> Result<Ranked<V>, AllocError>
-    requires { length outputs.items ≤ 256 }
-    ensures ranks { IfOk result (λ r. r.0.items ≡ ranks_of r.1.items) }
-    ensures outputs { IfOk result (λ r. r.1.items ≡ ranked_from 0 outputs.items) }
-{
-    let mut ranks = Vec::new(alloc);
-    let mut pairs = Vec::new(alloc);
-    for (rank, output) in outputs.into_iter().enumerate() {
-        ranks.push(rank as u32)?;
-        pairs.push((rank as u32, output))?;
-    }
-    Ok((ranks, pairs))
-}
-
-/// Nothing else can be wrong with outputs of which each rank has one.
-fn want_of_memory(fault: GatherFault) -> AllocError
-    requires { fault ≡ gather_fault.NoMemory }
-{
-    let _memory = fault;
-    AllocError
-}
-
 /// The same as an outcome.
 pub(crate) fn outcome_of<C: Catalog>(
     alloc: Global,
@@ -82,15 +53,5 @@ pub(crate) fn outcome_of<C: Catalog>(
         → IfOk result (Adds C.view before after) }
     ensures count { IfOk result (λ o. length o.notices.items ≡ length given.outputs.items) }
 {
-    let readers = given.outputs.len();
-    let (ranks, outputs) = ranked(alloc, given.outputs)?;
-    let rest = Rest {
-        readers,
-        ranks,
-        answers: given.answers,
-    };
-    match gather(alloc, rest, outputs) {
-        Ok(outcome) => Ok(outcome),
-        Err(fault) => Err(want_of_memory(fault)),
-    }
+    Outcome::new(alloc, given.answers, given.outputs)
 }

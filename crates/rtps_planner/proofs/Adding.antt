@@ -1,5 +1,5 @@
 -- What is gathered of the outputs of a plan's jobs is what the run puts out more.
-use Rattle.std.proofs.Common.{◌≡◌, ℕ, zero, suc, ◌<◌, ◌≤◌, ◌==◌, nat_lt, List, [], ◌∷◌, ◌++◌, length, map, filter, get_or, Bool, true, false, if◌then◌else◌, refl, sym, ap, ◌∙◌, subst, arith, append-nil, true≢false, inl, inr}
+use Rattle.std.proofs.Common.{◌≡◌, ℕ, zero, suc, ◌<◌, ◌≤◌, ◌==◌, nat_lt, List, [], ◌∷◌, ◌++◌, length, map, filter, get_or, Bool, true, false, if◌then◌else◌, None, Some, refl, sym, ap, ◌∙◌, subst, arith, true≢false, inl, inr}
 use Rattle.std.specs.List.{All, AllByRecursion, Contains, list_any}
 use Rattle.std.specs.declared.vec.Vec.{Vec}
 use Rattle.std.proofs.lemmas.Bool.{cases_lt, eq-eqb, eqb-false, eqb-true, ltb-false, ne_eqb, or_from, or_left, or_parts, or_right}
@@ -20,19 +20,19 @@ use Rattle.rtps_run.specs.Outcome.{Adds, answer_view, notices_in}
 use Rattle.rtps_run.specs.Presentation.{not_after}
 use Rattle.rtps_run.specs.Run.{world_run}
 use Rattle.rtps_run.specs.Seen.{answers_in, notices_by, reader_count}
-use Rattle.rtps_run.specs.World.{World, doings, known_after_event}
+use Rattle.rtps_run.specs.World.{World, answer_by, doings, known_after_event}
 use Rattle.rtps_run.proofs.Dealt.{answers_in-append}
 use Rattle.rtps_run.proofs.Places.{PlacesRise, all_append, all_map, all_weaker}
 use Rattle.rtps_run.proofs.Running.{count_stays}
 use Rattle.rtps_planner.specs.Commuting.{answers_at, merged, parts_of, same_place}
 use Rattle.rtps_planner.specs.Job.{Job, discovery_answer, discovery_answers, job_of, job_sent, job_told}
-use Rattle.rtps_planner.specs.Gather.{AreRising, IsGathered, IsOutputOf, StandAmong, is_among, parts_in, ranks_of, sending_by, sent_by, times}
-use Rattle.rtps_planner.specs.Plan.{IsPlan, discovery_sending, job_at, job_seen, jobs_by}
+use Rattle.rtps_planner.specs.Gather.{AreRising, IsGathered, IsOutputOf, StandAmong, is_among, parts_in, ranks_of, replies_by, said_in, times}
+use Rattle.rtps_planner.specs.Plan.{IsPlan, job_at, job_seen, jobs_by}
 use Rattle.rtps_planner.specs.declared.jobs.Job as plan_job
 use Rattle.rtps_planner.specs.declared.jobs.Plan.{Plan}
 use Rattle.rtps_planner.proofs.Alone.{parts, sent_front, sent_run}
 use Rattle.rtps_planner.proofs.Gathered.{along, below, merged_seen}
-use Rattle.rtps_planner.proofs.Judged.{IsRight, any_at, none_sent, unplanned}
+use Rattle.rtps_planner.proofs.Judged.{IsRight, any_at, none_sent, one_sent, unplanned}
 use Rattle.rtps_planner.proofs.Merged.{answer_here, by_places, same_self, sent_here}
 
 -- ---- places of the events, and of what comes of them
@@ -122,38 +122,18 @@ module _ {V A : Type 0} where
       by_test true e some rest = (o, (zero, omega arith, refl), eqb-true o.0 rank e)
       by_test false e some rest = let at = rest some in (at.0, (suc at.1.0, omega (arith, at.1.1), at.1.2), at.2)
 
-  -- what it sends, where it is alone of its rank
-  one_sent : (sent : ℕ → List (Place × ReplyView)) (outputs : List (ℕ × Output V A)) → AllByRecursion (λ o. map reader.answer_view o.1.answers.items ≡ sent o.0) outputs
-      → (rank : ℕ) → (times rank (ranks_of outputs) == 0) ≡ false → nat_lt 1 (times rank (ranks_of outputs)) ≡ false → sent_by outputs rank ≡ sent rank
-  one_sent sent [] all rank some once = absurd (true≢false some)
-  one_sent sent (o ∷ os) all rank some once = by_test (o.0 == rank) refl some once (λ more most. one_sent sent os all.1 rank more most)
-    where
-      by_test : (b : Bool) → (o.0 == rank) ≡ b
-          → (length (if b then o.0 ∷ filter (λ r. r == rank) (ranks_of os) else filter (λ r. r == rank) (ranks_of os)) == 0) ≡ false
-          → nat_lt 1 (length (if b then o.0 ∷ filter (λ r. r == rank) (ranks_of os) else filter (λ r. r == rank) (ranks_of os))) ≡ false
-          → ((times rank (ranks_of os) == 0) ≡ false → nat_lt 1 (times rank (ranks_of os)) ≡ false → sent_by os rank ≡ sent rank)
-          → (if b then map reader.answer_view o.1.answers.items ++ sent_by os rank else sent_by os rank) ≡ sent rank
-      by_test true e some once rest =
-          let most = ltb-false 1 (suc (times rank (ranks_of os))) once in
-          let none : times rank (ranks_of os) ≡ 0 = omega (arith, most) in
-          ap (λ l. map reader.answer_view o.1.answers.items ++ l) (none_sent os rank none)
-          ∙ append-nil (map reader.answer_view o.1.answers.items)
-          ∙ all.0
-          ∙ ap sent (eqb-true o.0 rank e)
-      by_test false e some once rest = rest some once
-
 -- only the ranks below the count are merged
 below_same : (said : List (Place × ReplyView)) (xs ys : ℕ → List (Place × ReplyView)) (p : Place) (n : ℕ) → ((rank : ℕ) → rank < n → xs rank ≡ ys rank) → below said xs p n ≡ below said ys p n
 below_same said xs ys p zero same = refl
 below_same said xs ys p (suc n) same =
-    ap (λ l. l ++ map (sending_by n) (answers_at p (xs n))) (below_same said xs ys p n (λ rank less. same rank (omega (arith, less))))
-    ∙ ap (λ ss. below said ys p n ++ map (sending_by n) (answers_at p ss)) (same n (omega arith))
+    ap (λ l. l ++ map (answer_by (Some n)) (answers_at p (xs n))) (below_same said xs ys p n (λ rank less. same rank (omega (arith, less))))
+    ∙ ap (λ ss. below said ys p n ++ map (answer_by (Some n)) (answers_at p ss)) (same n (omega arith))
 
 pub along_same : (said : List (Place × ReplyView)) (xs ys : ℕ → List (Place × ReplyView)) (n : ℕ) (ps : List Place) → ((rank : ℕ) → rank < n → xs rank ≡ ys rank) → along said xs n ps ≡ along said ys n ps
 along_same said xs ys n [] same = refl
 along_same said xs ys n (p ∷ ps) same =
-    ap (λ l. (map discovery_sending (answers_at p said) ++ l) ++ along said xs n ps) (below_same said xs ys p n same)
-    ∙ ap (λ l. (map discovery_sending (answers_at p said) ++ below said ys p n) ++ l) (along_same said xs ys n ps same)
+    ap (λ l. (map (answer_by None) (answers_at p said) ++ l) ++ along said xs n ps) (below_same said xs ys p n same)
+    ∙ ap (λ l. (map (answer_by None) (answers_at p said) ++ below said ys p n) ++ l) (along_same said xs ys n ps same)
 
 -- ---- the outcome
 
@@ -197,29 +177,33 @@ module _ {V M A : Type 0} (f : V → M) (decoding : Decoding M) (w : World M) (e
   all_sent : AllByRecursion (λ (o : ℕ × Output V A). map reader.answer_view o.1.answers.items ≡ sent o.0) outputs
   all_sent = all_weaker (IsOutputOf f decoding w es) (λ o. map reader.answer_view o.1.answers.items ≡ sent o.0) outputs (λ o is. is.sent) (recursion_from_All (IsOutputOf f decoding w es) outputs of)
 
-  sent_is : (rank : ℕ) → rank < count → sent_by outputs rank ≡ sent rank
+  sent_is : (rank : ℕ) → rank < count → replies_by outputs rank ≡ sent rank
   sent_is rank less = by_test (is_among plan.rest.ranks.items rank) refl
     where
-      by_test : (b : Bool) → is_among plan.rest.ranks.items rank ≡ b → sent_by outputs rank ≡ sent rank
+      by_test : (b : Bool) → is_among plan.rest.ranks.items rank ≡ b → replies_by outputs rank ≡ sent rank
       by_test true is = one_sent sent outputs all_sent rank (some_output rank is) (sole_output rank is)
       by_test false none = none_sent outputs rank (no_output rank none) ∙ ap (job_sent (w.readers rank)) (sym (no_job rank less none))
 
-  stands : (rank : ℕ) → StandAmong places (sent_by outputs rank)
+  stands : (rank : ℕ) → StandAmong places (replies_by outputs rank)
   stands rank = elim (cases_lt rank count) [
-    | inl less ↦ All-from_recursion (λ (s : Place × ReplyView). list_any (same_place s.0) places ≡ true) (sent_by outputs rank)
+    | inl less ↦ All-from_recursion (λ (s : Place × ReplyView). list_any (same_place s.0) places ≡ true) (replies_by outputs rank)
         (subst (StandBy places) (sym (sent_is rank less)) (sent_stand rank w.known (w.readers rank) es))
-    | inr past ↦ All-from_recursion (λ (s : Place × ReplyView). list_any (same_place s.0) places ≡ true) (sent_by outputs rank)
+    | inr past ↦ All-from_recursion (λ (s : Place × ReplyView). list_any (same_place s.0) places ≡ true) (replies_by outputs rank)
         (subst (StandBy places) (sym (none_sent outputs rank (no_output rank (not_past plan.rest.ranks.items rank ranks_below past)))) tt)
   ]
 
+  said_stand : StandAmong places (said_in plan.rest)
+  said_stand = subst (StandAmong places) (sym planned.answers) (All-from_recursion (λ (s : Place × ReplyView). list_any (same_place s.0) places ≡ true) said (answers_stand w.known es))
+
   answers_are : map answer_view outcome.answers.items ≡ answers_in (merged (parts_of decoding w.known w.readers es) count places)
   answers_are =
-      has.answers said places planned.answers
+      has.answers places
       (All-from_recursion (λ rank. rank < plan.rest.readers) plan.rest.ranks.items (subst (λ n. AllByRecursion (λ rank. rank < n) plan.rest.ranks.items) (sym planned.readers) ranks_below))
-      (rising es up) (All-from_recursion (λ (s : Place × ReplyView). list_any (same_place s.0) places ≡ true) said (answers_stand w.known es)) stands
-      ∙ ap (λ n. answers_in (merged (parts_in said outputs) n places)) planned.readers
-      ∙ merged_seen (parts_in said outputs) count places
-      ∙ along_same said (sent_by outputs) sent count places sent_is
+      (rising es up) said_stand stands
+      ∙ ap (λ n. answers_in (merged (parts_in plan.rest outputs) n places)) planned.readers
+      ∙ merged_seen (parts_in plan.rest outputs) count places
+      ∙ along_same (said_in plan.rest) (replies_by outputs) sent count places sent_is
+      ∙ ap (λ l. along l sent count places) planned.answers
       ∙ sym (merged_seen (parts_of decoding w.known w.readers es) count places)
 
   told_are : (rank : ℕ) (other : Vec (Notice V) A) → rank < count → notices_in f (get_or outcome.notices.items rank other) ≡ job_told decoding (w.readers rank) (job_of rank w.known es)

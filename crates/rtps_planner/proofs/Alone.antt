@@ -14,8 +14,7 @@ use Rattle.rtps_reader.specs.Reader.{Reader, placed, reader_after, reader_run, s
 use Rattle.rtps_reader.specs.Steps.{StepView}
 use Rattle.rtps_run.specs.Run.{world_run}
 use Rattle.rtps_run.specs.Seen.{notices_by, reader_count}
-use Rattle.rtps_run.specs.World as world
-use Rattle.rtps_run.specs.World.{ReportView, NoticeOf, AnswerOf, World, answer_put, discovery_puts, doings, puts_at, puts_below, puts_run, world_after}
+use Rattle.rtps_run.specs.World.{ReportView, NoticeOf, AnswerOf, World, discovery_puts, doings, puts_at, puts_below, puts_run, sent_by, world_after}
 use Rattle.rtps_run.proofs.Routed.{readers_stay}
 use Rattle.rtps_run.proofs.Matched.{told_more, told_run}
 use Rattle.rtps_planner.specs.Commuting.{IsDiscovered, IsPart, answers_by, is_of}
@@ -64,18 +63,18 @@ module _ {M : Type 0} (decoding : Decoding M) (by : Option ℕ) where
   none_heard k [] = refl
   none_heard k (n ∷ ns) = none_heard k ns
 
-  own_answers : (k : ℕ) (ss : List (Place × ReplyView)) → is_of (Some k) by ≡ true → answers_by {M = M} by (map (world.sent_by k) ss) ≡ ss
+  own_answers : (k : ℕ) (ss : List (Place × ReplyView)) → is_of (Some k) by ≡ true → answers_by {M = M} by (map (sent_by (Some k)) ss) ≡ ss
   own_answers k [] is = refl
   own_answers k (s ∷ ss) is = rw is (ap (λ l. s ∷ l) (own_answers k ss is))
 
-  others_answers : (k : ℕ) (ss : List (Place × ReplyView)) → is_of (Some k) by ≡ false → answers_by {M = M} by (map (world.sent_by k) ss) ≡ []
+  others_answers : (k : ℕ) (ss : List (Place × ReplyView)) → is_of (Some k) by ≡ false → answers_by {M = M} by (map (sent_by (Some k)) ss) ≡ []
   others_answers k [] is = refl
   others_answers k (s ∷ ss) is = rw is (others_answers k ss is)
 
-  step_answers : (place : Place) (k : ℕ) (r : Reader) (d : StepView) → answers_by by (puts_at decoding place k r d) ≡ answers_by {M = M} by (map (world.sent_by k) (sends r place d))
+  step_answers : (place : Place) (k : ℕ) (r : Reader) (d : StepView) → answers_by by (puts_at decoding place k r d) ≡ answers_by {M = M} by (map (sent_by (Some k)) (sends r place d))
   step_answers place k r d =
-      answers_by-append by (map (NoticeOf k) (tells decoding r place d)) (map (world.sent_by k) (sends r place d))
-      ∙ ap (λ l. l ++ answers_by {M = M} by (map (world.sent_by k) (sends r place d))) (none_heard k (tells decoding r place d))
+      answers_by-append by (map (NoticeOf k) (tells decoding r place d)) (map (sent_by (Some k)) (sends r place d))
+      ∙ ap (λ l. l ++ answers_by {M = M} by (map (sent_by (Some k)) (sends r place d))) (none_heard k (tells decoding r place d))
 
   own_run : (place : Place) (k : ℕ) (r : Reader) (ds : List StepView) → is_of (Some k) by ≡ true → answers_by by (puts_run decoding place k r ds) ≡ sent_run place r ds
   own_run place k r [] is = refl
@@ -126,22 +125,22 @@ sent_below decoding k e readers rank (suc n) below =
 reader_unanswered : (M : Type 0) (rank : ℕ) (k : Known) (e : EventView) → answers_by {M = M} (Some rank) (discovery_puts k e) ≡ []
 reader_unanswered M rank k e = by_test (is_discovery e.writer)
   where
-    by_answer : (o : Option ReplyView) → answers_by {M = M} (Some rank) (answer_put e.place o) ≡ []
+    by_answer : (o : Option ReplyView) → answers_by {M = M} (Some rank) (map (sent_by None) (placed e.place o)) ≡ []
     by_answer None = refl
     by_answer (Some s) = refl
 
-    by_test : (b : Bool) → answers_by {M = M} (Some rank) (if b then answer_put e.place (answered k e) else []) ≡ []
+    by_test : (b : Bool) → answers_by {M = M} (Some rank) (if b then map (sent_by None) (placed e.place (answered k e)) else []) ≡ []
     by_test true = by_answer (answered k e)
     by_test false = refl
 
 discovery_answered : (M : Type 0) (k : Known) (e : EventView) → answers_by {M = M} None (discovery_puts k e) ≡ discovery_answer k e
 discovery_answered M k e = by_test (is_discovery e.writer)
   where
-    by_answer : (o : Option ReplyView) → answers_by {M = M} None (answer_put e.place o) ≡ placed e.place o
+    by_answer : (o : Option ReplyView) → answers_by {M = M} None (map (sent_by None) (placed e.place o)) ≡ placed e.place o
     by_answer None = refl
     by_answer (Some s) = refl
 
-    by_test : (b : Bool) → answers_by {M = M} None (if b then answer_put e.place (answered k e) else []) ≡ (if b then placed e.place (answered k e) else [])
+    by_test : (b : Bool) → answers_by {M = M} None (if b then map (sent_by None) (placed e.place (answered k e)) else []) ≡ (if b then placed e.place (answered k e) else [])
     by_test true = by_answer (answered k e)
     by_test false = refl
 

@@ -19,7 +19,8 @@ use Rattle.rtps_run.specs.Steps.{ReaderStep, step_by}
 use Rattle.rtps_run.specs.World.{addressed_to, doings, known_after_event}
 use Rattle.rtps_run.proofs.Hearing.{other_known}
 use Rattle.rtps_planner.specs.Job.{Job, discovery_answers, job_of, known_after_events}
-use Rattle.rtps_planner.specs.Plan.{AreFrom, is_from, is_named, ranks_named, taken_in}
+use Rattle.rtps_run.specs.Addressed.{is_named}
+use Rattle.rtps_planner.specs.Plan.{AreFrom, is_from, ranks_named, taken_in}
 use Rattle.rtps_planner.proofs.Planned.{event_asked, no_answer, taken_at}
 
 first_true : (a b : Bool) → (a && b) ≡ true → a ≡ true

@@ -6,7 +6,7 @@ mod Whole
 pub mod Judged
 pub mod Gathered
 pub mod Adding
-mod Gathering
+pub mod Gathering
 mod Rising
 pub mod Along
 mod Bursts

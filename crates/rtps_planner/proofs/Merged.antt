@@ -18,14 +18,13 @@ use Rattle.rtps_reader.specs.Reader.{Reader, placed, reader_after, reader_run, s
 use Rattle.rtps_reader.specs.Steps.{Changes, StepView, asks_of}
 use Rattle.rtps_run.specs.Presentation.{not_after}
 use Rattle.rtps_run.specs.Seen.{reader_count}
-use Rattle.rtps_run.specs.World as world
-use Rattle.rtps_run.specs.World.{ReportView, NoticeOf, World, addressed_to, answer_put, changes_for, discovery_puts, doings, known_after_event, puts_at, puts_below, puts_run, world_after}
+use Rattle.rtps_run.specs.World.{ReportView, NoticeOf, World, addressed_to, changes_for, discovery_puts, doings, known_after_event, puts_at, puts_below, puts_run, sent_by, world_after}
 use Rattle.rtps_run.proofs.Routed.{readers_stay}
 use Rattle.rtps_run.proofs.Matched.{told_run}
 use Rattle.rtps_run.proofs.OneOrder.{filter_none}
 use Rattle.rtps_run.proofs.Places.{PlacesRise, all_append, all_weaker}
 use Rattle.rtps_run.proofs.Turns.{no_answer, sends_at, tells_at}
-use Rattle.rtps_planner.specs.Commuting.{IsByPlace, Parts, answers_at, discovery_sends, merged, merged_below, notices_at, parts_of, same_place}
+use Rattle.rtps_planner.specs.Commuting.{IsByPlace, Parts, answers_at, merged, merged_below, notices_at, parts_of, same_place}
 use Rattle.rtps_planner.specs.Job.{discovery_answer, discovery_answers, job_of, job_sent, job_told}
 use Rattle.rtps_planner.proofs.Alone.{sent_front, sent_run, told_front}
 
@@ -134,7 +133,7 @@ answers_after p k (e ∷ es) h = front_after sent_place e.place p (discovery_ans
 
 module _ {M : Type 0} (decoding : Decoding M) (place : Place) (rank : ℕ) where
   abbrev IsSplit : Reader → List StepView → Type 0
-  IsSplit r ds = puts_run decoding place rank r ds ≡ map (NoticeOf rank) (told_run decoding place r ds) ++ map (world.sent_by rank) (sent_run place r ds)
+  IsSplit r ds = puts_run decoding place rank r ds ≡ map (NoticeOf rank) (told_run decoding place r ds) ++ map (sent_by (Some rank)) (sent_run place r ds)
 
   -- a change of what is known is not answered
   unanswered : (r : Reader) (cs : List ChangeAt) → sent_run place r (map (λ (c : ChangeAt). Changes c.what) cs) ≡ []
@@ -148,7 +147,7 @@ module _ {M : Type 0} (decoding : Decoding M) (place : Place) (rank : ℕ) where
       let d = Changes c.what in
       let rest = map (λ (c : ChangeAt). Changes c.what) cs in
       let told = tells decoding r place d in
-      ap (λ ss. (map (NoticeOf rank) told ++ map (world.sent_by rank) ss) ++ puts_run decoding place rank (reader_after r d) rest) (no_answer decoding place rank r c.what)
+      ap (λ ss. (map (NoticeOf rank) told ++ map (sent_by (Some rank)) ss) ++ puts_run decoding place rank (reader_after r d) rest) (no_answer decoding place rank r c.what)
       ∙ ap (λ l. l ++ puts_run decoding place rank (reader_after r d) rest) (append-nil (map (NoticeOf rank) told))
       ∙ ap (λ l. map (NoticeOf rank) told ++ l) (heard_alone (reader_after r d) cs)
       ∙ sym (map-append (NoticeOf rank) told (told_run decoding place (reader_after r d) rest))
@@ -157,13 +156,13 @@ module _ {M : Type 0} (decoding : Decoding M) (place : Place) (rank : ℕ) where
   changes_split r cs =
       heard_alone r cs
       ∙ sym (append-nil (map (NoticeOf rank) (told_run decoding place r (map (λ (c : ChangeAt). Changes c.what) cs))))
-      ∙ ap (λ ss. map (NoticeOf rank) (told_run decoding place r (map (λ (c : ChangeAt). Changes c.what) cs)) ++ map (world.sent_by rank) ss) (sym (unanswered r cs))
+      ∙ ap (λ ss. map (NoticeOf rank) (told_run decoding place r (map (λ (c : ChangeAt). Changes c.what) cs)) ++ map (sent_by (Some rank)) ss) (sym (unanswered r cs))
 
   one_split : (r : Reader) (d : StepView) → IsSplit r (d ∷ [])
   one_split r d =
       append-nil (puts_at decoding place rank r d)
-      ∙ ap (λ l. map (NoticeOf rank) l ++ map (world.sent_by rank) (sends r place d)) (sym (append-nil (tells decoding r place d)))
-      ∙ ap (λ l. map (NoticeOf rank) (told_run decoding place r (d ∷ [])) ++ map (world.sent_by rank) l) (sym (append-nil (sends r place d)))
+      ∙ ap (λ l. map (NoticeOf rank) l ++ map (sent_by (Some rank)) (sends r place d)) (sym (append-nil (tells decoding r place d)))
+      ∙ ap (λ l. map (NoticeOf rank) (told_run decoding place r (d ∷ [])) ++ map (sent_by (Some rank)) l) (sym (append-nil (sends r place d)))
 
 event_split : {M : Type 0} (decoding : Decoding M) (k : Known) (rank : ℕ) (r : Reader) (e : EventView) → IsSplit decoding e.place rank r (doings k rank e)
 event_split {M} decoding k rank r e = by_kind (is_discovery e.writer)
@@ -181,15 +180,11 @@ event_split {M} decoding k rank r e = by_kind (is_discovery e.writer)
     by_kind false = by_wish (reader_at k.readers rank)
 
 -- and discovery's answer
-answer_puts : (M : Type 0) (k : Known) (e : EventView) → map (discovery_sends {M = M}) (discovery_answer k e) ≡ discovery_puts k e
+answer_puts : (M : Type 0) (k : Known) (e : EventView) → map (sent_by {M = M} None) (discovery_answer k e) ≡ discovery_puts k e
 answer_puts M k e = by_test (is_discovery e.writer)
   where
-    by_answer : (o : Option ReplyView) → map (discovery_sends {M = M}) (placed e.place o) ≡ answer_put e.place o
-    by_answer None = refl
-    by_answer (Some s) = refl
-
-    by_test : (b : Bool) → map (discovery_sends {M = M}) (if b then placed e.place (answered k e) else []) ≡ (if b then answer_put e.place (answered k e) else [])
-    by_test true = by_answer (answered k e)
+    by_test : (b : Bool) → map (sent_by {M = M} None) (if b then placed e.place (answered k e) else []) ≡ (if b then map (sent_by None) (placed e.place (answered k e)) else [])
+    by_test true = refl
     by_test false = refl
 
 -- ---- the parts of a run that begins with an event
@@ -220,34 +215,34 @@ module _ {M : Type 0} (decoding : Decoding M) (k : Known) (readers : ℕ → Rea
       let ds = doings k n e in
       let told = told_run decoding e.place (readers n) ds in
       let sent = sent_run e.place (readers n) ds in
-      ap (λ l. l ++ (map (NoticeOf n) (notices_at e.place (all.told n)) ++ map (world.sent_by n) (answers_at e.place (all.sent n)))) (below_here n h)
-      ∙ ap (λ l. puts_below decoding k e readers n ++ (map (NoticeOf n) l ++ map (world.sent_by n) (answers_at e.place (all.sent n))))
+      ap (λ l. l ++ (map (NoticeOf n) (notices_at e.place (all.told n)) ++ map (sent_by (Some n)) (answers_at e.place (all.sent n)))) (below_here n h)
+      ∙ ap (λ l. puts_below decoding k e readers n ++ (map (NoticeOf n) l ++ map (sent_by (Some n)) (answers_at e.place (all.sent n))))
       (ap (notices_at e.place) (told_all n) ∙ front_here (notice_place {M = M}) e.place told (rest.told n) (told_here decoding e.place (readers n) ds) (told_after decoding e.place n after (stepped n) es h))
-      ∙ ap (λ l. puts_below decoding k e readers n ++ (map (NoticeOf n) told ++ map (world.sent_by n) l))
+      ∙ ap (λ l. puts_below decoding k e readers n ++ (map (NoticeOf n) told ++ map (sent_by (Some n)) l))
       (ap (answers_at e.place) (sent_all n) ∙ front_here sent_place e.place sent (rest.sent n) (sent_here e.place (readers n) ds) (sent_after e.place n after (stepped n) es h))
       ∙ ap (λ l. puts_below decoding k e readers n ++ l) (sym (event_split decoding k n (readers n) e))
 
-  answer_first : EventsAfter e.place es → map (discovery_sends {M = M}) (answers_at e.place all.answers) ≡ discovery_puts k e
-  answer_first h = ap (map discovery_sends) (front_here sent_place e.place (discovery_answer k e) (discovery_answers after es) (answer_here k e) (answers_after e.place after es h)) ∙ answer_puts M k e
+  answer_first : EventsAfter e.place es → map (sent_by {M = M} None) (answers_at e.place all.answers) ≡ discovery_puts k e
+  answer_first h = ap (map (sent_by None)) (front_here sent_place e.place (discovery_answer k e) (discovery_answers after es) (answer_here k e) (answers_after e.place after es h)) ∙ answer_puts M k e
 
   -- at a later place is what the other events bring
   below_there : (p : Place) (n : ℕ) → not_after p e.place ≡ false → merged_below p all n ≡ merged_below p rest n
   below_there p zero h = refl
   below_there p (suc n) h =
       let ds = doings k n e in
-      ap (λ l. l ++ (map (NoticeOf n) (notices_at p (all.told n)) ++ map (world.sent_by n) (answers_at p (all.sent n)))) (below_there p n h)
-      ∙ ap (λ l. merged_below p rest n ++ (map (NoticeOf n) l ++ map (world.sent_by n) (answers_at p (all.sent n))))
+      ap (λ l. l ++ (map (NoticeOf n) (notices_at p (all.told n)) ++ map (sent_by (Some n)) (answers_at p (all.sent n)))) (below_there p n h)
+      ∙ ap (λ l. merged_below p rest n ++ (map (NoticeOf n) l ++ map (sent_by (Some n)) (answers_at p (all.sent n))))
       (ap (notices_at p) (told_all n) ∙ front_there (notice_place {M = M}) e.place p (told_run decoding e.place (readers n) ds) (rest.told n) (told_here decoding e.place (readers n) ds) h)
-      ∙ ap (λ l. merged_below p rest n ++ (map (NoticeOf n) (notices_at p (rest.told n)) ++ map (world.sent_by n) l))
+      ∙ ap (λ l. merged_below p rest n ++ (map (NoticeOf n) (notices_at p (rest.told n)) ++ map (sent_by (Some n)) l))
       (ap (answers_at p) (sent_all n) ∙ front_there sent_place e.place p (sent_run e.place (readers n) ds) (rest.sent n) (sent_here e.place (readers n) ds) h)
 
   merged_there : (count : ℕ) (ds : List EventView) → EventsAfter e.place ds → merged all count (map (λ (d : EventView). d.place) ds) ≡ merged rest count (map (λ (d : EventView). d.place) ds)
   merged_there count [] h = refl
   merged_there count (d ∷ ds) h =
       let places = map (λ (d : EventView). d.place) ds in
-      ap (λ l. (map discovery_sends l ++ merged_below d.place all count) ++ merged all count places) (front_there sent_place e.place d.place (discovery_answer k e) (discovery_answers after es) (answer_here k e) h.0)
-      ∙ ap (λ l. (map discovery_sends (answers_at d.place rest.answers) ++ l) ++ merged all count places) (below_there d.place count h.0)
-      ∙ ap (λ l. (map discovery_sends (answers_at d.place rest.answers) ++ merged_below d.place rest count) ++ l) (merged_there count ds h.1)
+      ap (λ l. (map (sent_by None) l ++ merged_below d.place all count) ++ merged all count places) (front_there sent_place e.place d.place (discovery_answer k e) (discovery_answers after es) (answer_here k e) h.0)
+      ∙ ap (λ l. (map (sent_by None) (answers_at d.place rest.answers) ++ l) ++ merged all count places) (below_there d.place count h.0)
+      ∙ ap (λ l. (map (sent_by None) (answers_at d.place rest.answers) ++ merged_below d.place rest count) ++ l) (merged_there count ds h.1)
 
   merged_first : (count : ℕ) → EventsAfter e.place es
       → merged all count (map (λ (d : EventView). d.place) (e ∷ es)) ≡ (discovery_puts k e ++ puts_below decoding k e readers count) ++ merged rest count (map (λ (d : EventView). d.place) es)

@@ -22,7 +22,8 @@ use Rattle.rtps_discovery.specs.Kept.{matched_ranks}
 use Rattle.rtps_discovery.specs.Known.{Known, Wish, is_fixed, is_matched, reader_at, writer_at}
 use Rattle.rtps_discovery.specs.Records.{answered, changes_by}
 use Rattle.rtps_reader.specs.Reader.{placed}
-use Rattle.rtps_reader.specs.Steps.{Changes, asks_of}
+use Rattle.rtps_reader.specs.Steps.{asks_of}
+use Rattle.rtps_run.specs.Addressed.{is_named}
 use Rattle.rtps_run.specs.Steps.{ReaderStep, step_by}
 use Rattle.rtps_run.proofs.Hearing.{announced_doings, asked_from}
 use Rattle.rtps_run.specs.World.{addressed_to, changes_for, doings}
@@ -30,7 +31,7 @@ use Rattle.rtps_planner.specs.declared.steps.Burst.{Burst}
 use Rattle.rtps_planner.specs.declared.steps.PlannedStep.{PlannedStep}
 use Rattle.rtps_planner.specs.declared.steps.PlannedStep.TheVariants as step
 use Rattle.rtps_planner.specs.Job.{Job, discovery_answer}
-use Rattle.rtps_planner.specs.Plan.{Grow, burst_at, events_at, is_named, step_seen, steps_seen, taken_in}
+use Rattle.rtps_planner.specs.Plan.{Grow, burst_at, events_at, step_seen, steps_seen, taken_in}
 
 -- one step more
 pub step_more : {A : Type 0} (es : List EventView) (old : List (PlannedStep A)) (s : PlannedStep A) → steps_seen es (old ++ s ∷ []) ≡ steps_seen es old ++ step_seen es s
@@ -156,17 +157,6 @@ rank_named es b readers r rank is = rw is (by_test (r == rank))
 
 pub rank_unnamed : (es : List EventView) (b : Burst) (readers : List (Option Wish)) (r : ℕ) (rank : ℕ) → is_named b.reader (reader_at readers r) ≡ false → burst_at es b readers (r ∷ []) rank ≡ []
 rank_unnamed es b readers r rank is = rw is refl
-
--- a reader that is looked up, and none
-pub reader_got : (readers : List (Option Wish)) (rank : ℕ) (o : Option Wish) → rank < length readers → get_or readers rank o ≡ o → reader_at readers rank ≡ o
-reader_got [] rank o below is = absurd (omega (arith, below))
-reader_got (r ∷ rs) zero o below is = is
-reader_got (r ∷ rs) (suc rank) o below is = reader_got rs rank o (omega (arith, below)) is
-
-pub reader_past : (readers : List (Option Wish)) (rank : ℕ) → length readers ≤ rank → reader_at readers rank ≡ None
-reader_past [] rank past = refl
-reader_past (r ∷ rs) zero past = absurd (omega (arith, past))
-reader_past (r ∷ rs) (suc rank) past = reader_past rs rank (omega (arith, past))
 
 -- ---- what discovery asks of the reader of a rank
 

@@ -4,7 +4,7 @@ use Rattle.std.specs.Prelude.{drop, replicate, take}
 use Rattle.std.specs.List.{slice_get}
 use Rattle.std.specs.declared.vec.Vec.{Vec}
 use Rattle.std.proofs.Math.Seq.{get_or-append_seam}
-use Rattle.std.proofs.lemmas.List.{drop-append-le, length-append, length-drop, length-map, length-replicate, length-take, map-append, map_push, nil_from_length, take-append-le}
+use Rattle.std.proofs.lemmas.List.{drop-append-le, length-append, length-drop, length-map, length-replicate, length-take, map_push, nil_from_length, take-append-le}
 use Rattle.std.proofs.lemmas.Option.{slice_get-get_or, slice_get_within}
 use Rattle.rtps_receiver.specs.Events.{EventView}
 use Rattle.rtps_discovery.specs.Kept.{IsKnown, HeldView}
@@ -16,7 +16,7 @@ use Rattle.rtps_planner.specs.declared.jobs.Job as plan_job
 use Rattle.rtps_planner.specs.declared.steps.PlannedStep.{PlannedStep}
 use Rattle.rtps_planner.specs.declared.steps.PlannedStep.TheVariants as step
 use Rattle.rtps_planner.specs.declared.steps.Planning.{Planning}
-use Rattle.rtps_planner.specs.Plan.{AreAllPlanned, AreSteps, Grow, IsPlanned, ReadsAs, discovery_sending, job_at, job_seen, jobs_by, step_seen, steps_seen, taken_in}
+use Rattle.rtps_planner.specs.Plan.{AreAllPlanned, AreSteps, Grow, IsPlanned, ReadsAs, job_at, job_seen, jobs_by, step_seen, steps_seen, taken_in}
 use Rattle.rtps_planner.proofs.Planned.{hears_one}
 
 -- ---- some events more
@@ -116,9 +116,8 @@ planned_more {A} k all es i n old new before kept some within was planned =
             ∙ back_nil (job_of rank k es) (asked rank) both);
       };
       answers = here.answers
-          ∙ ap (λ l. l ++ map discovery_sending (discovery_answers k' run)) was.answers
-          ∙ sym (map-append discovery_sending (discovery_answers k es) (discovery_answers k' run))
-          ∙ ap (map discovery_sending) (sym (answers_more k es run));
+          ∙ ap (λ l. l ++ discovery_answers k' run) was.answers
+          ∙ sym (answers_more k es run);
     }
 
 -- ---- the jobs of the readers that have steps

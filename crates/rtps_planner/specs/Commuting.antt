@@ -9,8 +9,7 @@ use Rattle.rtps_reader.specs.declared.notice.Notice.{Notice}
 use Rattle.rtps_reader.specs.Reader.{Reader}
 use Rattle.rtps_run.specs.Run.{world_run}
 use Rattle.rtps_run.specs.Seen.{notices_by, reader_count}
-use Rattle.rtps_run.specs.World as world
-use Rattle.rtps_run.specs.World.{ReportView, NoticeOf, AnswerOf, AnswerView, World}
+use Rattle.rtps_run.specs.World.{ReportView, NoticeOf, AnswerOf, World, sent_by}
 use Rattle.rtps_planner.specs.Job.{discovery_answers, job_of, known_after_events, job_run, job_sent, job_told}
 
 -- ---- each reader by itself
@@ -68,23 +67,19 @@ answers_at place answers = filter (λ s. same_place s.0 place) answers
 abbrev pub notices_at : {M : Type 0} → Place → List (Notice M) → List (Notice M)
 notices_at place notices = filter (λ n. same_place n.place place) notices
 
--- an answer of discovery
-abbrev pub discovery_sends : {M : Type 0} → Place × ReplyView → ReportView M
-discovery_sends s = AnswerOf (record { place = s.0; rank = None; to = s.1.to; octets = s.1.octets })
-
 -- at one place the ranks below a count by rising rank, of each its notices and then its answer
 abbrev pub merged_below : {M : Type 0} → Place → Parts M → ℕ → List (ReportView M)
 merged_below place parts zero = []
 merged_below place parts (suc rank) =
     merged_below place parts rank
     ++ (map (NoticeOf rank) (notices_at place (parts.told rank))
-    ++ map (world.sent_by rank) (answers_at place (parts.sent rank)))
+    ++ map (sent_by (Some rank)) (answers_at place (parts.sent rank)))
 
 -- place by place: discovery's answer, and then the readers by rank
 abbrev pub merged : {M : Type 0} → Parts M → ℕ → List Place → List (ReportView M)
 merged parts count [] = []
 merged parts count (place ∷ places) =
-    (map discovery_sends (answers_at place parts.answers) ++ merged_below place parts count)
+    (map (sent_by None) (answers_at place parts.answers) ++ merged_below place parts count)
     ++ merged parts count places
 
 -- what discovery answers over a list of events, and what each reader makes of its job

@@ -1,8 +1,7 @@
 -- How the outputs of a batch's jobs are put together (DDSI-RTPS 8.4.10): which outputs are refused,
 -- and what comes of the others.
-use Rattle.std.specs.Prelude.{◌≡◌, ◌⊎◌, ℕ, ◌<◌, ◌==◌, nat_lt, not, Bool, List, [], ◌∷◌, ◌++◌, length, map, filter, Option, Some, None, Result, Ok, Err, if◌then◌else◌, set, slice_index_or, true, false}
+use Rattle.std.specs.Prelude.{◌≡◌, ◌⊎◌, ℕ, zero, suc, ◌<◌, ◌==◌, nat_lt, not, Bool, List, [], ◌∷◌, ◌++◌, length, map, filter, Option, Some, None, Result, Ok, Err, if◌then◌else◌, set, slice_index_or, true, false}
 use Rattle.std.specs.List.{All, AllByRecursion, Contains, list_any}
-use Rattle.std.specs.List.Sorted.{IsSortedByKey, IsStableByKey}
 use Rattle.std.specs.declared.vec.Vec.{Vec}
 use Rattle.rtps_types.specs.declared.place.Place.{Place}
 use Rattle.rtps_receiver.specs.Events.{EventView}
@@ -11,21 +10,16 @@ use Rattle.rtps_proxy.specs.Replies.{ReplyView}
 use Rattle.rtps_reader.specs.declared.notice.Notice.{Notice}
 use Rattle.rtps_reader.specs.declared.notice.Output.{Output}
 use Rattle.rtps_reader.specs.Notices as reader
-use Rattle.rtps_run.specs.declared.outcome.Answer.{Answer}
 use Rattle.rtps_run.specs.declared.outcome.Outcome.{Outcome}
-use Rattle.rtps_run.specs.declared.turn.ReportKind.TheVariants as kind
-use Rattle.rtps_run.specs.declared.turn.Turn.{Turn}
 use Rattle.rtps_run.specs.Outcome.{answer_view}
 use Rattle.rtps_run.specs.Presentation.{not_after}
 use Rattle.rtps_run.specs.Seen.{answers_in}
-use Rattle.rtps_run.specs.Turn.{turn_order}
-use Rattle.rtps_run.specs.World.{AnswerView, World}
+use Rattle.rtps_run.specs.World.{World}
 use Rattle.rtps_planner.specs.declared.jobs.Rest.{Rest}
 use Rattle.rtps_planner.specs.declared.outputs.GatherFault.{GatherFault}
 use Rattle.rtps_planner.specs.declared.outputs.GatherFault.TheVariants as fault
 use Rattle.rtps_planner.specs.Commuting.{Parts, merged, same_place}
 use Rattle.rtps_planner.specs.Job.{job_of, job_sent, job_told}
-use Rattle.rtps_planner.specs.Plan.{discovery_sending}
 
 -- ---- which outputs are refused
 
@@ -56,34 +50,17 @@ IsJudged wrong (Err e) = (wrong ≡ Some e) ⊎ ((wrong ≡ None) × (e ≡ faul
 
 -- ---- what comes of the others
 
--- the lists of notices, with those of the outputs in the places of their ranks
-abbrev pub lists_with : {V A : Type 0} → List (Vec (Notice V) A) → List (ℕ × Output V A)
-    → List (Vec (Notice V) A)
-lists_with lists [] = lists
-lists_with lists (o ∷ os) = lists_with (set lists o.0 o.1.notices) os
+-- outputs by rank, with these in the places of their ranks
+abbrev pub outputs_with : {V A : Type 0} → List (Output V A) → List (ℕ × Output V A)
+    → List (Output V A)
+outputs_with by_rank [] = by_rank
+outputs_with by_rank (o ∷ os) = outputs_with (set by_rank o.0 o.1) os
 
--- an answer of the reader of a rank
-abbrev pub sending_by : ℕ → Place × ReplyView → AnswerView
-sending_by rank s = record { place = s.0; rank = Some rank; to = s.1.to; octets = s.1.octets }
-
--- the answers of outputs, one output after the other
-abbrev pub sends_of : {V A : Type 0} → List (ℕ × Output V A) → List AnswerView
-sends_of [] = []
-sends_of (o ∷ os) =
-    map (sending_by o.0) (map reader.answer_view o.1.answers.items) ++ sends_of os
-
--- when an answer comes
-abbrev pub answer_turn : AnswerView → Turn
-answer_turn s = record { place = s.place; rank = s.rank; kind = kind.Answer }
-
--- when an answer of an outcome comes
-abbrev pub turn_of : {A : Type 0} → Answer A → Turn
-turn_of a = answer_turn (answer_view a)
-
--- answers were put in order: by turn, and what has one turn comes as it did
-pub record AreSorted {A : Type 0} (old new : List (Answer A)) : Type 0 where
-  pub sorted : IsSortedByKey turn_of turn_order new
-  pub stable : IsStableByKey turn_of turn_order old new
+-- what the reader of a rank sends by outputs that are by rank; nothing where there is no such reader
+abbrev pub sent_in : {V A : Type 0} → List (Output V A) → ℕ → List (Place × ReplyView)
+sent_in [] rank = []
+sent_in (o ∷ os) zero = map reader.answer_view o.answers.items
+sent_in (o ∷ os) (suc rank) = sent_in os rank
 
 -- what the reader of a rank gives out and sends by these outputs
 abbrev pub told_by : {V A : Type 0} → List (ℕ × Output V A) → ℕ → List (Notice V)
@@ -91,19 +68,23 @@ told_by [] rank = []
 told_by (o ∷ os) rank =
     if o.0 == rank then o.1.notices.items ++ told_by os rank else told_by os rank
 
-abbrev pub sent_by : {V A : Type 0} → List (ℕ × Output V A) → ℕ → List (Place × ReplyView)
-sent_by [] rank = []
-sent_by (o ∷ os) rank =
+abbrev pub replies_by : {V A : Type 0} → List (ℕ × Output V A) → ℕ → List (Place × ReplyView)
+replies_by [] rank = []
+replies_by (o ∷ os) rank =
     if o.0 == rank
-    then map reader.answer_view o.1.answers.items ++ sent_by os rank
-    else sent_by os rank
+    then map reader.answer_view o.1.answers.items ++ replies_by os rank
+    else replies_by os rank
+
+-- what discovery answers
+abbrev pub said_in : {A : Type 0} → Rest A → List (Place × ReplyView)
+said_in rest = map reader.answer_view rest.answers.items
 
 -- the parts of a batch: what discovery answers, and these outputs
-abbrev pub parts_in : {V A : Type 0} → List (Place × ReplyView) → List (ℕ × Output V A) → Parts V
-parts_in answers outputs = record {
-  answers = answers;
+abbrev pub parts_in : {V A : Type 0} → Rest A → List (ℕ × Output V A) → Parts V
+parts_in rest outputs = record {
+  answers = said_in rest;
   told = told_by outputs;
-  sent = sent_by outputs;
+  sent = replies_by outputs;
 }
 
 -- each place comes after those before it in the list
@@ -127,13 +108,11 @@ pub record IsGathered {V A : Type 0} (rest : Rest A) (outputs : List (ℕ × Out
   pub others : (rank : ℕ) (other : Vec (Notice V) A) → rank < rest.readers
       → is_among rest.ranks.items rank ≡ false
       → (slice_index_or outcome.notices.items rank other).items ≡ []
-  pub answers : (answers : List (Place × ReplyView)) (places : List Place)
-      → map answer_view rest.answers.items ≡ map discovery_sending answers
-      → All (λ rank. rank < rest.readers) rest.ranks.items
-      → AreRising places → StandAmong places answers
-      → ((rank : ℕ) → StandAmong places (sent_by outputs rank))
+  pub answers : (places : List Place) → All (λ rank. rank < rest.readers) rest.ranks.items
+      → AreRising places → StandAmong places (said_in rest)
+      → ((rank : ℕ) → StandAmong places (replies_by outputs rank))
       → map answer_view outcome.answers.items
-      ≡ answers_in (merged (parts_in answers outputs) rest.readers places)
+      ≡ answers_in (merged (parts_in rest outputs) rest.readers places)
 
 -- an output has what comes of its reader's job over these events
 pub record IsOutputOf {V M A : Type 0} (f : V → M) (decoding : Decoding M) (w : World M)

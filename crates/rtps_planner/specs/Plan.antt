@@ -1,5 +1,5 @@
 -- The jobs of a plan, whose steps point into the batch's list of events.
-use Rattle.std.specs.Prelude.{◌≡◌, ℕ, zero, suc, ◌+◌, [], ◌∷◌, Bool, true, false, ◌&&◌, ◌<◌, List, ◌++◌, length, map, filter, take, drop, ◌==◌, Option, Some, None, option_to_list, slice_index_or}
+use Rattle.std.specs.Prelude.{◌≡◌, ℕ, zero, suc, ◌+◌, [], ◌∷◌, Bool, true, ◌&&◌, ◌<◌, List, ◌++◌, length, map, filter, take, drop, ◌==◌, Option, option_to_list, slice_index_or}
 use Rattle.std.specs.List.{AllByRecursion, flat_map, slice_get}
 use Rattle.std.specs.Str.{bytes_eq}
 use Rattle.std.specs.Option.{option_map}
@@ -8,14 +8,13 @@ use Rattle.rtps_types.specs.MatchChange.{match_change_view}
 use Rattle.rtps_types.specs.declared.identity.EntityId.{EntityId}
 use Rattle.rtps_types.specs.declared.identity.Guid.{Guid}
 use Rattle.rtps_receiver.specs.Events.{EventView}
-use Rattle.rtps_discovery.specs.Addressed.{is_for, writer_of}
+use Rattle.rtps_discovery.specs.Addressed.{writer_of}
 use Rattle.rtps_discovery.specs.Changes as changes
 use Rattle.rtps_discovery.specs.Known.{Known, Wish, reader_at}
+use Rattle.rtps_reader.specs.Notices.{answer_view}
 use Rattle.rtps_reader.specs.Steps.{Changes, StepView, asks_of}
-use Rattle.rtps_run.specs.World.{AnswerView}
-use Rattle.rtps_run.specs.Outcome.{answer_view}
+use Rattle.rtps_run.specs.Addressed.{is_named}
 use Rattle.rtps_proxy.specs.Matches.{same_guid}
-use Rattle.rtps_proxy.specs.Replies.{ReplyView}
 use Rattle.rtps_types.specs.declared.place.Place.{Place}
 use Rattle.rtps_discovery.specs.Kept.{IsKnown, HeldView}
 use Rattle.rtps_planner.specs.declared.steps.Burst.{Burst}
@@ -48,11 +47,6 @@ step_seen es (step.Change event what) = heard_at es event (match_change_view wha
 abbrev pub steps_seen : {A : Type 0} → List EventView → List (PlannedStep A) → Job
 steps_seen es steps = flat_map (step_seen es) steps
 
--- there is such a reader, and a reader id is for it
-abbrev pub is_named : EntityId → Option Wish → Bool
-is_named reader None = false
-is_named reader (Some r) = is_for reader r.entity
-
 -- to the steps of each rank these are added
 pub record Grow {A : Type 0} (es : List EventView) (old new : List (Vec (PlannedStep A) A))
     (added : ℕ → Job) : Type 0 where
@@ -83,10 +77,6 @@ burst_at es b readers ranks rank =
 abbrev pub ReadsAs : List EventView → List EventView → ℕ → ℕ → Type 0
 ReadsAs all es first count = take count (drop first es) ≡ take count (drop first all)
 
--- an answer of discovery
-abbrev pub discovery_sending : Place × ReplyView → AnswerView
-discovery_sending s = record { place = s.0; rank = None; to = s.1.to; octets = s.1.octets }
-
 -- what events ask of each reader and what discovery answers to them are added, and discovery keeps
 -- what is known after them
 pub record IsPlanned {A : Type 0} (es : List EventView) (k : Known) (run : List EventView)
@@ -95,7 +85,7 @@ pub record IsPlanned {A : Type 0} (es : List EventView) (k : Known) (run : List 
   pub steps : length old.lists.items ≡ length k.readers
       → Grow es old.lists.items new.lists.items (λ rank. job_of rank k run)
   pub answers : map answer_view new.answers.items
-      ≡ map answer_view old.answers.items ++ map discovery_sending (discovery_answers k run)
+      ≡ map answer_view old.answers.items ++ discovery_answers k run
 
 -- the steps of each rank are what is asked of it, and there are none where nothing is asked
 pub record AreSteps {A : Type 0} (es : List EventView) (lists : List (Vec (PlannedStep A) A))
@@ -112,8 +102,7 @@ pub record AreAllPlanned {A : Type 0} (k : Known) (all es : List EventView) (new
   pub known : IsKnown (known_after_events k es) kept
   pub count : length new.lists.items ≡ length k.readers
   pub steps : AreSteps all new.lists.items (λ rank. job_of rank k es)
-  pub answers : map answer_view new.answers.items
-      ≡ map discovery_sending (discovery_answers k es)
+  pub answers : map answer_view new.answers.items ≡ discovery_answers k es
 
 -- a job, by the events that its steps point into
 abbrev pub job_seen : {A : Type 0} → List EventView → plan_job.Job A → ℕ × Job
@@ -138,5 +127,4 @@ pub record IsPlan {A : Type 0} (k : Known) (es : List EventView) (plan : Plan A)
       ≡ jobs_by (λ rank. job_of rank k es) (length k.readers)
   pub readers : plan.rest.readers ≡ length k.readers
   pub ranks : plan.rest.ranks.items ≡ map (λ job. job.rank) plan.jobs.items
-  pub answers : map answer_view plan.rest.answers.items
-      ≡ map discovery_sending (discovery_answers k es)
+  pub answers : map answer_view plan.rest.answers.items ≡ discovery_answers k es

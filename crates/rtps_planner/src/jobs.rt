@@ -3,7 +3,7 @@
 ghost use Rattle.std.specs.Prelude.{◌^◌, ◌≤◌};
 
 use crate::steps::PlannedStep;
-use rtps_run::Answer;
+use rtps_types::{Place, Reply};
 use std::alloc::{Allocator, Global};
 
 /// What one reader has to do in a batch.
@@ -22,8 +22,8 @@ pub struct Rest<A: Allocator = Global> {
     pub readers: usize,
     /// The ranks of the readers that have a job, rising.
     pub ranks: Vec<u32, A>,
-    /// What discovery answers, by place.
-    pub answers: Vec<Answer<A>, A>,
+    /// What discovery answers, by place: each with the place of the event that it answers.
+    pub answers: Vec<(Place, Reply<A>), A>,
     /// Ranks have 32 bits.
     ghost ranked: { readers ≤ 2 ^ 32 },
 }

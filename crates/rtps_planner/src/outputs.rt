@@ -1,16 +1,13 @@
 //! How what the readers put out in a batch is put together.
 
-ghost use Rattle.std.specs.Prelude.{◌≡◌, ◌==◌, ◌++◌, IfOk, None, OnOk, map, nat_lt, not, set, true};
+ghost use Rattle.std.specs.Prelude.{◌≡◌, ◌==◌, ◌<◌, [], ℕ, IfOk, None, length, nat_lt, not, set, slice_index_or, true};
 ghost use Rattle.std.specs.List.{list_any};
-ghost use Rattle.rtps_reader.specs.Notices as reader;
-ghost use Rattle.rtps_run.specs.Outcome.{answer_view};
 ghost use Rattle.rtps_planner.specs.declared.outputs.GatherFault.TheVariants as fault;
-ghost use Rattle.rtps_planner.specs.Gather.{AreSorted, IsGathered, IsJudged, fault_of, is_among, lists_with, ranks_of, sending_by, sends_of, times, turn_of};
+ghost use Rattle.rtps_planner.specs.Gather.{IsGathered, IsJudged, fault_of, is_among, outputs_with, ranks_of, times};
 
 use crate::jobs::Rest;
-use rtps_reader::{Notice, Output};
-use rtps_run::{Answer, Outcome, ReportKind, Turn, empty_lists};
-use rtps_types::{Place, Reply};
+use rtps_reader::Output;
+use rtps_run::Outcome;
 use std::alloc::{AllocError, Allocator};
 use thiserror::Error;
 
@@ -115,77 +112,59 @@ fn fault_in<V, A: Allocator>(
     None
 }
 
-/// Puts notices in the place of the list of a rank; there is none for a rank past the last.
-fn put_notices<V: Drop, A: Allocator>(
-    lists: &mut Vec<Vec<Notice<V>, A>, A>,
+/// An output in which nothing is.
+fn no_output<V: Drop, A: Allocator + Copy>(alloc: A) -> Output<V, A>
+    ensures notices { result.notices.items ≡ [] }
+    ensures answers { result.answers.items ≡ [] }
+{
+    Output {
+        notices: Vec::new(alloc),
+        answers: Vec::new(alloc),
+    }
+}
+
+/// `count` outputs in which nothing is.
+fn no_outputs<V: Drop, A: Allocator + Copy>(
+    alloc: A,
+    count: usize,
+) -> Result<Vec<Output<V, A>, A>, AllocError>
+    ensures count { IfOk result (λ outputs. length outputs.items ≡ count) }
+    ensures empty { IfOk result (λ outputs. (rank : ℕ) (other : _) → rank < count
+        → ((slice_index_or outputs.items rank other).notices.items ≡ [])
+        × ((slice_index_or outputs.items rank other).answers.items ≡ [])) }
+{
+    let mut outputs = Vec::with_capacity(alloc, count)?;
+    for _at in 0..count {
+        outputs.push(no_output(alloc))?;
+    }
+    Ok(outputs)
+}
+
+/// Puts an output in the place of its rank; there is none for a rank past the last.
+fn put_output<V: Drop, A: Allocator>(
+    by_rank: &mut Vec<Output<V, A>, A>,
     rank: u32,
-    notices: Vec<Notice<V>, A>,
+    output: Output<V, A>,
 )
-    ensures { lists.new.items ≡ set lists.old.items rank notices }
+    ensures { by_rank.new.items ≡ set by_rank.old.items rank output }
 {
     let at = rank as usize;
-    if at < lists.len() {
-        lists[at] = notices;
+    if at < by_rank.len() {
+        by_rank[at] = output;
     }
 }
 
-/// Puts what the reader of a rank sends after the other answers.
-fn push_answers<A: Allocator>(
-    answers: &mut Vec<Answer<A>, A>,
-    rank: u32,
-    replies: Vec<(Place, Reply<A>), A>,
-) -> Result<(), AllocError>
-    ensures { OnOk result (map answer_view answers.new.items
-        ≡ map answer_view answers.old.items
-        ++ map (sending_by rank) (map reader.answer_view replies.items)) }
-{
-    for (place, reply) in replies {
-        let answer = Answer {
-            place,
-            rank: Some(rank),
-            to: reply.to,
-            octets: reply.octets,
-        };
-        answers.push(answer)?;
-    }
-    Ok(())
-}
-
-/// Puts the notices of each output in the place of its rank's, and its answers after the others.
+/// Puts each output in the place of its rank.
 fn put_outputs<V: Drop, A: Allocator>(
-    outcome: &mut Outcome<V, A>,
+    by_rank: &mut Vec<Output<V, A>, A>,
     outputs: Vec<(u32, Output<V, A>), A>,
-) -> Result<(), AllocError>
-    ensures notices { OnOk result (outcome.new.notices.items
-        ≡ lists_with outcome.old.notices.items outputs.items) }
-    ensures answers { OnOk result (map answer_view outcome.new.answers.items
-        ≡ map answer_view outcome.old.answers.items ++ sends_of outputs.items) }
+)
+    ensures put { by_rank.new.items ≡ outputs_with by_rank.old.items outputs.items }
+    ensures count { length by_rank.new.items ≡ length by_rank.old.items }
 {
     for (rank, output) in outputs {
-        put_notices(&mut outcome.notices, rank, output.notices);
-        push_answers(&mut outcome.answers, rank, output.answers)?;
+        put_output(by_rank, rank, output);
     }
-    Ok(())
-}
-
-/// When an answer comes among the others: by place, and at one place discovery's before those of
-/// readers, and these by rank.
-fn turn<A: Allocator>(answer: &Answer<A>) -> Turn
-    ensures { result ≡ turn_of answer.now }
-{
-    Turn {
-        place: answer.place,
-        rank: answer.rank,
-        kind: ReportKind::Answer,
-    }
-}
-
-/// Puts answers in the order in which they come.
-fn sort_answers<A: Allocator>(answers: &mut Vec<Answer<A>, A>) -> Result<(), AllocError>
-    ensures { OnOk result (AreSorted answers.old.items answers.new.items) }
-{
-    answers.sort_by_key(|answer| turn(answer))?;
-    Ok(())
 }
 
 /// Puts the outputs of a batch's jobs together, each with the rank of its reader. The outputs may
@@ -205,11 +184,7 @@ pub fn gather<V: Drop, A: Allocator + Copy>(
     if let Some(fault) = fault_in(&rest.ranks, &outputs) {
         return Err(fault);
     }
-    let mut outcome = Outcome {
-        notices: empty_lists(alloc, rest.readers)?,
-        answers: rest.answers,
-    };
-    put_outputs(&mut outcome, outputs)?;
-    sort_answers(&mut outcome.answers)?;
-    Ok(outcome)
+    let mut by_rank = no_outputs(alloc, rest.readers)?;
+    put_outputs(&mut by_rank, outputs);
+    Ok(Outcome::new(alloc, rest.answers, by_rank)?)
 }

@@ -5,19 +5,19 @@ ghost use Rattle.std.specs.List.{slice_get};
 ghost use Rattle.std.specs.Option.{option_map};
 ghost use Rattle.rtps_discovery.specs.Addressed as addressed;
 ghost use Rattle.rtps_discovery.specs.Kept.{IsKnown};
-ghost use Rattle.rtps_discovery.specs.Known.{Known, reader_at};
+ghost use Rattle.rtps_discovery.specs.Known.{Known};
 ghost use Rattle.rtps_discovery.specs.Seen.{change_seen};
 ghost use Rattle.rtps_receiver.specs.Events.{EventView, view};
 ghost use Rattle.rtps_proxy.specs.Replies.{reply_view};
+ghost use Rattle.rtps_reader.specs.Notices.{answer_view};
 ghost use Rattle.rtps_reader.specs.Reader.{placed};
-ghost use Rattle.rtps_run.specs.Outcome.{answer_view};
 ghost use Rattle.rtps_run.specs.World.{changes_for};
-ghost use Rattle.rtps_planner.specs.Plan.{AreFrom, Grow, IsPlanned, burst_at, discovery_sending, events_at, is_named, step_seen, steps_seen, taken_in};
+ghost use Rattle.rtps_planner.specs.Plan.{AreFrom, Grow, IsPlanned, burst_at, events_at, step_seen, steps_seen, taken_in};
 ghost use Rattle.rtps_planner.specs.declared.steps.PlannedStep.TheVariants as planned;
 
-use rtps_discovery::{Discovery, MatchChange, Reader, is_for};
+use rtps_discovery::{Discovery, MatchChange, Reader};
 use rtps_receiver::Event;
-use rtps_run::Answer;
+use rtps_run::is_named;
 use rtps_types::{EntityId, Guid, MatchChangeKind, Place, Reply};
 use std::alloc::{AllocError, Allocator, Global};
 
@@ -28,9 +28,15 @@ const FIRST_ROOM: usize = 8;
 #[derive(Debug, Drop)]
 pub enum PlannedStep<A: Allocator = Global> {
     /// The reader takes in the event at an index, and so many more that follow it there.
-    TakeIn { first: usize, more: usize },
+    TakeIn {
+        first: usize,
+        more: usize,
+    },
     /// A match changes, as the event at this index announces.
-    Change { event: usize, what: MatchChangeKind<A> },
+    Change {
+        event: usize,
+        what: MatchChangeKind<A>,
+    },
 }
 
 /// Puts a step after the others. Where the list is full, room is made for four times as many, since
@@ -152,17 +158,6 @@ fn add_changes<A: Allocator>(
     Ok(())
 }
 
-/// Whether there is a reader of the rank, and a reader id is for it.
-fn is_named<A: Allocator>(readers: &[Option<Reader<A>>], rank: u32, reader: EntityId) -> bool
-    ensures { result ≡ is_named reader (reader_at readers.now rank) }
-{
-    match readers.get(rank as usize) {
-        Some(Some(wish)) => is_for(reader, wish.entity()),
-        Some(None) => false,
-        None => false,
-    }
-}
-
 /// Lets the readers of these ranks take in a burst, where its reader id names them.
 fn add_burst<A: Allocator>(
     lists: &mut Vec<Vec<PlannedStep<A>, A>, A>,
@@ -185,27 +180,20 @@ fn add_burst<A: Allocator>(
 #[derive(Drop)]
 pub(crate) struct Planning<A: Allocator> {
     pub lists: Vec<Vec<PlannedStep<A>, A>, A>,
-    pub answers: Vec<Answer<A>, A>,
+    pub answers: Vec<(Place, Reply<A>), A>,
 }
 
 /// Puts discovery's answer to the event at this place after the others.
 fn add_answer<A: Allocator>(
-    answers: &mut Vec<Answer<A>, A>,
+    answers: &mut Vec<(Place, Reply<A>), A>,
     place: Place,
     answer: Option<Reply<A>>,
 ) -> Result<(), AllocError>
     ensures { OnOk result (map answer_view answers.new.items
-        ≡ map answer_view answers.old.items
-        ++ map discovery_sending (placed place (option_map reply_view answer))) }
+        ≡ map answer_view answers.old.items ++ placed place (option_map reply_view answer)) }
 {
     if let Some(reply) = answer {
-        let answer = Answer {
-            place,
-            rank: None,
-            to: reply.to,
-            octets: reply.octets,
-        };
-        answers.push(answer)?;
+        answers.push((place, reply))?;
     }
     Ok(())
 }

@@ -20,13 +20,14 @@ use Rattle.rtps_discovery.specs.Records.{answered, changes_by, known_by}
 use Rattle.rtps_discovery.specs.Seen.{change_seen}
 use Rattle.rtps_discovery.specs.declared.changes.MatchChange.{MatchChange}
 use Rattle.dds_topic.specs.Decoding.{Decoding}
+use Rattle.rtps_reader.specs.Reader.{placed}
 use Rattle.rtps_reader.specs.Standing.{ReaderView}
 use Rattle.rtps_reader.specs.Steps.{Changes, StepView, asks_of}
 use Rattle.rtps_run.specs.declared.outcome.Report.{Report}
 use Rattle.rtps_run.specs.Seen.{reader_count}
 use Rattle.rtps_run.specs.Standing.{AllKnown, ReadersStand, WorldStands}
 use Rattle.rtps_run.specs.Steps.{AreByRank, ReaderStep, change_step, event_steps, step_by, steps_run}
-use Rattle.rtps_run.specs.World.{ReportView, World, addressed_to, answer_put, changes_for, discovery_puts, doings, known_after_event, world_after}
+use Rattle.rtps_run.specs.World.{ReportView, World, addressed_to, changes_for, discovery_puts, doings, known_after_event, sent_by, world_after}
 use Rattle.rtps_run.proofs.OneOrder.{Rises, filter-map, rises_map, rises_sorted, stable_by}
 use Rattle.rtps_run.proofs.Routed.{asks_for, comes_before, discovered, event_stands, named_after, not_before}
 
@@ -173,7 +174,7 @@ announced_known k e is = rw is refl
 pub announced_doings : (k : Known) (rank : ℕ) (e : EventView) → is_discovery e.writer ≡ true → doings k rank e ≡ changes_for rank (changes_by k e)
 announced_doings k rank e is = rw is refl
 
-pub announced_puts : {M : Type 0} (k : Known) (e : EventView) → is_discovery e.writer ≡ true → discovery_puts {M = M} k e ≡ answer_put e.place (answered k e)
+pub announced_puts : {M : Type 0} (k : Known) (e : EventView) → is_discovery e.writer ≡ true → discovery_puts {M = M} k e ≡ map (sent_by None) (placed e.place (answered k e))
 announced_puts k e is = rw is refl
 
 -- an announcer's event
@@ -190,6 +191,10 @@ announcement_stands view d w e earlier kept changes sorted states reports is nam
 -- a user's event changes nothing of what is known, and discovery puts out nothing
 pub other_known : (k : Known) (e : EventView) → is_discovery e.writer ≡ false → known_after_event k e ≡ k
 other_known k e others = rw others refl
+
+pub named_discovered : {M : Type 0} (w : World M) (e : EventView) → is_discovery e.writer ≡ false → AllKnown w → AllKnown (discovered w e)
+named_discovered w e others named =
+    subst (λ (k : Known). (rank : ℕ) → rank < length k.readers → option_map (λ r. r.entity) (reader_at k.readers rank) ≡ Some (w.readers rank).entity) (sym (other_known w.known e others)) named
 
 pub no_puts : {M : Type 0} (k : Known) (e : EventView) → is_discovery e.writer ≡ false → discovery_puts {M = M} k e ≡ []
 no_puts k e others = rw others refl

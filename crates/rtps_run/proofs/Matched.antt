@@ -20,12 +20,12 @@ use Rattle.dds_topic.specs.Decoding.{Decoding}
 use Rattle.rtps_reader.specs.declared.notice.Notice.{Notice}
 use Rattle.rtps_reader.specs.declared.notice.NoticeKind.TheVariants.{Lost}
 use Rattle.rtps_reader.specs.Body.{body_by}
-use Rattle.rtps_reader.specs.Reader.{Reader, loses, lost_at, presented, reader_after, ready_at, sends, tells, told_of}
+use Rattle.rtps_reader.specs.Reader.{Reader, loses, lost_at, placed, presented, reader_after, ready_at, sends, tells, told_of}
 use Rattle.rtps_reader.specs.Steps.{StepView}
 use Rattle.rtps_reader.proofs.Begun.{same_self}
 use Rattle.rtps_run.specs.Presentation.{Shown, shown_in}
 use Rattle.rtps_run.specs.Seen.{notices_by, reader_count}
-use Rattle.rtps_run.specs.World.{NoticeOf, World, answer_put, discovery_puts, doings, puts_at, puts_below, puts_run, sent_by, world_after}
+use Rattle.rtps_run.specs.World.{NoticeOf, World, discovery_puts, doings, puts_at, puts_below, puts_run, sent_by, world_after}
 use Rattle.rtps_run.proofs.Dealt.{notices_by-append}
 use Rattle.rtps_run.proofs.Shown.{samples_of, shown}
 
@@ -162,14 +162,14 @@ heard_none : {M : Type 0} (rank k : ℕ) → eqb k rank ≡ false → (ns : List
 heard_none rank k h [] = refl
 heard_none rank k h (n ∷ ns) = rw h (heard_none rank k h ns)
 
-none_sent : {M : Type 0} (rank k : ℕ) (ss : List (Place × ReplyView)) → notices_by {M = M} rank (map (sent_by k) ss) ≡ []
+none_sent : {M : Type 0} (rank k : ℕ) (ss : List (Place × ReplyView)) → notices_by {M = M} rank (map (sent_by (Some k)) ss) ≡ []
 none_sent rank k [] = refl
 none_sent rank k (s ∷ ss) = none_sent rank k ss
 
 -- of what a reader puts out at a step, its notices
 pub heard_at : {M : Type 0} (decoding : Decoding M) (place : Place) (rank : ℕ) (r : Reader) (d : StepView) → notices_by rank (puts_at decoding place rank r d) ≡ tells decoding r place d
 heard_at decoding place rank r d =
-    notices_by-append rank (map (NoticeOf rank) (tells decoding r place d)) (map (sent_by rank) (sends r place d))
+    notices_by-append rank (map (NoticeOf rank) (tells decoding r place d)) (map (sent_by (Some rank)) (sends r place d))
     ∙ ap (λ l. notices_by rank (map (NoticeOf rank) (tells decoding r place d)) ++ l) (none_sent rank rank (sends r place d))
     ∙ append-nil (notices_by rank (map (NoticeOf rank) (tells decoding r place d)))
     ∙ heard_all rank (tells decoding r place d)
@@ -184,7 +184,7 @@ heard_run decoding place rank r (d ∷ ds) =
 -- and none of another reader's
 pub other_at : {M : Type 0} (decoding : Decoding M) (place : Place) (rank k : ℕ) (r : Reader) (d : StepView) → eqb k rank ≡ false → notices_by rank (puts_at decoding place k r d) ≡ []
 other_at decoding place rank k r d h =
-    notices_by-append rank (map (NoticeOf k) (tells decoding r place d)) (map (sent_by k) (sends r place d))
+    notices_by-append rank (map (NoticeOf k) (tells decoding r place d)) (map (sent_by (Some k)) (sends r place d))
     ∙ ap (λ l. notices_by rank (map (NoticeOf k) (tells decoding r place d)) ++ l) (none_sent rank k (sends r place d))
     ∙ append-nil (notices_by rank (map (NoticeOf k) (tells decoding r place d)))
     ∙ heard_none rank k h (tells decoding r place d)
@@ -230,11 +230,11 @@ by_rank decoding k e readers rank (suc n) l =
 unheard : {M : Type 0} (rank : ℕ) (k : Known) (e : EventView) → notices_by {M = M} rank (discovery_puts k e) ≡ []
 unheard {M} rank k e = by_test (is_discovery e.writer)
   where
-    by_answer : (o : Option ReplyView) → notices_by {M = M} rank (answer_put e.place o) ≡ []
+    by_answer : (o : Option ReplyView) → notices_by {M = M} rank (map (sent_by None) (placed e.place o)) ≡ []
     by_answer None = refl
     by_answer (Some s) = refl
 
-    by_test : (b : Bool) → notices_by {M = M} rank (if b then answer_put e.place (answered k e) else []) ≡ []
+    by_test : (b : Bool) → notices_by {M = M} rank (if b then map (sent_by None) (placed e.place (answered k e)) else []) ≡ []
     by_test true = by_answer (answered k e)
     by_test false = refl
 

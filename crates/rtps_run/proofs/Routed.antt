@@ -15,7 +15,7 @@ use Rattle.rtps_discovery.specs.Known.{Known, Wish, known_after, reader_at}
 use Rattle.rtps_discovery.specs.Records.{announcements, answered, known_by, noted}
 use Rattle.rtps_proxy.specs.Replies.{ReplyView}
 use Rattle.dds_topic.specs.Decoding.{Decoding}
-use Rattle.rtps_reader.specs.Reader.{Reader, reader_after, reader_run}
+use Rattle.rtps_reader.specs.Reader.{Reader, placed, reader_after, reader_run}
 use Rattle.rtps_reader.specs.Standing.{ReaderView}
 use Rattle.rtps_reader.specs.Steps.{StepView}
 use Rattle.rtps_run.specs.declared.outcome.Report.{Report}
@@ -23,7 +23,7 @@ use Rattle.rtps_run.specs.Outcome.{report_view}
 use Rattle.rtps_run.specs.Seen.{notices_by, reader_count}
 use Rattle.rtps_run.specs.Standing.{AllKnown, ReadersStand, StandsFor}
 use Rattle.rtps_run.specs.Steps.{ReaderStep, step_puts, steps_run, world_stepped}
-use Rattle.rtps_run.specs.World.{ReportView, World, answer_put, discovery_puts, doings, known_after_event, puts_at, puts_below, puts_run, world_after}
+use Rattle.rtps_run.specs.World.{ReportView, World, discovery_puts, doings, known_after_event, puts_at, puts_below, puts_run, sent_by, world_after}
 use Rattle.rtps_run.proofs.Dealt.{notices_by-append}
 use Rattle.rtps_run.proofs.OneOrder.{Rises, filter_none}
 use Rattle.rtps_run.proofs.Reached.{same_entity}
@@ -220,7 +220,7 @@ event_stands {V} {M} {A} view d w e ss earlier states reports up same stands =
 no_notice : {M : Type 0} (w : World M) (e : EventView) (rank : ℕ) → notices_by rank (discovery_puts {M = M} w.known e) ≡ []
 no_notice {M} w e rank = by_test (is_discovery e.writer) (answered w.known e)
   where
-    by_test : (b : Bool) (o : Option ReplyView) → notices_by rank (if b then answer_put {M = M} e.place o else []) ≡ []
+    by_test : (b : Bool) (o : Option ReplyView) → notices_by rank (if b then map (sent_by {M = M} None) (placed e.place o) else []) ≡ []
     by_test true None = refl
     by_test true (Some s) = refl
     by_test false o = refl

@@ -1,5 +1,5 @@
 -- One reader's step, in the world and in the states.
-use Rattle.std.proofs.Common.{◌≡◌, ◌≢◌, ℕ, ◌<◌, ◌≤◌, ◌==◌, nat_lt, List, [], ◌∷◌, ◌++◌, map, length, get_or, set, Bool, true, false, if◌then◌else◌, refl, sym, ap, ◌∙◌, subst, arith, append-nil, append_assoc, eq-eqb, get_or-set_same, get_or-set_other}
+use Rattle.std.proofs.Common.{◌≡◌, ◌≢◌, ℕ, ◌<◌, ◌≤◌, ◌==◌, nat_lt, List, [], ◌∷◌, ◌++◌, map, length, get_or, set, Bool, true, false, if◌then◌else◌, Some, refl, sym, ap, ◌∙◌, subst, arith, append-nil, append_assoc, eq-eqb, get_or-set_same, get_or-set_other}
 use Rattle.std.proofs.Math.ListN.{length-set}
 use Rattle.std.proofs.lemmas.Bool.Decides.{nat_tests}
 use Rattle.rtps_types.specs.declared.place.Place.{Place}
@@ -36,22 +36,22 @@ pub others_notices : {M : Type 0} (rank k : ℕ) (ns : List (Notice M)) → (ran
 others_notices rank k [] e = refl
 others_notices rank k (n ∷ ns) e = rw e (others_notices rank k ns e)
 
-pub no_notice : (M : Type 0) (rank k : ℕ) (ss : List (Place × ReplyView)) → notices_by k (map (sent_by {M = M} rank) ss) ≡ []
+pub no_notice : (M : Type 0) (rank k : ℕ) (ss : List (Place × ReplyView)) → notices_by k (map (sent_by {M = M} (Some rank)) ss) ≡ []
 no_notice M rank k [] = refl
 no_notice M rank k (s ∷ ss) = no_notice M rank k ss
 
 -- the notices of a step are those that its reader gives
 pub told_at_step : {M : Type 0} (d : Decoding M) (place : Place) (rank : ℕ) (r : Reader) (what : StepView) → notices_by rank (puts_at d place rank r what) ≡ tells d r place what
 told_at_step {M} d place rank r what =
-    notices_by-append rank (map (NoticeOf rank) (tells d r place what)) (map (sent_by rank) (sends r place what))
-    ∙ ap (λ l. l ++ notices_by rank (map (sent_by rank) (sends r place what))) (own_notices rank (tells d r place what))
+    notices_by-append rank (map (NoticeOf rank) (tells d r place what)) (map (sent_by (Some rank)) (sends r place what))
+    ∙ ap (λ l. l ++ notices_by rank (map (sent_by (Some rank)) (sends r place what))) (own_notices rank (tells d r place what))
     ∙ ap (λ l. tells d r place what ++ l) (no_notice M rank rank (sends r place what))
     ∙ append-nil (tells d r place what)
 
 pub none_told_at_step : {M : Type 0} (d : Decoding M) (place : Place) (rank k : ℕ) (r : Reader) (what : StepView) → (rank == k) ≡ false → notices_by k (puts_at d place rank r what) ≡ []
 none_told_at_step {M} d place rank k r what e =
-    notices_by-append k (map (NoticeOf rank) (tells d r place what)) (map (sent_by rank) (sends r place what))
-    ∙ ap (λ l. l ++ notices_by k (map (sent_by rank) (sends r place what))) (others_notices rank k (tells d r place what) e)
+    notices_by-append k (map (NoticeOf rank) (tells d r place what)) (map (sent_by (Some rank)) (sends r place what))
+    ∙ ap (λ l. l ++ notices_by k (map (sent_by (Some rank)) (sends r place what))) (others_notices rank k (tells d r place what) e)
     ∙ no_notice M rank k (sends r place what)
 
 -- the reader of a rank, as its state keeps it

@@ -38,7 +38,7 @@ use Rattle.rtps_run.specs.Presentation.{not_after}
 use Rattle.rtps_run.specs.Run.{world_run}
 use Rattle.rtps_run.specs.Seen.{notices_by, reader_count}
 use Rattle.rtps_run.specs.Turn.{kind_order, turn_of, turn_order}
-use Rattle.rtps_run.specs.World.{ReportView, NoticeOf, AnswerOf, World, addressed_to, answer_put, changes_for, discovery_puts, doings, puts_at, puts_below, puts_run, sent_by, world_after}
+use Rattle.rtps_run.specs.World.{ReportView, NoticeOf, AnswerOf, World, addressed_to, changes_for, discovery_puts, doings, puts_at, puts_below, puts_run, sent_by, world_after}
 use Rattle.rtps_run.proofs.Routed.{readers_stay}
 use Rattle.rtps_run.proofs.Dealt.{notices_by-append}
 use Rattle.rtps_run.proofs.Matched.{heard_event, none_below}
@@ -202,7 +202,7 @@ hears_turn : {M : Type 0} (place : Place) (rank : ℕ) (ns : List (Notice M)) �
 hears_turn place rank [] h = tt
 hears_turn place rank (n ∷ ns) h = (ap (λ l. turn_at l rank kind.Notice) h.0, hears_turn place rank ns h.1)
 
-sends_turn : (M : Type 0) (place : Place) (rank : ℕ) (ss : List (Place × ReplyView)) → AllByRecursion (λ s. s.0 ≡ place) ss → AllByRecursion (λ (p : ReportView M). put_turn p ≡ turn_at place rank kind.Answer) (map (sent_by rank) ss)
+sends_turn : (M : Type 0) (place : Place) (rank : ℕ) (ss : List (Place × ReplyView)) → AllByRecursion (λ s. s.0 ≡ place) ss → AllByRecursion (λ (p : ReportView M). put_turn p ≡ turn_at place rank kind.Answer) (map (sent_by (Some rank)) ss)
 sends_turn M place rank [] h = tt
 sends_turn M place rank (s ∷ ss) h = (ap (λ l. turn_at l rank kind.Answer) h.0, sends_turn M place rank ss h.1)
 
@@ -224,13 +224,13 @@ module _ {M : Type 0} (d : Decoding M) (place : Place) (rank : ℕ) where
   step_told : (r : Reader) (a : StepView) → Notices (map (NoticeOf rank) (tells d r place a))
   step_told r a = hears_turn place rank (tells d r place a) (tells_at d r place a)
 
-  step_sent : (r : Reader) (a : StepView) → AllByRecursion (λ (p : ReportView M). put_turn p ≡ turn_at place rank kind.Answer) (map (sent_by rank) (sends r place a))
+  step_sent : (r : Reader) (a : StepView) → AllByRecursion (λ (p : ReportView M). put_turn p ≡ turn_at place rank kind.Answer) (map (sent_by (Some rank)) (sends r place a))
   step_sent r a = sends_turn M place rank (sends r place a) (sends_at r place a)
 
   -- at one step, and at one after the other
   step_at : (r : Reader) (a : StepView) → AllByRecursion (IsAt place rank) (puts_at d place rank r a)
   step_at r a =
-      all_append (IsAt place rank) (map (NoticeOf rank) (tells d r place a)) (map (sent_by rank) (sends r place a))
+      all_append (IsAt place rank) (map (NoticeOf rank) (tells d r place a)) (map (sent_by (Some rank)) (sends r place a))
       (all_weaker (λ p. put_turn p ≡ turn_at place rank kind.Notice) (IsAt place rank) _ (of_turn place rank kind.Notice) (step_told r a))
       (all_weaker (λ p. put_turn p ≡ turn_at place rank kind.Answer) (IsAt place rank) _ (of_turn place rank kind.Answer) (step_sent r a))
 
@@ -243,7 +243,7 @@ module _ {M : Type 0} (d : Decoding M) (place : Place) (rank : ℕ) where
   step_rises r a =
       rises_then before (λ p. put_turn p ≡ turn_at place rank kind.Notice) (λ p. put_turn p ≡ turn_at place rank kind.Answer)
       (λ x y p q. ap is_lt (ap (λ t. turn_order t (put_turn x)) q ∙ ap (turn_order (turn_at place rank kind.Answer)) p) ∙ answer_last place rank)
-      (map (NoticeOf rank) (tells d r place a)) (map (sent_by rank) (sends r place a)) (step_told r a) (step_sent r a)
+      (map (NoticeOf rank) (tells d r place a)) (map (sent_by (Some rank)) (sends r place a)) (step_told r a) (step_sent r a)
       (rises_level (turn_at place rank kind.Notice) _ (step_told r a)) (rises_level (turn_at place rank kind.Answer) _ (step_sent r a))
 
   -- a match that begins, ends or is refused is not answered
@@ -257,7 +257,7 @@ module _ {M : Type 0} (d : Decoding M) (place : Place) (rank : ℕ) where
   changes_told r [] = tt
   changes_told r (c ∷ cs) =
       all_append (λ p. put_turn p ≡ turn_at place rank kind.Notice) (puts_at d place rank r (Changes c.what)) (puts_run d place rank (reader_after r (Changes c.what)) (map (λ (c : ChangeAt). Changes c.what) cs))
-      (subst (λ (ss : List (Place × ReplyView)). Notices (map (NoticeOf rank) (tells d r place (Changes c.what)) ++ map (sent_by rank) ss)) (sym (no_answer r c.what))
+      (subst (λ (ss : List (Place × ReplyView)). Notices (map (NoticeOf rank) (tells d r place (Changes c.what)) ++ map (sent_by (Some rank)) ss)) (sym (no_answer r c.what))
       (subst Notices (sym (append-nil (map (NoticeOf rank) (tells d r place (Changes c.what))))) (step_told r (Changes c.what))))
       (changes_told (reader_after r (Changes c.what)) cs)
 
@@ -314,11 +314,11 @@ discovery_turn place = record { place = place; rank = None; kind = kind.Answer }
 answer_turn : (M : Type 0) (k : Known) (e : EventView) → AllByRecursion (λ (p : ReportView M). put_turn p ≡ discovery_turn e.place) (discovery_puts k e)
 answer_turn M k e = by_test (is_discovery e.writer)
   where
-    by_answer : (o : Option ReplyView) → AllByRecursion (λ (p : ReportView M). put_turn p ≡ discovery_turn e.place) (answer_put e.place o)
+    by_answer : (o : Option ReplyView) → AllByRecursion (λ (p : ReportView M). put_turn p ≡ discovery_turn e.place) (map (sent_by None) (placed e.place o))
     by_answer None = tt
     by_answer (Some s) = (refl, tt)
 
-    by_test : (b : Bool) → AllByRecursion (λ (p : ReportView M). put_turn p ≡ discovery_turn e.place) (if b then answer_put e.place (answered k e) else [])
+    by_test : (b : Bool) → AllByRecursion (λ (p : ReportView M). put_turn p ≡ discovery_turn e.place) (if b then map (sent_by None) (placed e.place (answered k e)) else [])
     by_test true = by_answer (answered k e)
     by_test false = tt
 

@@ -1,3 +1,4 @@
+pub mod Addressed
 pub mod World
 pub mod Run
 pub mod Seen

@@ -1,13 +1,18 @@
 -- What an engine gives, by what its values mean.
-use Rattle.std.specs.Prelude.{◌≡◌, ℕ, ◌<◌, List, ◌++◌, length, map, slice_index_or}
+use Rattle.std.specs.Prelude.{◌≡◌, ℕ, ◌+◌, ◌<◌, List, [], ◌∷◌, ◌++◌, Option, None, Some, length, map, slice_index_or}
+use Rattle.std.specs.List.Sorted.{IsPermutation, IsSortedByKey, IsStableByKey}
 use Rattle.std.specs.declared.vec.Vec.{Vec}
+use Rattle.rtps_types.specs.declared.place.Place.{Place}
+use Rattle.rtps_types.specs.declared.traffic.Reply.{Reply}
 use Rattle.rtps_reader.specs.declared.notice.Notice.{Notice}
+use Rattle.rtps_reader.specs.declared.notice.Output.{Output}
 use Rattle.rtps_reader.specs.Notices.{notice_view}
 use Rattle.rtps_run.specs.declared.outcome.Answer.{Answer}
 use Rattle.rtps_run.specs.declared.outcome.Outcome.{Outcome}
 use Rattle.rtps_run.specs.declared.outcome.Report.{Report}
 use Rattle.rtps_run.specs.declared.outcome.Report.TheVariants as report
 use Rattle.rtps_run.specs.Seen.{answers_in, notices_by, reader_count}
+use Rattle.rtps_run.specs.Turn.{answer_turn, turn_order}
 use Rattle.rtps_run.specs.World.{ReportView, NoticeOf, AnswerOf, AnswerView, World}
 
 -- what contracts see of an answer
@@ -40,3 +45,30 @@ pub record Adds {V M A : Type 0} (f : V → M) (before after : World M) (outcome
       ≡ notices_by rank before.put ++ notices_in f (slice_index_or outcome.notices.items rank other)
   pub answers : answers_in after.put
       ≡ answers_in before.put ++ map answer_view outcome.answers.items
+
+-- an answer with the place of the event that it answers, as that of the reader of a rank, or of
+-- discovery where there is no rank
+abbrev pub answer_of : {A : Type 0} → Option ℕ → Place × Reply A → Answer A
+answer_of rank s = record { place = s.0; rank = rank; to = s.1.to; octets = s.1.octets }
+
+-- the answers of readers, of which the first has this rank
+abbrev pub answers_from : {V A : Type 0} → ℕ → List (Output V A) → List (Answer A)
+answers_from rank [] = []
+answers_from rank (o ∷ os) =
+    map (answer_of (Some rank)) o.answers.items ++ answers_from (rank + 1) os
+
+-- all answers: those of discovery, and then those of each reader, by rank
+abbrev pub all_answers : {V A : Type 0} → List (Place × Reply A) → List (Output V A)
+    → List (Answer A)
+all_answers answers outputs = map (answer_of None) answers ++ answers_from 0 outputs
+
+-- An outcome is that of what discovery answers and of what each reader gives, by rank: the lists of
+-- notices are those of the readers, and it has each answer once, in order: by turn, and what has
+-- one turn comes as it did.
+pub record IsOutcomeOf {V A : Type 0} (answers : List (Place × Reply A))
+    (outputs : List (Output V A)) (outcome : Outcome V A) : Type 0 where
+  pub notices : outcome.notices.items ≡ map (λ o. o.notices) outputs
+  pub all : IsPermutation (all_answers answers outputs) outcome.answers.items
+  pub sorted : IsSortedByKey answer_turn turn_order outcome.answers.items
+  pub stable : IsStableByKey answer_turn turn_order (all_answers answers outputs)
+      outcome.answers.items

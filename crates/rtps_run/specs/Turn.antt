@@ -10,6 +10,7 @@ use Rattle.std.specs.declared.cmp.Ordering.TheVariants.{Less, Equal, Greater}
 use Rattle.std.specs.declared.vec.Vec.{Vec}
 use Rattle.rtps_types.specs.Place.{place_order}
 use Rattle.rtps_reader.specs.declared.notice.Notice.{Notice}
+use Rattle.rtps_run.specs.declared.outcome.Answer.{Answer}
 use Rattle.rtps_run.specs.declared.outcome.Outcome.{Outcome}
 use Rattle.rtps_run.specs.declared.outcome.Report.{Report}
 use Rattle.rtps_run.specs.declared.outcome.Report.TheVariants as report
@@ -30,12 +31,15 @@ turn_order a b =
     ordering_then (place_order a.place b.place)
     (ordering_then (option_cmp nat_cmp a.rank b.rank) (kind_order a.kind b.kind))
 
+-- when an answer comes
+abbrev pub answer_turn : {A : Type 0} → Answer A → Turn
+answer_turn answer = record { place = answer.place; rank = answer.rank; kind = kind.Answer }
+
 -- when a report comes
 abbrev pub turn_of : {V A : Type 0} → Report V A → Turn
 turn_of (report.Notice rank notice) =
     record { place = notice.place; rank = Some rank; kind = kind.Notice }
-turn_of (report.Answer answer) =
-    record { place = answer.place; rank = answer.rank; kind = kind.Answer }
+turn_of (report.Answer answer) = answer_turn answer
 
 -- the notices of an outcome, of which the first list has this rank
 abbrev pub notices_from : {V A : Type 0} → ℕ → List (Vec (Notice V) A) → List (Report V A)

@@ -11,7 +11,7 @@ use Rattle.rtps_discovery.specs.Records.{answered, changes_by, known_by}
 use Rattle.dds_topic.specs.Decoding.{Decoding}
 use Rattle.rtps_proxy.specs.Replies.{ReplyView}
 use Rattle.rtps_reader.specs.declared.notice.Notice.{Notice}
-use Rattle.rtps_reader.specs.Reader.{Reader, reader_after, reader_run, sends, tells}
+use Rattle.rtps_reader.specs.Reader.{Reader, placed, reader_after, reader_run, sends, tells}
 use Rattle.rtps_reader.specs.Steps.{StepView, Changes, asks_of}
 
 -- an answering datagram: the place that it answers, the rank of the reader that sends it (none:
@@ -55,24 +55,24 @@ doings k rank e =
 abbrev pub known_after_event : Known → EventView → Known
 known_after_event k e = if is_discovery e.writer then known_by k e else k
 
--- discovery's answer to an event, with the event's place
-abbrev pub answer_put : {M : Type 0} → Place → Option ReplyView → List (ReportView M)
-answer_put place None = []
-answer_put place (Some s) =
-    AnswerOf (record { place = place; rank = None; to = s.to; octets = s.octets }) ∷ []
+-- an answer, with the place of the event that it answers: of the reader of a rank, or of discovery
+-- where there is no rank
+abbrev pub answer_by : Option ℕ → Place × ReplyView → AnswerView
+answer_by rank s = record { place = s.0; rank = rank; to = s.1.to; octets = s.1.octets }
+
+-- it is put out
+abbrev pub sent_by : {M : Type 0} → Option ℕ → Place × ReplyView → ReportView M
+sent_by rank s = AnswerOf (answer_by rank s)
 
 -- what discovery puts out at an event: its answer, if there is one
 abbrev pub discovery_puts : {M : Type 0} → Known → EventView → List (ReportView M)
-discovery_puts k e = if is_discovery e.writer then answer_put e.place (answered k e) else []
-
--- an answer of the reader of a rank, with the place of the event that it answers
-abbrev pub sent_by : {M : Type 0} → ℕ → Place × ReplyView → ReportView M
-sent_by rank s = AnswerOf (record { place = s.0; rank = Some rank; to = s.1.to; octets = s.1.octets })
+discovery_puts k e =
+    if is_discovery e.writer then map (sent_by None) (placed e.place (answered k e)) else []
 
 -- what the reader of a rank puts out at a step: its notices, in order, and then its answer
 abbrev pub puts_at : {M : Type 0} → Decoding M → Place → ℕ → Reader → StepView → List (ReportView M)
 puts_at decoding place rank r d =
-    map (NoticeOf rank) (tells decoding r place d) ++ map (sent_by rank) (sends r place d)
+    map (NoticeOf rank) (tells decoding r place d) ++ map (sent_by (Some rank)) (sends r place d)
 
 -- and at one step after the other
 abbrev pub puts_run : {M : Type 0} → Decoding M → Place → ℕ → Reader → List StepView → List (ReportView M)

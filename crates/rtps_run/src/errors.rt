@@ -8,6 +8,9 @@ use rtps_discovery::ConfigFault;
 use std::alloc::AllocError;
 use thiserror::Error;
 
+/// A run has at most 2^48 datagrams.
+pub const DATAGRAM_LIMIT: u64 = 281_474_976_710_656;
+
 /// Why an engine could not be made.
 #[derive(Clone, Copy, Debug, PartialEq, Eq, Error)]
 pub enum StartError {
@@ -36,7 +39,7 @@ pub enum EngineError {
     /// An earlier datagram was out of memory.
     #[error("the engine has failed")]
     Failed,
-    /// The run would pass 2^48 datagrams.
+    /// The run would pass [`DATAGRAM_LIMIT`].
     #[error("too many datagrams")]
     Spent,
 }

@@ -2,6 +2,8 @@
 //! (DDSI-RTPS 8.3.4, 8.4.10): what an engine starts with, keeps, gives, and refuses.
 #![tactic(auto)]
 
+mod addressed;
+mod answers;
 mod errors;
 mod lists;
 mod outcome;
@@ -9,7 +11,8 @@ mod readers;
 mod start;
 mod turn;
 
-pub use errors::{EngineError, StartError};
+pub use addressed::is_named;
+pub use errors::{DATAGRAM_LIMIT, EngineError, StartError};
 pub use lists::{empty_lists, push_by};
 pub use outcome::{Answer, Outcome, Report};
 pub use readers::{all_matches, show_all};

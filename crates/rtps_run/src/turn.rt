@@ -2,9 +2,9 @@
 
 ghost use Rattle.std.specs.Prelude.{◌≡◌, ◌^◌, ◌≤◌, ◌++◌, IfOk, OnOk, map, vec_len};
 ghost use Rattle.rtps_run.specs.declared.outcome.Report.TheVariants as report;
-ghost use Rattle.rtps_run.specs.Turn.{AreInOrder, notices_from, turn_of};
+ghost use Rattle.rtps_run.specs.Turn.{AreInOrder, answer_turn, notices_from, turn_of};
 
-use crate::outcome::{Outcome, Report};
+use crate::outcome::{Answer, Outcome, Report};
 use rtps_reader::Notice;
 use rtps_types::Place;
 use std::alloc::{AllocError, Allocator};
@@ -27,6 +27,19 @@ pub struct Turn {
     pub kind: ReportKind,
 }
 
+impl<A: Allocator> Answer<A> {
+    /// When it comes.
+    pub fn turn(&self) -> Turn
+        ensures { result ≡ answer_turn self.now }
+    {
+        Turn {
+            place: self.place,
+            rank: self.rank,
+            kind: ReportKind::Answer,
+        }
+    }
+}
+
 impl<V, A: Allocator> Report<V, A> {
     /// When it comes.
     pub fn turn(&self) -> Turn
@@ -38,11 +51,7 @@ impl<V, A: Allocator> Report<V, A> {
                 rank: Some(*rank),
                 kind: ReportKind::Notice,
             },
-            Report::Answer(answer) => Turn {
-                place: answer.place,
-                rank: answer.rank,
-                kind: ReportKind::Answer,
-            },
+            Report::Answer(answer) => answer.turn(),
         }
     }
 }

@@ -15,13 +15,13 @@ use Rattle.rtps_discovery.specs.Known.{Known, known_after}
 use Rattle.rtps_discovery.specs.Records.{announcements, answered, changes_by, noted}
 use Rattle.rtps_proxy.specs.Replies.{ReplyView}
 use Rattle.dds_topic.specs.Decoding.{Decoding}
-use Rattle.rtps_reader.specs.Reader.{Reader, reader_after, reader_run, tells}
+use Rattle.rtps_reader.specs.Reader.{Reader, placed, reader_after, reader_run, tells}
 use Rattle.rtps_reader.specs.Steps.{Changes, StepView}
 use Rattle.rtps_serial.specs.ByRecord.{AreAlike, knowing, record_taken, records_run, records_taken, run_by_record, world_answered, world_by_record}
 use Rattle.rtps_run.specs.Run.{events_from, first_world, run, world_run}
 use Rattle.rtps_run.specs.Seen.{answers_in, notices_by, reader_count}
 use Rattle.rtps_run.specs.Steps.{ReaderStep, change_step, step_puts, steps_run, world_stepped}
-use Rattle.rtps_run.specs.World.{World, answer_put, changes_for, discovery_puts, doings, puts_at, puts_below, puts_run, world_after}
+use Rattle.rtps_run.specs.World.{World, changes_for, discovery_puts, doings, puts_at, puts_below, puts_run, sent_by, world_after}
 use Rattle.rtps_run.proofs.Dealt.{answers_in-append, notices_by-append}
 use Rattle.rtps_run.proofs.Hearing.{announced_doings, announced_known, announced_puts, map_map}
 use Rattle.rtps_run.proofs.Matched.{heard_at, other_at, told_more, told_run}
@@ -174,7 +174,7 @@ module _ {M : Type 0} (d : Decoding M) (place : Place) where
 noted_readers : (k : Known) (e : EventView) → (noted k e).readers ≡ k.readers
 noted_readers k e = readers_if _ _ k refl
 
-no_notice : (M : Type 0) (rank : ℕ) (place : Place) (o : Option ReplyView) → notices_by {M = M} rank (answer_put place o) ≡ []
+no_notice : (M : Type 0) (rank : ℕ) (place : Place) (o : Option ReplyView) → notices_by {M = M} rank (map (sent_by None) (placed place o)) ≡ []
 no_notice M rank place None = refl
 no_notice M rank place (Some s) = refl
 
@@ -194,14 +194,14 @@ module _ {M : Type 0} (d : Decoding M) (w : World M) (e : EventView) where
             let within : rank < reader_count first = omega (arith, below, count) in
             told_of_records d e.place rank first said within
             ∙ ap (λ l. l ++ told_run d e.place (w.readers rank) (changes_for rank (changes_by w.known e)))
-            (notices_by-append rank w.put (answer_put e.place (answered w.known e))
+            (notices_by-append rank w.put (map (sent_by None) (placed e.place (answered w.known e)))
             ∙ ap (λ l. notices_by rank w.put ++ l) (no_notice M rank e.place (answered w.known e))
             ∙ append-nil (notices_by rank w.put))
             ∙ ap (λ l. notices_by rank w.put ++ told_run d e.place (w.readers rank) l) (sym (asked rank))
             ∙ sym (told_more d w rank e below);
         answers =
             answers_of_records d e.place first said
-            ∙ answers_in-append w.put (answer_put e.place (answered w.known e))
+            ∙ answers_in-append w.put (map (sent_by None) (placed e.place (answered w.known e)))
             ∙ ap (λ l. answers_in w.put ++ answers_in l) (sym (announced_puts w.known e is))
             ∙ ap (λ l. answers_in w.put ++ l)
             (sym (append-nil (answers_in (discovery_puts {M = M} w.known e)))

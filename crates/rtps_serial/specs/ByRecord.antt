@@ -1,6 +1,6 @@
 -- An event record by record (DDSI-RTPS 8.5.3, 8.5.4): what a record changes is heard by the readers
 -- before the next record is applied.
-use Rattle.std.specs.Prelude.{◌≡◌, ◌<◌, ℕ, List, [], ◌∷◌, ◌++◌, map, if◌then◌else◌}
+use Rattle.std.specs.Prelude.{◌≡◌, ◌<◌, ℕ, List, [], ◌∷◌, ◌++◌, None, map, if◌then◌else◌}
 use Rattle.rtps_types.specs.declared.place.Place.{Place}
 use Rattle.rtps_receiver.specs.Events.{EventView}
 use Rattle.rtps_discovery.specs.Addressed.{is_discovery}
@@ -10,10 +10,11 @@ use Rattle.rtps_discovery.specs.Changes.{changes}
 use Rattle.rtps_discovery.specs.Known.{Known, known_after}
 use Rattle.rtps_discovery.specs.Records.{announcements, answered, noted}
 use Rattle.dds_topic.specs.Decoding.{Decoding}
+use Rattle.rtps_reader.specs.Reader.{placed}
 use Rattle.rtps_run.specs.Run.{events_from, first_world}
 use Rattle.rtps_run.specs.Seen.{answers_in, notices_by, reader_count}
 use Rattle.rtps_run.specs.Steps.{change_step, steps_run}
-use Rattle.rtps_run.specs.World.{World, answer_put, world_after}
+use Rattle.rtps_run.specs.World.{World, sent_by, world_after}
 
 -- the world in which this is known, and all else is the same
 abbrev pub knowing : {M : Type 0} → Known → World M → World M
@@ -24,7 +25,7 @@ abbrev pub world_answered : {M : Type 0} → World M → EventView → World M
 world_answered w e = record {
   known = noted w.known e;
   readers = w.readers;
-  put = w.put ++ answer_put e.place (answered w.known e);
+  put = w.put ++ map (sent_by None) (placed e.place (answered w.known e));
 }
 
 -- one record: it is made known, and then each change that it brings is a step of one reader

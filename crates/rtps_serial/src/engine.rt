@@ -18,16 +18,13 @@ use rtps_discovery::{Config, Discovery, check};
 use rtps_reader::Status;
 use rtps_receiver::events;
 use rtps_run::{
-    EngineError, Outcome, Report, StartError, all_matches, first_readers, first_statuses,
-    fixed_by_rank, show_all,
+    DATAGRAM_LIMIT, EngineError, Outcome, Report, StartError, all_matches, first_readers,
+    first_statuses, fixed_by_rank, show_all,
 };
 use rtps_types::Guid;
 use std::alloc::{AllocError, Allocator, Global};
 use std::collections::BTreeSet;
 use std::marker::Model;
-
-/// A run has at most 2^48 datagrams.
-const DATAGRAM_LIMIT: u64 = 281_474_976_710_656;
 
 /// What a participant knows of the others, and its readers: one thread gives them the events of
 /// datagrams.

@@ -1,9 +1,8 @@
 //! The readers of a participant, each by its rank.
 
-ghost use Rattle.std.specs.Prelude.{◌≡◌, ◌<◌, ◌≤◌, ◌++◌, List, OnOk, false, length, map, slice_index_or};
-ghost use Rattle.rtps_discovery.specs.Addressed as addressed;
+ghost use Rattle.std.specs.Prelude.{◌≡◌, ◌++◌, [], ◌∷◌, List, OnOk, Some, length, map};
+ghost use Rattle.rtps_proxy.specs.Replies.{reply_view};
 ghost use Rattle.rtps_reader.specs.Notices.{answer_view, notice_view};
-ghost use Rattle.rtps_reader.specs.Standing.{ReaderView};
 ghost use Rattle.rtps_reader.specs.Steps.{asked};
 ghost use Rattle.rtps_run.specs.Outcome.{report_view};
 ghost use Rattle.rtps_run.specs.Standing.{ReadersStand};
@@ -11,10 +10,9 @@ ghost use Rattle.rtps_run.specs.Steps.{step_by, world_stepped};
 ghost use Rattle.rtps_run.specs.World.{NoticeOf, ReportView, World, sent_by};
 
 use dds_topic::{Catalog, Decoder};
-use rtps_discovery::is_for;
 use rtps_reader::{Notice, Output, ReaderState, Step};
 use rtps_run::{Answer, Report};
-use rtps_types::{EntityId, Place, Reply};
+use rtps_types::{Place, Reply};
 use std::alloc::{AllocError, Allocator};
 
 /// The readers of a participant, and what their steps need.
@@ -41,19 +39,6 @@ impl<C: Catalog, A: Allocator + Copy> Readers<C, A> {
                 notices: Vec::new(alloc),
                 answers: Vec::new(alloc),
             },
-        }
-    }
-
-    /// Whether there is a reader of the rank, and a reader id is for it.
-    pub fn is_named(&self, rank: u32, reader: EntityId) -> bool
-        ensures named { (other : ReaderView) → rank < length self.now.states.items
-            → result ≡ addressed.is_for reader
-            (slice_index_or self.now.states.items rank other).entity }
-        ensures past { length self.now.states.items ≤ rank → result ≡ false }
-    {
-        match self.states.get(rank as usize) {
-            Some(state) => is_for(reader, state.entity()),
-            None => false,
         }
     }
 
@@ -94,7 +79,7 @@ fn report_all<C: Catalog, A: Allocator>(
     ensures { OnOk result (map (report_view C.view) reports.new.items
         ≡ map (report_view C.view) reports.old.items
         ++ (map (NoticeOf rank) (map (notice_view C.view) output.old.notices.items)
-        ++ map (sent_by rank) (map answer_view output.old.answers.items))) }
+        ++ map (sent_by (Some rank)) (map answer_view output.old.answers.items))) }
 {
     report_notices::<C, A>(rank, &mut output.notices, reports)?;
     report_answers::<C, A>(rank, &mut output.answers, reports)
@@ -127,19 +112,29 @@ fn report_answers<C: Catalog, A: Allocator>(
 ) -> Result<(), AllocError>
     ensures { OnOk result (map (report_view C.view) reports.new.items
         ≡ map (report_view C.view) reports.old.items
-        ++ map (sent_by rank) (map answer_view answers.old.items)) }
+        ++ map (sent_by (Some rank)) (map answer_view answers.old.items)) }
 {
     if answers.is_empty() {
         return Ok(());
     }
     for (place, reply) in answers.drain(..) {
-        let answer = Answer {
-            place,
-            rank: Some(rank),
-            to: reply.to,
-            octets: reply.octets,
-        };
-        reports.push(Report::Answer(answer))?;
+        report_answer::<C, A>(Some(rank), place, reply, reports)?;
     }
+    Ok(())
+}
+
+/// Puts an answer after the reports: that of the reader of a rank, or of discovery where there is
+/// no rank.
+pub(crate) fn report_answer<C: Catalog, A: Allocator>(
+    rank: Option<u32>,
+    place: Place,
+    reply: Reply<A>,
+    reports: &mut Vec<Report<C::Value, A>, A>,
+) -> Result<(), AllocError>
+    ensures { OnOk result (map (report_view C.view) reports.new.items
+        ≡ map (report_view C.view) reports.old.items
+        ++ sent_by rank (place, reply_view reply) ∷ []) }
+{
+    reports.push(Report::Answer(Answer::new(rank, place, reply)))?;
     Ok(())
 }

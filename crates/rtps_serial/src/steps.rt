@@ -4,42 +4,52 @@ ghost use Rattle.std.specs.Prelude.{◌≡◌, ◌++◌, [], IfOk, List, None, O
 ghost use Rattle.std.specs.Option.{option_map};
 ghost use Rattle.rtps_receiver.specs.Events.{view};
 ghost use Rattle.rtps_discovery.specs.Addressed as addressed;
+ghost use Rattle.rtps_discovery.specs.Addressed.{writer_of};
+ghost use Rattle.rtps_discovery.specs.Kept.{matched_ranks};
 ghost use Rattle.rtps_discovery.specs.Seen.{change_seen};
 ghost use Rattle.rtps_proxy.specs.Replies.{reply_view};
+ghost use Rattle.rtps_reader.specs.Reader.{placed};
 ghost use Rattle.rtps_run.specs.Outcome.{report_view};
 ghost use Rattle.rtps_run.specs.Run.{world_run};
 ghost use Rattle.rtps_run.specs.Standing.{ReadersStand, WorldStands};
 ghost use Rattle.rtps_run.specs.Steps.{AreByRank, change_step, event_steps, steps_run};
-ghost use Rattle.rtps_run.specs.World.{ReportView, World, answer_put, world_after};
+ghost use Rattle.rtps_run.specs.World.{ReportView, World, sent_by, world_after};
 
-use crate::readers::Readers;
+use crate::readers::{Readers, report_answer};
 use dds_topic::Catalog;
 use rtps_discovery::{Discovery, MatchChange, is_discovery};
 use rtps_reader::{Step, StepKind};
 use rtps_receiver::Event;
-use rtps_run::{Answer, Report};
+use rtps_run::{Report, is_named};
 use rtps_types::{Guid, Place, Reply};
 use std::alloc::{AllocError, Allocator};
 
-/// Gives an event to the readers of these ranks, where it names them.
+/// Gives an event of a user's writer to the readers that are matched with the writer, where it
+/// names them.
 fn take_by_ranks<C: Catalog, A: Allocator + Copy>(
+    discovery: &Discovery<A>,
     readers: &mut Readers<C, A>,
     alloc: A,
-    ranks: &[u32],
     event: &Event<'_>,
     reports: &mut Vec<Report<C::Value, A>, A>,
 ) -> Result<(), AllocError>
     ensures same { readers.new.decoder ≡ readers.old.decoder }
     ensures count { length readers.new.states.items ≡ length readers.old.states.items }
     ensures stands { (w : World C.Meaning) (earlier : List (ReportView C.Meaning))
-        → ReadersStand C.view w earlier readers.old.states.items reports.old.items
+        → WorldStands C.view w earlier discovery.now.kept readers.old.states.items reports.old.items
         → OnOk result (ReadersStand C.view (steps_run (C.decoding readers.old.decoder)
-        event.now.place w (event_steps w (view event.now) ranks.now)) earlier
-        readers.new.states.items reports.new.items) }
+        event.now.place w (event_steps w (view event.now) (matched_ranks w.known
+        (writer_of (view event.now))))) earlier readers.new.states.items reports.new.items) }
 {
+    let writer = Guid {
+        prefix: event.source,
+        entity: event.writer,
+    };
+    let known = discovery.readers();
+    let ranks = discovery.matched(writer);
     let step = Step::of_event(event);
     for rank in ranks {
-        if readers.is_named(*rank, event.reader) {
+        if is_named(known, *rank, event.reader) {
             readers.step(alloc, *rank, &step, reports)?;
         }
     }
@@ -83,26 +93,20 @@ fn by_rank<A: Allocator + Copy>(
     Ok(changes)
 }
 
-/// Puts discovery's answer to the event at this place after the reports.
-fn report_answer<C: Catalog, A: Allocator>(
+/// Puts discovery's answer to the event at this place, if there is one, after the reports.
+fn report_discovery<C: Catalog, A: Allocator>(
     place: Place,
     answer: Option<Reply<A>>,
     reports: &mut Vec<Report<C::Value, A>, A>,
 ) -> Result<(), AllocError>
     ensures { OnOk result (map (report_view C.view) reports.new.items
         ≡ map (report_view C.view) reports.old.items
-        ++ answer_put place (option_map reply_view answer)) }
+        ++ map (sent_by None) (placed place (option_map reply_view answer))) }
 {
-    if let Some(reply) = answer {
-        let answer = Answer {
-            place,
-            rank: None,
-            to: reply.to,
-            octets: reply.octets,
-        };
-        reports.push(Report::Answer(answer))?;
+    match answer {
+        Some(reply) => report_answer::<C, A>(None, place, reply, reports),
+        None => Ok(()),
     }
-    Ok(())
 }
 
 /// Gives an event of an announcer to discovery: reports what discovery answers, and then gives
@@ -125,7 +129,7 @@ fn take_announcement<C: Catalog, A: Allocator + Copy>(
         reports.new.items) }
 {
     let effects = discovery.step(alloc, event)?;
-    report_answer::<C, A>(event.place, effects.answer, reports)?;
+    report_discovery::<C, A>(event.place, effects.answer, reports)?;
     let changes = by_rank(effects.changes)?;
     take_changes(readers, alloc, event.place, &changes, reports)
 }
@@ -151,11 +155,7 @@ fn take_event<C: Catalog, A: Allocator + Copy>(
     if is_discovery(event.writer) {
         return take_announcement(discovery, readers, alloc, event, reports);
     }
-    let writer = Guid {
-        prefix: event.source,
-        entity: event.writer,
-    };
-    take_by_ranks(readers, alloc, discovery.matched(writer), event, reports)
+    take_by_ranks(discovery, readers, alloc, event, reports)
 }
 
 /// Takes events in, one by one. What follows from them takes the place of what is in `reports`.

@@ -1,5 +1,5 @@
 -- The lists of a batch are by place: so what is printed place by place are its parts, merged.
-use Rattle.std.proofs.Common.{◌≡◌, ℕ, zero, suc, ◌+◌, List, [], ◌∷◌, ◌++◌, Bool, true, false, if◌then◌else◌, arith, refl, sym, ap, ◌∙◌, map, length, drop, append-nil}
+use Rattle.std.proofs.Common.{◌≡◌, ℕ, zero, suc, ◌+◌, List, [], ◌∷◌, ◌++◌, Bool, true, false, if◌then◌else◌, None, Some, arith, refl, sym, ap, ◌∙◌, map, length, drop, append-nil}
 use Rattle.std.specs.Prelude.{filter}
 use Rattle.std.specs.List.{AllByRecursion, flat_map}
 use Rattle.std.proofs.Math.Seq.{drop-append_seam}
@@ -9,9 +9,8 @@ use Rattle.std.proofs.lemmas.List.{drop-drop, map-append}
 use Rattle.rtps_types.specs.declared.place.Place.{Place}
 use Rattle.rtps_proxy.specs.Replies.{ReplyView}
 use Rattle.rtps_run.specs.Presentation.{not_after}
-use Rattle.rtps_run.specs.World as world
-use Rattle.rtps_run.specs.World.{ReportView, NoticeOf, AnswerOf}
-use Rattle.rtps_planner.specs.Commuting.{Parts, answers_at, discovery_sends, merged, merged_below, notices_at, same_place}
+use Rattle.rtps_run.specs.World.{ReportView, NoticeOf, AnswerOf, sent_by}
+use Rattle.rtps_planner.specs.Commuting.{Parts, answers_at, merged, merged_below, notices_at, same_place}
 use Rattle.rtps_planner.specs.Gather.{AreRising}
 use Rattle.rtps_text.specs.Replayed.{put_line, put_lines}
 use Rattle.rtps_text.specs.Slices.{AreLeft, IsLeft, answer_lines, cursor_after, first_answers, front_at, next_said, part_lines, parts_lines, places_lines, ranks_below, starts}
@@ -72,7 +71,7 @@ answers_put text put line (s ∷ ss) = ap (λ l. l ++ put_lines text (map put ss
 
 -- the lines of the reader of a rank at a place
 abbrev rank_lines : {M : Type 0} → (M → List ℕ) → Parts M → Place → ℕ → List ℕ
-rank_lines text parts p rank = put_lines text (map (NoticeOf rank) (notices_at p (parts.told rank)) ++ map (world.sent_by rank) (answers_at p (parts.sent rank)))
+rank_lines text parts p rank = put_lines text (map (NoticeOf rank) (notices_at p (parts.told rank)) ++ map (sent_by (Some rank)) (answers_at p (parts.sent rank)))
 
 part_is : {M : Type 0} (text : M → List ℕ) (parts : Parts M) (p : Place) (ps : List Place) (c : Cursor) → AllByRecursion (λ q. not_after q p ≡ false) ps
     → IsLeft parts (p ∷ ps) c → (part_lines text parts p c ≡ rank_lines text parts p c.rank) × IsLeft parts ps (cursor_after parts p c)
@@ -80,8 +79,8 @@ part_is text parts p ps c later left =
     let told = front_next (λ n. n.place) p ps (parts.told c.rank) c.notices later left.told in
     let sent = front_next (λ (s : Place × ReplyView). s.0) p ps (parts.sent c.rank) c.answers later left.sent in (
       ap (λ l. put_lines text (map (NoticeOf c.rank) l) ++ answer_lines (first_answers p (drop c.answers (parts.sent c.rank)))) told
-          ∙ ap (λ l. put_lines text (map (NoticeOf c.rank) (notices_at p (parts.told c.rank))) ++ l) (ap answer_lines sent ∙ sym (answers_put text (world.sent_by c.rank) (λ s. refl) (answers_at p (parts.sent c.rank))))
-          ∙ sym (flat_map-append (put_line text) (map (NoticeOf c.rank) (notices_at p (parts.told c.rank))) (map (world.sent_by c.rank) (answers_at p (parts.sent c.rank)))),
+          ∙ ap (λ l. put_lines text (map (NoticeOf c.rank) (notices_at p (parts.told c.rank))) ++ l) (ap answer_lines sent ∙ sym (answers_put text (sent_by (Some c.rank)) (λ s. refl) (answers_at p (parts.sent c.rank))))
+          ∙ sym (flat_map-append (put_line text) (map (NoticeOf c.rank) (notices_at p (parts.told c.rank))) (map (sent_by (Some c.rank)) (answers_at p (parts.sent c.rank)))),
       record {
         told = rest_next (λ n. n.place) p ps (parts.told c.rank) c.notices later left.told;
         sent = rest_next (λ (s : Place × ReplyView). s.0) p ps (parts.sent c.rank) c.answers later left.sent;
@@ -107,7 +106,7 @@ merged_lines text parts p (suc rank) =
     flat_map-append (rank_lines text parts p) (ranks_below rank) (rank ∷ [])
     ∙ ap (λ l. l ++ (rank_lines text parts p rank ++ [])) (merged_lines text parts p rank)
     ∙ ap (λ l. put_lines text (merged_below p parts rank) ++ l) (append-nil (rank_lines text parts p rank))
-    ∙ sym (flat_map-append (put_line text) (merged_below p parts rank) (map (NoticeOf rank) (notices_at p (parts.told rank)) ++ map (world.sent_by rank) (answers_at p (parts.sent rank))))
+    ∙ sym (flat_map-append (put_line text) (merged_below p parts rank) (map (NoticeOf rank) (notices_at p (parts.told rank)) ++ map (sent_by (Some rank)) (answers_at p (parts.sent rank))))
 
 -- what is printed place by place are the parts, merged, also where it ends before other places
 pub places_merged : {M : Type 0} (text : M → List ℕ) (parts : Parts M) (count : ℕ) (places more : List Place) (said : ℕ) (readers : List Cursor) → AreRising (places ++ more)
@@ -116,10 +115,10 @@ places_merged text parts count [] more said readers rising left = refl
 places_merged text parts count (p ∷ ps) more said readers (later, rising) left =
     let next = front_next (λ (s : Place × ReplyView). s.0) p (ps ++ more) parts.answers said later left.answers in
     let all = parts_are text parts p (ps ++ more) readers later left.lists in
-    let discovered = map discovery_sends (answers_at p parts.answers) in
+    let discovered = map (sent_by None) (answers_at p parts.answers) in
     let here : answer_lines (next_said parts p said) ++ parts_lines text parts p readers ≡ put_lines text (discovered ++ merged_below p parts count) =
     ap (λ l. answer_lines l ++ parts_lines text parts p readers) next
-    ∙ ap (λ l. l ++ parts_lines text parts p readers) (sym (answers_put text discovery_sends (λ s. refl) (answers_at p parts.answers)))
+    ∙ ap (λ l. l ++ parts_lines text parts p readers) (sym (answers_put text (sent_by None) (λ s. refl) (answers_at p parts.answers)))
     ∙ ap (λ l. put_lines text discovered ++ l) (all.0 ∙ ap (flat_map (rank_lines text parts p)) left.ranks ∙ merged_lines text parts p count)
     ∙ sym (flat_map-append (put_line text) discovered (merged_below p parts count)) in
     let rest = places_merged text parts count ps more (said + length (next_said parts p said)) (map (cursor_after parts p) readers) rising (record {

@@ -20,14 +20,15 @@ use Rattle.rtps_records.specs.Runs.{Moves, PutsFront}
 use Rattle.rtps_records.proofs.Progress.{EndsHere, Progress, many_more, moved}
 use Rattle.dds_topic.specs.Decoding.{Decoding}
 use Rattle.rtps_discovery.specs.declared.config.Config.{Config}
+use Rattle.rtps_reader.specs.Notices.{answer_view}
 use Rattle.rtps_run.specs.Run.{run}
 use Rattle.rtps_run.specs.Standing.{EngineView, StandsAt, run_by}
 use Rattle.rtps_run.proofs.Running.{run_count}
 use Rattle.rtps_planner.specs.Commuting.{merged}
 use Rattle.rtps_text.specs.Batched.{MovesBefore, RunsBatch, TakesRecords}
-use Rattle.rtps_planner.specs.Gather.{AreRising}
+use Rattle.rtps_planner.specs.Gather.{AreRising, sent_in}
 use Rattle.rtps_run.specs.World.{World}
-use Rattle.dds_participant.specs.Given.{AreAnswersAlong, AreNoticesAlong, IsGiven, parts_given, said_view, sent_in, told_in}
+use Rattle.dds_participant.specs.Given.{AreAnswersAlong, AreNoticesAlong, IsGiven, parts_given, told_in}
 use Rattle.rtps_text.specs.Replayed.{HasSaid, put_line, put_lines}
 use Rattle.rtps_text.specs.Slices.{AreByPlace, AreLeft, AreTexts, all_lines, merged_lines, places_lines, starts}
 use Rattle.dds_participant.specs.declared.given.Given.{Given}
@@ -45,7 +46,7 @@ start_lines text f given k catalog said readers count all same none start counte
 
 -- the lines of a batch are its parts, merged
 pub all_merged : {V M : Type 0} (text : M → List ℕ) (f : V → M) (given : Given V) (count : ℕ) → AreRising given.places.items
-    → AreAnswersAlong given.places.items (map said_view given.answers.items)
+    → AreAnswersAlong given.places.items (map answer_view given.answers.items)
     → ((rank : ℕ) → AreNoticesAlong given.places.items (told_in f given.outputs.items rank))
     → ((rank : ℕ) → AreAnswersAlong given.places.items (sent_in given.outputs.items rank))
     → all_lines text f given count ≡ put_lines text (merged (parts_given f given) count given.places.items)

@@ -10,14 +10,15 @@ use Rattle.std.specs.declared.vec.Vec.{Vec}
 use Rattle.rtps_records.specs.Runs.{Moves, PutsFront}
 use Rattle.rtps_records.proofs.Progress.{Progress}
 use Rattle.dds_topic.specs.Decoding.{Decoding}
+use Rattle.rtps_reader.specs.Notices.{answer_view}
 use Rattle.rtps_run.specs.Standing.{EngineView}
 use Rattle.rtps_text.specs.Replayed.{HasSaid}
 use Rattle.rtps_text.proofs.Batches.{shared_lines}
 use Rattle.rtps_types.specs.declared.place.Place.{Place}
 use Rattle.rtps_planner.specs.Commuting.{answers_at, notices_at}
-use Rattle.rtps_planner.specs.Gather.{AreRising}
+use Rattle.rtps_planner.specs.Gather.{AreRising, sent_in}
 use Rattle.rtps_reader.specs.declared.notice.Output.{Output}
-use Rattle.dds_participant.specs.Given.{HoldsNothing, parts_given, said_view, sent_in, told_in}
+use Rattle.dds_participant.specs.Given.{HoldsNothing, parts_given, told_in}
 use Rattle.dds_participant.specs.declared.given.Given.{Given}
 use Rattle.rtps_text.specs.Batched.{IsDue, MovesBefore}
 use Rattle.rtps_text.specs.Slices.{AreByPlace, AreTexts, all_lines, merged_lines, places_lines, starts}
@@ -97,7 +98,7 @@ due_more text f decoding first here old new n next given left made k readers p s
 pub nothing_by_place : {V M : Type 0} (f : V → M) (given : Given V) → HoldsNothing given → AreByPlace f given
 nothing_by_place {V} f given h = record {
   places = subst AreRising (sym h.places) tt;
-  said = subst (λ (ps : List Place). flat_map (λ p. answers_at p (map said_view given.answers.items)) ps ≡ map said_view given.answers.items) (sym h.places) (sym (ap (map said_view) h.answers));
+  said = subst (λ (ps : List Place). flat_map (λ p. answers_at p (map answer_view given.answers.items)) ps ≡ map answer_view given.answers.items) (sym h.places) (sym (ap (map answer_view) h.answers));
   notices = λ rank. subst (λ (ps : List Place). flat_map (λ p. notices_at p (told_in f given.outputs.items rank)) ps ≡ told_in f given.outputs.items rank) (sym h.places) (sym (ap (λ (os : List (Output V Global)). told_in f os rank) h.outputs));
   answers = λ rank. subst (λ (ps : List Place). flat_map (λ p. answers_at p (sent_in given.outputs.items rank)) ps ≡ sent_in given.outputs.items rank) (sym h.places) (sym (ap (λ (os : List (Output V Global)). sent_in os rank) h.outputs));
 }

@@ -12,8 +12,9 @@ use Rattle.rtps_run.specs.World.{NoticeOf}
 use Rattle.rtps_planner.specs.Commuting.{Parts, same_place}
 use Rattle.rtps_text.specs.Replayed.{put_lines}
 use Rattle.rtps_proxy.specs.Replies.{ReplyView}
-use Rattle.rtps_run.specs.declared.outcome.Answer.{Answer}
-use Rattle.dds_participant.specs.Given.{parts_given, said_view, sent_in, told_in}
+use Rattle.rtps_types.specs.declared.traffic.Reply.{Reply}
+use Rattle.rtps_planner.specs.Gather.{sent_in}
+use Rattle.dds_participant.specs.Given.{parts_given, told_in}
 use Rattle.dds_participant.specs.declared.given.Given.{Given}
 use Rattle.rtps_text.specs.Slices.{answer_lines, cursor_after, first_answers, first_notices, lists_after, lists_lines, next_said, part_lines, parts_lines, places_lines}
 use Rattle.rtps_text.specs.declared.slices.Cursor.{Cursor}
@@ -225,13 +226,13 @@ parts_more text parts place whole cursors i c old said now out below here so_far
     ∙ ap (λ l. old ++ (said ++ parts_lines text parts place l)) (sym (take_more whole i c within))
 
 -- discovery's answer comes first
-pub said_first : {M : Type 0} (text : M → List ℕ) (parts : Parts M) (place : Place) (said n : ℕ) (answers left : List (Answer Global)) (readers : List Cursor) (old out : List ℕ)
-    → map said_view answers ≡ parts.answers → left ≡ drop said answers → n ≡ length (first_answers place (map said_view left))
-    → out ≡ old ++ answer_lines (first_answers place (map said_view left))
+pub said_first : {M : Type 0} (text : M → List ℕ) (parts : Parts M) (place : Place) (said n : ℕ) (answers left : List (Place × Reply Global)) (readers : List Cursor) (old out : List ℕ)
+    → map answer_view answers ≡ parts.answers → left ≡ drop said answers → n ≡ length (first_answers place (map answer_view left))
+    → out ≡ old ++ answer_lines (first_answers place (map answer_view left))
     → (said + n ≡ said + length (next_said parts place said)) × AreMoved parts place readers readers 0
     × (out ≡ old ++ (answer_lines (next_said parts place said) ++ parts_lines text parts place (take 0 readers)))
 said_first text parts place said n answers left readers old out whole front count lines =
-    let next : first_answers place (map said_view left) ≡ next_said parts place said = ap (first_answers place) (ap (map said_view) front ∙ drop-mapped said_view said answers ∙ ap (drop said) whole) in (
+    let next : first_answers place (map answer_view left) ≡ next_said parts place said = ap (first_answers place) (ap (map answer_view) front ∙ drop-mapped answer_view said answers ∙ ap (drop said) whole) in (
       ap (λ k. said + k) (count ∙ ap length next),
       record { count = refl; front = refl; back = refl },
       lines ∙ ap (λ l. old ++ answer_lines l) next ∙ ap (λ l. old ++ l) (sym (append-nil (answer_lines (next_said parts place said)))),

@@ -1,5 +1,5 @@
 -- What is sent of a batch, place by place, is what the run sends of it.
-use Rattle.std.proofs.Common.{◌≡◌, ℕ, zero, suc, ◌+◌, ◌<◌, ◌≤◌, List, [], ◌∷◌, ◌++◌, Bool, true, false, not, if◌then◌else◌, Option, arith, refl, subst, sym, ap, ◌∙◌, map, length, take, drop, get_or, append-nil, append_assoc, take-append-drop, inl, inr}
+use Rattle.std.proofs.Common.{◌≡◌, ℕ, zero, suc, ◌+◌, ◌<◌, ◌≤◌, List, [], ◌∷◌, ◌++◌, Bool, true, false, not, if◌then◌else◌, Option, None, Some, arith, refl, subst, sym, ap, ◌∙◌, map, length, take, drop, get_or, append-nil, append_assoc, take-append-drop, inl, inr}
 use Rattle.std.specs.Prelude.{◌==◌, filter, vec_len}
 use Rattle.std.specs.List.{AllByRecursion, flat_map}
 use Rattle.std.specs.List.Sorted.{IsPartitionedBy}
@@ -18,11 +18,10 @@ use Rattle.rtps_proxy.specs.Replies.{ReplyView}
 use Rattle.rtps_reader.specs.declared.notice.Notice.{Notice}
 use Rattle.rtps_reader.specs.declared.notice.Output.{Output}
 use Rattle.rtps_reader.specs.Notices.{answer_view}
-use Rattle.rtps_run.specs.World as world
-use Rattle.rtps_run.specs.World.{ReportView, NoticeOf, World}
-use Rattle.rtps_planner.specs.Commuting.{Parts, answers_at, discovery_sends, merged, merged_below, notices_at, same_place}
-use Rattle.rtps_planner.specs.Gather.{AreRising}
-use Rattle.dds_participant.specs.Given.{AreAnswersAlong, IsGiven, parts_given, said_view, sent_in}
+use Rattle.rtps_run.specs.World.{ReportView, NoticeOf, World, sent_by}
+use Rattle.rtps_planner.specs.Commuting.{Parts, answers_at, merged, merged_below, notices_at, same_place}
+use Rattle.rtps_planner.specs.Gather.{AreRising, sent_in}
+use Rattle.dds_participant.specs.Given.{AreAnswersAlong, IsGiven, parts_given}
 use Rattle.dds_participant.specs.declared.given.Given.{Given}
 use Rattle.rtps_text.specs.Sending.{AreAnswersByPlace, AreBy, HasNoAnswer, IsPlaceOf, Sends, given_sends, goes_out, place_sends, ranks_send, replies_sends, sendings, sends_of, to_each}
 use Rattle.rtps_text.specs.Slices.{first_answers, is_before}
@@ -51,13 +50,13 @@ below_send parts place zero = refl
 below_send {M} parts place (suc rank) =
     let told : List (ReportView M) = map (NoticeOf rank) (notices_at place (parts.told rank)) in
     let sent : List (ReportView M) =
-    map (world.sent_by rank) (answers_at place (parts.sent rank)) in
+    map (sent_by (Some rank)) (answers_at place (parts.sent rank)) in
     flat_map-append goes_out (merged_below place parts rank) (told ++ sent)
     ∙ ap (λ l. l ++ sends_of (told ++ sent)) (below_send parts place rank)
     ∙ ap (λ l. ranks_send parts.sent place rank ++ l)
     (flat_map-append goes_out told sent
     ∙ ap (λ l. l ++ sends_of sent) (notices_send rank (notices_at place (parts.told rank)))
-    ∙ answers_send (world.sent_by rank) (λ s. refl) (answers_at place (parts.sent rank)))
+    ∙ answers_send (sent_by (Some rank)) (λ s. refl) (answers_at place (parts.sent rank)))
 
 -- what is sent of parts at a place
 abbrev part_sends : {M : Type 0} → Parts M → ℕ → Place → List (Locator × List ℕ)
@@ -68,12 +67,12 @@ parts_send : {M : Type 0} (parts : Parts M) (count : ℕ) (places : List Place)
     → sends_of (merged parts count places) ≡ flat_map (part_sends parts count) places
 parts_send parts count [] = refl
 parts_send {M} parts count (p ∷ ps) =
-    let said : List (ReportView M) = map discovery_sends (answers_at p parts.answers) in
+    let said : List (ReportView M) = map (sent_by None) (answers_at p parts.answers) in
     flat_map-append goes_out (said ++ merged_below p parts count) (merged parts count ps)
     ∙ ap (λ l. l ++ sends_of (merged parts count ps))
     (flat_map-append goes_out said (merged_below p parts count)
     ∙ ap (λ l. l ++ sends_of (merged_below p parts count))
-    (answers_send discovery_sends (λ s. refl) (answers_at p parts.answers))
+    (answers_send (sent_by None) (λ s. refl) (answers_at p parts.answers))
     ∙ ap (λ l. replies_sends (answers_at p parts.answers) ++ l) (below_send parts p count))
     ∙ ap (λ l. part_sends parts count p ++ l) (parts_send parts count ps)
 
@@ -294,7 +293,7 @@ no_place_sends given (p ∷ ps) h =
     no_place_sends given ps h
     ∙ ap (λ l. l ++ flat_map (place_sends given) ps)
     (sym (no_rank_sends (sent_in given.outputs.items) p (length given.outputs.items) h.sent)
-    ∙ ap (λ l. replies_sends (answers_at p (map said_view l))
+    ∙ ap (λ l. replies_sends (answers_at p (map answer_view l))
     ++ ranks_send (sent_in given.outputs.items) p (length given.outputs.items)) (sym h.said))
 
 -- where there is no answer, nothing is sent

@@ -1,5 +1,5 @@
 -- The lines of neighbouring places, made apart: where their lists begin, and how the texts are put together.
-use Rattle.std.proofs.Common.{◌≡◌, ℕ, zero, suc, ◌+◌, ◌*◌, ◌<◌, ◌≤◌, List, [], ◌∷◌, ◌++◌, Bool, true, false, not, if◌then◌else◌, arith, refl, subst, sym, ap, ◌∙◌, map, length, take, drop, get_or, nat_lt, append_assoc, Result, Ok, Err, IfOk, take-append-drop}
+use Rattle.std.proofs.Common.{◌≡◌, ℕ, zero, suc, ◌+◌, ◌*◌, ◌<◌, ◌≤◌, List, [], ◌∷◌, ◌++◌, Bool, true, false, not, if◌then◌else◌, None, arith, refl, subst, sym, ap, ◌∙◌, map, length, take, drop, get_or, nat_lt, append_assoc, Result, Ok, Err, IfOk, take-append-drop}
 use Rattle.std.specs.Prelude.{Option, Some, None, filter, slice_get, slice_index_or}
 use Rattle.std.specs.List.{AllByRecursion, flat_map}
 use Rattle.std.specs.List.Sorted.{IsPartitionPoint, IsPartitionedBy}
@@ -17,11 +17,11 @@ use Rattle.rtps_proxy.specs.Replies.{ReplyView}
 use Rattle.rtps_reader.specs.declared.notice.Notice.{Notice}
 use Rattle.rtps_reader.specs.declared.notice.Output.{Output}
 use Rattle.rtps_reader.specs.Notices.{answer_view, notice_view}
-use Rattle.rtps_run.specs.declared.outcome.Answer.{Answer}
 use Rattle.rtps_run.specs.Presentation.{not_after}
-use Rattle.rtps_planner.specs.Commuting.{Parts, answers_at, discovery_sends, merged, merged_below, same_place}
-use Rattle.rtps_planner.specs.Gather.{AreRising}
-use Rattle.dds_participant.specs.Given.{parts_given, said_view, sent_in, told_in}
+use Rattle.rtps_run.specs.World.{sent_by}
+use Rattle.rtps_planner.specs.Commuting.{Parts, answers_at, merged, merged_below, same_place}
+use Rattle.rtps_planner.specs.Gather.{AreRising, sent_in}
+use Rattle.dds_participant.specs.Given.{parts_given, told_in}
 use Rattle.dds_participant.specs.declared.given.Given.{Given}
 use Rattle.rtps_text.specs.Replayed.{put_line, put_lines}
 use Rattle.rtps_text.specs.Slices.{AreByPlace, AreLeft, AreTexts, IsLeft, IsSliceOf, is_before, merged_lines, places_lines, ranks_below}
@@ -228,12 +228,12 @@ left_none {V} {M} f given p after rank outputs same test =
     }
 
 -- discovery's answers
-pub left_said : {V M : Type 0} (f : V → M) (given : Given V) (before : List Place) (p : Place) (after : List Place) (items : List (Answer Global)) (n : ℕ)
+pub left_said : {V M : Type 0} (f : V → M) (given : Given V) (before : List Place) (p : Place) (after : List Place) (items : List (Place × Reply Global)) (n : ℕ)
     → items ≡ given.answers.items → given.places.items ≡ before ++ p ∷ after → AreByPlace f given
-    → (IsPartitionedBy (λ a. is_before a.place p) items → drop n items ≡ filter (λ a. not (is_before a.place p)) items)
-    → drop n (map said_view given.answers.items) ≡ along (λ (s : Place × ReplyView). s.0) (p ∷ after) (map said_view given.answers.items)
+    → (IsPartitionedBy (λ a. is_before a.0 p) items → drop n items ≡ filter (λ a. not (is_before a.0 p)) items)
+    → drop n (map answer_view given.answers.items) ≡ along (λ (s : Place × ReplyView). s.0) (p ∷ after) (map answer_view given.answers.items)
 left_said f given before p after items n same cut by left =
-    list_left said_view (λ (s : Place × ReplyView). s.0) before p after given.places.items items (map said_view given.answers.items) n cut by.places by.said (ap (map said_view) (sym same)) left
+    list_left answer_view (λ (s : Place × ReplyView). s.0) before p after given.places.items items (map answer_view given.answers.items) n cut by.places by.said (ap (map answer_view) (sym same)) left
 
 -- one reader more
 pub left_more : {M : Type 0} (parts : Parts M) (places : List Place) (cs : List Cursor) (c : Cursor) → AllByRecursion (IsLeft parts places) cs → IsLeft parts places c → AllByRecursion (IsLeft parts places) (cs ++ c ∷ [])
@@ -271,7 +271,7 @@ spelled text f given count slice p ps before after said readers cut is by left =
 pub merged-append : {M : Type 0} (parts : Parts M) (count : ℕ) (ps qs : List Place) → merged parts count (ps ++ qs) ≡ merged parts count ps ++ merged parts count qs
 merged-append parts count [] qs = refl
 merged-append parts count (p ∷ ps) qs =
-    let here = map discovery_sends (answers_at p parts.answers) ++ merged_below p parts count in
+    let here = map (sent_by None) (answers_at p parts.answers) ++ merged_below p parts count in
     ap (λ l. here ++ l) (merged-append parts count ps qs) ∙ sym (append_assoc here (merged parts count ps) (merged parts count qs))
 
 size_more : (size n : ℕ) → suc n * size ≡ size + n * size

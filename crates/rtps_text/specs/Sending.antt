@@ -5,10 +5,11 @@ use Rattle.rtps_types.specs.declared.locator.Locator.{Locator}
 use Rattle.rtps_types.specs.declared.place.Place.{Place}
 use Rattle.rtps_records.specs.Traffic.{Grows, Sent, Traffic}
 use Rattle.rtps_proxy.specs.Replies.{ReplyView}
+use Rattle.rtps_reader.specs.Notices.{answer_view}
 use Rattle.rtps_run.specs.World.{ReportView, NoticeOf, AnswerOf}
 use Rattle.rtps_planner.specs.Commuting.{answers_at, merged}
-use Rattle.rtps_planner.specs.Gather.{AreRising}
-use Rattle.dds_participant.specs.Given.{AreAnswersAlong, parts_given, said_view, sent_in}
+use Rattle.rtps_planner.specs.Gather.{AreRising, sent_in}
+use Rattle.dds_participant.specs.Given.{AreAnswersAlong, parts_given}
 use Rattle.dds_participant.specs.declared.given.Given.{Given}
 
 -- ---- what a run sends
@@ -52,7 +53,7 @@ ranks_send sent place (suc rank) =
 -- what a batch sends at a place: discovery's answers, and then those of each reader, by rank
 abbrev pub place_sends : {V : Type 0} → Given V → Place → List (Locator × List ℕ)
 place_sends given place =
-    replies_sends (answers_at place (map said_view given.answers.items))
+    replies_sends (answers_at place (map answer_view given.answers.items))
     ++ ranks_send (sent_in given.outputs.items) place (length given.outputs.items)
 
 -- what a batch sends: what the run sends of its parts, merged by place
@@ -64,7 +65,7 @@ given_sends {V} given =
 -- the answers of a batch are by place, and its places rise
 pub record AreAnswersByPlace {V : Type 0} (given : Given V) : Type 0 where
   pub places : AreRising given.places.items
-  pub said : AreAnswersAlong given.places.items (map said_view given.answers.items)
+  pub said : AreAnswersAlong given.places.items (map answer_view given.answers.items)
   pub sent : (rank : ℕ) → AreAnswersAlong given.places.items (sent_in given.outputs.items rank)
 
 -- so they are, and this is one of the places

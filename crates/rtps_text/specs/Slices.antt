@@ -7,10 +7,11 @@ use Rattle.std.specs.declared.vec.Vec.{Vec}
 use Rattle.rtps_types.specs.declared.place.Place.{Place}
 use Rattle.rtps_proxy.specs.Replies.{ReplyView}
 use Rattle.rtps_reader.specs.declared.notice.Notice.{Notice}
+use Rattle.rtps_reader.specs.Notices.{answer_view}
 use Rattle.rtps_run.specs.World.{NoticeOf}
 use Rattle.rtps_planner.specs.Commuting.{Parts, answers_at, merged, notices_at, same_place}
-use Rattle.rtps_planner.specs.Gather.{AreRising}
-use Rattle.dds_participant.specs.Given.{AreAnswersAlong, AreNoticesAlong, parts_given, said_view, sent_in, told_in}
+use Rattle.rtps_planner.specs.Gather.{AreRising, sent_in}
+use Rattle.dds_participant.specs.Given.{AreAnswersAlong, AreNoticesAlong, parts_given, told_in}
 use Rattle.dds_participant.specs.declared.given.Given.{Given}
 use Rattle.rtps_text.specs.declared.slices.Cursor.{Cursor}
 use Rattle.rtps_text.specs.Replayed.{put_lines}
@@ -89,7 +90,7 @@ all_lines text f given count =
 -- the lists of a batch are by place, and its places rise
 pub record AreByPlace {V M : Type 0} (f : V → M) (given : Given V) : Type 0 where
   pub places : AreRising given.places.items
-  pub said : AreAnswersAlong given.places.items (map said_view given.answers.items)
+  pub said : AreAnswersAlong given.places.items (map answer_view given.answers.items)
   pub notices : (rank : ℕ) → AreNoticesAlong given.places.items (told_in f given.outputs.items rank)
   pub answers : (rank : ℕ) → AreAnswersAlong given.places.items (sent_in given.outputs.items rank)
 

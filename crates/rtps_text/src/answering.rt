@@ -3,14 +3,12 @@
 ghost use Rattle.std.specs.Prelude.{◌≡◌, false, map};
 ghost use Rattle.rtps_planner.specs.Commuting.{answers_at};
 ghost use Rattle.rtps_reader.specs.Notices.{answer_view};
-ghost use Rattle.dds_participant.specs.Given.{said_view};
 ghost use Rattle.rtps_records.specs.Traffic.{Grows};
 ghost use Rattle.rtps_text.specs.Sending.{AreAnswersByPlace, AreBy, HasNoAnswer, IsPlaceOf, Sends, given_sends, place_sends, replies_sends, sendings, to_each};
 
-use crate::slices::{replies_before, rest, said_before};
+use crate::slices::{answers_before, rest};
 use dds_participant::Given;
 use rtps_records::Exchange;
-use rtps_run::Answer;
 use rtps_types::{Locator, Place, Reply};
 
 /// Sends the answers of a batch in the order of the run, each one whole and once to each of its
@@ -51,34 +49,19 @@ fn send_at<V: Drop, N: Exchange>(network: &mut N, given: &Given<V>, place: Place
     ensures { Sends (IsPlaceOf given.now place) (N.traffic network.old) (N.traffic network.new)
         (place_sends given.now place) }
 {
-    send_said(network, &given.answers, place);
+    send_list(network, &given.answers, place);
     for output in &given.outputs {
-        send_replies(network, &output.answers, place);
+        send_list(network, &output.answers, place);
     }
 }
 
-/// Sends discovery's answers at a place.
-fn send_said<N: Exchange>(network: &mut N, answers: &[Answer], place: Place)
-    ensures { Sends (AreBy place (map said_view answers.now))
+/// Sends those of a list of answers that are at a place.
+fn send_list<N: Exchange>(network: &mut N, answers: &[(Place, Reply)], place: Place)
+    ensures { Sends (AreBy place (map answer_view answers.now))
         (N.traffic network.old) (N.traffic network.new)
-        (replies_sends (answers_at place (map said_view answers.now))) }
+        (replies_sends (answers_at place (map answer_view answers.now))) }
 {
-    let left = rest(answers, said_before(answers, place));
-    for answer in left {
-        if answer.place != place {
-            return;
-        }
-        send_to(network, answer.to.as_slice(), answer.octets.as_slice());
-    }
-}
-
-/// Sends a reader's answers at a place.
-fn send_replies<N: Exchange>(network: &mut N, replies: &[(Place, Reply)], place: Place)
-    ensures { Sends (AreBy place (map answer_view replies.now))
-        (N.traffic network.old) (N.traffic network.new)
-        (replies_sends (answers_at place (map answer_view replies.now))) }
-{
-    let left = rest(replies, replies_before(replies, place));
+    let left = rest(answers, answers_before(answers, place));
     for (at, reply) in left {
         if *at != place {
             return;

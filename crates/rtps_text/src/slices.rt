@@ -5,7 +5,7 @@ ghost use Rattle.std.specs.Io.{StartsWith};
 ghost use Rattle.std.specs.List.Sorted.{IsPartitionedBy};
 ghost use Rattle.rtps_reader.specs.Notices.{answer_view, notice_view};
 ghost use Rattle.rtps_run.specs.World.{NoticeOf};
-ghost use Rattle.dds_participant.specs.Given.{parts_given, said_view};
+ghost use Rattle.dds_participant.specs.Given.{parts_given};
 ghost use Rattle.rtps_text.specs.Replayed.{put_lines};
 ghost use Rattle.rtps_text.specs.Slices.{AreByPlace, AreLeft, IsLeft, is_before, answer_lines, cursor_after, first_answers, first_notices, lists_after, lists_lines, next_said, part_lines, parts_lines, starts};
 
@@ -13,7 +13,6 @@ use dds_participant::Given;
 use dds_topic::TextCatalog;
 use rtps_lines::{LastLine, push_answer, push_notice};
 use rtps_reader::{Notice, Output};
-use rtps_run::Answer;
 use rtps_types::{Place, Reply};
 use std::alloc::{AllocError, Allocator, Global};
 
@@ -66,49 +65,25 @@ fn push_notices<C: TextCatalog, A: Allocator, B: Allocator + Copy>(
     Ok(count)
 }
 
-/// Adds the lines of the answers in front that a reader sends at a place, and gives their number.
-fn push_replies<A: Allocator>(
+/// Adds the lines of the answers in front that are sent at a place, and gives their number.
+fn push_answers<A: Allocator>(
     out: &mut Vec<u8, A>,
     place: Place,
-    replies: &[(Place, Reply)],
+    answers: &[(Place, Reply)],
 ) -> Result<usize, AllocError>
-    ensures within { IfOk result (λ n. n ≤ length replies.now) }
+    ensures within { IfOk result (λ n. n ≤ length answers.now) }
     ensures count { IfOk result (λ n. n ≡
-        length (first_answers place (map answer_view replies.now))) }
+        length (first_answers place (map answer_view answers.now))) }
     ensures lines { OnOk result (out.new.items ≡ out.old.items ++
-        answer_lines (first_answers place (map answer_view replies.now))) }
+        answer_lines (first_answers place (map answer_view answers.now))) }
     ensures keeps { StartsWith out.new.items out.old.items }
 {
     let mut count = 0;
-    for (at, reply) in replies {
+    for (at, reply) in answers {
         if *at != place {
             return Ok(count);
         }
         push_answer(out, place, reply.to.as_slice(), reply.octets.as_slice())?;
-        count += 1;
-    }
-    Ok(count)
-}
-
-/// Adds the lines of the answers in front that discovery sends at a place, and gives their number.
-fn push_said<A: Allocator>(
-    out: &mut Vec<u8, A>,
-    place: Place,
-    answers: &[Answer],
-) -> Result<usize, AllocError>
-    ensures within { IfOk result (λ n. n ≤ length answers.now) }
-    ensures count { IfOk result (λ n. n ≡
-        length (first_answers place (map said_view answers.now))) }
-    ensures lines { OnOk result (out.new.items ≡ out.old.items ++
-        answer_lines (first_answers place (map said_view answers.now))) }
-    ensures keeps { StartsWith out.new.items out.old.items }
-{
-    let mut count = 0;
-    for answer in answers {
-        if answer.place != place {
-            return Ok(count);
-        }
-        push_answer(out, place, answer.to.as_slice(), answer.octets.as_slice())?;
         count += 1;
     }
     Ok(count)
@@ -129,20 +104,12 @@ fn notices_before<V>(notices: &[Notice<V>], place: Place) -> usize
     notices.partition_point(|notice| is_before(notice.place, place))
 }
 
-/// How many answers of a reader come before a place, where they are by place.
-pub(crate) fn replies_before(replies: &[(Place, Reply)], place: Place) -> usize
-    ensures { IsPartitionedBy (λ r. is_before r.0 place) replies.now → drop result replies.now
-        ≡ filter (λ r. not (is_before r.0 place)) replies.now }
+/// How many answers come before a place, where they are by place.
+pub(crate) fn answers_before(answers: &[(Place, Reply)], place: Place) -> usize
+    ensures { IsPartitionedBy (λ a. is_before a.0 place) answers.now → drop result answers.now
+        ≡ filter (λ a. not (is_before a.0 place)) answers.now }
 {
-    replies.partition_point(|reply| is_before(reply.0, place))
-}
-
-/// How many answers of discovery come before a place, where they are by place.
-pub(crate) fn said_before(answers: &[Answer], place: Place) -> usize
-    ensures { IsPartitionedBy (λ a. is_before a.place place) answers.now → drop result answers.now
-        ≡ filter (λ a. not (is_before a.place place)) answers.now }
-{
-    answers.partition_point(|answer| is_before(answer.place, place))
+    answers.partition_point(|answer| is_before(answer.0, place))
 }
 
 /// The items from one on.
@@ -164,11 +131,11 @@ fn is_noticed<C: TextCatalog>(notices: &[Notice<C::Value>], place: Place) -> boo
 }
 
 /// Whether the first of these answers is sent at a place.
-fn is_answered(replies: &[(Place, Reply)], place: Place) -> bool
-    ensures { result ≡ false → first_answers place (map answer_view replies.now) ≡ [] }
+fn is_answered(answers: &[(Place, Reply)], place: Place) -> bool
+    ensures { result ≡ false → first_answers place (map answer_view answers.now) ≡ [] }
 {
-    match replies.first() {
-        Some(reply) => reply.0 == place,
+    match answers.first() {
+        Some(answer) => answer.0 == place,
         None => false,
     }
 }
@@ -185,7 +152,7 @@ impl Cursor {
             Some(output) => Cursor {
                 rank,
                 notices: notices_before(&output.notices, place),
-                answers: replies_before(&output.answers, place),
+                answers: answers_before(&output.answers, place),
             },
             None => Cursor {
                 rank,
@@ -214,12 +181,12 @@ impl Cursor {
             (map answer_view output.now.answers.items) place self) }
     {
         let notices = rest(&output.notices, self.notices);
-        let replies = rest(&output.answers, self.answers);
-        if !is_noticed::<C>(notices, place) && !is_answered(replies, place) {
+        let answers = rest(&output.answers, self.answers);
+        if !is_noticed::<C>(notices, place) && !is_answered(answers, place) {
             return Ok(self);
         }
         let told = push_notices(out, last, catalog, (self.rank, place), notices)?;
-        let sent = push_replies(out, place, replies)?;
+        let sent = push_answers(out, place, answers)?;
         Ok(Cursor {
             rank: self.rank,
             notices: self.notices + told,
@@ -284,7 +251,7 @@ impl Cursors {
             cursors.push(Cursor::at::<C>(rank, given, place))?;
         }
         Ok(Cursors {
-            said: said_before(&given.answers, place),
+            said: answers_before(&given.answers, place),
             readers: cursors,
         })
     }
@@ -308,7 +275,7 @@ impl Cursors {
             self.old.readers.items)) }
         ensures keeps { StartsWith out.new.items out.old.items }
     {
-        self.said += push_said(out, place, rest(&given.answers, self.said))?;
+        self.said += push_answers(out, place, rest(&given.answers, self.said))?;
         for at in 0..self.readers.len() {
             let cursor = self.readers[at];
             self.readers[at] = cursor.push_part(out, last, catalog, given, place)?;

@@ -49,12 +49,11 @@ fn output<A: Allocator + Copy>(alloc: A, given: Given<'_>) -> Result<Output<u8, 
 /// discovery answers at the fourth submessage.
 fn rest<A: Allocator + Copy>(alloc: A) -> Result<Rest<A>, AllocError> {
     let mut answers = Vec::new(alloc);
-    answers.push(Answer {
-        place: place(4),
-        rank: None,
+    let reply = Reply {
         to: no_locators(alloc),
         octets: no_octets(alloc),
-    })?;
+    };
+    answers.push((place(4), reply))?;
     Ok(Rest {
         readers: 3,
         ranks: Vec::from_slice(alloc, &[0, 2])?,

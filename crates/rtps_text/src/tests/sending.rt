@@ -5,7 +5,6 @@ use dds_participant::Given;
 use dds_topic::Shape;
 use rtps_reader::Output;
 use rtps_records::{Exchange, Receive};
-use rtps_run::Answer;
 use rtps_types::{Locator, Locators, Octets, Place, Reply};
 use std::alloc::{AllocError, Global};
 use std::io;
@@ -73,17 +72,6 @@ fn reply(alloc: Global, ports: &[u16], octet: u8) -> Result<Reply, AllocError> {
     })
 }
 
-/// Discovery's answer of one octet to these ports.
-fn answer(alloc: Global, place: Place, ports: &[u16], octet: u8) -> Result<Answer, AllocError> {
-    let Reply { to, octets } = reply(alloc, ports, octet)?;
-    Ok(Answer {
-        place,
-        rank: None,
-        to,
-        octets,
-    })
-}
-
 /// What a reader gives out that sends these answers alone.
 fn output(alloc: Global, replies: &[(Place, u16, u8)]) -> Result<Output<Shape>, AllocError> {
     let mut answers = Vec::new(alloc);
@@ -101,10 +89,9 @@ fn answers_go_by_place_and_to_each_locator(rt: HostRuntime) -> Result<(), Fail> 
     let alloc = rt.alloc();
     let mut given = Given::new(alloc);
     given.places = [FIRST, SECOND, THIRD].to_vec(alloc)?;
-    given
-        .answers
-        .push(answer(alloc, SECOND, &[7412, 7414], 1)?)?;
-    given.answers.push(answer(alloc, THIRD, &[], 2)?)?;
+    let answer = reply(alloc, &[7412, 7414], 1)?;
+    given.answers.push((SECOND, answer))?;
+    given.answers.push((THIRD, reply(alloc, &[], 2)?))?;
     let first = [(FIRST, 7416, 3), (SECOND, 7416, 4)];
     given.outputs.push(output(alloc, &first)?)?;
     given.outputs.push(output(alloc, &[])?)?;

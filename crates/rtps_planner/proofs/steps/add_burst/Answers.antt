@@ -1,7 +1,8 @@
 use Rattle.std.proofs.Common.{◌≡◌, ◌<◌, ◌+◌, ◌==◌, ◌++◌, ◌∷◌, [], ◌∙◌, ap, arith, get_or, if◌then◌else◌, length, map, refl, subst, sym, take, true, false}
 use Rattle.std.proofs.lemmas.List.{take_all, take_more}
 use Rattle.rtps_discovery.specs.Known.{reader_at}
-use Rattle.rtps_planner.specs.Plan.{Grow, burst_at, events_at, is_named, taken_in}
+use Rattle.rtps_run.specs.Addressed.{is_named}
+use Rattle.rtps_planner.specs.Plan.{Grow, burst_at, events_at, taken_in}
 use Rattle.rtps_planner.proofs.Planned.{grow_more, grow_not, rank_more, rank_named, rank_unnamed}
 use Rattle.rtps_planner.proofs.steps.add_burst.Goals as goal
 use Rattle.rtps_planner.proofs.steps.add_burst.Goals.{then-is_named+in_ok-take_in_at, else-is_named}

@@ -1,8 +1,8 @@
 use Rattle.std.proofs.Common.{◌<◌, ◌++◌, ◌∙◌, [], ap, append-nil, map, subst, sym}
 use Rattle.rtps_discovery.specs.Kept.{IsKnown}
-use Rattle.rtps_run.specs.Outcome.{answer_view}
+use Rattle.rtps_reader.specs.Notices.{answer_view}
 use Rattle.rtps_run.proofs.Answered.{on_ok_then}
-use Rattle.rtps_planner.specs.Plan.{burst_at, discovery_sending, events_at}
+use Rattle.rtps_planner.specs.Plan.{burst_at, events_at}
 use Rattle.rtps_planner.proofs.Bursts.{burst_asked, users_answers, users_known}
 use Rattle.rtps_planner.proofs.Planned.{grow_same}
 use Rattle.rtps_planner.proofs.steps.plan_burst.Goals as goal
@@ -24,6 +24,6 @@ returns-clause-planned g c = λ k es known from others.
           ap (λ rs. burst_at es b rs c.matched-ranks.result.now rank) (c.readers-readers.ensures.known ∙ known.readers)
           ∙ ap (λ ranks. burst_at es b k.readers ranks rank) (c.matched-ranks.ensures k known)
           ∙ burst_asked k b.writer b.reader rank others (subst (λ n. rank < n) count below) run from) grows;
-      answers = sym (append-nil sent) ∙ ap (λ l. sent ++ map discovery_sending l) (sym (users_answers k b.writer b.reader run others from));
+      answers = sym (append-nil sent) ∙ ap (λ l. sent ++ l) (sym (users_answers k b.writer b.reader run others from));
     })
     (c.add_burst.ensures es)

@@ -1,10 +1,11 @@
-use Rattle.std.proofs.Common.{◌≡◌, ◌++◌, ◌∙◌, ap, map, subst, sym}
+use Rattle.std.proofs.Common.{◌≡◌, ◌++◌, ◌∙◌, None, ap, map, subst, sym}
 use Rattle.rtps_receiver.specs.Events.{view}
 use Rattle.rtps_discovery.specs.Seen.{change_seen}
+use Rattle.rtps_reader.specs.Reader.{placed}
 use Rattle.rtps_run.specs.Outcome.{report_view}
 use Rattle.rtps_run.specs.Standing.{ReadersStand}
 use Rattle.rtps_run.specs.Steps.{change_step, steps_run}
-use Rattle.rtps_run.specs.World.{answer_put, discovery_puts}
+use Rattle.rtps_run.specs.World.{discovery_puts, sent_by}
 use Rattle.rtps_run.proofs.Answered.{on_ok_then}
 use Rattle.rtps_run.proofs.Hearing.{announced_puts, announcement_stands}
 use Rattle.rtps_run.proofs.Routed.{discovered, discovered_stands}
@@ -20,11 +21,11 @@ returns-clause-stands g c is w earlier old =
     let states = c.take_changes.new.readers.states.items in
     let reports = c.take_changes.new.reports.items in
     let heard = c.in_ok-effects.ensures.effects w.known old.known in
-    let reported : map (report_view f) c.report_answer.new.reports.items ≡ map (report_view f) c.args.reports.now.items ++ discovery_puts w.known event
-    = c.in_ok-report_answer.ensures
-    ∙ ap (λ o. map (report_view f) c.args.reports.now.items ++ answer_put event.place o) heard.said
+    let reported : map (report_view f) c.report_discovery.new.reports.items ≡ map (report_view f) c.args.reports.now.items ++ discovery_puts w.known event
+    = c.in_ok-report_discovery.ensures
+    ∙ ap (λ o. map (report_view f) c.args.reports.now.items ++ map (sent_by None) (placed event.place o)) heard.said
     ∙ ap (λ l. map (report_view f) c.args.reports.now.items ++ l) (sym (announced_puts w.known event is)) in
     on_ok_then c.take_changes.result
     (λ stands. announcement_stands f d w event earlier c.step.new.self.kept changes sorted states reports is old.named (c.in_ok-effects.ensures.known w.known old.known) heard.heard c.in_ok-changes.ensures
     (subst (λ l. ReadersStand f (steps_run d event.place (discovered w event) (map change_step (map change_seen l))) earlier states reports) c.deref.ensures.value stands))
-    (c.take_changes.ensures.stands (discovered w event) earlier (discovered_stands f w event earlier c.args.readers.now.states.items c.args.reports.now.items c.report_answer.new.reports.items old.readers reported))
+    (c.take_changes.ensures.stands (discovered w event) earlier (discovered_stands f w event earlier c.args.readers.now.states.items c.args.reports.now.items c.report_discovery.new.reports.items old.readers reported))

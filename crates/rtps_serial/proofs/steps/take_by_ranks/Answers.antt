@@ -1,10 +1,13 @@
-use Rattle.std.proofs.Common.{◌≡◌, ◌<◌, ◌∷◌, [], ◌∙◌, ap, arith, get_or, length, subst, take}
+use Rattle.std.proofs.Common.{◌≡◌, ◌<◌, ◌∷◌, [], ◌∙◌, ap, arith, false, get_or, length, subst, sym, take, true}
 use Rattle.std.proofs.lemmas.List.{get_or_default, take_all}
 use Rattle.rtps_receiver.specs.Events.{view}
+use Rattle.rtps_discovery.specs.Known.{reader_at}
 use Rattle.rtps_reader.specs.Steps.{asked, asks_of}
+use Rattle.rtps_run.specs.Addressed.{is_named}
 use Rattle.rtps_run.specs.Standing.{ReadersStand}
 use Rattle.rtps_run.specs.Steps.{event_steps, step_by, steps_run, world_stepped}
-use Rattle.rtps_run.proofs.Reached.{entity_stays, named_step, ranks_more, unnamed_step}
+use Rattle.rtps_run.proofs.Reached.{named_step, ranks_more, unnamed_step}
+use Rattle.rtps_run.proofs.Routed.{known_of_steps}
 use Rattle.rtps_serial.proofs.steps.take_by_ranks.Goals as goal
 use Rattle.rtps_serial.proofs.steps.take_by_ranks.Goals.{then-is_named+in_ok-step, else-is_named}
 
@@ -13,7 +16,7 @@ loop-rank-preserved g c =
     let d = g.C.Catalog.decoding c.args.readers.now.decoder in
     let event = view c.args.event.now in
     let place = c.args.event.now.place in
-    let ranks = c.args.ranks.now in
+    let ranks = c.matched-ranks.result.now in
     let i = c.loop-rank.rank-index in
     let rank = get_or ranks i 0 in
     let states = c.loop-rank.readers.states.items in
@@ -27,8 +30,9 @@ loop-rank-preserved g c =
         stands = λ w earlier old.
             let v = steps_run d place w (event_steps w event (take i ranks)) in
             let stands = c.loop-rank.invariant.stands w earlier old in
-            let one : event_steps w event (rank ∷ []) ≡ step_by rank (asks_of event) ∷ []
-            = named_step g.C.Catalog.view w v event earlier states reports rank c.is_named.result stands (entity_stays d place w (event_steps w event (take i ranks)) rank) c.is_named.ensures.named c.is_named.ensures.past b.if-is_named.true in
+            let named : is_named event.reader (reader_at w.known.readers rank) ≡ true
+            = ap (λ rs. is_named event.reader (reader_at rs rank)) (sym (c.readers-known.ensures.known ∙ old.known.readers)) ∙ sym c.is_named.ensures ∙ b.if-is_named.true in
+            let one : event_steps w event (rank ∷ []) ≡ step_by rank (asks_of event) ∷ [] = named_step w event rank old.named named in
             let after : ReadersStand g.C.Catalog.view (world_stepped d place v (step_by rank (asks_of event))) earlier b.step.new.self.states.items b.step.new.reports.items
             = subst (λ k. ReadersStand g.C.Catalog.view (world_stepped (g.C.Catalog.decoding k) place v (step_by rank (asks_of event))) earlier b.step.new.self.states.items b.step.new.reports.items) c.loop-rank.invariant.same
             (subst (λ a. ReadersStand g.C.Catalog.view (world_stepped (g.C.Catalog.decoding c.loop-rank.readers.decoder) place v (step_by rank a)) earlier b.step.new.self.states.items b.step.new.reports.items) c.of_event-step.ensures.what
@@ -41,7 +45,9 @@ loop-rank-preserved g c =
         count = ap (λ r. length r.states.items) b.readers-is ∙ c.loop-rank.invariant.count;
         stands = λ w earlier old.
             let v = steps_run d place w (event_steps w event (take i ranks)) in
-            let after = unnamed_step g.C.Catalog.view d place w v event earlier states reports rank c.is_named.result (c.loop-rank.invariant.stands w earlier old) (entity_stays d place w (event_steps w event (take i ranks)) rank) c.is_named.ensures.named c.is_named.ensures.past b.if-is_named.false in
+            let unnamed : is_named event.reader (reader_at w.known.readers rank) ≡ false
+            = ap (λ rs. is_named event.reader (reader_at rs rank)) (sym (c.readers-known.ensures.known ∙ old.known.readers)) ∙ sym c.is_named.ensures ∙ b.if-is_named.false in
+            let after = unnamed_step w event rank old.named g.C.Catalog.view d place v earlier states reports (c.loop-rank.invariant.stands w earlier old) (known_of_steps d place w (event_steps w event (take i ranks))) unnamed in
             rw (b.readers-is, b.reports-is, ranks_more d place w event ranks i rank less read) after;
       }
     ]
@@ -50,5 +56,6 @@ pub returns-clause-stands : goal.returns-clause-stands
 returns-clause-stands g c w earlier old =
     let d = g.C.Catalog.decoding c.args.readers.now.decoder in
     let event = view c.args.event.now in
-    let whole : take c.loop-rank.rank-index c.args.ranks.now ≡ c.args.ranks.now = take_all c.loop-rank.rank-index c.args.ranks.now (omega (arith, c.loop-rank-test.false)) in
-    subst (λ l. ReadersStand g.C.Catalog.view (steps_run d c.args.event.now.place w (event_steps w event l)) earlier c.loop-rank.readers.states.items c.loop-rank.reports.items) whole (c.loop-rank.invariant.stands w earlier old)
+    let ranks = c.matched-ranks.result.now in
+    let whole : take c.loop-rank.rank-index ranks ≡ ranks = take_all c.loop-rank.rank-index ranks (omega (arith, c.loop-rank-test.false)) in
+    subst (λ l. ReadersStand g.C.Catalog.view (steps_run d c.args.event.now.place w (event_steps w event l)) earlier c.loop-rank.readers.states.items c.loop-rank.reports.items) (whole ∙ c.matched-ranks.ensures w.known old.known) (c.loop-rank.invariant.stands w earlier old)

@@ -1,5 +1,5 @@
 use Rattle.std.proofs.Common.{◌≡◌, ℕ, ◌<◌, []}
-use Rattle.dds_participant.specs.Given.{sent_in}
+use Rattle.rtps_planner.specs.Gather.{sent_in}
 use Rattle.rtps_text.proofs.answering.has_answer.Given as goal
 
 abbrev pub invariant-loop-output : goal.invariant-loop-output

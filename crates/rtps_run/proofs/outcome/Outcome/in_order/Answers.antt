@@ -1,24 +1,11 @@
-use Rattle.std.proofs.Common.{◌≡◌, ◌++◌, [], ◌∙◌, append-nil, ap, map, refl, rules, subst, sym}
+use Rattle.std.proofs.Common.{◌≡◌, ◌++◌, [], ◌∙◌, append-nil, ap, map, rules, subst, sym}
 use Rattle.std.specs.List.Sorted.{IsPermutation, IsSortedByKey, IsStableByKey}
 use Rattle.std.proofs.lemmas.List.{nil_from_length}
 use Rattle.std.proofs.lemmas.List.Sorted.{answers_always}
-use Rattle.rtps_run.specs.contracts.turn.TurnOrd.TheImpl as derived
 use Rattle.rtps_run.specs.declared.outcome.Report.TheVariants as report
-use Rattle.rtps_run.specs.declared.turn.ReportKind.{ReportKind}
-use Rattle.rtps_run.specs.declared.turn.ReportKind.TheVariants as kind
-use Rattle.rtps_run.specs.declared.turn.Turn.{Turn}
 use Rattle.rtps_run.specs.Turn.{reports_of, turn_of, turn_order}
+use Rattle.rtps_run.proofs.Derived.{agrees}
 use Rattle.rtps_run.proofs.outcome.Outcome.in_order.Goals as goal
-
--- the derived order of turns is theirs
-agrees : (a b : Turn) → derived.ghosts.cmp a b ≡ turn_order a b
-agrees a b = by_kind a.kind b.kind
-  where
-    by_kind : (k l : ReportKind) → derived.ghosts.cmp (record a { kind = k }) (record b { kind = l }) ≡ turn_order (record a { kind = k }) (record b { kind = l })
-    by_kind kind.Notice kind.Notice = refl
-    by_kind kind.Notice kind.Answer = refl
-    by_kind kind.Answer kind.Notice = refl
-    by_kind kind.Answer kind.Answer = refl
 
 pub returns : goal.returns
 returns g c =

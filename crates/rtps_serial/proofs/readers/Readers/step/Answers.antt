@@ -1,4 +1,4 @@
-use Rattle.std.proofs.Common.{◌≡◌, ◌<◌, ◌++◌, ◌∙◌, ap, arith, length, map}
+use Rattle.std.proofs.Common.{◌≡◌, ◌<◌, ◌++◌, ◌∙◌, Some, ap, arith, length, map}
 use Rattle.rtps_reader.specs.Notices.{answer_view, notice_view}
 use Rattle.rtps_reader.specs.Reader.{sends, tells}
 use Rattle.rtps_reader.specs.Steps.{asked}
@@ -28,6 +28,6 @@ returns-clause-stands g c w earlier stands =
     on_ok_then c.report_all.result
     (λ moved. step_stands g.C.Catalog.view d place w earlier (step_by rank what) states old c.step.new.self c.args.reports.now.items c.report_all.new.reports.items stands below c.index_mut.ensures.value c.in_ok-step.ensures.place.0
     (c.in_ok-step.ensures.stands r (notices_by rank w.put) here.stands)
-    (moved ∙ ap (λ l. map (report_view g.C.Catalog.view) c.args.reports.now.items ++ (map (NoticeOf rank) l ++ map (sent_by rank) (map answer_view c.step.new.output.answers.items))) told
-    ∙ ap (λ l. map (report_view g.C.Catalog.view) c.args.reports.now.items ++ (map (NoticeOf rank) (tells d r place what) ++ map (sent_by rank) l)) sent))
+    (moved ∙ ap (λ l. map (report_view g.C.Catalog.view) c.args.reports.now.items ++ (map (NoticeOf rank) l ++ map (sent_by (Some rank)) (map answer_view c.step.new.output.answers.items))) told
+    ∙ ap (λ l. map (report_view g.C.Catalog.view) c.args.reports.now.items ++ (map (NoticeOf rank) (tells d r place what) ++ map (sent_by (Some rank)) l)) sent))
     c.report_all.ensures

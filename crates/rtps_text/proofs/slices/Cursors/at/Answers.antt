@@ -20,7 +20,7 @@ loop-rank-preserved g c =
 
 pub returns : goal.returns
 returns g c = λ before after cut by. record {
-  answers = left_said g.C.Catalog.view c.args.given.now before c.args.place after c.deref.result.now c.said_before.result c.deref.ensures.value cut by c.said_before.ensures;
+  answers = left_said g.C.Catalog.view c.args.given.now before c.args.place after c.deref.result.now c.answers_before.result c.deref.ensures.value cut by c.answers_before.ensures;
   ranks = search rules;
   lists = search rules;
 }

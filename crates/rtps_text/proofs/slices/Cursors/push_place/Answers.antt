@@ -8,7 +8,7 @@ pub loop-at-init : goal.loop-at-init
 loop-at-init g c =
     let parts = parts_given g.C.Catalog.view c.args.given.now in
     let left = c.rest.ensures ∙ ap (drop c.args.self.now.said) c.deref.ensures.value in
-    let first = said_first (g.C.Catalog.text_of c.args.catalog.now) parts c.args.place c.args.self.now.said c.in_ok-self.field-0 c.args.given.now.answers.items c.rest.result.now c.args.self.now.readers.items c.args.out.now.items c.push_said.new.out.items
+    let first = said_first (g.C.Catalog.text_of c.args.catalog.now) parts c.args.place c.args.self.now.said c.in_ok-self.field-0 c.args.given.now.answers.items c.rest.result.now c.args.self.now.readers.items c.args.out.now.items c.push_answers.new.out.items
     refl left c.in_ok-self.ensures.count c.in_ok-self.ensures.lines in
     record {
       said = first.0;
