@@ -14,7 +14,7 @@ use Rattle.dds_cache.specs.declared.state.ViewState.{ViewState}
 use Rattle.dds_cache.specs.declared.state.ViewState.TheVariants as view
 use Rattle.rtps_ascii.specs.Hex.{hex_text}
 use Rattle.rtps_lines.specs.Line.{◌then◌, time_text}
-use Rattle.rtps_lines.specs.Told.{guid_text}
+use Rattle.rtps_lines.specs.Guid.{guid_text}
 
 -- its states (DDS 1.4, 2.2.2.5.1)
 abbrev pub sample_word : SampleState → List ℕ

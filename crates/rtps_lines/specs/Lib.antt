@@ -1,4 +1,9 @@
 pub mod Entry
 pub mod EventLines
 pub mod Line
-pub mod Told
+pub mod Guid
+pub mod Sample
+pub mod Notice
+pub mod Locators
+pub mod Answer
+pub mod Summary

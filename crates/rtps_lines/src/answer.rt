@@ -2,7 +2,7 @@
 
 ghost use Rattle.std.specs.Prelude.{◌≡◌, ◌++◌, OnOk};
 ghost use Rattle.std.specs.Io.{StartsWith};
-ghost use Rattle.rtps_lines.specs.Told.{answer_line};
+ghost use Rattle.rtps_lines.specs.Answer.{answer_line};
 
 use crate::context::push_place;
 use crate::locators::push_locators;

@@ -2,7 +2,7 @@
 
 ghost use Rattle.std.specs.Prelude.{◌≡◌, ◌++◌, OnOk};
 ghost use Rattle.std.specs.Io.{StartsWith};
-ghost use Rattle.rtps_lines.specs.Told.{guid_text};
+ghost use Rattle.rtps_lines.specs.Guid.{guid_text};
 
 use rtps_ascii::push_hex_array;
 use rtps_types::Guid;

@@ -7,7 +7,7 @@ ghost use Rattle.std.specs.Option.{ForSome};
 ghost use Rattle.std.specs.Fmt.{decimal};
 ghost use Rattle.rtps_types.specs.Number.{value_of};
 ghost use Rattle.rtps_lines.specs.Line.{◌then◌, place_text, time_text};
-ghost use Rattle.rtps_lines.specs.Told.{guid_text};
+ghost use Rattle.rtps_lines.specs.Guid.{guid_text};
 
 use crate::context::{push_place, push_time};
 use crate::guid::push_guid;

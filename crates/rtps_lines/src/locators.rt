@@ -2,7 +2,7 @@
 
 ghost use Rattle.std.specs.Prelude.{◌≡◌, ◌++◌, OnOk};
 ghost use Rattle.std.specs.Io.{StartsWith};
-ghost use Rattle.rtps_lines.specs.Told.{address_text, locator_text, locators_text, more_locators};
+ghost use Rattle.rtps_lines.specs.Locators.{address_text, locator_text, locators_text, more_locators};
 
 use rtps_ascii::{push_number, push_octet};
 use rtps_types::Locator;

@@ -5,7 +5,8 @@ ghost use Rattle.std.specs.Io.{StartsWith};
 ghost use Rattle.std.specs.Fmt.{decimal};
 ghost use Rattle.rtps_reader.specs.Notices.{kind_view, notice_view};
 ghost use Rattle.rtps_lines.specs.Line.{◌then◌};
-ghost use Rattle.rtps_lines.specs.Told.{guid_text, heard_line, notice_text};
+ghost use Rattle.rtps_lines.specs.Guid.{guid_text};
+ghost use Rattle.rtps_lines.specs.Notice.{heard_line, notice_text};
 
 use crate::last_line::LastLine;
 use crate::sample::push_presented;

@@ -7,7 +7,7 @@ ghost use Rattle.dds_topic.specs.Answer.{code_of};
 ghost use Rattle.rtps_reader.specs.Body.{body_map};
 ghost use Rattle.rtps_ascii.specs.Hex.{hex_text};
 ghost use Rattle.rtps_lines.specs.Line.{◌then◌};
-ghost use Rattle.rtps_lines.specs.Told.{sample_text};
+ghost use Rattle.rtps_lines.specs.Sample.{sample_text};
 
 use dds_topic::{TextCatalog, Unread};
 use rtps_ascii::{push_hex_array, push_number, push_octet, push_word};

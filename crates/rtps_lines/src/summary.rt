@@ -2,7 +2,7 @@
 
 ghost use Rattle.std.specs.Prelude.{◌≡◌, ◌++◌, OnOk};
 ghost use Rattle.std.specs.Io.{StartsWith};
-ghost use Rattle.rtps_lines.specs.Told.{match_line, matches_text, policy_text, status_line};
+ghost use Rattle.rtps_lines.specs.Summary.{match_line, matches_text, policy_text, status_line};
 
 use crate::guid::push_guid;
 use rtps_ascii::{push_number, push_octet, push_word};
@@ -61,7 +61,10 @@ fn push_matches<A: Allocator>(out: &mut Vec<u8, A>, status: &Status) -> Result<(
 }
 
 /// Adds a policy by its id, or a dash for none.
-fn push_policy<A: Allocator>(out: &mut Vec<u8, A>, policy: Option<PolicyId>) -> Result<(), AllocError>
+fn push_policy<A: Allocator>(
+    out: &mut Vec<u8, A>,
+    policy: Option<PolicyId>,
+) -> Result<(), AllocError>
     ensures ok { OnOk result (out.new.items ≡ out.old.items ++ policy_text policy) }
     ensures keeps { StartsWith out.new.items out.old.items }
 {

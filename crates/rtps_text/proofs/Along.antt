@@ -14,7 +14,7 @@ use Rattle.rtps_planner.specs.Commuting.{Parts, answers_at, merged, merged_below
 use Rattle.rtps_planner.specs.Gather.{AreRising}
 use Rattle.rtps_text.specs.Replayed.{put_line, put_lines}
 use Rattle.rtps_text.specs.Slices.{AreLeft, IsLeft, answer_lines, cursor_after, first_answers, front_at, next_said, part_lines, parts_lines, places_lines, ranks_below, starts}
-use Rattle.rtps_lines.specs.Told.{answer_line}
+use Rattle.rtps_lines.specs.Answer.{answer_line}
 use Rattle.rtps_text.specs.declared.slices.Cursor.{Cursor}
 
 -- ---- one list

@@ -18,7 +18,7 @@ use Rattle.dds_participant.specs.Given.{parts_given, told_in}
 use Rattle.dds_participant.specs.declared.given.Given.{Given}
 use Rattle.rtps_text.specs.Slices.{answer_lines, cursor_after, first_answers, first_notices, lists_after, lists_lines, next_said, part_lines, parts_lines, places_lines}
 use Rattle.rtps_text.specs.declared.slices.Cursor.{Cursor}
-use Rattle.rtps_lines.specs.Told.{heard_line}
+use Rattle.rtps_lines.specs.Notice.{heard_line}
 
 pub is_other : (b r : Bool) → r ≡ not b → r ≡ true → b ≡ false
 is_other true r e t = absurd (let bad : false ≡ true = sym e ∙ t in cc)

@@ -9,7 +9,9 @@ use Rattle.rtps_run.specs.World.{ReportView, NoticeOf, AnswerOf, World}
 use Rattle.rtps_run.specs.Run.{run}
 use Rattle.rtps_run.specs.Seen.{matches_seen, reader_count, status_at}
 use Rattle.rtps_run.specs.Standing.{EngineView, StandsAt, run_by}
-use Rattle.rtps_lines.specs.Told.{answer_line, heard_line, match_line, status_line}
+use Rattle.rtps_lines.specs.Answer.{answer_line}
+use Rattle.rtps_lines.specs.Notice.{heard_line}
+use Rattle.rtps_lines.specs.Summary.{match_line, status_line}
 
 -- the line of what is put out
 abbrev pub put_line : {M : Type 0} → (M → List ℕ) → ReportView M → List ℕ

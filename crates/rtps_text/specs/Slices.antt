@@ -15,7 +15,7 @@ use Rattle.dds_participant.specs.Given.{AreAnswersAlong, AreNoticesAlong, parts_
 use Rattle.dds_participant.specs.declared.given.Given.{Given}
 use Rattle.rtps_text.specs.declared.slices.Cursor.{Cursor}
 use Rattle.rtps_text.specs.Replayed.{put_lines}
-use Rattle.rtps_lines.specs.Told.{answer_line}
+use Rattle.rtps_lines.specs.Answer.{answer_line}
 
 -- the items in front that stand at a place
 abbrev pub front_at : {X : Type 0} → (X → Place) → Place → List X → List X

@@ -1,6 +1,6 @@
 use Rattle.std.proofs.Common.{◌≡◌, ◌++◌, drop}
 use Rattle.std.specs.Io.{StartsWith}
-use Rattle.rtps_lines.specs.Told.{more_locators}
+use Rattle.rtps_lines.specs.Locators.{more_locators}
 use Rattle.rtps_lines.proofs.locators.push_more.Given as goal
 
 abbrev pub invariant-loop-locator : goal.invariant-loop-locator

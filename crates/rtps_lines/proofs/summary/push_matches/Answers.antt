@@ -1,6 +1,6 @@
 use Rattle.std.proofs.lemmas.Result.{on_ok_weaker}
 use Rattle.std.specs.Prelude.{codes, ◌∷◌, [], decimal}
-use Rattle.rtps_lines.specs.Told.{policy_text}
+use Rattle.rtps_lines.specs.Summary.{policy_text}
 use Rattle.rtps_ascii.proofs.Appended.{added_is_joined}
 use Rattle.rtps_lines.proofs.summary.push_matches.Goals as goal
 
