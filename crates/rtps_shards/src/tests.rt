@@ -4,8 +4,8 @@ ghost use Rattle.std.specs.Prelude.{◌≤◌};
 
 mod apart;
 mod board;
+mod failing;
 mod gates;
-mod starved;
 
 use crate::*;
 use dds_topic::{Catalog, Shape, Shapes};

@@ -7,7 +7,6 @@ mod listening;
 mod matches;
 mod runs;
 mod sending;
-mod starved;
 
 use crate::{dump, dump_in};
 use linked_list_allocator::LocalHeap;

@@ -5,81 +5,21 @@ use super::publishing::{looks, shown};
 use super::{DATA, HEARTBEAT, LATER, Said, config};
 use crate::*;
 use dds_outlet::{Inlet, outlet};
-use dds_topic::{Catalog, CatalogError, Shape, Shapes};
+use dds_topic::{FailingCatalog, Shape, Shapes};
 use rtps_reader::Status;
 use rtps_run::EngineError;
 use rtps_shards::NoGate;
-use rtps_types::KeyHash;
-use std::alloc::{AllocError, Global};
+use std::alloc::Global;
 use std::sync::Wait;
-use std::sync::atomic::{AtomicU64, Ordering};
+use std::sync::atomic::AtomicU64;
 use std::test::Fail;
 use std::thread::Threads;
-
-/// A catalog that finds no memory for one value, counted from 0 in the order in which they come.
-#[derive(Drop)]
-struct Starved<C> {
-    catalog: C,
-    refused: u64,
-    decoded: AtomicU64,
-}
-
-impl<C: Catalog> Catalog for Starved<C> {
-    type Value = C::Value;
-
-    type Memo = C::Memo;
-
-    ghost Meaning = { C.Meaning };
-
-    ghost view = { C.view };
-
-    ghost decoding = { λ s. C.decoding s.catalog };
-
-    ghost key = { λ s. C.key s.catalog };
-
-    ghost text_of = { λ s. C.text_of s.catalog };
-
-    fn decode(&self, alloc: Global, kind: u16, body: &[u8]) -> Result<C::Value, CatalogError> {
-        if self.decoded.fetch_add(1, Ordering::SeqCst) == self.refused {
-            return Err(CatalogError::NoMemory);
-        }
-        self.catalog.decode(alloc, kind, body)
-    }
-
-    fn key_of(&self, alloc: Global, value: &C::Value) -> Result<KeyHash, AllocError> {
-        self.catalog.key_of(alloc, value)
-    }
-
-    fn key_by(
-        &self,
-        memo: &mut C::Memo,
-        alloc: Global,
-        value: &C::Value,
-    ) -> Result<KeyHash, AllocError> {
-        self.catalog.key_by(memo, alloc, value)
-    }
-
-    fn key_payload(&self, alloc: Global, value: &C::Value) -> Result<Vec<u8>, AllocError> {
-        self.catalog.key_payload(alloc, value)
-    }
-
-    fn key_of_payload(
-        &self,
-        alloc: Global,
-        kind: u16,
-        body: &[u8],
-    ) -> Result<KeyHash, CatalogError> {
-        self.catalog.key_of_payload(alloc, kind, body)
-    }
-
-    ghost key_again = { λ s v. C.key_again s.catalog v };
-}
 
 /// Why a participant refuses a batch, if it does.
 fn refusal<R: Threads + Sync>(
     rt: &R,
     alloc: Global,
-    participant: &mut Participant<Starved<Shapes>>,
+    participant: &mut Participant<FailingCatalog<Shapes>>,
     datagrams: &[&[u8]],
 ) -> Result<Option<EngineError>, Fail> {
     if !is_batch(datagrams) {
@@ -93,7 +33,7 @@ fn refusal<R: Threads + Sync>(
 }
 
 /// How many samples the first reader presented, if there is one.
-fn samples(participant: &Participant<Starved<Shapes>>) -> Option<u32> {
+fn samples(participant: &Participant<FailingCatalog<Shapes>>) -> Option<u32> {
     match participant.status(0) {
         Some(Status { samples, .. }) => Some(samples),
         None => None,
@@ -104,7 +44,7 @@ fn samples(participant: &Participant<Starved<Shapes>>) -> Option<u32> {
 fn takes_or_fails<R: Threads + Sync>(
     rt: &R,
     alloc: Global,
-    participant: &mut Participant<Starved<Shapes>>,
+    participant: &mut Participant<FailingCatalog<Shapes>>,
     is_refused: bool,
 ) -> Result<bool, Fail> {
     let first = refusal(rt, alloc, participant, &[DATA, HEARTBEAT])?;
@@ -122,10 +62,10 @@ fn takes_or_fails<R: Threads + Sync>(
 }
 
 /// A participant that finds no memory for this value.
-fn starving(alloc: Global, refused: u64) -> Result<Participant<Starved<Shapes>>, Fail> {
-    let catalog = Starved {
+fn starving(alloc: Global, refused: u64) -> Result<Participant<FailingCatalog<Shapes>>, Fail> {
+    let catalog = FailingCatalog {
         catalog: Shapes,
-        refused,
+        fails_at: refused,
         decoded: AtomicU64::new(0),
     };
     Ok(Participant::new(alloc, config(alloc)?, catalog)?)
@@ -151,7 +91,7 @@ fn a_batch_out_of_memory_fails_a_participant(rt: HostRuntime) -> Result<(), Fail
 fn stands_after_the_first<R: Wait>(
     rt: &R,
     alloc: Global,
-    participant: &mut Participant<Starved<Shapes>>,
+    participant: &mut Participant<FailingCatalog<Shapes>>,
     inlet: &mut Inlet<Shape>,
 ) -> Result<bool, Fail> {
     Ok(

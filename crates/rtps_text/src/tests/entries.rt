@@ -5,12 +5,11 @@ ghost use Rattle.dds_cache.specs.Cache.{IsHistory};
 ghost use Rattle.rtps_discovery.specs.Config.{check_of};
 
 use super::runs::{FILE, FIRST, Given, PACES, config_of, setup};
-use super::starved::Starved;
 use super::{Failing, octets, text};
 use crate::{CacheSetup, Pace, samples};
 use dds_cache::History;
 use dds_qos::Reliability;
-use dds_topic::Shapes;
+use dds_topic::{FailingCatalog, Shapes};
 use rtps_discovery::Config;
 use rtps_records::RunFault;
 use std::alloc::Global;
@@ -39,7 +38,12 @@ const LAST: [&str; 2] = [
 ];
 
 /// These readers, of whose values one finds no memory, keep so much.
-fn kept(config: Config, refused: u64, pace: Pace, keep: History) -> CacheSetup<Starved<Shapes>>
+fn kept(
+    config: Config,
+    refused: u64,
+    pace: Pace,
+    keep: History,
+) -> CacheSetup<FailingCatalog<Shapes>>
     requires config { check_of config ≡ Ok tt }
     requires keep { IsHistory keep }
 {

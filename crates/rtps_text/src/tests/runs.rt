@@ -3,15 +3,15 @@
 ghost use Rattle.std.specs.Prelude.{◌≡◌, IfOk, Ok};
 ghost use Rattle.rtps_discovery.specs.Config.{check_of};
 
-use super::starved::Starved;
 use super::{Failing, octets, text};
 use crate::{Pace, Setup, replay};
 use dds_qos::Reliability;
-use dds_topic::Shapes;
+use dds_topic::{FailingCatalog, Shapes};
 use rtps_discovery::{Config, ReaderConfig, check};
 use rtps_records::RunFault;
 use rtps_types::{EntityId, Guid, GuidPrefix, Locators};
 use std::alloc::Global;
+use std::sync::atomic::AtomicU64;
 use std::test::Fail;
 use std::thread::Threads;
 
@@ -108,12 +108,16 @@ pub(super) const PACES: [Pace; 4] = [
 ];
 
 /// These readers, with values of shapes of which one finds no memory, and without a summary.
-pub(super) fn setup(config: Config, refused: u64, pace: Pace) -> Setup<Starved<Shapes>>
+pub(super) fn setup(config: Config, refused: u64, pace: Pace) -> Setup<FailingCatalog<Shapes>>
     requires { check_of config ≡ Ok tt }
 {
     Setup {
         config,
-        catalog: Starved::new(Shapes, refused),
+        catalog: FailingCatalog {
+            catalog: Shapes,
+            fails_at: refused,
+            decoded: AtomicU64::new(0),
+        },
         summary: false,
         pace,
     }
@@ -164,7 +168,7 @@ fn prints_the_records_before_a_fault(rt: HostRuntime) -> Result<(), Fail> {
 fn prints_all<T: Threads + Sync>(
     rt: &T,
     alloc: Global,
-    setup: Setup<Starved<Shapes>>,
+    setup: Setup<FailingCatalog<Shapes>>,
     file: &[u8],
     text: &str,
 ) -> Result<bool, Fail> {

@@ -5,71 +5,11 @@ ghost use Rattle.std.specs.Prelude.{◌≤◌};
 use super::gates::Counting;
 use super::run;
 use crate::Gate;
-use dds_topic::{Catalog, CatalogError, Shapes};
-use rtps_types::KeyHash;
-use std::alloc::{AllocError, Global};
+use dds_topic::{FailingCatalog, Shapes};
+use std::alloc::Global;
 use std::sync::atomic::{AtomicU64, Ordering};
 use std::test::Fail;
 use std::thread::Threads;
-
-/// A catalog that finds no memory for one value, counted from 0 in the order in which they come.
-#[derive(Drop)]
-struct Starved<C> {
-    catalog: C,
-    refused: u64,
-    decoded: AtomicU64,
-}
-
-impl<C: Catalog> Catalog for Starved<C> {
-    type Value = C::Value;
-
-    type Memo = C::Memo;
-
-    ghost Meaning = { C.Meaning };
-
-    ghost view = { C.view };
-
-    ghost decoding = { λ s. C.decoding s.catalog };
-
-    ghost key = { λ s. C.key s.catalog };
-
-    ghost text_of = { λ s. C.text_of s.catalog };
-
-    fn decode(&self, alloc: Global, kind: u16, body: &[u8]) -> Result<C::Value, CatalogError> {
-        if self.decoded.fetch_add(1, Ordering::SeqCst) == self.refused {
-            return Err(CatalogError::NoMemory);
-        }
-        self.catalog.decode(alloc, kind, body)
-    }
-
-    fn key_of(&self, alloc: Global, value: &C::Value) -> Result<KeyHash, AllocError> {
-        self.catalog.key_of(alloc, value)
-    }
-
-    fn key_by(
-        &self,
-        memo: &mut C::Memo,
-        alloc: Global,
-        value: &C::Value,
-    ) -> Result<KeyHash, AllocError> {
-        self.catalog.key_by(memo, alloc, value)
-    }
-
-    fn key_payload(&self, alloc: Global, value: &C::Value) -> Result<Vec<u8>, AllocError> {
-        self.catalog.key_payload(alloc, value)
-    }
-
-    fn key_of_payload(
-        &self,
-        alloc: Global,
-        kind: u16,
-        body: &[u8],
-    ) -> Result<KeyHash, CatalogError> {
-        self.catalog.key_of_payload(alloc, kind, body)
-    }
-
-    ghost key_again = { λ s v. C.key_again s.catalog v };
-}
 
 /// Whether the jobs of three readers give their results, where this value finds no memory.
 fn give_results<R: Threads + Sync>(
@@ -81,9 +21,9 @@ fn give_results<R: Threads + Sync>(
 ) -> bool
     requires { (1 ≤ workers) × (workers ≤ 64) }
 {
-    let catalog = Starved {
+    let catalog = FailingCatalog {
         catalog: Shapes,
-        refused,
+        fails_at: refused,
         decoded: AtomicU64::new(0),
     };
     run(rt, alloc, &catalog, gate, (3, workers)).is_ok()
@@ -137,9 +77,9 @@ fn unseen() -> [AtomicU64; 3] {
 
 #[test]
 fn a_job_enters_before_it_runs_and_leaves_after(rt: HostRuntime) -> Result<(), Fail> {
-    let catalog = Starved {
+    let catalog = FailingCatalog {
         catalog: Shapes,
-        refused: 8,
+        fails_at: 8,
         decoded: AtomicU64::new(0),
     };
     let gate = Watching {
