@@ -41,7 +41,7 @@ entities_differ topic reliability i j lt = rw (ne_eqb (i + 1) (j + 1) (λ e. ome
 pairs_differ : (writer : Guid) (i j : ℕ) → i < j → is_same_pair (match_of writer i) (match_of writer j) ≡ false
 pairs_differ writer i j lt = rw (ne_eqb i j (λ e. omega arith)) refl
 
--- so many readers as there may be
+-- a number of readers that there may be
 few : (n : ℕ) → 1 ≤ n → n ≤ 8 → (n == 0 || nat_lt 256 n) ≡ false
 few n low high = grind (arith, nat_tests)
 

@@ -42,7 +42,7 @@ reader_of topic reliability rank = record {
   partitions = [];
 }
 
--- so many readers, by their ranks
+-- n readers, by their ranks
 abbrev pub readers_of : Text → Reliability → ℕ → List Wish
 readers_of topic reliability count = map (reader_of topic reliability) (range_with_len 0 count)
 
@@ -55,7 +55,7 @@ abbrev pub match_at : Option Guid → ℕ → List FixedMatch
 match_at None rank = []
 match_at (Some writer) rank = match_of writer rank ∷ []
 
--- a match of each of so many readers with the writer, where there is one
+-- a match of each of n readers with the writer, where there is one
 abbrev pub matches_of : Option Guid → ℕ → List FixedMatch
 matches_of None count = []
 matches_of (Some writer) count = map (match_of writer) (range_with_len 0 count)

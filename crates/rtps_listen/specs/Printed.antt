@@ -44,7 +44,7 @@ TaskStops (task.ReplayRaw setup) fault before after old new = Stops (task_text (
 TaskStops (task.Samples setup) fault before after old new = StopsLate (task_text (task.Samples setup)) fault before after old new
 TaskStops (task.SamplesRaw setup) fault before after old new = StopsLate (task_text (task.SamplesRaw setup)) fault before after old new
 
--- how many entries are kept of an instance by `--keep`: the last so many, or all
+-- how many entries are kept of an instance by `--keep`: the last n, or all
 abbrev pub history_of : ℕ → History
 history_of n = if n == 0 then KeepAll else KeepLast n
 

@@ -74,7 +74,7 @@ fn number_in(matches: &ArgMatches<'_>, name: &str) -> u32
     matches.get_one::<u32>(name).unwrap_or(0)
 }
 
-/// A number of readers, workers or datagrams, of which there are at most so many. clap refuses a
+/// A number of readers, workers or datagrams, of which there are at most `most`. clap refuses a
 /// line with another number than 1 to the greatest, but what its contract says of a value that was
 /// found doesn't repeat that. So it is tested here, for all that is built on it; the arm of other
 /// numbers is never taken.

@@ -56,7 +56,7 @@ fn take_by_ranks<C: Catalog, A: Allocator + Copy>(
     Ok(())
 }
 
-/// Gives each change of what is known to the reader that hears of it, one after the other.
+/// Gives each change of a match to its reader, one after the other.
 fn take_changes<C: Catalog, A: Allocator + Copy>(
     readers: &mut Readers<C, A>,
     alloc: A,
@@ -82,7 +82,7 @@ fn take_changes<C: Catalog, A: Allocator + Copy>(
     Ok(())
 }
 
-/// The changes by the rank of the reader that hears of them, and those of one rank in the order in
+/// The changes by the rank of their readers, and those of one rank in the order in
 /// which they came.
 fn by_rank<A: Allocator + Copy>(
     mut changes: Vec<MatchChange<A>, A>,

@@ -57,7 +57,7 @@ all_merged text f given count rising said notices answers =
     places_merged text parts count given.places.items [] 0 (starts count) (subst AreRising whole rising)
     (subst (λ ps. AreLeft parts count ps 0 (starts count)) whole left)
 
--- what workers spelled are the lines of a batch
+-- what workers formatted are the lines of a batch
 pub shared_lines : {C V M : Type 0} (text : C → M → List ℕ) (f : V → M) (given : Given V) (k catalog : C) (readers count : ℕ) → k ≡ catalog → readers ≡ count → AreByPlace f given
     → merged_lines (text k) f given readers given.places.items ≡ all_lines (text catalog) f given count
 shared_lines text f given k catalog readers count same counted by =

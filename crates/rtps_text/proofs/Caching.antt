@@ -24,7 +24,7 @@ use Rattle.rtps_text.specs.Entries.{all_taken, any_entry, cache_lines, entry_lin
 use Rattle.rtps_text.proofs.Run.{Printed, front_more, printed_front, printed_more}
 use Rattle.rtps_text.proofs.Viewing.{taken_same}
 
--- as many entries are kept as there are
+-- all entries are kept
 pub as_many : {V : Type 0} (c : CacheView V) (past : List _) → shelf.StandsAt past c → length c.entries ≡ length (cached c.keep past).entries
 as_many c past stands = sym (length-map c.entries (λ e. e.1)) ∙ ap length stands.entries
 

@@ -44,7 +44,7 @@ failures-append (Exhausted ∷ xs) ys = failures-append xs ys
 failures-append (Failed ∷ xs) ys = omega (arith, failures-append xs ys)
 failures-append (Sent to o ∷ xs) ys = failures-append xs ys
 
--- these datagrams were received and these were sent, with so many waits and failures
+-- these datagrams were received and these were sent, with n waits and m failures
 pub record Comes (calls : List Traffic) (datagrams : List (List ℕ))
     (sends : List (Locator × List ℕ)) (waited failed : ℕ) : Type 0 where
   pub received : received_in calls ≡ datagrams

@@ -59,7 +59,7 @@ pub due_next : {V M : Type 0} (text : M → List ℕ) (f : V → M) (texts : Lis
 due_next text f texts given readers due d old new kept here m =
     subst (λ l. Moves old new (kept ++ l) (here ++ all_lines text f given readers)) (sym d.is) (moves_more old new kept d.made here (all_lines text f given readers) m)
 
--- and the lines were spelled
+-- and the lines were formatted
 pub due_spelled : {V M : Type 0} (text : M → List ℕ) (f : V → M) (texts : List (Result (Vec ℕ Global) AllocError)) (given : Given V) (readers : ℕ) (due : List ℕ) (d : IsDue text f texts given readers due) (old new : Option (List ℕ)) (kept here : List ℕ)
     → (made : List (Result (Vec ℕ Global) AllocError)) → Moves old new (kept ++ d.made) here → AreTexts made (all_lines text f given readers) → MovesBefore old new (kept ++ due) here made
 due_spelled text f texts given readers due d old new kept here made m are =
@@ -71,7 +71,7 @@ pub due_begun : {V M : Type 0} (text : M → List ℕ) (f : V → M) (texts : Li
 due_begun text f texts given readers due d old new kept p =
     subst (PutsFront old new) (append_assoc kept d.made (all_lines text f given readers) ∙ ap (λ l. kept ++ l) (sym d.is)) (front_longer old new (kept ++ d.made) (all_lines text f given readers) p)
 
--- what workers spelled of lists that a batch gave are its lines
+-- what workers formatted of lists that a batch gave are its lines
 pub spelled_lines : {C V M : Type 0} (text : C → M → List ℕ) (f : V → M) (texts : List (Result (Vec ℕ Global) AllocError)) (given here : Given V) (k catalog : C) (readers count : ℕ) → k ≡ catalog → here ≡ given → readers ≡ count → AreByPlace f given
     → (AreByPlace f here → AreTexts texts (merged_lines (text k) f here readers here.places.items)) → AreTexts texts (all_lines (text catalog) f given count)
 spelled_lines {V = V} text f texts given here k catalog readers count same is counted by are =
@@ -83,7 +83,7 @@ pub due_same : {V M : Type 0} (text : M → List ℕ) (f : V → M) (texts those
 due_same {V} text f texts those given these readers due same is d =
     subst (λ (x : Given V). IsDue text f those x readers due) (sym is) (subst (λ (ts : List (Result (Vec ℕ Global) AllocError)). IsDue text f ts given readers due) (sym same) d)
 
--- what a batch gave is due after what was spelled, by whichever catalog and number of readers are the run's own
+-- what a batch gave is due after what was formatted, by whichever catalog and number of readers are the run's own
 pub due_more : {C V M : Type 0} (text : C → M → List ℕ) (f : V → M) (decoding : C → Decoding M) (first here old new : Option (List ℕ)) (n : ℕ) (next : EngineView C) (given : Given V) (left made : List ℕ) (k : C) (readers : ℕ)
     → Progress (λ records said. HasSaid text decoding records said next) first here old new n ((left ++ made) ++ all_lines (text next.catalog) f given (length next.statuses))
     → next.catalog ≡ k → length next.config.readers.items ≡ readers

@@ -182,7 +182,7 @@ part_none {V} {M} f text given place c outputs out same test =
 
 -- ---- all readers
 
--- the first so many cursors were moved, and the others are as they were
+-- the first n cursors were moved, and the others are as they were
 pub record AreMoved {M : Type 0} (parts : Parts M) (place : Place) (whole cursors : List Cursor) (i : ℕ) : Type 0 where
   pub count : length cursors ≡ length whole
   pub front : take i cursors ≡ map (cursor_after parts place) (take i whole)

@@ -36,7 +36,7 @@ use Rattle.rtps_text.proofs.Run.{Printed, printed_front, printed_more}
 
 -- ---- the caches
 
--- nothing was told, and nothing was accepted
+-- nothing was reported, and nothing was accepted
 pub kept_first : {C V M : Type 0} (f : V → M) (decoding : C → Decoding M) (history : History) (engine : EngineView C) (caches : List (CacheView V)) (readers : ℕ)
     → StandsAt decoding [] engine → readers ≡ length engine.statuses → length caches ≡ readers → All (IsEmpty history) caches → AreKept f decoding history [] engine caches
 kept_first f decoding history engine caches readers stands counted count empty = record {
@@ -99,7 +99,7 @@ kept_more {C} {V} {M} f decoding history records batch before after given caches
 
 -- ---- the run so far
 
--- nothing was said, and the caches have what the readers were told
+-- nothing was said, and the caches have what the readers reported
 abbrev pub IsSilent : {C V M : Type 0} → (V → M) → (C → Decoding M) → History → EngineView C → List (CacheView V) → List (List ℕ) → List ℕ → Type 0
 IsSilent f decoding history engine caches records said = (said ≡ []) × AreKept f decoding history records engine caches
 

@@ -277,7 +277,7 @@ merged-append parts count (p ∷ ps) qs =
 size_more : (size n : ℕ) → suc n * size ≡ size + n * size
 size_more size n = omega (arith, suc-mul n size)
 
--- slices of one size, as many as there are to the places, are all of them
+-- slices of one size, up to the last place, are all of the places
 pub all_cut : (size : ℕ) (slices : List Slice) (places : List Place) → ((n : ℕ) (d : Slice) → n < length slices → (slice_index_or slices n d).places.now ≡ take size (drop (n * size) places))
     → length places ≤ length slices * size → flat_map (λ (s : Slice). s.places.now) slices ≡ places
 all_cut size [] [] each few = refl

@@ -29,14 +29,14 @@ pub record HasHeard {V M : Type 0} (f : V → M) (history : History) (told : Lis
   pub means : map (notice_view f) heard ≡ told
   pub stands : shelf.StandsAt (accepted_after [] heard) cache
 
--- the cache of each rank accepted what the reader of the rank was told
+-- the cache of each rank accepted what the reader of the rank reported
 abbrev pub AllHeard : {V M : Type 0} → (V → M) → History → List (ReportView M) → List (CacheView V) → Type 0
 AllHeard {V} f keep put caches =
     (rank : ℕ) (other : CacheView V) → rank < length caches
     → HasHeard f keep (notices_by rank put) (slice_index_or caches rank other)
 
 -- an engine stands at these records, and there is a cache for each reader, which accepted what the
--- reader was told
+-- reader reported
 pub record AreKept {C V M : Type 0} (f : V → M) (decoding : C → Decoding M) (keep : History)
     (records : List (List ℕ)) (engine : EngineView C) (caches : List (CacheView V)) : Type 0 where
   pub stands : StandsAt decoding records engine

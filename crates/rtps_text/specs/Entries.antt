@@ -23,11 +23,11 @@ use Rattle.rtps_lines.specs.Entry.{entry_line}
 abbrev pub any_entry : Condition
 any_entry = record { not_read = false; new = false; alive = false }
 
--- one take of as many entries as there are (DDS 1.4, 2.2.2.5.3.9)
+-- one take of all entries (DDS 1.4, 2.2.2.5.3.9)
 abbrev pub all_taken : {M : Type 0} → History → List (Done M) → List (Sample M)
 all_taken keep past = answered keep past (length (cached keep past).entries) any_entry
 
--- the lines of the reader of a rank that was told these notices
+-- the lines of the reader of a rank that reported these notices
 abbrev pub cache_lines : {M : Type 0} → (M → List ℕ) → History → ℕ → List (Notice M) → List ℕ
 cache_lines text keep rank told =
     flat_map (entry_line text rank) (all_taken keep (accepted_after [] told))

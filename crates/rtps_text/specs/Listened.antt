@@ -35,7 +35,7 @@ pub record Limits : Type 0 where
   pub datagrams : ℕ
   pub turns : ℕ
 
--- so many of them
+-- the limits by their numbers
 abbrev pub limits_of : ℕ → ℕ → Limits
 limits_of datagrams turns = record { datagrams = datagrams; turns = turns }
 
@@ -46,7 +46,7 @@ IsDrained calls =
     (calls ≡ []) ⊎ ((past : List Traffic) × (sends : List (Locator × List ℕ))
     × (calls ≡ past ++ Exhausted ∷ sendings sends))
 
--- the run came to its end: as many datagrams came as were asked for; or as many turns passed, and
+-- the run came to its end: the datagrams that were asked for came; or the turns passed, and
 -- all that came was received
 abbrev pub IsOver : Limits → List Traffic → Type 0
 IsOver limits calls =

@@ -15,7 +15,7 @@ use Rattle.rtps_text.specs.Replayed.{HasSaid}
 use Rattle.rtps_text.specs.Sending.{sends_of}
 use Rattle.rtps_text.specs.declared.live.Live.{Live}
 
--- its values are spelled by its own catalog, the lines of all of its readers are printed, no text
+-- its values are formatted by its own catalog, the lines of all of its readers are printed, no text
 -- is kept back, and no reader has an outlet
 pub record IsLive {C V U : Type 0} (live : Live C V U) : Type 0 where
   pub own : live.printer.catalog.now ≡ live.run.participant.engine.catalog
@@ -44,7 +44,7 @@ IsLast More calls = Unit {0}
 IsLast Drained calls = IsDrained calls
 IsLast Fault calls = Unit {0}
 
--- So many datagrams of the most were received, and as many are left; it was waited so often, and
+-- Some of the most datagrams were received, and the rest are left; it was waited so often, and
 -- the last batch ended so. An engine took the datagrams, their answers were sent, and their lines
 -- were written.
 pub record Listens {C M : Type 0} (text : C → M → List ℕ) (decoding : C → Decoding M)
@@ -76,8 +76,8 @@ GoesOn text decoding before after then now old new end =
     → Listens text decoding first now origin new most after.left waits end
     after.run.participant.engine
 
--- what a run did that stopped at a fault before its end: so many datagrams were received at the
--- most, in so many turns at the most, and a front of their lines was written
+-- what a run did that stopped at a fault before its end: no more datagrams were received than asked
+-- for, in no more turns, and a front of their lines was written
 pub record Stopped (made : LiveRun) (most turns : ℕ) (fault : RunFault)
     (before after : Option (List Traffic)) (old new : Option (List ℕ)) : Type 0 where
   pub calls : List Traffic
@@ -108,7 +108,7 @@ EndsTurns More left waits turns = left ≡ 0
 EndsTurns Drained left waits turns = (left ≡ 0) ⊎ (waits ≡ turns)
 EndsTurns Fault left waits turns = Unit {0}
 
--- so many turns were taken at the most, from the first one on
+-- no more turns were taken than asked for, from the first one on
 pub record TakesTurns {C V U M : Type 0} (text : C → M → List ℕ) (decoding : C → Decoding M)
     (turns : ℕ) (end : ReceiveEnd) (before after : Live C V U) (then now : Option (List Traffic))
     (old new : Option (List ℕ)) : Type 0 where

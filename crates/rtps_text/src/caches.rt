@@ -26,7 +26,7 @@ const ANY: Condition = Condition {
     alive: false,
 };
 
-/// Empty caches of so many readers.
+/// Empty caches for this number of readers.
 pub(crate) fn new_caches<V: Drop>(
     alloc: Global,
     keep: History,

@@ -23,8 +23,8 @@ use std::thread::Threads;
 /// more is received. With `summary` the matches and the status of each reader come at the end, also
 /// where no datagram can be received any more.
 ///
-/// It ends after as many datagrams as the setup says, and after as many waits for some. Before each
-/// wait all that came was received and answered.
+/// It ends after the setup's number of datagrams, and after its number of waits for some. Before
+/// each wait all that came was received and answered.
 ///
 /// [`LiveFault::Socket`] where the network fails, as it waits or receives: what came before is
 /// answered and written, the summary too. [`LiveFault::Run`] with `CannotWrite` where a write
@@ -73,7 +73,7 @@ where
     print_live(rt, live, turns, network, writer)
 }
 
-/// Prints a run that took no datagram yet, over those that are received in so many turns.
+/// Prints a run that took no datagram yet, over those that are received in at most `turns` turns.
 fn print_live<C: TextCatalog, N: Exchange, W: Write, T: Threads + Sync>(
     rt: &T,
     live: Live<'_, C>,

@@ -24,7 +24,7 @@ pub(crate) struct Live<'c, C: TextCatalog> {
     pub printer: Printer<'c, C>,
     /// What was received last.
     batch: Batch,
-    /// What workers spelled of it.
+    /// What workers formatted of it.
     texts: Texts,
     /// How many datagrams may still be received.
     pub left: u32,
@@ -34,8 +34,8 @@ impl<'c, C: TextCatalog> Live<'c, C>
 where
     C::Value: Sync,
 {
-    /// A run that took no datagram yet, and takes so many at the most. Its values are spelled by
-    /// the catalog, which is its own.
+    /// A run that took no datagram yet, and takes `datagrams` at the most. Its values are formatted
+    /// by the catalog, which is its own.
     pub(crate) fn new(
         run: RunLines<C>,
         catalog: &'c C,
@@ -142,7 +142,7 @@ where
         Ok(ReceiveEnd::More)
     }
 
-    /// Waits for datagrams so many times at the most, and takes each time all that have come.
+    /// Waits for datagrams `turns` times at the most, and takes each time all that have come.
     pub(crate) fn take_turns<N: Exchange, W: Write, T: Threads + Sync>(
         &mut self,
         rt: &T,

@@ -1,4 +1,4 @@
-//! What prints a run: what a batch gives is spelled, and what was spelled is written.
+//! What prints a run: what a batch gives is formatted, and what was formatted is written.
 
 ghost use Rattle.std.specs.Prelude.{◌≡◌, ◌≢◌, ◌≤◌, ◌⊎◌, ◌++◌, [], IfErr, IfOk, List, OnErr, OnOk, Option, length, ℕ};
 ghost use Rattle.std.specs.List.{AllByRecursion};
@@ -29,20 +29,20 @@ use std::io::{Read, Write};
 use std::mem;
 use std::thread::Threads;
 
-/// Prints what a run gives, a batch after the run: while the run takes a batch, workers spell what
-/// the batch before gave, what they spelled of the one before that is written, and the next batch
+/// Prints what a run gives, a batch after the run: while the run takes a batch, workers format what
+/// the batch before gave, what they formatted of the one before that is written, and the next batch
 /// is read.
 #[derive(Drop)]
 pub(crate) struct Printer<'c, C: TextCatalog> {
-    /// How values are spelled.
+    /// How values are formatted.
     pub catalog: &'c C,
     /// How many readers there are.
     pub readers: u32,
-    /// What workers spell while the next batch is run. Its lists serve for the batch after that.
+    /// What workers format while the next batch is run. Its lists serve for the batch after that.
     given: Given<C::Value>,
-    /// What the last line began with that was spelled on this thread.
+    /// What the last line began with that was formatted on this thread.
     last: LastLine,
-    /// How many workers spell what a batch gave.
+    /// How many workers format what a batch gave.
     pace: Pace,
     /// Where texts are made.
     alloc: Global,
@@ -52,7 +52,7 @@ impl<'c, C: TextCatalog> Printer<'c, C>
 where
     C::Value: Sync,
 {
-    /// What prints this run, whose values are spelled by the catalog. Nothing was printed.
+    /// What prints this run, whose values are formatted by the catalog. Nothing was printed.
     pub(crate) fn new(catalog: &'c C, run: &RunLines<C>) -> Printer<'c, C>
         ensures catalog { result.catalog.now ≡ catalog.now }
         ensures readers { result.readers ≡ length run.now.participant.engine.statuses }
@@ -68,11 +68,11 @@ where
     }
 
     /// Prints what a run gave last, while the run takes the batch that was read before its turn and
-    /// the next one is read. Where several workers spell what the run gave, their texts are kept:
+    /// the next one is read. Where several workers format what the run gave, their texts are kept:
     /// they are to be written after the lines.
     ///
-    /// `CannotWrite` where a write fails, and `NoMemory`; a front of what was to be printed may have
-    /// been written then.
+    /// `CannotWrite` where a write fails, and `NoMemory`; a front of what was to be printed may
+    /// have been written then.
     pub(crate) fn print_and_take<R: Read + Send, W: Write + Send, T: Threads + Sync>(
         &mut self,
         rt: &T,
@@ -119,11 +119,11 @@ where
         Ok(run)
     }
 
-    /// Adds what a run gave last to the lines, after what was spelled before, and writes them as
+    /// Adds what a run gave last to the lines, after what was formatted before, and writes them as
     /// they fill. Then no text is left.
     ///
-    /// `CannotWrite` where a write fails, and `NoMemory`; a front of what was to be printed may have
-    /// been written then.
+    /// `CannotWrite` where a write fails, and `NoMemory`; a front of what was to be printed may
+    /// have been written then.
     pub(crate) fn print_last<W: Write, T: Threads + Sync>(
         &mut self,
         rt: &T,
@@ -155,15 +155,15 @@ where
         texts.write(lines)
     }
 
-    /// How many workers spell what a batch gave.
+    /// How many workers format what a batch gave.
     fn workers(&self, given: &Given<C::Value>) -> usize
         ensures { 1 ≤ result }
     {
         self.pace.workers_for(given.places.len(), self.readers)
     }
 
-    /// Has a thread of its own run a batch, and workers spell what the run gave before, while texts
-    /// are written and the next batch is read.
+    /// Has a thread of its own run a batch, and workers format what the run gave before, while
+    /// texts are written and the next batch is read.
     fn spell_and_take<R: Read + Send, W: Write + Send, T: Threads + Sync>(
         &mut self,
         rt: &T,
@@ -236,7 +236,7 @@ where
         Ok(taken?)
     }
 
-    /// How lists that a batch gave are spelled.
+    /// How lists that a batch gave are formatted.
     fn spelling<'g>(&self, given: &'g Given<C::Value>) -> Spelling<'g, C>
     where
         'c: 'g,

@@ -61,7 +61,7 @@ fn add_text(whole: &mut Vec<u8>, text: &mut Vec<u8>) -> Result<(), AllocError>
     whole.append(text)
 }
 
-/// Keeps a text for its memory. Where the list of such texts finds no room it is let go.
+/// Keeps a buffer for reuse, or drops it where the list of such buffers finds no room.
 fn keep(spare: &mut Vec<Vec<u8>>, text: Vec<u8>) {
     let _kept = spare.push(text);
 }

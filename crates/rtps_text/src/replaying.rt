@@ -26,9 +26,9 @@ use std::thread::Threads;
 ///
 /// The file is never held as a whole: the records of two batches, 1 MiB each at the most, what two
 /// give and the texts of two are. Where there are several workers, half of them run a batch while
-/// the others spell what the one before gave, what was spelled of the one before that is written,
-/// and the next one is read; so a write may fail after three batches more were read than the text
-/// has.
+/// the others format what the one before gave, what was formatted of the one before that is
+/// written, and the next one is read; so a write may fail after three batches more were read than
+/// the text has.
 pub fn replay<C: TextCatalog, R: Read + Send, W: Write + Send, T: Threads + Sync>(
     rt: &T,
     alloc: Global,
@@ -97,7 +97,7 @@ where
     )
 }
 
-/// Reads the next batch of records into room that is lent, and runs it.
+/// Reads the next batch of records into `room`, and runs it.
 pub(crate) fn run_batch<C: TextCatalog, R: Read, T: Threads + Sync>(
     rt: &T,
     run: &mut RunLines<C>,

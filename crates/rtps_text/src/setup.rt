@@ -15,8 +15,8 @@ pub struct Pace {
     /// The most datagrams of a batch, 1 to 4,096.
     pub batch: u16,
     /// The most workers that a batch is shared among, 1 to 64. One is the caller; several have a
-    /// thread each. In `replay` half of them run a batch while the others spell the one before, two
-    /// at the least for each where there are several.
+    /// thread each. In `replay` half of them run a batch while the others format the one before,
+    /// two at the least for each where there are several.
     pub workers: u8,
     ghost batched: { 1 ≤ batch },
     ghost few: { batch ≤ 4096 },
@@ -24,11 +24,12 @@ pub struct Pace {
     ghost shared: { workers ≤ 64 },
 }
 
-/// As many steps make one more worker worth its start, counting one for each datagram and reader.
+/// Steps per worker, counting one for each datagram and reader: for fewer a thread costs more than
+/// it does.
 const STEPS: usize = 1_024;
 
 impl Pace {
-    /// The pace of a run beside which as many workers spell: half of the workers, but two at the
+    /// The pace of a run beside which other workers format: half of the workers, but two at the
     /// least where there are several.
     pub(crate) fn halved(self) -> Pace
         ensures { result.batch ≡ self.batch }
@@ -39,7 +40,8 @@ impl Pace {
         }
     }
 
-    /// How many workers run or print so many datagrams or places for so many readers.
+    /// How many workers run or print this number of datagrams or places, for this number of
+    /// readers.
     pub(crate) fn workers_for(&self, datagrams: usize, readers: u32) -> usize
         ensures { (1 ≤ result) × (result ≤ 64) }
     {

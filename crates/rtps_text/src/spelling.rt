@@ -14,7 +14,7 @@ use rtps_types::Place;
 use std::alloc::{AllocError, Global};
 use std::thread::Threads;
 
-/// What a batch gave, and how its values are spelled.
+/// What a batch gave, and how its values are formatted.
 #[derive(Clone, Copy)]
 pub(crate) struct Spelling<'a, C: TextCatalog> {
     pub alloc: Global,
@@ -32,7 +32,7 @@ struct Slice<'a> {
     text: Vec<u8>,
 }
 
-/// The slice of this index, counted from 0, of as many places as there are to one; the last may
+/// The slice of this index, counted from 0, of `size` places each; the last may
 /// have fewer.
 fn slice_at(places: &[Place], size: usize, index: usize) -> &[Place]
     requires { index * size < length places.now }
@@ -107,7 +107,7 @@ where
         Ok(())
     }
 
-    /// The lines of all places, in as many texts as there are workers, or fewer. Each text is made
+    /// The lines of all places, in one text for each worker, or fewer. Each text is made
     /// on a thread of its own where one can be started. Texts that were written lend them their
     /// memory.
     pub(crate) fn texts<T: Threads + Sync>(

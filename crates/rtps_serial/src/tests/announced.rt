@@ -76,7 +76,7 @@ const PARTITION: &str = "29000c00 01000000 02000000";
 /// The end of a parameter list.
 const SENTINEL: &[u8] = &[1, 0, 0, 0];
 
-/// Puts the octets that hex digits spell after the others.
+/// Puts the octets of a text in hex after the others.
 fn push_hex(alloc: Global, octets: &mut Vec<u8>, text: &str) -> Result<(), Fail> {
     for part in text.split_ascii_whitespace() {
         octets.extend_from_slice(hex::decode(alloc, part)?.as_slice())?;

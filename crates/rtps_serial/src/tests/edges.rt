@@ -93,7 +93,7 @@ fn least(alloc: Global) -> Result<bool, Fail> {
     takes_all_lengths(alloc, &mut engine)
 }
 
-/// Whether as many readers as there may be take a change.
+/// Whether the greatest number of readers take a change.
 fn most(alloc: Global) -> Result<bool, Fail> {
     let mut engine = SerialEngine::new(alloc, most_readers(alloc)?, Shapes)?;
     presents_to_the_last(alloc, &mut engine)

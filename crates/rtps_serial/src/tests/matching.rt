@@ -85,7 +85,7 @@ pub(super) fn meets(
     Ok(true)
 }
 
-/// The status of a reader that had so many matches, has so many of them now, and presented so many
+/// The status of a reader by its matches so far, its matches now, and the number of its
 /// samples.
 pub(super) fn status(matched_total: u32, matched_now: u64, samples: u32) -> Option<Status> {
     Some(Status {

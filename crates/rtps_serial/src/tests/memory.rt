@@ -27,7 +27,7 @@ fn has_failed<'a>(
         && engine.take_in(heap, octets).err() == Some(EngineError::Failed)
 }
 
-/// What comes of a datagram in a small heap.
+/// The result of a datagram in a small heap.
 #[derive(Clone, Copy, PartialEq, Eq)]
 enum Met {
     /// There was no memory for an engine.
@@ -40,7 +40,7 @@ enum Met {
     Unordered,
 }
 
-/// What comes of a datagram in a heap of this size.
+/// The result of a datagram in a heap of this size.
 fn take_once(alloc: Global, size: usize, config: Config, octets: &[u8]) -> Result<Met, Fail>
     requires { length octets.now ≤ 65507 }
 {

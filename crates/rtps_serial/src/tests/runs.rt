@@ -109,7 +109,7 @@ const IN_FRAGMENTS: [Row; 1] = [(
     ],
 )];
 
-/// The status of a reader with one match that lost so many numbers and presented so many samples.
+/// The status of a reader with one match, by its lost numbers and its samples.
 fn status(lost_total: u32, samples: u32) -> Option<Status> {
     Some(Status {
         matched_total: 1,

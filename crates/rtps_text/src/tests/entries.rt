@@ -93,7 +93,7 @@ fn keeps_all_or_the_last(rt: HostRuntime) -> Result<(), Fail> {
 }
 
 /// Whether the entries of the records before a fault are printed: those of the first record, and
-/// the octets behind it are a part of the second.
+/// the octets after it are a part of the second.
 fn keeps_before<T: Threads + Sync>(
     rt: &T,
     alloc: Global,
@@ -130,7 +130,7 @@ fn keeps_the_records_before_a_fault(rt: HostRuntime) -> Result<(), Fail> {
     Ok(())
 }
 
-/// Takes one octet a call, and fails behind so many.
+/// Takes one octet a call, and fails after `room` of them.
 #[derive(Drop)]
 pub(super) struct Slow {
     pub(super) taken: Vec<u8>,
@@ -152,7 +152,8 @@ impl Write for Slow {
     }
 }
 
-/// Whether a writer that takes so many octets, one a call, is given all of a text or a front of it.
+/// Whether a writer that takes this many octets, one a call, is given all of a text or a front of
+/// it.
 fn writes_slowly<T: Threads + Sync>(rt: &T, alloc: Global, most: usize) -> Result<bool, Fail> {
     let file = octets(alloc, &FILE)?;
     let text = text(alloc, &LAST)?;

@@ -28,7 +28,7 @@ enum After {
     ReceiveFails,
 }
 
-/// A network to which these datagrams come, so many with each wait.
+/// A network to which these datagrams come, a number of them with each wait.
 #[derive(Drop)]
 struct Wire<'a> {
     datagrams: &'a [&'a [u8]],

@@ -181,7 +181,7 @@ fn prints_all<T: Threads + Sync>(
     }
 }
 
-/// Whether these readers print all of a file with so many values, however the run is cut and
+/// Whether these readers print all of a file with this many values, however the run is cut and
 /// shared; and a front of it, and `NoMemory`, where one of the values finds no memory.
 pub(super) fn prints_and_refuses<T: Threads + Sync>(
     rt: &T,
