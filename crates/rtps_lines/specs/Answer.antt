@@ -1,9 +1,10 @@
 -- The line of an answering datagram (DDSI-RTPS 8.3.7.1, 8.3.7.11).
 use Rattle.std.specs.Prelude.{ℕ, List, ◌++◌, codes}
+use Rattle.rtps_types.specs.NumberText.{place_text}
 use Rattle.rtps_types.specs.declared.locator.Locator.{Locator}
 use Rattle.rtps_types.specs.declared.place.Place.{Place}
 use Rattle.rtps_ascii.specs.Hex.{hex_text}
-use Rattle.rtps_lines.specs.Line.{◌then◌, place_text}
+use Rattle.rtps_lines.specs.Line.{◌then◌}
 use Rattle.rtps_lines.specs.Locators.{locators_text}
 
 -- an answer to the event at a place: where it goes, and its octets

@@ -7,3 +7,4 @@ pub mod Notice
 pub mod Locators
 pub mod Answer
 pub mod Summary
+pub mod Shown

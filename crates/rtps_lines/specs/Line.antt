@@ -3,9 +3,9 @@ use Rattle.std.specs.Prelude.{ℕ, List, [], ◌∷◌, ◌++◌, Bool, true, fa
 use Rattle.std.specs.Fmt.{decimal, signed_decimal}
 use Rattle.std.specs.Int.{w32, to_be_bytes}
 use Rattle.rtps_types.specs.declared.identity.KeyHash.{KeyHash}
-use Rattle.rtps_types.specs.declared.place.Place.{Place}
 use Rattle.rtps_types.specs.declared.time.Timestamp.{Timestamp}
 use Rattle.rtps_types.specs.NumberSet.{members}
+use Rattle.rtps_types.specs.NumberText.{place_text}
 use Rattle.rtps_wire.specs.declared.data.Form.{Form}
 use Rattle.rtps_wire.specs.declared.data.Form.TheVariants.{Value, Key, Other, Nothing}
 use Rattle.rtps_receiver.specs.EventBody.{HeartbeatView, HeartbeatFragView, EventBody, WholeView, FragmentView, GapView, Whole, Fragment, Heartbeat, Gap, HeartbeatFrag}
@@ -16,10 +16,6 @@ use Rattle.rtps_ascii.specs.Hex.{hex_text}
 infixr 10 ◌then◌
 abbrev pub ◌then◌ : List ℕ → List ℕ → List ℕ
 a then b = a ++ (codes " " ++ b)
-
--- the number of a datagram and that of a submessage in it, with a colon between
-abbrev pub place_text : Place → List ℕ
-place_text p = decimal p.datagram ++ (codes ":" ++ decimal p.submessage)
 
 -- eight digits of seconds, a dot, eight of the fraction; a dash for no time
 abbrev pub time_text : Option Timestamp → List ℕ

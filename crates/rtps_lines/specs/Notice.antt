@@ -1,13 +1,14 @@
 -- The line of a notice: what a reader reports of a match (DDS 1.4, 2.2.4.1).
 use Rattle.std.specs.Prelude.{ℕ, List, ◌++◌, codes}
 use Rattle.std.specs.Fmt.{decimal}
+use Rattle.rtps_types.specs.NumberText.{place_text}
 use Rattle.rtps_types.specs.declared.identity.Guid.{Guid}
 use Rattle.rtps_types.specs.Number.{value_of}
 use Rattle.rtps_types.specs.Policy.{policy_id}
 use Rattle.rtps_reader.specs.declared.notice.Notice.{Notice}
 use Rattle.rtps_reader.specs.declared.notice.NoticeKind.{NoticeKind}
 use Rattle.rtps_reader.specs.declared.notice.NoticeKind.TheVariants.{Sample, Matched, Unmatched, Incompatible, Lost}
-use Rattle.rtps_lines.specs.Line.{◌then◌, place_text, time_text}
+use Rattle.rtps_lines.specs.Line.{◌then◌, time_text}
 use Rattle.rtps_lines.specs.Guid.{guid_text}
 use Rattle.rtps_lines.specs.Sample.{sample_text}
 

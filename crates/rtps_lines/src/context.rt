@@ -4,8 +4,9 @@ ghost use Rattle.std.specs.Prelude.{◌≡◌, ◌++◌, OnOk, length};
 ghost use Rattle.std.specs.Io.{StartsWith};
 ghost use Rattle.std.specs.Int.{w32, to_be_bytes};
 ghost use Rattle.rtps_ascii.specs.Hex.{hex_text};
+ghost use Rattle.rtps_types.specs.NumberText.{place_text};
 ghost use Rattle.rtps_receiver.specs.Events.{view};
-ghost use Rattle.rtps_lines.specs.Line.{context_text, place_text, time_text};
+ghost use Rattle.rtps_lines.specs.Line.{context_text, time_text};
 
 use rtps_ascii::{push_hex_array, push_number, push_octet};
 use rtps_receiver::Event;

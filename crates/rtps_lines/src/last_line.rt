@@ -5,8 +5,9 @@ ghost use Rattle.std.specs.Prelude.{◌≡◌, ◌++◌, OnOk};
 ghost use Rattle.std.specs.Io.{StartsWith};
 ghost use Rattle.std.specs.Option.{ForSome};
 ghost use Rattle.std.specs.Fmt.{decimal};
+ghost use Rattle.rtps_types.specs.NumberText.{place_text};
 ghost use Rattle.rtps_types.specs.Number.{value_of};
-ghost use Rattle.rtps_lines.specs.Line.{◌then◌, place_text, time_text};
+ghost use Rattle.rtps_lines.specs.Line.{◌then◌, time_text};
 ghost use Rattle.rtps_lines.specs.Guid.{guid_text};
 
 use crate::context::{push_place, push_time};

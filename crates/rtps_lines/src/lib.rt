@@ -8,6 +8,7 @@ mod entry;
 mod event_lines;
 mod guid;
 mod last_line;
+pub mod laws;
 mod line;
 mod locators;
 mod notice;

@@ -48,7 +48,7 @@ impl<C: Catalog, A: Allocator + Copy> Readers<C, A> {
         &mut self,
         alloc: A,
         rank: u32,
-        step: &Step<'_>,
+        step: &Step<'_, A>,
         reports: &mut Vec<Report<C::Value, A>, A>,
     ) -> Result<(), AllocError>
         ensures same { self.new.decoder ≡ self.old.decoder }

@@ -1,7 +1,8 @@
 use Rattle.std.proofs.lemmas.Result.{on_ok_weaker}
 use Rattle.std.specs.Prelude.{codes, ◌∷◌, []}
 use Rattle.rtps_ascii.specs.Hex.{hex_text}
-use Rattle.rtps_lines.specs.Line.{place_text, time_text}
+use Rattle.rtps_types.specs.NumberText.{place_text}
+use Rattle.rtps_lines.specs.Line.{time_text}
 use Rattle.rtps_ascii.proofs.Appended.{added_is_joined}
 use Rattle.rtps_lines.proofs.context.push_context.Goals as goal
 
