@@ -28,7 +28,7 @@ use Rattle.rtps_planner.proofs.Merged.{by_places}
 use Rattle.dds_participant.specs.Batch.{shares_in}
 use Rattle.dds_participant.specs.Given.{AreAnswersAlong, AreNoticesAlong, IsGiven, parts_given, told_in}
 use Rattle.dds_participant.specs.declared.given.Given.{Given}
-use Rattle.dds_participant.specs.declared.readers.Parted.{Parted}
+use Rattle.dds_participant.specs.declared.readers.Readers.{Readers}
 use Rattle.dds_participant.specs.Sharing.{AreRun}
 
 -- ---- what is given by a rank
@@ -82,7 +82,7 @@ no_answers (p ∷ ps) = no_answers ps
 
 -- ---- what the jobs of a batch give
 
-module _ {V M : Type 0} (f : V → M) (decoding : Decoding M) (w : World M) (es : List EventView) (up : PlacesRise es) (plan : Plan Global) (kept : HeldView) (old : List ReaderView) (p : Parted V) (given : Given V)
+module _ {V M : Type 0} (f : V → M) (decoding : Decoding M) (w : World M) (es : List EventView) (up : PlacesRise es) (plan : Plan Global) (kept : HeldView) (old : List ReaderView) (p : Readers V) (given : Given V)
     (planned : IsPlan w.known es plan kept) (ran : AreRun f decoding (shares_in w es) old p) (total : length given.outputs.items ≡ reader_count w)
     (placed : given.places.items ≡ map (λ (e : EventView). e.place) es) (said : given.answers.items ≡ plan.rest.answers.items) (put : given.outputs.items ≡ p.outputs.items) where
   abbrev places : List Place
@@ -137,7 +137,7 @@ module _ {V M : Type 0} (f : V → M) (decoding : Decoding M) (w : World M) (es 
     answers = sent_by_place;
   }
 
-pub run_gives : {V M : Type 0} (f : V → M) (decoding : Decoding M) (w : World M) (es : List EventView) (own : GuidPrefix) (index : ℕ) (datagrams : List (List ℕ)) (plan : Plan Global) (kept : HeldView) (old : List ReaderView) (p : Parted V) (given : Given V)
+pub run_gives : {V M : Type 0} (f : V → M) (decoding : Decoding M) (w : World M) (es : List EventView) (own : GuidPrefix) (index : ℕ) (datagrams : List (List ℕ)) (plan : Plan Global) (kept : HeldView) (old : List ReaderView) (p : Readers V) (given : Given V)
     → es ≡ events_from own index datagrams → IsPlan w.known es plan kept → AreRun f decoding (shares_in w es) old p → length given.outputs.items ≡ reader_count w
     → given.places.items ≡ map (λ (e : EventView). e.place) es → given.answers.items ≡ plan.rest.answers.items → given.outputs.items ≡ p.outputs.items
     → IsGiven f w (world_run decoding w (events_from own index datagrams)) given

@@ -1,4 +1,3 @@
-mod Numbers
 mod Pairing
 mod Returned
 mod Taken

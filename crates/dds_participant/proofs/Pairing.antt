@@ -1,23 +1,21 @@
--- Jobs and the states of their readers, from the last rank down.
-use Rattle.std.proofs.Common.{◌≡◌, ℕ, zero, suc, ◌+◌, ◌-◌, ◌<◌, ◌==◌, List, [], ◌∷◌, ◌++◌, length, map, All, Global, get_or, false, true≢false, refl, sym, ap, ◌∙◌, subst, arith, append_assoc, append-nil, length-append}
-use Rattle.std.specs.List.Sorted.{IsPermutation}
+-- Jobs and their readers, from the last rank down.
+use Rattle.std.proofs.Common.{◌≡◌, Option, Some, None, MatchOption, option_to_list, ℕ, zero, suc, ◌+◌, ◌-◌, ◌<◌, ◌==◌, List, [], ◌∷◌, ◌++◌, length, map, All, Global, get_or, false, true≢false, refl, sym, ap, ◌∙◌, subst, arith, append_assoc, append-nil, length-append}
 use Rattle.std.proofs.Math.Seq.{get_or-append_seam}
 use Rattle.std.proofs.lemmas.Bool.{eq-eqb}
 use Rattle.std.proofs.lemmas.List.{append_cancel_right, get_or-map, get_or_append_left, length-map, map_push}
 use Rattle.std.proofs.lemmas.List.Elements.{All-append, All-cons, All-nil}
-use Rattle.std.proofs.lemmas.List.Sorted.{IsPermutation-append_right, IsPermutation-middle, IsPermutation-sym, IsPermutation-to_front, IsPermutation-trans}
 use Rattle.rtps_receiver.specs.Events.{EventView}
 use Rattle.dds_topic.specs.Decoding.{Decoding}
+use Rattle.rtps_reader.specs.declared.notice.Output.{Output}
 use Rattle.rtps_reader.specs.Notices.{answer_view, notice_view}
 use Rattle.rtps_reader.specs.Standing.{ReaderView}
 use Rattle.rtps_run.specs.Standing.{StandsFor}
 use Rattle.rtps_planner.specs.declared.jobs.Job as plan_job
 use Rattle.rtps_planner.specs.Job.{Job, job_sent, job_told}
 use Rattle.rtps_planner.specs.Plan.{job_at, job_seen, jobs_by, steps_seen}
-use Rattle.rtps_shards.specs.declared.jobs.JobResult.{JobResult}
 use Rattle.rtps_shards.specs.declared.jobs.Posted.{Posted}
-use Rattle.rtps_shards.specs.Results.{IsDone, IsReady, Share, given_done, reader_done}
-use Rattle.dds_participant.specs.Sharing.{AllShare}
+use Rattle.rtps_shards.specs.Results.{IsOutput, IsReady, Share, given_done, reader_done}
+use Rattle.dds_participant.specs.Sharing.{IsAsked}
 
 -- ---- the last of a list
 
@@ -103,55 +101,24 @@ job_none {A} es asked n jobs last planned = by_asked (asked n) refl
         ∙ get_or-append_seam (jobs_by asked n) (n, s ∷ ss) [] (n, s ∷ ss) in
         absurd (true≢false (sym (eq-eqb _ _ (ap (λ (p : ℕ × Job). p.0) here)) ∙ last other less))
 
--- ---- states by rank
-
-pub share_last : {M : Type 0} (shares : ℕ → Share M) (states front : List ReaderView) (s : ReaderView) → states ≡ front ++ s ∷ [] → AllShare shares states
-    → StandsFor (shares (length front)).reader (shares (length front)).given (length front) s
-share_last shares states front s is all =
-    subst (StandsFor (shares (length front)).reader (shares (length front)).given (length front))
-    (ap (λ l. get_or l (length front) s) is ∙ get_or-append_seam front s [] s)
-    (all (length front) s (omega (arith, ap length is, length-append front (s ∷ []))))
-
-pub share_front : {M : Type 0} (shares : ℕ → Share M) (states front : List ReaderView) (s : ReaderView) → states ≡ front ++ s ∷ [] → AllShare shares states → AllShare shares front
-share_front shares states front s is all rank other below =
-    subst (StandsFor (shares rank).reader (shares rank).given rank)
-    (ap (λ l. get_or l rank other) is ∙ get_or_append_left front (s ∷ []) other rank below)
-    (all rank other (omega (arith, below, ap length is, length-append front (s ∷ []))))
+-- ---- readers by rank
 
 -- a reader without a job is as one whose job is done
-pub idle_done : {V M : Type 0} (f : V → M) (decoding : Decoding M) (shares : ℕ → Share M) (rank : ℕ) (s : ReaderView) (x : JobResult V) → (shares rank).job ≡ [] → StandsFor (shares rank).reader (shares rank).given rank s
-    → x.rank ≡ s.rank → x.state ≡ s → x.output.notices.items ≡ [] → x.output.answers.items ≡ [] → IsDone f decoding shares x
-idle_done {V} {M} f decoding shares rank s x none stands ranked is told sent =
-    let here : x.rank ≡ rank = ranked ∙ stands.ranked in
-    let idle : (shares x.rank).job ≡ [] = ap (λ n. (shares n).job) here ∙ none in
-    record {
-      state = subst (λ n. StandsFor (reader_done (shares n)) (given_done decoding (shares n)) n x.state) (sym here)
-          (subst (StandsFor (reader_done (shares rank)) (given_done decoding (shares rank)) rank) (sym is) (by_job (shares rank) none stands));
-      told = ap (map (notice_view f)) told ∙ ap (job_told decoding (shares x.rank).reader) (sym idle);
-      sent = ap (map answer_view) sent ∙ ap (job_sent (shares x.rank).reader) (sym idle);
-    }
-  where
-    by_job : (w : Share M) → w.job ≡ [] → StandsFor w.reader w.given rank s → StandsFor (reader_done w) (given_done decoding w) rank s
-    by_job w e h = rw (e, append-nil w.given) h
+pub idle_done : {V M : Type 0} (f : V → M) (decoding : Decoding M) (s : Share M) (rank : ℕ) (state : ReaderView) (o : Output V Global) → s.job ≡ [] → StandsFor s.reader s.given rank state
+    → o.notices.items ≡ [] → o.answers.items ≡ [] → StandsFor (reader_done s) (given_done decoding s) rank state × IsOutput f decoding s o
+idle_done f decoding s rank state o none stands told sent = (
+  rw (none, append-nil s.given) stands,
+  record { told = ap (map (notice_view f)) told ∙ ap (job_told decoding s.reader) (sym none); sent = ap (map answer_view) sent ∙ ap (job_sent s.reader) (sym none) },
+)
 
--- one rank moved from what is left to one of two lists
-pub ranks_moved : (all left rest more : List ℕ) (rank : ℕ) → left ≡ rest ++ rank ∷ [] → IsPermutation all (left ++ more) → IsPermutation all (rest ++ rank ∷ more)
-ranks_moved all left rest more rank is same = subst (IsPermutation all) (ap (λ l. l ++ more) is ∙ append_assoc rest (rank ∷ []) more) same
-
-pub to_work : (all front work idle : List ℕ) (rank : ℕ) → IsPermutation all (front ++ rank ∷ (work ++ idle)) → IsPermutation all (front ++ ((work ++ rank ∷ []) ++ idle))
-to_work all front work idle rank same =
-    IsPermutation-trans _ _ _ same
-    (IsPermutation-append_right front _ _
-    (subst (IsPermutation (rank ∷ (work ++ idle))) (sym (append_assoc work (rank ∷ []) idle)) (IsPermutation-sym _ _ (IsPermutation-middle work rank idle))))
-
-pub to_idle : (all front work idle : List ℕ) (rank : ℕ) → IsPermutation all (front ++ rank ∷ (work ++ idle)) → IsPermutation all (front ++ (work ++ (idle ++ rank ∷ [])))
-to_idle all front work idle rank same =
-    IsPermutation-trans _ _ _ same
-    (IsPermutation-append_right front _ _
-    (subst (IsPermutation (rank ∷ (work ++ idle))) (append_assoc work idle (rank ∷ [])) (IsPermutation-sym _ _ (IsPermutation-to_front (work ++ idle) rank))))
-
-pub all_but_last : {X : Type 0} (P : X → Type 0) (xs : List X) (x : X) → All P (xs ++ x ∷ []) → All P xs
-all_but_last P xs x all k d below = subst P (get_or_append_left xs (x ∷ []) d k below) (all k d (omega (arith, below, length-append xs (x ∷ []))))
+-- what is asked of the last rank, and the jobs of the others
+pub last_asked : (es : List EventView) (asked : ℕ → Job) (n : ℕ) (jobs rest : List (plan_job.Job Global)) (job : Option (plan_job.Job Global)) → jobs ≡ rest ++ option_to_list job
+    → MatchOption job ((other : plan_job.Job Global) → 0 < length jobs → ((get_or jobs (length jobs - 1) other).rank == n) ≡ false) (λ job. job.rank ≡ n)
+    → map (job_seen es) jobs ≡ jobs_by asked (suc n) → (map (job_seen es) rest ≡ jobs_by asked n) × IsAsked es job (asked n)
+last_asked es asked n jobs rest (Some job) is ranked planned = let last = job_last es asked n jobs rest job is ranked planned in (last.rest, last.steps)
+last_asked es asked n jobs rest None is last planned =
+    let none = job_none es asked n jobs last planned in
+    (ap (map (job_seen es)) (sym (append-nil rest) ∙ sym is) ∙ none.rest, none.none)
 
 -- a job with the state of its reader
 pub ready : {V M : Type 0} (es : List EventView) (shares : ℕ → Share M) (n : ℕ) (w : Posted V) (job : plan_job.Job Global) (state : ReaderView) → w.job ≡ job → w.state ≡ state → job.rank ≡ n

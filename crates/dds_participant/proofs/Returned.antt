@@ -1,141 +1,134 @@
--- The states of the readers, back in their places.
-use Rattle.std.proofs.Common.{◌≡◌, ℕ, ◌+◌, ◌<◌, List, [], ◌∷◌, ◌++◌, length, map, All, IfOk, Result, Ok, Err, Global, get_or, false, refl, sym, ap, ◌∙◌, subst, arith}
-use Rattle.std.specs.List.Sorted.{IsPermutation, IsSortedBy, IsSortedByKey}
-use Rattle.std.specs.Ordering.{nat_cmp}
-use Rattle.std.proofs.lemmas.Bool.Decides.{nat_tests}
-use Rattle.std.proofs.lemmas.List.{get_or-map, length-append, length-map, map-append}
-use Rattle.std.proofs.lemmas.List.Elements.{All-append}
-use Rattle.std.proofs.lemmas.List.Sorted.{All-permutation, IsPermutation-append_comm, IsPermutation-append_left, IsPermutation-map, IsPermutation-trans, length_permutation}
+-- The readers of a participant, in their places.
+use Rattle.std.proofs.Common.{◌≡◌, ℕ, zero, suc, ◌+◌, ◌<◌, ◌≤◌, ◌==◌, List, [], ◌∷◌, ◌++◌, length, map, All, Bool, true, false, Global, get_or, set, refl, sym, ap, ◌∙◌, subst, arith, length-set, get_or-set_other, get_or-set_same}
+use Rattle.std.specs.List.Sorted.{IsPermutation}
+use Rattle.std.proofs.lemmas.Bool.{eqb-false, eqb-true}
+use Rattle.std.proofs.lemmas.List.{get_or_default, length-append, map_push, set-get_or}
+use Rattle.std.proofs.lemmas.List.Elements.{All-push}
+use Rattle.std.proofs.lemmas.List.Sorted.{All-permutation, IsPermutation-sym}
 use Rattle.dds_topic.specs.Decoding.{Decoding}
 use Rattle.rtps_reader.specs.declared.notice.Output.{Output}
 use Rattle.rtps_reader.specs.Standing.{ReaderView}
 use Rattle.rtps_run.specs.Standing.{StandsFor}
 use Rattle.rtps_shards.specs.declared.jobs.JobResult.{JobResult}
-use Rattle.rtps_shards.specs.declared.jobs.Posted.{Posted}
-use Rattle.dds_participant.specs.declared.readers.Parted.{Parted}
-use Rattle.rtps_shards.specs.Results.{IsDone, Share, given_done, rank_in, rank_of, reader_done}
-use Rattle.dds_participant.specs.Sharing.{AllShare, AreParted, AreRun, AreSplit, IsOutput, output_of, state_of, state_rank}
-use Rattle.dds_participant.proofs.Numbers.{comes_before, one_list}
+use Rattle.rtps_shards.specs.Results.{IsDone, IsOutput, Share, given_done, rank_of, reader_done}
+use Rattle.dds_participant.specs.declared.readers.Readers.{Readers}
+use Rattle.dds_participant.specs.Sharing.{AllShare, AreRun, AreRunAt, AreRunBut, IsNoneOf}
 
--- states by rank are in order
-rank_at : {M : Type 0} (shares : ℕ → Share M) (states : List ReaderView) → AllShare shares states → (k : ℕ) (d : ℕ) → k < length states → get_or (map state_rank states) k d ≡ k
-rank_at shares [] all k d below = absurd (omega (arith, below))
-rank_at shares (s ∷ ss) all k d below = get_or-map state_rank (s ∷ ss) k s d below ∙ (all k s below).ranked
+-- ---- ranks
 
-not_before : (k : ℕ) → comes_before (k + 1) k ≡ false
-not_before k = by_test (nat_cmp (k + 1) k) refl
-  where
-    by_test : (o : _) → nat_cmp (k + 1) k ≡ o → comes_before (k + 1) k ≡ false
-    by_test o e = grind (arith, nat_tests)
+pub none_first : (x : ℕ) (xs : List ℕ) (rank : ℕ) → (x ≡ rank → ⊥) → IsNoneOf xs rank → IsNoneOf (x ∷ xs) rank
+none_first x xs rank other none zero d below = other
+none_first x xs rank other none (suc k) d below = none k d (omega (arith, below))
 
-by_rank : {M : Type 0} (shares : ℕ → Share M) (states : List ReaderView) → AllShare shares states → IsSortedBy comes_before (map state_rank states)
-by_rank shares states all k d low high =
-    let inside : k + 1 < length states = omega (arith, high, length-map states state_rank) in
-    ap (λ n. comes_before n (get_or (map state_rank states) k d)) (rank_at shares states all (k + 1) d inside)
-    ∙ ap (comes_before (k + 1)) (rank_at shares states all k d (omega (arith, inside)))
-    ∙ not_before k
+pub none_front : (xs : List ℕ) (x rank : ℕ) → IsNoneOf (xs ++ x ∷ []) rank → IsNoneOf xs rank
+none_front [] x rank none k d below = absurd (omega (arith, below))
+none_front (y ∷ ys) x rank none zero d below = none zero d (omega arith)
+none_front (y ∷ ys) x rank none (suc k) d below = none_front ys x rank (λ i e less. none (suc i) e (omega (arith, less))) k d (omega (arith, below))
 
-sorted_keys : {X : Type 0} (key : X → ℕ) (xs : List X) → IsSortedByKey key nat_cmp xs → IsSortedBy comes_before (map key xs)
-sorted_keys key [] up k d low high = absurd (omega (arith, high))
-sorted_keys key (x ∷ xs) up k d low high =
-    let inside : k + 1 < length (x ∷ xs) = omega (arith, high, length-map (x ∷ xs) key) in
-    ap (λ n. comes_before n (get_or (map key (x ∷ xs)) k d)) (get_or-map key (x ∷ xs) (k + 1) x d inside)
-    ∙ ap (comes_before (key (get_or (x ∷ xs) (k + 1) x))) (get_or-map key (x ∷ xs) k x d (omega (arith, inside)))
-    ∙ up k x low inside
+pub none_of_none : (rank : ℕ) → IsNoneOf [] rank
+none_of_none rank k d below = absurd (omega (arith, below))
 
--- what all were dealt to is what all are of
-whole : (old work idle results new : List ℕ) → IsPermutation old (work ++ idle) → IsPermutation work results → IsPermutation (idle ++ results) new → IsPermutation old new
-whole old work idle results new dealt run back =
-    IsPermutation-trans _ _ _ dealt
-    (IsPermutation-trans _ (results ++ idle) _ (IsPermutation-append_left idle work results run)
-    (IsPermutation-trans _ (idle ++ results) _ (IsPermutation-append_comm results idle) back))
+pub none_last : (xs : List ℕ) (x rank : ℕ) → IsNoneOf (xs ++ x ∷ []) rank → x ≡ rank → ⊥
+none_last [] x rank none = none zero rank (omega arith)
+none_last (y ∷ ys) x rank none = none_last ys x rank (λ i e less. none (suc i) e (omega (arith, less)))
 
-some_of : {X : Type 0} (xs : List X) (rank : ℕ) → rank < length xs → X
-some_of [] rank below = absurd (omega (arith, below))
-some_of (x ∷ xs) rank below = x
+-- the reader at a rank, of those that are as they were
+pub share_at : {M : Type 0} (shares : ℕ → Share M) (old states : List ReaderView) (n top : ℕ) (state : ReaderView) → top ≡ suc n → top ≤ length old
+    → ((rank : ℕ) (other : ReaderView) → rank < top → get_or states rank other ≡ get_or old rank other)
+    → state ≡ get_or states n state → AllShare shares old → StandsFor (shares n).reader (shares n).given n state
+share_at shares old states n top state is few front here all =
+    subst (StandsFor (shares n).reader (shares n).given n) (sym (here ∙ front n state (omega (arith, is)))) (all n state (omega (arith, is, few)))
 
--- all of a batch's readers, after their jobs
-module _ {V M : Type 0} (f : V → M) (decoding : Decoding M) (shares : ℕ → Share M) (old : List ReaderView) (work : List (Posted V)) (idle results : List (JobResult V)) (stand : AllShare shares old)
-    (dealt : IsPermutation (map state_rank old) (map rank_in work ++ map rank_of idle)) (ran : IsPermutation (map rank_in work) (map rank_of results))
-    (without : All (IsDone f decoding shares) idle) (done : All (IsDone f decoding shares) results) (p : Parted V) (parted : AreParted idle results p) where
-  abbrev all : List (JobResult V)
-  all = parted.all
+module _ {V M : Type 0} (f : V → M) (decoding : Decoding M) (shares : ℕ → Share M) where
+  -- a reader has done its job, and this is what came of it
+  abbrev pub HasRun : ℕ → ReaderView → Output V Global → Type 0
+  HasRun rank state output = StandsFor (reader_done (shares rank)) (given_done decoding (shares rank)) rank state × IsOutput f decoding (shares rank) output
 
-  each : All (IsDone f decoding shares) all
-  each = All-permutation (IsDone f decoding shares) (idle ++ results) all parted.same (All-append (IsDone f decoding shares) idle results without done)
+  -- one reader more is in its place
+  pub one_more : (before after : ℕ → Type 0) (states : List ReaderView) (outputs : List (Output V Global)) (n : ℕ) (state : ReaderView) (output : Output V Global)
+      → ((rank : ℕ) → after rank → (rank ≡ n → ⊥) → before rank) → (after n → HasRun n state output)
+      → AreRunAt f decoding shares before states outputs → AreRunAt f decoding shares after (set states n state) (set outputs n output)
+  one_more before after states outputs n state output others own was = record {
+    state = λ rank other below passes. by_state rank other (omega (arith, below, length-set states n state)) passes (rank == n) refl;
+    output = λ rank other below passes. by_output rank other (omega (arith, below, length-set outputs n output)) passes (rank == n) refl;
+  }
+    where
+      Stands : ℕ → ReaderView → Type 0
+      Stands rank s = StandsFor (reader_done (shares rank)) (given_done decoding (shares rank)) rank s
 
-  back : IsPermutation (map rank_of idle ++ map rank_of results) (map rank_of all)
-  back = subst (λ l. IsPermutation l (map rank_of all)) (map-append rank_of idle results) (IsPermutation-map rank_of (idle ++ results) all parted.same)
+      by_state : (rank : ℕ) (other : ReaderView) → rank < length states → after rank → (b : Bool) → (rank == n) ≡ b → Stands rank (get_or (set states n state) rank other)
+      by_state rank other below passes true e =
+          let same = eqb-true rank n e in
+          subst (λ k. Stands k (get_or (set states n state) k other)) (sym same)
+          (subst (Stands n) (sym (get_or-set_same states n state other (subst (λ k. k < length states) same below))) (own (subst after same passes)).0)
+      by_state rank other below passes false e =
+          let apart = eqb-false rank n e in
+          subst (Stands rank) (sym (get_or-set_other states n rank state other apart)) (was.state rank other below (others rank passes apart))
 
-  same : IsPermutation (map state_rank old) (map rank_of all)
-  same = whole (map state_rank old) (map rank_in work) (map rank_of idle) (map rank_of results) (map rank_of all) dealt ran back
+      by_output : (rank : ℕ) (other : Output V Global) → rank < length outputs → after rank → (b : Bool) → (rank == n) ≡ b → IsOutput f decoding (shares rank) (get_or (set outputs n output) rank other)
+      by_output rank other below passes true e =
+          let same = eqb-true rank n e in
+          subst (λ k. IsOutput f decoding (shares k) (get_or (set outputs n output) k other)) (sym same)
+          (subst (IsOutput f decoding (shares n)) (sym (get_or-set_same outputs n output other (subst (λ k. k < length outputs) same below))) (own (subst after same passes)).1)
+      by_output rank other below passes false e =
+          let apart = eqb-false rank n e in
+          subst (IsOutput f decoding (shares rank)) (sym (get_or-set_other outputs n rank output other apart)) (was.output rank other below (others rank passes apart))
 
-  ranks : map rank_of all ≡ map state_rank old
-  ranks = sym (one_list (map state_rank old) (map rank_of all) (by_rank shares old stand) (sorted_keys rank_of all parted.sorted) same)
-
-  count : length all ≡ length old
-  count = sym (length-map all rank_of) ∙ ap length ranks ∙ length-map old state_rank
-
-  -- the result at a rank is of that rank
-  ranked : (rank : ℕ) (x : JobResult V) → rank < length all → (get_or all rank x).rank ≡ rank
-  ranked rank x below =
-      sym (get_or-map rank_of all rank x 0 below) ∙ ap (λ l. get_or l rank 0) ranks ∙ rank_at shares old stand rank 0 (omega (arith, below, count))
-
-  stated : (rank : ℕ) (other : ReaderView) → rank < length p.states.items → StandsFor (reader_done (shares rank)) (given_done decoding (shares rank)) rank (get_or p.states.items rank other)
-  stated rank other less =
-      let below : rank < length all = omega (arith, less, ap length parted.split.states, length-map all state_of) in
-      let x = some_of all rank below in
-      let here : get_or p.states.items rank other ≡ (get_or all rank x).state = ap (λ l. get_or l rank other) parted.split.states ∙ get_or-map state_of all rank x other below in
-      subst (StandsFor (reader_done (shares rank)) (given_done decoding (shares rank)) rank) (sym here)
-      (subst (λ n. StandsFor (reader_done (shares n)) (given_done decoding (shares n)) n (get_or all rank x).state) (ranked rank x below) (each rank x below).state)
-
-  put_out : (rank : ℕ) (other : Output V Global) → rank < length p.outputs.items → IsOutput f decoding (shares rank) (get_or p.outputs.items rank other)
-  put_out rank other less =
-      let below : rank < length all = omega (arith, less, ap length parted.split.outputs, length-map all output_of) in
-      let x = some_of all rank below in
-      let here : get_or p.outputs.items rank other ≡ (get_or all rank x).output = ap (λ l. get_or l rank other) parted.split.outputs ∙ get_or-map output_of all rank x other below in
-      let one : IsDone f decoding shares (get_or all rank x) = each rank x below in
-      let mine : IsOutput f decoding (shares (get_or all rank x).rank) (get_or all rank x).output = record { told = one.told; sent = one.sent } in
-      subst (IsOutput f decoding (shares rank)) (sym here) (subst (λ n. IsOutput f decoding (shares n) (get_or all rank x).output) (ranked rank x below) mine)
-
-  are_run : AreRun f decoding shares old p
-  are_run = record {
-    count = ap length parted.split.states ∙ length-map all state_of ∙ count;
-    states = stated;
-    outputs = put_out;
+  -- above the last rank there is none
+  pub none_run : (n : ℕ) (ranks : ℕ → Type 0) (states : List ReaderView) (outputs : List (Output V Global)) → length states ≤ n → length outputs ≤ n → ((rank : ℕ) → ranks rank → n ≤ rank)
+      → AreRunAt f decoding shares ranks states outputs
+  none_run n ranks states outputs few less above = record {
+    state = λ rank other below passes. let past = above rank passes in absurd (omega (arith, below, few, past));
+    output = λ rank other below passes. let past = above rank passes in absurd (omega (arith, below, less, past));
   }
 
-pub run_over : {V E M : Type 0} (f : V → M) (decoding : Decoding M) (shares : ℕ → Share M) (old : List ReaderView) (work : List (Posted V)) (idle results : List (JobResult V)) (r : Result (Parted V) E) → AllShare shares old
-    → IsPermutation (map state_rank old) (map rank_in work ++ map rank_of idle) → IsPermutation (map rank_in work) (map rank_of results)
-    → All (IsDone f decoding shares) idle → All (IsDone f decoding shares) results → IfOk r (AreParted idle results) → IfOk r (AreRun f decoding shares old)
-run_over f decoding shares old work idle results (Ok p) stand dealt ran without done parted = are_run f decoding shares old work idle results stand dealt ran without done p parted
-run_over f decoding shares old work idle results (Err e) stand dealt ran without done parted = tt
+  pub fewer : (before after : ℕ → Type 0) (states : List ReaderView) (outputs : List (Output V Global)) → ((rank : ℕ) → after rank → before rank)
+      → AreRunAt f decoding shares before states outputs → AreRunAt f decoding shares after states outputs
+  fewer before after states outputs weaker was = record {
+    state = λ rank other below passes. was.state rank other below (weaker rank passes);
+    output = λ rank other below passes. was.output rank other below (weaker rank passes);
+  }
 
--- as many as there are readers
-all_count : {V : Type 0} (work : List (Posted V)) (idle results : List (JobResult V)) (p : Parted V) (parted : AreParted idle results p) → IsPermutation (map rank_in work) (map rank_of results) → length parted.all ≡ length work + length idle
-all_count work idle results p parted ran =
-    let ranks = length_permutation (map rank_in work) (map rank_of results) ran in
-    let same = length_permutation (idle ++ results) parted.all parted.same in
-    omega (arith, ranks, same, length-append idle results, length-map work rank_in, length-map results rank_of)
+  -- all are
+  pub all_run : (old : List ReaderView) (p : Readers V) (ranks : ℕ → Type 0) → length p.states.items ≡ length old → ((rank : ℕ) → ranks rank) → AreRunAt f decoding shares ranks p.states.items p.outputs.items
+      → AreRun f decoding shares old p
+  all_run old p ranks count each are = record {
+    count = count;
+    states = λ rank other below. are.state rank other below (each rank);
+    outputs = λ rank other below. are.output rank other below (each rank);
+  }
 
-pub count_over : {V E : Type 0} (work : List (Posted V)) (idle results : List (JobResult V)) (r : Result (Parted V) E)
-    → IsPermutation (map rank_in work) (map rank_of results) → IfOk r (AreParted idle results) → IfOk r (λ p. length p.states.items ≡ length work + length idle)
-count_over work idle results (Ok p) ran parted = ap length parted.split.states ∙ length-map parted.all state_of ∙ all_count work idle results p parted ran
-count_over work idle results (Err e) ran parted = tt
+  -- the first of the results comes back
+  pub back_more : (x : JobResult V) (rest : List ℕ) (states : List ReaderView) (outputs : List (Output V Global)) → IsDone f decoding shares x
+      → AreRunBut f decoding shares (x.rank ∷ rest) states outputs → AreRunBut f decoding shares rest (set states x.rank x.state) (set outputs x.rank x.output)
+  back_more x rest states outputs done = one_more (IsNoneOf (x.rank ∷ rest)) (IsNoneOf rest) states outputs x.rank x.state x.output
+      (λ rank none apart. none_first x.rank rest rank (λ e. apart (sym e)) none) (λ none. (done.state, record { told = done.told; sent = done.sent }))
 
-pub outputs_over : {V E : Type 0} (work : List (Posted V)) (idle results : List (JobResult V)) (r : Result (Parted V) E)
-    → IsPermutation (map rank_in work) (map rank_of results) → IfOk r (AreParted idle results) → IfOk r (λ p. length p.outputs.items ≡ length work + length idle)
-outputs_over work idle results (Ok p) ran parted = ap length parted.split.outputs ∙ length-map parted.all output_of ∙ all_count work idle results p parted ran
-outputs_over work idle results (Err e) ran parted = tt
+  -- the same readers are awaited
+  pub same_ranks : (xs ys : List ℕ) (states : List ReaderView) (outputs : List (Output V Global)) → IsPermutation xs ys → AreRunBut f decoding shares xs states outputs → AreRunBut f decoding shares ys states outputs
+  same_ranks xs ys states outputs same = fewer (IsNoneOf xs) (IsNoneOf ys) states outputs (λ rank none. All-permutation (λ r. r ≡ rank → ⊥) ys xs (IsPermutation-sym xs ys same) none)
 
--- the readers are those with a job and those without one
-pub pair_count : {V : Type 0} (old : List ReaderView) (work : List (Posted V)) (idle : List (JobResult V)) → IsPermutation (map state_rank old) (map rank_in work ++ map rank_of idle) → length work + length idle ≡ length old
-pair_count old work idle dealt =
-    let all = length_permutation (map state_rank old) (map rank_in work ++ map rank_of idle) dealt in
-    omega (arith, all, length-append (map rank_in work) (map rank_of idle), length-map old state_rank, length-map work rank_in, length-map idle rank_of)
+  -- ---- from the last rank down
 
--- what is put in order and parted
-pub in_order : {V E : Type 0} (idle results all sorted : List (JobResult V)) (r : Result (Parted V) E) → all ≡ idle ++ results → IsPermutation all sorted → IsSortedByKey rank_of nat_cmp sorted
-    → IfOk r (AreSplit sorted) → IfOk r (AreParted idle results)
-in_order idle results all sorted (Ok p) is same up split = record { all = sorted; same = subst (λ l. IsPermutation l sorted) is same; sorted = up; split = split }
-in_order idle results all sorted (Err e) is same up split = tt
+  -- the reader at a rank has done its job where it is
+  pub rank_run : (n top : ℕ) (states : List ReaderView) (outputs : List (Output V Global)) (state : ReaderView) (output : Output V Global) → top ≡ suc n → HasRun n state output
+      → AreRunAt f decoding shares (λ rank. top ≤ rank) states outputs → AreRunAt f decoding shares (λ rank. n ≤ rank) (set states n state) (set outputs n output)
+  rank_run n top states outputs state output is own =
+      one_more (λ rank. top ≤ rank) (λ rank. n ≤ rank) states outputs n state output (λ rank low apart. omega (arith, low, apart, is)) (λ same. own)
+
+  -- it has none
+  pub rank_idle : (n top : ℕ) (ranks : List ℕ) (states : List ReaderView) (outputs : List (Output V Global)) (state : ReaderView) (output : Output V Global) → top ≡ suc n → HasRun n state output
+      → AreRunAt f decoding shares (λ rank. (top ≤ rank) × IsNoneOf ranks rank) states outputs
+      → AreRunAt f decoding shares (λ rank. (n ≤ rank) × IsNoneOf ranks rank) (set states n state) (set outputs n output)
+  rank_idle n top ranks states outputs state output is own =
+      one_more (λ rank. (top ≤ rank) × IsNoneOf ranks rank) (λ rank. (n ≤ rank) × IsNoneOf ranks rank) states outputs n state output
+      (λ rank after apart. let low = after.0 in (omega (arith, low, apart, is), after.1)) (λ after. own)
+
+  -- its job has it
+  pub rank_lent : (n top : ℕ) (ranks more : List ℕ) (states : List ReaderView) (outputs : List (Output V Global)) (state : ReaderView) (output : Output V Global) → top ≡ suc n → more ≡ ranks ++ n ∷ []
+      → AreRunAt f decoding shares (λ rank. (top ≤ rank) × IsNoneOf ranks rank) states outputs
+      → AreRunAt f decoding shares (λ rank. (n ≤ rank) × IsNoneOf more rank) (set states n state) (set outputs n output)
+  rank_lent n top ranks more states outputs state output is added =
+      one_more (λ rank. (top ≤ rank) × IsNoneOf ranks rank) (λ rank. (n ≤ rank) × IsNoneOf more rank) states outputs n state output
+      (λ rank after apart. let low = after.0 in (omega (arith, low, apart, is), none_front ranks n rank (subst (λ l. IsNoneOf l rank) added after.1)))
+      (λ after. absurd (none_last ranks n n (subst (λ l. IsNoneOf l n) added after.1) refl))

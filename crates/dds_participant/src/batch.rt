@@ -1,32 +1,27 @@
 //! A batch of datagrams.
 
 ghost use Rattle.std.specs.Prelude.{◌≡◌, ◌+◌, ◌^◌, ◌≤◌, ◌<◌, ◌++◌, ℕ, All, IfErr, IfOk, List, OnErr, OnOk, false, true, length, map};
-ghost use Rattle.std.specs.List.Sorted.{IsPermutation};
 ghost use Rattle.std.specs.declared.alloc.Global.{Global};
-ghost use Rattle.rtps_receiver.specs.Events.{view};
 ghost use Rattle.rtps_run.specs.declared.outcome.Outcome.{Outcome};
 ghost use Rattle.rtps_run.specs.Outcome.{Adds};
 ghost use Rattle.rtps_run.specs.Run.{events_from, world_run};
 ghost use Rattle.rtps_run.specs.Standing.{ShowsAt, StandsAt, datagram_limit, run_by};
 ghost use Rattle.rtps_run.specs.World.{World};
-ghost use Rattle.rtps_reader.specs.Standing.{ReaderView};
-ghost use Rattle.rtps_shards.specs.Results.{Share, rank_in, rank_of};
 ghost use Rattle.dds_participant.specs.Batch.{IsFinishedBy, Keeps, OnlyRuns, failing};
 ghost use Rattle.dds_participant.specs.Given.{IsGiven, LeavesLists};
 ghost use Rattle.dds_participant.specs.Handing.{IsHandedOn, IsOutcomeHandedOn};
 ghost use Rattle.dds_participant.specs.Kept.{RefusesBatch, TakesBatch, counted};
 ghost use Rattle.dds_participant.specs.Ports.{NoneAttached};
 ghost use Rattle.dds_participant.specs.declared.given.Given.{Given};
-ghost use Rattle.dds_participant.specs.Sharing.{AllShare, ArePaired, AreRun, state_rank};
 
 use crate::decode::{Arrived, decoded, places_of};
 use crate::given::{Given, outcome_of};
 use crate::participant::Participant;
-use crate::readers::{Paired, Parted, pair, part};
+use crate::readers::{Assigned, Readers, lists_for, run_assigned};
 use dds_topic::Catalog;
 use rtps_planner::plan;
 use rtps_run::{DATAGRAM_LIMIT, EngineError, Outcome, show_all};
-use rtps_shards::{Batch, Gate, run_jobs};
+use rtps_shards::{Batch, Gate};
 use std::alloc::{AllocError, Global};
 use std::mem;
 use std::thread::Threads;
@@ -50,31 +45,6 @@ pub fn is_batch(datagrams: &[&[u8]]) -> bool
         → result ≡ true }
 {
     datagrams.len() <= 4096 && datagrams.iter().all(|datagram| datagram.len() <= 65_507)
-}
-
-/// Has so many workers run the jobs of readers.
-fn run_paired<C: Catalog, G: Gate, R: Threads + Sync>(
-    rt: &R,
-    alloc: Global,
-    batch: &Batch<'_, C, G>,
-    paired: Paired<C::Value>,
-    workers: usize,
-) -> Result<Parted<C::Value>, AllocError>
-    requires few { length paired.work.items ≤ 256 }
-    requires workers { (1 ≤ workers) × (workers ≤ 64) }
-    ensures count { IfOk result (λ p. length p.states.items
-        ≡ length paired.work.items + length paired.idle.items) }
-    ensures outputs { IfOk result (λ p. length p.outputs.items
-        ≡ length paired.work.items + length paired.idle.items) }
-    ensures run { (shares : ℕ → Share C.Meaning) (old : List ReaderView) → AllShare shares old
-        → IsPermutation (map state_rank old)
-        (map rank_in paired.work.items ++ map rank_of paired.idle.items)
-        → ArePaired C.view (map view batch.now.events.now) (C.decoding batch.now.catalog.now) shares
-        paired
-        → IfOk result (AreRun C.view (C.decoding batch.now.catalog.now) shares old) }
-{
-    let results = run_jobs(rt, alloc, batch, paired.work, workers)?;
-    part(alloc, paired.idle, results)
 }
 
 impl<C: Catalog> Participant<C> {
@@ -253,19 +223,23 @@ impl<C: Catalog> Participant<C> {
         let events = decoded(rt, alloc, arrived, workers.count)?;
         let places = places_of(lists.places, &events)?;
         let plan = plan(alloc, &events, &mut self.discovery)?;
-        let readers = mem::replace(&mut self.readers, Vec::new(alloc));
-        let paired = pair::<C>(alloc, plan.jobs, readers, lists.outputs)?;
+        let states = mem::replace(&mut self.readers, Vec::new(alloc));
+        let outputs = lists_for(alloc, lists.outputs, states.len())?;
+        let assigned = Assigned {
+            jobs: plan.jobs,
+            readers: Readers { states, outputs },
+        };
         let batch = Batch {
             catalog: &self.catalog,
             gate: workers.gate,
             events: &events,
         };
-        let parted = run_paired(rt, alloc, &batch, paired, workers.count)?;
-        self.readers = parted.states;
+        let readers = run_assigned(rt, alloc, &batch, assigned, workers.count)?;
+        self.readers = readers.states;
         Ok(Given {
             places,
             answers: plan.rest.answers,
-            outputs: parted.outputs,
+            outputs: readers.outputs,
         })
     }
 

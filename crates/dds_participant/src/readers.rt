@@ -1,26 +1,36 @@
-//! The readers of a participant on their way to the workers and back.
+//! The readers of a participant and their jobs.
 
-ghost use Rattle.std.specs.Prelude.{◌≡◌, ◌+◌, ◌++◌, ◌==◌, ◌-◌, ◌<◌, [], ◌∷◌, ℕ, List, IfOk, MatchOption, false, length, map, option_to_list, slice_index_or};
-ghost use Rattle.std.specs.List.Sorted.{IsPermutation};
+ghost use Rattle.std.specs.Prelude.{◌≡◌, ◌++◌, ◌==◌, ◌-◌, ◌<◌, ◌≤◌, [], ℕ, All, List, IfOk, MatchOption, OnOk, false, length, map, option_to_list, slice_index_or};
 ghost use Rattle.dds_topic.specs.Decoding.{Decoding};
-ghost use Rattle.rtps_receiver.specs.Events.{EventView};
+ghost use Rattle.rtps_receiver.specs.Events.{EventView, view};
+ghost use Rattle.rtps_reader.specs.Standing.{StandsAt};
 ghost use Rattle.rtps_planner.specs.declared.jobs.Job as plan_job;
-ghost use Rattle.rtps_shards.specs.Results.{Share, rank_in, rank_of};
-ghost use Rattle.dds_participant.specs.Sharing.{AllShare, AreJobs, ArePaired, AreParted, AreSplit, state_rank};
+ghost use Rattle.rtps_shards.specs.Results.{IsDone, IsOutput, IsReady, Share, given_done, rank_in, rank_of, reader_done};
+ghost use Rattle.dds_participant.specs.Sharing.{AllShare, AreJobs, AreRun, AreRunBut, IsAsked};
 
 use dds_topic::Catalog;
+use rtps_discovery::ENTITYID_UNKNOWN;
 use rtps_planner::Job;
 use rtps_reader::{Output, ReaderState};
-use rtps_shards::{JobResult, Posted};
+use rtps_shards::{Batch, Gate, JobResult, Posted, Worker, run_job, run_jobs};
+use rtps_types::GuidPrefix;
 use std::alloc::{AllocError, Global};
+use std::mem;
+use std::thread::Threads;
 
-/// The readers of a batch.
+/// The readers of a batch, by rank.
 #[derive(Drop)]
-pub(crate) struct Paired<V> {
-    /// The jobs, each with the state of its reader.
-    pub work: Vec<Posted<V>>,
-    /// The readers that have no job, of which nothing comes.
-    pub idle: Vec<JobResult<V>>,
+pub(crate) struct Readers<V> {
+    pub states: Vec<ReaderState>,
+    /// What their jobs give.
+    pub outputs: Vec<Output<V>>,
+}
+
+/// The jobs of a batch, by rising rank, and the readers that they are for.
+#[derive(Drop)]
+pub(crate) struct Assigned<V> {
+    pub jobs: Vec<Job>,
+    pub readers: Readers<V>,
 }
 
 /// The last job, taken from the others, where it is of this rank.
@@ -33,95 +43,237 @@ fn last_of(jobs: &mut Vec<Job>, rank: u32) -> Option<Job>
     jobs.pop_if(|job| job.rank == rank)
 }
 
-/// The last of the lists that were lent, taken from the others, or new ones where none is left.
-fn lists_of<V: Drop>(alloc: Global, lent: &mut Vec<Output<V>>) -> Output<V>
-    ensures { 0 < length lent.old.items → lent.old.items ≡ lent.new.items ++ result ∷ [] }
-{
-    match lent.pop() {
-        Some(output) => output,
-        None => Output {
-            notices: Vec::new(alloc),
-            answers: Vec::new(alloc),
-        },
+/// Empty lists, for which no memory is taken yet.
+fn new_lists<V: Drop>(alloc: Global) -> Output<V> {
+    Output {
+        notices: Vec::new(alloc),
+        answers: Vec::new(alloc),
     }
 }
 
-/// A reader that has no job: nothing comes of it.
-fn idle_reader<V: Drop>(state: ReaderState, mut output: Output<V>) -> JobResult<V>
-    ensures same { (result.rank ≡ state.rank) × (result.state ≡ state) }
-    ensures empty { (result.output.notices.items ≡ []) × (result.output.answers.items ≡ []) }
+/// Drops what is in the lists, which keep their memory.
+fn empty_lists<V: Drop>(output: &mut Output<V>)
+    ensures { (output.new.notices.items ≡ []) × (output.new.answers.items ≡ []) }
 {
     output.notices.clear();
     output.answers.clear();
-    JobResult {
-        rank: state.rank(),
-        state,
-        output,
-    }
 }
 
-/// Gives each job the state of its reader, and each reader lists for what comes of it: those that
-/// were lent, and new ones where there are too few. The jobs come by rising rank, the states by
-/// rank. Among the readers that have no job there is room for all, so that they take in the others
-/// after the batch.
-pub(crate) fn pair<C: Catalog>(
+/// Lists for each of `count` readers: the given ones, and new ones where these are too few.
+pub(crate) fn lists_for<V: Drop>(
     alloc: Global,
-    mut jobs: Vec<Job>,
-    mut states: Vec<ReaderState>,
-    mut lent: Vec<Output<C::Value>>,
-) -> Result<Paired<C::Value>, AllocError>
-    ensures paired { (es : List EventView) (decoding : Decoding C.Meaning)
-        (shares : ℕ → Share C.Meaning) → AllShare shares states.items
-        → AreJobs es shares jobs.items (length states.items)
-        → IfOk result (ArePaired C.view es decoding shares) }
-    ensures ranks { IfOk result (λ p. IsPermutation (map state_rank states.items)
-        (map rank_in p.work.items ++ map rank_of p.idle.items)) }
+    given: Vec<Output<V>>,
+    count: usize,
+) -> Result<Vec<Output<V>>, AllocError>
+    ensures { IfOk result (λ lists. length lists.items ≡ count) }
 {
+    let mut lists = given;
+    lists.truncate(count);
+    'fill: while lists.len() < count {
+        lists.push(new_lists(alloc))?;
+    }
+    Ok(lists)
+}
+
+/// Has a reader do its job, if it has one. The lists of the output are replaced by what the job
+/// gives.
+fn do_job<C: Catalog, G: Gate>(
+    worker: &mut Worker<&C>,
+    batch: &Batch<'_, C, G>,
+    job: Option<Job>,
+    state: &mut ReaderState,
+    output: &mut Output<C::Value>,
+) -> Result<(), AllocError>
+    ensures stands { worker.old.now ≡ batch.now.catalog.now → (s : Share C.Meaning)
+        → IsAsked (map view batch.now.events.now) job s.job → StandsAt s.reader s.given state.old
+        → OnOk result (StandsAt (reader_done s)
+        (given_done (C.decoding batch.now.catalog.now) s) state.new) }
+    ensures output { worker.old.now ≡ batch.now.catalog.now → (s : Share C.Meaning)
+        → IsAsked (map view batch.now.events.now) job s.job → StandsAt s.reader s.given state.old
+        → OnOk result (IsOutput C.view (C.decoding batch.now.catalog.now) s output.new) }
+    ensures rank { state.new.rank ≡ state.old.rank }
+    ensures same { worker.new ≡ worker.old }
+{
+    let Some(job) = job else {
+        empty_lists(output);
+        return Ok(());
+    };
+    run_job(worker, batch, &job, state, output)
+}
+
+/// Runs the jobs where the readers are, from the last rank down.
+fn run_alone<C: Catalog, G: Gate>(
+    alloc: Global,
+    batch: &Batch<'_, C, G>,
+    assigned: Assigned<C::Value>,
+) -> Result<Readers<C::Value>, AllocError>
+    requires few { length assigned.readers.states.items ≤ 256 }
+    requires same { length assigned.readers.outputs.items ≡ length assigned.readers.states.items }
+    ensures count { IfOk result (λ p. length p.states.items
+        ≡ length assigned.readers.states.items) }
+    ensures outputs { IfOk result (λ p. length p.outputs.items
+        ≡ length assigned.readers.states.items) }
+    ensures run { (shares : ℕ → Share C.Meaning) → AllShare shares assigned.readers.states.items
+        → AreJobs (map view batch.now.events.now) shares assigned.jobs.items
+        (length assigned.readers.states.items)
+        → IfOk result (AreRun C.view (C.decoding batch.now.catalog.now) shares
+        assigned.readers.states.items) }
+{
+    let Assigned { mut jobs, readers } = assigned;
+    let Readers {
+        mut states,
+        mut outputs,
+    } = readers;
+    let mut worker = Worker::new(alloc, batch.catalog);
+    let mut rank = states.len() as u32;
+    'ranks: while rank > 0 {
+        rank -= 1;
+        let job = last_of(&mut jobs, rank);
+        let state = &mut states[rank as usize];
+        let output = &mut outputs[rank as usize];
+        do_job(&mut worker, batch, job, state, output)?;
+    }
+    Ok(Readers { states, outputs })
+}
+
+/// What is in a reader's place while a worker has the reader: one without matches, for which no
+/// memory is taken.
+fn nobody(alloc: Global) -> Result<ReaderState, AllocError> {
+    let own = GuidPrefix([0; 12]);
+    ReaderState::new(alloc, 0, own, ENTITYID_UNKNOWN, false, &[])
+}
+
+/// Takes the reader and the lists of a rank from their places.
+fn take_out<V: Drop>(
+    alloc: Global,
+    job: Job,
+    state: &mut ReaderState,
+    output: &mut Output<V>,
+) -> Result<Posted<V>, AllocError>
+    ensures { IfOk result (λ x. (x.job ≡ job) × (x.state ≡ state.old)) }
+{
+    let nobody = nobody(alloc)?;
+    Ok(Posted {
+        job,
+        state: mem::replace(state, nobody),
+        output: mem::replace(output, new_lists(alloc)),
+    })
+}
+
+/// Gives each job the state and the lists of its reader, from the last rank down. The lists of the
+/// readers that have no job are emptied.
+fn lend<C: Catalog>(
+    alloc: Global,
+    jobs: Vec<Job>,
+    readers: &mut Readers<C::Value>,
+) -> Result<Vec<Posted<C::Value>>, AllocError>
+    requires few { length readers.old.states.items ≤ 256 }
+    requires same { length readers.old.outputs.items ≡ length readers.old.states.items }
+    ensures count { length readers.new.states.items ≡ length readers.old.states.items }
+    ensures outputs { length readers.new.outputs.items ≡ length readers.old.states.items }
+    ensures few { IfOk result (λ work. length work.items ≤ length readers.old.states.items) }
+    ensures ranks { IfOk result (λ work. All (λ rank. rank < length readers.old.states.items)
+        (map rank_in work.items)) }
+    ensures ready { (es : List EventView) (shares : ℕ → Share C.Meaning)
+        → AllShare shares readers.old.states.items
+        → AreJobs es shares jobs.items (length readers.old.states.items)
+        → IfOk result (λ work. All (IsReady es shares) work.items) }
+    ensures idle { (es : List EventView) (decoding : Decoding C.Meaning)
+        (shares : ℕ → Share C.Meaning) → AllShare shares readers.old.states.items
+        → AreJobs es shares jobs.items (length readers.old.states.items)
+        → IfOk result (λ work. AreRunBut C.view decoding shares (map rank_in work.items)
+        readers.new.states.items readers.new.outputs.items) }
+{
+    let mut jobs = jobs;
     let mut work = Vec::with_capacity(alloc, jobs.len())?;
-    let mut idle = Vec::with_capacity(alloc, states.len())?;
-    'pair: while let Some(state) = states.pop() {
-        let output = lists_of(alloc, &mut lent);
-        match last_of(&mut jobs, state.rank()) {
-            Some(job) => work.push(Posted { job, state, output })?,
-            None => idle.push(idle_reader(state, output))?,
+    let mut rank = readers.states.len() as u32;
+    'ranks: while rank > 0 {
+        rank -= 1;
+        let state = &mut readers.states[rank as usize];
+        let output = &mut readers.outputs[rank as usize];
+        match last_of(&mut jobs, rank) {
+            Some(job) => {
+                let posted = take_out(alloc, job, state, output)?;
+                work.push(posted)?;
+            }
+            None => empty_lists(output),
         }
     }
-    Ok(Paired { work, idle })
+    Ok(work)
 }
 
-/// What comes of a batch, by rank.
-#[derive(Drop)]
-pub(crate) struct Parted<V> {
-    /// The states of the readers.
-    pub states: Vec<ReaderState>,
-    /// What comes of their jobs.
-    pub outputs: Vec<Output<V>>,
-}
-
-/// Parts the states of readers from what came of their jobs.
-fn split<V: Drop>(alloc: Global, all: Vec<JobResult<V>>) -> Result<Parted<V>, AllocError>
-    ensures { IfOk result (AreSplit all.items) }
+/// Puts the readers of the results, and what their jobs gave, back into their places.
+fn put_back<C: Catalog>(results: Vec<JobResult<C::Value>>, readers: &mut Readers<C::Value>)
+    requires same { length readers.old.outputs.items ≡ length readers.old.states.items }
+    requires ranks { All (λ rank. rank < length readers.old.states.items)
+        (map rank_of results.items) }
+    ensures count { length readers.new.states.items ≡ length readers.old.states.items }
+    ensures outputs { length readers.new.outputs.items ≡ length readers.old.states.items }
+    ensures back { (decoding : Decoding C.Meaning) (shares : ℕ → Share C.Meaning)
+        → All (IsDone C.view decoding shares) results.items
+        → AreRunBut C.view decoding shares (map rank_of results.items) readers.old.states.items
+        readers.old.outputs.items
+        → AreRunBut C.view decoding shares [] readers.new.states.items readers.new.outputs.items }
 {
-    let mut states = Vec::with_capacity(alloc, all.len())?;
-    let mut outputs = Vec::with_capacity(alloc, all.len())?;
-    for result in all {
-        states.push(result.state)?;
-        outputs.push(result.output)?;
+    for result in results {
+        let rank = result.rank as usize;
+        readers.states[rank] = result.state;
+        readers.outputs[rank] = result.output;
     }
-    Ok(Parted { states, outputs })
 }
 
-/// Puts the readers that had no job and those of the results in order, and parts their states from
-/// what came of their jobs.
-pub(crate) fn part<V: Drop>(
+/// Has several workers run the jobs. Each reader that has a job is moved into it and back.
+fn run_shared<C: Catalog, G: Gate, R: Threads + Sync>(
+    rt: &R,
     alloc: Global,
-    idle: Vec<JobResult<V>>,
-    mut results: Vec<JobResult<V>>,
-) -> Result<Parted<V>, AllocError>
-    ensures { IfOk result (AreParted idle.items results.items) }
+    batch: &Batch<'_, C, G>,
+    assigned: Assigned<C::Value>,
+    workers: usize,
+) -> Result<Readers<C::Value>, AllocError>
+    requires few { length assigned.readers.states.items ≤ 256 }
+    requires same { length assigned.readers.outputs.items ≡ length assigned.readers.states.items }
+    requires workers { (1 ≤ workers) × (workers ≤ 64) }
+    ensures count { IfOk result (λ p. length p.states.items
+        ≡ length assigned.readers.states.items) }
+    ensures outputs { IfOk result (λ p. length p.outputs.items
+        ≡ length assigned.readers.states.items) }
+    ensures run { (shares : ℕ → Share C.Meaning) → AllShare shares assigned.readers.states.items
+        → AreJobs (map view batch.now.events.now) shares assigned.jobs.items
+        (length assigned.readers.states.items)
+        → IfOk result (AreRun C.view (C.decoding batch.now.catalog.now) shares
+        assigned.readers.states.items) }
 {
-    let mut all = idle;
-    all.append(&mut results)?;
-    all.sort_unstable_by_key(|reader| reader.rank);
-    split(alloc, all)
+    let Assigned { jobs, readers } = assigned;
+    let mut readers = readers;
+    let work = lend::<C>(alloc, jobs, &mut readers)?;
+    let results = run_jobs(rt, alloc, batch, work, workers)?;
+    put_back::<C>(results, &mut readers);
+    Ok(readers)
+}
+
+/// Runs the jobs: where the readers are, or on several workers where there is more than one job.
+pub(crate) fn run_assigned<C: Catalog, G: Gate, R: Threads + Sync>(
+    rt: &R,
+    alloc: Global,
+    batch: &Batch<'_, C, G>,
+    assigned: Assigned<C::Value>,
+    workers: usize,
+) -> Result<Readers<C::Value>, AllocError>
+    requires few { length assigned.readers.states.items ≤ 256 }
+    requires same { length assigned.readers.outputs.items ≡ length assigned.readers.states.items }
+    requires workers { (1 ≤ workers) × (workers ≤ 64) }
+    ensures count { IfOk result (λ p. length p.states.items
+        ≡ length assigned.readers.states.items) }
+    ensures outputs { IfOk result (λ p. length p.outputs.items
+        ≡ length assigned.readers.states.items) }
+    ensures run { (shares : ℕ → Share C.Meaning) → AllShare shares assigned.readers.states.items
+        → AreJobs (map view batch.now.events.now) shares assigned.jobs.items
+        (length assigned.readers.states.items)
+        → IfOk result (AreRun C.view (C.decoding batch.now.catalog.now) shares
+        assigned.readers.states.items) }
+{
+    if workers == 1 || assigned.jobs.len() < 2 {
+        return run_alone(alloc, batch, assigned);
+    }
+    run_shared(rt, alloc, batch, assigned, workers)
 }

@@ -3,16 +3,15 @@ use Rattle.std.proofs.Common.{◌≡◌, ℕ, List, [], ◌∷◌, ◌++◌, map
 use Rattle.rtps_types.specs.declared.place.Place.{Place}
 use Rattle.rtps_receiver.specs.Events.{EventView}
 use Rattle.dds_topic.specs.Decoding.{Decoding}
+use Rattle.std.specs.declared.alloc.Global.{Global}
 use Rattle.rtps_reader.specs.declared.notice.Notice.{Notice}
+use Rattle.rtps_reader.specs.declared.notice.Output.{Output}
 use Rattle.rtps_reader.specs.Notices.{answer_view, notice_view}
 use Rattle.rtps_reader.specs.Reader.{Reader, reader_after, sends, tells}
-use Rattle.rtps_reader.specs.Standing.{StandsAt}
+use Rattle.rtps_reader.specs.Standing.{ReaderView, StandsAt}
 use Rattle.rtps_reader.specs.Steps.{StepView}
 use Rattle.rtps_planner.specs.Job.{Job, job_run, job_sent, job_told}
-use Rattle.rtps_planner.specs.Plan.{steps_seen}
-use Rattle.rtps_shards.specs.declared.jobs.JobResult.{JobResult}
-use Rattle.rtps_shards.specs.declared.jobs.Posted.{Posted}
-use Rattle.rtps_shards.specs.Results.{HasTaken, IsDone, IsReady, Share, share}
+use Rattle.rtps_shards.specs.Results.{HasTaken, IsOutput, Share, given_done, reader_done, share}
 
 run_more : (r : Reader) (xs ys : Job) → job_run r (xs ++ ys) ≡ job_run (job_run r xs) ys
 run_more r [] ys = refl
@@ -34,49 +33,48 @@ sent_more r (x ∷ xs) ys =
 
 module _ {V M : Type 0} (f : V → M) (decoding : Decoding M) (r : Reader) (given : List (Notice M)) where
   -- no step changes nothing
-  pub taken_none : (x : JobResult V) → StandsAt r given x.state → HasTaken f decoding (share r given []) x x
-  taken_none x stands = record {
-    stands = subst (λ l. StandsAt r l x.state) (sym (append-nil given)) stands;
-    told = sym (append-nil (map (notice_view f) x.output.notices.items));
-    sent = sym (append-nil (map answer_view x.output.answers.items));
+  pub taken_none : (state : ReaderView) (x : Output V Global) → StandsAt r given state → HasTaken f decoding (share r given []) state x x
+  taken_none state x stands = record {
+    stands = subst (λ l. StandsAt r l state) (sym (append-nil given)) stands;
+    told = sym (append-nil (map (notice_view f) x.notices.items));
+    sent = sym (append-nil (map answer_view x.answers.items));
   }
 
   -- one step
-  pub one_taken : (place : Place) (what : StepView) (old new : JobResult V) → StandsAt (reader_after r what) (given ++ tells decoding r place what) new.state
-      → map (notice_view f) new.output.notices.items ≡ map (notice_view f) old.output.notices.items ++ tells decoding r place what
-      → map answer_view new.output.answers.items ≡ map answer_view old.output.answers.items ++ sends r place what
-      → HasTaken f decoding (share r given ((place, what) ∷ [])) old new
-  one_taken place what old new stands told sent = record {
-    stands = subst (λ l. StandsAt (reader_after r what) (given ++ l) new.state) (sym (append-nil (tells decoding r place what))) stands;
-    told = told ∙ ap (λ l. map (notice_view f) old.output.notices.items ++ l) (sym (append-nil (tells decoding r place what)));
-    sent = sent ∙ ap (λ l. map answer_view old.output.answers.items ++ l) (sym (append-nil (sends r place what)));
+  pub one_taken : (place : Place) (what : StepView) (state : ReaderView) (old new : Output V Global) → StandsAt (reader_after r what) (given ++ tells decoding r place what) state
+      → map (notice_view f) new.notices.items ≡ map (notice_view f) old.notices.items ++ tells decoding r place what
+      → map answer_view new.answers.items ≡ map answer_view old.answers.items ++ sends r place what
+      → HasTaken f decoding (share r given ((place, what) ∷ [])) state old new
+  one_taken place what state old new stands told sent = record {
+    stands = subst (λ l. StandsAt (reader_after r what) (given ++ l) state) (sym (append-nil (tells decoding r place what))) stands;
+    told = told ∙ ap (λ l. map (notice_view f) old.notices.items ++ l) (sym (append-nil (tells decoding r place what)));
+    sent = sent ∙ ap (λ l. map answer_view old.answers.items ++ l) (sym (append-nil (sends r place what)));
   }
 
   -- some steps, and then more
-  pub taken_more : (xs ys : Job) (old mid new : JobResult V) → HasTaken f decoding (share r given xs) old mid
-      → HasTaken f decoding (share (job_run r xs) (given ++ job_told decoding r xs) ys) mid new → HasTaken f decoding (share r given (xs ++ ys)) old new
-  taken_more xs ys old mid new one two =
+  pub taken_more : (xs ys : Job) (middle state : ReaderView) (old mid new : Output V Global) → HasTaken f decoding (share r given xs) middle old mid
+      → HasTaken f decoding (share (job_run r xs) (given ++ job_told decoding r xs) ys) state mid new → HasTaken f decoding (share r given (xs ++ ys)) state old new
+  taken_more xs ys middle state old mid new one two =
       let told = job_told decoding r xs in
       let rest = job_told decoding (job_run r xs) ys in
-      let was = map (notice_view f) old.output.notices.items in
-      let sent = map answer_view old.output.answers.items in
+      let was = map (notice_view f) old.notices.items in
+      let sent = map answer_view old.answers.items in
       record {
-        stands = subst (λ (q : Reader). StandsAt q (given ++ job_told decoding r (xs ++ ys)) new.state) (sym (run_more r xs ys))
-            (subst (λ l. StandsAt (job_run (job_run r xs) ys) l new.state) (append_assoc given told rest ∙ ap (λ l. given ++ l) (sym (told_more decoding r xs ys))) two.stands);
+        stands = subst (λ (q : Reader). StandsAt q (given ++ job_told decoding r (xs ++ ys)) state) (sym (run_more r xs ys))
+            (subst (λ l. StandsAt (job_run (job_run r xs) ys) l state) (append_assoc given told rest ∙ ap (λ l. given ++ l) (sym (told_more decoding r xs ys))) two.stands);
         told = two.told ∙ ap (λ l. l ++ rest) one.told ∙ append_assoc was told rest ∙ ap (λ l. was ++ l) (sym (told_more decoding r xs ys));
         sent = two.sent ∙ ap (λ l. l ++ job_sent (job_run r xs) ys) one.sent ∙ append_assoc sent (job_sent r xs) (job_sent (job_run r xs) ys) ∙ ap (λ l. sent ++ l) (sym (sent_more r xs ys));
       }
 
 -- a job whose steps were all taken, into lists that were empty
-pub all_taken : {V M : Type 0} (f : V → M) (decoding : Decoding M) (es : List EventView) (shares : ℕ → Share M) (work : Posted V) (first done : JobResult V) → IsReady es shares work
-    → first.output.notices.items ≡ [] → first.output.answers.items ≡ [] → done.rank ≡ work.job.rank → done.state.rank ≡ work.state.rank
-    → HasTaken f decoding (share (shares work.job.rank).reader (shares work.job.rank).given (steps_seen es work.job.steps.items)) first done → IsDone f decoding shares done
-all_taken {V} {M} f decoding es shares work first done ready notices answers ranked same taken =
-    let s = shares work.job.rank in
-    let here : HasTaken f decoding s first done = subst (λ job. HasTaken f decoding (share s.reader s.given job) first done) ready.job taken in
-    let at : HasTaken f decoding (shares done.rank) first done = subst (λ rank. HasTaken f decoding (shares rank) first done) (sym ranked) here in
-    record {
-      state = record { stands = at.stands; ranked = same ∙ ready.state.ranked ∙ sym ranked };
-      told = at.told ∙ ap (λ l. map (notice_view f) l ++ job_told decoding (shares done.rank).reader (shares done.rank).job) notices;
-      sent = at.sent ∙ ap (λ l. map answer_view l ++ job_sent (shares done.rank).reader (shares done.rank).job) answers;
-    }
+pub all_taken : {V M : Type 0} (f : V → M) (decoding : Decoding M) (s : Share M) (steps : Job) (state : ReaderView) (first done : Output V Global) → steps ≡ s.job
+    → first.notices.items ≡ [] → first.answers.items ≡ [] → HasTaken f decoding (share s.reader s.given steps) state first done
+    → StandsAt (reader_done s) (given_done decoding s) state × IsOutput f decoding s done
+all_taken {V} {M} f decoding s steps state first done is notices answers taken =
+    let here : HasTaken f decoding s state first done = subst (λ job. HasTaken f decoding (share s.reader s.given job) state first done) is taken in (
+      here.stands,
+      record {
+        told = here.told ∙ ap (λ l. map (notice_view f) l ++ job_told decoding s.reader s.job) notices;
+        sent = here.sent ∙ ap (λ l. map answer_view l ++ job_sent s.reader s.job) answers;
+      },
+    )

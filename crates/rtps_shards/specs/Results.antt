@@ -2,10 +2,12 @@
 use Rattle.std.specs.Prelude.{◌≡◌, ℕ, List, ◌++◌, map}
 use Rattle.rtps_receiver.specs.Events.{EventView}
 use Rattle.dds_topic.specs.Decoding.{Decoding}
+use Rattle.std.specs.declared.alloc.Global.{Global}
 use Rattle.rtps_reader.specs.declared.notice.Notice.{Notice}
+use Rattle.rtps_reader.specs.declared.notice.Output.{Output}
 use Rattle.rtps_reader.specs.Notices.{answer_view, notice_view}
 use Rattle.rtps_reader.specs.Reader.{Reader}
-use Rattle.rtps_reader.specs.Standing.{StandsAt}
+use Rattle.rtps_reader.specs.Standing.{ReaderView, StandsAt}
 use Rattle.rtps_run.specs.Standing.{StandsFor}
 use Rattle.rtps_planner.specs.Job.{Job, job_run, job_sent, job_told}
 use Rattle.rtps_planner.specs.Plan.{steps_seen}
@@ -46,14 +48,20 @@ pub record IsDone {V M : Type 0} (f : V → M) (decoding : Decoding M) (shares :
   pub sent : map answer_view x.output.answers.items
       ≡ job_sent (shares x.rank).reader (shares x.rank).job
 
+-- what a reader gives out and sends over its job
+pub record IsOutput {V M A : Type 0} (f : V → M) (decoding : Decoding M) (s : Share M)
+    (o : Output V A) : Type 0 where
+  pub told : map (notice_view f) o.notices.items ≡ job_told decoding s.reader s.job
+  pub sent : map answer_view o.answers.items ≡ job_sent s.reader s.job
+
 -- a reader took its job, and what it gave out and sent is added
 pub record HasTaken {V M : Type 0} (f : V → M) (decoding : Decoding M) (s : Share M)
-    (old new : JobResult V) : Type 0 where
-  pub stands : StandsAt (reader_done s) (given_done decoding s) new.state
-  pub told : map (notice_view f) new.output.notices.items
-      ≡ map (notice_view f) old.output.notices.items ++ job_told decoding s.reader s.job
-  pub sent : map answer_view new.output.answers.items
-      ≡ map answer_view old.output.answers.items ++ job_sent s.reader s.job
+    (state : ReaderView) (old new : Output V Global) : Type 0 where
+  pub stands : StandsAt (reader_done s) (given_done decoding s) state
+  pub told : map (notice_view f) new.notices.items
+      ≡ map (notice_view f) old.notices.items ++ job_told decoding s.reader s.job
+  pub sent : map answer_view new.answers.items
+      ≡ map answer_view old.answers.items ++ job_sent s.reader s.job
 
 -- the rank of the reader whose job it is
 abbrev pub rank_in : {V : Type 0} → Posted V → ℕ

@@ -2,10 +2,12 @@
 
 ghost use Rattle.std.specs.Prelude.{◌≡◌, []};
 
+use dds_topic::{Catalog, Decoder};
 use rtps_planner::{Job, PlannedStep};
 use rtps_reader::{Output, ReaderState};
 use rtps_receiver::Event;
 use std::alloc::Global;
+use std::marker::Model;
 
 /// What all workers of a batch look at.
 #[derive(Drop)]
@@ -15,6 +17,32 @@ pub struct Batch<'a, C, G> {
     pub gate: &'a G,
     /// All events of the batch, into which the steps of the jobs point.
     pub events: &'a [Event<'a>],
+}
+
+/// What a worker keeps from one job to the next: the catalog, with what it remembers from one value
+/// to the next, and where memory is taken.
+#[derive(Drop)]
+pub struct Worker<C: Catalog> {
+    pub(crate) alloc: Global,
+    pub(crate) decoder: Decoder<C>,
+}
+
+impl<C: Catalog> Model for Worker<C> {
+    ghost Value = { C };
+
+    ghost view = { λ w. w.decoder };
+}
+
+impl<C: Catalog> Worker<C> {
+    /// A worker that has run no job.
+    pub fn new(alloc: Global, catalog: C) -> Worker<C>
+        ensures { result ≡ catalog }
+    {
+        Worker {
+            alloc,
+            decoder: Decoder::new(alloc, catalog),
+        }
+    }
 }
 
 /// A job as it is posted on a board, with all that is moved to the worker who takes it.

@@ -11,11 +11,11 @@ ghost use Rattle.rtps_reader.specs.Steps.{asked};
 ghost use Rattle.rtps_planner.specs.Plan.{heard_at, steps_seen, taken_in};
 ghost use Rattle.rtps_shards.specs.Results.{HasTaken, share};
 
-use crate::jobs::JobResult;
-use dds_topic::{Catalog, Decoder};
+use crate::jobs::Worker;
+use dds_topic::Catalog;
 use rtps_planner::PlannedStep;
 use rtps_proxy::Effects;
-use rtps_reader::{Step, StepKind};
+use rtps_reader::{Output, ReaderState, Step, StepKind};
 use rtps_receiver::Event;
 use rtps_types::MatchChangeKind;
 use std::alloc::{AllocError, Global};
@@ -47,49 +47,47 @@ fn change_at<'a>(
 
 /// Has a reader take a step, if there is one. What the step gives is added to the output.
 fn take_step<'a, C: Catalog>(
-    alloc: Global,
-    decoder: &mut Decoder<C>,
+    worker: &mut Worker<C>,
     step: Option<Step<'a>>,
     effects: &mut Effects<'a>,
-    done: &mut JobResult<C::Value>,
+    state: &mut ReaderState,
+    output: &mut Output<C::Value>,
 ) -> Result<(), AllocError>
     requires { GivesNothing effects.old }
-    ensures taken { (r : Reader) (given : List (Notice C.Meaning)) → StandsAt r given done.old.state
-        → OnOk result (HasTaken C.view (C.decoding decoder.old)
+    ensures taken { (r : Reader) (given : List (Notice C.Meaning)) → StandsAt r given state.old
+        → OnOk result (HasTaken C.view (C.decoding worker.old)
         (share r given (map (λ s. (s.place, asked s.what)) (option_to_list step.entry)))
-        done.old done.new) }
-    ensures ranks { (done.new.rank ≡ done.old.rank)
-        × (done.new.state.rank ≡ done.old.state.rank) }
-    ensures same { decoder.new ≡ decoder.old }
+        state.new output.old output.new) }
+    ensures rank { state.new.rank ≡ state.old.rank }
+    ensures same { worker.new ≡ worker.old }
     ensures nothing { OnOk result (GivesNothing effects.new) }
 {
     if let Some(step) = step {
-        let output = &mut done.output;
-        done.state
-            .step_with(alloc, decoder, &step, effects, output)?;
+        let decoder = &mut worker.decoder;
+        state.step_with(worker.alloc, decoder, &step, effects, output)?;
     }
     Ok(())
 }
 
 /// Has a reader take in events, one after the other. What they give is added to the output.
 fn take_events<'a, C: Catalog>(
-    alloc: Global,
-    decoder: &mut Decoder<C>,
+    worker: &mut Worker<C>,
     events: &'a [Event<'a>],
     effects: &mut Effects<'a>,
-    done: &mut JobResult<C::Value>,
+    state: &mut ReaderState,
+    output: &mut Output<C::Value>,
 ) -> Result<(), AllocError>
     requires { GivesNothing effects.old }
-    ensures taken { (r : Reader) (given : List (Notice C.Meaning)) → StandsAt r given done.old.state
-        → OnOk result (HasTaken C.view (C.decoding decoder.old)
-        (share r given (map taken_in (map view events.now))) done.old done.new) }
-    ensures ranks { (done.new.rank ≡ done.old.rank)
-        × (done.new.state.rank ≡ done.old.state.rank) }
-    ensures same { decoder.new ≡ decoder.old }
+    ensures taken { (r : Reader) (given : List (Notice C.Meaning)) → StandsAt r given state.old
+        → OnOk result (HasTaken C.view (C.decoding worker.old)
+        (share r given (map taken_in (map view events.now))) state.new output.old output.new) }
+    ensures rank { state.new.rank ≡ state.old.rank }
+    ensures same { worker.new ≡ worker.old }
     ensures nothing { OnOk result (GivesNothing effects.new) }
 {
     for event in events {
-        take_step(alloc, decoder, Some(Step::of_event(event)), effects, done)?;
+        let step = Some(Step::of_event(event));
+        take_step(worker, step, effects, state, output)?;
     }
     Ok(())
 }
@@ -97,29 +95,29 @@ fn take_events<'a, C: Catalog>(
 /// Has a reader take the steps of its job, one after the other. What they give is added to the
 /// output.
 pub(crate) fn take_steps<'a, C: Catalog>(
-    alloc: Global,
-    decoder: &mut Decoder<C>,
+    worker: &mut Worker<C>,
     events: &'a [Event<'a>],
     steps: &'a [PlannedStep],
-    done: &mut JobResult<C::Value>,
+    state: &mut ReaderState,
+    output: &mut Output<C::Value>,
 ) -> Result<(), AllocError>
-    ensures taken { (r : Reader) (given : List (Notice C.Meaning)) → StandsAt r given done.old.state
-        → OnOk result (HasTaken C.view (C.decoding decoder.old)
-        (share r given (steps_seen (map view events.now) steps.now)) done.old done.new) }
-    ensures ranks { (done.new.rank ≡ done.old.rank)
-        × (done.new.state.rank ≡ done.old.state.rank) }
-    ensures same { decoder.new ≡ decoder.old }
+    ensures taken { (r : Reader) (given : List (Notice C.Meaning)) → StandsAt r given state.old
+        → OnOk result (HasTaken C.view (C.decoding worker.old)
+        (share r given (steps_seen (map view events.now) steps.now)) state.new output.old
+        output.new) }
+    ensures rank { state.new.rank ≡ state.old.rank }
+    ensures same { worker.new ≡ worker.old }
 {
-    let mut effects = Effects::none(alloc);
+    let mut effects = Effects::none(worker.alloc);
     for planned in steps {
         match planned {
             PlannedStep::TakeIn { first, more } => {
                 let events = stretch(events, *first, *more);
-                take_events(alloc, decoder, events, &mut effects, done)?;
+                take_events(worker, events, &mut effects, state, output)?;
             }
             PlannedStep::Change { event, what } => {
                 let step = change_at(events, *event, what);
-                take_step(alloc, decoder, step, &mut effects, done)?;
+                take_step(worker, step, &mut effects, state, output)?;
             }
         }
     }

@@ -10,9 +10,9 @@ ghost use Rattle.rtps_shards.specs.Work.{AreDone, HasWorked, HaveAllDone, TakesS
 use crate::apart::map_beside;
 use crate::board::{Board, Stolen, Thief};
 use crate::gate::Gate;
-use crate::jobs::{Batch, JobResult, Posted};
-use crate::workers::run_job;
-use dds_topic::{Catalog, Decoder};
+use crate::jobs::{Batch, JobResult, Posted, Worker};
+use crate::workers::run_posted;
+use dds_topic::Catalog;
 use std::alloc::{AllocError, Global};
 use std::thread;
 use std::thread::Threads;
@@ -26,20 +26,19 @@ pub(crate) struct Worked<V> {
 
 /// Runs one job more.
 fn run_more<C: Catalog, G: Gate>(
-    alloc: Global,
+    worker: &mut Worker<&C>,
     batch: &Batch<'_, C, G>,
-    decoder: &mut Decoder<&C>,
     results: &mut Vec<JobResult<C::Value>>,
     work: Posted<C::Value>,
 ) -> Result<(), AllocError>
-    ensures more { decoder.old.now ≡ batch.now.catalog.now → OnOk result
+    ensures more { worker.old.now ≡ batch.now.catalog.now → OnOk result
         ((jobs : List (Posted C.Value)) → AreDone C.view (C.decoding batch.now.catalog.now)
         (map view batch.now.events.now) jobs results.old.items
         → AreDone C.view (C.decoding batch.now.catalog.now) (map view batch.now.events.now)
         (jobs ++ work ∷ []) results.new.items) }
-    ensures same { decoder.new ≡ decoder.old }
+    ensures same { worker.new ≡ worker.old }
 {
-    let done = run_job(alloc, batch, decoder, work)?;
+    let done = run_posted(worker, batch, work)?;
     results.push(done)?;
     Ok(())
 }
@@ -55,11 +54,11 @@ fn run_own<C: Catalog, G: Gate>(
     ensures works { IfOk result (λ rs. Works C.view (C.decoding batch.now.catalog.now)
         (map view batch.now.events.now) (owner_hand board.old) (owner_hand board.new) rs.items) }
 {
-    let mut decoder = Decoder::new(alloc, batch.catalog);
+    let mut worker = Worker::new(alloc, batch.catalog);
     let mut results = Vec::new(alloc);
     for _turn in 0..u64::MAX {
         match board.pop() {
-            Some(work) => run_more(alloc, batch, &mut decoder, &mut results, work)?,
+            Some(work) => run_more(&mut worker, batch, &mut results, work)?,
             None => break,
         }
     }
@@ -78,10 +77,10 @@ pub(crate) fn run_rest<C: Catalog, G: Gate>(
     ensures all { OnOk result (IsPermutation (owner_hand board.new).put
         (owner_hand board.new).taken) }
 {
-    let mut decoder = Decoder::new(alloc, batch.catalog);
+    let mut worker = Worker::new(alloc, batch.catalog);
     let mut results = Vec::new(alloc);
     while let Some(work) = board.pop() {
-        run_more(alloc, batch, &mut decoder, &mut results, work)?;
+        run_more(&mut worker, batch, &mut results, work)?;
     }
     Ok(results)
 }
@@ -104,11 +103,11 @@ impl<V: Drop> Thief<Posted<V>> {
             (map view batch.now.events.now) (thief_hand self.old) (thief_hand self.new) rs.items) }
         ensures lost { OnErr result (TakesSome (thief_hand self.old) (thief_hand self.new)) }
     {
-        let mut decoder = Decoder::new(alloc, batch.catalog);
+        let mut worker = Worker::new(alloc, batch.catalog);
         let mut results = Vec::new(alloc);
         for _turn in 0..u64::MAX {
             match self.steal() {
-                Stolen::Item(work) => run_more(alloc, batch, &mut decoder, &mut results, work)?,
+                Stolen::Item(work) => run_more(&mut worker, batch, &mut results, work)?,
                 Stolen::Empty => break,
                 Stolen::Again => thread::yield_now(),
             }

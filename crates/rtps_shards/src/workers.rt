@@ -1,9 +1,11 @@
 //! Jobs, run by workers.
 
-ghost use Rattle.std.specs.Prelude.{◌≡◌, ℕ, ◌≤◌, ◌++◌, All, IfOk, List, length, map};
+ghost use Rattle.std.specs.Prelude.{◌≡◌, ℕ, ◌≤◌, ◌++◌, All, IfOk, List, OnOk, length, map};
 ghost use Rattle.std.specs.List.Sorted.{IsPermutation};
 ghost use Rattle.rtps_receiver.specs.Events.{view};
-ghost use Rattle.rtps_shards.specs.Results.{IsDone, IsReady, Share, rank_of, rank_in};
+ghost use Rattle.rtps_planner.specs.Plan.{steps_seen};
+ghost use Rattle.rtps_reader.specs.Standing.{StandsAt};
+ghost use Rattle.rtps_shards.specs.Results.{IsDone, IsOutput, IsReady, Share, given_done, rank_of, rank_in, reader_done};
 ghost use Rattle.rtps_shards.specs.Piles.{IsJobDone, IsPileDone};
 ghost use Rattle.dds_topic.specs.Decoding.{Decoding};
 ghost use Rattle.rtps_receiver.specs.Events.{EventView};
@@ -13,42 +15,68 @@ ghost use Rattle.rtps_shards.specs.Work.{AreDone, HasDone, IsBack};
 
 use crate::board::Board;
 use crate::gate::Gate;
-use crate::jobs::{Batch, JobResult, Posted, events_of};
+use crate::jobs::{Batch, JobResult, Posted, Worker, events_of};
 use crate::steps::take_steps;
 use crate::work::{Worked, both_work, run_rest};
-use dds_topic::{Catalog, Decoder};
+use dds_topic::Catalog;
+use rtps_planner::Job;
+use rtps_reader::{Output, ReaderState};
 use std::alloc::{AllocError, Global};
 use std::thread::Threads;
 
-/// Runs one job. Its state and its lists are changed here, and given back by value.
-#[tactic(auto, unfolding(crate::specs::Piles::IsJobDone))]
-pub(crate) fn run_job<C: Catalog, G: Gate>(
-    alloc: Global,
+/// Runs the job of one reader where the reader is. What comes of it is put into the output, in the
+/// place of what is there.
+///
+/// An error is a refused growth.
+pub fn run_job<C: Catalog, G: Gate>(
+    worker: &mut Worker<&C>,
     batch: &Batch<'_, C, G>,
-    decoder: &mut Decoder<&C>,
+    job: &Job,
+    state: &mut ReaderState,
+    output: &mut Output<C::Value>,
+) -> Result<(), AllocError>
+    ensures stands { worker.old.now ≡ batch.now.catalog.now → (s : Share C.Meaning)
+        → steps_seen (map view batch.now.events.now) job.now.steps.items ≡ s.job
+        → StandsAt s.reader s.given state.old → OnOk result (StandsAt (reader_done s)
+        (given_done (C.decoding batch.now.catalog.now) s) state.new) }
+    ensures output { worker.old.now ≡ batch.now.catalog.now → (s : Share C.Meaning)
+        → steps_seen (map view batch.now.events.now) job.now.steps.items ≡ s.job
+        → StandsAt s.reader s.given state.old
+        → OnOk result (IsOutput C.view (C.decoding batch.now.catalog.now) s output.new) }
+    ensures rank { state.new.rank ≡ state.old.rank }
+    ensures same { worker.new ≡ worker.old }
+{
+    output.notices.clear();
+    output.answers.clear();
+    batch.gate.enter(job.rank);
+    let taken = take_steps(worker, batch.events, &job.steps, state, output);
+    batch.gate.leave(job.rank);
+    taken
+}
+
+/// Runs a job that was posted. Its state and its lists are given back by value.
+#[tactic(auto, unfolding(crate::specs::Piles::IsJobDone))]
+pub(crate) fn run_posted<C: Catalog, G: Gate>(
+    worker: &mut Worker<&C>,
+    batch: &Batch<'_, C, G>,
     work: Posted<C::Value>,
 ) -> Result<JobResult<C::Value>, AllocError>
-    ensures done { decoder.old.now ≡ batch.now.catalog.now
+    ensures done { worker.old.now ≡ batch.now.catalog.now
         → IsJobDone C.view (C.decoding batch.now.catalog.now) (map view batch.now.events.now)
         work result }
-    ensures same { decoder.new ≡ decoder.old }
+    ensures same { worker.new ≡ worker.old }
 {
-    let Posted { job, state, output } = work;
-    let rank = job.rank;
-    let mut done = JobResult {
-        rank,
+    let Posted {
+        job,
+        mut state,
+        mut output,
+    } = work;
+    run_job(worker, batch, &job, &mut state, &mut output)?;
+    Ok(JobResult {
+        rank: job.rank,
         state,
         output,
-    };
-    done.output.notices.clear();
-    done.output.answers.clear();
-    batch.gate.enter(rank);
-    let taken = take_steps(alloc, decoder, batch.events, &job.steps, &mut done);
-    batch.gate.leave(rank);
-    match taken {
-        Ok(()) => Ok(done),
-        Err(failed) => Err(failed),
-    }
+    })
 }
 
 /// Runs the jobs of one worker, one after the other. What the catalog keeps from one value to the
@@ -62,10 +90,10 @@ fn run_pile<C: Catalog, G: Gate>(
     ensures { IsPileDone C.view (C.decoding batch.now.catalog.now) (map view batch.now.events.now)
         pile result }
 {
-    let mut decoder = Decoder::new(alloc, batch.catalog);
+    let mut worker = Worker::new(alloc, batch.catalog);
     let mut results = Vec::with_capacity(alloc, pile.len())?;
     for work in pile {
-        let done = run_job(alloc, batch, &mut decoder, work)?;
+        let done = run_posted(&mut worker, batch, work)?;
         results.push(done)?;
     }
     Ok(results)

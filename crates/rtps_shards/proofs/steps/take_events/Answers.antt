@@ -11,7 +11,7 @@ use Rattle.rtps_shards.proofs.steps.take_events.Goals as goal
 pub loop-event-preserved : goal.loop-event-preserved
 loop-event-preserved g c =
     let f = g.C.Catalog.view in
-    let decoding = g.C.Catalog.decoding c.args.decoder.now in
+    let decoding = g.C.Catalog.decoding c.args.worker.now in
     let events = c.args.events.now in
     let i = c.loop-event.event-index in
     let event = c.event-item.result in
@@ -25,17 +25,18 @@ loop-event-preserved g c =
     ∙ map_push taken_in (map view (take i events)) (view event) in
     let asks : map (λ s. (s.place, asked s.what)) (option_to_list (Some c.of_event.result)) ≡ one
     = ap (λ place. (place, asked c.of_event.result.what) ∷ []) c.of_event.ensures.place ∙ ap (λ what. ((view event).place, what) ∷ []) c.of_event.ensures.what in
-    let old = c.args.done.now in
-    let mid = c.loop-event.done in
-    let new = c.take_step.new.done in
+    let old = c.args.output.now in
+    let mid = c.loop-event.output in
+    let new = c.take_step.new.output in
+    let state = c.take_step.new.state in
     record {
       taken = λ r given stands.
           let first = c.loop-event.invariant.taken r given stands in
           let after = given ++ job_told decoding r done in
-          let second : HasTaken f decoding (share (job_run r done) after one) mid new
-          = subst (λ job. HasTaken f decoding (share (job_run r done) after job) mid new) asks (rw c.loop-event.invariant.same at (c.in_ok-take_step.ensures.taken (job_run r done) after first.stands)) in
-          subst (λ job. HasTaken f decoding (share r given job) old new) (sym whole) (taken_more f decoding r given done one old mid new first second);
-      ranks = (c.take_step.ensures.ranks.0 ∙ c.loop-event.invariant.ranks.0, c.take_step.ensures.ranks.1 ∙ c.loop-event.invariant.ranks.1);
+          let second : HasTaken f decoding (share (job_run r done) after one) state mid new
+          = subst (λ job. HasTaken f decoding (share (job_run r done) after job) state mid new) asks (rw c.loop-event.invariant.same at (c.in_ok-take_step.ensures.taken (job_run r done) after first.stands)) in
+          subst (λ job. HasTaken f decoding (share r given job) state old new) (sym whole) (taken_more f decoding r given done one c.loop-event.state state old mid new first second);
+      rank = c.take_step.ensures.rank ∙ c.loop-event.invariant.rank;
       same = c.take_step.ensures.same ∙ c.loop-event.invariant.same;
       nothing = c.in_ok-take_step.ensures.nothing;
     }
@@ -43,6 +44,6 @@ loop-event-preserved g c =
 pub returns-clause-taken : goal.returns-clause-taken
 returns-clause-taken g c r given stands =
     let f = g.C.Catalog.view in
-    let decoding = g.C.Catalog.decoding c.args.decoder.now in
+    let decoding = g.C.Catalog.decoding c.args.worker.now in
     let whole : take c.loop-event.event-index c.args.events.now ≡ c.args.events.now = take_all c.loop-event.event-index c.args.events.now c.loop-event-test.false in
-    subst (λ events. HasTaken f decoding (share r given (map taken_in (map view events))) c.args.done.now c.loop-event.done) whole (c.loop-event.invariant.taken r given stands)
+    subst (λ events. HasTaken f decoding (share r given (map taken_in (map view events))) c.loop-event.state c.args.output.now c.loop-event.output) whole (c.loop-event.invariant.taken r given stands)

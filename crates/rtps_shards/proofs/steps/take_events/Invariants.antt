@@ -11,9 +11,9 @@ use Rattle.rtps_shards.proofs.steps.take_events.Given as goal
 -- the events so far are taken
 abbrev pub invariant-loop-event : goal.invariant-loop-event
 invariant-loop-event g l = record {
-  taken : (r : Reader) (given : List (Notice g.C.Catalog.Meaning)) → StandsAt r given l.fn.done.state
-      → HasTaken g.C.Catalog.view (g.C.Catalog.decoding l.fn.decoder) (share r given (map taken_in (map view (take l.event-index l.events)))) l.fn.done l.done;
-  ranks : (l.done.rank ≡ l.fn.done.rank) × (l.done.state.rank ≡ l.fn.done.state.rank);
-  same : l.decoder ≡ l.fn.decoder;
+  taken : (r : Reader) (given : List (Notice g.C.Catalog.Meaning)) → StandsAt r given l.fn.state
+      → HasTaken g.C.Catalog.view (g.C.Catalog.decoding l.fn.worker) (share r given (map taken_in (map view (take l.event-index l.events)))) l.state l.fn.output l.output;
+  rank : l.state.rank ≡ l.fn.state.rank;
+  same : l.worker ≡ l.fn.worker;
   nothing : GivesNothing l.effects;
 }

@@ -18,7 +18,7 @@ taken_view events first count = sym (take-map view count (drop first events)) �
 pub loop-planned-preserved : goal.loop-planned-preserved
 loop-planned-preserved g c =
     let f = g.C.Catalog.view in
-    let decoding = g.C.Catalog.decoding c.args.decoder.now in
+    let decoding = g.C.Catalog.decoding c.args.worker.now in
     let es = map view c.args.events.now in
     let steps = c.args.steps.now in
     let i = c.loop-planned.planned-index in
@@ -28,8 +28,9 @@ loop-planned-preserved g c =
     let done = steps_seen es (take i steps) in
     let whole : steps_seen es (take (i + 1) steps) ≡ done ++ step_seen es step
     = ap (steps_seen es) (take_more steps i step below ∙ ap (λ s. take i steps ++ s ∷ []) here) ∙ flat_map-append (step_seen es) (take i steps) (step ∷ []) ∙ ap (λ l. done ++ l) (append-nil (step_seen es step)) in
-    let old = c.args.done.now in
-    let mid = c.loop-planned.done in
+    let old = c.args.output.now in
+    let mid = c.loop-planned.output in
+    let middle = c.loop-planned.state in
     elim c.match-planned.branch [
       | in-TakeIn+in_ok-take_events-in-TakeIn w ↦
           let first = w.in-TakeIn.first in
@@ -40,12 +41,12 @@ loop-planned-preserved g c =
             taken = λ r given stands.
                 let one = c.loop-planned.invariant.taken r given stands in
                 let after = given ++ job_told decoding r done in
-                let two : HasTaken f decoding (share (job_run r done) after (step_seen es step)) mid w.take_events.new.done
-                = subst (λ job. HasTaken f decoding (share (job_run r done) after job) mid w.take_events.new.done) seen
+                let two : HasTaken f decoding (share (job_run r done) after (step_seen es step)) w.take_events.new.state mid w.take_events.new.output
+                = subst (λ job. HasTaken f decoding (share (job_run r done) after job) w.take_events.new.state mid w.take_events.new.output) seen
                 (rw c.loop-planned.invariant.same at (w.in_ok-take_events-in-TakeIn.ensures.taken (job_run r done) after one.stands)) in
-                rw w.done-is (subst (λ job. HasTaken f decoding (share r given job) old w.take_events.new.done) (sym whole) (taken_more f decoding r given done (step_seen es step) old mid w.take_events.new.done one two));
-            ranks = rw w.done-is (w.take_events.ensures.ranks.0 ∙ c.loop-planned.invariant.ranks.0, w.take_events.ensures.ranks.1 ∙ c.loop-planned.invariant.ranks.1);
-            same = w.decoder-is ∙ w.take_events.ensures.same ∙ c.loop-planned.invariant.same;
+                rw (w.state-is, w.output-is) (subst (λ job. HasTaken f decoding (share r given job) w.take_events.new.state old w.take_events.new.output) (sym whole) (taken_more f decoding r given done (step_seen es step) middle w.take_events.new.state old mid w.take_events.new.output one two));
+            rank = rw w.state-is (w.take_events.ensures.rank ∙ c.loop-planned.invariant.rank);
+            same = w.worker-is ∙ w.take_events.ensures.same ∙ c.loop-planned.invariant.same;
             nothing = rw w.effects-is w.in_ok-take_events-in-TakeIn.ensures.nothing;
           }
       | in-Change+in_ok-take_step-in-Change w ↦
@@ -54,12 +55,12 @@ loop-planned-preserved g c =
             taken = λ r given stands.
                 let one = c.loop-planned.invariant.taken r given stands in
                 let after = given ++ job_told decoding r done in
-                let two : HasTaken f decoding (share (job_run r done) after (step_seen es step)) mid w.take_step.new.done
-                = subst (λ job. HasTaken f decoding (share (job_run r done) after job) mid w.take_step.new.done) seen
+                let two : HasTaken f decoding (share (job_run r done) after (step_seen es step)) w.take_step.new.state mid w.take_step.new.output
+                = subst (λ job. HasTaken f decoding (share (job_run r done) after job) w.take_step.new.state mid w.take_step.new.output) seen
                 (rw c.loop-planned.invariant.same at (w.in_ok-take_step-in-Change.ensures.taken (job_run r done) after one.stands)) in
-                rw w.done-is (subst (λ job. HasTaken f decoding (share r given job) old w.take_step.new.done) (sym whole) (taken_more f decoding r given done (step_seen es step) old mid w.take_step.new.done one two));
-            ranks = rw w.done-is (w.take_step.ensures.ranks.0 ∙ c.loop-planned.invariant.ranks.0, w.take_step.ensures.ranks.1 ∙ c.loop-planned.invariant.ranks.1);
-            same = w.decoder-is ∙ w.take_step.ensures.same ∙ c.loop-planned.invariant.same;
+                rw (w.state-is, w.output-is) (subst (λ job. HasTaken f decoding (share r given job) w.take_step.new.state old w.take_step.new.output) (sym whole) (taken_more f decoding r given done (step_seen es step) middle w.take_step.new.state old mid w.take_step.new.output one two));
+            rank = rw w.state-is (w.take_step.ensures.rank ∙ c.loop-planned.invariant.rank);
+            same = w.worker-is ∙ w.take_step.ensures.same ∙ c.loop-planned.invariant.same;
             nothing = rw w.effects-is w.in_ok-take_step-in-Change.ensures.nothing;
           }
     ]
@@ -67,7 +68,7 @@ loop-planned-preserved g c =
 pub returns-clause-taken : goal.returns-clause-taken
 returns-clause-taken g c r given stands =
     let f = g.C.Catalog.view in
-    let decoding = g.C.Catalog.decoding c.args.decoder.now in
+    let decoding = g.C.Catalog.decoding c.args.worker.now in
     let es = map view c.args.events.now in
     let whole : take c.loop-planned.planned-index c.args.steps.now ≡ c.args.steps.now = take_all c.loop-planned.planned-index c.args.steps.now c.loop-planned-test.false in
-    subst (λ steps. HasTaken f decoding (share r given (steps_seen es steps)) c.args.done.now c.loop-planned.done) whole (c.loop-planned.invariant.taken r given stands)
+    subst (λ steps. HasTaken f decoding (share r given (steps_seen es steps)) c.loop-planned.state c.args.output.now c.loop-planned.output) whole (c.loop-planned.invariant.taken r given stands)

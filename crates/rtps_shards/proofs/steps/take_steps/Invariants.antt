@@ -11,9 +11,9 @@ use Rattle.rtps_shards.proofs.steps.take_steps.Given as goal
 -- the steps so far are taken
 abbrev pub invariant-loop-planned : goal.invariant-loop-planned
 invariant-loop-planned g l = record {
-  taken : (r : Reader) (given : List (Notice g.C.Catalog.Meaning)) → StandsAt r given l.fn.done.state
-      → HasTaken g.C.Catalog.view (g.C.Catalog.decoding l.fn.decoder) (share r given (steps_seen (map view l.events) (take l.planned-index l.steps))) l.fn.done l.done;
-  ranks : (l.done.rank ≡ l.fn.done.rank) × (l.done.state.rank ≡ l.fn.done.state.rank);
-  same : l.decoder ≡ l.fn.decoder;
+  taken : (r : Reader) (given : List (Notice g.C.Catalog.Meaning)) → StandsAt r given l.fn.state
+      → HasTaken g.C.Catalog.view (g.C.Catalog.decoding l.fn.worker) (share r given (steps_seen (map view l.events) (take l.planned-index l.steps))) l.state l.fn.output l.output;
+  rank : l.state.rank ≡ l.fn.state.rank;
+  same : l.worker ≡ l.fn.worker;
   nothing : GivesNothing l.effects;
 }

@@ -9,5 +9,5 @@ abbrev pub invariant-loop-turn : goal.invariant-loop-turn
 invariant-loop-turn g l = record {
   board : IsSameBoard l.fn.board l.board;
   works : Works g.C.Catalog.view (g.C.Catalog.decoding l.batch.catalog.now) (map view l.batch.events.now) (owner_hand l.fn.board) (owner_hand l.board) l.results.items;
-  catalog : l.decoder.now ≡ l.batch.catalog.now;
+  catalog : l.worker.now ≡ l.batch.catalog.now;
 }

@@ -9,7 +9,7 @@ abbrev pub invariant-loop-work : goal.invariant-loop-work
 invariant-loop-work g l = record {
   works : Works g.C.Catalog.view (g.C.Catalog.decoding l.batch.catalog.now) (map view l.batch.events.now) (owner_hand l.fn.board) (owner_hand l.board) l.results.items;
   whole : (owner_hand l.board).parts ≡ 1024;
-  catalog : l.decoder.now ≡ l.batch.catalog.now;
+  catalog : l.worker.now ≡ l.batch.catalog.now;
 }
 
 abbrev pub decreases-loop-work : goal.decreases-loop-work

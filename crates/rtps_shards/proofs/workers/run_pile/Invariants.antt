@@ -10,5 +10,5 @@ invariant-loop-work g l = record {
       → All (IsDone g.C.Catalog.view (g.C.Catalog.decoding l.batch.catalog.now) shares) l.results.items;
   ranks : map rank_of l.results.items ≡ map rank_in l.yielded;
   left : l.fn.pile.items ≡ l.yielded ++ l.work-iterator.rest.items;
-  catalog : l.decoder.now ≡ l.batch.catalog.now;
+  catalog : l.worker.now ≡ l.batch.catalog.now;
 }

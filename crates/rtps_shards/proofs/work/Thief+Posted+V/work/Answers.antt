@@ -17,12 +17,12 @@ loop-turn-preserved g c =
         board = c.steal.ensures.board ∙ c.loop-turn.invariant.board;
         works = rw w.results-is (works_more f d es (thief_hand c.args.self.now) (thief_hand c.loop-turn.self) (thief_hand c.steal.new.self) w.in-Item.work
             c.loop-turn.results.items w.run_more.new.results.items c.loop-turn.invariant.works (w.in_ok-run_more-in-Item.ensures.more c.loop-turn.invariant.catalog) w.in-Item.ensures.hand);
-        catalog = rw w.decoder-is (search rules);
+        catalog = rw w.worker-is (search rules);
       }
       | in-Again w ↦ record {
         board = c.steal.ensures.board ∙ c.loop-turn.invariant.board;
         works = rw w.results-is (subst (λ (v : Hand _). Works f d es (thief_hand c.args.self.now) v c.loop-turn.results.items) (sym w.in-Again.ensures.hand) c.loop-turn.invariant.works);
-        catalog = rw w.decoder-is c.loop-turn.invariant.catalog;
+        catalog = rw w.worker-is c.loop-turn.invariant.catalog;
       }
     ]
 

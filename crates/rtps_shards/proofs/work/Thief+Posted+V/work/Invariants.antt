@@ -9,5 +9,5 @@ abbrev pub invariant-loop-turn : goal.invariant-loop-turn
 invariant-loop-turn g l = record {
   board : IsSameThief l.fn.self l.self;
   works : Works g.C.Catalog.view (g.C.Catalog.decoding l.batch.catalog.now) (map view l.batch.events.now) (thief_hand l.fn.self) (thief_hand l.self) l.results.items;
-  catalog : l.decoder.now ≡ l.batch.catalog.now;
+  catalog : l.worker.now ≡ l.batch.catalog.now;
 }
