@@ -18,7 +18,8 @@ pub record RowsView : Type 0 where
 abbrev pub rows_upto : Front → RowsView
 rows_upto front = record { board = front.seen.book; rows = front.seen.log }
 
--- a look showed the last of the rows that are known then, which begin with those known before
+-- a look showed the last row that is known after it; the rows known after it begin with those known
+-- before
 pub record ShowsRow (before after : List RowView) (rank : ℕ) (result : Option Look)
     : Type 0 where
   pub later : IsPrefix before after
@@ -35,9 +36,9 @@ abbrev pub Looks : List RowView → List RowView → ℕ → Option Look → Typ
 Looks before after rank result =
     ShowsNothing before after result ⊎ ShowsRow before after rank result
 
--- a reader that knew some rows and learnt others looked twice: the first look shows the last of
--- rows that begin with all that were known and learnt, the second the last of rows that begin with
--- those of the first
+-- a reader that knew some rows and learnt others looked twice: the first look shows the last row of
+-- a list that begins with the known rows and with the learnt ones, the second look the last row of
+-- a list that begins with the first list
 pub record NotBefore
     (known learnt : List RowView)
     (rank : ℕ)

@@ -1,4 +1,4 @@
--- The history of a board: its rule, and what a step says.
+-- The history of a board: its rule, and the effect of a step.
 use Rattle.std.specs.Prelude.{ℕ, ◌≡◌, ◌==◌, ◌+◌, true, List, [], ◌∷◌, ◌++◌, length, MatchBool}
 use Rattle.logbook.specs.Pages.{Book, Cell, Named, Step, View}
 use Rattle.dds_outlet.specs.declared.row.RowView.{RowView}
@@ -13,7 +13,8 @@ pub record IsKept (cells : List Cell) (log : List RowView) : Type 0 where
 abbrev pub head_of : Book → Named
 head_of book = record { tracked = true; key = 0; book = book }
 
--- where the word was the number that the step expects, its row was added to all that had been seen
+-- if the word was the number that the step expects, the row of the step was appended to all rows
+-- that had been seen
 abbrev pub Adds : Step RowView → View RowView ℕ → ℕ → View RowView ℕ → Type 0
 Adds step before found after =
     MatchBool (found == step.old) (after.0 ≡ before.0 ++ step.ask ∷ []) (Unit {0})

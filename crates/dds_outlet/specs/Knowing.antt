@@ -29,7 +29,7 @@ AllFit shown seats =
 abbrev pub Knows : Known → Book → Type 0
 Knows seat book = (seat.knows ≡ true) × (book_of seat ≡ book)
 
--- where one row gives way to another, or stays, a seat comes to know the history of the later one,
--- which is the history that it knew, if it knew one
+-- when one row replaces another, or stays, a seat learns the history of the later one; if it knew a
+-- history before, it is the same
 abbrev pub Sees : Known → Shown → Shown → Known → Type 0
 Sees before old new after = Knows after new.front.seen.book × Fits before new

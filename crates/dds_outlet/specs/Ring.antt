@@ -4,14 +4,14 @@ use denote.RawPtr.{Ptr}
 use Rattle.rtrb.specs.declared.end.End.{End}
 use Rattle.rtps_reader.specs.declared.notice.Notice.{Notice}
 
--- which ring an end is of
+-- what tells one ring from another
 pub record RingName (A : Type 0) : Type 0 where
   pub words : Ptr
   pub slots : Ptr
   pub names : ℕ × (ℕ × ℕ)
   pub heap : A
 
--- the ring that an end is of
+-- the ring that an end belongs to
 abbrev pub name_of : {T A P : Type 0} → End T A P → RingName A
 name_of end = record {
   words = end.words;
@@ -44,13 +44,12 @@ pub record Finished (V A : Type 0) : Type 0 where
   pub ring : RingName A
   pub sent : List (Notice V)
 
--- a notice that was put back was popped, and isn't received: it is the last of those that were
--- popped
+-- the notices received: those popped, without the last one if it was put back
 abbrev pub received_of : {V : Type 0} → Option (Notice V) → List (Notice V) → List (Notice V)
 received_of None popped = popped
 received_of (Some notice) popped = take (length popped - 1) popped
 
--- what was put back was popped last
+-- the notice that was put back, if there is one, is the one that was popped last
 abbrev pub IsPoppedLast : {V : Type 0} → Option (Notice V) → List (Notice V) → Type 0
 IsPoppedLast None popped = Unit {0}
 IsPoppedLast (Some notice) popped = popped ≡ received_of (Some notice) popped ++ notice ∷ []

@@ -18,7 +18,7 @@ look_at row rank =
     (λ (entry : ℕ × Status). record { batch = row.batch; status = entry.1 })
     (find (λ entry. entry.0 == rank) row.statuses)
 
--- the status of a reader without fixed matches to which nothing came
+-- the status of a reader that has no fixed matches and has received nothing
 abbrev pub idle : Status
 idle = record {
   matched_total = 0;

@@ -22,11 +22,11 @@ type BoardWriter = Writer<Shown, u64, Known, OneHistory>;
 
 type BoardReader = Reader<Shown, Known, OneHistory>;
 
-/// The end of a board that publishes rows, for the thread that receives. Contracts see the rows up
-/// to now, the opening row first.
+/// The end of a board that publishes rows, for the thread that receives. Contracts see all rows
+/// published so far, the opening row first.
 ///
-/// It is not `Drop`: [`StatusBoard::end`] ends it, which waits for those that look. The thread that
-/// receives has the board, and another one a reader of it:
+/// It is not `Drop`: [`StatusBoard::end`] ends it, which waits for readers that are looking. The
+/// thread that receives has the board, and another thread has a reader of it:
 ///
 /// ```text
 /// let mut board = StatusBoard::new(&rt, alloc, 1, 4)?;
@@ -62,9 +62,8 @@ impl Model for StatusBoard {
         × Knows (known_by b.writer.desk.place) b.writer.desk.shown.value.front.seen.book };
 }
 
-/// An end of a board that looks at the row which is shown, for one thread at a time. It can move to
-/// another thread, and be kept when the board has ended. Contracts see the rows up to the last one
-/// that it saw or learnt.
+/// An end of a board that reads the newest row, for one thread at a time. It can move to another
+/// thread, and outlive the board. Contracts see the rows up to the last one that it saw or learnt.
 #[derive(Drop)]
 pub struct StatusReader {
     reader: BoardReader,
@@ -83,8 +82,8 @@ impl Model for StatusReader {
     ghost invariant = { λ r. Knows (known_by r.reader.place) r.front.seen.book };
 }
 
-/// What was published up to some moment, to be sent to any thread, for its reader to learn.
-/// Contracts see those rows.
+/// The rows published up to some moment. It can be sent to any thread, for a [`StatusReader`] to
+/// learn. Contracts see those rows.
 #[derive(Drop)]
 pub struct Told {
     front: Front,
@@ -98,7 +97,7 @@ impl Model for Told {
     ghost view = { λ t. rows_upto t.front };
 }
 
-/// A row of idle statuses, of the ranks below a number.
+/// Returns a row of idle statuses, for the ranks below `readers`.
 fn opening_row(alloc: Global, readers: u32) -> Result<Row, AllocError>
     ensures { IfOk result (λ row. row_view row ≡ opening readers) }
 {
@@ -109,7 +108,7 @@ fn opening_row(alloc: Global, readers: u32) -> Result<Row, AllocError>
     Ok(Row { batch: 0, statuses })
 }
 
-/// What a row says of a rank.
+/// Returns what a row has for a rank, or `None` where it lacks the rank.
 fn find(row: &Row, rank: u32) -> Option<Look>
     ensures { result ≡ look_at (row_view row.now) rank }
 {
@@ -124,14 +123,13 @@ fn find(row: &Row, rank: u32) -> Option<Look>
     None
 }
 
-/// Shows a row in the place of the one before. It takes no memory, so that a row which is in the
-/// history is always shown.
+/// Replaces the row that is shown. It takes no memory, so that each row of the history is shown.
 ///
-/// The desk of a `Writer`, its `open` and its `show_as` are public in `left_right`, but on no page
-/// of it, so they are called here alone. If a later version hides them, a row becomes an operation,
-/// as an `Arc<Row>`, which is appended and published by `publish_as`; `new` takes the room for a
-/// few operations, and a board whose table refuses a row that its history has refuses all later
-/// ones.
+/// The desk of a `Writer`, its `open` and its `show_as` are public in `left_right` but
+/// undocumented, so they are called only here. If a later version hides them, a row can be an
+/// operation instead (an `Arc<Row>`), which is appended and published by `publish_as`. Then `new`
+/// has to take the room for a few operations, and a board whose table refuses a row that its
+/// history has must refuse all later ones.
 fn show<R: Wait>(rt: &R, mut writer: BoardWriter, next: Shown) -> BoardWriter
     requires { next.front.seen.book ≡ writer.desk.shown.value.front.seen.book }
     ensures shown { result.desk.shown.value ≡ next }
@@ -162,7 +160,7 @@ fn put_up<R: Wait>(rt: &R, board: StatusBoard, row: Row) -> (StatusBoard, Result
     }
 }
 
-/// One look.
+/// Looks at a rank once.
 fn look_once(end: StatusReader, rank: u32) -> (StatusReader, Option<Look>)
     ensures board { result.0.board ≡ end.board }
     ensures look { Looks end.rows result.0.rows rank result.1 }
@@ -173,7 +171,7 @@ fn look_once(end: StatusReader, rank: u32) -> (StatusReader, Option<Look>)
         Ok(reading) => {
             let shown = reading.get();
             if !front.reach(&shown.front) {
-                // This can't come: a reader knows only rows that were shown before.
+                // This can't happen: a reader knows only rows that were shown before.
                 let reader = reading.leave();
                 return (StatusReader { reader, front }, None);
             }
@@ -185,12 +183,13 @@ fn look_once(end: StatusReader, rank: u32) -> (StatusReader, Option<Look>)
 }
 
 impl StatusBoard {
-    /// A board with places for a number of status readers, which shows the opening row: batch 0,
-    /// and for each rank below `readers` the status of a reader without fixed matches to which
-    /// nothing came. An error is a refused growth. No later call takes memory.
+    /// Returns a board with places for `places` status readers, which shows the opening row: batch
+    /// 0, and for each rank below `readers` the status of a reader that has no fixed matches and
+    /// has received nothing. An error is a refused growth. No later call takes memory.
     ///
-    /// It shows that row by the same step as [`StatusBoard::publish`], so by its bound it may wait,
-    /// and promises its result if it returns. But nobody looks yet for whom it would wait.
+    /// It shows that row by the same step as [`StatusBoard::publish`], so its bound `Wait` allows
+    /// it to wait, and its result is promised only if it returns. But there is no reader yet to
+    /// wait for.
     pub fn new<R: Wait>(
         rt: &R,
         alloc: Global,
@@ -212,14 +211,14 @@ impl StatusBoard {
             front: front.again(),
         };
         let writer = Writer::new(alloc, first, second, places)?;
-        // The writer learns which history its rows are of only as it shows one.
+        // The writer learns the history of its rows only when it shows one.
         let writer = show(rt, writer, Shown { row, front });
         Ok(StatusBoard { writer, head })
     }
 
-    /// A reader that knows all rows up to now. It has one of the board's places until it is
-    /// dropped. `None` says that no place was found; that may come at any time, as while readers
-    /// come and go.
+    /// Returns a reader that knows all rows published so far. It has one of the board's places
+    /// until it is dropped. `None` says that no place was found. That may happen at any time, for
+    /// example while readers come and go.
     pub fn reader(&mut self) -> Option<StatusReader>
         ensures board { self.new ≡ self.old }
         ensures reader { IfSome result (λ reader. reader ≡ self.old) }
@@ -235,9 +234,9 @@ impl StatusBoard {
     /// Shows a row to each look from now on. It may have more ranks than the rows before, or fewer,
     /// and its number of batches isn't compared with theirs.
     ///
-    /// It takes no memory: the row is laid where the row before the last one was, so it waits for
-    /// those who still look at that one, and promises its result if it returns. A row comes back
-    /// only after 2^64 - 1 rows, when no number is left.
+    /// It takes no memory: the row overwrites the row before the last one. So it waits for readers
+    /// that still look at that one, and its result is promised only if it returns. A row is
+    /// returned as the error only after 2^64 - 1 rows, when no number is left.
     pub fn publish<R: Wait>(&mut self, rt: &R, row: Row) -> Result<(), Row>
         ensures board { self.new.board ≡ self.old.board }
         ensures rows { MatchResult result
@@ -247,7 +246,7 @@ impl StatusBoard {
         replace_with(self, row, |board, row| put_up(rt, board, row))
     }
 
-    /// What was published up to now, for readers of this board to learn.
+    /// Returns the rows published so far, for readers of this board to learn.
     pub fn tell(&self) -> Told
         ensures { result ≡ self.now }
     {
@@ -256,8 +255,8 @@ impl StatusBoard {
         }
     }
 
-    /// A law, of which nothing is run: the rows that a reader knows and those that were published
-    /// are beginnings of one list.
+    /// A law, for proofs alone: of the rows that a reader knows and the rows that were published,
+    /// one list is a prefix of the other.
     pub fn one_list(&self, reader: &StatusReader)
         requires { reader.now.board ≡ self.now.board }
         ensures { IsPrefix reader.now.rows self.now.rows
@@ -266,7 +265,8 @@ impl StatusBoard {
         self.writer.published().front.one_list(&reader.front);
     }
 
-    /// Ends the board. It waits for those who look; when it has returned each look is `None`.
+    /// Ends the board. It waits for readers that are looking; after it has returned, every look is
+    /// `None`.
     pub fn end<R: Wait>(self, rt: &R) {
         let StatusBoard { writer, head: _ } = self;
         drop(writer.take(rt));
@@ -274,12 +274,12 @@ impl StatusBoard {
 }
 
 impl StatusReader {
-    /// What the row that is shown says of a rank. It waits for nobody and takes no memory. While it
+    /// Returns what the newest row says of a rank. It doesn't wait and takes no memory. While it
     /// copies the status, a `publish` that needs this row's place in memory waits for it.
     ///
     /// `None` says that the row lacks the rank, or that the board can't be entered, as when it has
     /// ended. By the contract it may also say that the row is older than what the reader knows;
-    /// that can't come, since [`StatusBoard::tell`] gives only rows that were shown.
+    /// that can't happen, since [`StatusBoard::tell`] gives only rows that were shown.
     pub fn look(&mut self, rank: u32) -> Option<Look>
         ensures board { self.new.board ≡ self.old.board }
         ensures look { Looks self.old.rows self.new.rows rank result }
@@ -287,8 +287,8 @@ impl StatusReader {
         replace_with(self, rank, look_once)
     }
 
-    /// From now on no look shows a row before the last of those that the board had published. What
-    /// a reader learns late changes nothing, if it has seen later rows since.
+    /// Learns rows: from now on no look shows a row before the last one of `told`. It changes
+    /// nothing if the reader has already seen that row or a later one.
     pub fn learn(&mut self, told: Told)
         requires { told.board ≡ self.old.board }
         ensures board { self.new.board ≡ self.old.board }

@@ -1,5 +1,5 @@
-//! The history of a board: its rows in order, which only grows. In memory it is the number of the
-//! last row alone; the rows themselves are named in the proofs.
+//! The history of a board: the list of its rows, which only grows. Memory has only the number of
+//! the last row; the rows themselves appear in the proofs alone.
 
 ghost use Rattle.std.specs.Prelude.{◌≡◌, ◌+◌, ◌≤◌, [], ◌∷◌, ◌++◌, ◌⊎◌, length, MatchBool, IfSome};
 ghost use mathlib.Core.List.{IsPrefix};
@@ -67,10 +67,10 @@ impl Plain<Row, RowView, u64> for Add {
     ghost state = { λ row. None };
 }
 
-/// The word of a history: who has it can add rows.
+/// The word of a history. Whoever has it can add rows.
 pub type Head = Word<RowView, u64, Numbered>;
 
-/// The rows of a history up to one that was reached, and that one's number.
+/// The rows of a history up to one of them, and the number of that row.
 #[derive(Drop)]
 pub struct Front {
     number: u64,
@@ -89,7 +89,7 @@ impl Front {
         (Word::tracked(0, &mut pen), Front { number: 0, seen })
     }
 
-    /// The same front once more.
+    /// Returns a copy of this front.
     pub fn again(&self) -> Front
         ensures { result.seen ≡ self.now.seen }
     {
@@ -99,7 +99,8 @@ impl Front {
         }
     }
 
-    /// Goes on to another front of the same history, unless that one is shorter.
+    /// Advances to another front of the same history, unless that one is shorter. Returns whether
+    /// it did.
     pub fn reach(&mut self, other: &Front) -> bool
         requires { other.now.seen.book ≡ self.old.seen.book }
         ensures book { self.new.seen.book ≡ self.old.seen.book }
@@ -109,7 +110,7 @@ impl Front {
             × IsPrefix other.now.seen.log self.new.seen.log) }
         ensures later { IsPrefix self.old.seen.log self.new.seen.log }
     {
-        // Both begin what was reached of the history, so that one begins the other.
+        // Both are prefixes of `reached`, so one is a prefix of the other.
         let mut reached = self.seen.again();
         reached.learn(&other.seen);
         if other.number < self.number {
@@ -119,7 +120,7 @@ impl Front {
         true
     }
 
-    /// A law: of two fronts of one history one begins the other.
+    /// A law: of two fronts of one history, one is a prefix of the other.
     pub fn one_list(&self, other: &Front)
         requires { other.now.seen.book ≡ self.now.seen.book }
         ensures { IsPrefix other.now.seen.log self.now.seen.log
@@ -129,8 +130,8 @@ impl Front {
         reached.learn(&other.seen);
     }
 
-    /// The front of the history with a row more, or `None` where the last number is the greatest,
-    /// or where the history has gone on from this front already.
+    /// Returns the front of the history with one more row, or `None` where no number is left, or
+    /// where the history has more rows than this front already.
     pub fn added(&self, head: &Head, row: &Row) -> Option<Front>
         requires { head.now ≡ head_of self.now.seen.book }
         ensures { IfSome result (λ front.

@@ -1,5 +1,5 @@
-//! What a thread that receives hands to the threads of an application: a ring for the notices of a
-//! reader, and a board of statuses, at which they look without waiting.
+//! Hands data from a thread that receives to the threads of an application: a ring for the notices
+//! of a reader, and a board of statuses, which they read without waiting.
 #![tactic(auto)]
 
 mod board;

@@ -1,4 +1,4 @@
-//! A ring is made.
+//! Making a ring.
 
 ghost use Rattle.std.specs.Prelude.{◌≡◌, [], ◌≤◌, false, IfOk};
 
@@ -7,9 +7,9 @@ use rtps_reader::Notice;
 use rtrb::RingBuffer;
 use std::alloc::{AllocError, Allocator};
 
-/// A ring with `capacity` places for notices, 1 to 65,536: the end that they are delivered to, and
-/// the end that they come out of. Each may move to a thread of its own. An error is a refused
-/// growth; no call on the ends takes memory, and none waits.
+/// Makes a ring with `capacity` places for notices, 1 to 65,536. Returns the end that notices are
+/// delivered to, and the end that they are popped from. Each may move to a thread of its own. An
+/// error is a refused growth; no call on the ends takes memory, and none waits.
 ///
 /// ```
 /// let (mut outlet, mut inlet) = dds_outlet::outlet(alloc, 64)?;

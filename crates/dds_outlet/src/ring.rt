@@ -35,7 +35,7 @@ pub struct Inlet<V, A: Allocator = Global> {
     consumer: Consumer<Notice<V>, A>,
     /// The notice that was popped last, where it was put back.
     back: Option<Notice<V>>,
-    /// Whether all that was sent is known.
+    /// Whether this end knows all that was sent.
     is_last: bool,
 }
 
@@ -55,7 +55,7 @@ impl<V, A: Allocator> Model for Inlet<V, A> {
         × IsPoppedLast i.back (popped i.consumer) };
 }
 
-/// What an outlet had sent when it finished, to be shown to its inlet.
+/// What an outlet had sent when it finished, for [`Inlet::known_all`].
 #[derive(Drop)]
 pub struct Sent<V, A: Allocator = Global> {
     finished: rtrb::Finished<Notice<V>, A>,
@@ -80,8 +80,8 @@ impl<V, A: Allocator> Outlet<V, A> {
         Outlet { producer }
     }
 
-    /// Delivers a notice, or hands it back where the ring is full. The inlet frees a place by each
-    /// pop, which this end sees when it finds no other place.
+    /// Delivers a notice, or returns it as the error where the ring is full. Each pop of the inlet
+    /// frees a place. This end looks for freed places only when it knows of no other free place.
     pub fn deliver(&mut self, notice: Notice<V>) -> Result<(), Notice<V>>
         ensures ring { (self.new.ring ≡ self.old.ring) × (self.new.capacity ≡ self.old.capacity) }
         ensures sent { OnOk result ((self.new.sent ≡ self.old.sent ++ notice ∷ [])
@@ -96,8 +96,8 @@ impl<V, A: Allocator> Outlet<V, A> {
         }
     }
 
-    /// Ends the sending. What was sent is to be shown to the inlet, by `Inlet::known_all`; `None`
-    /// where the inlet is gone.
+    /// Ends the sending. Returns what was sent, for [`Inlet::known_all`], or `None` where the inlet
+    /// is gone.
     pub fn finish(self) -> Option<Sent<V, A>>
     where
         V: Drop,
@@ -109,7 +109,7 @@ impl<V, A: Allocator> Outlet<V, A> {
     }
 }
 
-/// The next notice of a ring; once all that was sent is known, the next of what is known.
+/// Pops the next notice of a ring. If `is_last`, only notices that this end knows already are left.
 fn pop_ring<V, A: Allocator>(
     consumer: &mut Consumer<Notice<V>, A>,
     is_last: bool,
@@ -149,15 +149,15 @@ impl<V, A: Allocator> Inlet<V, A> {
         }
     }
 
-    /// How many notices the ring has places for.
+    /// The number of places in the ring.
     pub fn capacity(&self) -> usize
         ensures { (result ≡ self.now.capacity) × (result ≤ 65536) }
     {
         self.consumer.capacity()
     }
 
-    /// Takes the next notice out of the ring, or gives `None` where it sees none. A notice that was
-    /// put back comes first; its place was freed when it was first popped.
+    /// Takes the next notice out of the ring, or returns `None` where it sees none. A notice that
+    /// was put back comes first; its place was freed when it was first popped.
     pub fn pop(&mut self) -> Option<Notice<V>>
     where
         V: Drop,
@@ -194,8 +194,8 @@ impl<V, A: Allocator> Inlet<V, A> {
         self.back = Some(notice);
     }
 
-    /// Sees all that the outlet of the ring had sent when it finished: from now on pops give what
-    /// is left of it, and then `None`.
+    /// Learns all that the outlet of the ring had sent when it finished: from now on pops return
+    /// what is left of it, and then `None`.
     pub fn known_all(&mut self, sent: &mut Sent<V, A>)
         requires { sent.old.ring ≡ self.old.ring }
         ensures inlet { (self.new.ring ≡ self.old.ring)

@@ -3,7 +3,7 @@
 use rtps_reader::Status;
 use std::collections::LinkedList;
 
-/// The status of a reader without fixed matches to which nothing came.
+/// The status of a reader that has no fixed matches and has received nothing.
 pub(crate) const IDLE: Status = Status {
     matched_total: 0,
     matched_now: 0,
@@ -13,12 +13,12 @@ pub(crate) const IDLE: Status = Status {
     samples: 0,
 };
 
-/// The statuses of the readers of a participant, all of one moment.
+/// The statuses of the readers of a participant, all at one moment.
 #[derive(Debug, Drop)]
 pub struct Row {
-    /// How many batches had been taken: the number of the last one, or 0 before any.
+    /// The number of batches taken so far, 0 before the first.
     pub batch: u64,
-    /// Each status with the rank of its reader. Of a rank that comes twice the first counts.
+    /// Each status with the rank of its reader. If a rank occurs twice, its first status counts.
     pub statuses: Vec<(u32, Status)>,
 }
 

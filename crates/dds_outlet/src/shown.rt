@@ -1,4 +1,4 @@
-//! What lies in the two copies of the table.
+//! The contents of the two copies of the table.
 
 ghost use Rattle.std.specs.Prelude.{◌≡◌, None, Some};
 ghost use Rattle.std.specs.List.{last_or};
@@ -17,7 +17,8 @@ pub struct Shown {
     ghost ends: { last_or None front.seen.log ≡ Some (row_view row) },
 }
 
-/// The table asks for operations. There are none: the spare copy is replaced as a whole.
+/// The table requires a type of operations. None is ever logged: the spare copy is replaced as a
+/// whole.
 impl Absorb<u64> for Shown {
     type State = ();
 

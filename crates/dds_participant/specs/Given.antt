@@ -1,4 +1,4 @@
--- What a batch gives, in lists by rank and by place (DDSI-RTPS 8.3.4, 8.4.10).
+-- The results of a batch, in lists by rank and by place (DDSI-RTPS 8.3.4, 8.4.10).
 use Rattle.std.specs.Prelude.{◌≡◌, ℕ, zero, suc, ◌<◌, List, [], ◌∷◌, ◌++◌, length, map}
 use Rattle.std.specs.List.{flat_map}
 use Rattle.std.specs.declared.alloc.Global.{Global}
@@ -15,13 +15,13 @@ use Rattle.rtps_planner.specs.Commuting.{Parts, answers_at, merged, notices_at}
 use Rattle.rtps_planner.specs.Gather.{AreRising, sent_in}
 use Rattle.dds_participant.specs.declared.given.Given.{Given}
 
--- what the reader of a rank gives out; nothing where there is no such reader
+-- the notices of the reader of a rank; none if there is no such reader
 abbrev pub told_in : {V M : Type 0} → (V → M) → List (Output V Global) → ℕ → List (Notice M)
 told_in f [] rank = []
 told_in f (o ∷ os) zero = map (reader.notice_view f) o.notices.items
 told_in f (o ∷ os) (suc rank) = told_in f os rank
 
--- the parts of a batch: what discovery answers, and what each reader gives out and sends
+-- the parts of a batch: discovery's answers, and the notices and the answers of each reader
 abbrev pub parts_given : {V M : Type 0} → (V → M) → Given V → Parts M
 parts_given f given = record {
   answers = map reader.answer_view given.answers.items;
@@ -29,15 +29,15 @@ parts_given f given = record {
   sent = sent_in given.outputs.items;
 }
 
--- a list is by place: taken place by place, it is the same list
+-- a list is sorted by place: collecting its items place by place gives the same list
 abbrev pub AreNoticesAlong : {M : Type 0} → List Place → List (Notice M) → Type 0
 AreNoticesAlong places notices = flat_map (λ p. notices_at p notices) places ≡ notices
 
 abbrev pub AreAnswersAlong : List Place → List (Place × ReplyView) → Type 0
 AreAnswersAlong places answers = flat_map (λ p. answers_at p answers) places ≡ answers
 
--- A batch gave what one world put out more than another: its parts, merged by its places; and by
--- itself each reader gave its own notices. Its lists are by place.
+-- The results of a batch are all that was put out between two worlds: its parts, merged by its
+-- places; and each reader's list has all notices of that reader. The lists are sorted by place.
 pub record IsGiven {V M : Type 0} (f : V → M) (before after : World M) (given : Given V)
     : Type 0 where
   pub readers : length given.outputs.items ≡ reader_count after
@@ -50,14 +50,14 @@ pub record IsGiven {V M : Type 0} (f : V → M) (before after : World M) (given 
   pub notices : (rank : ℕ) → AreNoticesAlong given.places.items (told_in f given.outputs.items rank)
   pub answers : (rank : ℕ) → AreAnswersAlong given.places.items (sent_in given.outputs.items rank)
 
--- nothing is in the lists
+-- the lists are empty
 pub record HoldsNothing {V : Type 0} (given : Given V) : Type 0 where
   pub places : given.places.items ≡ []
   pub answers : given.answers.items ≡ []
   pub outputs : given.outputs.items ≡ []
 
--- What a refusal leaves of the lists that were lent: all that was in them, where the batch isn't
--- looked at; nothing, where it is out of memory.
+-- What a refusal leaves in the caller's lists: all that was in them, if the batch wasn't looked at;
+-- nothing, if it ran out of memory.
 unfoldable pub LeavesLists : {V : Type 0} → EngineError → Given V → Given V → Type 0
 LeavesLists Failed old new = new ≡ old
 LeavesLists Spent old new = new ≡ old

@@ -9,7 +9,7 @@ use Rattle.dds_participant.specs.Ports.{HasRoomFor, PortView, left_of, port_with
 use Rattle.dds_participant.specs.declared.given.Given.{Given}
 use Rattle.dds_participant.specs.declared.ports.Port.{Port}
 
--- by rank, what each reader reports: in what a batch gives, and in an outcome
+-- by rank, the notices of each reader: in the lists of a batch, and in an outcome
 abbrev pub reported : {V : Type 0} → List (Output V Global) → List (List (Notice V))
 reported outputs = map (λ o. o.notices.items) outputs
 
@@ -22,8 +22,8 @@ HaveRoomFor {V} ports notices =
     (rank : ℕ) (port : Option (Port V)) → rank < length ports
     → HasRoomFor (slice_index_or ports rank port) (length (slice_index_or notices rank []))
 
--- Rank by rank, all that a reader reports is given, or it is at the end of the backlog and none of
--- it is given.
+-- For each rank, all notices of the reader are returned, or all are appended to its backlog and
+-- none is returned.
 pub record AreHandedOn {V : Type 0} (old : List (Option (PortView V)))
     (whole : List (List (Notice V))) (new : List (Option (PortView V)))
     (left : List (List (Notice V))) : Type 0 where
@@ -37,7 +37,8 @@ pub record AreHandedOn {V : Type 0} (old : List (Option (PortView V)))
       → slice_index_or left rank []
       ≡ left_of (slice_index_or old rank port) (slice_index_or whole rank [])
 
--- of all that a batch puts out: what is given, and what goes to backlogs; answers are given
+-- how all that a batch puts out is split: what is returned, and what goes to backlogs; all answers
+-- are returned
 pub record IsHandedOn {V : Type 0} (whole given : Given V) (old new : List (Option (PortView V)))
     : Type 0 where
   pub places : given.places ≡ whole.places
@@ -45,7 +46,7 @@ pub record IsHandedOn {V : Type 0} (whole given : Given V) (old new : List (Opti
   pub sent : map (λ o. o.answers) given.outputs.items ≡ map (λ o. o.answers) whole.outputs.items
   pub notices : AreHandedOn old (reported whole.outputs.items) new (reported given.outputs.items)
 
--- the same of an outcome
+-- the same for an outcome
 pub record IsOutcomeHandedOn {V : Type 0} (whole outcome : Outcome V Global)
     (old new : List (Option (PortView V))) : Type 0 where
   pub answers : outcome.answers ≡ whole.answers

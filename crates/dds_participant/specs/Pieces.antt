@@ -8,8 +8,7 @@ use Rattle.rtps_receiver.specs.declared.event.Event.{Event}
 use Rattle.rtps_receiver.specs.Events.{view}
 use Rattle.rtps_run.specs.Run.{events_from}
 
--- what is given of a piece are its events, if anything is given; the piece has this index among
--- those of the datagrams
+-- the result for the piece at `index` is its events, unless it is an error
 abbrev pub IsPiece : {E : Type 0} → GuidPrefix → ℕ → List (Bor (List ℕ)) → ℕ
     → Result (Vec Event Global) E → Type 0
 IsPiece own first datagrams index result = IfOk result (λ events. map view events.items

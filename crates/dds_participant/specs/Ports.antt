@@ -1,4 +1,4 @@
--- Outlets that are attached to readers, and what waits for them.
+-- Outlets that are attached to readers, and the backlogs of notices that wait for them.
 use Rattle.std.specs.Prelude.{◌≡◌, ◌⊎◌, ◌+◌, ◌≤◌, ℕ, zero, suc, List, [], ◌∷◌, ◌++◌, length, map, Option, Some, None, option_map}
 use Rattle.std.specs.VecDeque.{deque_capacity}
 use Rattle.std.specs.declared.alloc.Global.{Global}
@@ -8,7 +8,7 @@ use Rattle.dds_participant.specs.declared.ports.Port.{Port}
 use Rattle.dds_participant.specs.declared.ports.AttachFault.{AttachFault}
 use Rattle.dds_participant.specs.declared.ports.AttachFault.TheVariants.{NoReader, Attached}
 
--- an attached outlet, and what waits for it
+-- an attached outlet, and the notices that wait for it
 pub record PortView (V : Type 0) : Type 0 where
   pub outlet : Sending V Global
   pub backlog : List (Notice V)
@@ -24,7 +24,7 @@ ports_view ports = map (option_map port_view) ports
 abbrev pub new_port : {V : Type 0} → Sending V Global → PortView V
 new_port o = record { outlet = o; backlog = [] }
 
--- why nothing can be attached there, if anything speaks against it
+-- why no outlet can be attached to the reader of a rank; `None` if one can
 abbrev pub fault_at : {V : Type 0} → List (Option (PortView V)) → ℕ → Option AttachFault
 fault_at [] rank = Some NoReader
 fault_at (None ∷ ports) zero = None
@@ -37,8 +37,8 @@ NoneAttached [] = Unit {0}
 NoneAttached (None ∷ ports) = NoneAttached ports
 NoneAttached (Some p ∷ ports) = ⊥
 
--- The front of a backlog was moved to the end of what was sent. It stopped where the backlog was
--- empty or the ring full.
+-- Notices from the front of a backlog were sent, in order, until the backlog was empty or the ring
+-- full.
 pub record Delivers {V : Type 0} (before after : PortView V) : Type 0 where
   pub moved : List (Notice V)
   pub backlog : before.backlog ≡ moved ++ after.backlog
@@ -47,7 +47,7 @@ pub record Delivers {V : Type 0} (before after : PortView V) : Type 0 where
       × (after.outlet.capacity ≡ before.outlet.capacity)
   pub stops : (after.backlog ≡ []) ⊎ (after.outlet.free ≡ 0)
 
--- what a batch gives of the notices of a reader: none where it has an outlet, and else all
+-- the notices of a reader that a batch returns: none if the reader has an outlet, else all
 abbrev pub left_of : {V : Type 0} → Option (PortView V) → List (Notice V) → List (Notice V)
 left_of None notices = notices
 left_of (Some p) notices = []

@@ -12,7 +12,7 @@ use Rattle.rtps_planner.specs.declared.jobs.Job as plan_job
 use Rattle.rtps_shards.specs.Results.{IsOutput, Share, given_done, reader_done}
 use Rattle.dds_participant.specs.declared.readers.Readers.{Readers}
 
--- each state keeps the reader of its rank, with the notices that it gave out
+-- each state keeps the reader of its rank, with the notices that it reported
 abbrev pub AllShare : {M : Type 0} → (ℕ → Share M) → List ReaderView → Type 0
 AllShare shares states =
     AllStandBy (λ rank. (shares rank).reader) (λ rank. (shares rank).given) states
@@ -37,7 +37,7 @@ IsAsked es None asked = asked ≡ []
 abbrev pub IsNoneOf : List ℕ → ℕ → Type 0
 IsNoneOf ranks rank = All (λ r. r ≡ rank → ⊥) ranks
 
--- the readers of some ranks have done their jobs, and their outputs are what these gave
+-- the readers of some ranks have done their jobs, and their outputs are the jobs' results
 pub record AreRunAt {V M : Type 0} (f : V → M) (decoding : Decoding M) (shares : ℕ → Share M)
     (ranks : ℕ → Type 0) (states : List ReaderView) (outputs : List (Output V Global)) : Type 0 where
   pub state : (rank : ℕ) (other : ReaderView) → rank < length states → ranks rank
@@ -46,13 +46,13 @@ pub record AreRunAt {V M : Type 0} (f : V → M) (decoding : Decoding M) (shares
   pub output : (rank : ℕ) (other : Output V Global) → rank < length outputs → ranks rank
       → IsOutput f decoding (shares rank) (slice_index_or outputs rank other)
 
--- all but those of some ranks
+-- the readers of all ranks but some have done their jobs
 abbrev pub AreRunBut : {V M : Type 0} → (V → M) → Decoding M → (ℕ → Share M) → List ℕ
     → List ReaderView → List (Output V Global) → Type 0
 AreRunBut f decoding shares ranks states outputs =
     AreRunAt f decoding shares (IsNoneOf ranks) states outputs
 
--- the readers after their jobs, and what these gave, by rank
+-- the readers after their jobs, and the jobs' results, by rank
 pub record AreRun {V M : Type 0} (f : V → M) (decoding : Decoding M) (shares : ℕ → Share M)
     (old : List ReaderView) (p : Readers V) : Type 0 where
   pub count : length p.states.items ≡ length old

@@ -1,4 +1,4 @@
-//! Outlets are attached to readers.
+//! Attaching outlets to readers.
 
 ghost use Rattle.std.specs.Prelude.{◌≡◌, None, Some, MatchOption, MatchResult, length, slice_index_or, slice_set};
 ghost use Rattle.dds_participant.specs.Ports.{Delivers, PortView, fault_at, new_port};
@@ -11,13 +11,13 @@ use rtps_reader::Notice;
 use std::collections::VecDeque;
 
 impl<C: Catalog> Participant<C> {
-    /// Attaches an outlet to the reader of a rank. From the next batch on, what that reader reports
-    /// is added to a backlog, which is empty at first and from which [`Participant::deliver`] sends
-    /// it; it is in no outcome. No memory is taken. It may be called at any time, also when the
-    /// participant has failed; so may `deliver` and `detach`.
+    /// Attaches an outlet to the reader of a rank. From the next batch on, the notices of that
+    /// reader are appended to a backlog, which is empty at first and which [`Participant::deliver`]
+    /// sends; they are in no outcome. No memory is taken. It may be called at any time, also when
+    /// the participant has failed; so may `deliver` and `detach`.
     ///
-    /// An outlet that isn't attached comes back, with [`AttachFault::NoReader`] where no reader has
-    /// the rank, else with [`AttachFault::Attached`] where the reader has one.
+    /// An outlet that isn't attached is returned with the error: [`AttachFault::NoReader`] where no
+    /// reader has the rank, else [`AttachFault::Attached`] where the reader has an outlet.
     pub fn attach(
         &mut self,
         rank: u32,
@@ -38,8 +38,8 @@ impl<C: Catalog> Participant<C> {
     }
 
     /// Sends the backlog of a rank through its outlet, the oldest notice first, until it is empty
-    /// or the outlet hands a notice back, its ring being full. Gives how many notices still wait: 0
-    /// where nothing is attached. No memory is taken, and nobody is waited for.
+    /// or the outlet's ring is full. Returns the number of notices that still wait, 0 where nothing
+    /// is attached. It takes no memory and doesn't wait.
     pub fn deliver(&mut self, rank: u32) -> usize
         ensures same { (self.new.engine ≡ self.old.engine) × (self.new.batches ≡ self.old.batches) }
         ensures ports { MatchOption (slice_index_or self.old.ports rank None)
@@ -55,9 +55,9 @@ impl<C: Catalog> Participant<C> {
         deliver_at(&mut self.ports[rank])
     }
 
-    /// Takes the outlet of a rank back, with the notices that still wait for it, the oldest first;
-    /// `None` where nothing is attached. From the next batch on, what the reader reports is in the
-    /// outcome again. No memory is taken.
+    /// Detaches the outlet of a rank, and returns it with the notices that still wait for it, the
+    /// oldest first; `None` where nothing is attached. From the next batch on, the notices of the
+    /// reader are in the outcome again. No memory is taken.
     pub fn detach(&mut self, rank: u32) -> Option<(Outlet<C::Value>, VecDeque<Notice<C::Value>>)>
         ensures same { (self.new.engine ≡ self.old.engine) × (self.new.batches ≡ self.old.batches) }
         ensures ports { MatchOption result

@@ -26,18 +26,19 @@ use std::alloc::{AllocError, Global};
 use std::mem;
 use std::thread::Threads;
 
-/// Who runs a batch.
+/// The workers that run a batch.
 #[derive(Clone, Copy, Debug)]
 pub struct Workers<'a, G> {
-    /// How many workers there are, 1 to 64. One is the caller; several have a thread each.
+    /// The number of workers, 1 to 64. One worker runs on the caller's thread; several have a
+    /// thread each.
     pub count: usize,
     /// Called as each job begins and ends.
     pub gate: &'a G,
 }
 
 /// Whether a participant takes these datagrams as one batch: at most 4,096, each of at most 65,507
-/// octets, which is what a UDP datagram over IPv4 carries. Whoever has datagrams from outside asks
-/// this before [`Participant::run_batch`] or [`Participant::run_in_order`].
+/// octets, the largest payload of a UDP datagram over IPv4. Call this on datagrams that come from
+/// outside, before [`Participant::run_batch`] or [`Participant::run_in_order`].
 pub fn is_batch(datagrams: &[&[u8]]) -> bool
     ensures few { result ≡ true → length datagrams.now ≤ 4096 }
     ensures fit { result ≡ true → All (λ d. length d.now ≤ 65507) datagrams.now }
@@ -48,21 +49,22 @@ pub fn is_batch(datagrams: &[&[u8]]) -> bool
 }
 
 impl<C: Catalog> Participant<C> {
-    /// Takes the next datagrams, at most 4,096 of at most 65,507 octets each, and gives the notices
-    /// of each reader and what is to be sent, as [`rtps_serial::SerialEngine::take`] gives them of
-    /// one datagram after another. The readers' jobs are run by so many workers, 1 to 64: one is
-    /// the caller, several have a thread each, for which the caller waits. `gate` is called as each
-    /// job begins and ends. Where there is more than one worker, more than 1 MiB of datagrams are
-    /// decoded on as many threads as there are processors.
+    /// Processes the next datagrams, at most 4,096 of at most 65,507 octets each, and returns the
+    /// notices of each reader and the answers to send, as [`rtps_serial::SerialEngine::take`]
+    /// returns them for one datagram after another. The readers' jobs are run by `workers` workers,
+    /// 1 to 64: one runs on the caller's thread; several have a thread each, for which the caller
+    /// waits. `gate` is called as each job begins and ends. If there is more than one worker, more
+    /// than 1 MiB of datagrams is decoded on one thread for each processor.
     ///
-    /// What a reader with an outlet reports is not in the outcome: it is added to the end of the
-    /// outlet's backlog, from which [`Participant::deliver`] sends it. Its answers are given as
-    /// those of the others.
+    /// The notices of a reader with an outlet are not in the outcome: they are appended to the
+    /// outlet's backlog, which [`Participant::deliver`] sends. Its answers are in the outcome, as
+    /// those of the other readers are.
     ///
-    /// When a batch is out of memory, on whichever worker or as a backlog grows, nothing of it is
-    /// given or added to a backlog, and the participant has failed: from then on it answers
+    /// When a batch runs out of memory, on any worker or as a backlog grows, nothing of it is
+    /// returned or added to a backlog, and the participant has failed: from then on it returns
     /// [`EngineError::Failed`], and its statuses are those before that batch. A batch that would
-    /// pass 2^48 datagrams is refused with [`EngineError::Spent`] and changes nothing.
+    /// take the count of datagrams past 2^48 is refused with [`EngineError::Spent`] and changes
+    /// nothing.
     #[tactic(auto, unfolding(crate::specs::Kept::TakesBatch, crate::specs::Kept::RefusesBatch))]
     pub fn run_batch<G: Gate, R: Threads + Sync>(
         &mut self,
@@ -109,16 +111,16 @@ impl<C: Catalog> Participant<C> {
         Ok(outcome)
     }
 
-    /// Takes the next datagrams as [`Participant::run_batch`] does, and gives what is put out in
-    /// lists that the caller lends: the places of the batch, discovery's answers, and what each
-    /// reader gives out and sends. Merged by place, as [`Given`] says, they are what the run puts
-    /// out more, but for what went to backlogs: a reader with an outlet has no notice in its list,
-    /// which keeps its memory.
+    /// Processes the next datagrams as [`Participant::run_batch`] does, and puts the results into
+    /// the caller's lists: the places of the batch, discovery's answers, and the notices and
+    /// answers of each reader. Merged by place, as [`Given`] says, they are all that the batch puts
+    /// out, except what went to backlogs: a reader with an outlet has no notice in its list, which
+    /// keeps its memory.
     ///
-    /// What is in the lists is dropped. For the next batch they are lent again as they are: each
-    /// reader's lists are emptied by the worker that runs its job, and no memory is taken anew for
+    /// What was in the lists is dropped. Pass the same lists to the next batch, as they are: each
+    /// reader's lists are emptied by the worker that runs its job, and no new memory is taken for
     /// what they have room for. A refusal that changes nothing leaves them as they were; where
-    /// memory runs out they are empty after it.
+    /// memory runs out they are empty afterwards.
     #[tactic(auto, unfolding(crate::specs::Kept::TakesBatch, crate::specs::Kept::RefusesBatch))]
     pub fn run_in_order<G: Gate, R: Threads + Sync>(
         &mut self,
@@ -164,8 +166,8 @@ impl<C: Catalog> Participant<C> {
         Ok(())
     }
 
-    /// Refuses a batch of so many datagrams before it is looked at, or has the participant failed
-    /// until it is taken.
+    /// Refuses a batch of `count` datagrams before it is looked at, or else marks the participant
+    /// as failed until the batch is finished.
     #[tactic(auto, unfolding(crate::specs::Kept::RefusesBatch))]
     fn admit(&mut self, count: usize) -> Result<(), EngineError>
         requires { count ≤ 4096 }
@@ -186,8 +188,8 @@ impl<C: Catalog> Participant<C> {
         Ok(())
     }
 
-    /// Gives the events of the datagrams to discovery and to the readers. What they give is put
-    /// into the lists, in the place of what is there.
+    /// Has discovery and the readers process the events of the datagrams. The results replace the
+    /// contents of the lists.
     fn run<G: Gate, R: Threads + Sync>(
         &mut self,
         rt: &R,
@@ -243,7 +245,7 @@ impl<C: Catalog> Participant<C> {
         })
     }
 
-    /// Counts so many datagrams and a batch as taken, and shows the statuses of the readers.
+    /// Counts `count` datagrams and one batch as taken, and updates the statuses from the readers.
     fn finish(&mut self, count: usize)
         requires room { self.old.engine.index + count ≤ datagram_limit }
         requires readers { length self.old.engine.readers ≡ length self.old.engine.statuses }

@@ -1,4 +1,4 @@
-//! The events of a batch.
+//! Decoding the events of a batch.
 
 ghost use Rattle.std.specs.Prelude.{◌≡◌, ◌+◌, ◌*◌, ◌^◌, ◌<◌, ◌≤◌, All, IfOk, drop, length, map, take};
 ghost use Rattle.std.specs.List.{AllZip, range_with_len};
@@ -14,25 +14,25 @@ use rtps_types::{GuidPrefix, Place};
 use std::alloc::{AllocError, Global};
 use std::thread::Threads;
 
-/// Up to so many octets of datagrams are decoded sooner than threads are started.
+/// Up to this many octets of datagrams, one thread is faster: starting threads takes longer.
 const ALONE: usize = 1 << 20;
 
-/// So many datagrams are decoded together.
+/// The number of datagrams in a piece, which is decoded by one thread.
 const PIECE: usize = 64;
 
-/// Datagrams that came one after the other.
+/// Consecutive datagrams of a run.
 #[derive(Clone, Copy)]
 pub(crate) struct Arrived<'a, 'b> {
-    /// The participant that they came to.
+    /// The participant that received them.
     pub own: GuidPrefix,
-    /// The place of the first of them in the run, counted from 0.
+    /// The index of the first of them in the run, counted from 0.
     pub first: u64,
     pub datagrams: &'b [&'a [u8]],
 }
 
-/// The events of these datagrams, in order, for the participant `own`. `first` is the place of the
-/// first of them in the run, counted from 0. Room for an event of each is made at once. An error is
-/// a refused growth.
+/// Returns the events of these datagrams, in order, for the participant `own`. `first` is the index
+/// of the first of them in the run, counted from 0. The initial capacity is one event for each
+/// datagram. An error is a refused growth.
 fn decoded_alone<'a>(
     alloc: Global,
     own: GuidPrefix,
@@ -51,7 +51,7 @@ fn decoded_alone<'a>(
     Ok(all)
 }
 
-/// The piece of this index, counted from 0; the last may be shorter than the others.
+/// Returns the piece of this index, counted from 0. The last piece may be shorter than the others.
 fn piece<'a, 'b>(datagrams: &'b [&'a [u8]], index: usize) -> &'b [&'a [u8]]
     requires { index * 64 < length datagrams.now }
     ensures { result.now ≡ take 64 (drop (index * 64) datagrams.now) }
@@ -61,7 +61,8 @@ fn piece<'a, 'b>(datagrams: &'b [&'a [u8]], index: usize) -> &'b [&'a [u8]]
     piece
 }
 
-/// The events of each piece of the datagrams, as many pieces at a time as there are processors.
+/// Returns the events of each piece of the datagrams. At any time one piece is decoded for each
+/// processor.
 fn decoded_apart<'a, R: Threads + Sync>(
     rt: &R,
     alloc: Global,
@@ -90,7 +91,7 @@ fn decoded_apart<'a, R: Threads + Sync>(
         .collect(rt, alloc)
 }
 
-/// The events of these datagrams, in order. An error is a refused growth.
+/// Returns the events of these datagrams, in order. An error is a refused growth.
 pub(crate) fn decoded<'a, R: Threads + Sync>(
     rt: &R,
     alloc: Global,
@@ -117,7 +118,7 @@ pub(crate) fn decoded<'a, R: Threads + Sync>(
     joined(alloc, decoded_apart(rt, alloc, own, first, datagrams)?)
 }
 
-/// The places of events, in a list that was lent, in the place of what is there.
+/// Replaces the contents of `lent` by the places of the events, and returns it.
 pub(crate) fn places_of(lent: Vec<Place>, events: &[Event<'_>]) -> Result<Vec<Place>, AllocError>
     ensures { IfOk result (λ places.
         places.items ≡ map (λ e. e.place) (map view events.now)) }

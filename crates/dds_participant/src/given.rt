@@ -1,4 +1,4 @@
-//! What a batch gives, in lists that are kept from one batch to the next.
+//! The results of a batch, in lists that are reused from one batch to the next.
 
 ghost use Rattle.rtps_run.specs.Outcome.{Adds};
 ghost use Rattle.rtps_run.specs.World.{World};
@@ -11,27 +11,28 @@ use rtps_run::Outcome;
 use rtps_types::{Place, Reply};
 use std::alloc::{AllocError, Global};
 
-/// What a batch gives, in lists that a caller lends to
-/// [`run_in_order`](crate::Participant::run_in_order), batch after batch.
+/// The results of a batch, in lists that the caller passes to
+/// [`run_in_order`](crate::Participant::run_in_order) and reuses for the next batch.
 ///
-/// The order of the run is that of the places; at one place come discovery's answer, and then by
-/// rank each reader's notices and its answer. Every list here is by place, and an item's place is
-/// one of `places`. So `places` may be cut into slices that are put out apart, each by a worker of
-/// its own: where a slice begins with `places[from]`, its part of a list of notices begins at
-/// `notices.partition_point(|notice| notice.place < places[from])`, and from there on each list
-/// is gone through once.
+/// The order of the run is by place. At one place discovery's answer comes first, and then, by
+/// rank, each reader's notices and its answer. Every list here is sorted by place, and the place of
+/// each item is in `places`. So `places` may be cut into slices, and several workers can each
+/// process one: where a slice begins with `places[from]`, its part of a list of notices begins at
+/// `notices.partition_point(|notice| notice.place < places[from])`, and from there on each list is
+/// read once.
 #[derive(Drop)]
 pub struct Given<V> {
-    /// The places of the batch's events, each after those before it. At some there may be nothing.
+    /// The places of the batch's events, in ascending order. There may be places without any item.
     pub places: Vec<Place>,
-    /// What discovery answers, each with the place of the event that it answers.
+    /// Discovery's answers, each with the place of the event that it answers.
     pub answers: Vec<(Place, Reply)>,
-    /// What each reader gives out and sends, by rank. A reader with an outlet has no notice here.
+    /// The notices and the answers of each reader, by rank. A reader with an outlet has no notice
+    /// here.
     pub outputs: Vec<Output<V>>,
 }
 
 impl<V: Drop> Given<V> {
-    /// Lists in which nothing is. No memory is taken.
+    /// Returns empty lists. No memory is taken.
     pub fn new(alloc: Global) -> Given<V>
         ensures { HoldsNothing result }
     {
@@ -43,7 +44,7 @@ impl<V: Drop> Given<V> {
     }
 }
 
-/// The same as an outcome.
+/// Converts the lists into an outcome.
 pub(crate) fn outcome_of<C: Catalog>(
     alloc: Global,
     given: Given<C::Value>,

@@ -1,4 +1,4 @@
-//! The notices of a batch go to backlogs.
+//! Moving the notices of a batch to backlogs.
 
 ghost use Rattle.std.specs.Prelude.{◌≡◌, OnErr, OnOk, true, length, map};
 ghost use Rattle.dds_participant.specs.Handing.{AreHandedOn, HaveRoomFor, listed, reported};
@@ -23,7 +23,7 @@ pub(crate) fn none_attached<V>(ports: &[Option<Port<V>>]) -> bool
     true
 }
 
-/// Makes room in each backlog for what the reader of its rank reports.
+/// Reserves room in each backlog for the notices of its reader.
 pub(crate) fn make_room<V: Drop>(
     ports: &mut Vec<Option<Port<V>>>,
     outputs: &[Output<V>],
@@ -39,7 +39,7 @@ pub(crate) fn make_room<V: Drop>(
     Ok(())
 }
 
-/// Moves what readers with an outlet report to their backlogs. The lists keep their memory.
+/// Moves the notices of readers with an outlet to their backlogs. The lists keep their memory.
 pub(crate) fn hand_on<V: Drop>(ports: &mut Vec<Option<Port<V>>>, outputs: &mut Vec<Output<V>>)
     requires same { length ports.old.items ≡ length outputs.old.items }
     requires room { HaveRoomFor ports.old.items (reported outputs.old.items) }
@@ -54,7 +54,7 @@ pub(crate) fn hand_on<V: Drop>(ports: &mut Vec<Option<Port<V>>>, outputs: &mut V
     }
 }
 
-/// Makes room in each backlog for the list of its rank.
+/// Reserves room in each backlog for the list of its rank.
 pub(crate) fn make_room_for_lists<V: Drop>(
     ports: &mut Vec<Option<Port<V>>>,
     lists: &[Vec<Notice<V>>],
@@ -70,7 +70,7 @@ pub(crate) fn make_room_for_lists<V: Drop>(
     Ok(())
 }
 
-/// Moves the lists of readers with an outlet to their backlogs.
+/// Moves the contents of the lists of readers with an outlet to their backlogs.
 pub(crate) fn hand_on_lists<V: Drop>(
     ports: &mut Vec<Option<Port<V>>>,
     lists: &mut Vec<Vec<Notice<V>>>,
@@ -87,8 +87,8 @@ pub(crate) fn hand_on_lists<V: Drop>(
 }
 
 impl<C: Catalog> Participant<C> {
-    /// Moves what readers with an outlet report to their backlogs. After a refused growth nothing
-    /// is moved.
+    /// Moves the notices of readers with an outlet to their backlogs. After a refused growth
+    /// nothing is moved.
     pub(crate) fn hand(&mut self, outputs: &mut Vec<Output<C::Value>>) -> Result<(), AllocError>
         requires { length outputs.old.items ≡ length self.old.engine.statuses }
         ensures same { (self.new.engine ≡ self.old.engine)
@@ -111,7 +111,7 @@ impl<C: Catalog> Participant<C> {
         Ok(())
     }
 
-    /// The same of the lists of an outcome.
+    /// Does what `hand` does, for the lists of an outcome.
     pub(crate) fn hand_lists(
         &mut self,
         lists: &mut Vec<Vec<Notice<C::Value>>>,

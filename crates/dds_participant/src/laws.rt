@@ -13,11 +13,12 @@ ghost use Rattle.dds_participant.specs.HandOff.{IsHandedOff};
 ghost use Rattle.dds_participant.specs.Handing.{IsHandedOn, IsOutcomeHandedOn};
 ghost use Rattle.dds_participant.specs.Ports.{Delivers, PortView, new_port};
 
-/// What was sent through an outlet since it was attached, followed by its backlog, is what the run
-/// put out of the outlet's reader since then: each notice once, in order. It is so when the outlet
-/// is attached; a batch of either kind adds the same to both sides; and a delivery moves notices
-/// from the backlog to what was sent. So whatever comes out of the ring began with what the run put
-/// out, and nothing is left out in between.
+/// What was sent through an outlet since it was attached, followed by its backlog, is what the
+/// outlet's reader reported in the run since then: each notice once, in order. This holds when the
+/// outlet is attached; a batch, by `run_in_order` or by `run_batch`, adds the same notices to both
+/// sides; and a delivery moves notices from the backlog to what was sent. So what comes out of the
+/// ring is what the run put out since then, from the first notice on, with none left out in
+/// between.
 pub fn handed_off<V, M>()
     ensures attached { (view : V → M) (rank : ℕ) (w : World M) (outlet : Sending V Global)
         → IsHandedOff view rank w w outlet.sent (new_port outlet) }

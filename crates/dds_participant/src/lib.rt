@@ -1,4 +1,5 @@
-//! A participant that takes datagrams in batches, on as many threads as it is asked to.
+//! A participant that processes datagrams in batches, on a number of threads that the caller
+//! chooses.
 #![tactic(auto)]
 
 mod attach;

@@ -1,4 +1,4 @@
-//! A participant: what it keeps, and what is asked of it between batches.
+//! A participant: its state, and the questions that can be asked between batches.
 
 ghost use Rattle.std.specs.Prelude.{◌≡◌, [], IfOk, List, ℕ, false, length, map};
 ghost use Rattle.rtps_discovery.specs.Config.{check_of};
@@ -19,14 +19,14 @@ use std::alloc::Global;
 use std::collections::BTreeSet;
 use std::marker::Model;
 
-/// What a participant knows of the others, and its readers: it takes the datagrams of a batch
-/// together, and has the jobs of its readers run on several threads.
+/// A participant with its discovery and its readers. It processes the datagrams of a batch
+/// together, and runs the jobs of its readers on several threads.
 ///
-/// It keeps what [`rtps_serial::SerialEngine`] keeps after the same datagrams, however they are cut
-/// into batches.
+/// Its state is that of a [`rtps_serial::SerialEngine`] after the same datagrams, however they are
+/// cut into batches.
 ///
-/// Each reader has a place for an outlet ([`Participant::attach`]), through which another thread
-/// hears what the reader reports:
+/// An outlet can be attached to each reader ([`Participant::attach`]), through which another thread
+/// receives the reader's notices:
 ///
 /// ```text
 /// let (outlet, mut inlet) = dds_outlet::outlet(alloc, 64)?;
@@ -42,20 +42,21 @@ use std::marker::Model;
 pub struct Participant<C: Catalog> {
     pub(crate) catalog: C,
     pub(crate) config: Config,
-    /// How many datagrams were taken.
+    /// The number of datagrams taken.
     pub(crate) index: u64,
-    /// How many batches were taken.
+    /// The number of batches taken.
     pub(crate) batches: u64,
-    /// Whether a batch was out of memory.
+    /// Whether a batch ran out of memory. It is also set while a batch runs, so that an error
+    /// leaves it set.
     pub(crate) failed: bool,
     pub(crate) discovery: Discovery,
-    /// By rank; none while their jobs are run.
+    /// By rank; empty while their jobs run.
     pub(crate) readers: Vec<ReaderState>,
     /// By rank, as they were after the last batch that was taken.
     pub(crate) statuses: Vec<Status>,
     /// By rank, the outlet that is attached, if one is.
     pub(crate) ports: Vec<Option<Port<C::Value>>>,
-    /// In which backlogs grow.
+    /// The allocator of the backlogs.
     pub(crate) alloc: Global,
 }
 
@@ -86,9 +87,9 @@ impl<C: Catalog> Model for Participant<C> {
 }
 
 impl<C: Catalog> Participant<C> {
-    /// A participant for this configuration: its readers with their fixed matches, to which nothing
-    /// came yet. [`StartError::Config`] exactly where [`check`] refuses the configuration, else an
-    /// error is a refused growth.
+    /// Returns a participant for this configuration, whose readers have their fixed matches and
+    /// have received nothing. The error is [`StartError::Config`] exactly where [`check`] refuses
+    /// the configuration, and else a refused growth.
     #[tactic(auto, unfolding(rtps_run::specs::Standing::Starts))]
     pub fn new(alloc: Global, config: Config, catalog: C) -> Result<Participant<C>, StartError>
         ensures starts { Starts (check_of config) result }
@@ -120,22 +121,22 @@ impl<C: Catalog> Participant<C> {
         })
     }
 
-    /// How many readers there are, 1 to 256. Their ranks are the numbers below it.
+    /// The number of readers, 1 to 256. Their ranks are the numbers below it.
     pub fn readers(&self) -> u32
         ensures { result ≡ length self.now.engine.statuses }
     {
         self.statuses.len() as u32
     }
 
-    /// How many batches were taken. The count stays at 2^64 - 1.
+    /// The number of batches taken. It stops at 2^64 - 1.
     pub fn batches(&self) -> u64
         ensures { result ≡ self.now.batches }
     {
         self.batches
     }
 
-    /// The status of the reader of a rank, after the last batch that was taken, or `None` where no
-    /// reader has the rank. No memory is taken.
+    /// Returns the status of the reader of a rank, after the last batch that was taken, or `None`
+    /// where no reader has the rank. No memory is taken.
     pub fn status(&self, rank: u32) -> Option<Status>
         ensures { (datagrams : List (List ℕ)) → ShowsAt C.decoding datagrams self.now.engine
             → result ≡ status_seen (run_by C.decoding self.now.engine datagrams) rank }
@@ -143,9 +144,9 @@ impl<C: Catalog> Participant<C> {
         self.statuses.get(rank as usize).copied()
     }
 
-    /// The matches that there are now, a rank and a writer each. A refusal changes nothing:
+    /// Returns the current matches, each with the rank of its reader and its writer. The error is
     /// [`EngineError::Failed`] where the participant has failed, and else
-    /// [`EngineError::NoMemory`].
+    /// [`EngineError::NoMemory`]; neither changes anything.
     #[tactic(auto, unfolding(rtps_run::specs::Standing::Answers))]
     pub fn matches(&self, alloc: Global) -> Result<BTreeSet<(u32, Guid)>, EngineError>
         ensures answers { Answers result self.now.engine }
@@ -160,8 +161,8 @@ impl<C: Catalog> Participant<C> {
         }
     }
 
-    /// What is known of the others, as the run knows it after the last batch that was taken; once a
-    /// batch has been out of memory, it may know more.
+    /// What is known of other participants after the last batch that was taken. Once a batch has
+    /// run out of memory, discovery may know more than that.
     pub fn discovery(&self) -> &Discovery
         ensures known { (datagrams : List (List ℕ)) → StandsAt C.decoding datagrams self.now.engine
             → IsKnown (run_by C.decoding self.now.engine datagrams).known result.now.kept }
@@ -171,7 +172,7 @@ impl<C: Catalog> Participant<C> {
         &self.discovery
     }
 
-    /// The catalog that values are decoded by.
+    /// The catalog that decodes values.
     pub fn catalog(&self) -> &C
         ensures { result.now ≡ self.now.engine.catalog }
     {

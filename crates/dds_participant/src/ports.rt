@@ -1,4 +1,4 @@
-//! Outlets that are attached to readers, and what waits for them.
+//! Outlets that are attached to readers, and the backlogs of notices that wait for them.
 
 ghost use Rattle.std.specs.Prelude.{◌≡◌, ◌++◌, ◌+◌, ◌≤◌, ℕ, IfOk, OnErr, OnOk, IsSome, MatchOption, MatchResult, None, Some, [], length, option_map};
 ghost use Rattle.std.specs.VecDeque.{deque_capacity};
@@ -22,11 +22,11 @@ pub(crate) struct Port<V> {
 pub enum AttachFault {
     /// No reader has the rank.
     NoReader,
-    /// The reader has one.
+    /// The reader has an outlet already.
     Attached,
 }
 
-/// No outlet for any of a number of readers.
+/// Returns empty places for the outlets of `count` readers.
 #[tactic(auto, using(crate::proofs::Unattached::none_more))]
 pub(crate) fn no_ports<V: Drop>(
     alloc: Global,
@@ -42,7 +42,7 @@ pub(crate) fn no_ports<V: Drop>(
     Ok(ports)
 }
 
-/// Puts an outlet where there is none, or hands it back.
+/// Attaches an outlet where there is none, or returns it with the error.
 pub(crate) fn put<V: Drop>(
     place: &mut Option<Port<V>>,
     alloc: Global,
@@ -62,8 +62,8 @@ pub(crate) fn put<V: Drop>(
     Ok(())
 }
 
-/// Moves the front of a backlog into the ring until the ring is full or the backlog is empty, and
-/// gives the number that still waits.
+/// Moves notices from the front of a backlog into the ring until the ring is full or the backlog is
+/// empty, and returns the number that still waits.
 fn deliver_all<V>(outlet: &mut Outlet<V>, backlog: &mut VecDeque<Notice<V>>) -> usize
     ensures moved { Delivers (record { outlet = outlet.old; backlog = backlog.old.items })
         (record { outlet = outlet.new; backlog = backlog.new.items }) }
@@ -78,7 +78,7 @@ fn deliver_all<V>(outlet: &mut Outlet<V>, backlog: &mut VecDeque<Notice<V>>) -> 
     backlog.len()
 }
 
-/// The same where an outlet is attached.
+/// Does what `deliver_all` does where an outlet is attached, else returns 0.
 pub(crate) fn deliver_at<V>(place: &mut Option<Port<V>>) -> usize
     ensures { MatchOption (option_map port_view place.old)
         ((place.new ≡ place.old) × (result ≡ 0))
@@ -91,7 +91,7 @@ pub(crate) fn deliver_at<V>(place: &mut Option<Port<V>>) -> usize
     }
 }
 
-/// Makes room in a backlog, where there is one. What waits stays.
+/// Reserves room for `count` more notices in a backlog, where there is one. Its notices stay.
 pub(crate) fn reserve_at<V>(place: &mut Option<Port<V>>, count: usize) -> Result<(), AllocError>
     ensures same { option_map port_view place.new ≡ option_map port_view place.old }
     ensures room { OnOk result (HasRoomFor place.new count) }

@@ -1,4 +1,4 @@
-//! The row of a participant on a board of statuses.
+//! Publishing the row of a participant on a board of statuses.
 
 ghost use Rattle.std.specs.Prelude.{◌≡◌, ◌∷◌, ◌++◌, [], IfOk, List, MatchResult, ℕ};
 ghost use Rattle.rtps_run.specs.Standing.{ShowsAt, run_by};
@@ -14,14 +14,14 @@ use std::sync::Wait;
 /// Why a row isn't published.
 #[derive(Debug, Clone, Copy, PartialEq, Eq)]
 pub enum PublishFault {
-    /// No memory was found for the row.
+    /// There was no memory for the row.
     NoMemory,
     /// The board has no number left for a row: it has shown 2^64 - 1.
     Full,
 }
 
 impl<C: Catalog> Participant<C> {
-    /// The row of the last batch that was taken.
+    /// Returns the row of the last batch that was taken.
     fn row(&self, alloc: Global) -> Result<Row, AllocError>
         ensures { IfOk result (λ row. row_view row
             ≡ row_of self.now.batches self.now.engine.statuses) }
@@ -36,12 +36,12 @@ impl<C: Catalog> Participant<C> {
         })
     }
 
-    /// Publishes one row: how many batches were taken, and the status of each reader after the last
-    /// of them, by rank. Once a batch has been out of memory the row is that of the last batch
-    /// before it. After a refusal the board has the rows that it had.
+    /// Publishes one row: the number of batches taken, and the status of each reader after the last
+    /// of them, by rank. Once a batch has run out of memory, the row is that of the last batch
+    /// before it. After an error the board's rows are unchanged.
     ///
-    /// It takes memory for the row, and by [`StatusBoard::publish`] it waits for those who still
-    /// look at the row before the last one.
+    /// It takes memory for the row, and like [`StatusBoard::publish`] it waits for readers that
+    /// still look at the row before the last one.
     #[tactic(auto, using(crate::proofs::Publishing::shows_world))]
     pub fn publish<R: Wait>(
         &self,

@@ -22,18 +22,18 @@ use std::thread::Threads;
 #[derive(Drop)]
 pub(crate) struct Readers<V> {
     pub states: Vec<ReaderState>,
-    /// What their jobs give.
+    /// The notices and the answers of their jobs.
     pub outputs: Vec<Output<V>>,
 }
 
-/// The jobs of a batch, by rising rank, and the readers that they are for.
+/// The jobs of a batch, by ascending rank, and the readers that they are for.
 #[derive(Drop)]
 pub(crate) struct Assigned<V> {
     pub jobs: Vec<Job>,
     pub readers: Readers<V>,
 }
 
-/// The last job, taken from the others, where it is of this rank.
+/// Removes the last job and returns it, if it is of this rank.
 fn last_of(jobs: &mut Vec<Job>, rank: u32) -> Option<Job>
     ensures items { jobs.old.items ≡ jobs.new.items ++ option_to_list result }
     ensures last { MatchOption result ((other : plan_job.Job _) → 0 < length jobs.old.items
@@ -43,7 +43,7 @@ fn last_of(jobs: &mut Vec<Job>, rank: u32) -> Option<Job>
     jobs.pop_if(|job| job.rank == rank)
 }
 
-/// Empty lists, for which no memory is taken yet.
+/// Returns empty lists, which take no memory yet.
 fn new_lists<V: Drop>(alloc: Global) -> Output<V> {
     Output {
         notices: Vec::new(alloc),
@@ -51,7 +51,7 @@ fn new_lists<V: Drop>(alloc: Global) -> Output<V> {
     }
 }
 
-/// Drops what is in the lists, which keep their memory.
+/// Clears the lists, which keep their memory.
 fn empty_lists<V: Drop>(output: &mut Output<V>)
     ensures { (output.new.notices.items ≡ []) × (output.new.answers.items ≡ []) }
 {
@@ -59,7 +59,7 @@ fn empty_lists<V: Drop>(output: &mut Output<V>)
     output.answers.clear();
 }
 
-/// Lists for each of `count` readers: the given ones, and new ones where these are too few.
+/// Returns lists for `count` readers: the given ones, and new ones where those are too few.
 pub(crate) fn lists_for<V: Drop>(
     alloc: Global,
     given: Vec<Output<V>>,
@@ -75,8 +75,8 @@ pub(crate) fn lists_for<V: Drop>(
     Ok(lists)
 }
 
-/// Has a reader do its job, if it has one. The lists of the output are replaced by what the job
-/// gives.
+/// Runs the job of a reader, if it has one. The results replace the contents of `output`, which is
+/// cleared if there is no job.
 fn do_job<C: Catalog, G: Gate>(
     worker: &mut Worker<&C>,
     batch: &Batch<'_, C, G>,
@@ -101,7 +101,7 @@ fn do_job<C: Catalog, G: Gate>(
     run_job(worker, batch, &job, state, output)
 }
 
-/// Runs the jobs where the readers are, from the last rank down.
+/// Runs the jobs with the readers in place, from the last rank down.
 fn run_alone<C: Catalog, G: Gate>(
     alloc: Global,
     batch: &Batch<'_, C, G>,
@@ -136,14 +136,14 @@ fn run_alone<C: Catalog, G: Gate>(
     Ok(Readers { states, outputs })
 }
 
-/// What is in a reader's place while a worker has the reader: one without matches, for which no
-/// memory is taken.
+/// Returns the placeholder of a reader while a worker has the reader: a reader without matches,
+/// which takes no memory.
 fn nobody(alloc: Global) -> Result<ReaderState, AllocError> {
     let own = GuidPrefix([0; 12]);
     ReaderState::new(alloc, 0, own, ENTITYID_UNKNOWN, false, &[])
 }
 
-/// Takes the reader and the lists of a rank from their places.
+/// Moves a reader and its lists into its job, and leaves placeholders.
 fn take_out<V: Drop>(
     alloc: Global,
     job: Job,
@@ -160,8 +160,8 @@ fn take_out<V: Drop>(
     })
 }
 
-/// Gives each job the state and the lists of its reader, from the last rank down. The lists of the
-/// readers that have no job are emptied.
+/// Moves each reader that has a job into it, with its lists, from the last rank down. The lists of
+/// the other readers are cleared.
 fn lend<C: Catalog>(
     alloc: Global,
     jobs: Vec<Job>,
@@ -202,7 +202,7 @@ fn lend<C: Catalog>(
     Ok(work)
 }
 
-/// Puts the readers of the results, and what their jobs gave, back into their places.
+/// Moves the readers of the results, and their lists, back into their places.
 fn put_back<C: Catalog>(results: Vec<JobResult<C::Value>>, readers: &mut Readers<C::Value>)
     requires same { length readers.old.outputs.items ≡ length readers.old.states.items }
     requires ranks { All (λ rank. rank < length readers.old.states.items)
@@ -222,7 +222,7 @@ fn put_back<C: Catalog>(results: Vec<JobResult<C::Value>>, readers: &mut Readers
     }
 }
 
-/// Has several workers run the jobs. Each reader that has a job is moved into it and back.
+/// Runs the jobs on several workers. Each reader that has a job is moved into it and back.
 fn run_shared<C: Catalog, G: Gate, R: Threads + Sync>(
     rt: &R,
     alloc: Global,
@@ -251,7 +251,8 @@ fn run_shared<C: Catalog, G: Gate, R: Threads + Sync>(
     Ok(readers)
 }
 
-/// Runs the jobs: where the readers are, or on several workers where there is more than one job.
+/// Runs the jobs: on several workers if there are several and more than one job, else with the
+/// readers in place.
 pub(crate) fn run_assigned<C: Catalog, G: Gate, R: Threads + Sync>(
     rt: &R,
     alloc: Global,

@@ -1,4 +1,4 @@
-//! Participants against datagrams that were written down by hand.
+//! Participants against datagrams written by hand.
 
 ghost use Rattle.std.specs.Prelude.{◌≤◌};
 
@@ -49,7 +49,7 @@ fn reader_config(alloc: Global, rank: u8) -> Result<ReaderConfig, AllocError> {
     Ok(ReaderConfig::new(alloc, entity, "Square", "ShapeType")?.reliable())
 }
 
-/// So many reliable readers that are matched with no writer.
+/// `readers` reliable readers that are matched with no writer.
 fn unmatched(alloc: Global, readers: u8) -> Result<Config, AllocError> {
     let mut config = Config::new(alloc, GuidPrefix([0x0b; 12]));
     for rank in 0..readers {
@@ -76,7 +76,7 @@ fn config(alloc: Global) -> Result<Config, AllocError> {
 enum Said {
     /// A sample of this number, which is BLUE.
     Blue(u64),
-    /// So many numbers are lost.
+    /// This many numbers are lost.
     Lost(u64),
     /// A match with the writer of this third octet began.
     Matched(u8),
@@ -110,7 +110,7 @@ fn line(report: &Report<Shape>) -> Line {
     (turn.rank, turn.place.datagram, said)
 }
 
-/// Puts the lines of reports after those that are there.
+/// Appends the lines of reports.
 fn push_lines(reports: &[Report<Shape>], lines: &mut Vec<Line>) -> Result<(), AllocError> {
     for report in reports {
         lines.push(line(report))?;
@@ -118,7 +118,7 @@ fn push_lines(reports: &[Report<Shape>], lines: &mut Vec<Line>) -> Result<(), Al
     Ok(())
 }
 
-/// Has a participant take a batch, and puts what it gives after the lines, in order.
+/// Has a participant take a batch, and appends the lines of what it puts out, in order.
 fn take<C: Catalog<Value = Shape>, G: Gate, R: Threads + Sync>(
     rt: &R,
     alloc: Global,
@@ -138,7 +138,8 @@ fn take<C: Catalog<Value = Shape>, G: Gate, R: Threads + Sync>(
     Ok(push_lines(&reports, lines)?)
 }
 
-/// What the readers give of the three datagrams. Only the second one is told of the lost number 2.
+/// What the readers put out for the three datagrams. Only the second one reports that number 2 is
+/// lost.
 const EXPECTED: [Line; 6] = [
     (Some(0), 0, Said::Blue(1)),
     (Some(1), 0, Said::Blue(1)),
@@ -148,7 +149,7 @@ const EXPECTED: [Line; 6] = [
     (Some(1), 2, Said::Answer),
 ];
 
-/// The status of a reader with one match and one sample that lost so many numbers.
+/// The status of a reader with one match, one sample and `lost_total` lost numbers.
 fn status(lost_total: u32) -> Option<Status> {
     Some(Status {
         matched_total: 1,
@@ -160,7 +161,7 @@ fn status(lost_total: u32) -> Option<Status> {
     })
 }
 
-/// Whether a participant stands as it has to after the three datagrams, in so many batches.
+/// Whether a participant has the expected state after the three datagrams, in `batches` batches.
 fn stands(alloc: Global, participant: &Participant<Shapes>, batches: usize) -> Result<bool, Fail> {
     Ok(
         participant.status(0) == status(0)
@@ -172,7 +173,7 @@ fn stands(alloc: Global, participant: &Participant<Shapes>, batches: usize) -> R
     )
 }
 
-/// Datagrams, the lengths of the batches in which they are taken, and how many workers take each.
+/// Datagrams, the lengths of the batches in which they are taken, and the number of workers.
 #[derive(Clone, Copy)]
 struct Cut<'a> {
     datagrams: &'a [&'a [u8]],
@@ -180,7 +181,8 @@ struct Cut<'a> {
     workers: usize,
 }
 
-/// Has a participant take datagrams in batches, and puts what it gives after the lines, in order.
+/// Has a participant take datagrams in batches, and appends the lines of what it puts out, in
+/// order.
 fn take_all<R: Threads + Sync>(
     rt: &R,
     alloc: Global,
@@ -202,7 +204,7 @@ fn take_all<R: Threads + Sync>(
     Ok(())
 }
 
-/// Whether a participant gives these lines of datagrams that it takes in batches.
+/// Whether a participant that takes datagrams in batches puts out the expected lines.
 fn gives<R: Threads + Sync>(
     rt: &R,
     alloc: Global,
@@ -217,8 +219,8 @@ fn gives<R: Threads + Sync>(
     Ok(lines.as_slice() == expected)
 }
 
-/// Whether a participant gives what it has to of the three datagrams, and stands as it has to after
-/// them.
+/// Whether a participant puts out the expected lines for the three datagrams, and has the expected
+/// state after them.
 fn gives_all<R: Threads + Sync>(
     rt: &R,
     alloc: Global,
@@ -233,7 +235,7 @@ fn gives_all<R: Threads + Sync>(
     )
 }
 
-/// The same of a new participant.
+/// The same for a new participant.
 fn gives_all_from_new<R: Threads + Sync>(rt: &R, alloc: Global, cut: Cut<'_>) -> Result<bool, Fail>
     requires { (1 ≤ cut.workers) × (cut.workers ≤ 64) }
 {
@@ -286,8 +288,8 @@ impl Counting {
         }
     }
 
-    /// How often jobs of the first reader and of the others began, and a hundred times how often
-    /// they ended.
+    /// The counts of the first reader's jobs and of the others': 1 for each job that began, and 100
+    /// for each that ended.
     fn counts(&self) -> (u64, u64) {
         (
             self.first.load(Ordering::SeqCst),
@@ -310,7 +312,7 @@ fn take_both<R: Threads + Sync>(
     Ok(())
 }
 
-/// How often jobs of the first reader and of the second one began and ended then.
+/// The counts of the first reader's jobs and of the second's, after both datagrams.
 fn counted<R: Threads + Sync>(
     rt: &R,
     alloc: Global,

@@ -1,4 +1,4 @@
--- What a run comes to, reader by reader, and the order in which it puts things out.
+-- The results of a run, reader by reader, and the order of what it puts out.
 use Rattle.std.specs.Prelude.{◌≡◌, ℕ, zero, suc, ◌<◌, ◌==◌, ◌&&◌, List, [], ◌∷◌, ◌++◌, map, filter, Bool, true, false, Option, Some, None, if◌then◌else◌}
 use Rattle.rtps_types.specs.declared.place.Place.{Place}
 use Rattle.rtps_receiver.specs.Events.{EventView}
@@ -49,7 +49,7 @@ pub record IsDiscovered {M : Type 0} (decoding : Decoding M) (w : World M) (es :
 
 -- ---- all readers together
 
--- what discovery answers, and what each reader by its rank gives out and sends
+-- discovery's answers, and by rank the notices and the answers of each reader
 pub record Parts (M : Type 0) : Type 0 where
   pub answers : List (Place × ReplyView)
   pub told : ℕ → List (Notice M)
@@ -67,7 +67,8 @@ answers_at place answers = filter (λ s. same_place s.0 place) answers
 abbrev pub notices_at : {M : Type 0} → Place → List (Notice M) → List (Notice M)
 notices_at place notices = filter (λ n. same_place n.place place) notices
 
--- at one place the ranks below a count by rising rank, of each its notices and then its answer
+-- at one place, for the ranks below a count in ascending order: the reader's notices, then its
+-- answer
 abbrev pub merged_below : {M : Type 0} → Place → Parts M → ℕ → List (ReportView M)
 merged_below place parts zero = []
 merged_below place parts (suc rank) =
@@ -82,7 +83,7 @@ merged parts count (place ∷ places) =
     (map (sent_by None) (answers_at place parts.answers) ++ merged_below place parts count)
     ++ merged parts count places
 
--- what discovery answers over a list of events, and what each reader makes of its job
+-- discovery's answers to a list of events, and the notices and answers of each reader's job
 abbrev pub parts_of : {M : Type 0} → Decoding M → Known → (ℕ → Reader) → List EventView → Parts M
 parts_of decoding k readers es = record {
   answers = discovery_answers k es;
@@ -90,7 +91,7 @@ parts_of decoding k readers es = record {
   sent = λ rank. job_sent (readers rank) (job_of rank k es);
 }
 
--- a run puts out these parts, by the events' places
+-- a run puts out these parts, merged by the events' places
 abbrev pub IsByPlace : {M : Type 0} → Decoding M → World M → List EventView → Type 0
 IsByPlace decoding w es =
     (world_run decoding w es).put

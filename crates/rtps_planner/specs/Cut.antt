@@ -7,7 +7,7 @@ use Rattle.dds_topic.specs.Decoding.{Decoding}
 use Rattle.rtps_run.specs.Run.{events_from, first_world, run, world_run}
 use Rattle.rtps_run.specs.World.{World}
 
--- the run that takes batch after batch, from a world after so many datagrams
+-- the run that takes batch after batch, from a world after `index` datagrams
 abbrev pub batch_run : {M : Type 0} → Decoding M → GuidPrefix → ℕ → World M
     → List (List (List ℕ)) → World M
 batch_run decoding own index w [] = w

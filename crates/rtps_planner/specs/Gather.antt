@@ -1,5 +1,5 @@
--- How the outputs of a batch's jobs are put together (DDSI-RTPS 8.4.10): which outputs are refused,
--- and what comes of the others.
+-- How the outputs of a batch's jobs are merged (DDSI-RTPS 8.4.10): which outputs are refused, and
+-- the outcome of the others.
 use Rattle.std.specs.Prelude.{◌≡◌, ◌⊎◌, ℕ, zero, suc, ◌<◌, ◌==◌, nat_lt, not, Bool, List, [], ◌∷◌, ◌++◌, length, map, filter, Option, Some, None, Result, Ok, Err, if◌then◌else◌, set, slice_index_or, true, false}
 use Rattle.std.specs.List.{All, AllByRecursion, Contains, list_any}
 use Rattle.std.specs.declared.vec.Vec.{Vec}
@@ -27,7 +27,7 @@ use Rattle.rtps_planner.specs.Job.{job_of, job_sent, job_told}
 abbrev pub ranks_of : {V A : Type 0} → List (ℕ × Output V A) → List ℕ
 ranks_of outputs = map (λ o. o.0) outputs
 
--- how often a rank is among these
+-- the number of times that a rank is among these
 abbrev pub times : ℕ → List ℕ → ℕ
 times rank ranks = length (filter (λ r. r == rank) ranks)
 
@@ -43,26 +43,27 @@ fault_of planned given =
     else (if list_any (λ rank. not (is_among planned rank)) given then Some fault.Stranger
     else None))
 
--- an error is what is wrong; where nothing is, memory ran out
+-- an error says what is wrong with the outputs; if nothing is wrong with them, memory ran out
 unfoldable pub IsJudged : {X : Type 0} → Option GatherFault → Result X GatherFault → Type 0
 IsJudged wrong (Ok x) = wrong ≡ None
 IsJudged wrong (Err e) = (wrong ≡ Some e) ⊎ ((wrong ≡ None) × (e ≡ fault.NoMemory))
 
--- ---- what comes of the others
+-- ---- the outcome of the others
 
--- outputs by rank, with these in the places of their ranks
+-- outputs by rank, where these replace those of their ranks
 abbrev pub outputs_with : {V A : Type 0} → List (Output V A) → List (ℕ × Output V A)
     → List (Output V A)
 outputs_with by_rank [] = by_rank
 outputs_with by_rank (o ∷ os) = outputs_with (set by_rank o.0 o.1) os
 
--- what the reader of a rank sends by outputs that are by rank; nothing where there is no such reader
+-- the answers of the reader of a rank, in a list of outputs by rank; none if there is no such
+-- reader
 abbrev pub sent_in : {V A : Type 0} → List (Output V A) → ℕ → List (Place × ReplyView)
 sent_in [] rank = []
 sent_in (o ∷ os) zero = map reader.answer_view o.answers.items
 sent_in (o ∷ os) (suc rank) = sent_in os rank
 
--- what the reader of a rank gives out and sends by these outputs
+-- the notices and the answers of the reader of a rank, in a list of outputs with their ranks
 abbrev pub told_by : {V A : Type 0} → List (ℕ × Output V A) → ℕ → List (Notice V)
 told_by [] rank = []
 told_by (o ∷ os) rank =
@@ -75,11 +76,11 @@ replies_by (o ∷ os) rank =
     then map reader.answer_view o.1.answers.items ++ replies_by os rank
     else replies_by os rank
 
--- what discovery answers
+-- discovery's answers
 abbrev pub said_in : {A : Type 0} → Rest A → List (Place × ReplyView)
 said_in rest = map reader.answer_view rest.answers.items
 
--- the parts of a batch: what discovery answers, and these outputs
+-- the parts of a batch: discovery's answers, and these outputs
 abbrev pub parts_in : {V A : Type 0} → Rest A → List (ℕ × Output V A) → Parts V
 parts_in rest outputs = record {
   answers = said_in rest;
@@ -96,9 +97,9 @@ AreRising (p ∷ ps) = AllByRecursion (λ q. not_after q p ≡ false) ps × AreR
 abbrev pub StandAmong : List Place → List (Place × ReplyView) → Type 0
 StandAmong places answers = All (λ s. list_any (same_place s.0) places ≡ true) answers
 
--- An outcome has the outputs of a batch: the notices of each output are as they were in the place
--- of its rank, and a reader without a job has none; and the answers are those of the parts, merged
--- by whatever places the events of the batch have, which are those of the answers too.
+-- An outcome has the outputs of a batch. Each rank has the notices of its output, unchanged, and a
+-- reader without a job has none. The answers are those of the parts, merged by any ascending list
+-- of places that has the places of all answers, such as the places of the batch's events.
 pub record IsGathered {V A : Type 0} (rest : Rest A) (outputs : List (ℕ × Output V A))
     (outcome : Outcome V A) : Type 0 where
   pub readers : length outcome.notices.items ≡ rest.readers
@@ -114,7 +115,7 @@ pub record IsGathered {V A : Type 0} (rest : Rest A) (outputs : List (ℕ × Out
       → map answer_view outcome.answers.items
       ≡ answers_in (merged (parts_in rest outputs) rest.readers places)
 
--- an output has what comes of its reader's job over these events
+-- an output has the notices and the answers of its reader's job over these events
 pub record IsOutputOf {V M A : Type 0} (f : V → M) (decoding : Decoding M) (w : World M)
     (es : List EventView) (o : ℕ × Output V A) : Type 0 where
   pub told : map (reader.notice_view f) o.1.notices.items

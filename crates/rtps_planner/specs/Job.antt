@@ -1,5 +1,5 @@
 -- The part of one reader in a run (DDSI-RTPS 8.4.10, 8.5): what discovery asks of it, and what it
--- makes of that, whatever the other readers do.
+-- does then, independently of the other readers.
 use Rattle.std.specs.Prelude.{ℕ, List, [], ◌∷◌, ◌++◌, map, if◌then◌else◌}
 use Rattle.rtps_types.specs.declared.place.Place.{Place}
 use Rattle.rtps_receiver.specs.Events.{EventView}
@@ -13,7 +13,7 @@ use Rattle.rtps_reader.specs.Reader.{Reader, placed, reader_after, reader_run, s
 use Rattle.rtps_reader.specs.Steps.{StepView}
 use Rattle.rtps_run.specs.World.{doings, known_after_event}
 
--- what is asked of a reader, each with the place of the event that asks it
+-- what is asked of a reader, step by step, each with the place of the event that causes it
 abbrev pub Job : Type 0
 Job = List (Place × StepView)
 
@@ -27,12 +27,12 @@ job_of rank k (e ∷ es) =
 abbrev pub job_run : Reader → Job → Reader
 job_run r job = reader_run r (map (λ s. s.1) job)
 
--- the notices that a reader gives out over a job
+-- the notices that a reader reports in a job
 abbrev pub job_told : {M : Type 0} → Decoding M → Reader → Job → List (Notice M)
 job_told decoding r [] = []
 job_told decoding r (s ∷ ss) = tells decoding r s.0 s.1 ++ job_told decoding (reader_after r s.1) ss
 
--- and the answers that it sends, each with the place of the event that it answers
+-- the answers that a reader sends in a job, each with the place of the event that it answers
 abbrev pub job_sent : Reader → Job → List (Place × ReplyView)
 job_sent r [] = []
 job_sent r (s ∷ ss) = sends r s.0 s.1 ++ job_sent (reader_after r s.1) ss

@@ -25,15 +25,15 @@ use Rattle.rtps_planner.specs.declared.jobs.Job as plan_job
 use Rattle.rtps_planner.specs.declared.jobs.Plan.{Plan}
 use Rattle.rtps_planner.specs.Job.{Job, discovery_answers, job_of, known_after_events}
 
--- an event that a reader takes in
+-- the step by which a reader processes an event
 abbrev pub taken_in : EventView → Place × StepView
 taken_in e = (e.place, asks_of e)
 
--- the event of an index, and so many that follow it; fewer where there are none
+-- the event at index `first` and the `more` events after it, as far as there are any
 abbrev pub events_at : List EventView → ℕ → ℕ → List EventView
 events_at es first more = take (more + 1) (drop first es)
 
--- to hear what becomes of a match, at the event of an index; nothing where there is no such event
+-- the step that changes a match, at the event of an index; nothing where there is no such event
 abbrev pub heard_at : List EventView → ℕ → MatchChange → Job
 heard_at es event what =
     option_to_list (option_map (λ e. (e.place, Changes what)) (slice_get es event))
@@ -47,7 +47,7 @@ step_seen es (step.Change event what) = heard_at es event (match_change_view wha
 abbrev pub steps_seen : {A : Type 0} → List EventView → List (PlannedStep A) → Job
 steps_seen es steps = flat_map (step_seen es) steps
 
--- to the steps of each rank these are added
+-- these steps are appended to those of each rank
 pub record Grow {A : Type 0} (es : List EventView) (old new : List (Vec (PlannedStep A) A))
     (added : ℕ → Job) : Type 0 where
   pub count : length new ≡ length old
@@ -63,7 +63,7 @@ is_from writer reader e = same_guid (writer_of e) writer && bytes_eq e.reader.0 
 abbrev pub AreFrom : Guid → EntityId → List EventView → Type 0
 AreFrom writer reader es = AllByRecursion (λ e. is_from writer reader e ≡ true) es
 
--- the ranks among these that are this rank, where a reader id names its reader
+-- `rank`, as often as it is among `ranks`, if the reader id names its reader
 abbrev pub ranks_named : EntityId → List (Option Wish) → List ℕ → ℕ → List ℕ
 ranks_named reader readers ranks rank =
     filter (λ r. r == rank) (filter (λ r. is_named reader (reader_at readers r)) ranks)
@@ -73,12 +73,12 @@ abbrev pub burst_at : List EventView → Burst → List (Option Wish) → List �
 burst_at es b readers ranks rank =
     flat_map (λ r. map taken_in (events_at es b.first b.more)) (ranks_named b.reader readers ranks rank)
 
--- a list has these events, from an index on, where another has them
+-- two lists have the same `count` events from index `first` on
 abbrev pub ReadsAs : List EventView → List EventView → ℕ → ℕ → Type 0
 ReadsAs all es first count = take count (drop first es) ≡ take count (drop first all)
 
--- what events ask of each reader and what discovery answers to them are added, and discovery keeps
--- what is known after them
+-- what events ask of each reader, and discovery's answers to them, are appended, and discovery
+-- keeps what is known after them
 pub record IsPlanned {A : Type 0} (es : List EventView) (k : Known) (run : List EventView)
     (old new : Planning A) (kept : HeldView) : Type 0 where
   pub known : IsKnown (known_after_events k run) kept
@@ -95,8 +95,8 @@ pub record AreSteps {A : Type 0} (es : List EventView) (lists : List (Vec (Plann
   pub none : (rank : ℕ) (other : Vec (PlannedStep A) A) → rank < length lists
       → asked rank ≡ [] → (slice_index_or lists rank other).items ≡ []
 
--- what these events ask of each reader and what discovery answers to them is there, and discovery
--- keeps what is known after them; steps point into all events of the batch
+-- what these events ask of each reader, and discovery's answers to them, are planned, and discovery
+-- keeps what is known after them; steps refer to the events of the whole batch
 pub record AreAllPlanned {A : Type 0} (k : Known) (all es : List EventView) (new : Planning A)
     (kept : HeldView) : Type 0 where
   pub known : IsKnown (known_after_events k es) kept
@@ -113,13 +113,13 @@ abbrev pub job_at : ℕ → Job → List (ℕ × Job)
 job_at rank [] = []
 job_at rank (s ∷ ss) = (rank, s ∷ ss) ∷ []
 
--- those of the ranks below a count, by rising rank
+-- the jobs of the ranks below a count, by ascending rank
 abbrev pub jobs_by : (ℕ → Job) → ℕ → List (ℕ × Job)
 jobs_by asked zero = []
 jobs_by asked (suc n) = jobs_by asked n ++ job_at n (asked n)
 
--- a plan has a job for each reader of whom discovery asks something over the events, and
--- discovery's answers; and discovery keeps what is known after the events
+-- a plan has a job for each reader that the events ask something of, and discovery's answers; and
+-- discovery keeps what is known after the events
 pub record IsPlan {A : Type 0} (k : Known) (es : List EventView) (plan : Plan A) (kept : HeldView)
     : Type 0 where
   pub known : IsKnown (known_after_events k es) kept

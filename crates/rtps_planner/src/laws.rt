@@ -19,7 +19,7 @@ ghost use Rattle.rtps_planner.specs.Plan.{IsPlan};
 
 use std::alloc::Allocator;
 
-/// Whatever events come: what comes of each reader, and what it gives out and sends, depends on its
+/// For any events: the state of each reader after them, its notices and its answers depend on its
 /// own job alone, which is what discovery asks of it; and discovery depends on no reader.
 pub fn commuting<M>()
     ensures readers { (decoding : Decoding M) (w : World M) (es : List EventView) (rank : ℕ)
@@ -28,20 +28,20 @@ pub fn commuting<M>()
         → IsDiscovered decoding w es }
 {}
 
-/// Whatever datagrams come: what is put out at their events is by place; at one place discovery's
-/// answer is first, and then come the readers by rank, of each its notices before its answer.
+/// For any datagrams: what is put out at their events is sorted by place. At one place discovery's
+/// answer comes first, and then the readers by rank, each with its notices before its answer.
 pub fn by_place<M>()
     ensures { (decoding : Decoding M) (w : World M) (own : GuidPrefix) (index : ℕ)
         (datagrams : List (List ℕ)) → IsByPlace decoding w (events_from own index datagrams) }
 {}
 
-/// Every cut of a list of datagrams into batches gives the run of one thread.
+/// However a list of datagrams is cut into batches, the result is the run of one thread.
 pub fn every_cut<M>()
     ensures { (decoding : Decoding M) → EveryCut decoding }
 {}
 
-/// Whatever datagrams come in a batch: of outputs that are those of its plan's jobs, an outcome is
-/// gathered that has what the run puts out more.
+/// For any datagrams in a batch: if the outputs are those of its plan's jobs, the outcome that is
+/// gathered from them has what the batch adds to all that the run puts out.
 pub fn gathered<V, M, A: Allocator>()
     ensures { (view : V → M) (decoding : Decoding M) (w : World M) (own : GuidPrefix) (index : ℕ)
         (datagrams : List (List ℕ)) (plan : Plan A) (kept : HeldView)

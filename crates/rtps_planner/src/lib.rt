@@ -1,5 +1,4 @@
-//! What each reader has to do in a batch of datagrams, and how what the readers put out is put
-//! together.
+//! Plans what each reader has to do in a batch of datagrams, and merges what the readers put out.
 #![tactic(auto)]
 
 mod jobs;

@@ -1,4 +1,4 @@
-//! How what the readers put out in a batch is put together.
+//! Merging what the readers put out in a batch.
 
 ghost use Rattle.std.specs.Prelude.{◌≡◌, ◌==◌, ◌<◌, [], ℕ, IfOk, None, length, nat_lt, not, set, slice_index_or, true};
 ghost use Rattle.std.specs.List.{list_any};
@@ -11,7 +11,7 @@ use rtps_run::Outcome;
 use std::alloc::{AllocError, Allocator};
 use thiserror::Error;
 
-/// Why outputs can't be put together: the first of these that is so.
+/// Why outputs can't be merged: the first of these that applies.
 #[derive(Clone, Copy, Debug, PartialEq, Eq, Error)]
 pub enum GatherFault {
     /// There is no output of a reader that has a job.
@@ -36,21 +36,21 @@ impl From<AllocError> for GatherFault {
     }
 }
 
-/// How many of the outputs are of a rank.
+/// The number of outputs of a rank.
 fn outputs_of<V, A: Allocator>(rank: u32, outputs: &[(u32, Output<V, A>)]) -> usize
     ensures { result ≡ times rank (ranks_of outputs.now) }
 {
     outputs.iter().filter(|output| output.0 == rank).count()
 }
 
-/// Whether there is no output of one of these ranks.
+/// Whether one of these ranks has no output.
 fn is_missing<V, A: Allocator>(planned: &[u32], outputs: &[(u32, Output<V, A>)]) -> bool
     ensures { result ≡ list_any (λ rank. times rank (ranks_of outputs.now) == 0) planned.now }
 {
     planned.iter().any(|rank| outputs_of(*rank, outputs) == 0)
 }
 
-/// Whether there are two outputs of one of these ranks.
+/// Whether one of these ranks has more than one output.
 fn is_double<V, A: Allocator>(planned: &[u32], outputs: &[(u32, Output<V, A>)]) -> bool
     ensures { result ≡ list_any (λ rank. nat_lt 1 (times rank (ranks_of outputs.now))) planned.now }
 {
@@ -64,15 +64,15 @@ fn is_among(ranks: &[u32], rank: u32) -> bool
     ranks.contains(&rank)
 }
 
-/// Whether there is an output of another rank than these.
+/// Whether there is an output of a rank that isn't among these.
 fn has_stranger<V, A: Allocator>(planned: &[u32], outputs: &[(u32, Output<V, A>)]) -> bool
     ensures { result ≡ list_any (λ rank. not (is_among planned.now rank)) (ranks_of outputs.now) }
 {
     outputs.iter().any(|output| !is_among(planned, output.0))
 }
 
-/// Whether the outputs are those of these ranks, in their order, and the ranks rise. Then nothing
-/// is wrong with them.
+/// Whether the outputs have exactly these ranks, in this order, and the order is ascending. Then
+/// nothing is wrong with them.
 fn are_in_order<V, A: Allocator>(planned: &[u32], outputs: &[(u32, Output<V, A>)]) -> bool
     ensures { result ≡ true → fault_of planned.now (ranks_of outputs.now) ≡ None }
 {
@@ -90,7 +90,8 @@ fn are_in_order<V, A: Allocator>(planned: &[u32], outputs: &[(u32, Output<V, A>)
     true
 }
 
-/// What is wrong with outputs, where these ranks were planned. Outputs in order are looked at once.
+/// Returns what is wrong with the outputs, where these ranks were planned. Outputs that are in
+/// order need one pass.
 fn fault_in<V, A: Allocator>(
     planned: &[u32],
     outputs: &[(u32, Output<V, A>)],
@@ -112,7 +113,7 @@ fn fault_in<V, A: Allocator>(
     None
 }
 
-/// An output in which nothing is.
+/// Returns an empty output.
 fn no_output<V: Drop, A: Allocator + Copy>(alloc: A) -> Output<V, A>
     ensures notices { result.notices.items ≡ [] }
     ensures answers { result.answers.items ≡ [] }
@@ -123,7 +124,7 @@ fn no_output<V: Drop, A: Allocator + Copy>(alloc: A) -> Output<V, A>
     }
 }
 
-/// `count` outputs in which nothing is.
+/// Returns `count` empty outputs.
 fn no_outputs<V: Drop, A: Allocator + Copy>(
     alloc: A,
     count: usize,
@@ -140,7 +141,7 @@ fn no_outputs<V: Drop, A: Allocator + Copy>(
     Ok(outputs)
 }
 
-/// Puts an output in the place of its rank; there is none for a rank past the last.
+/// Replaces the output of `rank`; drops `output` where the rank is past the last.
 fn put_output<V: Drop, A: Allocator>(
     by_rank: &mut Vec<Output<V, A>, A>,
     rank: u32,
@@ -154,7 +155,7 @@ fn put_output<V: Drop, A: Allocator>(
     }
 }
 
-/// Puts each output in the place of its rank.
+/// Replaces the output of each rank that is given one.
 fn put_outputs<V: Drop, A: Allocator>(
     by_rank: &mut Vec<Output<V, A>, A>,
     outputs: Vec<(u32, Output<V, A>), A>,
@@ -167,11 +168,11 @@ fn put_outputs<V: Drop, A: Allocator>(
     }
 }
 
-/// Puts the outputs of a batch's jobs together, each with the rank of its reader. The outputs may
-/// come in any order; their notices are moved list by list.
+/// Merges the outputs of a batch's jobs, each with the rank of its reader. The outputs may come in
+/// any order; their notices are moved list by list.
 ///
-/// What is wrong with the outputs is found before any memory is taken. At an error they are
-/// dropped, with what they hold.
+/// The outputs are checked before any memory is taken. On an error they are dropped, with what they
+/// hold.
 #[tactic(auto, unfolding(crate::specs::Gather::IsJudged))]
 pub fn gather<V: Drop, A: Allocator + Copy>(
     alloc: A,

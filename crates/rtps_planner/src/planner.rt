@@ -21,7 +21,7 @@ fn is_from(event: &Event<'_>, writer: Guid, reader: EntityId) -> bool
     event.source == writer.prefix && event.writer == writer.entity && event.reader == reader
 }
 
-/// How many of these events, from the front on, come from this writer with this reader id.
+/// The number of events at the front of the list that come from this writer with this reader id.
 fn count_from(events: &[Event<'_>], writer: Guid, reader: EntityId) -> usize
     ensures within { result ≤ length events.now }
     ensures alike { AreFrom writer reader (take result (map view events.now)) }
@@ -38,9 +38,9 @@ fn count_from(events: &[Event<'_>], writer: Guid, reader: EntityId) -> usize
     count
 }
 
-/// Takes the event at this index into a plan, and gives the index of the first that isn't taken. An
-/// announcer's event is discovery's; any other event is taken together with those after it that
-/// come from its writer with its reader id, for which one search is enough.
+/// Plans the event at index `first`, and returns the index of the next event to plan. An
+/// announcer's event goes to discovery. Any other event is planned together with the events right
+/// after it that have its writer and its reader id, so that their matches are looked up once.
 fn plan_next<A: Allocator + Copy>(
     discovery: &mut Discovery<A>,
     planning: &mut Planning<A>,
@@ -77,7 +77,7 @@ fn plan_next<A: Allocator + Copy>(
     Ok(first + 1 + burst.more)
 }
 
-/// Takes the events into a plan, one after the other.
+/// Plans all events, in order.
 fn plan_events<A: Allocator + Copy>(
     alloc: A,
     events: &[Event<'_>],
@@ -101,7 +101,7 @@ fn plan_events<A: Allocator + Copy>(
     Ok(planning)
 }
 
-/// The jobs of the readers that have steps.
+/// Returns the jobs of the readers that have steps, by ascending rank.
 fn jobs_of<A: Allocator + Copy>(
     alloc: A,
     lists: Vec<Vec<PlannedStep<A>, A>, A>,
@@ -120,7 +120,7 @@ fn jobs_of<A: Allocator + Copy>(
     Ok(jobs)
 }
 
-/// The ranks of jobs.
+/// Returns the ranks of the jobs, in their order.
 fn ranks_of<A: Allocator + Copy>(alloc: A, jobs: &[Job<A>]) -> Result<Vec<u32, A>, AllocError>
     ensures { IfOk result (λ ranks. ranks.items ≡ map (λ job. job.rank) jobs.now) }
 {
@@ -131,8 +131,7 @@ fn ranks_of<A: Allocator + Copy>(alloc: A, jobs: &[Job<A>]) -> Result<Vec<u32, A
     Ok(ranks)
 }
 
-/// What each reader has to do at the events of a batch, and what discovery answers to them, for a
-/// discovery that isn't spent.
+/// Plans a batch as [`plan`] does, with a discovery that isn't spent.
 fn planned<A: Allocator + Copy>(
     alloc: A,
     events: &[Event<'_>],
@@ -154,11 +153,12 @@ fn planned<A: Allocator + Copy>(
     Ok(Plan { jobs, rest })
 }
 
-/// What each reader has to do at the events of a batch, and what discovery answers to them.
-/// Discovery takes the events in. Steps point into `events`; no event is copied.
+/// Plans a batch: returns what each reader has to do at its events, and discovery's answers to
+/// them. Discovery processes the events here. Steps refer to `events` by index; no event is copied.
 ///
-/// An error is a refused growth, after which discovery is spent: it may have taken in some of the
-/// events, and what came of them is lost. A spent one is refused, and stays as it was.
+/// An error is a refused growth, after which discovery is spent: it may have processed some of the
+/// events, and their results are lost. A discovery that is spent already is refused, and stays as
+/// it was.
 pub fn plan<A: Allocator + Copy>(
     alloc: A,
     events: &[Event<'_>],

@@ -1,4 +1,4 @@
-//! The steps of readers at an announcement, and at events of a user's writer.
+//! The steps of readers for an announcement, and for events of a user's writer.
 
 ghost use Rattle.std.specs.Prelude.{◌≡◌, ℕ, ◌+◌, ◌<◌, ◌^◌, ◌==◌, ◌++◌, [], ◌∷◌, List, OnOk, if◌then◌else◌, length, map, Some, true, false};
 ghost use Rattle.std.specs.List.{slice_get};
@@ -21,26 +21,25 @@ use rtps_run::is_named;
 use rtps_types::{EntityId, Guid, MatchChangeKind, Place, Reply};
 use std::alloc::{AllocError, Allocator, Global};
 
-/// For so many steps room is made at first.
+/// Initial capacity of a list of steps, so that short jobs take memory once.
 const FIRST_ROOM: usize = 8;
 
-/// One step of a job, by the indices of events in the batch's list.
+/// One step of a job. It refers to events by their indices in the batch's list.
 #[derive(Debug, Drop)]
 pub enum PlannedStep<A: Allocator = Global> {
-    /// The reader takes in the event at an index, and so many more that follow it there.
+    /// The reader processes the event at index `first` and the `more` events after it.
     TakeIn {
         first: usize,
         more: usize,
     },
-    /// A match changes, as the event at this index announces.
+    /// A match changes: the event at index `event` announces it.
     Change {
         event: usize,
         what: MatchChangeKind<A>,
     },
 }
 
-/// Puts a step after the others. Where the list is full, room is made for four times as many, since
-/// they are moved each time.
+/// Appends a step. A full list grows to four times its length, since each growth moves all steps.
 fn push_step<A: Allocator>(
     steps: &mut Vec<PlannedStep<A>, A>,
     step: PlannedStep<A>,
@@ -55,8 +54,8 @@ fn push_step<A: Allocator>(
     Ok(())
 }
 
-/// Lets a step take in so many more events too, from the one at this index on, where that follows
-/// the events of the step; says whether it does.
+/// Extends a step by the event at index `first` and the `more` events after it, if they directly
+/// follow its own events. Returns whether it did.
 fn lengthen<A: Allocator>(step: &mut PlannedStep<A>, first: usize, more: usize) -> bool
     ensures kept { result ≡ false → step.new ≡ step.old }
     ensures longer { (es : List EventView) → result ≡ true → step_seen es step.new
@@ -82,8 +81,8 @@ fn lengthen<A: Allocator>(step: &mut PlannedStep<A>, first: usize, more: usize) 
     }
 }
 
-/// Lets the event at this index, and so many more that follow it, be taken in after the other
-/// steps.
+/// Adds the event at index `first` and the `more` events after it to the end of a job: to its last
+/// step if they directly follow it, else as a new step.
 fn take_in<A: Allocator>(
     steps: &mut Vec<PlannedStep<A>, A>,
     first: usize,
@@ -100,18 +99,18 @@ fn take_in<A: Allocator>(
     push_step(steps, PlannedStep::TakeIn { first, more })
 }
 
-/// Neighbouring events that come from one writer with one reader id.
+/// Consecutive events that come from one writer with one reader id.
 #[derive(Clone, Copy)]
 pub(crate) struct Burst {
     /// The index of the first one.
     pub first: usize,
-    /// How many more follow it.
+    /// The number of events after it.
     pub more: usize,
     pub writer: Guid,
     pub reader: EntityId,
 }
 
-/// Lets the reader of a rank take in a burst; there is none for a rank past the last.
+/// Adds a burst to the steps of the reader of `rank`. A rank past the last is ignored.
 fn take_in_at<A: Allocator>(
     lists: &mut Vec<Vec<PlannedStep<A>, A>, A>,
     rank: u32,
@@ -126,7 +125,7 @@ fn take_in_at<A: Allocator>(
     }
 }
 
-/// Puts a step after those of the reader of a rank; there is none for a rank past the last.
+/// Appends a step to those of the reader of `rank`. A rank past the last is ignored.
 fn add_step<A: Allocator>(
     lists: &mut Vec<Vec<PlannedStep<A>, A>, A>,
     rank: u32,
@@ -141,7 +140,7 @@ fn add_step<A: Allocator>(
     }
 }
 
-/// Puts what becomes of matches after the steps of the readers that hear of it.
+/// Appends each change of a match to the steps of its reader.
 fn add_changes<A: Allocator>(
     lists: &mut Vec<Vec<PlannedStep<A>, A>, A>,
     event: usize,
@@ -158,7 +157,7 @@ fn add_changes<A: Allocator>(
     Ok(())
 }
 
-/// Lets the readers of these ranks take in a burst, where its reader id names them.
+/// Adds a burst to the steps of those readers of these ranks that its reader id names.
 fn add_burst<A: Allocator>(
     lists: &mut Vec<Vec<PlannedStep<A>, A>, A>,
     readers: &[Option<Reader<A>>],
@@ -176,14 +175,14 @@ fn add_burst<A: Allocator>(
     Ok(())
 }
 
-/// The steps of each reader so far, by its rank, and what discovery answers.
+/// The steps of each reader so far, by rank, and discovery's answers.
 #[derive(Drop)]
 pub(crate) struct Planning<A: Allocator> {
     pub lists: Vec<Vec<PlannedStep<A>, A>, A>,
     pub answers: Vec<(Place, Reply<A>), A>,
 }
 
-/// Puts discovery's answer to the event at this place after the others.
+/// Appends discovery's answer to the event at this place, if there is one.
 fn add_answer<A: Allocator>(
     answers: &mut Vec<(Place, Reply<A>), A>,
     place: Place,
@@ -198,8 +197,8 @@ fn add_answer<A: Allocator>(
     Ok(())
 }
 
-/// Gives an announcement to discovery, and each change that it brings to the reader that hears of
-/// it.
+/// Has discovery process an announcement, and appends its answer, and each change of a match to the
+/// steps of its reader.
 pub(crate) fn plan_announcement<A: Allocator + Copy>(
     discovery: &mut Discovery<A>,
     planning: &mut Planning<A>,
@@ -221,8 +220,7 @@ pub(crate) fn plan_announcement<A: Allocator + Copy>(
     add_changes(&mut planning.lists, index, effects.changes)
 }
 
-/// Takes a burst into the plan: it is for the readers that are matched with its writer, where it
-/// names them.
+/// Adds a burst to the steps of the readers that are matched with its writer and that it names.
 pub(crate) fn plan_burst<A: Allocator + Copy>(
     discovery: &Discovery<A>,
     planning: &mut Planning<A>,

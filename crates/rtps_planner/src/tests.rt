@@ -1,4 +1,4 @@
-//! Events and outputs that were written down by hand.
+//! Events and outputs written by hand.
 
 mod memory;
 mod outputs;

@@ -28,18 +28,18 @@ abbrev pub AllIdle : {T : Type 0} → List (Hand T) → Type 0
 AllIdle [] = Unit {0}
 AllIdle (v ∷ vs) = IsIdle v × AllIdle vs
 
--- the rule: there are 1,024 parts, and the items pushed are, as often as they were pushed, those on
--- the board and those that the ends have taken
+-- the rule: there are 1,024 parts (any number above the 63 thieves of a board would do), and the
+-- items pushed are, each as often as it was pushed, those on the board and those that were taken
 pub record Balanced {T : Type 0} (items : List T) (views : List (Hand T)) : Type 0 where
   pub parts : total views ≡ 1024
   pub same : IsPermutation (flat_map put_by views) (flat_map taken_by views ++ items)
   pub idle : AllIdle views
 
--- where an end has every part, and the board is empty, all that was pushed was taken
+-- if an end has every part and the board is empty, all items that were pushed were taken
 abbrev pub Settles : {T : Type 0} → Hand T → Type 0
 Settles v = v.parts ≡ 1024 → IsPermutation v.put v.taken
 
--- an end has taken items more; where it has every part, no more than were pushed
+-- an end has taken these items too; if it has every part, it has taken no more than were pushed
 abbrev pub HasTakenMore : {T : Type 0} → Hand T → List T → Hand T → Type 0
 HasTakenMore v xs w =
     (w ≡ hand v.parts v.put (v.taken ++ xs))

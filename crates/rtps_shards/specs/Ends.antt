@@ -14,22 +14,22 @@ owner_hand board = worker_view board.owner
 abbrev pub thief_hand : {T : Type 0} → Thief T → Hand T
 thief_hand thief = view thief.pass
 
--- a push finds room that many times at the least
+-- the number of pushes that are sure to find room
 abbrev pub room : {T : Type 0} → Board T → ℕ
 room board = worker_capacity board.owner - worker_index board.owner
 
--- it is the same board still
+-- these are two states of one board
 abbrev pub IsSameBoard : {T : Type 0} → Board T → Board T → Type 0
 IsSameBoard old new = worker_deque new.owner ≡ worker_deque old.owner
 
--- it steals from this board
+-- the thief steals from this board
 abbrev pub IsThiefOf : {T : Type 0} → Board T → Thief T → Type 0
 IsThiefOf board thief = stealer_deque thief.robber ≡ worker_deque board.owner
 
--- it steals from the same board still
+-- these are two states of a thief, which steals from the same board in both
 abbrev pub IsSameThief : {T : Type 0} → Thief T → Thief T → Type 0
 IsSameThief old new = stealer_deque new.robber ≡ stealer_deque old.robber
 
--- it steals from this board, has one part, and has taken nothing yet
+-- the thief steals from this board, has one part, and has taken nothing yet
 abbrev pub IsNewThiefOf : {T : Type 0} → Board T → Thief T → Type 0
 IsNewThiefOf board thief = IsThiefOf board thief × (thief_hand thief ≡ hand 1 [] [])

@@ -1,4 +1,4 @@
--- What one worker gives, and what all of them give.
+-- The results of one worker, and of all workers.
 use Rattle.std.specs.Prelude.{◌≡◌, ℕ, List, [], ◌∷◌, All, IfOk, Result, Ok, Err, map}
 use Rattle.std.specs.declared.alloc.Global.{Global}
 use Rattle.std.specs.declared.vec.Vec.{Vec}
@@ -24,12 +24,12 @@ IsPileDone f decoding es pile result =
     → IfOk result (λ results. All (IsDone f decoding shares) results.items))
     × IfOk result (λ results. map rank_of results.items ≡ map rank_in pile.items)
 
--- what a worker has given, if it has
+-- the items of a worker; none if it failed
 abbrev pub given_by : {X E : Type 0} → Result (Vec X Global) E → List X
 given_by (Ok v) = v.items
 given_by (Err e) = []
 
--- each worker has given something
+-- no worker failed
 abbrev pub AllOk : {X E : Type 0} → List (Result X E) → Type 0
 AllOk [] = Unit {0}
 AllOk (Ok v ∷ rs) = AllOk rs

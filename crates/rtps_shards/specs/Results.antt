@@ -1,4 +1,4 @@
--- What comes of the jobs of a batch (DDSI-RTPS 8.4.10, 8.5).
+-- The results of the jobs of a batch (DDSI-RTPS 8.4.10, 8.5).
 use Rattle.std.specs.Prelude.{◌≡◌, ℕ, List, ◌++◌, map}
 use Rattle.rtps_receiver.specs.Events.{EventView}
 use Rattle.dds_topic.specs.Decoding.{Decoding}
@@ -14,17 +14,17 @@ use Rattle.rtps_planner.specs.Plan.{steps_seen}
 use Rattle.rtps_shards.specs.declared.jobs.JobResult.{JobResult}
 use Rattle.rtps_shards.specs.declared.jobs.Posted.{Posted}
 
--- a reader's share of a batch: the reader and the notices that it gave out before, and its job
+-- a reader's share of a batch: the reader, the notices that it reported before, and its job
 pub record Share (M : Type 0) : Type 0 where
   pub reader : Reader
   pub given : List (Notice M)
   pub job : Job
 
--- a share, made of a reader, the notices that it gave out before, and its job
+-- the share of a reader, the notices that it reported before, and its job
 abbrev pub share : {M : Type 0} → Reader → List (Notice M) → Job → Share M
 share reader given job = record { reader = reader; given = given; job = job }
 
--- the share after its job: the reader, and the notices that it gave out by then
+-- after the job of a share: the reader, and all notices that it has reported
 abbrev pub reader_done : {M : Type 0} → Share M → Reader
 reader_done s = job_run s.reader s.job
 
@@ -37,8 +37,8 @@ pub record IsReady {V M : Type 0} (es : List EventView) (shares : ℕ → Share 
   pub job : steps_seen es x.job.steps.items ≡ (shares x.job.rank).job
   pub state : StandsFor (shares x.job.rank).reader (shares x.job.rank).given x.job.rank x.state
 
--- a result is what the reader of its rank makes of its job: what it comes to, what it gives out and
--- what it sends
+-- a result is that of the job of its rank's reader: the reader after the job, the notices that it
+-- reported and the answers that it sent
 pub record IsDone {V M : Type 0} (f : V → M) (decoding : Decoding M) (shares : ℕ → Share M)
     (x : JobResult V) : Type 0 where
   pub state : StandsFor (reader_done (shares x.rank)) (given_done decoding (shares x.rank)) x.rank
@@ -48,13 +48,13 @@ pub record IsDone {V M : Type 0} (f : V → M) (decoding : Decoding M) (shares :
   pub sent : map answer_view x.output.answers.items
       ≡ job_sent (shares x.rank).reader (shares x.rank).job
 
--- what a reader gives out and sends over its job
+-- the notices that a reader reports and the answers that it sends in its job
 pub record IsOutput {V M A : Type 0} (f : V → M) (decoding : Decoding M) (s : Share M)
     (o : Output V A) : Type 0 where
   pub told : map (notice_view f) o.notices.items ≡ job_told decoding s.reader s.job
   pub sent : map answer_view o.answers.items ≡ job_sent s.reader s.job
 
--- a reader took its job, and what it gave out and sent is added
+-- a reader has run its job, and its notices and answers are appended
 pub record HasTaken {V M : Type 0} (f : V → M) (decoding : Decoding M) (s : Share M)
     (state : ReaderView) (old new : Output V Global) : Type 0 where
   pub stands : StandsAt (reader_done s) (given_done decoding s) state

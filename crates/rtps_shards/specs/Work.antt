@@ -1,4 +1,4 @@
--- What comes of jobs that are taken off a board.
+-- The results of jobs that are taken off a board.
 use Rattle.std.specs.Prelude.{◌≡◌, ℕ, ◌+◌, List, [], ◌++◌, All, IfOk, length, map}
 use Rattle.std.specs.declared.alloc.Global.{Global}
 use Rattle.std.specs.declared.vec.Vec.{Vec}
@@ -14,42 +14,42 @@ use Rattle.rtps_shards.specs.declared.jobs.JobResult.{JobResult}
 use Rattle.rtps_shards.specs.declared.jobs.Posted.{Posted}
 use Rattle.rtps_shards.specs.declared.work.Worked.{Worked}
 
--- the results are those of the jobs, in their order: for all shares for which the jobs are ready
--- they are done, and the ranks are those of the jobs
+-- the results are those of the jobs, in order: for any shares that all jobs are ready for, all
+-- results are done, and the ranks are those of the jobs
 unfoldable pub AreDone : {V M : Type 0} → (V → M) → Decoding M → List EventView → List (Posted V)
     → List (JobResult V) → Type 0
 AreDone f decoding es jobs results =
     ((shares : ℕ → Share _) → All (IsReady es shares) jobs → All (IsDone f decoding shares) results)
     × (map rank_of results ≡ map rank_in jobs)
 
--- an end has taken some items more
+-- an end has taken some more items
 pub record TakesSome {T : Type 0} (v w : Hand T) : Type 0 where
   pub items : List T
   pub view : w ≡ hand v.parts v.put (v.taken ++ items)
 
--- an end has taken some jobs more, and these are their results, in their order
+-- an end has taken some more jobs, and these are their results, in order
 pub record Works {V M : Type 0} (f : V → M) (decoding : Decoding M) (es : List EventView)
     (v w : Hand (Posted V)) (results : List (JobResult V)) : Type 0 where
   pub jobs : List (Posted V)
   pub done : AreDone f decoding es jobs results
   pub view : w ≡ hand v.parts v.put (v.taken ++ jobs)
 
--- what a thief has done in its turn
+-- what a thief has done in its work
 pub record HasWorked {V M : Type 0} (f : V → M) (decoding : Decoding M) (es : List EventView)
     (before : Thief (Posted V)) (after : Worked V) : Type 0 where
   pub board : IsSameThief before after.thief
   pub works : IfOk after.results
       (λ rs. Works f decoding es (thief_hand before) (thief_hand after.thief) rs.items)
 
--- a thief of this board that had taken nothing: its results are those of what it took
+-- a thief of this board that had taken nothing before: its results are those of the jobs it took
 abbrev pub HasDone : {V M : Type 0} → (V → M) → Decoding M → List EventView → Board (Posted V)
     → Worked V → Type 0
 HasDone f decoding es board w =
     IsThiefOf board w.thief
     × IfOk w.results (λ rs. Works f decoding es (hand 1 [] []) (thief_hand w.thief) rs.items)
 
--- all thieves have had their turn: those of a board that had taken nothing have results of what
--- they took
+-- all thieves have worked: if they were new thieves of a board, each has the results of the jobs it
+-- took
 abbrev pub HaveAllDone : {V M : Type 0} → (V → M) → Decoding M → List EventView
     → List (Thief (Posted V)) → List (Worked V) → Type 0
 HaveAllDone f decoding es thieves crew =
@@ -57,7 +57,7 @@ HaveAllDone f decoding es thieves crew =
     × ((board : Board (Posted _)) → All (IsNewThiefOf board) thieves
     → All (HasDone f decoding es board) crew)
 
--- thieves of this number came back: the results are those of all that was taken by then
+-- `crew` thieves came back: the results are those of all jobs taken so far
 pub record IsBack {V M : Type 0} (f : V → M) (decoding : Decoding M) (es : List EventView)
     (v : Hand (Posted V)) (crew : ℕ) (w : Hand (Posted V)) (results : Vec (JobResult V) Global)
     : Type 0 where

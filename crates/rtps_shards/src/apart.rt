@@ -8,9 +8,9 @@ use std::alloc::{AllocError, Global};
 use std::thread;
 use std::thread::Threads;
 
-/// A place for each job, and an empty one after every two. A list is worked on half by half:
-/// whoever would do what is in the empty place has started a thread for each of the two jobs by
-/// then, and only waits for them, so that its processor is free.
+/// Returns a place for each job, and an empty one after every two. A list is split in halves: the
+/// thread that reaches an empty place has started a thread for each of the two jobs by then, and
+/// only waits for them, so that its processor is free.
 fn spaced<J: Drop>(alloc: Global, jobs: Vec<J>) -> Result<Vec<Option<J>>, AllocError>
     ensures { IfOk result (λ places. somes places.items ≡ jobs.items) }
 {
@@ -24,7 +24,7 @@ fn spaced<J: Drop>(alloc: Global, jobs: Vec<J>) -> Result<Vec<Option<J>>, AllocE
     Ok(places)
 }
 
-/// What was made in each place that wasn't empty.
+/// Returns the values of the places that aren't empty, in order.
 #[tactic(auto, using(crate::proofs::Places::next_put))]
 fn made<X: Drop>(alloc: Global, places: Vec<Option<X>>) -> Result<Vec<X>, AllocError>
     ensures { IfOk result (λ all. all.items ≡ somes places.items) }
@@ -38,12 +38,12 @@ fn made<X: Drop>(alloc: Global, places: Vec<Option<X>>) -> Result<Vec<X>, AllocE
     Ok(all)
 }
 
-/// Makes a call with each of these jobs, each on a thread of its own where one can be started, and
-/// gives what the calls return, in the order of the jobs. The caller waits for them: a thread often
-/// begins on the processor of the one that started it, and so only when that one rests.
+/// Calls `call` with each job, each on a thread of its own where one can be started, and returns
+/// the results in the order of the jobs. The caller only waits: a new thread often begins on the
+/// processor of the one that started it, and so only when that one rests.
 ///
-/// An error is a refused growth here, not in a call; then some of the calls may have been made, and
-/// what they returned is dropped.
+/// An error is a refused growth here, not in a call. Some of the calls may have been made then;
+/// their results are dropped.
 pub(crate) fn map_beside<R: Threads + Sync, J: Send + Drop, X: Send + Drop, F: Fn(J) -> X + Sync>(
     rt: &R,
     alloc: Global,
@@ -67,7 +67,10 @@ pub(crate) fn map_beside<R: Threads + Sync, J: Send + Drop, X: Send + Drop, F: F
     made(alloc, thread::map_vec(rt, places, &run)?)
 }
 
-/// Makes calls as `map_beside` does; one job alone is the caller's.
+/// Calls `call` with each job, and returns the results in the order of the jobs. Several jobs have
+/// a thread each, where one can be started, for which the caller waits; a single job runs on the
+/// caller's thread. An error is a refused growth here, not in a call. Some of the calls may have
+/// been made then; their results are dropped.
 pub fn map_apart<R: Threads + Sync, J: Send + Drop, X: Send + Drop, F: Fn(J) -> X + Sync>(
     rt: &R,
     alloc: Global,

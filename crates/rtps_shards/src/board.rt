@@ -8,15 +8,15 @@ use crossbeam_deque::{Pass, Stealer, Worker};
 use std::alloc::Global;
 use std::collections::LinkedList;
 
-/// What an end knows: its parts of the right to know the whole, what it has pushed and what it has
-/// taken. Contracts speak of it; no value of it is made.
+/// What contracts see of an end: the number of its parts of the right to know all pushes and takes,
+/// the items that it has pushed and those that it has taken. No value of this type is made.
 pub struct Hand<T> {
     pub parts: u64,
     pub put: LinkedList<T>,
     pub taken: LinkedList<T>,
 }
 
-/// The rule of a board.
+/// The rule that all ends of a board keep: `Balanced` in `specs/Board.antt`.
 pub struct Fair;
 
 impl<T> Protocol<T, Hand<T>> for Fair {
@@ -103,14 +103,14 @@ pub struct Board<T> {
     ghost some: { 0 < (worker_view owner).parts },
 }
 
-/// What a steal came to.
+/// The result of [`Thief::steal`].
 #[derive(Drop)]
 pub enum Stolen<T> {
-    /// The item that was pushed first of those on the board.
+    /// The oldest item on the board.
     Item(T),
     /// The board was empty.
     Empty,
-    /// Another end was taking an item.
+    /// Another end was taking an item; the steal may be tried again.
     Again,
 }
 

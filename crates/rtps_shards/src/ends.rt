@@ -1,4 +1,4 @@
-//! What the ends of a board do.
+//! The operations of the ends of a board.
 
 ghost use Rattle.std.specs.Prelude.{◌≡◌, ◌+◌, ◌-◌, ◌<◌, ◌≤◌, ◌++◌, ◌∷◌, [], All, IfOk, OnOk, IsOk, MatchResult, MatchOption, length};
 ghost use Rattle.std.specs.List.Sorted.{IsPermutation};
@@ -10,7 +10,7 @@ use crossbeam_deque::Steal;
 use std::alloc::{AllocError, Global};
 
 impl<T: Drop> Board<T> {
-    /// An empty board and its thieves, of this number. The first `capacity` pushes find room.
+    /// Returns an empty board and `thieves` thieves of it. The first `capacity` pushes find room.
     ///
     /// An error is a refused growth.
     pub fn new(
@@ -35,7 +35,7 @@ impl<T: Drop> Board<T> {
         Ok((board, all))
     }
 
-    /// One thief more.
+    /// Makes one more thief.
     fn thief(&mut self) -> Result<Thief<T>, AllocError>
         requires { 1 < (owner_hand self.old).parts }
         ensures board { IsSameBoard self.old self.new × (room self.old ≤ room self.new) }
@@ -61,7 +61,7 @@ impl<T: Drop> Board<T> {
         self.owner.absorb::<Cut>(pass);
     }
 
-    /// Pushes an item. Where there is no room, and no memory for more, it is handed back.
+    /// Pushes an item, or returns it as the error where there is no room and no memory for more.
     pub fn push(&mut self, item: T) -> Result<(), T>
         ensures board { IsSameBoard self.old self.new }
         ensures hand { MatchResult result
@@ -74,8 +74,8 @@ impl<T: Drop> Board<T> {
         self.owner.push_as::<Puts>(item)
     }
 
-    /// Takes the item that was pushed first, or gives `None` where the board was empty. Once every
-    /// thief is back, `None` says that all items that were pushed were taken.
+    /// Takes the oldest item, or returns `None` where the board was empty. Once every thief is
+    /// back, `None` says that all items that were pushed were taken.
     pub fn pop(&mut self) -> Option<T>
         ensures board { IsSameBoard self.old self.new }
         ensures hand { MatchOption result
@@ -93,7 +93,7 @@ impl<T: Drop> Board<T> {
 }
 
 impl<T: Drop> Thief<T> {
-    /// Takes the item that was pushed first, unless another end takes one at this moment.
+    /// Takes the oldest item, unless another end takes one at this moment.
     pub fn steal(&mut self) -> Stolen<T>
         ensures board { IsSameThief self.old self.new }
         ensures hand { HasStolen (thief_hand self.old) (thief_hand self.new) result }

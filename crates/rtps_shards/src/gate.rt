@@ -1,16 +1,16 @@
-//! Watching jobs as they run.
+//! Callbacks that watch jobs as they run.
 
-/// Is called as each job begins and ends, on the thread that runs it. Each `enter` of a job is
-/// followed by one `leave` of it, also where the job was out of memory.
+/// Called as each job begins and ends, on the thread that runs it. Each `enter` of a job is
+/// followed by one `leave` of it, also where the job runs out of memory.
 pub trait Gate: Sync {
     /// The job of the reader of this rank begins.
     fn enter(&self, rank: u32);
 
-    /// It has ended.
+    /// The job of the reader of this rank has ended.
     fn leave(&self, rank: u32);
 }
 
-/// A gate that nobody watches.
+/// A gate that does nothing.
 #[derive(Clone, Copy, Debug)]
 pub struct NoGate;
 

@@ -1,4 +1,4 @@
-//! Jobs on their way through a worker.
+//! A batch, its workers, its jobs and their results.
 
 ghost use Rattle.std.specs.Prelude.{◌≡◌, []};
 
@@ -9,18 +9,18 @@ use rtps_receiver::Event;
 use std::alloc::Global;
 use std::marker::Model;
 
-/// What all workers of a batch look at.
+/// What all workers of a batch share.
 #[derive(Drop)]
 pub struct Batch<'a, C, G> {
     pub catalog: &'a C,
     /// Called as each job begins and ends.
     pub gate: &'a G,
-    /// All events of the batch, into which the steps of the jobs point.
+    /// All events of the batch. The steps of the jobs refer to them by index.
     pub events: &'a [Event<'a>],
 }
 
-/// What a worker keeps from one job to the next: the catalog, with what it remembers from one value
-/// to the next, and where memory is taken.
+/// What a worker keeps from one job to the next: its allocator, and the decoder of its catalog,
+/// which has state that is kept between values.
 #[derive(Drop)]
 pub struct Worker<C: Catalog> {
     pub(crate) alloc: Global,
@@ -34,7 +34,7 @@ impl<C: Catalog> Model for Worker<C> {
 }
 
 impl<C: Catalog> Worker<C> {
-    /// A worker that has run no job.
+    /// Returns a worker that has run no job.
     pub fn new(alloc: Global, catalog: C) -> Worker<C>
         ensures { result ≡ catalog }
     {
@@ -45,18 +45,18 @@ impl<C: Catalog> Worker<C> {
     }
 }
 
-/// A job as it is posted on a board, with all that is moved to the worker who takes it.
+/// A job on a board, with all that moves to the worker that takes it.
 #[derive(Drop)]
 pub struct Posted<V> {
     pub job: Job,
     /// The reader of the job's rank.
     pub state: ReaderState,
-    /// Lists for what comes of the job. What is in them is dropped by the worker.
+    /// Lists for the notices and answers of the job. The worker drops what is in them first.
     pub output: Output<V>,
 }
 
 impl<V: Drop> Posted<V> {
-    /// A job with new lists. No memory is taken before something comes.
+    /// Returns a job with new lists, which take no memory until the job adds to them.
     pub fn new(alloc: Global, job: Job, state: ReaderState) -> Posted<V>
         ensures given { (result.job ≡ job) × (result.state ≡ state) }
         ensures empty { (result.output.notices.items ≡ [])
@@ -73,7 +73,7 @@ impl<V: Drop> Posted<V> {
     }
 }
 
-/// What comes of a job.
+/// The result of a job.
 #[derive(Drop)]
 pub struct JobResult<V> {
     /// The rank of the job's reader.
@@ -83,8 +83,8 @@ pub struct JobResult<V> {
     pub output: Output<V>,
 }
 
-/// How many events the steps of a job take in, as far as there are so many: what its run takes,
-/// nearly.
+/// Estimates the cost of a job: the number of events that its steps ask for, even past the end of
+/// the batch, and one for each change of a match.
 pub(crate) fn events_of<V>(posted: &Posted<V>) -> usize {
     let mut events = 0_usize;
     for step in &posted.job.steps {

@@ -1,5 +1,5 @@
-//! The jobs of a batch, run by workers: each job once, and what comes of it is that of its reader,
-//! whichever worker runs it and whenever.
+//! Runs the jobs of a batch on workers: each job once. Its result depends on the job and its reader
+//! alone, not on which worker runs it or when.
 #![tactic(auto)]
 
 mod apart;

@@ -1,4 +1,4 @@
-//! What several workers give.
+//! Joining the results of several workers.
 
 ghost use Rattle.std.specs.Prelude.{◌≡◌, IfOk, OnOk};
 ghost use Rattle.std.specs.List.{flat_map};
@@ -6,8 +6,8 @@ ghost use Rattle.rtps_shards.specs.Piles.{AllOk, given_by};
 
 use std::alloc::{AllocError, Global};
 
-/// All that the workers gave, one worker's after another's, where each of them gave something. An
-/// error is a refused growth, on whichever worker or here.
+/// Returns the items of all workers, worker by worker, if none of them failed. An error is a
+/// refused growth, of any worker or here.
 pub fn joined<T: Drop>(
     alloc: Global,
     piles: Vec<Result<Vec<T>, AllocError>>,

@@ -20,7 +20,7 @@ use rtps_receiver::Event;
 use rtps_types::MatchChangeKind;
 use std::alloc::{AllocError, Global};
 
-/// The event at an index and so many more that follow it, as far as there are any.
+/// Returns the event at index `first` and the `more` events after it, as far as there are any.
 fn stretch<'a>(events: &'a [Event<'a>], first: usize, more: usize) -> &'a [Event<'a>]
     ensures { result.now ≡ take (more + 1) (drop first events.now) }
 {
@@ -28,8 +28,8 @@ fn stretch<'a>(events: &'a [Event<'a>], first: usize, more: usize) -> &'a [Event
     &rest[..more.saturating_add(1).min(rest.len())]
 }
 
-/// The step by which a match changes, at the place of the event of this index, which announces it;
-/// none where there is no such event.
+/// Returns the step that changes a match, at the place of the event of this index, which announces
+/// the change; `None` where there is no such event.
 fn change_at<'a>(
     events: &'a [Event<'a>],
     event: usize,
@@ -45,7 +45,7 @@ fn change_at<'a>(
     })
 }
 
-/// Has a reader take a step, if there is one. What the step gives is added to the output.
+/// Runs a step of a reader, if there is one, and appends its notices and answers to the output.
 fn take_step<'a, C: Catalog>(
     worker: &mut Worker<C>,
     step: Option<Step<'a>>,
@@ -69,7 +69,7 @@ fn take_step<'a, C: Catalog>(
     Ok(())
 }
 
-/// Has a reader take in events, one after the other. What they give is added to the output.
+/// Has a reader process events, in order, and appends its notices and answers to the output.
 fn take_events<'a, C: Catalog>(
     worker: &mut Worker<C>,
     events: &'a [Event<'a>],
@@ -92,8 +92,7 @@ fn take_events<'a, C: Catalog>(
     Ok(())
 }
 
-/// Has a reader take the steps of its job, one after the other. What they give is added to the
-/// output.
+/// Runs the steps of a reader's job, in order, and appends its notices and answers to the output.
 pub(crate) fn take_steps<'a, C: Catalog>(
     worker: &mut Worker<C>,
     events: &'a [Event<'a>],

@@ -1,4 +1,4 @@
-//! Jobs that were written down by hand, on threads.
+//! Jobs written by hand, run on threads.
 
 ghost use Rattle.std.specs.Prelude.{◌≤◌};
 
@@ -75,7 +75,7 @@ fn three(alloc: Global) -> Result<Vec<Event<'static>>, AllocError> {
     Ok(events)
 }
 
-/// The job of a rank, to take in events: for each step the index of its first, and how many more.
+/// The job of a rank. Each step is the index of its first event, and the number of events after it.
 fn job(alloc: Global, rank: u32, all: &[(usize, usize)]) -> Result<Job, AllocError> {
     let mut steps = Vec::new(alloc);
     for (first, more) in all {
@@ -87,8 +87,8 @@ fn job(alloc: Global, rank: u32, all: &[(usize, usize)]) -> Result<Job, AllocErr
     Ok(Job { rank, steps })
 }
 
-/// A job for each of so many readers: rank 1 takes in the last two events, each other rank all
-/// three, by one step or by two. Steps go past the last event, too.
+/// A job for each of `ranks` readers: rank 1 processes the last two events, every other rank all
+/// three, in one step or two. Some steps go past the last event.
 fn jobs_of<C: Catalog>(alloc: Global, ranks: u32) -> Result<Vec<Posted<C::Value>>, AllocError> {
     let mut jobs = Vec::new(alloc);
     for rank in 0..ranks {
@@ -103,7 +103,7 @@ fn jobs_of<C: Catalog>(alloc: Global, ranks: u32) -> Result<Vec<Posted<C::Value>
     Ok(jobs)
 }
 
-/// Runs the jobs of so many readers.
+/// Runs the jobs of `sizes.0` readers on `sizes.1` workers.
 fn run<C: Catalog, G: Gate, R: Threads + Sync>(
     rt: &R,
     alloc: Global,
@@ -154,7 +154,7 @@ fn lines(
     Ok(lines)
 }
 
-/// Whether each reader presents what its job asks, and nothing else, with so many workers.
+/// Whether each reader presents exactly what its job asks, with this number of workers.
 fn presents<R: Threads + Sync>(rt: &R, alloc: Global, workers: usize) -> Result<bool, AllocError>
     requires { (1 ≤ workers) × (workers ≤ 64) }
 {

@@ -1,4 +1,4 @@
-//! Jobs on a board, and those who run them.
+//! Workers that take jobs off a board and run them.
 
 ghost use Rattle.std.specs.Prelude.{◌≡◌, ◌++◌, ◌∷◌, [], IfOk, List, OnErr, OnOk, map, slice_index_or, vec_len, ℕ, ◌<◌};
 ghost use Rattle.std.specs.List.Sorted.{IsPermutation};
@@ -17,14 +17,14 @@ use std::alloc::{AllocError, Global};
 use std::thread;
 use std::thread::Threads;
 
-/// A thief after its turn, with what came of the jobs that it took.
+/// A thief after its work, with the results of the jobs that it took.
 #[derive(Drop)]
 pub(crate) struct Worked<V> {
     pub thief: Thief<Posted<V>>,
     pub results: Result<Vec<JobResult<V>>, AllocError>,
 }
 
-/// Runs one job more.
+/// Runs a job and appends its result.
 fn run_more<C: Catalog, G: Gate>(
     worker: &mut Worker<&C>,
     batch: &Batch<'_, C, G>,
@@ -43,7 +43,7 @@ fn run_more<C: Catalog, G: Gate>(
     Ok(())
 }
 
-/// Takes jobs off the board and runs each at once, until there is none.
+/// Takes jobs off the board and runs each at once, until the board is empty.
 #[tactic(auto, using(crate::proofs::Crews::works_none, crate::proofs::Crews::works_more))]
 fn run_own<C: Catalog, G: Gate>(
     alloc: Global,
@@ -65,7 +65,8 @@ fn run_own<C: Catalog, G: Gate>(
     Ok(results)
 }
 
-/// Runs what is left on a board that has all its thieves back: then all that was pushed was taken.
+/// Runs the jobs that are left on a board whose thieves are all back. After it, all jobs that were
+/// pushed were taken.
 pub(crate) fn run_rest<C: Catalog, G: Gate>(
     alloc: Global,
     batch: &Batch<'_, C, G>,
@@ -87,11 +88,10 @@ pub(crate) fn run_rest<C: Catalog, G: Gate>(
 
 impl<V: Drop> Thief<Posted<V>> {
     /// Steals jobs and runs each at once, until the board is empty. The results are in the order in
-    /// which the jobs were stolen. What the catalog keeps from one value to the next is this call's
-    /// own.
+    /// which the jobs were stolen. The decoder's state between values belongs to this call.
     ///
-    /// An error is a refused growth: what the call has stolen is gone, with its results, and what
-    /// it hasn't is on the board still.
+    /// An error is a refused growth: the jobs that the call has stolen are lost, with their
+    /// results. Those that it hasn't stolen stay on the board.
     #[tactic(auto, using(crate::proofs::Crews::works_none, crate::proofs::Crews::works_more))]
     pub fn work<C: Catalog<Value = V>, G: Gate>(
         &mut self,
@@ -116,7 +116,7 @@ impl<V: Drop> Thief<Posted<V>> {
     }
 }
 
-/// A thief works; it is given back by value.
+/// Has a thief work, and returns it with its results.
 fn one_works<C: Catalog, G: Gate>(
     alloc: Global,
     batch: &Batch<'_, C, G>,
@@ -130,7 +130,7 @@ fn one_works<C: Catalog, G: Gate>(
     Worked { thief, results }
 }
 
-/// The owner works; its board is given back by value.
+/// Has the owner work, and returns its board with the results.
 fn own_works<C: Catalog, G: Gate>(
     alloc: Global,
     batch: &Batch<'_, C, G>,
@@ -148,7 +148,7 @@ fn own_works<C: Catalog, G: Gate>(
     (board, results)
 }
 
-/// All thieves work, each on a thread of its own where one can be started.
+/// Has all thieves work, each on a thread of its own where one can be started.
 fn all_work<C: Catalog, G: Gate, R: Threads + Sync>(
     rt: &R,
     alloc: Global,
@@ -165,7 +165,7 @@ fn all_work<C: Catalog, G: Gate, R: Threads + Sync>(
     map_beside(rt, alloc, thieves, &run)
 }
 
-/// The owner takes jobs on a thread of its own while the thieves steal.
+/// Has the owner take jobs on a thread of its own while the thieves steal.
 pub(crate) fn both_work<C: Catalog, G: Gate, R: Threads + Sync>(
     rt: &R,
     alloc: Global,

@@ -1,4 +1,4 @@
-//! Jobs, run by workers.
+//! Running jobs on workers.
 
 ghost use Rattle.std.specs.Prelude.{◌≡◌, ℕ, ◌≤◌, ◌++◌, All, IfOk, List, OnOk, length, map};
 ghost use Rattle.std.specs.List.Sorted.{IsPermutation};
@@ -24,8 +24,7 @@ use rtps_reader::{Output, ReaderState};
 use std::alloc::{AllocError, Global};
 use std::thread::Threads;
 
-/// Runs the job of one reader where the reader is. What comes of it is put into the output, in the
-/// place of what is there.
+/// Runs the job of one reader in place. Its notices and answers replace the contents of `output`.
 ///
 /// An error is a refused growth.
 pub fn run_job<C: Catalog, G: Gate>(
@@ -54,7 +53,7 @@ pub fn run_job<C: Catalog, G: Gate>(
     taken
 }
 
-/// Runs a job that was posted. Its state and its lists are given back by value.
+/// Runs a posted job, and returns its reader and its lists by value.
 #[tactic(auto, unfolding(crate::specs::Piles::IsJobDone))]
 pub(crate) fn run_posted<C: Catalog, G: Gate>(
     worker: &mut Worker<&C>,
@@ -79,8 +78,7 @@ pub(crate) fn run_posted<C: Catalog, G: Gate>(
     })
 }
 
-/// Runs the jobs of one worker, one after the other. What the catalog keeps from one value to the
-/// next is the worker's own.
+/// Runs the jobs of one worker, in order. The decoder's state between values belongs to the worker.
 #[tactic(auto, unfolding(crate::specs::Piles::IsPileDone))]
 fn run_pile<C: Catalog, G: Gate>(
     alloc: Global,
@@ -99,7 +97,7 @@ fn run_pile<C: Catalog, G: Gate>(
     Ok(results)
 }
 
-/// The jobs, those that take in most events first.
+/// Sorts the jobs by [`events_of`], the largest first.
 fn most_first<V: Drop>(jobs: Vec<Posted<V>>) -> Vec<Posted<V>>
     ensures { IsPermutation jobs.items result.items }
 {
@@ -108,7 +106,7 @@ fn most_first<V: Drop>(jobs: Vec<Posted<V>>) -> Vec<Posted<V>>
     jobs
 }
 
-/// Pushes all of these, in their order.
+/// Pushes all items, in order. The board has room for them.
 fn push_all<T: Drop>(board: &mut Board<T>, items: Vec<T>)
     requires { length items.items ≤ room board.old }
     ensures board { IsSameBoard board.old board.new }
@@ -123,7 +121,7 @@ fn push_all<T: Drop>(board: &mut Board<T>, items: Vec<T>)
     }
 }
 
-/// The thieves come back, and what came of the jobs that they took is added to the results.
+/// Gives the thieves back to the board, and appends the results of the jobs that they took.
 fn take_back<C: Catalog>(
     board: &mut Board<Posted<C::Value>>,
     crew: Vec<Worked<C::Value>>,
@@ -146,14 +144,14 @@ fn take_back<C: Catalog>(
     Ok(all)
 }
 
-/// Runs jobs on so many workers, and gives what comes of each, in no order that is promised. The
-/// jobs are put on a board, those that take in most events first, and each worker takes the next
-/// one when it has done one; there are no more workers than jobs. One worker is the caller; several
-/// have a thread each, for which the caller waits. Where a thread can't start the others run all
-/// jobs.
+/// Runs jobs on `workers` workers, and returns their results in an unspecified order. The jobs are
+/// put on a board, those with most events first, and each worker takes the next one when it has
+/// finished one; there are no more workers than jobs. One worker runs on the caller's thread;
+/// several have a thread each, for which the caller waits. Where a thread can't start, the others
+/// run all jobs.
 ///
-/// An error is a refused growth, on whichever worker; then nothing is given, and the states are
-/// dropped with all that came.
+/// An error is a refused growth, on any worker. No result is returned then, and the readers' states
+/// are dropped with the results.
 pub fn run_jobs<C: Catalog, G: Gate, R: Threads + Sync>(
     rt: &R,
     alloc: Global,

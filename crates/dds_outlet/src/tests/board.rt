@@ -24,13 +24,13 @@ fn status_of(batch: u64, rank: u32) -> Status {
     }
 }
 
-/// What is to be seen of a rank once a batch is published.
+/// What a look at a rank shows once a batch is published.
 fn seen_of(batch: u64, rank: u32) -> Option<Look> {
     let status = status_of(batch, rank);
     Some(Look { batch, status })
 }
 
-/// What is to be seen of a rank before anything is published.
+/// What a look at a rank shows before anything is published.
 const OPENING: Option<Look> = Some(Look {
     batch: 0,
     status: Status {
@@ -43,7 +43,7 @@ const OPENING: Option<Look> = Some(Look {
     },
 });
 
-/// The row of a batch, with the ranks below a number.
+/// The row of a batch, with the ranks below `ranks`.
 fn row(alloc: Global, batch: u64, ranks: u32) -> Result<Row, AllocError> {
     let mut statuses = Vec::new(alloc);
     for rank in 0..ranks {
@@ -131,8 +131,8 @@ fn publish_all<R: Wait>(rt: &R, board: &mut StatusBoard, rows: Vec<Row>) -> u64 
     published
 }
 
-/// Looks at a rank again and again, and counts the looks that show one of the rows whole, and none
-/// before that of the last look.
+/// Looks at a rank repeatedly, and counts the looks that show a complete row that is no older than
+/// the one of the look before.
 fn count_sound_looks(reader: &mut StatusReader, rank: u32, looks: u32) -> u32 {
     let mut last = 0;
     let mut sound: u32 = 0;
@@ -174,7 +174,8 @@ fn looks_beside_many_rows_are_whole_and_in_order(rt: HostRuntime) -> Result<(), 
     Ok(())
 }
 
-/// Publishes a row, unless it is refused, and then looks at a rank, with nothing learnt.
+/// Publishes a row and then looks at a rank, without learning anything; `None` where the row is
+/// refused.
 fn look_after<R: Wait>(
     rt: &R,
     board: &mut StatusBoard,
@@ -213,8 +214,8 @@ fn a_look_shows_the_newest_row_whatever_its_ranks(rt: HostRuntime) -> Result<(),
     Ok(())
 }
 
-/// Takes readers until no place is left, and has each look at the last of the ranks below a number.
-/// Gives how many there were, and how many saw the opening row.
+/// Takes readers until no place is left, and has each look at the last of the ranks below `ranks`.
+/// Returns the number of readers, and the number of those that saw the opening row.
 fn readers_of(
     alloc: Global,
     board: &mut StatusBoard,

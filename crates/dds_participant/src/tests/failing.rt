@@ -1,4 +1,4 @@
-//! Batches that are out of memory.
+//! Batches that run out of memory.
 
 use super::outlets::{THIRD, heard};
 use super::publishing::{looks, shown};
@@ -15,7 +15,7 @@ use std::sync::atomic::AtomicU64;
 use std::test::Fail;
 use std::thread::Threads;
 
-/// Why a participant refuses a batch, if it does.
+/// Returns why a participant refuses a batch, or `None` if it takes it.
 fn refusal<R: Threads + Sync>(
     rt: &R,
     alloc: Global,
@@ -32,7 +32,7 @@ fn refusal<R: Threads + Sync>(
     )
 }
 
-/// How many samples the first reader presented, if there is one.
+/// The number of samples that the first reader presented, if there is one.
 fn samples(participant: &Participant<FailingCatalog<Shapes>>) -> Option<u32> {
     match participant.status(0) {
         Some(Status { samples, .. }) => Some(samples),
@@ -61,7 +61,7 @@ fn takes_or_fails<R: Threads + Sync>(
     )
 }
 
-/// A participant that finds no memory for this value.
+/// A participant that finds no memory for value number `refused`.
 fn starving(alloc: Global, refused: u64) -> Result<Participant<FailingCatalog<Shapes>>, Fail> {
     let catalog = FailingCatalog {
         catalog: Shapes,
@@ -71,8 +71,8 @@ fn starving(alloc: Global, refused: u64) -> Result<Participant<FailingCatalog<Sh
     Ok(Participant::new(alloc, config(alloc)?, catalog)?)
 }
 
-/// Whether a participant whose batch has two values takes it, or else fails for good, where this
-/// value finds no memory.
+/// Whether a participant that finds no memory for value number `refused` takes a batch of two
+/// values twice, or fails for good if the value is one of them.
 fn fails_at<R: Threads + Sync>(rt: &R, alloc: Global, refused: u64) -> Result<bool, Fail> {
     let mut participant = starving(alloc, refused)?;
     takes_or_fails(rt, alloc, &mut participant, refused < 2)

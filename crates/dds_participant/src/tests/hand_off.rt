@@ -13,23 +13,23 @@ use std::alloc::{AllocError, Global};
 use std::test::Fail;
 use std::thread::{Threads, join, yield_now};
 
-/// How often a thread tries again before it gives up.
+/// The number of tries after which a thread gives up.
 const TRIES: u32 = 10_000_000;
 
 /// The rank of the reader that has an outlet.
 const RANK: u32 = 1;
 
-/// How many datagrams a batch has.
+/// The number of datagrams in a batch.
 const BATCH: usize = 64;
 
-/// How many workers run a batch.
+/// The number of workers that run a batch.
 const WORKERS: usize = 2;
 
 fn heard(notice: &Notice<Shape>) -> Heard {
     (notice.place.datagram, said_by(notice))
 }
 
-/// Has an engine of one thread take datagrams, and puts what the reader reports after the others.
+/// Has an engine of one thread take datagrams, and appends what the reader reports.
 fn take_in_series(
     alloc: Global,
     engine: &mut SerialEngine<Shapes>,
@@ -69,7 +69,7 @@ fn deliver_all(participant: &mut Participant<Shapes>) {
     }
 }
 
-/// Has a participant take one batch, and delivers what finds a place.
+/// Has a participant take one batch, and delivers what the ring has room for.
 fn take_one<R: Threads + Sync>(
     rt: &R,
     alloc: Global,
@@ -109,7 +109,7 @@ fn take_all<R: Threads + Sync>(
     Ok(())
 }
 
-/// What comes out of a ring, until there are this many notices, or the thread gives up.
+/// Pops notices from a ring until there are at least `least` of them, or the thread gives up.
 fn hear(alloc: Global, inlet: Inlet<Shape>, least: usize) -> Result<Vec<Heard>, AllocError> {
     let mut inlet = inlet;
     let mut all = Vec::new(alloc);

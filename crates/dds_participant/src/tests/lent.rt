@@ -1,4 +1,4 @@
-//! Lists that are lent from one batch to the next.
+//! Lists that are reused from one batch to the next.
 
 ghost use Rattle.std.specs.Prelude.{◌≤◌};
 
@@ -11,8 +11,8 @@ use std::alloc::Global;
 use std::test::Fail;
 use std::thread::Threads;
 
-/// Has a participant take a batch, by a number of workers, into lists that are lent; then how many
-/// notices and answers the readers gave and sent.
+/// Has a participant take a batch, with `batch.1` workers, into the caller's lists. Returns the
+/// numbers of notices and answers of each reader.
 pub(super) fn lend<R: Threads + Sync>(
     rt: &R,
     alloc: Global,

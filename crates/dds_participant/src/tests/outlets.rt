@@ -23,7 +23,7 @@ pub(super) const THIRD: &[u8] = b"RTPS\x02\x05\x00\x00\
 /// What comes out of a ring: the datagram that caused each notice, and what it says.
 pub(super) type Heard = (u64, Said);
 
-/// All that comes out of a ring now.
+/// Pops all notices that are in a ring now.
 pub(super) fn heard(alloc: Global, inlet: &mut Inlet<Shape>) -> Result<Vec<Heard>, AllocError> {
     let mut all = Vec::new(alloc);
     for _ in 0..inlet.capacity() {
@@ -103,8 +103,8 @@ fn a_backlog_waits_while_the_ring_is_full(rt: HostRuntime) -> Result<(), Fail> {
     Ok(())
 }
 
-/// What the outcome has of the three datagrams where the second reader has an outlet: the notices
-/// of the first reader, and the answers of both.
+/// The outcome of the three datagrams where the second reader has an outlet: the notices of the
+/// first reader, and the answers of both.
 const WITHOUT_THE_SECOND: [Line; 4] = [
     (Some(0), 0, Said::Blue(1)),
     (Some(0), 1, Said::Answer),
@@ -112,11 +112,11 @@ const WITHOUT_THE_SECOND: [Line; 4] = [
     (Some(1), 2, Said::Answer),
 ];
 
-/// What the second reader reports of the three datagrams.
+/// What the second reader reports for the three datagrams.
 const OF_THE_SECOND: [Heard; 2] = [(0, Said::Blue(1)), (2, Said::Lost(1))];
 
-/// Whether what the second reader reports, and nothing else, is not in the outcome and comes out of
-/// its ring.
+/// Whether the notices of the second reader, and nothing else, are missing from the outcome and
+/// come out of its ring.
 fn parts_the_outcome<R: Threads + Sync>(rt: &R, alloc: Global, workers: usize) -> Result<bool, Fail>
     requires { (1 ≤ workers) × (workers ≤ 64) }
 {
@@ -137,7 +137,7 @@ fn parts_the_outcome<R: Threads + Sync>(rt: &R, alloc: Global, workers: usize) -
     )
 }
 
-/// The same where the lists of the caller are filled.
+/// The same for `run_in_order`, which fills the caller's lists.
 fn parts_the_lists<R: Threads + Sync>(rt: &R, alloc: Global, workers: usize) -> Result<bool, Fail>
     requires { (1 ≤ workers) × (workers ≤ 64) }
 {

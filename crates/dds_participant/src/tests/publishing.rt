@@ -68,7 +68,7 @@ fn batch_seen(reader: StatusReader, told: Told) -> Option<u64>
     Some(look.batch)
 }
 
-/// Has a participant take one batch more and publish. Answers whether both were done.
+/// Has a participant take one more batch and publish. Returns whether both succeeded.
 fn takes_and_publishes<R: Threads + Wait + Sync>(
     rt: &R,
     alloc: Global,

@@ -1,4 +1,5 @@
-//! Matches that begin amid a datagram: a change goes by those of its moment.
+//! Matches that begin in the middle of a datagram: a change goes to the readers that are matched
+//! when it comes.
 
 ghost use Rattle.std.specs.Prelude.{◌≤◌};
 
@@ -24,7 +25,7 @@ pub(super) const COMES: &[u8] = b"RTPS\x02\x05\x00\x00\
 
 /// BLUE of the writer 00000202 for every reader; the records 2 and 3, which announce the writers
 /// 00000302 and 00000202, and record 1, which announces 00000102; and the same BLUE again. The
-/// records are taken in when record 1 is there.
+/// records are processed when record 1 has come.
 pub(super) const ROUTED: &[u8] = b"RTPS\x02\x05\x00\x00\
     \x0a\x0a\x0a\x0a\x0a\x0a\x0a\x0a\x0a\x0a\x0a\x0a\
     \x15\x05\x30\x00\x00\x00\x10\x00\x00\x00\x00\x00\x00\x00\x02\x02\
@@ -59,7 +60,7 @@ pub(super) const ROUTED: &[u8] = b"RTPS\x02\x05\x00\x00\
 
 const BOTH: [&[u8]; 2] = [COMES, ROUTED];
 
-/// What one reader gives. The first BLUE comes before its writer is matched.
+/// What one reader reports. The first BLUE comes before its writer is matched.
 const ONE: [Line; 4] = [
     (Some(0), 1, Said::Matched(1)),
     (Some(0), 1, Said::Matched(3)),
@@ -67,7 +68,7 @@ const ONE: [Line; 4] = [
     (Some(0), 1, Said::Blue(1)),
 ];
 
-/// What two readers of the topic give: the matches begin at one event, and BLUE is another.
+/// What two readers of the topic report: the matches begin at one event, and BLUE is another.
 const TWO: [Line; 8] = [
     (Some(0), 1, Said::Matched(1)),
     (Some(0), 1, Said::Matched(3)),
@@ -79,7 +80,7 @@ const TWO: [Line; 8] = [
     (Some(1), 1, Said::Blue(1)),
 ];
 
-/// Whether so many readers give these lines of datagrams that are taken in batches.
+/// Whether `readers` readers put out the expected lines for datagrams that are taken in batches.
 fn are_routed<R: Threads + Sync>(
     rt: &R,
     alloc: Global,
@@ -111,8 +112,8 @@ fn routed_by_the_matches_of_the_moment(rt: HostRuntime) -> Result<(), Fail> {
     Ok(())
 }
 
-/// How often jobs of the first reader and of the second began, and a hundred times how often they
-/// ended, where both datagrams are one batch.
+/// The counts of the first reader's jobs and of the second's, where both datagrams are one batch: 1
+/// for each job that began, and 100 for each that ended.
 fn told<R: Threads + Sync>(
     rt: &R,
     alloc: Global,
@@ -127,7 +128,7 @@ fn told<R: Threads + Sync>(
     Ok(gate.counts())
 }
 
-/// The same of a new participant with two readers.
+/// The same for a new participant with two readers.
 fn told_by_new<R: Threads + Sync>(rt: &R, alloc: Global, workers: usize) -> Result<(u64, u64), Fail>
     requires { (1 ≤ workers) × (workers ≤ 64) }
 {

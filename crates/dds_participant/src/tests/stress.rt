@@ -18,14 +18,14 @@ use std::collections::BTreeSet;
 use std::test::Fail;
 use std::thread::Threads;
 
-/// Numbers without a pattern.
+/// Pseudo-random numbers.
 #[derive(Drop)]
 struct Dice {
     state: u64,
 }
 
 impl Dice {
-    /// One of the least 256 numbers.
+    /// Returns a number below 256.
     fn octet(&mut self) -> u8 {
         self.state = self
             .state
@@ -77,7 +77,7 @@ fn datagram(alloc: Global, dice: &mut Dice, count: u32) -> Result<Vec<u8>, Alloc
     Ok(octets)
 }
 
-/// So many datagrams. Amid them a participant comes with its writers, leaves, and comes again.
+/// `count` datagrams. Among them a participant comes with its writers, leaves, and comes again.
 pub(super) fn datagrams(alloc: Global, count: u32) -> Result<Vec<Vec<u8>>, AllocError> {
     let mut dice = Dice { state: 7 };
     let mut all = Vec::new(alloc);
@@ -112,7 +112,7 @@ pub(super) fn config(alloc: Global) -> Result<Config, AllocError> {
     Ok(config)
 }
 
-/// What is put out: a line, the submessage that caused it, and a sum over the octets of an answer.
+/// A report: its line, the submessage that caused it, and a sum over the octets of an answer.
 type Trace = (Line, u32, u64);
 
 fn trace(report: &Report<Shape>) -> Trace {
@@ -125,10 +125,10 @@ fn trace(report: &Report<Shape>) -> Trace {
     (line(report), report.turn().place.submessage, sum)
 }
 
-/// What comes of a run: what was put out, in order, the status of each reader, and the matches.
+/// The result of a run: its reports in order, the status of each reader, and the matches.
 type Run = (Vec<Trace>, [Option<Status>; 3], BTreeSet<(u32, Guid)>);
 
-/// Puts the traces of reports after those that are there.
+/// Appends the traces of reports.
 fn push_traces(reports: &[Report<Shape>], traces: &mut Vec<Trace>) -> Result<(), AllocError> {
     for report in reports {
         traces.push(trace(report))?;
@@ -136,7 +136,7 @@ fn push_traces(reports: &[Report<Shape>], traces: &mut Vec<Trace>) -> Result<(),
     Ok(())
 }
 
-/// Has an engine take datagrams, and puts what it gives after the traces.
+/// Has an engine take datagrams, and appends the traces of its reports.
 fn take_in_series(
     alloc: Global,
     engine: &mut SerialEngine<Shapes>,
@@ -153,7 +153,7 @@ fn take_in_series(
     Ok(())
 }
 
-/// What comes of a run of an engine.
+/// The result of a run of an engine.
 fn run_of_engine(
     alloc: Global,
     engine: &mut SerialEngine<Shapes>,
@@ -171,7 +171,7 @@ fn in_series(alloc: Global, datagrams: &[Vec<u8>]) -> Result<Run, Fail> {
     run_of_engine(alloc, &mut engine, datagrams)
 }
 
-/// Has a participant take these datagrams in one batch, and puts what it gives after the traces.
+/// Has a participant take these datagrams in one batch, and appends the traces of its reports.
 fn take<R: Threads + Sync>(
     rt: &R,
     alloc: Global,
@@ -194,7 +194,7 @@ fn take<R: Threads + Sync>(
     Ok(push_traces(&reports, traces)?)
 }
 
-/// How many datagrams the next batch takes, where so many are left.
+/// The number of datagrams in the next batch, where `left` datagrams are left.
 fn length(cut: u32, dice: &mut Dice, left: usize) -> usize {
     match cut {
         0 => 1,
@@ -206,7 +206,7 @@ fn length(cut: u32, dice: &mut Dice, left: usize) -> usize {
     }
 }
 
-/// How many workers take the next batch.
+/// The number of workers for the next batch.
 fn workers(dice: &mut Dice) -> usize
     ensures { (1 ≤ result) × (result ≤ 64) }
 {
@@ -219,8 +219,8 @@ fn workers(dice: &mut Dice) -> usize
     }
 }
 
-/// Has a participant take datagrams in the batches of a cut, by workers whose number changes, and
-/// puts what it gives after the traces.
+/// Has a participant take datagrams in the batches of a cut, with a number of workers that changes,
+/// and appends the traces of its reports.
 fn take_in_batches<R: Threads + Sync>(
     rt: &R,
     alloc: Global,
@@ -245,7 +245,7 @@ fn take_in_batches<R: Threads + Sync>(
     Ok(())
 }
 
-/// What comes of a run of a participant in the batches of a cut.
+/// The result of a run of a participant in the batches of a cut.
 fn run_of_participant<R: Threads + Sync>(
     rt: &R,
     alloc: Global,
@@ -277,8 +277,8 @@ fn are_same(a: &Run, b: &Run) -> bool {
     a.0.as_slice() == b.0.as_slice() && a.1 == b.1 && a.2 == b.2
 }
 
-/// Whether a participant gives in the batches of each cut what one thread gives, which is more than
-/// a report for each datagram.
+/// Whether a participant gives the same result for each cut as one thread, with more reports than
+/// datagrams.
 fn give_the_same<R: Threads + Sync>(
     rt: &R,
     alloc: Global,
@@ -294,7 +294,7 @@ fn give_the_same<R: Threads + Sync>(
     Ok(expected.0.len() > datagrams.len())
 }
 
-/// Each way to cut, and ever longer batches.
+/// Each way to cut (see `length`), and ever longer batches.
 const CUTS: [u32; 40] = [
     0, 1, 2, 3, 4, 5, 6, 7, 8, 9, 10, 11, 12, 13, 14, 15, 16, 17, 18, 19, 20, 21, 22, 23, 24, 25,
     26, 27, 28, 29, 30, 31, 32, 33, 34, 35, 36, 37, 38, 39,
@@ -320,7 +320,7 @@ fn padded(alloc: Global, datagrams: Vec<Vec<u8>>) -> Result<Vec<Vec<u8>>, AllocE
 
 #[test]
 fn large_batches_are_decoded_apart(rt: HostRuntime) -> Result<(), Fail> {
-    // More than 1 MiB.
+    // More than 1 MiB, so that several threads decode.
     let datagrams = padded(rt.alloc(), datagrams(rt.alloc(), 300)?)?;
     assert!(rt; give_the_same(&rt, rt.alloc(), &datagrams, &[1])?);
     Ok(())

@@ -12,7 +12,7 @@ use rtps_receiver::Event;
 use std::alloc::{AllocError, Global};
 use std::test::Fail;
 
-/// Whether outputs are put together in a heap of this size, or memory is refused.
+/// Whether outputs are merged in a heap of this size; `false` where memory is refused.
 fn gathers_in(alloc: Global, size: usize) -> Result<bool, Fail> {
     let heap = LocalHeap::new(alloc, size)?;
     match gather_all(&heap, &BOTH) {
@@ -41,7 +41,7 @@ fn refused_growths_gather_nothing(rt: HostRuntime) -> Result<(), Fail> {
     Ok(())
 }
 
-/// How many jobs are planned in a heap of this size; none where memory is refused.
+/// The number of jobs planned in a heap of this size; 0 where memory is refused.
 fn jobs_in(alloc: Global, config: &Config, events: &[Event<'_>], size: usize) -> Result<usize, Fail>
     requires { check_of config.now ≡ Ok tt }
 {
@@ -72,7 +72,7 @@ fn refused_growths_plan_nothing(rt: HostRuntime) -> Result<(), Fail> {
     Ok(())
 }
 
-/// Takes what there is of a heap, down to pieces of two octets.
+/// Allocates what is left of a heap, down to pieces of two octets.
 fn all_of(alloc: Global, heap: &LocalHeap) -> Result<Vec<Vec<u8, &LocalHeap>>, AllocError> {
     let mut taken = Vec::new(alloc);
     for power in 0..15 {

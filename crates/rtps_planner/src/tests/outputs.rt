@@ -1,4 +1,4 @@
-//! Outputs that were written down by hand, put together.
+//! Merging outputs written by hand.
 
 use super::{no_locators, no_octets, place};
 use crate::*;
@@ -8,8 +8,8 @@ use rtps_types::{EntityId, Guid, GuidPrefix, Reply};
 use std::alloc::{AllocError, Allocator, Global};
 use std::test::Fail;
 
-/// The output of a reader: a notice of as many lost changes as `count` says, and an answer at each
-/// of these submessages.
+/// The output of a reader: a notice of `count` lost changes, and an answer at each of these
+/// submessages.
 #[derive(Clone, Copy)]
 pub(super) struct Given<'a> {
     pub rank: u32,
@@ -45,8 +45,8 @@ fn output<A: Allocator + Copy>(alloc: A, given: Given<'_>) -> Result<Output<u8, 
     Ok(output)
 }
 
-/// The rest of a batch over three readers, of which the first and the last have a job, and where
-/// discovery answers at the fourth submessage.
+/// The rest of a plan for three readers: the first and the last have a job, and discovery answers
+/// at the fourth submessage.
 fn rest<A: Allocator + Copy>(alloc: A) -> Result<Rest<A>, AllocError> {
     let mut answers = Vec::new(alloc);
     let reply = Reply {
@@ -61,7 +61,7 @@ fn rest<A: Allocator + Copy>(alloc: A) -> Result<Rest<A>, AllocError> {
     })
 }
 
-/// What is gathered of these outputs.
+/// Gathers these outputs.
 pub(super) fn gather_all<A: Allocator + Copy>(
     alloc: A,
     given: &[Given<'_>],
@@ -110,7 +110,8 @@ fn come_at<A: Allocator>(answers: &[Answer<A>], turns: &[(u32, Option<u32>)]) ->
             == *turn)
 }
 
-/// By place; at one place discovery's first, and then by rank.
+/// The answers' submessages and ranks, by place; at one place discovery's is first, and then by
+/// rank.
 const TURNS: [(u32, Option<u32>); 5] = [
     (1, Some(0)),
     (1, Some(2)),

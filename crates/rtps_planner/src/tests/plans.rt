@@ -1,4 +1,4 @@
-//! Plans of events that were written down by hand.
+//! Plans of events written by hand.
 
 use super::place;
 use crate::*;
@@ -18,7 +18,8 @@ const FIRST: EntityId = EntityId([0, 0, 1, 7]);
 
 const SECOND: EntityId = EntityId([0, 0, 2, 7]);
 
-/// Names no reader: an event is for each that is matched with its writer.
+/// Names no reader (ENTITYID_UNKNOWN): the event is for all readers that are matched with its
+/// writer.
 const ALL: EntityId = EntityId([0; 4]);
 
 fn add_reader(
@@ -56,7 +57,7 @@ pub(super) fn event_for(submessage: u32, reader: EntityId) -> Option<Event<'stat
     })
 }
 
-/// Six events for the first reader, of which every third is for the second one too.
+/// Six events for the first reader. Every third is for the second one too.
 pub(super) fn six_events(alloc: Global) -> Result<Vec<Event<'static>>, Fail> {
     let mut events = Vec::new(alloc);
     for submessage in 1..7 {
@@ -69,7 +70,8 @@ pub(super) fn six_events(alloc: Global) -> Result<Vec<Event<'static>>, Fail> {
     Ok(events)
 }
 
-/// Whether a step takes in these events: the first by its index, and how many more.
+/// Whether a step processes these events: the index of the first, and the number of events after
+/// it.
 fn is_taking(step: &PlannedStep, events: (usize, usize)) -> bool {
     match step {
         PlannedStep::TakeIn { first, more } => (*first, *more) == events,
@@ -77,7 +79,7 @@ fn is_taking(step: &PlannedStep, events: (usize, usize)) -> bool {
     }
 }
 
-/// Whether a job takes in these events, in this order, step by step.
+/// Whether a job processes these events, in this order, step by step.
 fn takes(job: &Job, rank: u32, steps: &[(usize, usize)]) -> bool {
     job.rank == rank
         && job.steps.len() == steps.len()

@@ -6,7 +6,7 @@ use std::sync::atomic::{AtomicU64, Ordering};
 use std::test::Fail;
 use std::thread::Threads;
 
-/// What comes of a call with each number below a count, and how many calls were made.
+/// Returns the results of a call with each number below `count`, and the number of calls.
 fn tripled<R: Threads + Sync>(
     rt: &R,
     alloc: Global,

@@ -6,7 +6,7 @@ use dds_topic::Shapes;
 use std::alloc::{AllocError, Global};
 use std::test::Fail;
 
-/// What is taken off a board by its owner, one after the other.
+/// Returns the items that the owner takes off a board, in order.
 fn taken(alloc: Global, board: &mut Board<u32>) -> Result<Vec<u32>, AllocError> {
     let mut taken = Vec::new(alloc);
     for _turn in 0..100 {
@@ -38,7 +38,7 @@ fn pushes_past_the_capacity_are_taken_in_order_or_come_back(rt: HostRuntime) -> 
     Ok(())
 }
 
-/// Whether this is the item.
+/// Whether the steal took this item.
 fn is_item(stolen: &Stolen<usize>, item: usize) -> bool {
     match stolen {
         Stolen::Item(stolen) => *stolen == item,

@@ -1,4 +1,4 @@
-//! Jobs that are out of memory, and what has run of a job as it begins and ends.
+//! Jobs that run out of memory, and how much of a job has run when its gate is called.
 
 ghost use Rattle.std.specs.Prelude.{◌≤◌};
 
@@ -11,7 +11,7 @@ use std::sync::atomic::{AtomicU64, Ordering};
 use std::test::Fail;
 use std::thread::Threads;
 
-/// Whether the jobs of three readers give their results, where this value finds no memory.
+/// Whether the jobs of three readers return results when value number `refused` finds no memory.
 fn give_results<R: Threads + Sync>(
     rt: &R,
     alloc: Global,
@@ -44,7 +44,7 @@ fn a_job_out_of_memory_fails_the_batch(rt: HostRuntime) -> Result<(), Fail> {
     Ok(())
 }
 
-/// A gate that looks how many values were decoded as each job begins, and as it ends.
+/// A gate that records how many values were decoded when each job begins, and when it ends.
 #[derive(Drop)]
 struct Watching<'a> {
     decoded: &'a AtomicU64,
@@ -70,7 +70,7 @@ impl<'a> Gate for Watching<'a> {
     }
 }
 
-/// Three numbers that were not seen yet.
+/// Three counts that no job has set yet: 9 is above the eight values of all jobs.
 fn unseen() -> [AtomicU64; 3] {
     [AtomicU64::new(9), AtomicU64::new(9), AtomicU64::new(9)]
 }

@@ -1,4 +1,4 @@
-//! Gates that watch.
+//! Gates that watch jobs.
 
 use super::{ranks, run};
 use crate::*;
@@ -52,7 +52,7 @@ impl Counting {
         }
     }
 
-    /// Whether the jobs of so many ranks have begun once and ended once, and no other.
+    /// Whether the job of each rank below `ranks` began once and ended once, and no other job ran.
     pub fn saw_each_once(&self, ranks: usize) -> bool {
         let mut all = true;
         for rank in 0..8 {
@@ -75,7 +75,7 @@ fn each_job_enters_and_leaves_once(rt: HostRuntime) -> Result<(), Fail> {
     Ok(())
 }
 
-/// Waits until a count has come to a number, and says whether it has within ten seconds.
+/// Waits up to ten seconds for a count to reach `wanted`, and returns whether it did.
 fn comes_to<R: Clock>(rt: &R, count: &AtomicU64, wanted: u64) -> bool {
     for _pause in 0..10_000 {
         if count.load(Ordering::SeqCst) >= wanted {
@@ -86,7 +86,7 @@ fn comes_to<R: Clock>(rt: &R, count: &AtomicU64, wanted: u64) -> bool {
     false
 }
 
-/// A gate that holds each job until so many have entered; it gives up after ten seconds.
+/// A gate that holds each job until `wanted` jobs have entered, but no longer than ten seconds.
 #[derive(Drop)]
 struct Meeting<'a, R> {
     rt: &'a R,
@@ -109,7 +109,7 @@ impl<'a, R: Clock + Sync> Gate for Meeting<'a, R> {
     fn leave(&self, _rank: u32) {}
 }
 
-/// A gate where so many jobs meet.
+/// Returns a gate that holds each job until `wanted` jobs have entered.
 fn gate_for<R>(rt: &R, wanted: u64) -> Meeting<'_, R> {
     Meeting {
         rt,
@@ -133,8 +133,8 @@ fn as_many_jobs_run_at_once_as_there_are_workers(rt: HostRuntime) -> Result<(), 
 
 #[test]
 fn the_job_with_the_fewest_events_is_taken_last(rt: HostRuntime) -> Result<(), Fail> {
-    // Two workers hold the first two jobs until both have begun; rank 2 takes in three events, the
-    // others have steps for more.
+    // Two workers hold the first two jobs until both have begun. Rank 2 has three events; the steps
+    // of the others ask for more.
     let gate = gate_for(&rt, 2);
     let results = run(&rt, rt.alloc(), &Shapes, &gate, (3, 2))?.len();
     assert_eq!(rt; results, 3);
@@ -143,7 +143,7 @@ fn the_job_with_the_fewest_events_is_taken_last(rt: HostRuntime) -> Result<(), F
     Ok(())
 }
 
-/// A gate that holds the job of rank 1 until so many others have ended; it gives up after ten
+/// A gate that holds the job of rank 1 until `others` jobs have ended, but no longer than ten
 /// seconds.
 #[derive(Drop)]
 struct Holding<'a, R> {
