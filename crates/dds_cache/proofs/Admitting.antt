@@ -19,7 +19,7 @@ use Rattle.dds_cache.specs.Calls.{Done, Accepted}
 use Rattle.dds_cache.specs.Coming.{Arrives, came, counted, dropped, is_value_of, joined_by, joins, leaving, left_by_number, made, or_fresh, without_first}
 use Rattle.dds_cache.specs.Effects.{ChangesAt, IsSame, with_numbers}
 use Rattle.dds_cache.specs.Placed.{ShelfView}
-use Rattle.dds_cache.specs.Standing.{InstanceView, Pair, Parts, StandsBy, is_key, is_pair, numbers_in, pair_order, parts, writers_in}
+use Rattle.dds_cache.specs.Standing.{InstanceView, Pair, CacheIndex, StandsBy, is_key, is_pair, numbers_in, pair_order, parts, writers_in}
 use Rattle.dds_cache.proofs.Answering.{stands_same}
 use Rattle.dds_cache.proofs.Dropping.{dropping}
 use Rattle.dds_cache.proofs.Entering.{entered, entered_parts, makes, numbers_more, put_stands}
@@ -67,7 +67,7 @@ cut_came v j most n i m rest is over =
 whole_came : (v j : Bool) (most n : ℕ) (i : InstanceView) → nat_lt most (length (insert_key nat_cmp i.numbers n)) ≡ false → came v j (counted (KeepLast most) n i) ≡ came v j (with_numbers (insert_key nat_cmp i.numbers n) i)
 whole_came v j most n i over = ap (λ b. came v j (with_numbers (if b then drop 1 (insert_key nat_cmp i.numbers n) else insert_key nat_cmp i.numbers n) i)) over
 
-module _ {M : Type 0} (past : List (Done M)) (p : Parts M) (s : StandsBy past p) (n : Notice M) (e : Entry M) (one : entry_by n.place n.writer n.what ≡ e ∷ []) where
+module _ {M : Type 0} (past : List (Done M)) (p : CacheIndex M) (s : StandsBy past p) (n : Notice M) (e : Entry M) (one : entry_by n.place n.writer n.what ≡ e ∷ []) where
   abbrev v : Bool
   v = is_value_of e.body
 
@@ -77,11 +77,11 @@ module _ {M : Type 0} (past : List (Done M)) (p : Parts M) (s : StandsBy past p)
   abbrev j : Bool
   j = joins v pair p.live
 
-  abbrev entered_then : Parts M
+  abbrev entered_then : CacheIndex M
   entered_then = entered_parts past p s n e (makes n e one)
 
   -- the entry was put, what is known of its instance changed, and the entry with this number left
-  pub record Came (oldest : Option ℕ) (t : Parts M) : Type 0 where
+  pub record Came (oldest : Option ℕ) (t : CacheIndex M) : Type 0 where
     pub keep : t.keep ≡ p.keep
     pub accepted : t.accepted ≡ p.accepted + 1
     pub entries : t.entries ≡ left_by_number oldest (p.entries ++ (p.accepted, e) ∷ [])
@@ -89,7 +89,7 @@ module _ {M : Type 0} (past : List (Done M)) (p : Parts M) (s : StandsBy past p)
     pub live : t.live ≡ joined_by v pair p.live
     pub gives_up : oldest ≡ leaving p.keep p.accepted (numbers_in (p.find e.key))
 
-  module _ (oldest : Option ℕ) (t : Parts M) (h : Came oldest t) where
+  module _ (oldest : Option ℕ) (t : CacheIndex M) (h : Came oldest t) where
     all_kept : p.keep ≡ KeepAll → IsSame entered_then t
     all_kept keeps = record {
       keep = h.keep;

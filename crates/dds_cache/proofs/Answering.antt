@@ -16,7 +16,7 @@ use Rattle.dds_cache.specs.Cache.{cached, first_by, is_of, left_by, meets}
 use Rattle.dds_cache.specs.Calls.{Done, WasTaken}
 use Rattle.dds_cache.specs.Effects.{HandsOver, IsSame, take_each, take_shown, chosen_by, each, passes, shown_as, spend_each}
 use Rattle.dds_cache.specs.Instances.{is_disposed, state_by}
-use Rattle.dds_cache.specs.Standing.{InstanceView, Pair, Parts, StandsBy, alive_in, count_in, disposed_in, is_key, new_in, numbers_in, numbers_kept, of_key}
+use Rattle.dds_cache.specs.Standing.{InstanceView, Pair, CacheIndex, StandsBy, alive_in, count_in, disposed_in, is_key, new_in, numbers_in, numbers_kept, of_key}
 use Rattle.dds_cache.proofs.Keys.{key_tie}
 use Rattle.dds_cache.proofs.Lists.{all_left, any_first, any_left, any_map, first_map, left_map, rising_left}
 use Rattle.dds_cache.proofs.Living.{alive_is, has_live_is}
@@ -24,10 +24,10 @@ use Rattle.dds_cache.proofs.Taking.{chosen, each_keeps, each_new, each_none, non
 
 -- ---- the same parts
 
-abbrev pub parts_from : {M : Type 0} → History → ℕ → List (ℕ × Entry M) → (KeyHash → Option InstanceView) → List Pair → Parts M
+abbrev pub parts_from : {M : Type 0} → History → ℕ → List (ℕ × Entry M) → (KeyHash → Option InstanceView) → List Pair → CacheIndex M
 parts_from keep accepted entries find live = record { keep = keep; accepted = accepted; entries = entries; find = find; live = live }
 
-pub same_parts : {M : Type 0} (p q : Parts M) → IsSame p q → q ≡ p
+pub same_parts : {M : Type 0} (p q : CacheIndex M) → IsSame p q → q ≡ p
 same_parts p q is =
     ap (λ x. parts_from x q.accepted q.entries q.find q.live) is.keep
     ∙ ap (λ x. parts_from p.keep x q.entries q.find q.live) is.accepted
@@ -35,7 +35,7 @@ same_parts p q is =
     ∙ ap (λ x. parts_from p.keep p.accepted p.entries x q.live) (fun_ext is.find)
     ∙ ap (λ x. parts_from p.keep p.accepted p.entries p.find x) is.live
 
-pub stands_same : {M : Type 0} (past : List (Done M)) (p q : Parts M) → IsSame p q → StandsBy past p → StandsBy past q
+pub stands_same : {M : Type 0} (past : List (Done M)) (p q : CacheIndex M) → IsSame p q → StandsBy past p → StandsBy past q
 stands_same past p q is s = subst (StandsBy past) (sym (same_parts p q is)) s
 
 map_map : {A B C : Type 0} (g : A → B) (f : B → C) (l : List A) → map f (map g l) ≡ map (λ x. f (g x)) l
@@ -54,7 +54,7 @@ keeps_count : (c : Chosen) (o : Option InstanceView) → count_in (option_map (s
 keeps_count c None = refl
 keeps_count c (Some i) = refl
 
-module _ {M : Type 0} (past : List (Done M)) (p : Parts M) (s : StandsBy past p) (flags : Condition) where
+module _ {M : Type 0} (past : List (Done M)) (p : CacheIndex M) (s : StandsBy past p) (flags : Condition) where
   abbrev meet : Entry M → Bool
   meet = meets past (cached p.keep past) flags
 
@@ -122,7 +122,7 @@ module _ {M : Type 0} (past : List (Done M)) (p : Parts M) (s : StandsBy past p)
 
   -- ---- once entries were taken
 
-  abbrev pub without : ℕ → Parts M
+  abbrev pub without : ℕ → CacheIndex M
   without max = parts_from p.keep p.accepted (left_by (passes p.find flags) max p.entries) (λ k. each spend_each (picked max) k (p.find k)) p.live
 
   numbers_left : (max : ℕ) (k : KeyHash) (keep : History) (o : Option InstanceView) → numbers_in o ≡ numbers_kept keep k p.entries
@@ -144,7 +144,7 @@ module _ {M : Type 0} (past : List (Done M)) (p : Parts M) (s : StandsBy past p)
     sized = s.sized;
   }
 
-  pub took : (max : ℕ) (cs : List Chosen) (q : Parts M) → cs ≡ picked max → HandsOver cs p q → StandsBy (WasTaken max flags ∷ past) q
+  pub took : (max : ℕ) (cs : List Chosen) (q : CacheIndex M) → cs ≡ picked max → HandsOver cs p q → StandsBy (WasTaken max flags ∷ past) q
   took max cs q is h =
       let same : IsSame (without max) q = record {
         keep = h.keep;

@@ -22,7 +22,7 @@ use Rattle.dds_cache.specs.Cache.{cached, entry_by, is_new_behind}
 use Rattle.dds_cache.specs.Calls.{Done, Accepted, same_key}
 use Rattle.dds_cache.specs.Coming.{came, is_value_of, joined_by, joins, numbered, or_fresh}
 use Rattle.dds_cache.specs.Instances.{About, AValue, ADisposal, about_key, disposed_by, is_alive, is_disposed, is_end, is_live, is_value, live_by, told_about}
-use Rattle.dds_cache.specs.Standing.{AreSized, InstanceView, Pair, Parts, Rising, StandsBy, alive_in, count_in, disposed_in, is_key, is_pair, new_in, numbers, numbers_in, numbers_kept, of_key, pair_order, writers_in}
+use Rattle.dds_cache.specs.Standing.{AreSized, InstanceView, Pair, CacheIndex, Rising, StandsBy, alive_in, count_in, disposed_in, is_key, is_pair, new_in, numbers, numbers_in, numbers_kept, of_key, pair_order, writers_in}
 use Rattle.dds_cache.proofs.Answering.{parts_from}
 use Rattle.dds_cache.proofs.Keys.{and_left, and_right, guid_is, key_is, key_tie, key_turned, pair_tie, pair_total, same_turned}
 use Rattle.dds_cache.proofs.Living.{alive_is}
@@ -30,7 +30,7 @@ use Rattle.dds_cache.proofs.Placing.{all_put, any_put, below_last, count_put, ke
 
 -- ---- the same, but for the entries, which are these
 
-pub record Stood {M : Type 0} (past : List (Done M)) (l : List (Entry M)) (p : Parts M) : Type 0 where
+pub record Stood {M : Type 0} (past : List (Done M)) (l : List (Entry M)) (p : CacheIndex M) : Type 0 where
   pub entries : map (λ e. e.1) p.entries ≡ l
   pub rising : Rising 0 p.entries
   pub below : AllByRecursion (λ e. e.0 < p.accepted) p.entries
@@ -42,7 +42,7 @@ pub record Stood {M : Type 0} (past : List (Done M)) (l : List (Entry M)) (p : P
   pub live : (k : KeyHash) (w : Guid) → list_any (is_pair (w, k)) p.live ≡ is_live past k w
   pub sized : AreSized p.live
 
-pub stands_from : {M : Type 0} (past : List (Done M)) (l : List (Entry M)) (p : Parts M) → Stood past l p → l ≡ (cached p.keep past).entries → StandsBy past p
+pub stands_from : {M : Type 0} (past : List (Done M)) (l : List (Entry M)) (p : CacheIndex M) → Stood past l p → l ≡ (cached p.keep past).entries → StandsBy past p
 stands_from past l p s is = record {
   entries = s.entries ∙ is;
   rising = s.rising;
@@ -175,7 +175,7 @@ any_value q p live = by_there (list_any (is_pair p) live) refl
     by_there true h = ap (λ b. list_any (is_pair q) (if not b then insert_key pair_order live p else live)) h ∙ was (is_pair q p) refl h
     by_there false h = ap (λ b. list_any (is_pair q) (if not b then insert_key pair_order live p else live)) h ∙ any_put pair_order pair_total q p live
 
-module _ {M : Type 0} (past : List (Done M)) (p : Parts M) (s : StandsBy past p) (n : Notice M) (e : Entry M) (m : Makes n e) where
+module _ {M : Type 0} (past : List (Done M)) (p : CacheIndex M) (s : StandsBy past p) (n : Notice M) (e : Entry M) (m : Makes n e) where
   abbrev v : Bool
   v = is_value_of e.body
 
@@ -191,7 +191,7 @@ module _ {M : Type 0} (past : List (Done M)) (p : Parts M) (s : StandsBy past p)
   abbrev last : ℕ × Entry M
   last = (p.accepted, e)
 
-  abbrev pub entered_parts : Parts M
+  abbrev pub entered_parts : CacheIndex M
   entered_parts = parts_from p.keep (p.accepted + 1) (p.entries ++ last ∷ []) found (joined_by v pair p.live)
 
   map_last : (es : List (ℕ × Entry M)) → map (λ e. e.1) (es ++ last ∷ []) ≡ map (λ e. e.1) es ++ e ∷ []

@@ -19,7 +19,7 @@ use Rattle.dds_cache.specs.Departing.{AreCounted, Departs, Ends, KeepsRest, is_b
 use Rattle.dds_cache.specs.Effects.{ChangesAt, IsSame, left}
 use Rattle.dds_cache.specs.Instances.{AnUnregistration, about_key, disposed_by, is_alive, is_disposed, is_end, is_live, is_value, live_by, told_about}
 use Rattle.dds_cache.specs.Placed.{ShelfView}
-use Rattle.dds_cache.specs.Standing.{AreSized, InstanceView, Pair, Parts, StandsBy, count_in, disposed_in, is_key, is_pair, known_at, new_in, numbers_in, pair_order, parts, writers_in}
+use Rattle.dds_cache.specs.Standing.{AreSized, InstanceView, Pair, CacheIndex, StandsBy, count_in, disposed_in, is_key, is_pair, known_at, new_in, numbers_in, pair_order, parts, writers_in}
 use Rattle.dds_cache.proofs.Answering.{parts_from, stands_same}
 use Rattle.dds_cache.proofs.Entering.{key_back, or_nothing, pair_back}
 use Rattle.dds_cache.proofs.Keys.{guid_is, pair_tie, pair_total}
@@ -47,7 +47,7 @@ module _ {A M : Type 0} (past : List (Done M)) (n : Notice M) (leaves : Pair →
   abbrev found : KeyHash → Option InstanceView
   found = known_at new.instances.entries
 
-  abbrev left_parts : Parts M
+  abbrev left_parts : CacheIndex M
   left_parts = parts_from old.keep es.next es.entries found new.live.keys
 
   module _ (d : Departs leaves old new) where

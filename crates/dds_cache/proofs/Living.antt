@@ -8,7 +8,7 @@ use Rattle.rtps_types.specs.declared.identity.KeyHash.{KeyHash}
 use Rattle.rtps_proxy.specs.Matches.{same_guid}
 use Rattle.dds_cache.specs.Calls.{Done, Accepted, WasRead, WasTaken, same_key}
 use Rattle.dds_cache.specs.Instances.{About, AValue, ADisposal, AnUnregistration, Nothing, alive_by, brought, has_live, is_alive, is_end, is_live, is_value, live_by, told_about}
-use Rattle.dds_cache.specs.Standing.{Pair, Parts, StandsBy, alive_in, count_in, is_key, is_pair}
+use Rattle.dds_cache.specs.Standing.{Pair, CacheIndex, StandsBy, alive_in, count_in, is_key, is_pair}
 use Rattle.dds_cache.proofs.Keys.{and_left, and_right, guid_is, guid_tie, itself, key_tie, guid_total, pair_tie}
 use Rattle.rtps_types.specs.Order.{guid_order}
 use Rattle.dds_cache.proofs.Lists.{any_count, any_from, or_left, or_right, witness}
@@ -82,8 +82,8 @@ module _ {M : Type 0} (past : List (Done M)) (k : KeyHash) (live : List Pair) (i
   pub lives : list_any (λ (p : Pair). is_key k p.1) live ≡ has_live past k
   lives = both_ways (list_any (λ (p : Pair). is_key k p.1) live) (has_live past k) forth back
 
-pub has_live_is : {M : Type 0} (past : List (Done M)) (p : Parts M) → StandsBy past p → (k : KeyHash) → nat_lt 0 (count_in (p.find k)) ≡ has_live past k
+pub has_live_is : {M : Type 0} (past : List (Done M)) (p : CacheIndex M) → StandsBy past p → (k : KeyHash) → nat_lt 0 (count_in (p.find k)) ≡ has_live past k
 has_live_is past p s k = ap (nat_lt 0) (s.counts k) ∙ any_count (λ (x : Pair). is_key k x.1) p.live ∙ lives past k p.live (s.live k)
 
-pub alive_is : {M : Type 0} (past : List (Done M)) (p : Parts M) → StandsBy past p → (k : KeyHash) → alive_in (p.find k) ≡ is_alive past k
+pub alive_is : {M : Type 0} (past : List (Done M)) (p : CacheIndex M) → StandsBy past p → (k : KeyHash) → alive_in (p.find k) ≡ is_alive past k
 alive_is past p s k = ap (λ b. alive_by b (nat_lt 0 (count_in (p.find k)))) (s.disposed k) ∙ ap (alive_by _) (has_live_is past p s k)

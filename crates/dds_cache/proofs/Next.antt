@@ -9,7 +9,7 @@ use Rattle.dds_cache.specs.Answered.{answered, unread}
 use Rattle.dds_cache.specs.Cache.{first_by}
 use Rattle.dds_cache.specs.Calls.{Done, WasTaken}
 use Rattle.dds_cache.specs.Effects.{HandsOver, chosen_by, looked, passes, shown_as, with_found, with_shown}
-use Rattle.dds_cache.specs.Standing.{Parts, StandsBy, is_number, not_yet, numbers}
+use Rattle.dds_cache.specs.Standing.{CacheIndex, StandsBy, is_number, not_yet, numbers}
 use Rattle.dds_cache.proofs.Answering.{picked, took, took_shown}
 use Rattle.dds_cache.proofs.Choosing.{from_numbers, looked_all}
 
@@ -37,7 +37,7 @@ pub none_first : {X : Type 0} (l : List X) → slice_get l 0 ≡ None → l ≡ 
 none_first [] h = refl
 none_first (x ∷ xs) h = absurd cc
 
-module _ {M : Type 0} (past : List (Done M)) (p : Parts M) (s : StandsBy past p) where
+module _ {M : Type 0} (past : List (Done M)) (p : CacheIndex M) (s : StandsBy past p) where
   abbrev fresh : ℕ × Entry M → Bool
   fresh = passes p.find unread
 
@@ -45,7 +45,7 @@ module _ {M : Type 0} (past : List (Done M)) (p : Parts M) (s : StandsBy past p)
   firsts ns is = from_numbers p.find unread 1 p.entries ns refl (sym is) s.rising
 
   -- there is none
-  pub nothing : (q : Parts M) → numbers (filter not_yet p.entries) ≡ [] → HandsOver [] p q → (answered p.keep past 1 unread ≡ []) × StandsBy (WasTaken 1 unread ∷ past) q
+  pub nothing : (q : CacheIndex M) → numbers (filter not_yet p.entries) ≡ [] → HandsOver [] p q → (answered p.keep past 1 unread ≡ []) × StandsBy (WasTaken 1 unread ∷ past) q
   nothing q none h =
       let is : [] ≡ picked past p s unread 1 = ap (map (chosen_by p.find)) (firsts [] none) in
       (sym (took_shown past p s unread 1 [] is), took past p s unread 1 [] q is h)
@@ -85,7 +85,7 @@ module _ {M : Type 0} (past : List (Done M)) (p : Parts M) (s : StandsBy past p)
   pub never : (n : ℕ) (ns : List ℕ) → numbers (filter not_yet p.entries) ≡ n ∷ ns → lookup (is_number n) p.entries ≡ None → ⊥
   never n ns is none = let f = first_unread n ns is in let bad : Some f.entry ≡ None = sym f.found ∙ none in cc
 
-  pub taken_next : (n : ℕ) (ns : List ℕ) → numbers (filter not_yet p.entries) ≡ n ∷ ns → (e : Entry M) → lookup (is_number n) p.entries ≡ Some e → (c : Chosen) → c ≡ chosen_by p.find (n, e) → (q : Parts M) → HandsOver (c ∷ []) p q
+  pub taken_next : (n : ℕ) (ns : List ℕ) → numbers (filter not_yet p.entries) ≡ n ∷ ns → (e : Entry M) → lookup (is_number n) p.entries ≡ Some e → (c : Chosen) → c ≡ chosen_by p.find (n, e) → (q : CacheIndex M) → HandsOver (c ∷ []) p q
       → (shown_as e c ∷ [] ≡ answered p.keep past 1 unread) × StandsBy (WasTaken 1 unread ∷ past) q
   taken_next n ns is e found c same q h =
       let f = first_unread n ns is in

@@ -15,7 +15,7 @@ use Rattle.dds_cache.specs.Cache.{cached, first_by, marked, marked_by, meets}
 use Rattle.dds_cache.specs.Calls.{Done, WasRead}
 use Rattle.dds_cache.specs.Effects.{IsSame, Reads, chosen_by, each, mark_each, mark_one, passes, read_each, shown_as}
 use Rattle.dds_cache.specs.Lent.{answer_at}
-use Rattle.dds_cache.specs.Standing.{InstanceView, Parts, Rising, StandsBy, count_in, disposed_in, is_number, numbers, numbers_in, numbers_kept, of_key}
+use Rattle.dds_cache.specs.Standing.{InstanceView, CacheIndex, Rising, StandsBy, count_in, disposed_in, is_number, numbers, numbers_in, numbers_kept, of_key}
 use Rattle.dds_cache.proofs.Answering.{answers, new_after, parts_from, picked, stands_same, test}
 use Rattle.dds_cache.proofs.Choosing.{number_apart, number_itself}
 use Rattle.dds_cache.proofs.Taking.{After, chosen, chosen_after, each_keeps}
@@ -158,8 +158,8 @@ seen_numbers : (c : Chosen) (o : Option InstanceView) → numbers_in (option_map
 seen_numbers c None = refl
 seen_numbers c (Some i) = refl
 
-module _ {M : Type 0} (past : List (Done M)) (p : Parts M) (s : StandsBy past p) (flags : Condition) where
-  abbrev marked_parts : ℕ → Parts M
+module _ {M : Type 0} (past : List (Done M)) (p : CacheIndex M) (s : StandsBy past p) (flags : Condition) where
+  abbrev marked_parts : ℕ → CacheIndex M
   marked_parts max = parts_from p.keep p.accepted (marks (passes p.find flags) max p.entries) (λ k. each read_each (picked past p s flags max) k (p.find k)) p.live
 
   numbers_same : (max : ℕ) (k : KeyHash) (keep : History) → numbers_kept keep k p.entries ≡ numbers_kept keep k (marks (passes p.find flags) max p.entries)
@@ -180,7 +180,7 @@ module _ {M : Type 0} (past : List (Done M)) (p : Parts M) (s : StandsBy past p)
     sized = s.sized;
   }
 
-  pub was_read : (max : ℕ) (cs : List Chosen) (q : Parts M) → cs ≡ picked past p s flags max → Reads cs p q → StandsBy (WasRead max flags ∷ past) q
+  pub was_read : (max : ℕ) (cs : List Chosen) (q : CacheIndex M) → cs ≡ picked past p s flags max → Reads cs p q → StandsBy (WasRead max flags ∷ past) q
   was_read max cs q is h =
       let same : IsSame (marked_parts max) q = record {
         keep = h.keep;

@@ -1,4 +1,4 @@
--- What a call answers: entries, each with its states before the call (DDS 1.4, 2.2.2.5.1).
+-- What a call returns: entries, each with its states before the call (DDS 1.4, 2.2.2.5.1).
 use Rattle.std.specs.Prelude.{ℕ, List, map, Bool, true, false, if◌then◌else◌}
 use Rattle.dds_cache.specs.declared.condition.Condition.{Condition}
 use Rattle.dds_cache.specs.declared.entry.Entry.{Entry}
@@ -13,7 +13,7 @@ use Rattle.dds_cache.specs.Calls.{Done}
 use Rattle.dds_cache.specs.Cache.{Cached, cached, first_by, meets}
 use Rattle.dds_cache.specs.Instances.{state_of}
 
--- the sample state of an entry, by whether a call answered it before
+-- the sample state of an entry, by whether a call returned it before
 abbrev pub sample_state : Bool → SampleState
 sample_state was_read = if was_read then Read else NotRead
 
@@ -35,7 +35,7 @@ shown e sample view instance = record {
   instance = instance;
 }
 
--- an entry with its states after all that was done before
+-- an entry with its states after all calls so far
 abbrev pub shown_by : {M : Type 0} → List (Done M) → Cached M → Entry M → Sample M
 shown_by past c e =
     shown e (sample_state e.is_read) (view_state (c.is_new e.key)) (state_of past e.key)
@@ -44,11 +44,11 @@ shown_by past c e =
 abbrev pub answered_by : {M : Type 0} → List (Done M) → Cached M → ℕ → Condition → List (Sample M)
 answered_by past c max flags = map (shown_by past c) (first_by (meets past c flags) max c.entries)
 
--- what a call answers of a cache that keeps so much, after all that was done before
+-- what a call returns from a cache with this history policy, after all calls before it
 -- (DDS 1.4, 2.2.2.5.3)
 abbrev pub answered : {M : Type 0} → History → List (Done M) → ℕ → Condition → List (Sample M)
 answered keep past max flags = answered_by past (cached keep past) max flags
 
--- the condition that no call answered an entry
+-- the condition that an entry is unread
 abbrev pub unread : Condition
 unread = record { not_read = true; new = false; alive = false }

@@ -1,5 +1,5 @@
--- What is in a cache (DDS 1.4, 2.2.2.5): its entries in the order in which they were accepted,
--- and which instances are new (2.2.2.5.1.4).
+-- The contents of a cache (DDS 1.4, 2.2.2.5): its entries in order of acceptance, and which
+-- instances are new (2.2.2.5.1.4).
 use Rattle.std.specs.Prelude.{◌≤◌, ℕ, zero, suc, List, [], ◌∷◌, ◌++◌, length, filter, nat_lt, Bool, true, false, not, ◌&&◌, ◌||◌, if◌then◌else◌}
 use Rattle.std.specs.List.{list_any}
 use Rattle.rtps_types.specs.declared.identity.Guid.{Guid}
@@ -17,19 +17,19 @@ use Rattle.dds_cache.specs.declared.history.History.TheVariants.{KeepLast, KeepA
 use Rattle.dds_cache.specs.Calls.{Done, Accepted, WasRead, WasTaken, same_key}
 use Rattle.dds_cache.specs.Instances.{is_alive, is_value, told_about}
 
--- how many may be kept of an instance (DDS 1.4, 2.2.3.18): at least one; the bound above is a
--- choice of this project
+-- the depth of KEEP_LAST (DDS 1.4, 2.2.3.18) is at least 1; the upper bound is a choice of this
+-- project
 abbrev pub IsHistory : History → Type 0
 IsHistory (KeepLast n) = (1 ≤ n) × (n ≤ 65536)
 IsHistory KeepAll = Unit {0}
 
--- what a cache has: its entries, and which instances are new (DDS 1.4, 2.2.2.5.1.4)
+-- the contents of a cache: its entries, and which instances are new (DDS 1.4, 2.2.2.5.1.4)
 pub record Cached (M : Type 0) : Type 0 where
   -- in the order in which they were accepted
   pub entries : List (Entry M)
   pub is_new : KeyHash → Bool
 
--- the entry that a notice makes, if it makes one: of a value, and of a disposal
+-- the entry that a notice makes; only a value and a disposal make one
 abbrev pub entry_by : {M : Type 0} → Place → Guid → NoticeKind M → List (Entry M)
 entry_by place w (kind.Sample number time (body.Value k v)) = record {
   place = place;
@@ -60,12 +60,12 @@ entry_by place w (kind.Lost count) = []
 abbrev pub is_of : {M : Type 0} → KeyHash → Entry M → Bool
 is_of k e = same_key e.key k
 
--- without the oldest of an instance
+-- the entries without the oldest of an instance
 abbrev pub without_oldest : {M : Type 0} → KeyHash → List (Entry M) → List (Entry M)
 without_oldest k [] = []
 without_oldest k (e ∷ es) = if is_of k e then es else e ∷ without_oldest k es
 
--- where the last n are kept of an instance, its oldest entry leaves when there is one more, whether
+-- under KEEP_LAST n, the oldest entry of an instance with more than n entries is dropped, whether
 -- it was read or not
 abbrev pub kept_by : {M : Type 0} → History → KeyHash → List (Entry M) → List (Entry M)
 kept_by (KeepLast n) k es = if nat_lt n (length (filter (is_of k) es)) then without_oldest k es else es
@@ -82,39 +82,39 @@ meets past c flags e =
     (not flags.not_read || not e.is_read)
     && ((not flags.new || c.is_new e.key) && (not flags.alive || is_alive past e.key))
 
--- the first max that pass a test; the list in which those are read; and the list without them
+-- the first max elements that pass a test
 abbrev pub first_by : {E : Type 0} → (E → Bool) → ℕ → List E → List E
 first_by p max [] = []
 first_by p zero (e ∷ es) = []
 first_by p (suc max) (e ∷ es) = if p e then e ∷ first_by p max es else first_by p (suc max) es
 
--- an entry that is read now
+-- an entry marked as read
 abbrev pub marked : {M : Type 0} → Entry M → Entry M
 marked e = record e { is_read = true }
 
--- the list in which the first max that pass a test are read
+-- the list with the first max entries that pass a test marked as read
 abbrev pub marked_by : {M : Type 0} → (Entry M → Bool) → ℕ → List (Entry M) → List (Entry M)
 marked_by p max [] = []
 marked_by p zero (e ∷ es) = e ∷ es
 marked_by p (suc max) (e ∷ es) =
     if p e then marked e ∷ marked_by p max es else e ∷ marked_by p (suc max) es
 
--- the list without the first max that pass a test
+-- the list without the first max elements that pass a test
 abbrev pub left_by : {E : Type 0} → (E → Bool) → ℕ → List E → List E
 left_by p max [] = []
 left_by p zero (e ∷ es) = e ∷ es
 left_by p (suc max) (e ∷ es) = if p e then left_by p max es else e ∷ left_by p (suc max) es
 
--- an instance is new when it is made, and again when a value makes it alive
+-- an instance is new when it is created, and again when a value makes it alive
 abbrev pub is_new_behind : {M : Type 0} → List (Done M) → Notice M → Bool → KeyHash → Bool
 is_new_behind past n before k =
     before || (is_value (told_about k n.what) && not (is_alive past k))
 
--- and it is not new any more once an entry of it was answered
+-- an instance is not new any more once a call returned an entry of it
 abbrev pub is_new_after : {M : Type 0} → List (Entry M) → Bool → KeyHash → Bool
 is_new_after answers before k = before && not (list_any (is_of k) answers)
 
--- what a cache has after a notice was accepted, or entries were read or taken
+-- the contents of a cache after one more call
 abbrev pub cached_after : {M : Type 0} → History → List (Done M) → Cached M → Done M → Cached M
 cached_after keep past c (Accepted n) = record {
   entries = with_entry keep c.entries (entry_by n.place n.writer n.what);
@@ -129,7 +129,7 @@ cached_after keep past c (WasTaken max flags) = record {
   is_new = λ k. is_new_after (first_by (meets past c flags) max c.entries) (c.is_new k) k;
 }
 
--- what a cache has after all that was done with it, the newest first
+-- the contents of a cache after these calls, the newest first
 abbrev pub cached : {M : Type 0} → History → List (Done M) → Cached M
 cached keep [] = record { entries = []; is_new = λ k. true }
 cached keep (d ∷ past) = cached_after keep past (cached keep past) d

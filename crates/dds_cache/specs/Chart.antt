@@ -13,8 +13,8 @@ use Rattle.dds_cache.specs.Instances.{About, AValue, ADisposal, AnUnregistration
 abbrev pub has_other : {M : Type 0} → List (Done M) → KeyHash → Guid → Bool
 has_other past k w = list_any (brought (λ v. not (same_guid w v) && is_live past k v) k) past
 
--- a writer goes: an alive instance stays alive while another one is live, and a disposed one stays
--- disposed
+-- the state after a writer goes: an alive instance stays alive while another writer is live, and a
+-- disposed one stays disposed
 abbrev pub without_writer : Bool → InstanceState → InstanceState
 without_writer others Alive = if others then Alive else NoWriters
 without_writer others Disposed = Disposed

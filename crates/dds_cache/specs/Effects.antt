@@ -1,4 +1,4 @@
--- What the steps of a call do to what is kept.
+-- The effects of the steps of a call on a cache.
 use Rattle.std.specs.Prelude.{◌≡◌, ℕ, ◌+◌, ◌-◌, length, nat_lt, List, [], ◌∷◌, ◌++◌, map, Bool, true, false, not, ◌&&◌, ◌||◌, Option, Some, None, if◌then◌else◌}
 use Rattle.std.specs.BTreeSet.{insert_key}
 use Rattle.std.specs.Map.{lookup, remove_entry}
@@ -13,15 +13,15 @@ use Rattle.dds_cache.specs.declared.entry.Sample.{Sample}
 use Rattle.dds_cache.specs.Answered.{sample_state, shown, view_state}
 use Rattle.dds_cache.specs.Cache.{first_by, marked}
 use Rattle.dds_cache.specs.Instances.{alive_by, state_by}
-use Rattle.dds_cache.specs.Standing.{InstanceView, Parts, alive_in, count_in, disposed_in, is_key, is_number, new_in}
+use Rattle.dds_cache.specs.Standing.{InstanceView, CacheIndex, alive_in, count_in, disposed_in, is_key, is_number, new_in}
 
 -- ---- the changes of an instance
 
--- an instance as it is made: new, not disposed, with no live writers and no entries
+-- an instance when it is created: new, not disposed, with no live writers and no entries
 abbrev pub fresh : InstanceView
 fresh = record { is_disposed = false; is_new = true; live = 0; numbers = [] }
 
--- a value came, of a writer that wasn't live before, or of one that was
+-- an instance after a value; `joined` says that its writer wasn't live before
 abbrev pub valued : Bool → InstanceView → InstanceView
 valued joined i = record {
   is_disposed = false;
@@ -30,23 +30,23 @@ valued joined i = record {
   numbers = i.numbers;
 }
 
--- a disposal came
+-- an instance after a disposal
 abbrev pub disposed : InstanceView → InstanceView
 disposed i = record i { is_disposed = true }
 
--- a writer isn't live any more
+-- an instance with one live writer fewer
 abbrev pub left : InstanceView → InstanceView
 left i = record i { live = i.live - 1 }
 
--- it has one more entry, of this number
+-- an instance with one more entry, of this number
 abbrev pub with_number : ℕ → InstanceView → InstanceView
 with_number n i = record i { numbers = insert_key nat_cmp i.numbers n }
 
--- its entries have these numbers
+-- an instance whose entries have these numbers
 abbrev pub with_numbers : List ℕ → InstanceView → InstanceView
 with_numbers ns i = record i { numbers = ns }
 
--- an entry of it was read, and stays; it was taken
+-- an instance after an entry of it was read; after one was taken
 abbrev pub seen : InstanceView → InstanceView
 seen i = record i { is_new = false }
 
@@ -58,23 +58,23 @@ spent n i = record {
   numbers = remove_key (is_number n) i.numbers;
 }
 
--- what is known of one instance changes
+-- only the instance of this key changes, in this way
 abbrev pub ChangesAt : KeyHash → (Option InstanceView → Option InstanceView) → (KeyHash → Option InstanceView) → (KeyHash → Option InstanceView) → Type 0
 ChangesAt key f old new = (k : KeyHash) → new k ≡ (if is_key key k then f (old k) else old k)
 
--- the same is found
+-- no instance changes
 abbrev pub FindsSame : (KeyHash → Option InstanceView) → (KeyHash → Option InstanceView) → Type 0
 FindsSame old new = (k : KeyHash) → new k ≡ old k
 
 -- nothing is changed
-pub record IsSame {M : Type 0} (old new : Parts M) : Type 0 where
+pub record IsSame {M : Type 0} (old new : CacheIndex M) : Type 0 where
   pub keep : new.keep ≡ old.keep
   pub accepted : new.accepted ≡ old.accepted
   pub entries : new.entries ≡ old.entries
   pub find : FindsSame old.find new.find
   pub live : new.live ≡ old.live
 
--- ---- what a call answers
+-- ---- what a call returns
 
 -- an entry meets a condition, by what is known of its instance
 abbrev pub passes : {M : Type 0} → (KeyHash → Option InstanceView) → Condition → ℕ × Entry M → Bool
@@ -92,7 +92,7 @@ chosen_by find e = record {
   instance = state_by (disposed_in (find e.1.key)) (nat_lt 0 (count_in (find e.1.key)));
 }
 
--- what is at a place, where it is an entry that meets a condition
+-- the entry at a place as it is chosen, if there is one and it meets a condition
 abbrev pub judged_at : {M : Type 0} → (KeyHash → Option InstanceView) → Condition → ℕ → Option (Entry M) → Option Chosen
 judged_at find flags n None = None
 judged_at find flags n (Some e) = if passes find flags (n, e) then Some (chosen_by find (n, e)) else None
@@ -106,12 +106,12 @@ abbrev pub mark_one : {M : Type 0} → ℕ → List (ℕ × Entry M) → List (�
 mark_one n [] = []
 mark_one n (e ∷ es) = if is_number n e.0 then (e.0, marked e.1) ∷ es else e ∷ mark_one n es
 
--- what is known of an instance once these entries were answered
+-- an instance after these entries were read, or taken
 abbrev pub each : (Chosen → InstanceView → InstanceView) → List Chosen → KeyHash → Option InstanceView → Option InstanceView
 each f [] k o = o
 each f (c ∷ cs) k o = each f cs k (if is_key c.key k then option_map (f c) o else o)
 
--- the entry with a number, if there is one, before others
+-- a list of entries with one put in front, if there is one
 abbrev pub with_found : {M : Type 0} → ℕ → Option (Entry M) → List (ℕ × Entry M) → List (ℕ × Entry M)
 with_found n None es = es
 with_found n (Some e) es = (n, e) ∷ es
@@ -121,7 +121,7 @@ abbrev pub looked : {M : Type 0} → List (ℕ × Entry M) → List ℕ → List
 looked es [] = []
 looked es (n ∷ ns) = with_found n (lookup (is_number n) es) (looked es ns)
 
--- the first entries that pass a test are added, as they are chosen, n at most, and this many more
+-- the first entries that pass a test, at most `max`, are appended as they are chosen; `left` more
 -- are wanted
 abbrev pub AddsFirst : {C E : Type 0} → (E → Bool) → (E → C) → ℕ → List E → List C → List C → ℕ → Type 0
 AddsFirst p f max es old new left =
@@ -129,7 +129,7 @@ AddsFirst p f max es old new left =
 
 -- ---- once entries were chosen
 
--- the entries once these were read; once these were taken
+-- the entries after these were read; after these were taken
 abbrev pub mark_each : {M : Type 0} → List Chosen → List (ℕ × Entry M) → List (ℕ × Entry M)
 mark_each [] es = es
 mark_each (c ∷ cs) es = mark_each cs (mark_one c.number es)
@@ -138,27 +138,27 @@ abbrev pub take_each : {M : Type 0} → List Chosen → List (ℕ × Entry M) �
 take_each [] es = es
 take_each (c ∷ cs) es = take_each cs (remove_entry (is_number c.number) es)
 
--- an entry with the states that it was chosen with, if it is there, before others
+-- a list of samples with an entry put in front, if there is one, with the states it was chosen with
 abbrev pub with_shown : {M : Type 0} → Chosen → Option (Entry M) → List (Sample M) → List (Sample M)
 with_shown c None samples = samples
 with_shown c (Some e) samples = shown_as e c ∷ samples
 
--- what is handed over as the chosen entries are taken
+-- the samples that taking the chosen entries returns
 abbrev pub take_shown : {M : Type 0} → List Chosen → List (ℕ × Entry M) → List (Sample M)
 take_shown [] es = []
 take_shown (c ∷ cs) es =
     with_shown c (lookup (is_number c.number) es) (take_shown cs (remove_entry (is_number c.number) es))
 
--- an instance, once this entry of it was read
+-- an instance after this entry of it was read
 abbrev pub read_each : Chosen → InstanceView → InstanceView
 read_each c = seen
 
--- an instance, once this entry of it was taken
+-- an instance after this entry of it was taken
 abbrev pub spend_each : Chosen → InstanceView → InstanceView
 spend_each c = spent c.number
 
--- these entries left
-pub record HandsOver {M : Type 0} (cs : List Chosen) (old new : Parts M) : Type 0 where
+-- these entries were removed
+pub record HandsOver {M : Type 0} (cs : List Chosen) (old new : CacheIndex M) : Type 0 where
   pub keep : new.keep ≡ old.keep
   pub accepted : new.accepted ≡ old.accepted
   pub entries : new.entries ≡ take_each cs old.entries
@@ -166,7 +166,7 @@ pub record HandsOver {M : Type 0} (cs : List Chosen) (old new : Parts M) : Type 
   pub live : new.live ≡ old.live
 
 -- these entries were read
-pub record Reads {M : Type 0} (cs : List Chosen) (old new : Parts M) : Type 0 where
+pub record Reads {M : Type 0} (cs : List Chosen) (old new : CacheIndex M) : Type 0 where
   pub keep : new.keep ≡ old.keep
   pub accepted : new.accepted ≡ old.accepted
   pub entries : new.entries ≡ mark_each cs old.entries

@@ -1,4 +1,4 @@
--- Where the entries of a cache are that keeps all.
+-- Under KEEP_ALL, each entry is in the cache or was taken.
 use Rattle.std.specs.Prelude.{◌≡◌, List, [], ◌∷◌, ◌++◌, map, Option, ◌⊎◌}
 use Rattle.std.specs.List.Sorted.{IsPermutation}
 use Rattle.rtps_types.specs.declared.identity.Guid.{Guid}
@@ -13,7 +13,7 @@ use Rattle.dds_cache.specs.Answered.{answered}
 use Rattle.dds_cache.specs.Cache.{cached, entry_by}
 use Rattle.dds_cache.specs.Calls.{Done, Accepted, WasRead, WasTaken}
 
--- what was accepted, without the states with which it is answered
+-- an accepted value or disposal, without states
 pub record Told (M : Type 0) : Type 0 where
   pub place : Place
   pub writer : Guid
@@ -31,7 +31,7 @@ told e = record {
   body = e.body;
 }
 
--- a sample that was answered, without its states
+-- a sample that was returned, without its states
 abbrev pub told_by : {M : Type 0} → Sample M → Told M
 told_by s = record {
   place = s.place;
@@ -48,7 +48,7 @@ all_accepted (Accepted n ∷ past) = all_accepted past ++ map told (entry_by n.p
 all_accepted (WasRead max flags ∷ past) = all_accepted past
 all_accepted (WasTaken max flags ∷ past) = all_accepted past
 
--- all that takes answered
+-- all that takes returned
 abbrev pub all_taken : {M : Type 0} → List (Done M) → List (Told M)
 all_taken [] = []
 all_taken (Accepted n ∷ past) = all_taken past
@@ -56,14 +56,14 @@ all_taken (WasRead max flags ∷ past) = all_taken past
 all_taken (WasTaken max flags ∷ past) =
     all_taken past ++ map told_by (answered KeepAll past max flags)
 
--- a list is two lists put together, each in its order
+-- the first list is an interleaving of the other two, each in its order
 abbrev pub AreParts : {X : Type 0} → List X → List X → List X → Type 0
 AreParts [] xs ys = (xs ≡ []) × (ys ≡ [])
 AreParts {X} (z ∷ zs) xs ys =
     ((rest : List X) × (xs ≡ z ∷ rest) × AreParts zs rest ys)
     ⊎ ((rest : List X) × (ys ≡ z ∷ rest) × AreParts zs xs rest)
 
--- what was accepted is what is left, in order, and what was taken, each once
+-- each accepted entry is in the cache, in order of acceptance, or was taken, exactly once
 pub record IsLeftOrTaken {M : Type 0} (past : List (Done M)) : Type 0 where
   pub gone : List (Told M)
   pub parts : AreParts (all_accepted past) (map told (cached KeepAll past).entries) gone

@@ -1,18 +1,18 @@
--- Notices on their way from a ring into a cache.
+-- Moving notices from a ring into a cache.
 use Rattle.std.specs.Prelude.{◌≡◌, ◌≤◌, Bool, true, false, List, [], ◌∷◌, ◌++◌, length, Result, Ok, Err}
 use Rattle.rtps_reader.specs.declared.notice.Notice.{Notice}
 use Rattle.dds_outlet.specs.Ring.{Receiving}
 use Rattle.dds_cache.specs.Calls.{Accepted, Done, accepted_after}
 use Rattle.dds_cache.specs.Standing.{CacheView, StandsAt}
 
--- a notice is known to come out of the ring next
+-- a notice is known to be next in the ring
 pub record HasNext {V A : Type 0} (ring : Receiving V A) : Type 0 where
   pub first : Notice V
   pub rest : List (Notice V)
   pub next : ring.next ≡ first ∷ rest
 
--- These notices were accepted as they came out of the ring, each once, in order, and at most one for
--- each of its places. Where it is known what comes last, what comes next is the rest of it.
+-- These notices were received from the ring and accepted, each once, in order, and at most one for
+-- each of its places. If all that the sender sent is known, what is left is the rest of it.
 pub record Pulls {V A : Type 0} (moved : List (Notice V)) (old new : CacheView V)
     (before after : Receiving V A) : Type 0 where
   pub received : after.received ≡ before.received ++ moved
@@ -26,7 +26,7 @@ pub record Pulls {V A : Type 0} (moved : List (Notice V)) (old new : CacheView V
 
 -- ---- one notice
 
--- it came out of the ring and was accepted
+-- a notice was received from the ring and accepted
 pub record Moves {V A : Type 0} (old new : CacheView V) (before after : Receiving V A)
     : Type 0 where
   pub notice : Notice V
@@ -34,14 +34,14 @@ pub record Moves {V A : Type 0} (old new : CacheView V) (before after : Receivin
   pub stands : (past : List (Done V)) → StandsAt past old → StandsAt (Accepted notice ∷ past) new
   pub left : before.is_last ≡ true → before.next ≡ notice ∷ after.next
 
--- there was none
+-- there was no notice in the ring
 pub record FindsNone {V A : Type 0} (old new : CacheView V) (before after : Receiving V A)
     : Type 0 where
   pub received : after.received ≡ before.received
   pub next : (before.next ≡ []) × (after.next ≡ [])
   pub stands : (past : List (Done V)) → StandsAt past old → StandsAt past new
 
--- no memory was found for it, and it was put back
+-- memory for a notice was refused, and it was put back
 pub record PutsBack {V A : Type 0} (old new : CacheView V) (before after : Receiving V A)
     : Type 0 where
   pub received : after.received ≡ before.received
@@ -49,7 +49,7 @@ pub record PutsBack {V A : Type 0} (old new : CacheView V) (before after : Recei
   pub stands : (past : List (Done V)) → StandsAt past old → StandsAt past new
   pub left : before.is_last ≡ true → after.next ≡ before.next
 
--- by the answer, whether there was one
+-- the effect of moving one notice, by the result
 unfoldable pub PullsOne : {V A E : Type 0} → Result Bool E → CacheView V → CacheView V
     → Receiving V A → Receiving V A → Type 0
 PullsOne (Ok true) old new before after = Moves old new before after

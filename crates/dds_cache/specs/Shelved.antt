@@ -1,10 +1,10 @@
--- What is always true of the entries of a cache.
+-- The invariant of the entries of a cache.
 use Rattle.std.specs.Prelude.{◌≡◌, ℕ, ◌+◌, ◌<◌, ◌≤◌, ◌^◌, List, filter, length, Option}
 use Rattle.std.specs.List.{AllByRecursion}
 use Rattle.dds_cache.specs.declared.entry.Entry.{Entry}
 use Rattle.dds_cache.specs.Standing.{Rising, not_yet, numbers}
 
--- those that are not at places have lower numbers, and which of them no call answered is known
+-- the entries of the tree have lower numbers than the row, and its unread numbers are known
 pub record IsShelf {M : Type 0} (first : ℕ) (old : List (ℕ × Entry M)) (unread : List ℕ) (row : List (Option (Entry M))) : Type 0 where
   pub rising : Rising 0 old
   pub below : AllByRecursion (λ e. e.0 < first) old

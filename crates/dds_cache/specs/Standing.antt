@@ -1,4 +1,4 @@
--- What a cache keeps.
+-- The contents of a cache, as contracts see them.
 use Rattle.std.specs.Prelude.{◌≡◌, ℕ, suc, ◌<◌, ◌≤◌, nat_lt, List, [], ◌∷◌, map, filter, length, Bool, true, false, not, Option, Some, None, is_some}
 use Rattle.std.specs.List.{list_any, AllByRecursion}
 use Rattle.std.specs.Map.{lookup}
@@ -18,11 +18,11 @@ use Rattle.dds_cache.specs.Calls.{Done}
 use Rattle.dds_cache.specs.Placed.{ShelfView}
 use Rattle.dds_cache.specs.Instances.{alive_by, is_disposed, is_live}
 
--- the orders in which instances, and writers with instances, are found
+-- instances are ordered by the octets of their keys
 abbrev pub key_order : KeyHash → KeyHash → Ordering
 key_order a b = octet_order a.0 b.0
 
--- a writer that is live in an instance
+-- a pair of a writer and an instance that it is live in
 abbrev pub Pair : Type 0
 Pair = Guid × KeyHash
 
@@ -42,16 +42,16 @@ is_pair p q = is_eq (pair_order p q)
 abbrev pub is_number : ℕ → ℕ → Bool
 is_number n m = is_eq (nat_cmp n m)
 
--- what is known of an instance
+-- an instance as contracts see it
 pub record InstanceView : Type 0 where
   pub is_disposed : Bool
   pub is_new : Bool
-  -- how many writers are live in it
+  -- the number of writers that are live in it
   pub live : ℕ
-  -- the numbers of its entries, where only the last ones are kept
+  -- the numbers of its entries under KEEP_LAST, else empty
   pub numbers : List ℕ
 
--- what contracts see of what is known of an instance
+-- the view of the code's instance
 abbrev pub known : {A : Type 0} → Instance A → InstanceView
 known i = record {
   is_disposed = i.is_disposed;
@@ -60,29 +60,29 @@ known i = record {
   numbers = i.numbers.keys;
 }
 
--- what is known of the instance of a key, if it is known
+-- the instance of a key, if it is known
 abbrev pub known_at : {A : Type 0} → List (KeyHash × Instance A) → KeyHash → Option InstanceView
 known_at is k = option_map known (lookup (is_key k) is)
 
--- what is kept, as contracts see it
+-- the cache as contracts see it
 pub record CacheView (M : Type 0) : Type 0 where
   pub keep : History
-  -- how many entries were made; each has the count before it as its number
+  -- the number of entries made; the number of an entry is the count of those made before it
   pub accepted : ℕ
   pub entries : List (ℕ × Entry M)
   pub instances : List (KeyHash × InstanceView)
   pub live : List Pair
 
 -- the same, with a function that finds an instance
-pub record Parts (M : Type 0) : Type 0 where
+pub record CacheIndex (M : Type 0) : Type 0 where
   pub keep : History
   pub accepted : ℕ
   pub entries : List (ℕ × Entry M)
   pub find : KeyHash → Option InstanceView
   pub live : List Pair
 
--- what is kept, with a function that finds an instance in it
-abbrev pub parts_in : {M : Type 0} → CacheView M → Parts M
+-- the cache with its instances as a function from keys
+abbrev pub parts_in : {M : Type 0} → CacheView M → CacheIndex M
 parts_in kept = record {
   keep = kept.keep;
   accepted = kept.accepted;
@@ -91,8 +91,8 @@ parts_in kept = record {
   live = kept.live;
 }
 
--- the same of the code's index and shelf
-abbrev pub parts : {A M : Type 0} → Index A → ShelfView M → Parts M
+-- the same for the code's index and shelf
+abbrev pub parts : {A M : Type 0} → Index A → ShelfView M → CacheIndex M
 parts index shelf = record {
   keep = index.keep;
   accepted = shelf.next;
@@ -101,7 +101,7 @@ parts index shelf = record {
   live = index.live.keys;
 }
 
--- what the code's index and shelf keep, as contracts see it
+-- the view of the code's index and shelf
 abbrev pub kept : {A M : Type 0} → Index A → ShelfView M → CacheView M
 kept index shelf = record {
   keep = index.keep;
@@ -111,40 +111,40 @@ kept index shelf = record {
   live = index.live.keys;
 }
 
--- ---- what is known of an instance, and of one that isn't known
+-- ---- facts of an instance, also of one that isn't known
 
--- it is disposed; one that isn't known is not
+-- an instance is disposed; one that isn't known is not
 abbrev pub disposed_in : Option InstanceView → Bool
 disposed_in None = false
 disposed_in (Some i) = i.is_disposed
 
--- it is new, and so is one that isn't known
+-- an instance is new; so is one that isn't known
 abbrev pub new_in : Option InstanceView → Bool
 new_in None = true
 new_in (Some i) = i.is_new
 
--- how many writers are live in it, and none in one that isn't known
+-- the number of writers that are live in an instance; 0 if it isn't known
 abbrev pub count_in : Option InstanceView → ℕ
 count_in None = 0
 count_in (Some i) = i.live
 
--- the numbers of its entries, and none of one that isn't known
+-- the numbers of an instance's entries; none if it isn't known
 abbrev pub numbers_in : Option InstanceView → List ℕ
 numbers_in None = []
 numbers_in (Some i) = i.numbers
 
--- it is alive: not disposed, and with a live writer
+-- an instance is alive: not disposed, and with a live writer
 abbrev pub alive_in : Option InstanceView → Bool
 alive_in o = alive_by (disposed_in o) (nat_lt 0 (count_in o))
 
--- ---- a cache keeps what follows from all that was done with it, the newest first
+-- ---- the contents of a cache follow from its calls, the newest first
 
 -- the numbers of entries rise, from this one on
 abbrev pub Rising : {E : Type 0} → ℕ → List (ℕ × E) → Type 0
 Rising low [] = Unit {0}
 Rising low (e ∷ es) = (low ≤ e.0) × Rising (suc e.0) es
 
--- no call answered the entry yet
+-- an entry is unread
 abbrev pub not_yet : {M : Type 0} → ℕ × Entry M → Bool
 not_yet e = not e.1.is_read
 
@@ -156,12 +156,12 @@ numbers es = map (λ e. e.0) es
 abbrev pub of_key : {M : Type 0} → KeyHash → ℕ × Entry M → Bool
 of_key k e = is_of k e.1
 
--- the numbers of an instance's entries, where only the last ones are kept; else none
+-- the numbers of an instance's entries under KEEP_LAST; else none
 abbrev pub numbers_kept : {M : Type 0} → History → KeyHash → List (ℕ × Entry M) → List ℕ
 numbers_kept (KeepLast n) k es = numbers (filter (of_key k) es)
 numbers_kept KeepAll k es = []
 
--- how many writers are live in an instance
+-- the number of writers that are live in an instance
 abbrev pub writers_in : KeyHash → List Pair → ℕ
 writers_in k live = length (filter (λ p. is_key k p.1) live)
 
@@ -169,9 +169,9 @@ writers_in k live = length (filter (λ p. is_key k p.1) live)
 abbrev pub AreSized : List Pair → Type 0
 AreSized live = AllByRecursion (λ p. length p.1.0 ≡ 16) live
 
--- a cache keeps what follows from all that was done with it: the same entries and states, by other
--- lists
-pub record StandsBy {M : Type 0} (past : List (Done M)) (p : Parts M) : Type 0 where
+-- The contents of a cache follow from its calls: it has the entries, the states and the counts that
+-- the definition `cached` gives.
+pub record StandsBy {M : Type 0} (past : List (Done M)) (p : CacheIndex M) : Type 0 where
   pub entries : map (λ e. e.1) p.entries ≡ (cached p.keep past).entries
   pub rising : Rising 0 p.entries
   pub below : AllByRecursion (λ e. e.0 < p.accepted) p.entries
@@ -183,6 +183,6 @@ pub record StandsBy {M : Type 0} (past : List (Done M)) (p : Parts M) : Type 0 w
   pub live : (k : KeyHash) (w : Guid) → list_any (is_pair (w, k)) p.live ≡ is_live past k w
   pub sized : AreSized p.live
 
--- and so does the code's cache, seen by its parts
+-- the same for the view of the code's cache
 abbrev pub StandsAt : {M : Type 0} → List (Done M) → CacheView M → Type 0
 StandsAt past kept = StandsBy past (parts_in kept)

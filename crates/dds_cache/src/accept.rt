@@ -1,4 +1,4 @@
-//! A notice is accepted.
+//! Accepting notices.
 
 ghost use Rattle.std.specs.Prelude.{◌≡◌, ◌+◌, ◌++◌, ◌∷◌, [], IfErr, IfOk, List, OnErr, OnOk, length, option_to_list};
 ghost use Rattle.dds_cache.specs.Cache.{entry_by};
@@ -21,19 +21,19 @@ use rtps_types::{Guid, KeyHash};
 use std::alloc::{AllocError, Allocator};
 use std::collections::BTreeSet;
 
-/// What a notice does to a cache.
+/// The effect of a notice on a cache.
 #[derive(Clone, Copy)]
 enum Coming {
-    /// It makes an entry of the instance: a value, or else the end of it.
+    /// It makes an entry of the instance: a value if the flag is set, else a disposal.
     Enters(KeyHash, bool),
-    /// Its writer is not live in the instance any more.
+    /// Its writer is no longer live in the instance.
     Leaves(KeyHash),
-    /// Its writer is not live in any instance any more.
+    /// Its writer is no longer live in any instance.
     LeavesAll,
     ChangesNothing,
 }
 
-/// What a notice does.
+/// Returns the effect of a notice.
 fn what_it_does<V>(notice: &Notice<V>) -> Coming
     ensures { result ≡ does notice.now.what }
 {
@@ -52,7 +52,7 @@ fn what_it_does<V>(notice: &Notice<V>) -> Coming
     }
 }
 
-/// The entry that a notice makes, if it makes one.
+/// Returns the entry that a notice makes, if it makes one.
 fn entry_of<V: Drop>(notice: Notice<V>) -> Option<Entry<V>>
     ensures { option_to_list result ≡ entry_by notice.place notice.writer notice.what }
 {
@@ -77,7 +77,7 @@ fn entry_of<V: Drop>(notice: Notice<V>) -> Option<Entry<V>>
     })
 }
 
-/// The writer of a value is live in its instance from then on. Answers whether it wasn't before.
+/// Makes the writer of a value live in its instance. Returns whether it wasn't live there before.
 fn join<A: Allocator + Copy>(
     live: &mut BTreeSet<(Guid, KeyHash), A>,
     pair: (Guid, KeyHash),
@@ -96,8 +96,8 @@ fn join<A: Allocator + Copy>(
     }
 }
 
-/// An entry of an instance comes. Answers the number of the entry that has to leave, if one has.
-/// After a refused growth nothing is changed.
+/// Notes an entry of an instance. Returns the number of the entry that has to be dropped, if any.
+/// If memory is refused, nothing is changed.
 fn arrive<A: Allocator + Copy>(
     alloc: A,
     index: &mut Index<A>,
@@ -129,7 +129,7 @@ fn arrive<A: Allocator + Copy>(
     }
 }
 
-/// Puts the entry that a notice makes.
+/// Appends the entry that a notice makes, if it makes one.
 fn put_made<V: Drop, A: Allocator + Copy>(entries: &mut Shelf<V, A>, notice: Notice<V>)
     requires { HasRoom entries.old }
     ensures put { (e : Entry V) → entry_by notice.place notice.writer notice.what ≡ e ∷ []
@@ -142,7 +142,7 @@ fn put_made<V: Drop, A: Allocator + Copy>(entries: &mut Shelf<V, A>, notice: Not
     }
 }
 
-/// The entry with a number leaves, if there is a number.
+/// Drops the entry with a number, if there is a number.
 fn discard<V: Drop, A: Allocator>(entries: &mut Shelf<V, A>, number: Option<u64>)
     ensures left { entries.new.entries ≡ left_by_number number entries.old.entries }
     ensures next { entries.new.next ≡ entries.old.next }
@@ -152,8 +152,8 @@ fn discard<V: Drop, A: Allocator>(entries: &mut Shelf<V, A>, number: Option<u64>
     }
 }
 
-/// Takes in the entry that a notice makes of an instance. After a refused growth the notice comes
-/// back, and nothing is changed.
+/// Adds the entry that a notice makes of an instance. If memory is refused, the notice is returned
+/// and nothing is changed.
 fn admit<V: Drop, A: Allocator + Copy>(
     alloc: A,
     index: &mut Index<A>,
@@ -181,7 +181,7 @@ fn admit<V: Drop, A: Allocator + Copy>(
     Ok(())
 }
 
-/// Accepts a notice. After a refused growth it comes back, and nothing is changed.
+/// Accepts a notice. If memory is refused, the notice is returned and nothing is changed.
 pub(crate) fn accept<V: Drop, A: Allocator + Copy>(
     alloc: A,
     index: &mut Index<A>,

@@ -1,4 +1,4 @@
-//! What a read lends.
+//! The result of a read.
 
 ghost use Rattle.std.specs.Prelude.{◌≡◌, ◌↔◌, IsTrue, length};
 ghost use Rattle.std.specs.Option.{option_map};
@@ -10,18 +10,18 @@ use crate::entry::{Content, Entry, Sample, Seen};
 use crate::shelf::Shelf;
 use std::alloc::{Allocator, Global};
 
-/// The entries that a read answers, in order of acceptance. They stay in the cache: their values
+/// The entries that a read returns, in order of acceptance. They stay in the cache: their values
 /// are borrowed.
 #[derive(Drop)]
 pub struct Answers<V, A: Allocator = Global> {
     /// All entries of the cache.
     pub(crate) entries: Shelf<V, A>,
-    /// Those that the last read answered.
+    /// The entries that the last read returned.
     pub(crate) answered: Vec<Chosen, A>,
 }
 
 impl<V> Entry<V> {
-    /// The entry with the states that it was chosen with; its value is borrowed.
+    /// Returns this entry with the states in `chosen`; its value is borrowed.
     fn lend(&self, chosen: Chosen) -> Seen<'_, V>
         ensures { lent_sample result ≡ shown_as self.now chosen }
     {
@@ -43,22 +43,22 @@ impl<V> Entry<V> {
 }
 
 impl<V, A: Allocator> Answers<V, A> {
-    /// How many entries are answered.
+    /// Returns the number of entries in the result.
     pub fn len(&self) -> usize
         ensures { result ≡ length (answers_in self.now) }
     {
         self.answered.len()
     }
 
-    /// Whether none is.
+    /// Whether the result is empty.
     pub fn is_empty(&self) -> bool
         ensures { IsTrue result ↔ (length (answers_in self.now) ≡ 0) }
     {
         self.answered.is_empty()
     }
 
-    /// The entry at a place of the list, from 0, with its states before the read; `None` at and
-    /// past the length.
+    /// Returns the entry at index `at`, with its states before the read; `None` if `at` is out of
+    /// bounds.
     pub fn get(&self, at: usize) -> Option<Seen<'_, V>>
         ensures { option_map lent_sample result ≡ nth_answer (answers_in self.now) at }
     {

@@ -1,4 +1,4 @@
-//! Which entries a call answers, and with which states.
+//! Chooses the entries that a call returns, and their states.
 
 ghost use Rattle.std.specs.Prelude.{◌≡◌, ◌+◌, ◌<◌, ◌^◌, IfOk, None, Some, filter, if◌then◌else◌, length, map, nat_lt};
 ghost use Rattle.dds_cache.specs.Answered.{sample_state, view_state};
@@ -17,7 +17,7 @@ use rtps_types::KeyHash;
 use std::alloc::{AllocError, Allocator};
 use std::collections::{BTreeMap, BTreeSet, VecDeque};
 
-/// An entry that a call answers, with its states before the call.
+/// An entry that a call returns, with its states before the call.
 #[derive(Clone, Copy)]
 pub(crate) struct Chosen {
     pub number: u64,
@@ -27,17 +27,17 @@ pub(crate) struct Chosen {
     pub instance: InstanceState,
 }
 
-/// What the states of an instance depend on.
+/// The facts that decide the states of an instance.
 #[derive(Clone, Copy)]
 pub(crate) struct States {
     pub is_new: bool,
     pub is_disposed: bool,
-    /// A writer is live in it.
+    /// Whether a writer is live in it.
     pub is_written: bool,
 }
 
 impl States {
-    /// Those of the instance with a key.
+    /// Returns the facts of the instance with a key.
     pub fn of<A: Allocator>(instances: &Instances<A>, key: KeyHash) -> States
         ensures { let known = known_at instances.now.entries key in
             result ≡ (record {
@@ -60,7 +60,7 @@ impl States {
         }
     }
 
-    /// An entry with these states of its instance.
+    /// Returns an entry as it is chosen, with its own state and these of its instance.
     pub fn show<V>(self, number: u64, entry: &Entry<V>) -> Chosen
         ensures { result ≡ (record {
           number = number;
@@ -94,7 +94,7 @@ impl States {
     }
 }
 
-/// The states that an entry is shown with, where it meets a condition.
+/// Returns an entry with its states if it meets a condition, else `None`.
 fn judge<V, A: Allocator>(
     number: u64,
     entry: &Entry<V>,
@@ -116,7 +116,7 @@ fn judge<V, A: Allocator>(
     Some(states.show(number, entry))
 }
 
-/// The same of what is at a place.
+/// Like [`judge`], for a place that may be empty.
 fn judge_place<V, A: Allocator>(
     number: u64,
     place: &Option<Entry<V>>,
@@ -131,14 +131,14 @@ fn judge_place<V, A: Allocator>(
     }
 }
 
-/// What is asked for: at most `max` entries that meet a condition.
+/// What a call asks for: at most `max` entries that meet a condition.
 #[derive(Clone, Copy)]
 struct Wanted {
     max: usize,
     condition: Condition,
 }
 
-/// Adds the first of some entries that are wanted. Answers how many more are.
+/// Appends the wanted entries among these, in order. Returns the number still wanted.
 fn choose_all<V, A: Allocator>(
     chosen: &mut Vec<Chosen, A>,
     entries: &BTreeMap<u64, Entry<V>, A>,
@@ -163,7 +163,8 @@ fn choose_all<V, A: Allocator>(
     Ok(left)
 }
 
-/// Adds the first of the entries with these numbers that are wanted. Answers how many more are.
+/// Appends the wanted entries among those with these numbers, in order. Returns the number still
+/// wanted.
 fn choose_unread<V, A: Allocator>(
     chosen: &mut Vec<Chosen, A>,
     entries: &BTreeMap<u64, Entry<V>, A>,
@@ -191,8 +192,8 @@ fn choose_unread<V, A: Allocator>(
     Ok(left)
 }
 
-/// Adds the first of the entries without a place that are wanted. Where only those are that no call
-/// answered, it goes over these alone. Answers how many more are wanted.
+/// Appends the wanted entries of the tree, in order. If the condition is for unread entries, only
+/// these are looked at. Returns the number still wanted.
 fn choose_old<V, A: Allocator>(
     chosen: &mut Vec<Chosen, A>,
     entries: &BTreeMap<u64, Entry<V>, A>,
@@ -213,8 +214,8 @@ fn choose_old<V, A: Allocator>(
     }
 }
 
-/// Adds the first of the entries at places that are wanted; the first place has this number.
-/// Answers how many more are.
+/// Appends the wanted entries of the row, in order; `first` is the number of its first place.
+/// Returns the number still wanted.
 fn choose_placed<V, A: Allocator>(
     chosen: &mut Vec<Chosen, A>,
     first: u64,
@@ -244,7 +245,7 @@ fn choose_placed<V, A: Allocator>(
     Ok(left)
 }
 
-/// The first `max` entries that meet a condition, in order of acceptance.
+/// Returns the first `max` entries that meet a condition, in order of acceptance.
 pub(crate) fn choose<V, A: Allocator + Copy>(
     alloc: A,
     shelf: &Shelf<V, A>,

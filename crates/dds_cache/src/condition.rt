@@ -1,13 +1,13 @@
-//! Which entries a call answers.
+//! The entries that a call asks for.
 
-/// Which entries a call answers: each flag that is set must hold (DDS 1.4, 2.2.2.5.1.1 to
-/// 2.2.2.5.1.4, where masks of states say so).
+/// The entries that a call asks for: those for which each set flag holds. These flags stand for the
+/// state masks of the standard (DDS 1.4, 2.2.2.5.1.1 to 2.2.2.5.1.4).
 #[derive(Clone, Copy, Debug, Default, PartialEq, Eq)]
 pub struct Condition {
-    /// No call answered the entry yet.
+    /// No call returned the entry yet.
     pub not_read: bool,
-    /// The view of its instance is new.
+    /// The view state of its instance is [`ViewState::New`](crate::ViewState::New).
     pub new: bool,
-    /// Its instance is alive.
+    /// The state of its instance is [`InstanceState::Alive`](crate::InstanceState::Alive).
     pub alive: bool,
 }

@@ -1,9 +1,9 @@
-//! What is in a cache, and what a call answers of it.
+//! The entries of a cache, and the samples that a call returns.
 
 use crate::state::{InstanceState, SampleState, ViewState};
 use rtps_types::{Guid, KeyHash, Number, Place, Timestamp};
 
-/// What an entry is.
+/// What an entry holds: a value, or the disposal of its instance.
 #[derive(Debug, Drop)]
 pub enum Content<V> {
     Value(V),
@@ -11,10 +11,10 @@ pub enum Content<V> {
     Disposed,
 }
 
-/// What is in a cache: a value, or the end of an instance.
+/// An entry of a cache: a value, or the disposal of an instance.
 #[derive(Debug, Drop)]
 pub(crate) struct Entry<V> {
-    /// The event that made it.
+    /// The place in the run of the event that made it.
     pub place: Place,
     pub writer: Guid,
     pub number: Number,
@@ -22,14 +22,14 @@ pub(crate) struct Entry<V> {
     /// The instance.
     pub key: KeyHash,
     pub body: Content<V>,
-    /// A call answered it.
+    /// Whether a call has returned it.
     pub is_read: bool,
 }
 
-/// An entry as a call answers it, with its states before the call (DDS 1.4, 2.2.2.5.1).
+/// An entry as a call returns it, with its states before the call (DDS 1.4, 2.2.2.5.1).
 #[derive(Debug, Drop)]
 pub struct Sample<T> {
-    /// The event that made the entry.
+    /// The place in the run of the event that made the entry.
     pub place: Place,
     pub writer: Guid,
     pub number: Number,

@@ -1,9 +1,9 @@
-//! How much is kept of an instance.
+//! The HISTORY policy: the number of entries that are kept for each instance.
 
-/// How many entries are kept of each instance (DDS 1.4, 2.2.3.18, HISTORY).
+/// The entries that are kept for each instance (DDS 1.4, 2.2.3.18, HISTORY).
 #[derive(Clone, Copy, Debug, PartialEq, Eq)]
 pub enum History {
-    /// The last ones, 1 to 65,536.
+    /// The newest ones, up to this number, 1 to 65,536.
     KeepLast(u32),
     /// All, until they are taken.
     KeepAll,

@@ -1,4 +1,4 @@
-//! What a cache keeps besides its entries.
+//! What a cache keeps besides its entries: its instances and their live writers.
 
 ghost use Rattle.std.specs.Prelude.{◌≡◌, []};
 
@@ -13,12 +13,12 @@ use std::collections::{BTreeMap, BTreeSet};
 pub(crate) struct Index<A: Allocator> {
     pub keep: History,
     pub instances: Instances<A>,
-    /// Which writers are live in which instances.
+    /// The pairs of a writer and an instance that it is live in.
     pub live: BTreeSet<(Guid, KeyHash), A>,
 }
 
 impl<A: Allocator + Copy> Index<A> {
-    /// That of an empty cache. No memory is taken.
+    /// Returns the index of an empty cache. No memory is taken.
     pub fn new(alloc: A, keep: History) -> Index<A>
         ensures keep { result.keep ≡ keep }
         ensures instances { result.instances.entries ≡ [] }

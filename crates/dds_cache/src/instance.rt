@@ -1,4 +1,4 @@
-//! What is known of the instances of a cache (DDS 1.4, 2.2.2.5.1.3).
+//! The instances of a cache, and the facts that their states follow from (DDS 1.4, 2.2.2.5.1.3).
 
 ghost use Rattle.std.specs.Prelude.{◌≡◌, ◌<◌, IfOk, OnErr, OnOk, nat_lt, true};
 ghost use Rattle.std.specs.BTreeSet.{insert_key};
@@ -14,26 +14,26 @@ use rtps_types::KeyHash;
 use std::alloc::{AllocError, Allocator};
 use std::collections::{BTreeMap, BTreeSet};
 
-/// What is known of an instance.
+/// The facts that are kept of an instance.
 #[derive(Drop)]
 pub(crate) struct Instance<A: Allocator> {
     pub is_disposed: bool,
     pub is_new: bool,
-    /// How many writers are live in it.
+    /// The number of writers that are live in it.
     pub live: usize,
-    /// The numbers of its entries, where only the last ones are kept.
+    /// The numbers of its entries with [`History::KeepLast`], else empty.
     pub numbers: BTreeSet<u64, A>,
 }
 
-/// An entry that comes.
+/// An entry that arrives.
 #[derive(Clone, Copy)]
 pub(crate) struct Arrival {
     pub number: u64,
-    /// It is a value, and not the end of its instance.
+    /// Whether it is a value; otherwise it is a disposal.
     pub is_value: bool,
-    /// Its writer wasn't live in the instance before.
+    /// Whether its writer becomes live in the instance by it.
     pub joined: bool,
-    /// How many writers are live in all instances.
+    /// The number of pairs of a live writer and an instance, over all instances.
     pub all: usize,
 }
 
@@ -41,7 +41,7 @@ pub(crate) struct Arrival {
 pub(crate) type Instances<A> = BTreeMap<KeyHash, Instance<A>, A>;
 
 impl<A: Allocator> Instance<A> {
-    /// An instance of which nothing came yet.
+    /// Returns an instance without entries and without live writers.
     pub fn new(alloc: A) -> Instance<A>
         ensures { known result ≡ fresh }
     {
@@ -53,15 +53,15 @@ impl<A: Allocator> Instance<A> {
         }
     }
 
-    /// Whether a writer is live in it, and it isn't disposed.
+    /// Whether it is alive: a writer is live in it, and it isn't disposed.
     pub fn is_alive(&self) -> bool
         ensures { result ≡ alive_by self.now.is_disposed (nat_lt 0 self.now.live) }
     {
         !self.is_disposed && self.live > 0
     }
 
-    /// A value of it came; `joined` says that its writer wasn't live in it before, and `all` how
-    /// many writers are live in all instances.
+    /// Notes a value of it. `joined` says that its writer wasn't live in it before; `all` is the
+    /// number of pairs of a live writer and an instance.
     fn value(&mut self, joined: bool, all: usize)
         ensures { (joined ≡ true → self.old.live < all)
             → known self.new ≡ valued joined (known self.old) }
@@ -77,7 +77,8 @@ impl<A: Allocator> Instance<A> {
 }
 
 impl<A: Allocator + Copy> Instance<A> {
-    /// Adds the number of an entry, and gives up the oldest one where there are more than `most`.
+    /// Adds the number of an entry. If there are more than `most` then, removes the oldest number
+    /// and returns it.
     fn add_number(&mut self, number: u64, most: u32) -> Result<Option<u64>, AllocError>
         ensures kept { OnOk result (known self.new ≡ with_numbers (kept_numbers most
             (insert_key nat_cmp self.old.numbers.keys number)) (known self.old)) }
@@ -95,7 +96,7 @@ impl<A: Allocator + Copy> Instance<A> {
         Ok(self.numbers.pop_first())
     }
 
-    /// An entry of it came. Answers the number of the entry that has to leave, if one has.
+    /// Notes an entry of it. Returns the number of the entry that has to be dropped, if any.
     fn enter(&mut self, keep: History, arrival: Arrival) -> Result<Option<u64>, AllocError>
         ensures entered { (arrival.joined ≡ true → self.old.live < arrival.all)
             → OnOk result (known self.new ≡ entered_by keep arrival (known self.old)) }
@@ -116,8 +117,8 @@ impl<A: Allocator + Copy> Instance<A> {
     }
 }
 
-/// An entry of an instance came, which is made where it isn't known. Answers the number of the
-/// entry that has to leave, if one has. After a refused growth nothing is changed.
+/// Notes an entry of an instance, which is created if it isn't known. Returns the number of the
+/// entry that has to be dropped, if any. If memory is refused, nothing is changed.
 pub(crate) fn enter<A: Allocator + Copy>(
     alloc: A,
     instances: &mut Instances<A>,
@@ -145,7 +146,7 @@ pub(crate) fn enter<A: Allocator + Copy>(
     }
 }
 
-/// A writer isn't live in an instance any more.
+/// Notes that one writer fewer is live in an instance.
 pub(crate) fn note_leave<A: Allocator>(instances: &mut Instances<A>, key: KeyHash)
     ensures { ChangesAt key (option_map left) (known_at instances.old.entries)
         (known_at instances.new.entries) }
@@ -155,7 +156,7 @@ pub(crate) fn note_leave<A: Allocator>(instances: &mut Instances<A>, key: KeyHas
     }
 }
 
-/// An entry of an instance was read.
+/// Notes that an entry of an instance was read.
 pub(crate) fn note_read<A: Allocator>(instances: &mut Instances<A>, key: KeyHash)
     ensures { ChangesAt key (option_map seen) (known_at instances.old.entries)
         (known_at instances.new.entries) }
@@ -165,7 +166,7 @@ pub(crate) fn note_read<A: Allocator>(instances: &mut Instances<A>, key: KeyHash
     }
 }
 
-/// An entry of an instance was taken.
+/// Notes that an entry of an instance was taken.
 pub(crate) fn note_taken<A: Allocator>(instances: &mut Instances<A>, key: KeyHash, number: u64)
     ensures { ChangesAt key (option_map (spent number)) (known_at instances.old.entries)
         (known_at instances.new.entries) }

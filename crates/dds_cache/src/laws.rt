@@ -1,4 +1,4 @@
-//! Laws of the definitions. Each is a function that does nothing, whose contract is the law.
+//! Laws of the definitions. Each is an empty function whose contract is the law.
 
 ghost use Rattle.std.specs.Prelude.{◌≡◌, ◌≤◌, ◌∷◌, ◌++◌, ℕ, List, filter, length};
 ghost use Rattle.rtps_types.specs.declared.identity.KeyHash.{KeyHash};
@@ -13,10 +13,10 @@ ghost use Rattle.dds_cache.specs.Chart.{has_other, state_after};
 ghost use Rattle.dds_cache.specs.Instances.{is_end, state_of, told_about};
 ghost use Rattle.dds_cache.specs.Parted.{AreParts, IsLeftOrTaken};
 
-/// Whatever was done before, a notice changes the state of each instance as the state chart says
-/// (DDS 1.4, 2.2.2.5.1.3): a value makes it alive, a disposal disposed; it has no writers once the
-/// last one goes that is live in it, by an unregistration or by the end of its match, where it is
-/// alive; and nothing else changes it, a call neither.
+/// After any history, a notice changes the state of each instance as the state chart of the
+/// standard says (DDS 1.4, 2.2.2.5.1.3). A value makes the instance alive. A disposal makes it
+/// disposed. An alive instance has no writers once its last live writer goes, by an unregistration
+/// or by the end of its match. Nothing else changes the state, not even a read or a take.
 #[tactic(auto, using(crate::proofs::Charting::states_follow))]
 pub fn states_step<V>()
     ensures accepted { (past : List (Done V)) (n : Notice V) (k : KeyHash)
@@ -28,11 +28,11 @@ pub fn states_step<V>()
         → state_of (WasTaken max flags ∷ past) k ≡ state_of past k }
 {}
 
-/// Where all entries are kept, what was accepted is what is left, in order, and what takes
-/// answered: each value and each disposal once. Where the last `n` are kept of an instance, none
-/// has more than `n`. What leaves there as a notice is accepted, and what stays, are what
-/// was there before with the entry of the notice, and each that so left an instance was accepted
-/// before all that are there.
+/// If all entries are kept, each accepted value and disposal is either still in the cache or was
+/// taken, exactly once, and those still there are in order of acceptance. If the last `n` of an
+/// instance are kept, no instance has more than `n`. As a notice is accepted, the entries dropped
+/// and those that stay are together the entries before and the notice's own, and each entry dropped
+/// from an instance was accepted before all that the instance still has.
 pub fn kept_or_taken<V>()
     ensures all { (past : List (Done V)) → IsLeftOrTaken past }
     ensures most { (n : ℕ) (past : List (Done V)) (k : KeyHash)

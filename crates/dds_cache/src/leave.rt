@@ -1,4 +1,4 @@
-//! Writers that are not live any more.
+//! Removing writers that are no longer live.
 
 ghost use Rattle.std.specs.Prelude.{◌≡◌, ◌<◌, length, IfNone, IfSome, true, false};
 ghost use Rattle.std.specs.List.{list_any};
@@ -12,7 +12,7 @@ use rtps_types::{Guid, KeyHash};
 use std::alloc::Allocator;
 use std::collections::BTreeSet;
 
-/// A writer is not live in an instance any more.
+/// Notes that a writer is no longer live in an instance.
 pub(crate) fn leave<A: Allocator>(index: &mut Index<A>, writer: Guid, key: KeyHash)
     ensures leaves { Departs (is_pair (writer, key)) index.old index.new }
     ensures fewer { list_any (is_pair (writer, key)) index.old.live.keys ≡ true
@@ -23,7 +23,7 @@ pub(crate) fn leave<A: Allocator>(index: &mut Index<A>, writer: Guid, key: KeyHa
     }
 }
 
-/// The first instance in which a writer is live.
+/// Returns the first instance in which a writer is live, in order of keys, or `None`.
 fn first_live<A: Allocator>(live: &BTreeSet<(Guid, KeyHash), A>, writer: Guid) -> Option<KeyHash>
     ensures first { IfSome result (λ k. list_any (is_pair (writer, k)) live.now.keys ≡ true) }
     ensures none { AreSized live.now.keys → IfNone result
@@ -36,7 +36,7 @@ fn first_live<A: Allocator>(live: &BTreeSet<(Guid, KeyHash), A>, writer: Guid) -
     Some(pair.1)
 }
 
-/// A writer is not live in any instance any more.
+/// Notes that a writer is no longer live in any instance.
 pub(crate) fn leave_all<A: Allocator>(index: &mut Index<A>, writer: Guid)
     ensures leaves { AreSized index.old.live.keys
         → Departs (is_by writer) index.old index.new }

@@ -1,4 +1,4 @@
-//! Notices are pulled out of a ring.
+//! Moving notices from a ring into a cache.
 
 ghost use Rattle.std.specs.Prelude.{◌≡◌, ◌⊎◌, [], IfOk, List, OnErr, length};
 ghost use Rattle.rtps_reader.specs.declared.notice.Notice.{Notice};
@@ -9,8 +9,8 @@ use dds_outlet::Inlet;
 use std::alloc::{AllocError, Allocator};
 
 impl<V: Drop, A: Allocator + Copy> DataReader<V, A> {
-    /// Accepts the next notice of a ring, and answers whether there was one. After a refused growth
-    /// it was put back.
+    /// Accepts the next notice of a ring, and returns whether there was one. If memory is refused,
+    /// the notice is put back.
     #[tactic(auto, unfolding(crate::specs::Pulling::PullsOne))]
     fn pull_one<B: Allocator>(
         &mut self,
@@ -35,10 +35,10 @@ impl<V: Drop, A: Allocator + Copy> DataReader<V, A> {
         }
     }
 
-    /// Accepts what comes out of a ring, each notice once and in order, and answers how many it
-    /// accepted. It ends where the ring gives none, or after one notice for each place of the ring.
-    /// After a refused growth the notice that found no memory is back in the ring: it is the first
-    /// of the next pull or pop.
+    /// Accepts the notices of a ring, each once and in order, and returns the number accepted. It
+    /// stops when the ring is empty, or after one notice for each place of the ring, so that a fast
+    /// sender can't hold the caller. If memory is refused for a notice, it is put back into the
+    /// ring: the next pull or pop finds it first.
     pub fn pull<B: Allocator>(
         &mut self,
         alloc: A,

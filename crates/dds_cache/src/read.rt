@@ -1,4 +1,4 @@
-//! Entries are read, and stay.
+//! Reading entries, which stay in the cache.
 
 ghost use Rattle.std.specs.Prelude.{◌≡◌, ◌∷◌, List, OnErr, OnOk, Some, map};
 ghost use Rattle.std.specs.Option.{option_map};
@@ -17,7 +17,7 @@ use crate::instance::note_read;
 use crate::shelf::Shelf;
 use std::alloc::{AllocError, Allocator};
 
-/// An entry is read, and its instance isn't new any more.
+/// Marks an entry as read, and its instance as not new.
 fn read_one<V, A: Allocator>(index: &mut Index<A>, entries: &mut Shelf<V, A>, chosen: Chosen)
     ensures marked { entries.new.entries ≡ mark_one chosen.number entries.old.entries }
     ensures find { ChangesAt chosen.key (option_map seen) (known_at index.old.instances.entries)
@@ -29,7 +29,7 @@ fn read_one<V, A: Allocator>(index: &mut Index<A>, entries: &mut Shelf<V, A>, ch
     note_read(&mut index.instances, chosen.key);
 }
 
-/// These entries are read.
+/// Marks these entries as read, and their instances as not new.
 fn mark_all<V, A: Allocator>(index: &mut Index<A>, entries: &mut Shelf<V, A>, chosen: &[Chosen])
     ensures marked { entries.new.entries ≡ mark_each chosen.now entries.old.entries }
     ensures find { (k : KeyHash) → known_at index.new.instances.entries k
@@ -42,7 +42,7 @@ fn mark_all<V, A: Allocator>(index: &mut Index<A>, entries: &mut Shelf<V, A>, ch
     }
 }
 
-/// Reads the first `max` entries that meet a condition: they are the answers.
+/// Reads the first `max` entries that meet a condition, and keeps them as the answers.
 pub(crate) fn read_some<V, A: Allocator + Copy>(
     alloc: A,
     index: &mut Index<A>,

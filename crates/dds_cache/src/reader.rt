@@ -22,12 +22,12 @@ use std::alloc::{AllocError, AllocFailed, Allocator, Global};
 use std::marker::Model;
 
 /// A reader's cache (DDS 1.4, 2.2.2.5): the values and the disposals of the notices that it
-/// accepted, until they are taken or, where only the last ones are kept of an instance, until newer
-/// ones of the instance come.
+/// accepted. An entry stays until it is taken or, with [`History::KeepLast`], until newer entries
+/// of its instance displace it.
 #[derive(Drop)]
 pub struct DataReader<V, A: Allocator = Global> {
     index: Index<A>,
-    /// The entries, and what the last read answered of them.
+    /// The entries, and the result of the last read.
     shelf: Answers<V, A>,
 }
 
@@ -44,7 +44,8 @@ impl<V, A: Allocator> Model for DataReader<V, A> {
 impl<V: Drop, A: Allocator + Copy> DataReader<V, A> {
     ghost use Rattle.dds_cache.specs.After.{WasReadFrom, ends_read};
 
-    /// An empty cache that keeps so much of each instance (DDS 1.4, 2.2.3.18). No memory is taken.
+    /// Returns an empty cache that keeps for each instance what `keep` says (DDS 1.4, 2.2.3.18). No
+    /// memory is taken.
     pub fn new(alloc: A, keep: History) -> DataReader<V, A>
         requires { IsHistory keep }
         ensures stands { StandsAt [] result }
@@ -59,24 +60,24 @@ impl<V: Drop, A: Allocator + Copy> DataReader<V, A> {
         }
     }
 
-    /// How many entries there are.
+    /// Returns the number of entries.
     pub fn len(&self) -> usize
         ensures { result ≡ length self.now.entries }
     {
         self.shelf.entries.len()
     }
 
-    /// Whether there is none.
+    /// Whether there are no entries.
     pub fn is_empty(&self) -> bool
         ensures { IsTrue result ↔ (length self.now.entries ≡ 0) }
     {
         self.len() == 0
     }
 
-    /// Accepts a notice. A value and a disposal are put after all other entries; where the last so
-    /// many are kept of an instance, its oldest entry is dropped when there is one more, whether it
-    /// was read or not (DDS 1.4, 2.2.3.18). After a refused growth, which only these two ask for,
-    /// the notice comes back and the cache is as it was.
+    /// Accepts a notice. A value or a disposal is appended as an entry. With
+    /// [`History::KeepLast`], if its instance has too many entries then, the oldest one is dropped,
+    /// whether it was read or not (DDS 1.4, 2.2.3.18). Only values and disposals need memory. If it
+    /// is refused, the notice is returned as the error and the cache is unchanged.
     pub fn accept(&mut self, alloc: A, notice: Notice<V>) -> Result<(), AllocFailed<Notice<V>>>
         ensures stands { (past : List (Done V)) → StandsAt past self.old
             → OnOk result (StandsAt (Accepted notice ∷ past) self.new) }
@@ -93,9 +94,10 @@ impl<V: Drop, A: Allocator + Copy> DataReader<V, A> {
         }
     }
 
-    /// Lends the first `max` entries, in order of acceptance, that meet the condition, each with
-    /// its states before the call. They stay and are read now, and their instances aren't new any
-    /// more (DDS 1.4, 2.2.2.5.3.8, `read`). A refused growth answers and marks nothing.
+    /// Returns the first `max` entries, in order of acceptance, that meet the condition, each with
+    /// its states before the call; the values are borrowed. The entries stay and are marked as
+    /// read, and their instances are not new any more (DDS 1.4, 2.2.2.5.3.8, `read`). If memory is
+    /// refused, nothing is returned or marked.
     pub fn read(
         &mut self,
         alloc: A,
@@ -114,9 +116,9 @@ impl<V: Drop, A: Allocator + Copy> DataReader<V, A> {
         }
     }
 
-    /// Hands over the first `max` entries, in order of acceptance, that meet the condition, each
-    /// with its states before the call. They leave the cache, and their instances aren't new any
-    /// more (DDS 1.4, 2.2.2.5.3.9, `take`). A refused growth takes and marks nothing.
+    /// Removes and returns the first `max` entries, in order of acceptance, that meet the
+    /// condition, each with its states before the call. Their instances are not new any more (DDS
+    /// 1.4, 2.2.2.5.3.9, `take`). If memory is refused, nothing is removed or marked.
     pub fn take(
         &mut self,
         alloc: A,
@@ -140,8 +142,8 @@ impl<V: Drop, A: Allocator + Copy> DataReader<V, A> {
         )
     }
 
-    /// Hands over the first entry that no call answered, which leaves the cache; `None` where
-    /// there is none (DDS 1.4, 2.2.2.5.3.11, `take_next_sample`). No memory is taken.
+    /// Removes and returns the first entry that no call returned yet; `None` where there is none
+    /// (DDS 1.4, 2.2.2.5.3.11, `take_next_sample`). No memory is taken.
     pub fn take_next_sample(&mut self) -> Option<Taken<V>>
         ensures answer { (past : List (Done V)) → StandsAt past self.old
             → option_to_list result ≡ answered self.old.keep past 1 unread }

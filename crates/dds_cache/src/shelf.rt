@@ -20,22 +20,23 @@ use std::alloc::{AllocError, Allocator};
 use std::collections::{BTreeMap, BTreeSet, VecDeque};
 use std::marker::Model;
 
-/// How many of the last entries have places.
+/// The number of places in the row. An entry there is found without a search, and a call that goes
+/// over the entries meets at most this many empty places.
 const PLACES: usize = 64;
 
-/// The entries of a cache. Each has a number: how many were accepted before it.
+/// The entries of a cache. The number of an entry is the count of those accepted before it.
 ///
-/// An entry is put at a place in a row, and most leave from there when a newer one of their
-/// instance comes. Those that stay longer are found in a tree.
+/// A new entry is put at a place of a row. With a short history most entries leave from there, when
+/// a newer one of their instance comes. Entries that stay longer are moved to a tree.
 #[derive(Drop)]
 pub(crate) struct Shelf<V, A: Allocator> {
     /// The number of the first place.
     pub first: u64,
-    /// The entries with lower numbers.
+    /// The entries with lower numbers, which were moved out of the row.
     pub tree: BTreeMap<u64, Entry<V>, A>,
-    /// The numbers of those of them that no call answered.
+    /// The numbers of the unread entries of the tree.
     pub tree_unread: BTreeSet<u64, A>,
-    /// The last entries; `None` where one has left.
+    /// The newest entries; `None` where one has left.
     pub row: VecDeque<Option<Entry<V>>, A>,
 }
 
@@ -59,7 +60,7 @@ impl<V, A: Allocator> Shelf<V, A> {
         self.first + self.row.len() as u64
     }
 
-    /// The entry with a number.
+    /// Returns the entry with a number.
     pub fn get(&self, number: u64) -> Option<&Entry<V>>
         ensures { option_copied result ≡ lookup (is_number number) self.now.entries }
     {
@@ -69,7 +70,7 @@ impl<V, A: Allocator> Shelf<V, A> {
         lent_at(&self.row, (number - self.first) as usize)
     }
 
-    /// Takes out the entry with a number.
+    /// Removes the entry with a number and returns it.
     pub fn remove(&mut self, number: u64) -> Option<Entry<V>>
         ensures entry { result ≡ lookup (is_number number) self.old.entries }
         ensures left { self.new.entries ≡ remove_entry (is_number number) self.old.entries }
@@ -81,7 +82,7 @@ impl<V, A: Allocator> Shelf<V, A> {
         take_at(&mut self.row, (number - self.first) as usize)
     }
 
-    /// The entry with a number leaves.
+    /// Removes the entry with a number and drops it.
     pub fn discard(&mut self, number: u64)
     where
         V: Drop,
@@ -95,7 +96,7 @@ impl<V, A: Allocator> Shelf<V, A> {
         }
     }
 
-    /// The entry with a number is read.
+    /// Marks the entry with a number as read.
     pub fn mark(&mut self, number: u64)
         ensures marked { self.new.entries ≡ mark_one number self.old.entries }
         ensures next { self.new.next ≡ self.old.next }
@@ -108,7 +109,7 @@ impl<V, A: Allocator> Shelf<V, A> {
         }
     }
 
-    /// The number of the first entry that no call answered.
+    /// Returns the number of the first unread entry.
     pub fn first_unread(&self) -> Option<u64>
         ensures { result ≡ slice_get (numbers (filter not_yet self.now.entries)) 0 }
     {
@@ -121,7 +122,7 @@ impl<V, A: Allocator> Shelf<V, A> {
         }
     }
 
-    /// How many entries there are.
+    /// Returns the number of entries.
     pub fn len(&self) -> usize
         ensures { result ≡ length self.now.entries }
     {
@@ -130,7 +131,7 @@ impl<V, A: Allocator> Shelf<V, A> {
 }
 
 impl<V: Drop, A: Allocator + Copy> Shelf<V, A> {
-    /// No entries. No memory is taken.
+    /// Returns an empty shelf. No memory is taken.
     pub fn new(alloc: A) -> Shelf<V, A>
         ensures { (result.next ≡ 0) × (result.entries ≡ []) }
     {
@@ -142,7 +143,7 @@ impl<V: Drop, A: Allocator + Copy> Shelf<V, A> {
         }
     }
 
-    /// Makes room for one more entry. A refused growth changes nothing.
+    /// Makes room for one more entry. If memory is refused, nothing is changed.
     pub fn make_room(&mut self) -> Result<(), AllocError>
         ensures room { OnOk result (HasRoom self.new) }
         ensures entries { self.new.entries ≡ self.old.entries }
@@ -166,7 +167,7 @@ impl<V: Drop, A: Allocator + Copy> Shelf<V, A> {
         self.row.push_back_reserved(Some(entry));
     }
 
-    /// The first place goes, and its entry stays without one.
+    /// Moves the entry of the first place, if it has one, to the tree, and removes the place.
     fn age(&mut self) -> Result<(), AllocError>
         ensures fewer { OnOk result (self.new.places < 64) }
         ensures entries { self.new.entries ≡ self.old.entries }
@@ -188,7 +189,8 @@ impl<V: Drop, A: Allocator + Copy> Shelf<V, A> {
     }
 }
 
-/// Adds a number to those that no call answered, where none did. Answers whether it was added.
+/// Adds the number of an entry to the unread ones, if the entry is unread. Returns whether it was
+/// added.
 fn add_unread<A: Allocator + Copy>(
     not_read: &mut BTreeSet<u64, A>,
     number: u64,
@@ -210,8 +212,7 @@ fn add_unread<A: Allocator + Copy>(
     }
 }
 
-/// Puts an entry among those without a place. After a refused growth it comes back, and nothing is
-/// changed.
+/// Puts an entry into the tree. If memory is refused, the entry is returned and nothing is changed.
 fn settle<V: Drop, A: Allocator + Copy>(
     old: &mut BTreeMap<u64, Entry<V>, A>,
     not_read: &mut BTreeSet<u64, A>,
@@ -241,8 +242,8 @@ fn settle<V: Drop, A: Allocator + Copy>(
     }
 }
 
-/// Puts the entry of a place, if it has one, among those without. After a refused growth it comes
-/// back, and nothing is changed.
+/// Puts the entry of a place, if it has one, into the tree. If memory is refused, the entry is
+/// returned and nothing is changed.
 fn settle_place<V: Drop, A: Allocator + Copy>(
     tree: &mut BTreeMap<u64, Entry<V>, A>,
     unread: &mut BTreeSet<u64, A>,
@@ -264,7 +265,7 @@ fn settle_place<V: Drop, A: Allocator + Copy>(
     }
 }
 
-/// An entry without a place is taken out.
+/// Removes an entry from the tree and returns it.
 fn take_old<V, A: Allocator>(
     tree: &mut BTreeMap<u64, Entry<V>, A>,
     unread: &mut BTreeSet<u64, A>,
@@ -278,7 +279,7 @@ fn take_old<V, A: Allocator>(
     tree.remove(&number)
 }
 
-/// An entry without a place leaves.
+/// Removes an entry from the tree and drops it.
 fn clear_old<V: Drop, A: Allocator>(
     tree: &mut BTreeMap<u64, Entry<V>, A>,
     unread: &mut BTreeSet<u64, A>,
@@ -290,7 +291,7 @@ fn clear_old<V: Drop, A: Allocator>(
     take_old(tree, unread, number);
 }
 
-/// An entry without a place is read.
+/// Marks an entry of the tree as read.
 fn mark<V, A: Allocator>(entries: &mut BTreeMap<u64, Entry<V>, A>, number: u64)
     ensures { entries.new.entries ≡ mark_one number entries.old.entries }
 {
@@ -300,7 +301,7 @@ fn mark<V, A: Allocator>(entries: &mut BTreeMap<u64, Entry<V>, A>, number: u64)
 }
 
 impl<V> Entry<V> {
-    /// It is read, if there is one.
+    /// Marks the entry of a place as read, if there is one.
     fn mark(place: &mut Option<Entry<V>>)
         ensures { place.new ≡ option_map marked place.old }
     {
@@ -310,7 +311,7 @@ impl<V> Entry<V> {
     }
 }
 
-/// The entry at a place is read.
+/// Marks the entry at a place as read.
 fn mark_at<V, A: Allocator>(row: &mut VecDeque<Option<Entry<V>>, A>, at: usize)
     ensures row { row.new.items ≡ marked_at at row.old.items }
     ensures capacity { deque_capacity row.new ≡ deque_capacity row.old }
@@ -320,7 +321,7 @@ fn mark_at<V, A: Allocator>(row: &mut VecDeque<Option<Entry<V>>, A>, at: usize)
     }
 }
 
-/// The entry at a place.
+/// Returns the entry at a place.
 fn lent_at<V, A: Allocator>(row: &VecDeque<Option<Entry<V>>, A>, at: usize) -> Option<&Entry<V>>
     ensures { option_copied result ≡ entry_at at row.now.items }
 {
@@ -331,7 +332,7 @@ fn lent_at<V, A: Allocator>(row: &VecDeque<Option<Entry<V>>, A>, at: usize) -> O
     }
 }
 
-/// The entry at a place is taken out.
+/// Removes the entry at a place and returns it.
 fn take_at<V, A: Allocator>(row: &mut VecDeque<Option<Entry<V>>, A>, at: usize) -> Option<Entry<V>>
     ensures entry { result ≡ entry_at at row.old.items }
     ensures row { row.new.items ≡ emptied_at at row.old.items }
@@ -340,7 +341,7 @@ fn take_at<V, A: Allocator>(row: &mut VecDeque<Option<Entry<V>>, A>, at: usize) 
     if at < row.len() { row[at].take() } else { None }
 }
 
-/// The entry at a place leaves.
+/// Removes the entry at a place and drops it.
 fn clear_at<V: Drop, A: Allocator>(row: &mut VecDeque<Option<Entry<V>>, A>, at: usize)
     ensures row { row.new.items ≡ emptied_at at row.old.items }
     ensures capacity { deque_capacity row.new ≡ deque_capacity row.old }
@@ -350,14 +351,14 @@ fn clear_at<V: Drop, A: Allocator>(row: &mut VecDeque<Option<Entry<V>>, A>, at: 
     }
 }
 
-/// The first of some numbers.
+/// Returns the least of some numbers.
 fn first_number<A: Allocator>(numbers: &BTreeSet<u64, A>) -> Option<u64>
     ensures { result ≡ slice_get numbers.now.keys 0 }
 {
     numbers.first().copied()
 }
 
-/// The first place whose entry no call answered.
+/// Returns the first place whose entry is unread.
 fn first_unread_at<V, A: Allocator>(row: &VecDeque<Option<Entry<V>>, A>) -> Option<usize>
     ensures { result ≡ position is_unread row.now.items }
 {
@@ -367,7 +368,7 @@ fn first_unread_at<V, A: Allocator>(row: &VecDeque<Option<Entry<V>>, A>) -> Opti
     })
 }
 
-/// How many places have an entry.
+/// Returns the number of places that have an entry.
 fn count_placed<V, A: Allocator>(row: &VecDeque<Option<Entry<V>>, A>) -> usize
     ensures { result ≡ count_by is_some row.now.items }
 {

@@ -1,28 +1,28 @@
-//! The states that an answered entry is shown with (DDS 1.4, 2.2.2.5.1).
+//! The states that an entry is returned with (DDS 1.4, 2.2.2.5.1).
 
-/// Whether a call answered the entry before (DDS 1.4, 2.2.2.5.1.2, `sample_state`).
+/// Whether an earlier call returned the entry (DDS 1.4, 2.2.2.5.1.2, `sample_state`).
 #[derive(Clone, Copy, Debug, PartialEq, Eq)]
 pub enum SampleState {
-    /// One did.
+    /// An earlier call returned it.
     Read,
-    /// None did.
+    /// No call returned it yet.
     NotRead,
 }
 
-/// Whether an entry of the instance was answered since it was made or became alive again
+/// Whether a call returned an entry of the instance since it was made or became alive again
 /// (DDS 1.4, 2.2.2.5.1.4, `view_state`).
 #[derive(Clone, Copy, Debug, PartialEq, Eq)]
 pub enum ViewState {
-    /// None was.
+    /// No entry was returned since then.
     New,
-    /// One was.
+    /// An entry was returned since then.
     NotNew,
 }
 
-/// What is known of an instance and its writers (DDS 1.4, 2.2.2.5.1.3, `instance_state`).
+/// The state of an instance and its writers (DDS 1.4, 2.2.2.5.1.3, `instance_state`).
 #[derive(Clone, Copy, Debug, PartialEq, Eq)]
 pub enum InstanceState {
-    /// A writer is live in it, and it was not disposed since its last value.
+    /// A writer is live in it, and it wasn't disposed after its last value.
     Alive,
     /// It was disposed after its last value.
     Disposed,

@@ -1,4 +1,4 @@
-//! Entries leave.
+//! Taking entries out of the cache.
 
 ghost use Rattle.std.specs.Prelude.{◌≡◌, ◌+◌, ◌≤◌, ◌∷◌, ◌++◌, IfOk, List, OnErr, OnOk, length, option_to_list, vec_capacity, vec_len};
 ghost use Rattle.dds_cache.specs.Answered.{answered, unread};
@@ -18,7 +18,7 @@ use crate::shelf::Shelf;
 use std::alloc::{AllocError, Allocator};
 
 impl<V> Entry<V> {
-    /// The entry with the states that it was chosen with.
+    /// Returns this entry with the states in `chosen`.
     pub fn into_sample(self, chosen: Chosen) -> Taken<V>
         ensures { result ≡ shown_as self chosen }
     {
@@ -36,7 +36,7 @@ impl<V> Entry<V> {
     }
 }
 
-/// Takes out an entry.
+/// Removes an entry from the cache and returns it.
 pub(crate) fn forget<V, A: Allocator>(
     index: &mut Index<A>,
     entries: &mut Shelf<V, A>,
@@ -54,8 +54,7 @@ pub(crate) fn forget<V, A: Allocator>(
     entries.remove(chosen.number)
 }
 
-/// Takes out these entries, and puts each with its states after those that were taken. There is
-/// room for them.
+/// Removes these entries, and appends each with its states to `taken`, which has room for them.
 pub(crate) fn hand_over<V: Drop, A: Allocator + Copy>(
     index: &mut Index<A>,
     entries: &mut Shelf<V, A>,
@@ -78,7 +77,7 @@ pub(crate) fn hand_over<V: Drop, A: Allocator + Copy>(
     }
 }
 
-/// Takes the first `max` entries that meet a condition.
+/// Removes and returns the first `max` entries that meet a condition.
 pub(crate) fn take_some<V: Drop, A: Allocator + Copy>(
     alloc: A,
     index: &mut Index<A>,
@@ -103,7 +102,7 @@ pub(crate) fn take_some<V: Drop, A: Allocator + Copy>(
     Ok(taken)
 }
 
-/// Takes the first entry that no call answered. No memory is taken.
+/// Removes and returns the first unread entry. No memory is taken.
 pub(crate) fn take_next<V: Drop, A: Allocator>(
     index: &mut Index<A>,
     entries: &mut Shelf<V, A>,

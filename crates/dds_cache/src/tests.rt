@@ -1,4 +1,4 @@
-//! What is done with a cache, one call after the other.
+//! Tests of the cache: calls in order, each with its expected result.
 
 mod calls;
 mod memory;
@@ -18,7 +18,7 @@ const ALL: Condition = Condition {
     alive: false,
 };
 
-/// What a notice reports.
+/// The kind of a notice.
 #[derive(Clone, Copy)]
 enum What {
     Value(KeyHash),
@@ -31,13 +31,13 @@ enum What {
     Lost,
 }
 
-/// An answered entry: its number, whether it is a value, and its states.
+/// A returned entry: its number, whether it is a value, and its states.
 type Row = (u64, bool, SampleState, ViewState, InstanceState);
 
-/// A call, with what it answers.
+/// A call, with its expected result.
 #[derive(Clone, Copy)]
 enum Call<'a> {
-    /// A notice of the writer and with the number.
+    /// Accepts a notice of this writer and with this number.
     Accept(u8, u64, What),
     Read(usize, Condition, &'a [Row]),
     Take(usize, Condition, &'a [Row]),
@@ -90,7 +90,7 @@ fn notice(octet: u8, number: u64, what: What) -> Result<Notice<u64>, Fail> {
     })
 }
 
-/// Whether an answered entry is this one; `value` is its value, if it is one.
+/// Whether a returned entry is this one; `value` is its value, if it has one.
 fn is_row<T>(entry: &Sample<T>, value: Option<u64>, row: Row) -> bool {
     let (number, is_value, sample, view, instance) = row;
     let expected = if is_value { Some(number) } else { None };
@@ -110,7 +110,7 @@ fn is_taken(entry: &Sample<u64>, row: Row) -> bool {
     is_row(entry, value, row)
 }
 
-/// Whether a read lends these; `Err` where memory ran out.
+/// Whether a read returns these entries; `Err` where memory ran out.
 fn reads<A: Allocator + Copy>(
     alloc: A,
     cache: &mut DataReader<u64, A>,
@@ -135,7 +135,7 @@ fn reads<A: Allocator + Copy>(
     Ok(same && answers.get(rows.len()).is_none())
 }
 
-/// Whether a take hands these over; `Err` where memory ran out.
+/// Whether a take returns these entries; `Err` where memory ran out.
 fn takes<A: Allocator + Copy>(
     alloc: A,
     cache: &mut DataReader<u64, A>,
@@ -151,7 +151,7 @@ fn takes<A: Allocator + Copy>(
     Ok(same)
 }
 
-/// Whether the next entry that no call answered is this one.
+/// Whether the next unread entry is this one.
 fn takes_next<A: Allocator + Copy>(cache: &mut DataReader<u64, A>, row: Option<Row>) -> bool {
     match (cache.take_next_sample(), row) {
         (Some(entry), Some(row)) => is_taken(&entry, row),
@@ -160,7 +160,7 @@ fn takes_next<A: Allocator + Copy>(cache: &mut DataReader<u64, A>, row: Option<R
     }
 }
 
-/// Whether each call answers what is expected of it.
+/// Whether each call has its expected result.
 fn goes<A: Allocator + Copy>(
     alloc: A,
     cache: &mut DataReader<u64, A>,

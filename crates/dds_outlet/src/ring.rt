@@ -2,8 +2,7 @@
 
 ghost use Rattle.std.specs.Prelude.{◌≡◌, ◌∷◌, ◌++◌, ◌+◌, ◌<◌, ◌≤◌, [], false, true, IfErr, IfSome, IsOk, List, MatchOption, OnOk, Some, is_some, option_to_list};
 ghost use mathlib.Core.List.{IsPrefix};
-ghost use Rattle.rtrb.specs.Ring.{SameConsumer, all_sent, consumer_capacity, known_free, known_items, producer_capacity, sent};
-ghost use Rattle.rtrb.specs.Ring.{received as popped};
+ghost use Rattle.rtrb.specs.Ring.{SameConsumer, all_sent, consumer_capacity, known_free, known_items, producer_capacity, sent, received as popped};
 ghost use Rattle.rtps_reader.specs.declared.notice.Notice.{Notice};
 ghost use Rattle.dds_outlet.specs.Ring.{Finished, IsPoppedLast, Receiving, Sending, name_of, received_of};
 

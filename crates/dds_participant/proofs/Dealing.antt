@@ -9,7 +9,7 @@ use Rattle.rtps_types.specs.declared.place.Place.{Place}
 use Rattle.rtps_proxy.specs.Replies.{ReplyView}
 use Rattle.rtps_reader.specs.declared.notice.Notice.{Notice}
 use Rattle.rtps_reader.specs.declared.notice.Output.{Output}
-use Rattle.rtps_reader.specs.Notices as reader
+use Rattle.rtps_reader.specs.Notice as reader
 use Rattle.rtps_run.specs.declared.outcome.Outcome.{Outcome}
 use Rattle.rtps_run.specs.Outcome.{Adds, IsOutcomeOf, answer_view, notices_in}
 use Rattle.rtps_run.specs.Seen.{answers_in, notices_by}
@@ -17,11 +17,11 @@ use Rattle.rtps_run.specs.World.{World}
 use Rattle.rtps_run.proofs.Dealt.{answers_in-append}
 use Rattle.rtps_run.proofs.Places.{all_append, all_weaker}
 use Rattle.rtps_planner.specs.Commuting.{answers_at, merged, same_place}
-use Rattle.rtps_planner.specs.Gather.{StandAmong, sent_in}
+use Rattle.rtps_planner.specs.Outputs.{StandAmong, sent_in}
 use Rattle.rtps_planner.proofs.Gathered.{merged_seen, sorted_merged}
 use Rattle.rtps_planner.proofs.Gathering.{list_at}
-use Rattle.dds_participant.specs.Given.{AreAnswersAlong, IsGiven, parts_given, told_in}
-use Rattle.dds_participant.specs.declared.given.Given.{Given}
+use Rattle.dds_participant.specs.BatchOutput.{AreAnswersAlong, IsGiven, parts_given, told_in}
+use Rattle.dds_participant.specs.declared.batch_output.BatchOutput.{BatchOutput}
 use Rattle.dds_participant.proofs.Giving.{told_at}
 
 -- ---- what is by place is at places that there are
@@ -52,7 +52,7 @@ some_one : {X : Type 0} (xs : List X) (rank : ℕ) → rank < length xs → X
 some_one [] rank below = absurd (omega (arith, below))
 some_one (x ∷ xs) rank below = x
 
-module _ {V M : Type 0} (f : V → M) (before after : World M) (given : Given V) (is : IsGiven f before after given) (outcome : Outcome V Global) (has : IsOutcomeOf given.answers.items given.outputs.items outcome) where
+module _ {V M : Type 0} (f : V → M) (before after : World M) (given : BatchOutput V) (is : IsGiven f before after given) (outcome : Outcome V Global) (has : IsOutcomeOf given.answers.items given.outputs.items outcome) where
   abbrev outputs : List (Output V Global)
   outputs = given.outputs.items
 

@@ -4,11 +4,11 @@ use Rattle.std.proofs.lemmas.Bool.{cases_lt}
 use Rattle.rtps_types.specs.declared.identity.GuidPrefix.{GuidPrefix}
 use Rattle.rtps_types.specs.declared.place.Place.{Place}
 use Rattle.rtps_receiver.specs.Events.{EventView}
-use Rattle.rtps_discovery.specs.Kept.{HeldView}
+use Rattle.rtps_discovery.specs.Kept.{RegistryView}
 use Rattle.dds_topic.specs.Decoding.{Decoding}
 use Rattle.rtps_proxy.specs.Replies.{ReplyView}
 use Rattle.rtps_reader.specs.declared.notice.Output.{Output}
-use Rattle.rtps_reader.specs.Notices as reader
+use Rattle.rtps_reader.specs.Notice as reader
 use Rattle.rtps_reader.specs.Standing.{ReaderView}
 use Rattle.rtps_run.specs.Run.{events_from, world_run}
 use Rattle.rtps_run.specs.Seen.{notices_by, reader_count}
@@ -16,8 +16,8 @@ use Rattle.rtps_run.specs.World.{NoticeOf, World, sent_by}
 use Rattle.rtps_run.proofs.Places.{PlacesRise, rise_from}
 use Rattle.rtps_run.proofs.Running.{count_stays}
 use Rattle.rtps_planner.specs.declared.jobs.Plan.{Plan}
-use Rattle.rtps_planner.specs.Commuting.{Parts, answers_at, merged, merged_below, notices_at, parts_of}
-use Rattle.rtps_planner.specs.Gather.{AreRising, sent_in}
+use Rattle.rtps_planner.specs.Commuting.{PartsByRank, answers_at, merged, merged_below, notices_at, parts_of}
+use Rattle.rtps_planner.specs.Outputs.{AreRising, sent_in}
 use Rattle.rtps_planner.specs.Job.{discovery_answers, job_of, job_sent, job_told}
 use Rattle.rtps_planner.specs.Plan.{IsPlan}
 use Rattle.rtps_planner.proofs.Adding.{rising}
@@ -26,10 +26,10 @@ use Rattle.rtps_planner.proofs.Along.{answers_along, sent_along, told_along}
 use Rattle.rtps_planner.proofs.Judged.{sent_at, sent_past}
 use Rattle.rtps_planner.proofs.Merged.{by_places}
 use Rattle.dds_participant.specs.Batch.{shares_in}
-use Rattle.dds_participant.specs.Given.{AreAnswersAlong, AreNoticesAlong, IsGiven, parts_given, told_in}
-use Rattle.dds_participant.specs.declared.given.Given.{Given}
+use Rattle.dds_participant.specs.BatchOutput.{AreAnswersAlong, AreNoticesAlong, IsGiven, parts_given, told_in}
+use Rattle.dds_participant.specs.declared.batch_output.BatchOutput.{BatchOutput}
 use Rattle.dds_participant.specs.declared.readers.Readers.{Readers}
-use Rattle.dds_participant.specs.Sharing.{AreRun}
+use Rattle.dds_participant.specs.Readers.{AreRun}
 
 -- ---- what is given by a rank
 
@@ -51,7 +51,7 @@ module _ {V : Type 0} where
 
 -- ---- only the ranks below the count are merged
 
-module _ {M : Type 0} (a b : Parts M) where
+module _ {M : Type 0} (a b : PartsByRank M) where
   abbrev AreSameBelow : ℕ → Type 0
   AreSameBelow n = (rank : ℕ) → rank < n → (a.told rank ≡ b.told rank) × (a.sent rank ≡ b.sent rank)
 
@@ -82,7 +82,7 @@ no_answers (p ∷ ps) = no_answers ps
 
 -- ---- what the jobs of a batch give
 
-module _ {V M : Type 0} (f : V → M) (decoding : Decoding M) (w : World M) (es : List EventView) (up : PlacesRise es) (plan : Plan Global) (kept : HeldView) (old : List ReaderView) (p : Readers V) (given : Given V)
+module _ {V M : Type 0} (f : V → M) (decoding : Decoding M) (w : World M) (es : List EventView) (up : PlacesRise es) (plan : Plan Global) (kept : RegistryView) (old : List ReaderView) (p : Readers V) (given : BatchOutput V)
     (planned : IsPlan w.known es plan kept) (ran : AreRun f decoding (shares_in w es) old p) (total : length given.outputs.items ≡ reader_count w)
     (placed : given.places.items ≡ map (λ (e : EventView). e.place) es) (said : given.answers.items ≡ plan.rest.answers.items) (put : given.outputs.items ≡ p.outputs.items) where
   abbrev places : List Place
@@ -137,7 +137,7 @@ module _ {V M : Type 0} (f : V → M) (decoding : Decoding M) (w : World M) (es 
     answers = sent_by_place;
   }
 
-pub run_gives : {V M : Type 0} (f : V → M) (decoding : Decoding M) (w : World M) (es : List EventView) (own : GuidPrefix) (index : ℕ) (datagrams : List (List ℕ)) (plan : Plan Global) (kept : HeldView) (old : List ReaderView) (p : Readers V) (given : Given V)
+pub run_gives : {V M : Type 0} (f : V → M) (decoding : Decoding M) (w : World M) (es : List EventView) (own : GuidPrefix) (index : ℕ) (datagrams : List (List ℕ)) (plan : Plan Global) (kept : RegistryView) (old : List ReaderView) (p : Readers V) (given : BatchOutput V)
     → es ≡ events_from own index datagrams → IsPlan w.known es plan kept → AreRun f decoding (shares_in w es) old p → length given.outputs.items ≡ reader_count w
     → given.places.items ≡ map (λ (e : EventView). e.place) es → given.answers.items ≡ plan.rest.answers.items → given.outputs.items ≡ p.outputs.items
     → IsGiven f w (world_run decoding w (events_from own index datagrams)) given

@@ -4,14 +4,14 @@ use Rattle.std.proofs.lemmas.List.{append-nil, length-map, map-append}
 use Rattle.std.specs.declared.vec.Vec.{Vec}
 use Rattle.rtps_reader.specs.declared.notice.Notice.{Notice}
 use Rattle.rtps_reader.specs.declared.notice.Output.{Output}
-use Rattle.rtps_reader.specs.Notices.{notice_view}
+use Rattle.rtps_reader.specs.Notice.{notice_view}
 use Rattle.rtps_run.specs.declared.outcome.Outcome.{Outcome}
 use Rattle.rtps_run.specs.Outcome.{Adds}
 use Rattle.rtps_run.specs.Seen.{notices_by}
 use Rattle.rtps_run.specs.World.{World}
 use Rattle.dds_outlet.specs.Ring.{Sending}
-use Rattle.dds_participant.specs.Given.{IsGiven, told_in}
-use Rattle.dds_participant.specs.declared.given.Given.{Given}
+use Rattle.dds_participant.specs.BatchOutput.{IsGiven, told_in}
+use Rattle.dds_participant.specs.declared.batch_output.BatchOutput.{BatchOutput}
 use Rattle.dds_participant.specs.HandOff.{IsHandedOff}
 use Rattle.dds_participant.specs.Handing.{AreHandedOn, IsHandedOn, IsOutcomeHandedOn, listed, reported}
 use Rattle.dds_participant.specs.Ports.{Delivers, PortView, new_port, port_with}
@@ -60,7 +60,7 @@ module _ {V M : Type 0} (f : V → M) (rank : ℕ) where
   told_list (o ∷ os) zero = refl
   told_list (o ∷ os) (suc i) = told_list os i
 
-  pub gives : (start before after : World M) (earlier : List (Notice V)) (whole given : Given V) (old new : List (Option (PortView V))) (port : PortView V)
+  pub gives : (start before after : World M) (earlier : List (Notice V)) (whole given : BatchOutput V) (old new : List (Option (PortView V))) (port : PortView V)
       → IsGiven f before after whole → IsHandedOn whole given old new → get_or old rank None ≡ Some port → IsHandedOff f rank start before earlier port
       → (next : PortView V) × (get_or new rank None ≡ Some next) × IsHandedOff f rank start after earlier next
   gives start before after earlier whole given old new port is on there h =

@@ -7,7 +7,7 @@ use Rattle.std.proofs.lemmas.List.Elements.{All-append, All-cons, All-nil}
 use Rattle.rtps_receiver.specs.Events.{EventView}
 use Rattle.dds_topic.specs.Decoding.{Decoding}
 use Rattle.rtps_reader.specs.declared.notice.Output.{Output}
-use Rattle.rtps_reader.specs.Notices.{answer_view, notice_view}
+use Rattle.rtps_reader.specs.Notice.{answer_view, notice_view}
 use Rattle.rtps_reader.specs.Standing.{ReaderView}
 use Rattle.rtps_run.specs.Standing.{StandsFor}
 use Rattle.rtps_planner.specs.declared.jobs.Job as plan_job
@@ -15,7 +15,7 @@ use Rattle.rtps_planner.specs.Job.{Job, job_sent, job_told}
 use Rattle.rtps_planner.specs.Plan.{job_at, job_seen, jobs_by, steps_seen}
 use Rattle.rtps_shards.specs.declared.jobs.Posted.{Posted}
 use Rattle.rtps_shards.specs.Results.{IsOutput, IsReady, Share, given_done, reader_done}
-use Rattle.dds_participant.specs.Sharing.{IsAsked}
+use Rattle.dds_participant.specs.Readers.{IsAsked}
 
 -- ---- the last of a list
 

@@ -9,7 +9,7 @@ use Rattle.rtps_receiver.specs.declared.event.Event.{Event}
 use Rattle.rtps_receiver.specs.Events.{events_of, view}
 use Rattle.rtps_run.specs.Run.{events_from}
 use Rattle.rtps_shards.specs.Piles.{AllOk, given_by}
-use Rattle.dds_participant.specs.Pieces.{IsPiece}
+use Rattle.dds_participant.specs.Decode.{IsPiece}
 use Rattle.dds_participant.proofs.Decoding.{lent}
 
 -- so many datagrams first, and then the others

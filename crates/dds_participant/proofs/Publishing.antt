@@ -11,7 +11,7 @@ use Rattle.rtps_run.specs.Standing.{EngineView, ShowsAt, run_by}
 use Rattle.rtps_run.proofs.Running.{run_count}
 use Rattle.dds_outlet.specs.declared.row.Look.{Look}
 use Rattle.dds_outlet.specs.Rows.{idle, look_at}
-use Rattle.dds_participant.specs.Publishing.{ShowsWorld, row_of}
+use Rattle.dds_participant.specs.Publish.{ShowsWorld, row_of}
 
 found : {X : Type 0} (xs : List X) (from i rank : ℕ) (d : X) → rank ≡ from + i → i < length xs → find (λ (entry : ℕ × X). entry.0 == rank) (enumerate_from from xs) ≡ Some (rank, get_or xs i d)
 found [] from i rank d e below = absurd (omega (arith, below))

@@ -12,7 +12,7 @@ use Rattle.rtps_run.specs.Standing.{StandsFor}
 use Rattle.rtps_shards.specs.declared.jobs.JobResult.{JobResult}
 use Rattle.rtps_shards.specs.Results.{IsDone, IsOutput, Share, given_done, rank_of, reader_done}
 use Rattle.dds_participant.specs.declared.readers.Readers.{Readers}
-use Rattle.dds_participant.specs.Sharing.{AllShare, AreRun, AreRunAt, AreRunBut, IsNoneOf}
+use Rattle.dds_participant.specs.Readers.{AllShare, AreRun, AreRunAt, AreRunBut, IsNoneOf}
 
 -- ---- ranks
 

@@ -1,20 +1,19 @@
 -- Outlets of readers.
-use Rattle.std.proofs.Common.{◌≡◌, ◌<◌, ℕ, zero, suc, List, [], ◌∷◌, ◌++◌, length, take, get_or, Option, None, Some, is_some, true, false, arith, refl, subst, sym, ap, ◌∙◌, rules}
-use Rattle.std.proofs.Common.{map, Global}
+use Rattle.std.proofs.Common.{◌≡◌, ◌<◌, ℕ, zero, suc, List, [], ◌∷◌, ◌++◌, length, take, get_or, Option, None, Some, is_some, true, false, arith, refl, subst, sym, ap, ◌∙◌, rules, map, Global}
 use Rattle.rtps_reader.specs.declared.notice.Notice.{Notice}
 use Rattle.rtps_reader.specs.declared.notice.Output.{Output}
-use Rattle.rtps_reader.specs.Notices as reader
+use Rattle.rtps_reader.specs.Notice as reader
 use Rattle.rtps_run.specs.declared.outcome.Outcome.{Outcome}
 use Rattle.rtps_run.specs.declared.outcome.Answer.{Answer}
 use Rattle.rtps_run.specs.Outcome.{Adds, answer_view, notices_in}
 use Rattle.rtps_run.specs.Seen.{answers_in, notices_by}
 use Rattle.rtps_run.specs.World.{World}
 use Rattle.rtps_planner.specs.Commuting.{merged}
-use Rattle.rtps_planner.specs.Gather.{sent_in}
-use Rattle.dds_participant.specs.Given.{AreAnswersAlong, AreNoticesAlong, IsGiven, told_in}
+use Rattle.rtps_planner.specs.Outputs.{sent_in}
+use Rattle.dds_participant.specs.BatchOutput.{AreAnswersAlong, AreNoticesAlong, IsGiven, told_in}
 use Rattle.dds_participant.specs.Handing.{AreHandedOn}
 use Rattle.dds_participant.specs.Ports.{NoneAttached, PortView, left_of, port_with, ports_view}
-use Rattle.dds_participant.specs.declared.given.Given.{Given}
+use Rattle.dds_participant.specs.declared.batch_output.BatchOutput.{BatchOutput}
 use Rattle.std.specs.declared.vec.Vec.{Vec}
 use Rattle.dds_participant.specs.declared.ports.Port.{Port}
 
@@ -56,7 +55,7 @@ alone_on {V} ports notices readers none = record {
 }
 
 -- the same lists are given
-pub given_same : {V M : Type 0} (f : V → M) (before after : World M) (whole : Given V) (outputs : Vec (Output V Global) Global) → outputs.items ≡ whole.outputs.items → IsGiven f before after whole
+pub given_same : {V M : Type 0} (f : V → M) (before after : World M) (whole : BatchOutput V) (outputs : Vec (Output V Global) Global) → outputs.items ≡ whole.outputs.items → IsGiven f before after whole
     → IsGiven f before after (record { places = whole.places; answers = whole.answers; outputs = outputs })
 given_same {V} f before after whole outputs e h = record {
   readers = ap length e ∙ h.readers;

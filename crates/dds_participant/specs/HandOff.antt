@@ -1,7 +1,7 @@
 -- The hand-off of a reader's notices, from the run to an outlet.
 use Rattle.std.specs.Prelude.{◌≡◌, ℕ, List, ◌++◌, map}
 use Rattle.rtps_reader.specs.declared.notice.Notice.{Notice}
-use Rattle.rtps_reader.specs.Notices.{notice_view}
+use Rattle.rtps_reader.specs.Notice.{notice_view}
 use Rattle.rtps_run.specs.Seen.{notices_by}
 use Rattle.rtps_run.specs.World.{World}
 use Rattle.dds_participant.specs.Ports.{PortView}

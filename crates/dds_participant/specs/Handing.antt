@@ -6,7 +6,7 @@ use Rattle.rtps_reader.specs.declared.notice.Notice.{Notice}
 use Rattle.rtps_reader.specs.declared.notice.Output.{Output}
 use Rattle.rtps_run.specs.declared.outcome.Outcome.{Outcome}
 use Rattle.dds_participant.specs.Ports.{HasRoomFor, PortView, left_of, port_with}
-use Rattle.dds_participant.specs.declared.given.Given.{Given}
+use Rattle.dds_participant.specs.declared.batch_output.BatchOutput.{BatchOutput}
 use Rattle.dds_participant.specs.declared.ports.Port.{Port}
 
 -- by rank, the notices of each reader: in the lists of a batch, and in an outcome
@@ -39,7 +39,7 @@ pub record AreHandedOn {V : Type 0} (old : List (Option (PortView V)))
 
 -- how all that a batch puts out is split: what is returned, and what goes to backlogs; all answers
 -- are returned
-pub record IsHandedOn {V : Type 0} (whole given : Given V) (old new : List (Option (PortView V)))
+pub record IsHandedOn {V : Type 0} (whole given : BatchOutput V) (old new : List (Option (PortView V)))
     : Type 0 where
   pub places : given.places ≡ whole.places
   pub answers : given.answers ≡ whole.answers

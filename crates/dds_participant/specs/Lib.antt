@@ -1,9 +1,9 @@
-pub mod Ports
-pub mod Kept
-pub mod Sharing
 pub mod Batch
-pub mod Given
-pub mod Pieces
-pub mod Handing
+pub mod BatchOutput
+pub mod Decode
 pub mod HandOff
-pub mod Publishing
+pub mod Handing
+pub mod Kept
+pub mod Ports
+pub mod Publish
+pub mod Readers

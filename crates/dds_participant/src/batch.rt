@@ -8,20 +8,20 @@ ghost use Rattle.rtps_run.specs.Run.{events_from, world_run};
 ghost use Rattle.rtps_run.specs.Standing.{ShowsAt, StandsAt, datagram_limit, run_by};
 ghost use Rattle.rtps_run.specs.World.{World};
 ghost use Rattle.dds_participant.specs.Batch.{IsFinishedBy, Keeps, OnlyRuns, failing};
-ghost use Rattle.dds_participant.specs.Given.{IsGiven, LeavesLists};
+ghost use Rattle.dds_participant.specs.BatchOutput.{IsGiven, LeavesLists};
 ghost use Rattle.dds_participant.specs.Handing.{IsHandedOn, IsOutcomeHandedOn};
 ghost use Rattle.dds_participant.specs.Kept.{RefusesBatch, TakesBatch, counted};
 ghost use Rattle.dds_participant.specs.Ports.{NoneAttached};
-ghost use Rattle.dds_participant.specs.declared.given.Given.{Given};
+ghost use Rattle.dds_participant.specs.declared.batch_output.BatchOutput.{BatchOutput};
 
+use crate::batch_output::{BatchOutput, outcome_of};
 use crate::decode::{Arrived, decoded, places_of};
-use crate::given::{Given, outcome_of};
 use crate::participant::Participant;
 use crate::readers::{Assigned, Readers, lists_for, run_assigned};
 use dds_topic::Catalog;
 use rtps_planner::plan;
 use rtps_run::{DATAGRAM_LIMIT, EngineError, Outcome, show_all};
-use rtps_shards::{Batch, Gate};
+use rtps_shards::{Gate, SharedBatch};
 use std::alloc::{AllocError, Global};
 use std::mem;
 use std::thread::Threads;
@@ -104,7 +104,7 @@ impl<C: Catalog> Participant<C> {
             count: workers,
             gate,
         };
-        let given = self.run(rt, alloc, &workers, datagrams, Given::new(alloc))?;
+        let given = self.run(rt, alloc, &workers, datagrams, BatchOutput::new(alloc))?;
         let mut outcome = outcome_of::<C>(alloc, given)?;
         self.hand_lists(&mut outcome.notices)?;
         self.finish(datagrams.len());
@@ -113,7 +113,7 @@ impl<C: Catalog> Participant<C> {
 
     /// Processes the next datagrams as [`Participant::run_batch`] does, and puts the results into
     /// the caller's lists: the places of the batch, discovery's answers, and the notices and
-    /// answers of each reader. Merged by place, as [`Given`] says, they are all that the batch puts
+    /// answers of each reader. Merged by place, as [`BatchOutput`] says, they are all that the batch puts
     /// out, except what went to backlogs: a reader with an outlet has no notice in its list, which
     /// keeps its memory.
     ///
@@ -128,7 +128,7 @@ impl<C: Catalog> Participant<C> {
         alloc: Global,
         workers: &Workers<'_, G>,
         datagrams: &[&[u8]],
-        given: &mut Given<C::Value>,
+        given: &mut BatchOutput<C::Value>,
     ) -> Result<(), EngineError>
         requires few { length datagrams.now ≤ 4096 }
         requires fit { All (λ d. length d.now ≤ 65507) datagrams.now }
@@ -142,7 +142,7 @@ impl<C: Catalog> Participant<C> {
             → OnOk result (StandsAt C.decoding (earlier ++ map (λ d. d.now) datagrams.now)
             self.new.engine) }
         ensures gives { (earlier : List (List ℕ)) → StandsAt C.decoding earlier self.old.engine
-            → OnOk result ((whole : Given C.Value)
+            → OnOk result ((whole : BatchOutput C.Value)
             × IsGiven C.view (run_by C.decoding self.old.engine earlier)
             (run_by C.decoding self.old.engine (earlier ++ map (λ d. d.now) datagrams.now)) whole
             × IsHandedOn whole given.new self.old.ports self.new.ports) }
@@ -158,7 +158,7 @@ impl<C: Catalog> Participant<C> {
         ensures lists { IfErr result (λ e. LeavesLists e given.old given.new) }
     {
         self.admit(datagrams.len())?;
-        let lent = mem::replace(given, Given::new(alloc));
+        let lent = mem::replace(given, BatchOutput::new(alloc));
         let mut whole = self.run(rt, alloc, workers, datagrams, lent)?;
         self.hand(&mut whole.outputs)?;
         *given = whole;
@@ -196,8 +196,8 @@ impl<C: Catalog> Participant<C> {
         alloc: Global,
         workers: &Workers<'_, G>,
         datagrams: &[&[u8]],
-        lists: Given<C::Value>,
-    ) -> Result<Given<C::Value>, AllocError>
+        lists: BatchOutput<C::Value>,
+    ) -> Result<BatchOutput<C::Value>, AllocError>
         requires room { self.old.engine.index + length datagrams.now < 2 ^ 64 }
         requires fit { All (λ d. length d.now ≤ 65507) datagrams.now }
         requires workers { (1 ≤ workers.now.count) × (workers.now.count ≤ 64) }
@@ -231,14 +231,14 @@ impl<C: Catalog> Participant<C> {
             jobs: plan.jobs,
             readers: Readers { states, outputs },
         };
-        let batch = Batch {
+        let batch = SharedBatch {
             catalog: &self.catalog,
             gate: workers.gate,
             events: &events,
         };
         let readers = run_assigned(rt, alloc, &batch, assigned, workers.count)?;
         self.readers = readers.states;
-        Ok(Given {
+        Ok(BatchOutput {
             places,
             answers: plan.rest.answers,
             outputs: readers.outputs,

@@ -5,7 +5,7 @@ ghost use Rattle.std.specs.List.{AllZip, range_with_len};
 ghost use Rattle.std.specs.Int.{div_ceil};
 ghost use Rattle.rtps_receiver.specs.Events.{view};
 ghost use Rattle.rtps_run.specs.Run.{events_from};
-ghost use Rattle.dds_participant.specs.Pieces.{IsPiece};
+ghost use Rattle.dds_participant.specs.Decode.{IsPiece};
 
 use rayon::prelude::*;
 use rtps_receiver::{Event, add_events};

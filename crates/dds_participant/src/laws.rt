@@ -7,8 +7,8 @@ ghost use Rattle.rtps_run.specs.declared.outcome.Outcome.{Outcome};
 ghost use Rattle.rtps_run.specs.Outcome.{Adds};
 ghost use Rattle.rtps_run.specs.World.{World};
 ghost use Rattle.dds_outlet.specs.Ring.{Sending};
-ghost use Rattle.dds_participant.specs.declared.given.Given.{Given};
-ghost use Rattle.dds_participant.specs.Given.{IsGiven};
+ghost use Rattle.dds_participant.specs.declared.batch_output.BatchOutput.{BatchOutput};
+ghost use Rattle.dds_participant.specs.BatchOutput.{IsGiven};
 ghost use Rattle.dds_participant.specs.HandOff.{IsHandedOff};
 ghost use Rattle.dds_participant.specs.Handing.{IsHandedOn, IsOutcomeHandedOn};
 ghost use Rattle.dds_participant.specs.Ports.{Delivers, PortView, new_port};
@@ -23,7 +23,7 @@ pub fn handed_off<V, M>()
     ensures attached { (view : V → M) (rank : ℕ) (w : World M) (outlet : Sending V Global)
         → IsHandedOff view rank w w outlet.sent (new_port outlet) }
     ensures given { (view : V → M) (rank : ℕ) (start before after : World M)
-        (earlier : List (Notice V)) (whole given : Given V) (old new : List (Option (PortView V)))
+        (earlier : List (Notice V)) (whole given : BatchOutput V) (old new : List (Option (PortView V)))
         (port : PortView V)
         → IsGiven view before after whole → IsHandedOn whole given old new
         → slice_index_or old rank None ≡ Some port

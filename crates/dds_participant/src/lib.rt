@@ -4,8 +4,8 @@
 
 mod attach;
 mod batch;
+mod batch_output;
 mod decode;
-mod given;
 mod handing;
 pub mod laws;
 mod participant;
@@ -16,7 +16,7 @@ mod readers;
 mod tests;
 
 pub use batch::{Workers, is_batch};
-pub use given::Given;
+pub use batch_output::BatchOutput;
 pub use participant::Participant;
 pub use ports::AttachFault;
 pub use publish::PublishFault;

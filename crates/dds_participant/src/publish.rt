@@ -3,7 +3,7 @@
 ghost use Rattle.std.specs.Prelude.{◌≡◌, ◌∷◌, ◌++◌, [], IfOk, List, MatchResult, ℕ};
 ghost use Rattle.rtps_run.specs.Standing.{ShowsAt, run_by};
 ghost use Rattle.dds_outlet.specs.Rows.{row_view};
-ghost use Rattle.dds_participant.specs.Publishing.{ShowsWorld, row_of};
+ghost use Rattle.dds_participant.specs.Publish.{ShowsWorld, row_of};
 
 use crate::participant::Participant;
 use dds_outlet::{Row, StatusBoard};

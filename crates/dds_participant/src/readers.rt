@@ -6,13 +6,13 @@ ghost use Rattle.rtps_receiver.specs.Events.{EventView, view};
 ghost use Rattle.rtps_reader.specs.Standing.{StandsAt};
 ghost use Rattle.rtps_planner.specs.declared.jobs.Job as plan_job;
 ghost use Rattle.rtps_shards.specs.Results.{IsDone, IsOutput, IsReady, Share, given_done, rank_in, rank_of, reader_done};
-ghost use Rattle.dds_participant.specs.Sharing.{AllShare, AreJobs, AreRun, AreRunBut, IsAsked};
+ghost use Rattle.dds_participant.specs.Readers.{AllShare, AreJobs, AreRun, AreRunBut, IsAsked};
 
 use dds_topic::Catalog;
 use rtps_discovery::ENTITYID_UNKNOWN;
 use rtps_planner::Job;
 use rtps_reader::{Output, ReaderState};
-use rtps_shards::{Batch, Gate, JobResult, Posted, Worker, run_job, run_jobs};
+use rtps_shards::{Gate, JobResult, Posted, SharedBatch, Worker, run_job, run_jobs};
 use rtps_types::GuidPrefix;
 use std::alloc::{AllocError, Global};
 use std::mem;
@@ -79,7 +79,7 @@ pub(crate) fn lists_for<V: Drop>(
 /// cleared if there is no job.
 fn do_job<C: Catalog, G: Gate>(
     worker: &mut Worker<&C>,
-    batch: &Batch<'_, C, G>,
+    batch: &SharedBatch<'_, C, G>,
     job: Option<Job>,
     state: &mut ReaderState,
     output: &mut Output<C::Value>,
@@ -104,7 +104,7 @@ fn do_job<C: Catalog, G: Gate>(
 /// Runs the jobs with the readers in place, from the last rank down.
 fn run_alone<C: Catalog, G: Gate>(
     alloc: Global,
-    batch: &Batch<'_, C, G>,
+    batch: &SharedBatch<'_, C, G>,
     assigned: Assigned<C::Value>,
 ) -> Result<Readers<C::Value>, AllocError>
     requires few { length assigned.readers.states.items ≤ 256 }
@@ -226,7 +226,7 @@ fn put_back<C: Catalog>(results: Vec<JobResult<C::Value>>, readers: &mut Readers
 fn run_shared<C: Catalog, G: Gate, R: Threads + Sync>(
     rt: &R,
     alloc: Global,
-    batch: &Batch<'_, C, G>,
+    batch: &SharedBatch<'_, C, G>,
     assigned: Assigned<C::Value>,
     workers: usize,
 ) -> Result<Readers<C::Value>, AllocError>
@@ -256,7 +256,7 @@ fn run_shared<C: Catalog, G: Gate, R: Threads + Sync>(
 pub(crate) fn run_assigned<C: Catalog, G: Gate, R: Threads + Sync>(
     rt: &R,
     alloc: Global,
-    batch: &Batch<'_, C, G>,
+    batch: &SharedBatch<'_, C, G>,
     assigned: Assigned<C::Value>,
     workers: usize,
 ) -> Result<Readers<C::Value>, AllocError>

@@ -1,4 +1,4 @@
--- Whether what a writer offers meets what a reader asks for, policy by policy (DDS 1.4, 2.2.3).
+-- Whether the offered policies are compatible with the requested ones (DDS 1.4, 2.2.3).
 use Rattle.std.specs.Prelude.{ℕ, nat_lt, ◌==◌, List, [], ◌∷◌, Option, Some, None, Bool, not, ◌&&◌, ◌||◌, if◌then◌else◌}
 use Rattle.std.specs.List.{list_any}
 use Rattle.std.specs.Str.{bytes_eq}
@@ -23,14 +23,14 @@ use Rattle.dds_qos.specs.declared.policies.Reliability.TheVariants as reliabilit
 use Rattle.dds_qos.specs.declared.policies.DestinationOrder.{DestinationOrder}
 use Rattle.dds_qos.specs.declared.policies.DestinationOrder.TheVariants as order
 
--- the kinds by how much they promise, which is also how they are numbered in messages
+-- the kinds of durability in the order of the standard, as they are numbered in messages
 abbrev pub durability_kind : Durability → ℕ
 durability_kind durability.Volatile = 0
 durability_kind durability.TransientLocal = 1
 durability_kind durability.Transient = 2
 durability_kind durability.Persistent = 3
 
--- the scopes of access by how much they cover, as they are numbered in messages
+-- the access scopes in the order of the standard, as they are numbered in messages
 abbrev pub scope_kind : AccessScope → ℕ
 scope_kind scope.Instance = 0
 scope_kind scope.Topic = 1
@@ -41,47 +41,48 @@ abbrev pub ownership_kind : Ownership → ℕ
 ownership_kind ownership.Shared = 0
 ownership_kind ownership.Exclusive = 1
 
--- the kinds of liveliness by how much they promise, as they are numbered in messages
+-- the kinds of liveliness in the order of the standard, as they are numbered in messages
 abbrev pub liveliness_kind : LivelinessKind → ℕ
 liveliness_kind liveliness.Automatic = 0
 liveliness_kind liveliness.ManualByParticipant = 1
 liveliness_kind liveliness.ManualByTopic = 2
 
--- the kinds of reliability by how much they promise, as they are numbered in messages
+-- the kinds of reliability in the order of the standard, as they are numbered in messages
 abbrev pub reliability_kind : Reliability → ℕ
 reliability_kind reliability.BestEffort = 1
 reliability_kind reliability.Reliable = 2
 
--- the kinds of destination order by how much they promise, as they are numbered in messages
+-- the kinds of destination order in the order of the standard, as they are numbered in messages
 abbrev pub order_kind : DestinationOrder → ℕ
 order_kind order.ByReceptionTimestamp = 0
 order_kind order.BySourceTimestamp = 1
 
--- what is offered promises at least as much
+-- the offered kind is at least the requested one
 abbrev pub at_least : ℕ → ℕ → Bool
 at_least offered requested = not (nat_lt offered requested)
 
--- a length of time that is offered is no longer
+-- the offered duration is at most the requested one
 abbrev pub at_most : Duration → Duration → Bool
 at_most offered requested = not (is_gt (duration_order offered requested))
 
--- what is asked for is offered
+-- a flag is offered if it is requested
 abbrev pub where_asked : Bool → Bool → Bool
 where_asked offered requested = offered || not requested
 
--- the scope is as large, and coherent and ordered access are offered where they are asked for
--- (DDS 1.4, 2.2.3.6)
+-- the offered scope is at least the requested one, and coherent and ordered access are offered if
+-- they are requested (DDS 1.4, 2.2.3.6)
 abbrev pub presentation_met : Presentation → Presentation → Bool
 presentation_met o r =
     at_least (scope_kind o.access_scope) (scope_kind r.access_scope)
     && (where_asked o.coherent_access r.coherent_access && where_asked o.ordered_access r.ordered_access)
 
--- the kind promises as much, and the lease is no longer (DDS 1.4, 2.2.3.11)
+-- the offered kind is at least the requested one, and the offered lease is at most the requested
+-- one (DDS 1.4, 2.2.3.11)
 abbrev pub liveliness_met : Liveliness → Liveliness → Bool
 liveliness_met o r =
     at_least (liveliness_kind o.kind) (liveliness_kind r.kind) && at_most o.lease_duration r.lease_duration
 
--- each policy by rising id, and whether the offered one meets the requested one
+-- each policy by rising id, and whether the offered one is compatible with the requested one
 abbrev pub policies_met : Policies → Policies → List (PolicyId × Bool)
 policies_met o r =
     (policy.Durability, at_least (durability_kind o.durability) (durability_kind r.durability))
@@ -94,20 +95,20 @@ policies_met o r =
     ∷ (policy.DestinationOrder, at_least (order_kind o.destination_order) (order_kind r.destination_order))
     ∷ []
 
--- the first of those that aren't met
+-- the first incompatible policy of a list
 abbrev pub first_unmet : List (PolicyId × Bool) → Option PolicyId
 first_unmet [] = None
 first_unmet ((p, met) ∷ rest) = if met then first_unmet rest else Some p
 
--- the policy of the least id that isn't met
+-- the incompatible policy with the least id
 unfoldable pub first_fault : Policies → Policies → Option PolicyId
 first_fault o r = first_unmet (policies_met o r)
 
--- no name at all is the partition of the empty name (DDS 1.4, 2.2.3.13)
+-- a list without names stands for the partition with the empty name (DDS 1.4, 2.2.3.13)
 abbrev pub names_of : List (List ℕ) → List (List ℕ)
 names_of [] = [] ∷ []
 names_of (n ∷ ns) = n ∷ ns
 
--- a name that is in both, octet for octet
+-- a name is in both lists, octet for octet
 abbrev pub share_partition : List (List ℕ) → List (List ℕ) → Bool
 share_partition o r = list_any (λ a. list_any (bytes_eq a) (names_of r)) (names_of o)

@@ -1,5 +1,4 @@
--- What holds where a reader or a writer gives no policy: the defaults of DDS 1.4, section 2.2.3,
--- and of DDSI-RTPS 9.6.3.
+-- The default policies of readers and writers (DDS 1.4, section 2.2.3; DDSI-RTPS 9.6.3).
 use Rattle.std.specs.Prelude.{pos, false}
 use Rattle.rtps_types.specs.declared.time.Duration.{Duration}
 use Rattle.dds_qos.specs.declared.policies.Durability.TheVariants.{Volatile}
@@ -18,7 +17,8 @@ infinite = record { seconds = pos 0x7fff_ffff; fraction = 0xffff_ffff }
 abbrev pub zero_duration : Duration
 zero_duration = record { seconds = pos 0; fraction = 0 }
 
--- all but the partitions; readers are best-effort and writers reliable where they don't say
+-- the default policies, except the partitions; the reliability is best-effort for readers and
+-- reliable for writers
 abbrev pub default_policies : Reliability → Policies
 default_policies reliability = record {
   durability = Volatile;

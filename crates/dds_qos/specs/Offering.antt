@@ -5,12 +5,12 @@ use Rattle.dds_qos.specs.declared.fault.QosFault.TheVariants.{Malformed, NoMemor
 use Rattle.dds_qos.specs.declared.records.Offered.{Offered}
 use Rattle.dds_qos.specs.Settings.{Settings}
 
--- the policies and the partitions that it says
+-- an offer has the policies and the partitions of a record
 pub record IsOffer {A : Type 0} (s : Settings) (o : Offered A) : Type 0 where
   pub policies : o.policies ≡ s.policies
   pub partitions : o.partitions ≡ s.partitions
 
--- an offer of what is said; malformed is just a record that says nothing
+-- the offer of a record; Malformed exactly where the record has no settings
 abbrev pub Offers : {A : Type 0} → Option Settings → Result (Offered A) QosFault → Type 0
 Offers (Some s) (Ok offered) = IsOffer s offered
 Offers (Some s) (Err Malformed) = ⊥

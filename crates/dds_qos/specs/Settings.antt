@@ -1,4 +1,4 @@
--- What the parameters of a discovery record say (DDSI-RTPS 8.5.3, 8.5.4, 9.6.3; DDS 1.4, 2.2.3).
+-- The contents of a discovery record (DDSI-RTPS 8.5.3, 8.5.4, 9.6.3; DDS 1.4, 2.2.3).
 use Rattle.std.specs.Prelude.{ℕ, ◌==◌, List, [], ◌∷◌, Option, Some, None, option_and_then, is_some, Bool, true, not, ◌||◌, if◌then◌else◌}
 use Rattle.std.specs.List.{flat_map, list_all}
 use Rattle.std.specs.Option.{option_map, option_to_list, unwrap_or}
@@ -13,7 +13,7 @@ use Rattle.dds_qos.specs.Values.{duration_in, durability_in, guid_in, hash_in, l
 use Rattle.dds_qos.specs.declared.policies.Policies.{Policies}
 use Rattle.dds_qos.specs.declared.policies.Reliability.TheVariants.{Reliable}
 
--- a value that has the form of its id; a value of an id that isn't here has any form
+-- a value is well-formed for its id; for an id that isn't listed, every value is
 unfoldable pub is_sound_by : ℕ → Cursor → Bool
 is_sound_by id c =
     if id == 0x0002 then is_some (duration_in c) else
@@ -38,28 +38,28 @@ is_sound_by id c =
     if id == 0x0071 then is_some (status_in c) else
     true
 
--- a parameter whose value has the form of its id
+-- a parameter whose value is well-formed for its id
 abbrev pub is_sound : Endian → Parameter → Bool
 is_sound e p = is_sound_by p.id (start e p.value)
 
--- what the last parameter of an id says, or what holds without one
+-- the value of the last parameter with an id, or a default if there is none
 abbrev pub last : {X : Type 0} → ℕ → (Cursor → Option X) → Endian → List Parameter → X → X
 last id read e [] x = x
 last id read e (p ∷ ps) x = last id read e ps (if p.id == id then unwrap_or (read (start e p.value)) x else x)
 
--- the same, where nothing holds without one
+-- reads a value for a parameter that has no default
 abbrev pub as_some : {X : Type 0} → (Cursor → Option X) → Cursor → Option (Option X)
 as_some read c = option_map (λ x. Some x) (read c)
 
--- the guid that the last parameter of an id names, if there is one; None where a parameter of that
--- id, be it the last or not, names none. Nothing else of the list is judged.
+-- the guid in the last parameter with an id, if there is one; None if any parameter with that id
+-- has no guid. The other parameters are not checked.
 abbrev pub guid_named : ℕ → Contents → Option (Option Guid)
 guid_named id list =
     if list_all (λ p. not (p.id == id) || is_some (guid_in (start list.endian p.value))) list.parameters
     then Some (last id (as_some guid_in) list.endian list.parameters None)
     else None
 
--- the locator of a parameter, if it has that id and its locator is one that is kept
+-- the locator of a parameter, if the parameter has that id and the locator is kept
 abbrev pub locator_at : ℕ → Endian → Parameter → Option Locator
 locator_at id e p = if p.id == id then option_and_then (λ locator. locator) (locator_in (start e p.value)) else None
 
@@ -67,7 +67,7 @@ locator_at id e p = if p.id == id then option_and_then (λ locator. locator) (lo
 abbrev pub locators_of : ℕ → Endian → List Parameter → List Locator
 locators_of id e ps = flat_map (λ p. option_to_list (locator_at id e p)) ps
 
--- what a record says
+-- the settings of a record
 pub record Settings : Type 0 where
   pub lease : Option Duration
   pub topic : Option (List ℕ)
@@ -81,7 +81,7 @@ pub record Settings : Type 0 where
   pub endpoint : Option Guid
   pub builtin_endpoints : Option ℕ
 
--- a record that says nothing but its locators: the policies are those of a writer that gives none
+-- the settings of a record with nothing but locators: its policies are the defaults of a writer
 abbrev pub unsaid : Endian → List Parameter → Settings
 unsaid e ps = record {
   lease = None;
@@ -97,7 +97,7 @@ unsaid e ps = record {
   builtin_endpoints = None;
 }
 
--- what was said so far, but for what the last of further parameters say
+-- the policies and the settings, replaced where these parameters give a value
 abbrev pub policies_after : Endian → List Parameter → Policies → Policies
 policies_after e ps p = record {
   durability = last 0x001d durability_in e ps p.durability;
@@ -125,8 +125,8 @@ settings_after e ps s = record {
   builtin_endpoints = last 0x0058 (as_some number_of) e ps s.builtin_endpoints;
 }
 
--- what the record of a list says; None where one of its parameters is malformed, used or not, and
--- whether or not it comes again
+-- the settings of a parameter list; None if one of its parameters is malformed, even if it isn't
+-- used or is repeated later
 unfoldable pub settings_of : Contents → Option Settings
 settings_of list =
     if list_all (is_sound list.endian) list.parameters

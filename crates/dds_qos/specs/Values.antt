@@ -1,4 +1,4 @@
--- How the value of a parameter is read: as CDR, aligned from its first octet; octets after it are
+-- The values of parameters: each is read as CDR, aligned from its first octet; octets after it are
 -- ignored (DDSI-RTPS 9.4.2.11).
 use Rattle.std.specs.Prelude.{ℕ, ◌==◌, nat_le, ◌&&◌, List, Option, Some, None, option_and_then, if◌then◌else◌, Ok, Err}
 use Rattle.std.specs.Option.{option_map}
@@ -23,21 +23,21 @@ use Rattle.dds_qos.specs.declared.policies.Reliability.TheVariants as reliabilit
 use Rattle.dds_qos.specs.declared.policies.DestinationOrder.{DestinationOrder}
 use Rattle.dds_qos.specs.declared.policies.DestinationOrder.TheVariants as order
 
--- what was read, and then what comes after it; None where it can't be read
+-- reads a value, and then what follows it; None if the value can't be read
 abbrev pub then_read : {X Y : Type 0} → Cursor → Read X → (X → Cursor → Option Y) → Option Y
 then_read c (Ok x) f = f x.0 (placed c x.1)
 then_read c (Err fault) f = None
 
--- what was read, alone
+-- reads a value and nothing after it
 abbrev pub only : {X : Type 0} → Read X → Option X
 only (Ok x) = Some x.0
 only (Err fault) = None
 
--- the kind that a number of 32 bits means, and then what comes after it; None where it means none
+-- reads a kind as a number of 32 bits, and then what follows it; None if no kind has the number
 abbrev pub kind_then : {X Y : Type 0} → Cursor → (ℕ → Option X) → (X → Cursor → Option Y) → Option Y
 kind_then c kinds f = then_read c (number_in 4 c) (λ n after. option_and_then (λ x. f x after) (kinds n))
 
--- the kind that a number of 32 bits means; None where it means none
+-- reads a kind as a number of 32 bits; None if no kind has the number
 abbrev pub kind_in : {X : Type 0} → Cursor → (ℕ → Option X) → Option X
 kind_in c kinds = option_and_then kinds (only (number_in 4 c))
 
@@ -89,15 +89,15 @@ order_of n =
     if n == 1 then Some order.BySourceTimestamp else
     None
 
--- the kind of durability that a value says
+-- the kind of durability in a value
 abbrev pub durability_in : Cursor → Option Durability
 durability_in c = kind_in c durability_of
 
--- the kind of ownership that a value says
+-- the kind of ownership in a value
 abbrev pub ownership_in : Cursor → Option Ownership
 ownership_in c = kind_in c ownership_of
 
--- the kind of destination order that a value says
+-- the kind of destination order in a value
 abbrev pub order_in : Cursor → Option DestinationOrder
 order_in c = kind_in c order_of
 
@@ -129,7 +129,7 @@ unfoldable pub duration_in : Cursor → Option Duration
 duration_in c =
     then_read c (signed_in w32 c) (λ s after. option_map (λ f. record { seconds = s; fraction = f }) (only (number_in 4 after)))
 
--- the kind, and the longest time that a write may block, which is judged and not used
+-- the kind, and the longest time that a write may block, which is checked and not used
 -- (DDS 1.4, 2.2.3.14)
 unfoldable pub reliability_in : Cursor → Option Reliability
 reliability_in c = kind_then c reliability_of (λ k after. option_map (λ blocking. k) (duration_in after))
@@ -139,15 +139,15 @@ unfoldable pub liveliness_in : Cursor → Option Liveliness
 liveliness_in c =
     kind_then c liveliness_of (λ k after. option_map (λ lease. record { kind = k; lease_duration = lease }) (duration_in after))
 
--- the scope, and two truth values (DDS 1.4, 2.2.3.6)
+-- the scope, and two booleans (DDS 1.4, 2.2.3.6)
 unfoldable pub presentation_in : Cursor → Option Presentation
 presentation_in c =
     kind_then c scope_of (λ s after_scope. then_read after_scope (bool_in after_scope) (λ coherent after.
     option_map (λ ordered. record { access_scope = s; coherent_access = coherent; ordered_access = ordered })
     (only (bool_in after))))
 
--- a UDP address over IPv4, kind 1, with a port of 16 bits that isn't 0: its address is the last
--- four of sixteen octets; any other locator is dropped (DDSI-RTPS 9.3.2.4)
+-- a locator of UDP over IPv4, kind 1, with a port of 16 bits that isn't 0; its address is the last
+-- four of sixteen octets. Any other locator is dropped (DDSI-RTPS 9.3.2.4).
 abbrev pub kept_locator : ℕ → ℕ → List ℕ → Option Locator
 kept_locator kind port octets =
     if kind == 1 && (nat_le 1 port && nat_le port 65535)
@@ -169,6 +169,6 @@ guid_of octets =
     (octets_at 4 octets 12))
     (octets_at 12 octets 0)
 
--- the guid that sixteen octets name
+-- the guid that sixteen octets encode
 unfoldable pub guid_in : Cursor → Option Guid
 guid_in c = option_and_then guid_of (only (octets_in 16 c))

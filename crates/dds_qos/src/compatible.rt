@@ -1,4 +1,5 @@
-//! Whether what a writer offers meets what a reader asks for (DDS 1.4, 2.2.3).
+//! Whether the policies that a writer offers are compatible with those that a reader requests (DDS
+//! 1.4, 2.2.3).
 
 ghost use Rattle.std.specs.Prelude.{◌≡◌, ◌==◌, map};
 ghost use Rattle.std.specs.List.{list_any};
@@ -14,15 +15,15 @@ use crate::{
 use rtps_types::{Duration, PolicyId};
 use std::alloc::Allocator;
 
-/// Whether data outlives its writing at least as long.
+/// Whether the offered durability is at least the requested one.
 fn durability_met(offered: Durability, requested: Durability) -> bool
     ensures { result ≡ at_least (durability_kind offered) (durability_kind requested) }
 {
     offered >= requested
 }
 
-/// Whether the scope is as wide, and whether access is coherent and ordered where that is asked
-/// for.
+/// Whether the offered scope is at least the requested one, and coherent and ordered access are
+/// offered if they are requested.
 fn presentation_met(offered: Presentation, requested: Presentation) -> bool
     ensures { result ≡ compatible.presentation_met offered requested }
 {
@@ -31,42 +32,44 @@ fn presentation_met(offered: Presentation, requested: Presentation) -> bool
         && (offered.ordered_access || !requested.ordered_access)
 }
 
-/// Whether a time is no longer: a deadline, or a latency budget.
+/// Whether the offered duration, of a deadline or a latency budget, is at most the requested one.
 fn at_most(offered: Duration, requested: Duration) -> bool
     ensures { result ≡ compatible.at_most offered requested }
 {
     offered <= requested
 }
 
-/// Whether both share the ownership of instances, or both don't.
+/// Whether both ownerships are of the same kind.
 fn ownership_met(offered: Ownership, requested: Ownership) -> bool
     ensures { result ≡ (ownership_kind offered == ownership_kind requested) }
 {
     offered == requested
 }
 
-/// Whether the kind promises as much, and the lease is no longer.
+/// Whether the offered kind is at least the requested one, and the offered lease is at most the
+/// requested one.
 fn liveliness_met(offered: Liveliness, requested: Liveliness) -> bool
     ensures { result ≡ compatible.liveliness_met offered requested }
 {
     offered.kind >= requested.kind && offered.lease_duration <= requested.lease_duration
 }
 
-/// Whether what is lost is sent again where that is asked for.
+/// Whether the offered reliability is at least the requested one.
 fn reliability_met(offered: Reliability, requested: Reliability) -> bool
     ensures { result ≡ at_least (reliability_kind offered) (reliability_kind requested) }
 {
     requested <= offered
 }
 
-/// Whether changes are ordered by their source where that is asked for.
+/// Whether the offered order is at least the requested one: by source if that is requested.
 fn order_met(offered: DestinationOrder, requested: DestinationOrder) -> bool
     ensures { result ≡ at_least (order_kind offered) (order_kind requested) }
 {
     offered >= requested
 }
 
-/// Each policy by rising id, and whether the offered one meets the requested one.
+/// Returns each policy by rising id, with whether the offered one is compatible with the requested
+/// one.
 fn policies_met(offered: &Policies, requested: &Policies) -> [(PolicyId, bool); 8]
     ensures { result ≡ compatible.policies_met offered.now requested.now }
 {
@@ -106,7 +109,7 @@ fn policies_met(offered: &Policies, requested: &Policies) -> [(PolicyId, bool); 
     ]
 }
 
-/// The first policy that isn't met.
+/// Returns the first policy that is incompatible.
 fn first_unmet(policies: &[(PolicyId, bool)]) -> Option<PolicyId>
     ensures { result ≡ compatible.first_unmet policies.now }
 {
@@ -118,8 +121,8 @@ fn first_unmet(policies: &[(PolicyId, bool)]) -> Option<PolicyId>
     None
 }
 
-/// The policy of the least id that what is offered doesn't meet (DDS 1.4, 2.2.3). `None` where all
-/// are met. No memory is taken.
+/// Returns the incompatible policy with the least id, or `None` if the offered policies are
+/// compatible with the requested ones (DDS 1.4, 2.2.3). No memory is taken.
 #[tactic(auto, unfolding(crate::specs::Compatible::first_fault))]
 pub fn first_fault<A: Allocator, B: Allocator>(
     offered: &Offered<A>,
@@ -130,8 +133,8 @@ pub fn first_fault<A: Allocator, B: Allocator>(
     first_unmet(&policies_met(&offered.policies, &requested.policies))
 }
 
-/// Whether a partition is in both, byte for byte; with no name at all, the partition of the empty
-/// name is meant (DDS 1.4, 2.2.3.13). No memory is taken.
+/// Whether both have a partition in common, with names compared byte by byte. A list without names
+/// stands for the partition with the empty name (DDS 1.4, 2.2.3.13). No memory is taken.
 pub fn share_partition<A: Allocator, B: Allocator>(
     offered: &Offered<A>,
     requested: &Requested<B>,

@@ -1,4 +1,4 @@
-//! Why a discovery record isn't taken.
+//! Why a discovery record is refused.
 
 ghost use Rattle.std.specs.Prelude.{◌≡◌};
 ghost use Rattle.dds_qos.specs.declared.fault.QosFault.TheVariants as faults;
@@ -6,14 +6,14 @@ ghost use Rattle.dds_qos.specs.declared.fault.QosFault.TheVariants as faults;
 use std::alloc::AllocError;
 use thiserror::Error;
 
-/// A parameter of a record has a value that is too short, a kind out of its range, a truth value
-/// that is neither 0 nor 1, or a text that can't be read; whether it is used, or comes again later,
-/// is no matter.
+/// A parameter of a record is malformed: its value is too short, a kind is out of its range, a
+/// boolean is neither 0 nor 1, or a text is invalid. It counts even if the parameter isn't used, or
+/// is repeated later.
 #[derive(Clone, Copy, Debug, PartialEq, Eq, Error)]
 #[error("a parameter of the record is malformed")]
 pub struct Malformed;
 
-/// Why a record gives no offer.
+/// Why no offer can be made of a record.
 #[derive(Clone, Copy, Debug, PartialEq, Eq, Error)]
 pub enum QosFault {
     /// A parameter of the record is [`Malformed`].

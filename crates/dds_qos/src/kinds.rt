@@ -1,4 +1,4 @@
-//! The kinds of policies, by the numbers that stand for them in messages (DDSI-RTPS 9.6.3).
+//! The kinds of policies, by the numbers that encode them in messages (DDSI-RTPS 9.6.3).
 
 ghost use Rattle.std.specs.Prelude.{◌≡◌};
 ghost use Rattle.dds_qos.specs.Values as values;

@@ -1,5 +1,5 @@
-//! Quality of service: the policies of readers and writers, what holds where a policy is not given,
-//! what a discovery record says of them, and whether they fit (DDS 1.4, section 2.2.3).
+//! Quality of service (DDS 1.4, section 2.2.3): the policies of readers and writers, their
+//! defaults, their values in discovery records, and their compatibility.
 #![tactic(auto)]
 
 mod compatible;

@@ -12,9 +12,9 @@ use rtps_params::{Param, ParamList, Params};
 use rtps_types::{Endian, Locator};
 use std::marker::Model;
 
-/// The locators of all parameters of one id, in the order in which they were given. Only those are
-/// listed that are of UDP over IPv4 and have a port (DDSI-RTPS 9.3.2.4). They lie where the octets
-/// lie, so no memory is taken.
+/// An iterator over the locators of all parameters with one id, in their order in the record. It
+/// lists only locators of UDP over IPv4 that have a port (DDSI-RTPS 9.3.2.4). It reads them from
+/// the record's octets, so no memory is taken.
 #[derive(Drop)]
 pub struct ListedLocators<'a> {
     params: Params<'a>,
@@ -33,7 +33,7 @@ impl<'a> Model for ListedLocators<'a> {
 }
 
 impl<'a> ListedLocators<'a> {
-    /// The locators of the parameters of this id in a list.
+    /// Returns an iterator over the locators of the parameters with this id in a list.
     pub(crate) fn new(list: &ParamList<'a>, id: u16) -> ListedLocators<'a>
         ensures { result ≡ locators_of id list.now.endian list.now.parameters }
     {
@@ -45,7 +45,8 @@ impl<'a> ListedLocators<'a> {
     }
 }
 
-/// The locator of a parameter, if the parameter has this id and the locator is one that is listed.
+/// Returns the locator of a parameter, if the parameter has this id and the locator is to be
+/// listed.
 fn locator_at(id: u16, endian: Endian, param: Param<'_>) -> Option<Locator>
     ensures { result ≡ settings.locator_at id endian (view param.entry) }
 {

@@ -6,9 +6,8 @@ ghost use Rattle.std.specs.String.{string_bytes};
 use std::alloc::{Allocator, Global};
 use std::marker::Model;
 
-/// The names of partitions, in the order in which they were given; with no name at all, the
-/// partition of the empty name is meant. Contracts see the octets of each name alone, whatever room
-/// its memory has.
+/// The names of partitions, in the order in which they were given. A list without names stands for
+/// the partition with the empty name. Contracts see only the octets of each name, not its capacity.
 #[derive(Debug, Drop)]
 pub struct Partitions<A: Allocator = Global> {
     names: Vec<String<A>, A>,
@@ -24,14 +23,14 @@ impl<A: Allocator> Model for Partitions<A> {
 }
 
 impl<A: Allocator> Partitions<A> {
-    /// Partitions of these names.
+    /// Makes partitions of these names.
     pub fn new(names: Vec<String<A>, A>) -> Partitions<A>
         ensures { result ≡ map string_bytes names.items }
     {
         Partitions { names }
     }
 
-    /// The names, in the order in which they were given.
+    /// Returns the names, in the order in which they were given.
     pub fn names(&self) -> &[String<A>]
         ensures { map string_bytes result.now ≡ self.now }
     {

@@ -1,5 +1,5 @@
-//! The policies that a match of a writer and a reader depends on (DDS 1.4, section 2.2.3). The
-//! number of a variant is the one that stands for it in discovery's messages (DDSI-RTPS 9.6.3).
+//! The policies that decide whether a writer and a reader match (DDS 1.4, section 2.2.3). The
+//! number of a variant is the one that encodes it in discovery messages (DDSI-RTPS 9.6.3).
 
 use rtps_types::Duration;
 
@@ -9,7 +9,7 @@ pub const INFINITE: Duration = Duration {
     fraction: 0xffff_ffff,
 };
 
-/// Whether data outlives its writing (DDS 1.4, 2.2.3.4).
+/// How long data stays available after it was written (DDS 1.4, 2.2.3.4).
 #[derive(Clone, Copy, Debug, PartialEq, Eq, PartialOrd, Ord)]
 pub enum Durability {
     Volatile = 0,
@@ -18,7 +18,7 @@ pub enum Durability {
     Persistent = 3,
 }
 
-/// The largest scope in which changes are presented as a whole (DDS 1.4, 2.2.3.6).
+/// The largest scope in which coherent or ordered access applies (DDS 1.4, 2.2.3.6).
 #[derive(Clone, Copy, Debug, PartialEq, Eq, PartialOrd, Ord)]
 pub enum AccessScope {
     Instance = 0,
@@ -26,13 +26,13 @@ pub enum AccessScope {
     Group = 2,
 }
 
-/// How changes that belong together are presented (DDS 1.4, 2.2.3.6).
+/// How the changes of several instances are presented together (DDS 1.4, 2.2.3.6).
 #[derive(Clone, Copy, Debug, PartialEq)]
 pub struct Presentation {
     pub access_scope: AccessScope,
-    /// Whether changes of one coherent set are seen together.
+    /// Whether the changes of a coherent set become visible together.
     pub coherent_access: bool,
-    /// Whether changes are seen in the order in which they were made.
+    /// Whether changes become visible in the order in which they were made.
     pub ordered_access: bool,
 }
 
@@ -43,7 +43,7 @@ pub enum Ownership {
     Exclusive = 1,
 }
 
-/// Who says that a writer is alive (DDS 1.4, 2.2.3.11).
+/// Who asserts that a writer is alive (DDS 1.4, 2.2.3.11).
 #[derive(Clone, Copy, Debug, PartialEq, Eq, PartialOrd, Ord)]
 pub enum LivelinessKind {
     Automatic = 0,
@@ -51,36 +51,37 @@ pub enum LivelinessKind {
     ManualByTopic = 2,
 }
 
-/// How, and how often, a writer is said to be alive (DDS 1.4, 2.2.3.11).
+/// How, and how often, it is asserted that a writer is alive (DDS 1.4, 2.2.3.11).
 #[derive(Clone, Copy, Debug, PartialEq)]
 pub struct Liveliness {
     pub kind: LivelinessKind,
-    /// The longest time between two signs of life.
+    /// The longest time between two assertions.
     pub lease_duration: Duration,
 }
 
-/// Whether what was lost is sent again (DDS 1.4, 2.2.3.14).
+/// Whether lost changes are sent again (DDS 1.4, 2.2.3.14).
 #[derive(Clone, Copy, Debug, PartialEq, Eq, PartialOrd, Ord)]
 pub enum Reliability {
     BestEffort = 1,
     Reliable = 2,
 }
 
-/// Which of two changes is the later one (DDS 1.4, 2.2.3.17).
+/// The time that decides which of two changes is the later one: of reception, or of the source (DDS
+/// 1.4, 2.2.3.17).
 #[derive(Clone, Copy, Debug, PartialEq, Eq, PartialOrd, Ord)]
 pub enum DestinationOrder {
     ByReceptionTimestamp = 0,
     BySourceTimestamp = 1,
 }
 
-/// The policies of a reader or a writer, but for its partitions.
+/// The policies of a reader or a writer, except its partitions.
 #[derive(Clone, Copy, Debug, PartialEq)]
 pub struct Policies {
     pub durability: Durability,
     pub presentation: Presentation,
     /// The longest time between two changes of an instance (DDS 1.4, 2.2.3.7).
     pub deadline: Duration,
-    /// The delay of a change that is put up with (DDS 1.4, 2.2.3.8).
+    /// The acceptable delay of a change (DDS 1.4, 2.2.3.8).
     pub latency_budget: Duration,
     pub ownership: Ownership,
     pub liveliness: Liveliness,

@@ -1,4 +1,4 @@
-//! What a reader asks for, and what a writer offers.
+//! The policies that a reader requests, and those that a writer offers.
 
 ghost use Rattle.std.specs.Prelude.{◌≡◌, [], IfOk};
 ghost use Rattle.dds_qos.specs.Defaults.{default_policies};
@@ -16,21 +16,22 @@ use rtps_params::ParamList;
 use rtps_types::Duration;
 use std::alloc::{AllocError, Allocator, Global};
 
-/// What a reader asks for (DDS 1.4, 2.2.3).
+/// The policies and partitions that a reader requests (DDS 1.4, 2.2.3).
 #[derive(Debug, Drop)]
 pub struct Requested<A: Allocator = Global> {
     pub policies: Policies,
     pub partitions: Partitions<A>,
 }
 
-/// What a writer offers (DDS 1.4, 2.2.3).
+/// The policies and partitions that a writer offers (DDS 1.4, 2.2.3).
 #[derive(Debug, Drop)]
 pub struct Offered<A: Allocator = Global> {
     pub policies: Policies,
     pub partitions: Partitions<A>,
 }
 
-/// The policies where none is given, but for the reliability, whose default differs.
+/// Returns the default policies with this reliability, whose default differs between readers and
+/// writers.
 pub(crate) fn defaults(reliability: Reliability) -> Policies
     ensures { result ≡ default_policies reliability }
 {
@@ -57,8 +58,7 @@ pub(crate) fn defaults(reliability: Reliability) -> Policies
 }
 
 impl<A: Allocator> Requested<A> {
-    /// What a reader asks for where it gives no policy: best effort, among others (DDS 1.4, 2.2.3).
-    /// No memory is taken.
+    /// Returns the defaults of a reader (DDS 1.4, 2.2.3), which is best-effort. No memory is taken.
     pub fn new(alloc: A) -> Requested<A>
         ensures policies { result.policies ≡ default_policies BestEffort }
         ensures partitions { result.partitions ≡ [] }
@@ -71,8 +71,7 @@ impl<A: Allocator> Requested<A> {
 }
 
 impl<A: Allocator> Offered<A> {
-    /// What a writer offers where it gives no policy: it is reliable, among others
-    /// (DDS 1.4, 2.2.3). No memory is taken.
+    /// Returns the defaults of a writer (DDS 1.4, 2.2.3), which is reliable. No memory is taken.
     pub fn new(alloc: A) -> Offered<A>
         ensures policies { result.policies ≡ default_policies Reliable }
         ensures partitions { result.partitions ≡ [] }
@@ -84,9 +83,9 @@ impl<A: Allocator> Offered<A> {
     }
 }
 
-/// What the record of a writer offers, a copy of its own (DDSI-RTPS 9.6.3). `Malformed` where a
-/// parameter of the record is, whether an offer uses it or not; `NoMemory` where the copy is
-/// refused.
+/// Returns a copy of what the record of a writer offers (DDSI-RTPS 9.6.3). `Malformed` where a
+/// parameter of the record is malformed, whether an offer uses it or not; `NoMemory` where memory
+/// for the copy is refused.
 pub fn offered_from<A: Allocator + Copy>(
     alloc: A,
     list: &ParamList<'_>,
@@ -102,8 +101,8 @@ pub fn offered_from<A: Allocator + Copy>(
     })
 }
 
-/// The partitions that a record names, as a copy; none where it names none. An error is a refused
-/// growth.
+/// Returns a copy of the partitions that a record names; none if it names none. An error is a
+/// refused growth.
 pub fn partitions_in<A: Allocator + Copy>(
     alloc: A,
     names: Option<Strings<'_>>,
@@ -116,7 +115,7 @@ pub fn partitions_in<A: Allocator + Copy>(
     }
 }
 
-/// A copy of the names of partitions.
+/// Returns a copy of the names of partitions.
 fn copied<A: Allocator + Copy>(alloc: A, names: Strings<'_>) -> Result<Partitions<A>, AllocError>
     ensures { IfOk result (λ partitions. partitions ≡ names.entry) }
 {

@@ -1,4 +1,4 @@
-//! What the parameters of a discovery record say together.
+//! Decoding the parameters of a discovery record.
 
 ghost use Rattle.std.specs.Prelude.{◌≡◌, [], ◌∷◌, is_some, IfSome};
 ghost use Rattle.rtps_params.specs.Reading.{view};
@@ -22,24 +22,24 @@ use rtps_params::ids::{
 use rtps_params::{Param, ParamList};
 use rtps_types::{Duration, Endian, Guid};
 
-/// What a discovery record says (DDSI-RTPS 8.5.3, 8.5.4, 9.6.3): of a parameter that comes again
-/// the last, of locators all. Texts and locators stay where the record's octets lie, so that only
-/// what is kept of a record is copied.
+/// The contents of a discovery record (DDSI-RTPS 8.5.3, 8.5.4, 9.6.3). If a parameter is repeated,
+/// its last value counts; locators are all listed. Texts and locators are borrowed from the octets
+/// of the record, so that only what is kept of a record is copied.
 #[derive(Drop)]
 pub struct Settings<'a> {
-    /// How long the participant may keep silent.
+    /// The lease of the participant: how long it may keep silent.
     pub lease: Option<Duration>,
     pub topic: Option<&'a str>,
     pub type_name: Option<&'a str>,
-    /// Where a policy isn't given, as a writer has it that doesn't give it.
+    /// The policies. One that isn't given has the default of a writer.
     pub policies: Policies,
-    /// None is the partition of the empty name.
+    /// The partitions; `None` stands for the partition with the empty name.
     pub partitions: Option<Strings<'a>>,
-    /// Where the endpoint is reached.
+    /// The locators of the endpoint.
     pub unicast: ListedLocators<'a>,
-    /// Where the participant's endpoints are reached that give no locators of their own.
+    /// The default locators of the participant: for endpoints without locators of their own.
     pub default_unicast: ListedLocators<'a>,
-    /// Where the participant's announcers are reached.
+    /// The locators of the participant's announcers.
     pub metatraffic_unicast: ListedLocators<'a>,
     pub participant: Option<Guid>,
     pub endpoint: Option<Guid>,
@@ -47,10 +47,10 @@ pub struct Settings<'a> {
     pub builtin_endpoints: Option<u32>,
 }
 
-/// The guid that the last parameter of an id names, which is `PID_PARTICIPANT_GUID` or
-/// `PID_ENDPOINT_GUID`; `None` where there is no such parameter. It is `Malformed` where one of
-/// them has fewer than sixteen octets; nothing else of the list is judged, since what ends is named
-/// by its guid alone (DDSI-RTPS 8.5.3.3, 8.5.4.4).
+/// Returns the guid in the last parameter with this id, which is `PID_PARTICIPANT_GUID` or
+/// `PID_ENDPOINT_GUID`; `None` if there is no such parameter. `Malformed` if one of them has fewer
+/// than sixteen octets. The other parameters are not checked, since what ends is named by its guid
+/// alone (DDSI-RTPS 8.5.3.3, 8.5.4.4).
 pub fn guid_named(list: &ParamList<'_>, id: u16) -> Result<Option<Guid>, Malformed>
     ensures { named result ≡ settings.guid_named id list.now }
 {
@@ -68,9 +68,9 @@ pub fn guid_named(list: &ParamList<'_>, id: u16) -> Result<Option<Guid>, Malform
 }
 
 impl<'a> Settings<'a> {
-    /// What a record says (DDSI-RTPS 8.5.3, 8.5.4). Every parameter that is known is judged,
-    /// whether it is used or not, and whether or not it comes again; parameters of other ids say
-    /// nothing. No memory is taken.
+    /// Decodes a record (DDSI-RTPS 8.5.3, 8.5.4). Every parameter with a known id is checked, even
+    /// if it isn't used or is repeated later; parameters with other ids are ignored. No memory is
+    /// taken.
     #[tactic(auto, unfolding(crate::specs::Settings::settings_of))]
     pub fn read(list: &ParamList<'a>) -> Result<Settings<'a>, Malformed>
         ensures { said result ≡ settings_of list.now }
@@ -83,7 +83,7 @@ impl<'a> Settings<'a> {
         Ok(settings)
     }
 
-    /// A record that says nothing but its locators.
+    /// Returns the settings of a record that has nothing but these locators.
     fn unsaid(list: &ParamList<'a>) -> Settings<'a>
         ensures { settings_seen result ≡ unsaid list.now.endian list.now.parameters }
     {
@@ -102,7 +102,7 @@ impl<'a> Settings<'a> {
         }
     }
 
-    /// Takes in what one more parameter says; `None` where it is malformed.
+    /// Applies one more parameter; `None` if it is malformed.
     #[tactic(auto, unfolding(crate::specs::Settings::is_sound_by))]
     fn take(&mut self, param: Param<'a>, endian: Endian) -> Option<()>
         ensures sound { is_some result ≡ is_sound endian (view param.entry) }
@@ -128,7 +128,7 @@ impl<'a> Settings<'a> {
             PARTICIPANT_GUID => self.participant = Some(guid_in(value)?),
             BUILTIN_ENDPOINT_SET => self.builtin_endpoints = Some(value.read_u32().ok()?),
             ENDPOINT_GUID => self.endpoint = Some(guid_in(value)?),
-            // What is collected apart, and what a record has no use for, is judged all the same.
+            // Locators, which are listed separately, and parameters without a use are checked too.
             UNICAST_LOCATOR | DEFAULT_UNICAST_LOCATOR | METATRAFFIC_UNICAST_LOCATOR => {
                 let _locator = locator_in(value)?;
             }

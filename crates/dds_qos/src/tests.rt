@@ -1,4 +1,5 @@
-//! The defaults of DDS 1.4, section 2.2.3, names that stay, and numbers of variants.
+//! Tests of the defaults of DDS 1.4, section 2.2.3, of names that are kept, and of the numbers of
+//! variants.
 
 mod compatible;
 mod settings;
@@ -8,7 +9,7 @@ use rtps_types::Duration;
 use std::alloc::Allocator;
 use std::test::Fail;
 
-/// The octets of a text in hex; blanks are for the eye.
+/// Returns the octets of a text in hex; blanks are ignored.
 fn octets_of<A: Allocator + Copy>(alloc: A, text: &str) -> Result<Vec<u8, A>, Fail> {
     let mut octets = Vec::new(alloc);
     for part in text.split_ascii_whitespace() {

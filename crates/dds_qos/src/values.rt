@@ -1,5 +1,5 @@
-//! The values of parameters, each read from its first octet on (DDSI-RTPS 9.3, 9.6.3). `None` is a
-//! value that is too short or has a part that is out of its range; octets after it are ignored.
+//! Decoding the values of parameters (DDSI-RTPS 9.3, 9.6.3). `None` stands for a value that is too
+//! short or has a part out of its range; octets after the value are ignored.
 
 ghost use Rattle.std.specs.Prelude.{◌≡◌};
 ghost use Rattle.dds_qos.specs.Values as values;
@@ -12,7 +12,7 @@ use rtps_types::{Duration, EntityId, Guid, GuidPrefix, Locator, get_octets};
 /// `LOCATOR_KIND_UDPv4` (DDSI-RTPS 9.3.2.4).
 const UDP_V4: u32 = 1;
 
-/// A duration: seconds, and a fraction.
+/// Decodes a duration: seconds, and a fraction.
 #[tactic(auto, unfolding(crate::specs::Values::duration_in))]
 pub(crate) fn duration_in(mut value: CdrReader<'_>) -> Option<Duration>
     ensures { result ≡ values.duration_in value.entry }
@@ -22,7 +22,8 @@ pub(crate) fn duration_in(mut value: CdrReader<'_>) -> Option<Duration>
     Some(Duration { seconds, fraction })
 }
 
-/// A reliability: its kind, and the longest time that a write may block, which no reader uses.
+/// Decodes a reliability: its kind, and the longest time that a write may block, which no reader
+/// uses.
 #[tactic(auto, unfolding(crate::specs::Values::reliability_in))]
 pub(crate) fn reliability_in(mut value: CdrReader<'_>) -> Option<Reliability>
     ensures { result ≡ values.reliability_in value.entry }
@@ -32,7 +33,7 @@ pub(crate) fn reliability_in(mut value: CdrReader<'_>) -> Option<Reliability>
     Some(kind)
 }
 
-/// A liveliness: its kind, and its lease.
+/// Decodes a liveliness: its kind, and its lease.
 #[tactic(auto, unfolding(crate::specs::Values::liveliness_in))]
 pub(crate) fn liveliness_in(mut value: CdrReader<'_>) -> Option<Liveliness>
     ensures { result ≡ values.liveliness_in value.entry }
@@ -45,7 +46,7 @@ pub(crate) fn liveliness_in(mut value: CdrReader<'_>) -> Option<Liveliness>
     })
 }
 
-/// A presentation: its scope, and whether access is coherent and ordered.
+/// Decodes a presentation: its scope, and whether access is coherent and ordered.
 #[tactic(auto, unfolding(crate::specs::Values::presentation_in))]
 pub(crate) fn presentation_in(mut value: CdrReader<'_>) -> Option<Presentation>
     ensures { result ≡ values.presentation_in value.entry }
@@ -60,7 +61,7 @@ pub(crate) fn presentation_in(mut value: CdrReader<'_>) -> Option<Presentation>
     })
 }
 
-/// The locator of these parts, if it is one that is kept.
+/// Returns the locator of these parts, if it is of UDP over IPv4 with a port, else `None`.
 fn kept_locator(kind: u32, port: u32, octets: &[u8]) -> Option<Locator>
     ensures { result ≡ values.kept_locator kind port octets.now }
 {
@@ -72,7 +73,8 @@ fn kept_locator(kind: u32, port: u32, octets: &[u8]) -> Option<Locator>
     Some(Locator { port, address })
 }
 
-/// A locator, and whether it is one that is kept: UDP over IPv4, with a port.
+/// Decodes a locator. The inner `None` stands for a locator that isn't kept: one that is not of UDP
+/// over IPv4, or has no port.
 #[tactic(auto, unfolding(crate::specs::Values::locator_in))]
 pub(crate) fn locator_in(mut value: CdrReader<'_>) -> Option<Option<Locator>>
     ensures { result ≡ values.locator_in value.entry }
@@ -83,7 +85,7 @@ pub(crate) fn locator_in(mut value: CdrReader<'_>) -> Option<Option<Locator>>
     Some(kept_locator(kind, port, octets))
 }
 
-/// The guid that sixteen octets encode.
+/// Returns the guid that sixteen octets encode.
 fn guid_of(octets: &[u8]) -> Option<Guid>
     ensures { result ≡ values.guid_of octets.now }
 {
@@ -92,7 +94,7 @@ fn guid_of(octets: &[u8]) -> Option<Guid>
     Some(Guid { prefix, entity })
 }
 
-/// A guid, in sixteen octets.
+/// Decodes a guid of sixteen octets.
 #[tactic(auto, unfolding(crate::specs::Values::guid_in))]
 pub(crate) fn guid_in(mut value: CdrReader<'_>) -> Option<Guid>
     ensures { result ≡ values.guid_in value.entry }

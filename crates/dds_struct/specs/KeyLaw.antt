@@ -1,4 +1,4 @@
--- A key that was written is read again.
+-- The key payload of a value has the value's key hash.
 use Rattle.std.proofs.Common.{◌≡◌, [], true, Ok, refl, arith, append-nil}
 use Rattle.rtps_types.specs.declared.field.Endian.TheVariants.{Little}
 use Rattle.rtps_cdr.specs.Cdr.{CdrType, ValueOf}
@@ -17,6 +17,6 @@ value_again t v plain fits =
     let again = reads_again t [] [] Little v (settled (value t c) (behind t c) c) (value t c) fits (lawful t plain c (omega arith)) in
     rw append-nil at (again.0)
 
--- what is read of the payload that was written of a key is the hash of that key
+-- the hash of the key payload that is written for a key is the hash of that key
 pub key_again : (t : CdrType) (v : ValueOf t) → is_plain t ≡ true → Fits t v → (decoding_of t t (λ x. x)).hash_of_key 1 (key_body t v) ≡ Ok (key_hash t v)
 key_again t v plain fits = rw (value_again t v plain fits) refl

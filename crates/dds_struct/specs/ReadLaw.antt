@@ -1,4 +1,4 @@
--- What is read of each type is the value that the octets encode.
+-- A value of a type is read exactly if the octets encode it.
 use Rattle.std.proofs.Common.{◌≡◌, ◌<◌, ℕ, zero, suc, Bool, true, false, ◌&&◌, nat_lt, Ok, Err, refl, arith}
 use Rattle.std.specs.Int.{byte_len}
 use Rattle.rtps_cdr.specs.Cdr.{CdrType, Unsigned, Signed, Boolean, Text, Octets, Both, Sequence, ValueOf}
@@ -24,7 +24,7 @@ right_of : (a b : Bool) → (a && b) ≡ true → b ≡ true
 right_of true b same = same
 right_of false b same = absurd (cc same)
 
--- the value that is read of a type is what the octets encode, and what they encode is read
+-- a value of a type is read exactly if the octets encode it
 pub lawful : (t : CdrType) → is_plain t ≡ true → (c : Cursor) → Within c → Is t c (behind t c) (value t c)
 lawful (Unsigned size) plain c within = one_read (Unsigned size) c (number_in size c) (unsigned_law size c (positive size plain))
 lawful (Signed w) plain c within = one_read (Signed w) c (signed_in w c) (signed_law w c (positive (byte_len w) plain))

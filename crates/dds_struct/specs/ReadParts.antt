@@ -1,4 +1,4 @@
--- Values that are read one after the other are those of a struct, or the items of a sequence.
+-- Values that are read one after another are those of a struct, or the items of a sequence.
 use Rattle.std.proofs.Common.{◌≡◌, ◌≤◌, ℕ, zero, suc, List, [], ◌∷◌, length, Result, Ok, Err, refl, ap, ◌∙◌, sym}
 use Rattle.rtps_cdr.specs.declared.fault.CdrFault.{CdrFault}
 use Rattle.rtps_cdr.specs.Cdr.{CdrType, Unsigned, Both, Sequence, ValueOf}
@@ -20,7 +20,7 @@ still_within t c after v taken within =
     let same : after.octets ≡ c.octets = ap (λ (d : Cursor). d.octets) (taken.behind) in
     rw same (taken_within t c after v taken within)
 
--- what a read of a value gives, whatever it is read by
+-- the result of a read is the value that the octets encode, however it is read
 abbrev pub Is : (t : CdrType) → Cursor → Cursor → Result (ValueOf t) CdrFault → Type 0
 Is t c ahead r = Reads t c (settled r ahead c) r
 
@@ -33,14 +33,14 @@ ok_pair x y v r a b whole first second one two =
     let other : y ≡ v.1 = cc (second, two) in
     whole ∙ ap Ok (one_pair x y v same other)
 
--- what was read is there
+-- a value that was read is encoded there
 pub found_in : (t : CdrType) (c ahead : Cursor) (x : ValueOf t) (r : Result (ValueOf t) CdrFault) → r ≡ Ok x → Is t c ahead r → Takes t c ahead x
 found_in t c ahead x (Ok y) same is =
     let one : y ≡ x = cc same in
     rw one at (is.found)
 found_in t c ahead x (Err f) same is = absurd (cc same)
 
--- a struct: its first value, and its second where there is a first
+-- a struct: its first value, and then its second
 pub both : (s t : CdrType) (c middle ahead : Cursor) (a : Result (ValueOf s) CdrFault) (b : Result (ValueOf t) CdrFault) → Is s c middle a → ((x : ValueOf s) → a ≡ Ok x → Is t middle ahead b) →
     Is (Both s t) c ahead (and_then a (λ x. and_then b (λ y. Ok (x, y))))
 both s t c middle ahead (Err f) b first second = record {
@@ -66,7 +66,7 @@ both s t c middle ahead (Ok x) (Ok y) first second = record {
 abbrev Gives : (t : CdrType) → Result (List (ValueOf t)) CdrFault → List (ValueOf t) → Type 0
 Gives t r vs = r ≡ Ok vs
 
--- `count` items, one after the other
+-- `count` items, one after another
 pub record All (t : CdrType) (c ahead : Cursor) (n : ℕ) (r : Result (List (ValueOf t)) CdrFault) : Type 0 where
   pub found : (vs : List (ValueOf t)) → r ≡ Ok vs → (length vs ≡ n) × TakesAll t c ahead vs
   pub only : (vs : List (ValueOf t)) (after : Cursor) → length vs ≡ n → TakesAll t c after vs → (r ≡ Ok vs) × (ahead ≡ after)
@@ -111,7 +111,7 @@ next_all t c middle ahead n (Ok x) (Ok xs) first others = record { found = λ vs
       let more : xs ≡ vs = cc (rest.0) in
       (ap Ok (rw (one, more) refl), rest.1)
 
--- each by the same read
+-- items that are read one after another, each by the same read
 pub all_items : (t : CdrType) (read : Cursor → Result (ValueOf t) CdrFault) (next : Cursor → Cursor) → ((c : Cursor) → Within c → Is t c (next c) (read c)) → (n : ℕ) (c : Cursor) → Within c →
     All t c (behind_items next n c) n (items read next n c)
 unfolding items behind_items
@@ -138,7 +138,7 @@ items_are t c middle ahead n (Err f) first all = record {
       absurd (cc ((all.only ws after many (rw (one.1) (parts.2))).0));
 }
 
--- a sequence: a count, and the items that it counts
+-- a sequence: a count, and that number of items
 pub counted : (t : CdrType) (c middle ahead : Cursor) (a : Result ℕ CdrFault) (r : ℕ → Result (List (ValueOf t)) CdrFault) → Is (Unsigned 4) c middle a → ((n : ℕ) → a ≡ Ok n → All t middle ahead n (r n)) →
     Is (Sequence t) c ahead (and_then a r)
 counted t c middle ahead (Err f) r first others = record {

@@ -1,4 +1,4 @@
-//! What can be part of a key.
+//! Types that can be part of a key.
 
 ghost use Rattle.std.specs.Prelude.{◌≡◌, OnOk};
 ghost use Rattle.rtps_cdr.specs.declared.fault.CdrFault.{CdrFault};
@@ -12,9 +12,9 @@ use dds_topic::CatalogError;
 use rtps_cdr::{CdrReader, CdrWriter};
 use std::alloc::{AllocError, Allocator, Global};
 
-/// A type whose values can be written where a writer is (CORBA CDR 9.3).
+/// A type whose values can be written to a CDR writer (CORBA CDR 9.3).
 pub trait KeyMember: Member {
-    /// Writes the value. Where memory runs out a front of it may be written.
+    /// Writes the value. If memory runs out, a part of it may be written.
     fn write<A: Allocator>(&self, writer: &mut CdrWriter<A>) -> Result<(), AllocError>
         ensures { OnOk result (writer.new
             ≡ appended Self.cdr (Self.view self.now) writer.old) };
@@ -89,7 +89,7 @@ impl<S: KeyMember, T: KeyMember> KeyMember for (S, T) {
 
 /// Reads a value of a type, and writes it.
 ///
-/// `Unread::Malformed` says that no value of the type is there, and then nothing is written.
+/// The error is `Unread::Malformed` if there is no value of the type, and then nothing is written.
 pub fn copy_member<K: KeyMember, A: Allocator>(
     alloc: Global,
     reader: &mut CdrReader<'_>,

@@ -1,4 +1,4 @@
-//! A data type of one's own: a struct of plain members, and its catalog.
+//! User-defined data types: a struct of plain members, and its catalog.
 #![tactic(auto)]
 
 mod key_member;

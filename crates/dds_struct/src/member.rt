@@ -1,4 +1,4 @@
-//! What can be part of a struct: numbers, truth values, texts, and sequences of such.
+//! Types that can be part of a struct: numbers, booleans, strings, and sequences of such.
 
 ghost use Rattle.std.specs.Prelude.{◌≡◌, ◌+◌, ◌*◌, ◌++◌, ◌∷◌, ◌≤◌, [], IfOk, OnOk, map, vec_capacity, vec_len};
 ghost use Rattle.std.specs.Int.{w8, w16, w32, w64};
@@ -11,19 +11,19 @@ use dds_topic::CatalogError;
 use rtps_cdr::CdrReader;
 use std::alloc::{AllocError, Global};
 
-/// A type whose values are read where a reader is (CORBA CDR 9.3).
+/// A type whose values can be read from a CDR reader (CORBA CDR 9.3).
 ///
-/// A struct of one's own is one too: it reads its members one after the other.
+/// A user's struct can be one too, and reads its members in order.
 pub trait Member: Sized + Drop {
-    // How its values are represented.
+    // The CDR type of its values.
     ghost cdr: { CdrType };
 
-    // What a value is.
+    // The meaning of a value.
     ghost view: { Self → ValueOf cdr };
 
     /// Reads a value, and moves the reader after it.
     ///
-    /// `Unread::Malformed` says that no value of the type is there.
+    /// The error is `Unread::Malformed` if there is no value of the type.
     fn read(alloc: Global, reader: &mut CdrReader<'_>) -> Result<Self, CatalogError>
         ensures value { Gives view result (readable (value cdr reader.old)) }
         ensures moves { OnOk result (reader.new ≡ behind cdr reader.old) };
@@ -129,7 +129,7 @@ impl Member for String {
     }
 }
 
-/// Members one after the other: of three and more, `(A, (B, C))` and so on.
+/// Consecutive members; three are `(A, (B, C))`, and so on.
 impl<S: Member, T: Member> Member for (S, T) {
     ghost cdr = { Both S.cdr T.cdr };
 
@@ -153,8 +153,8 @@ impl<T: Member> Member for Vec<T> {
     }
 }
 
-/// Adds a value. A full list doubles its room, from four on, so that memory grows with the values
-/// that came, not with the count that a stranger states.
+/// Appends a value. A full list doubles its capacity, from four on. So memory grows with the values
+/// that are read, and not with the count that the sender states, which isn't trusted.
 fn add<T: Drop>(found: &mut Vec<T>, value: T) -> Result<(), AllocError>
     ensures items { OnOk result (found.new.items ≡ found.old.items ++ value ∷ []) }
     ensures bounded { vec_capacity found.old ≤ 2 * vec_len found.old + 4
@@ -167,7 +167,7 @@ fn add<T: Drop>(found: &mut Vec<T>, value: T) -> Result<(), AllocError>
     Ok(())
 }
 
-/// Reads `count` values. The count is a stranger's: no memory is taken for what hasn't come.
+/// Reads `count` values. The count isn't trusted: memory is taken only for values that are there.
 #[tactic(auto, using(crate::proofs::Items::items_step, crate::proofs::Items::items_done, crate::proofs::Items::behind_step, crate::proofs::Items::behind_done, crate::proofs::Items::items_fault))]
 fn read_items<T: Member>(
     alloc: Global,

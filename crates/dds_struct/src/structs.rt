@@ -24,13 +24,13 @@ pub struct Structs<S: Structure> {
 }
 
 impl<S: Structure> Structs<S> {
-    /// The catalog of this struct.
+    /// Returns the catalog of this struct.
     pub fn new() -> Structs<S> {
         Structs { of: PhantomData }
     }
 }
 
-/// The hash of a key from the octets of its big-endian CDR (DDSI-RTPS 9.6.4.8).
+/// Returns the key hash for the octets of a key in big-endian CDR (DDSI-RTPS 9.6.4.8).
 fn hash_of(octets: &[u8], is_short: bool) -> KeyHash
     ensures { result ≡ hash_of_octets is_short octets.now }
 {

@@ -1,4 +1,4 @@
-//! A struct that is the data type of a topic.
+//! Structs that are the data type of a topic.
 
 ghost use Rattle.std.specs.Prelude.{◌≡◌, ◌++◌, ℕ, List, true, OnOk};
 ghost use Rattle.std.specs.Io.{StartsWith};
@@ -13,15 +13,15 @@ use dds_topic::CatalogError;
 use rtps_cdr::{CdrReader, CdrWriter};
 use std::alloc::{AllocError, Allocator, Global};
 
-/// A struct that is the data type of a topic: its members, those of its key, by which its
-/// instances are distinguished, and its text.
+/// A struct that is the data type of a topic: its members, the members of the key that identifies
+/// its instances, and its text.
 pub trait Structure: Sized + Drop {
-    // How a value is represented, and how its key, as a struct of its own.
+    // The CDR type of a value, and that of its key, as a struct of its own.
     ghost cdr: { CdrType };
 
     ghost key_cdr: { CdrType };
 
-    // What a value is, which part of it is its key, and what is printed of it.
+    // The meaning of a value, the part of it that is its key, and its text.
     ghost view: { Self → ValueOf cdr };
 
     ghost key: { ValueOf cdr → ValueOf key_cdr };
@@ -30,12 +30,12 @@ pub trait Structure: Sized + Drop {
 
     /// Reads a value, member by member.
     ///
-    /// `Unread::Malformed` says that no value of the type is there.
+    /// The error is `Unread::Malformed` if there is no value of the type.
     fn read(alloc: Global, reader: &mut CdrReader<'_>) -> Result<Self, CatalogError>
         ensures { Gives view result (readable (value cdr reader.old)) };
 
-    /// Whether the key's greatest size is at most 16 octets, so that they are its hash
-    /// (DDSI-RTPS 9.6.4.8).
+    /// Whether the maximum size of the key is at most 16 octets, so that the key hash is the key
+    /// itself (DDSI-RTPS 9.6.4.8).
     fn key_is_short() -> bool
         ensures { result ≡ is_short key_cdr };
 
@@ -43,9 +43,9 @@ pub trait Structure: Sized + Drop {
     fn write_key<A: Allocator>(&self, writer: &mut CdrWriter<A>) -> Result<(), AllocError>
         ensures { OnOk result (writer.new ≡ appended key_cdr (key (view self.now)) writer.old) };
 
-    /// Reads a key, and writes it; [`copy_member`](crate::copy_member) does so.
+    /// Reads a key, and writes it, as [`copy_member`](crate::copy_member) does.
     ///
-    /// `Unread::Malformed` says that no key is there.
+    /// The error is `Unread::Malformed` if there is no key.
     fn copy_key<A: Allocator>(
         alloc: Global,
         reader: &mut CdrReader<'_>,
@@ -54,12 +54,12 @@ pub trait Structure: Sized + Drop {
         ensures { Gives (λ _. writer.new) result
             (copied key_cdr (value key_cdr reader.old) writer.old) };
 
-    /// Adds what is printed of the value in a line, in ASCII and without a line end.
+    /// Appends the text of the value for a line of output, in ASCII and without a line end.
     fn push_text<A: Allocator>(&self, out: &mut Vec<u8, A>) -> Result<(), AllocError>
         ensures ok { OnOk result (out.new.items ≡ out.old.items ++ text (view self.now)) }
         ensures keeps { StartsWith out.new.items out.old.items };
 
-    // Each number of the key takes octets.
+    // No number in the key has size 0.
     ghost key_is_plain: { is_plain key_cdr ≡ true };
 
     // A key can be written.

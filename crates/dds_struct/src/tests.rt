@@ -16,8 +16,8 @@ const MALFORMED: CatalogError = CatalogError::Unread(Unread::Malformed);
 
 const ENCAPSULATION: CatalogError = CatalogError::Unread(Unread::Encapsulation);
 
-/// A log by the kinds 1 and 0: open, level 5, shift -2, count 7, at -1, name abc, part 9, marks 1
-/// and 2.
+/// A log with the encapsulation kinds 1 and 0: open, level 5, shift -2, count 7, at -1, name abc,
+/// part 9, marks 1 and 2.
 const LOG: [(u16, &str); 2] = [
     (
         1,
@@ -29,7 +29,7 @@ const LOG: [(u16, &str); 2] = [
     ),
 ];
 
-/// A key hash from its hex digits.
+/// Returns the key hash with these hex digits.
 fn hash(alloc: Global, digits: &str) -> Result<KeyHash, Fail> {
     let octets = hex::decode(alloc, digits)?;
     Ok(KeyHash(
@@ -131,8 +131,7 @@ fn a_short_key_is_its_own_hash(rt: HostRuntime) -> Result<(), Fail> {
     Ok(())
 }
 
-/// Of 2^32 - 1 texts that are stated eight octets hold none: that is malformed, and no want of
-/// memory.
+/// A stated count of 2^32 - 1 strings in eight octets is malformed, and doesn't run out of memory.
 #[test]
 fn a_stated_count_takes_no_memory(rt: HostRuntime) {
     let octets = [0xff, 0xff, 0xff, 0xff, 2, 0, 0, 0];

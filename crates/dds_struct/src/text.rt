@@ -1,4 +1,4 @@
-//! A text that can be part of a key.
+//! Strings that can be part of a key.
 
 ghost use Rattle.std.specs.Prelude.{◌≡◌, ◌<◌, ◌+◌, ◌-◌, ◌^◌, length, nat_le, true};
 ghost use Rattle.std.specs.Str.{is_utf8};
@@ -10,10 +10,10 @@ use dds_topic::CatalogError;
 use rtps_cdr::CdrReader;
 use std::alloc::Global;
 
-/// The length that no text reaches, since its representation counts it and its NUL in 32 bits.
+/// The least length that is too long: the representation counts a string and its NUL in 32 bits.
 const TOO_LONG: usize = 0xffff_ffff;
 
-/// A text, of which it is known that it can be represented again, as a key has to be.
+/// A string that is known to be short enough to be written again, as a key has to be.
 #[derive(Debug, Drop)]
 pub struct Text {
     text: String,
@@ -22,7 +22,7 @@ pub struct Text {
 }
 
 impl Text {
-    /// The text.
+    /// Returns the string.
     pub fn as_str(&self) -> &str
         ensures { result.now ≡ string_bytes self.now.text }
     {
@@ -30,7 +30,7 @@ impl Text {
     }
 }
 
-/// Whether the length of a text, with its NUL, isn't counted in 32 bits.
+/// Whether the length of a string, with its NUL, doesn't fit in 32 bits.
 fn is_too_long(text: &str) -> bool
     ensures { result ≡ nat_le (2 ^ 32 - 1) (length text.now) }
 {

@@ -1,4 +1,4 @@
--- The encapsulations that are decoded (DDSI-RTPS 10.2).
+-- The encapsulation kinds that are decoded (DDSI-RTPS 10.2).
 use Rattle.std.specs.Prelude.{ℕ, ◌==◌, if◌then◌else◌, Result, Ok, Err}
 use Rattle.rtps_types.specs.declared.field.Endian.{Endian}
 use Rattle.rtps_types.specs.declared.field.Endian.TheVariants.{Big, Little}

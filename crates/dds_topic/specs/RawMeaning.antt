@@ -1,19 +1,19 @@
--- A payload as it is.
+-- Payloads that are kept as they are.
 use Rattle.std.specs.Prelude.{ℕ, List, replicate, Ok}
 use Rattle.rtps_types.specs.declared.identity.KeyHash.{KeyHash}
 use Rattle.dds_topic.specs.declared.raw.RawValue.{RawValue}
 use Rattle.dds_topic.specs.Decoding.{Decoding}
 
--- the kind of its encapsulation, and its body
+-- an encapsulation kind and a body
 pub record RawMeaning : Type 0 where
   pub kind : ℕ
   pub body : List ℕ
 
--- what contracts see of a payload as it is
+-- what contracts see of a raw value
 abbrev pub raw_view : {A : Type 0} → RawValue A → RawMeaning
 raw_view v = record { kind = v.kind; body = v.body.items }
 
--- the hash of every value
+-- the key hash of every value
 abbrev pub no_key : KeyHash
 no_key = record { 0 = replicate 16 0 }
 

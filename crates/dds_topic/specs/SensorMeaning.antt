@@ -1,6 +1,6 @@
--- An example of a type with two key fields: struct Sensor { @key unsigned long station;
--- @key unsigned long channel; long value; }. Its key has 8 octets, so they are the hash, with zeros
--- after them (DDSI-RTPS 9.6.4.8).
+-- An example of a type with two key fields: struct Sensor { @key unsigned long station; @key
+-- unsigned long channel; long value; }. Its key has 8 octets, so the key hash is these octets and
+-- zeros after them (DDSI-RTPS 9.6.4.8).
 use Rattle.std.proofs.Common.{◌≡◌, ℕ, ℤ, ◌<◌, ◌^◌, ◌++◌, List, [], replicate, Result, Ok, refl, arith}
 use Rattle.std.specs.Int.{w32}
 use Rattle.rtps_types.specs.declared.field.Endian.TheVariants.{Big, Little}
@@ -40,11 +40,11 @@ key_of s = written key_type 0 Little (s.0, s.1)
 abbrev pub hash_of : ℕ → ℕ → KeyHash
 hash_of station channel = record { 0 = written key_type 0 Big (station, channel) ++ replicate 8 0 }
 
--- the hash of the key that the body of a key payload encodes
+-- the hash of the key in the body of a key payload
 abbrev pub sensor_hash_of_key : ℕ → List ℕ → Result KeyHash UnreadCode
 sensor_hash_of_key kind body = and_then (order_by kind) (λ e. and_then (key_in (start e body)) (λ key. Ok (hash_of key.0 key.1)))
 
--- what the type makes of octets
+-- how the type decodes octets
 abbrev pub sensor_decoding : Decoding (ℕ × ℕ × ℤ)
 sensor_decoding = record {
   meaning = λ kind body. and_then (order_by kind) (λ e. sensor_in (start e body));
@@ -55,7 +55,7 @@ sensor_decoding = record {
 hashed : (c : Cursor) (station channel : ℕ) → value_of (number_in 4 c) ≡ Ok station → value_of (number_in 4 (after_number c)) ≡ Ok channel → and_then (key_in c) (λ key. Ok (hash_of key.0 key.1)) ≡ Ok (hash_of station channel)
 hashed c station channel first second = rw (first, second) refl
 
--- the key is read again
+-- the key payload of a value has the value's key hash
 pub sensor_key_again : (station channel : ℕ) (value : ℤ) → station < 2 ^ 32 → channel < 2 ^ 32 → sensor_hash_of_key 1 (key_of (station, channel, value)) ≡ Ok (hash_of station channel)
 sensor_key_again station channel value small narrow =
     let c : Cursor = start Little (key_of (station, channel, value)) in

@@ -1,4 +1,4 @@
--- The key of a shape is read again.
+-- The key payload of a shape has the shape's key hash.
 use Rattle.std.proofs.Common.{◌≡◌, ℕ, ◌++◌, List, [], length, Ok, nat_lt, false, refl, ◌∙◌, ap, arith}
 use Rattle.std.proofs.lemmas.Grind.{common_steps}
 use Rattle.std.proofs.lemmas.List.{append-nil}
@@ -11,7 +11,7 @@ use Rattle.rtps_cdr.proofs.Again.{each_again}
 use Rattle.dds_topic.specs.declared.shape.Shape.{Shape}
 use Rattle.dds_topic.specs.ShapeMeaning.{shape_view, color_key, color_hash, shape_hash_of_key}
 
--- what is read of the payload that was written of a shape's color is the hash of that color
+-- the hash of the key payload that is written for a shape is the hash of its color
 pub shape_key_again : {A : Type 0} (v : Shape A) → shape_hash_of_key 1 (color_key (shape_view v).color) ≡ Ok (color_hash (shape_view v).color)
 shape_key_again v =
     let color : List ℕ = v.color in

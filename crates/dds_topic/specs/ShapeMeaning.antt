@@ -1,4 +1,4 @@
--- What the bodies of the Shapes demo mean (DDSI-RTPS 9.6.4.8, 10).
+-- The meanings of bodies of the Shapes demo (DDSI-RTPS 9.6.4.8, 10).
 use Rattle.std.specs.Prelude.{ℕ, ℤ, List, ◌++◌, length, Result, Ok, Err, nat_lt, if◌then◌else◌, codes}
 use Rattle.std.specs.Int.{w32}
 use Rattle.std.specs.Fmt.{signed_decimal}
@@ -16,7 +16,7 @@ use Rattle.dds_topic.specs.declared.unread.Unread.TheVariants.{Malformed}
 use Rattle.dds_topic.specs.declared.shape.Shape.{Shape}
 use Rattle.dds_topic.specs.Decoding.{Decoding}
 
--- a shape, without where its color lies
+-- a shape, without its place in memory
 pub record ShapeMeaning : Type 0 where
   pub color : List ℕ
   pub x : ℤ
@@ -39,7 +39,7 @@ behind_long c = moved c (signed_in w32 c)
 abbrev pub color_of : Cursor → Result (List ℕ) UnreadCode
 color_of c = after_read Malformed (value_of (text_in c)) (λ color. if nat_lt 128 (length color) then Err Malformed else Ok color)
 
--- the three numbers after it
+-- a shape: its color, and the three numbers after it
 abbrev pub numbers_of : List ℕ → Cursor → Result ShapeMeaning UnreadCode
 numbers_of color c =
     after_read Malformed (value_of (signed_in w32 c)) (λ x.
@@ -51,7 +51,7 @@ numbers_of color c =
 unfoldable pub shape_in : Cursor → Result ShapeMeaning UnreadCode
 shape_in c = and_then (color_of c) (λ color. numbers_of color (behind_text c))
 
--- a body, in the byte order of its encapsulation
+-- the meaning of a body, in the byte order of its encapsulation
 abbrev pub shape_meaning : ℕ → List ℕ → Result ShapeMeaning UnreadCode
 shape_meaning kind body = and_then (order_by kind) (λ e. shape_in (start e body))
 
@@ -59,18 +59,18 @@ shape_meaning kind body = and_then (order_by kind) (λ e. shape_in (start e body
 abbrev pub color_key : List ℕ → List ℕ
 color_key color = written Text 0 Little color
 
--- the MD5 of the big-endian key (DDSI-RTPS 9.6.4.8)
+-- the key hash of a color: the MD5 of the big-endian key (DDSI-RTPS 9.6.4.8)
 abbrev pub color_hash : List ℕ → KeyHash
 color_hash color = record { 0 = md5 (written Text 0 Big color) }
 
--- the hash of the color that the body of a key payload encodes
+-- the hash of the color in the body of a key payload
 abbrev pub shape_hash_of_key : ℕ → List ℕ → Result KeyHash UnreadCode
 shape_hash_of_key kind body = and_then (order_by kind) (λ e. and_then (color_of (start e body)) (λ color. Ok (color_hash color)))
 
--- what the Shapes demo makes of octets
+-- how the Shapes demo decodes octets
 abbrev pub shape_decoding : Decoding ShapeMeaning
 shape_decoding = record { meaning = shape_meaning; hash = λ s. color_hash s.color; hash_of_key = shape_hash_of_key }
 
--- the color in hex and the three numbers, with blanks between
+-- the color in hex and the three numbers, with spaces between them
 abbrev pub shape_text : ShapeMeaning → List ℕ
 shape_text s = hex_text s.color ++ (codes " " ++ (signed_decimal s.x ++ (codes " " ++ (signed_decimal s.y ++ (codes " " ++ signed_decimal s.size)))))

@@ -6,12 +6,12 @@ use arrayvec::ArrayString;
 use std::alloc::{AllocError, Allocator, Global};
 use std::marker::Model;
 
-/// The name of a color. Up to 16 octets of it take no memory of their own.
+/// The name of a color. Names of up to 16 octets take no memory of their own.
 #[derive(Debug, Drop)]
 pub struct Color<A: Allocator = Global> {
-    /// A name that fits.
+    /// A name of up to 16 octets.
     short: ArrayString<16>,
-    /// A longer one, else empty.
+    /// A longer name, else empty.
     long: String<A>,
 }
 
@@ -26,7 +26,7 @@ impl<A: Allocator> Model for Color<A> {
 }
 
 impl<A: Allocator> Color<A> {
-    /// The color of this name.
+    /// Returns the color with this name.
     pub fn new(alloc: A, name: &str) -> Result<Color<A>, AllocError>
         ensures { IfOk result (λ color. color ≡ name.now) }
     {
@@ -42,7 +42,7 @@ impl<A: Allocator> Color<A> {
         }
     }
 
-    /// Its name.
+    /// Returns the name.
     pub fn as_str(&self) -> &str
         ensures { result.now ≡ self.now }
     {

@@ -1,4 +1,4 @@
-//! The keys of the colors that came last.
+//! The key hashes of recent colors.
 
 ghost use Rattle.std.specs.Prelude.{◌≡◌, ◌≤◌, length, IfOk, IfSome};
 ghost use Rattle.dds_topic.specs.ShapeMeaning.{color_hash};
@@ -8,10 +8,10 @@ use crate::shapes::hash_of;
 use rtps_types::KeyHash;
 use std::alloc::{AllocError, Global};
 
-/// How many colors are kept.
+/// The number of colors that are kept.
 const PLACES: usize = 8;
 
-/// A color and the hash of its key.
+/// A color and its key hash.
 #[derive(Debug, Drop)]
 struct ColorKey {
     color: Color,
@@ -19,14 +19,14 @@ struct ColorKey {
     ghost right: { hash ≡ color_hash color },
 }
 
-/// The colors that came last with the hashes of their keys: a color that comes again isn't hashed
-/// again. A new one takes the place of the one that has been there longest.
+/// Recent colors with their key hashes, so that a known color isn't hashed again. A new color
+/// replaces the one that was added first.
 #[derive(Debug, Drop)]
 pub struct ColorKeys {
     known: [Option<ColorKey>; PLACES],
-    /// The place that is taken next.
+    /// The place of the next new color.
     next: usize,
-    /// The place of the color that came last: it mostly comes again, for the next reader.
+    /// The place of the last color: it is likely to be asked for again, for the next reader.
     last: usize,
 }
 
@@ -41,7 +41,7 @@ impl Default for ColorKeys {
 }
 
 impl ColorKeys {
-    /// The hash of a color's key.
+    /// Returns the key hash of a color.
     pub(crate) fn key(&mut self, alloc: Global, color: &str) -> Result<KeyHash, AllocError>
         requires { length color.now ≤ 128 }
         ensures { IfOk result (λ h. h ≡ color_hash color.now) }
@@ -65,7 +65,7 @@ impl ColorKeys {
     }
 }
 
-/// The hash of a color's key, where the color is at this place.
+/// Returns the key hash of a color, if this place has the color.
 #[inline(always)]
 fn known_hash(place: &Option<ColorKey>, color: &str) -> Option<KeyHash>
     ensures { IfSome result (λ h. h ≡ color_hash color.now) }

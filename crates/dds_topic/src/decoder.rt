@@ -1,4 +1,4 @@
-//! A catalog at work.
+//! A catalog with its memo.
 
 ghost use Rattle.std.specs.Prelude.{◌≡◌, IfOk};
 ghost use Rattle.dds_topic.specs.Answer.{Gives};
@@ -10,13 +10,13 @@ use std::marker::Model;
 
 /// A catalog with what it keeps from one value to the next.
 ///
-/// Who steps readers owns one and lends it to each of them. Readers on several threads need one
-/// for each thread, over a catalog that all of them borrow: a `&C` is a catalog too.
+/// The owner lends it to each reader in turn. Readers on several threads need one decoder for each
+/// thread; these can borrow one catalog, since a `&C` is a catalog too.
 #[derive(Drop)]
 pub struct Decoder<C: Catalog> {
     catalog: C,
     memo: C::Memo,
-    /// Where values are decoded.
+    /// The allocator of values.
     alloc: Global,
 }
 
@@ -27,7 +27,7 @@ impl<C: Catalog> Model for Decoder<C> {
 }
 
 impl<C: Catalog> Decoder<C> {
-    /// A decoder that has decoded nothing. Its values come from `alloc`.
+    /// Returns a decoder with an empty memo, whose values are allocated from `alloc`.
     pub fn new(alloc: Global, catalog: C) -> Decoder<C>
         ensures { result ≡ catalog }
     {
@@ -38,14 +38,14 @@ impl<C: Catalog> Decoder<C> {
         }
     }
 
-    /// The catalog that it decodes by.
+    /// Returns the catalog.
     pub fn catalog(&self) -> &C
         ensures { result.now ≡ self.now }
     {
         &self.catalog
     }
 
-    /// The value of a body, by the kind of its encapsulation; the errors are those of
+    /// Returns the value of a body with this encapsulation kind. The errors are those of
     /// [`Catalog::decode`].
     pub fn decode(&self, kind: u16, body: &[u8]) -> Result<C::Value, CatalogError>
         ensures { Gives C.view result ((C.decoding self.now).meaning kind body.now) }
@@ -53,7 +53,7 @@ impl<C: Catalog> Decoder<C> {
         self.catalog.decode(self.alloc, kind, body)
     }
 
-    /// The hash of a value's key.
+    /// Returns the hash of a value's key.
     pub fn key_of(&mut self, value: &C::Value) -> Result<KeyHash, AllocError>
         ensures key { IfOk result (λ h. h ≡ (C.decoding self.old).hash (C.view value.now)) }
         ensures same { self.new ≡ self.old }
@@ -61,7 +61,7 @@ impl<C: Catalog> Decoder<C> {
         self.catalog.key_by(&mut self.memo, self.alloc, value)
     }
 
-    /// The hash of the key that the body of a key payload encodes; the errors are those of
+    /// Returns the hash of the key in the body of a key payload. The errors are those of
     /// [`Catalog::key_of_payload`].
     pub fn key_of_payload(&self, kind: u16, body: &[u8]) -> Result<KeyHash, CatalogError>
         ensures { Gives (λ h. h) result ((C.decoding self.now).hash_of_key kind body.now) }

@@ -1,4 +1,4 @@
-//! The encapsulations that are decoded.
+//! Encapsulation kinds that are decoded.
 
 ghost use Rattle.std.specs.Prelude.{◌≡◌};
 ghost use Rattle.dds_topic.specs.Encapsulation.{order_by};
@@ -6,9 +6,9 @@ ghost use Rattle.dds_topic.specs.Encapsulation.{order_by};
 use crate::Unread;
 use rtps_types::Endian;
 
-/// The byte order of a body, by the kind of its encapsulation (DDSI-RTPS 10.2).
+/// Returns the byte order of a body with this encapsulation kind (DDSI-RTPS 10.2).
 ///
-/// `Encapsulation` for every kind but 0, CDR_BE, and 1, CDR_LE.
+/// The error is `Encapsulation` for every kind but 0, CDR_BE, and 1, CDR_LE.
 pub fn byte_order(kind: u16) -> Result<Endian, Unread>
     ensures { result ≡ order_by kind }
 {

@@ -1,4 +1,4 @@
-//! A catalog of one's own, as an example: a type with two key fields,
+//! An example of a user's catalog: a type with two key fields,
 //! `struct Sensor { @key unsigned long station; @key unsigned long channel; long value; }`.
 
 ghost use Rattle.std.specs.Prelude.{◌≡◌, ◌<◌, ◌^◌, ℕ, ℤ, [], IfOk};
@@ -73,7 +73,7 @@ impl Catalog for Sensors {
         sensor_key_again v.station v.channel v.value v.station_fits v.channel_fits };
 }
 
-/// The hash of a key: its eight octets, high octet first, and zeros.
+/// Returns the hash of a key: its eight octets, big-endian, and then zeros.
 fn padded(station: u32, channel: u32) -> KeyHash
     ensures { result ≡ hash_of station channel }
 {

@@ -5,15 +5,15 @@ use rtps_types::KeyHash;
 use std::alloc::{AllocError, Allocator, Global};
 use std::sync::atomic::{AtomicU64, Ordering};
 
-/// A catalog that finds no memory for one value and else answers as another one does, to test what
-/// becomes of whoever decodes by it.
+/// A catalog that reports out of memory for one value, and otherwise returns what another catalog
+/// does. It tests how callers handle that error.
 #[derive(Drop)]
 pub struct FailingCatalog<C> {
-    /// Whose answers are given.
+    /// The catalog whose results are returned.
     pub catalog: C,
-    /// The value that finds no memory, counted from 0 in the order in which they are decoded.
+    /// The index of the value that fails, counted from 0 in the order of decoding.
     pub fails_at: u64,
-    /// How many values were decoded so far, by whatever thread; 0 at first.
+    /// The number of values decoded so far, by all threads; 0 at first.
     pub decoded: AtomicU64,
 }
 

@@ -1,8 +1,8 @@
-//! The catalog of one data type: how the payloads of a topic are decoded, and how instances are
-//! distinguished (DDSI-RTPS 9.6.4.8, 10).
+//! The catalog of one data type: how the payloads of a topic are decoded, and which key identifies
+//! an instance (DDSI-RTPS 9.6.4.8, 10).
 //!
-//! A participant is generic in its [`Catalog`]. [`Raw`] takes every payload as it is, [`Shapes`]
-//! decodes those of the Shapes demo. A [`Decoder`] is a catalog at work.
+//! A participant is generic in its [`Catalog`]. [`Raw`] keeps every payload as it is, and
+//! [`Shapes`] decodes those of the Shapes demo. A [`Decoder`] is a catalog with its memo.
 #![tactic(auto)]
 
 mod catalog;

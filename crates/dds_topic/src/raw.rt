@@ -9,22 +9,22 @@ use rtps_ascii::push_hex;
 use rtps_types::KeyHash;
 use std::alloc::{AllocError, Allocator, Global};
 
-/// A body with the kind of its encapsulation.
+/// A body with its encapsulation kind.
 #[derive(Debug, Drop)]
 pub struct RawValue<A: Allocator = Global> {
     pub kind: u16,
     pub body: Vec<u8, A>,
 }
 
-/// The hash of every value.
+/// The key hash of every value.
 const NO_KEY: KeyHash = KeyHash([0; 16]);
 
-/// The catalog that takes every payload as it is. All its values are one instance, whose key
-/// has no octets and whose hash is zero.
+/// A catalog that keeps every payload as it is. All its values are one instance, with a key of no
+/// octets and a key hash of zeros.
 #[derive(Clone, Copy, Debug)]
 pub struct Raw;
 
-/// A copy of a body, with its kind.
+/// Returns a copy of a body, with its kind.
 pub fn raw_value<A: Allocator>(alloc: A, kind: u16, body: &[u8]) -> Result<RawValue<A>, AllocError>
     ensures { IfOk result (λ v. raw_view v ≡ record { kind = kind; body = body.now }) }
 {

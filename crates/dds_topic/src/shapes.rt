@@ -21,13 +21,13 @@ use std::alloc::{AllocError, Allocator, Global};
 /// The catalog of the Shapes demo: `string<128> color` (the key), `long x`, `long y`,
 /// `long shapesize`, in plain CDR of either byte order.
 ///
-/// Octets after a value are ignored. A color above 128 octets is malformed. The key's greatest size
-/// passes 16 octets, so its hash is the MD5 of its big-endian CDR, for short colors too
-/// (DDSI-RTPS 9.6.4.8).
+/// Octets after a value are ignored. A color of more than 128 octets is malformed. The maximum size
+/// of the key is more than 16 octets, so its hash is the MD5 of its big-endian CDR, for short
+/// colors too (DDSI-RTPS 9.6.4.8).
 #[derive(Clone, Copy, Debug)]
 pub struct Shapes;
 
-/// The most octets of a color.
+/// The most octets of a color: the type is `string<128>`.
 const COLOR_LIMIT: usize = 128;
 
 /// Reads a color.
@@ -60,7 +60,7 @@ pub fn read_shape<A: Allocator>(
     Ok(Shape { color, x, y, size })
 }
 
-/// The octets of a color as a key.
+/// Returns the octets of a color as the body of a key payload.
 pub fn key_octets<A: Allocator>(alloc: A, color: &str) -> Result<Vec<u8, A>, AllocError>
     requires { length color.now ≤ 128 }
     ensures { IfOk result (λ v. v.items ≡ color_key color.now) }
@@ -70,7 +70,7 @@ pub fn key_octets<A: Allocator>(alloc: A, color: &str) -> Result<Vec<u8, A>, All
     Ok(writer.finish())
 }
 
-/// The hash of a color: of its length, which counts its NUL, of the color and of the NUL.
+/// Returns the key hash of a color: of its length, which counts its NUL, the color and the NUL.
 pub(crate) fn hash_of(color: &str) -> KeyHash
     requires { length color.now ≤ 128 }
     ensures { result ≡ color_hash color.now }
@@ -82,7 +82,7 @@ pub(crate) fn hash_of(color: &str) -> KeyHash
     KeyHash(hasher.finalize())
 }
 
-/// Adds the text of a shape: its color in hex, where it is and its size.
+/// Appends the text of a shape: its color in hex, its coordinates and its size.
 fn push_shape<A: Allocator>(out: &mut Vec<u8, A>, shape: &Shape) -> Result<(), AllocError>
     ensures ok { OnOk result (out.new.items ≡ out.old.items ++ shape_text (shape_view shape.now)) }
     ensures keeps { StartsWith out.new.items out.old.items }

@@ -1,4 +1,4 @@
-//! Catalogs against octets from outside.
+//! Catalogs, with octets from other sources.
 
 ghost use Rattle.std.specs.Prelude.{Ok};
 ghost use Rattle.dds_topic.specs.Answer.{Gives};
@@ -19,7 +19,7 @@ const ENCAPSULATION: CatalogError = CatalogError::Unread(Unread::Encapsulation);
 
 const MALFORMED: CatalogError = CatalogError::Unread(Unread::Malformed);
 
-/// A key hash from its hex digits.
+/// Returns the key hash with these hex digits.
 fn hash(alloc: Global, digits: &str) -> Result<KeyHash, Fail> {
     let octets = hex::decode(alloc, digits)?;
     Ok(KeyHash(
@@ -30,7 +30,7 @@ fn hash(alloc: Global, digits: &str) -> Result<KeyHash, Fail> {
     ))
 }
 
-/// The hash of a value by way of its key payload, of any catalog.
+/// Returns the hash of a value, computed from its key payload, for any catalog.
 fn hash_by_payload<C: Catalog>(
     alloc: Global,
     catalog: &C,
@@ -66,7 +66,8 @@ fn a_blue_shape(rt: HostRuntime) -> Result<(), Fail> {
     Ok(())
 }
 
-/// The text of the value of a little-endian body, as one of its own and once more after it.
+/// Returns the text of the value of a little-endian body, twice: as a text of its own, and appended
+/// to it.
 fn printed_twice<C: TextCatalog>(alloc: Global, catalog: C, body: &[u8]) -> Result<Vec<u8>, Fail> {
     let value = catalog.decode(alloc, 1, body)?;
     let mut text = catalog.text(alloc, &value)?;
@@ -83,7 +84,7 @@ fn a_catalog_that_is_lent_prints(rt: HostRuntime) -> Result<(), Fail> {
     Ok(())
 }
 
-/// Colors, and the MD5 of each one's key in big-endian CDR, by another program.
+/// Colors, and the MD5 of their keys in big-endian CDR, from another program.
 const KEYS: [(&str, &str); 10] = [
     ("BLUE", "cac217c318363f8ef1160eeedef9e886"),
     ("RED", "d36de865fac295155f18df7157b217e6"),
@@ -97,7 +98,7 @@ const KEYS: [(&str, &str); 10] = [
     ("", "113b7f2f33d9035e4d9c5f52fc8b54d6"),
 ];
 
-/// The body of a shape of this color, in little-endian CDR.
+/// Returns the body of a shape with this color, in little-endian CDR.
 fn body_in(alloc: Global, color: &str) -> Result<Vec<u8>, Fail> {
     if color.len() > 8 {
         return Err(Fail::new("a longer color than the table has"));

@@ -1,4 +1,4 @@
-//! Why a payload gives no value.
+//! Why a payload can't be decoded.
 
 ghost use Rattle.std.specs.Prelude.{◌≡◌};
 ghost use Rattle.dds_topic.specs.declared.unread.CatalogError.TheVariants as errors;
@@ -11,16 +11,16 @@ use thiserror::Error;
 /// Why a change is presented without a value or a key.
 #[derive(Clone, Copy, Debug, PartialEq, Eq, Error)]
 pub enum Unread {
-    /// The encapsulation is none that the catalog decodes (DDSI-RTPS 10.2).
+    /// The catalog doesn't decode this encapsulation (DDSI-RTPS 10.2).
     #[error("the encapsulation is none that is decoded")]
     Encapsulation,
     /// The octets are no value of the type.
     #[error("the octets are no value of the type")]
     Malformed,
-    /// The change has a form that the standard leaves open.
+    /// The payload is in a form that the standard leaves open.
     #[error("the change has no form of the standard")]
     NonStandard,
-    /// There is no key to tell the instance by.
+    /// There is no key to identify the instance.
     #[error("there is no key")]
     NoKey,
 }
@@ -28,7 +28,7 @@ pub enum Unread {
 impl Unread {
     ghost use Rattle.dds_topic.specs.Answer.{code_of, name_of};
 
-    /// The number that stands for it in printed lines, from 1 to 4 in the order above.
+    /// Returns the number of the reason in printed lines, from 1 to 4 in the order above.
     pub fn code(self) -> u32
         ensures { result ≡ code_of self }
     {
@@ -40,7 +40,7 @@ impl Unread {
         }
     }
 
-    /// Its name, for what a person reads. No memory is taken.
+    /// Returns the name of the reason, for people. No memory is taken.
     pub fn name(self) -> &'static str
         ensures { result.now ≡ name_of self }
     {
@@ -53,13 +53,13 @@ impl Unread {
     }
 }
 
-/// Why a catalog has no answer.
+/// Why a catalog returns no result.
 #[derive(Clone, Copy, Debug, PartialEq, Eq, Error)]
 pub enum CatalogError {
     /// The allocator refused a growth.
     #[error("out of memory")]
     NoMemory,
-    /// The payload can't be read.
+    /// The payload can't be decoded.
     #[error(transparent)]
     Unread(Unread),
 }
@@ -80,7 +80,7 @@ impl From<Unread> for CatalogError {
     }
 }
 
-/// Octets that are no value of a type are malformed, whatever their fault.
+/// Octets that are no value of the type are malformed, whatever their fault.
 impl From<CdrFault> for CatalogError {
     ghost from_gives = { λ _ e. e ≡ errors.Unread Malformed };
 

@@ -1,7 +1,7 @@
-//! A live receiver. One thread receives what comes to the sockets of a domain, has a reader take
-//! it, and answers; one takes the reader's samples when it suits it, as an application does; one
-//! looks at the reader's status. A peer on loopback, here a thread too, sends three samples, the
-//! second of them last.
+//! A live receiver. One thread receives the datagrams of a domain, processes them with a reader,
+//! and sends its answers. A second thread takes the reader's samples at its own pace, as an
+//! application does. A third one watches the reader's status. A peer on loopback, here a thread
+//! too, sends three samples, the second of them last.
 #![tactic(auto)]
 
 ghost use Rattle.std.specs.Prelude.{◌≡◌};
@@ -25,24 +25,24 @@ use std::time::{Clock, Duration};
 /// A domain of its own, so that the program runs beside others.
 const DOMAIN: u16 = 101;
 
-/// The rank of the reader of squares: it is the only one.
+/// The rank of the reader of squares, which is the only reader.
 const SQUARES: u32 = 0;
 
-/// How many samples the peer sends.
+/// The number of samples that the peer sends.
 const SAMPLES: u32 = 3;
 
-/// How often a thread looks whether something has come, at the most: for half a minute.
+/// The greatest number of times that a thread looks for something new, which takes half a minute.
 const LOOKS: u32 = 3_000;
 
 fn main(rt: HostRuntime) -> Result<()> {
-    // A board for the status of one reader, at which one thread looks.
+    // A board with the status of one reader, for one thread that looks at it.
     let mut board = StatusBoard::new(&rt, rt.alloc(), 1, 1)?;
     let outcome = run(&rt, rt.alloc(), &mut board);
     board.end(&rt);
     outcome
 }
 
-/// Has the threads work until the application has all samples, and shows the last status.
+/// Runs the threads until the application has all samples, and prints the last status.
 fn run<R: Threads + Wait + Net + Clock + Print + Sync>(
     rt: &R,
     alloc: Global,
@@ -60,21 +60,21 @@ fn run<R: Threads + Wait + Net + Clock + Print + Sync>(
     let show = || show_samples(rt, alloc, &mut inlet);
     let send = || peer.send_squares();
     let supervise = || look_until_presented(rt, watch, &done);
-    // The first three have threads of their own, and the last one has this thread.
+    // The first three run on threads of their own, and the last one on this thread.
     let (published, (shown, (sent, mut watch))) = thread::join(rt, receive, || {
         thread::join(rt, show, || thread::join(rt, send, supervise))
     });
     let published = published?;
     sent?;
     shown?;
-    // From here on no look shows an older row than the last one that was published.
+    // From here on, no look shows a row older than the last one that was published.
     watch.learn(published);
     show_status(rt, &mut watch)
 }
 
-/// Shows the samples as they come.
+/// Prints the samples as they come.
 fn show_samples<R: Print + Clock>(rt: &R, alloc: Global, inlet: &mut Inlet<Shape>) -> Result<()> {
-    // The last three of each square: all that the peer sends, however late they are pulled.
+    // Keeps three samples of each square: all that the peer sends, however late they are pulled.
     let mut squares = DataReader::new(alloc, History::KeepLast(SAMPLES));
     let unread = Condition {
         not_read: true,

@@ -24,7 +24,7 @@ const DATA: [u8; 72] = *b"RTPS\x02\x05\x00\x00\
     \x00\x01\x00\x00\x05\x00\x00\x00BLUE\x00\x00\x00\x00\
     \x00\x00\x00\x00\x14\x00\x00\x00\x1e\x00\x00\x00";
 
-/// Where the octets of its number begin, and those of the square's x.
+/// The offset of its sequence number, and below that of the square's x.
 const NUMBER_AT: usize = 40;
 
 const X_AT: usize = 60;
@@ -44,14 +44,14 @@ pub struct Peer {
 }
 
 impl Peer {
-    /// A peer that waits for half a minute where it waits for an answer.
+    /// Returns a peer that waits at most half a minute for an answer.
     pub fn bind(net: &impl Net) -> io::Result<Peer> {
         let socket = UdpSocket::bind(net, "127.0.0.1:0")?;
         socket.set_read_timeout(Some(Duration::from_secs(30)))?;
         Ok(Peer { socket })
     }
 
-    /// Where answers to its writer go.
+    /// Returns the locator that answers to its writer are sent to.
     pub fn locator(&self) -> io::Result<Locator> {
         match self.socket.local_addr()? {
             SocketAddr::V4(address) => Ok(Locator::from(address)),
@@ -59,8 +59,8 @@ impl Peer {
         }
     }
 
-    /// Sends the samples 1 and 3 and says that there are three, and sends the second one when it is
-    /// asked for it.
+    /// Sends the samples 1 and 3 and a heartbeat of three samples, and sends the second one when
+    /// the reader asks for it.
     pub fn send_squares(&self) -> io::Result<()> {
         self.send(&square(1))?;
         self.send(&square(3))?;
@@ -77,7 +77,7 @@ impl Peer {
     }
 }
 
-/// The sample of this number: with each the square goes 10 to the right.
+/// Returns the sample with this number: the square is 10 further to the right in each.
 fn square(number: u8) -> [u8; 72] {
     let mut message = DATA;
     message[NUMBER_AT] = number;

@@ -1,4 +1,4 @@
-//! The thread that receives.
+//! The receiving thread.
 
 ghost use Rattle.std.specs.Prelude.{◌≡◌, IfOk};
 
@@ -6,7 +6,7 @@ use crate::peer::WRITER;
 use crate::{DOMAIN, SQUARES};
 use anyhow::{Result, bail};
 use dds_outlet::{Outlet, StatusBoard, Told};
-use dds_participant::{Given, Participant, Workers, is_batch};
+use dds_participant::{BatchOutput, Participant, Workers, is_batch};
 use dds_topic::{Shape, Shapes};
 use rtps_discovery::{Config, ReaderConfig};
 use rtps_records::{Batch, Exchange, ReceiveEnd};
@@ -28,8 +28,8 @@ pub struct Receiver {
 }
 
 impl Receiver {
-    /// A receiver whose reader is matched with the peer's writer from the start, answers to where
-    /// the peer is, and reports to an outlet.
+    /// Returns a receiver whose reader has a fixed match with the peer's writer, sends its answers
+    /// to the peer's locator, and reports to an outlet.
     pub fn bind(
         net: &impl Net,
         alloc: Global,
@@ -51,9 +51,9 @@ impl Receiver {
         })
     }
 
-    /// Receives until `done` is set. What has come is a batch: the reader takes it, its answers are
-    /// sent, what it reports is delivered, and its status is published. Gives all that was
-    /// published, for another thread to learn.
+    /// Receives until `done` is set. The datagrams that have come are a batch: the reader processes
+    /// it, its answers are sent, its notices are delivered, and its status is published. Returns
+    /// all that was published, for another thread to learn.
     pub fn run<R: Threads + Wait + Sync>(
         &mut self,
         rt: &R,
@@ -64,7 +64,7 @@ impl Receiver {
         ensures { IfOk result (λ published. published.board ≡ board.old.board) }
     {
         let mut batch = Batch::new(alloc)?;
-        let mut given = Given::new(alloc);
+        let mut given = BatchOutput::new(alloc);
         let workers = Workers {
             count: 2,
             gate: &NoGate,
@@ -74,7 +74,7 @@ impl Receiver {
             if done.load(Ordering::SeqCst) {
                 break;
             }
-            // After a full batch more may be there, of which a wait would say nothing.
+            // After a full batch more datagrams may be there already, so it doesn't wait then.
             if end != ReceiveEnd::More {
                 self.network.wait()?;
             }
@@ -86,7 +86,7 @@ impl Receiver {
             self.participant
                 .run_in_order(rt, alloc, &workers, &datagrams, &mut given)?;
             send_answers(&mut self.network, &given);
-            // What the ring has no room for is delivered in a later turn.
+            // Notices that the ring has no room for are delivered in a later turn.
             self.participant.deliver(SQUARES);
             if let Err(fault) = self.participant.publish(rt, alloc, board) {
                 bail!("the status isn't published: {fault:?}");

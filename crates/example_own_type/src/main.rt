@@ -1,5 +1,5 @@
-//! A data type of one's own: reads a record file on standard input, and prints what a reader of
-//! [`Reading`]s makes of it.
+//! An application with its own data type: reads a record file on standard input, and prints what a
+//! reader of [`Reading`]s reports of it.
 #![tactic(auto)]
 
 mod reading;

@@ -1,4 +1,4 @@
-//! A sensor's reading, as an application declares it.
+//! The data type of an application: a sensor's reading.
 
 ghost use Rattle.std.specs.Prelude.{◌≡◌, ◌++◌, ◌<◌, ◌^◌, OnOk, refl};
 ghost use Rattle.std.specs.String.{string_bytes};

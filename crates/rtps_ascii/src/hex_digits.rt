@@ -11,7 +11,7 @@ use std::alloc::{AllocError, Allocator};
 /// Up to this many octets are formatted on the stack first: one copy is faster than many pushes.
 const SHORT: usize = 16;
 
-/// Adds octets in hex, in lower case; a dash where there are none.
+/// Appends octets in hex, in lower case; a dash if there are none.
 pub fn push_hex<A: Allocator>(out: &mut Vec<u8, A>, octets: &[u8]) -> Result<(), AllocError>
     ensures ok { OnOk result (out.new.items ≡ out.old.items ++ hex_text octets.now) }
     ensures keeps { StartsWith out.new.items out.old.items }
@@ -25,8 +25,8 @@ pub fn push_hex<A: Allocator>(out: &mut Vec<u8, A>, octets: &[u8]) -> Result<(),
     push_long(out, octets)
 }
 
-/// Adds a number of octets that is known beforehand, as those of identities, as [`push_hex`] does.
-/// All digits are made at once, so this is put into the caller.
+/// Like [`push_hex`], for a number of octets that is known at compile time, such as those of
+/// identities. It is inlined, so that the compiler makes all digits at once.
 #[inline(always)]
 pub fn push_hex_array<const N: usize, A: Allocator>(
     out: &mut Vec<u8, A>,
@@ -43,8 +43,8 @@ pub fn push_hex_array<const N: usize, A: Allocator>(
     out.extend_from_slice(&digits[..2 * N])
 }
 
-/// Adds the digits of names and the like, each looked up: they are too few for more to be made at
-/// once.
+/// Appends the digits of a few octets, such as those of names, each looked up in a table: there are
+/// too few to make many digits at once.
 fn push_short<A: Allocator>(out: &mut Vec<u8, A>, octets: &[u8]) -> Result<(), AllocError>
     requires { length octets.now ≤ 16 }
     ensures ok { OnOk result (out.new.items ≡ out.old.items ++ encode_lower octets.now) }
@@ -58,7 +58,7 @@ fn push_short<A: Allocator>(out: &mut Vec<u8, A>, octets: &[u8]) -> Result<(), A
     }
 }
 
-/// Adds the digits of payloads, in their place at once.
+/// Appends the digits of many octets, such as those of payloads: they are written in place.
 #[inline(never)]
 fn push_long<A: Allocator>(out: &mut Vec<u8, A>, octets: &[u8]) -> Result<(), AllocError>
     ensures ok { OnOk result (out.new.items ≡ out.old.items ++ encode_lower octets.now) }
@@ -76,8 +76,8 @@ fn push_long<A: Allocator>(out: &mut Vec<u8, A>, octets: &[u8]) -> Result<(), Al
     Ok(())
 }
 
-/// Spells octets out, two digits each. No digit is looked up in a table, so a compiler can make
-/// many of them at once.
+/// Writes octets in hex, two digits each. No digit is looked up in a table, so that the compiler
+/// can make many of them at once.
 #[inline(always)]
 fn spell(octets: &[u8], digits: &mut [u8])
     requires { length digits.old ≡ 2 * length octets.now }
@@ -90,7 +90,7 @@ fn spell(octets: &[u8], digits: &mut [u8])
     }
 }
 
-/// The digit of a number below 16.
+/// Returns the digit of a number below 16.
 #[inline(always)]
 fn digit(number: u8) -> u8
     requires { number < 16 }

@@ -1,4 +1,4 @@
-//! Octets and numbers as ASCII text, added at the end of a text.
+//! Appending octets and numbers to a text, as ASCII.
 #![tactic(auto)]
 
 mod hex_digits;

@@ -8,7 +8,7 @@ use crate::word::push_octet;
 use itoa::Buffer;
 use std::alloc::{AllocError, Allocator};
 
-/// Adds a number in decimal.
+/// Appends a number in decimal.
 pub fn push_number<A: Allocator>(out: &mut Vec<u8, A>, number: u64) -> Result<(), AllocError>
     ensures ok { OnOk result (out.new.items ≡ out.old.items ++ decimal number) }
     ensures keeps { StartsWith out.new.items out.old.items }
@@ -20,7 +20,7 @@ pub fn push_number<A: Allocator>(out: &mut Vec<u8, A>, number: u64) -> Result<()
     out.extend_from_slice(buffer.format(number).as_bytes())
 }
 
-/// Adds a number in decimal, with a minus below 0.
+/// Appends a number in decimal, with a minus if it is below 0.
 pub fn push_signed<A: Allocator>(out: &mut Vec<u8, A>, signed: i32) -> Result<(), AllocError>
     ensures ok { OnOk result (out.new.items ≡ out.old.items ++ signed_decimal signed) }
     ensures keeps { StartsWith out.new.items out.old.items }

@@ -1,4 +1,4 @@
-//! Each push, after a text that is there.
+//! Tests of each push onto a text that isn't empty.
 
 use crate::*;
 use linked_list_allocator::LocalHeap;

@@ -5,7 +5,7 @@ ghost use Rattle.std.specs.Io.{StartsWith};
 
 use std::alloc::{AllocError, Allocator};
 
-/// Adds a word as it is.
+/// Appends a word as it is.
 pub fn push_word<A: Allocator>(out: &mut Vec<u8, A>, word: &str) -> Result<(), AllocError>
     ensures ok { OnOk result (out.new.items ≡ out.old.items ++ word.now) }
     ensures keeps { StartsWith out.new.items out.old.items }
@@ -13,7 +13,7 @@ pub fn push_word<A: Allocator>(out: &mut Vec<u8, A>, word: &str) -> Result<(), A
     out.extend_from_slice(word.as_bytes())
 }
 
-/// Adds one octet.
+/// Appends one octet.
 pub fn push_octet<A: Allocator>(out: &mut Vec<u8, A>, octet: u8) -> Result<(), AllocError>
     ensures ok { OnOk result (out.new.items ≡ out.old.items ++ octet ∷ []) }
     ensures keeps { StartsWith out.new.items out.old.items }

@@ -1,5 +1,5 @@
 -- What a read by its function gives, is what the relation has.
-use Rattle.std.proofs.Common.{append_assoc, ◌≡◌, ℕ, zero, suc, ◌+◌, ◌-◌, ◌≤◌, ◌<◌, true, false, Bool, List, [], ◌∷◌, ◌++◌, length, take, drop, nat_le, if◌then◌else◌, Ok, Err, refl, sym, ◌∙◌, ap, arith, slice_index, add-zero}
+use Rattle.std.proofs.Common.{append_assoc, ◌≡◌, ℕ, zero, suc, ◌+◌, ◌-◌, ◌≤◌, ◌<◌, true, false, Bool, List, [], ◌∷◌, ◌++◌, length, take, drop, nat_le, if◌then◌else◌, Ok, Err, refl, sym, ◌∙◌, ap, arith, slice_index, add-zero, Result, ℤ}
 use Rattle.std.proofs.lemmas.List.{length-drop, length-take-le, take-append-drop, drop-drop, take_at, drop_at, length-append, take-take, drop-take, get_or-drop}
 use Rattle.std.proofs.lemmas.Grind.{common_steps}
 use Rattle.byteorder.specs.Numbers.{big_from-take, little_from-take, big_from-append, little_from-append}
@@ -10,7 +10,6 @@ use Rattle.rtps_cdr.specs.declared.fault.CdrFault.TheVariants.{Short, BadBool}
 use Rattle.rtps_cdr.specs.Cdr.{Unsigned, Signed, Boolean, Octets, Gaps, Free, Zeros, IsNumber, IsGap, padding}
 use Rattle.std.specs.Int.{Width, byte_len, cast_signed}
 use Rattle.std.specs.Str.{IsUtf8, is_utf8}
-use Rattle.std.proofs.Common.{Result, ℤ}
 use Rattle.rtps_cdr.specs.declared.fault.CdrFault.{CdrFault}
 use Rattle.std.proofs.lemmas.Str.{is_utf8-from_IsUtf8, IsUtf8-from_is_utf8}
 use Rattle.rtps_cdr.specs.Reading.{Cursor, Read, Reads, Takes, value_of, moved, mapped, aligned, number_from, number_in, signed_in, bool_in, bool_of, octets_in, followed_by, seen, place_seen}

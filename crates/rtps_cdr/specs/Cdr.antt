@@ -1,12 +1,12 @@
--- The common data representation: which octets encode which value, at a place and in a byte
--- order (CORBA CDR 9.3, DDSI-RTPS 10). Places are counted from the first octet after the
--- encapsulation.
+-- The common data representation: which octets encode a value, at a position and in a byte order
+-- (CORBA CDR 9.3, DDSI-RTPS 10). Positions count from the first octet after the encapsulation
+-- header.
 use Rattle.std.specs.Prelude.{◌≡◌, ◌≤◌, ℕ, zero, suc, ℤ, ◌+◌, ◌-◌, ◌%◌, List, [], ◌∷◌, ◌++◌, length, replicate, Bool, if◌then◌else◌, IsUtf8}
 use Rattle.std.specs.Int.{Width, byte_len, cast_signed}
 use Rattle.rtps_types.specs.declared.field.Endian.{Endian}
 use Rattle.rtps_types.specs.Field.{number}
 
--- the types: primitives by their size in octets, texts, octets as they are, structs member by
+-- the types: primitives by their size in octets, strings, octets as they are, structs member by
 -- member, and sequences
 pub data CdrType : Type 0 where
   Unsigned : (size : ℕ) → CdrType
@@ -17,7 +17,7 @@ pub data CdrType : Type 0 where
   Both : CdrType → CdrType → CdrType
   Sequence : CdrType → CdrType
 
--- what a value of a type is; of a text its bytes
+-- the values of a type; those of strings are their bytes
 abbrev pub ValueOf : CdrType → Type 0
 ValueOf (Unsigned size) = ℕ
 ValueOf (Signed w) = ℤ
@@ -27,27 +27,27 @@ ValueOf (Octets count) = List ℕ
 ValueOf (Both s t) = ValueOf s × ValueOf t
 ValueOf (Sequence t) = List (ValueOf t)
 
--- what may be in a gap: anything, as in reading, or zeros alone, as in writing
+-- the octets of padding: any octets, when it is read, or only zeros, when it is written
 pub data Gaps : Type 0 where
   Free : Gaps
   Zeros : Gaps
 
--- how many octets lie between a place and the next multiple of the size (CORBA CDR 9.3.1.1)
+-- the number of octets up to the next multiple of the size (CORBA CDR 9.3.1.1)
 abbrev pub padding : ℕ → ℕ → ℕ
 padding size at = (size - at % size) % size
 
--- the fewest octets that bring a place to a multiple of the size
+-- the fewest octets that bring a position to a multiple of the size
 pub record IsLeastGap (size at gap : ℕ) : Type 0 where
   pub aligns : (at + gap) % size ≡ 0
   pub least : (other : ℕ) → (at + other) % size ≡ 0 → gap ≤ other
 
--- the octets of a gap
+-- padding of n octets
 abbrev pub IsGap : Gaps → ℕ → List ℕ → Type 0
 IsGap Free n gap = length gap ≡ n
 IsGap Zeros n gap = gap ≡ replicate n 0
 
--- a number of that many octets, aligned to its size: a gap, and a field that encodes it
--- (CORBA CDR 9.3.1)
+-- a number of that many octets, aligned to its size: padding, and the octets of the number (CORBA
+-- CDR 9.3.1)
 pub record IsNumber (g : Gaps) (size at : ℕ) (e : Endian) (octets : List ℕ) (n : ℕ) : Type 0 where
   pub gap : List ℕ
   pub field : List ℕ
@@ -56,13 +56,13 @@ pub record IsNumber (g : Gaps) (size at : ℕ) (e : Endian) (octets : List ℕ) 
   pub full : length field ≡ size
   pub spells : number e size field ≡ n
 
--- after a length of 0 comes nothing; else a UTF-8 text, and its NUL, which the length counts
--- (CORBA CDR 9.3.2.7)
+-- nothing after a length of 0; otherwise a UTF-8 string and its NUL, which the length counts (CORBA
+-- CDR 9.3.2.7)
 abbrev pub IsTextBody : ℕ → List ℕ → List ℕ → Type 0
 IsTextBody zero octets text = (octets ≡ []) × (text ≡ [])
 IsTextBody (suc n) octets text = (octets ≡ text ++ 0 ∷ []) × (length text ≡ n) × IsUtf8 text
 
--- a text: its length, and its body
+-- a string: its length, and its body
 pub record IsText (g : Gaps) (at : ℕ) (e : Endian) (octets text : List ℕ) : Type 0 where
   pub front : List ℕ
   pub back : List ℕ
@@ -71,13 +71,13 @@ pub record IsText (g : Gaps) (at : ℕ) (e : Endian) (octets text : List ℕ) : 
   pub counts : IsNumber g 4 at e front count
   pub body : IsTextBody count back text
 
--- values one after the other
+-- consecutive values
 abbrev pub AreAll : {A : Type 0} → (ℕ → List ℕ → A → Type 0) → ℕ → List ℕ → List A → Type 0
 AreAll is at octets [] = octets ≡ []
 AreAll is at octets (x ∷ xs) = (front : List ℕ) × (back : List ℕ) × (octets ≡ front ++ back) × is at front x × AreAll is (at + length front) back xs
 
--- octets at a place encode a value of a type; a struct has no alignment of its own
--- (CORBA CDR 9.3.2.2), and a sequence is a count and its items (CORBA CDR 9.3.2.5)
+-- octets at a position encode a value of a type; a struct has no alignment of its own (CORBA CDR
+-- 9.3.2.2), and a sequence is a count and its items (CORBA CDR 9.3.2.5)
 abbrev pub IsCdr : Gaps → (t : CdrType) → ℕ → Endian → List ℕ → ValueOf t → Type 0
 IsCdr g (Unsigned size) at e octets n = IsNumber g size at e octets n
 IsCdr g (Signed w) at e octets z = (n : ℕ) × IsNumber g (byte_len w) at e octets n × (z ≡ cast_signed w n)

@@ -1,4 +1,4 @@
--- What holds of the representation as a whole (CORBA CDR 9.3.1.1, 9.3.2.2).
+-- Properties of the representation as a whole (CORBA CDR 9.3.1.1, 9.3.2.2).
 use Rattle.std.specs.Prelude.{◌≡◌, ℕ, ℤ, ◌+◌, ◌<◌, ◌^◌, List, [], ◌∷◌, ◌++◌, length, Bool, Result, Ok}
 use Rattle.std.specs.Int.{Width, byte_len}
 use Rattle.rtps_types.specs.declared.field.Endian.{Endian}
@@ -7,28 +7,28 @@ use Rattle.rtps_cdr.specs.Cdr.{CdrType, Unsigned, Signed, Boolean, Text, Octets,
 use Rattle.rtps_cdr.specs.Reading.{Cursor, Reads, Takes, placed, number_in, signed_in, bool_in, text_in, texts_in, octets_in}
 use Rattle.rtps_cdr.specs.Writing.{Fits, Output, appended, written}
 
--- the padding before a value is the least gap that aligns it
+-- the padding before a value is the least that aligns it
 abbrev pub PaddingIsLeast : Type 0
 PaddingIsLeast = (size at : ℕ) → 0 < size → IsLeastGap size at (padding size at)
 
--- two values of which the second comes after the first are the struct of both
+-- two consecutive values are the struct of both
 abbrev pub MembersAreStruct : Type 0
 MembersAreStruct = (s t : CdrType) (c middle after : Cursor) (x : ValueOf s) (y : ValueOf t) → Takes s c middle x → Takes t middle after y → Takes (Both s t) c after (x, y)
 
--- a struct is its first member, and then the rest of it
+-- a struct is its first member and then the others
 abbrev pub StructIsMembers : Type 0
 StructIsMembers = (s t : CdrType) (c after : Cursor) (v : ValueOf s × ValueOf t) → Takes (Both s t) c after v → (middle : Cursor) × Takes s c middle v.0 × Takes t middle after v.1
 
--- values of a type, one after another
+-- consecutive values of a type
 abbrev pub TakesAll : (t : CdrType) → Cursor → Cursor → List (ValueOf t) → Type 0
 TakesAll t c after [] = after ≡ c
 TakesAll t c after (v ∷ vs) = (middle : Cursor) × Takes t c middle v × TakesAll t middle after vs
 
--- a count, and as many items after it, are a sequence
+-- a count and that number of items are a sequence
 abbrev pub ItemsAreSequence : Type 0
 ItemsAreSequence = (t : CdrType) (c middle after : Cursor) (vs : List (ValueOf t)) → Takes (Unsigned 4) c middle (length vs) → TakesAll t middle after vs → Takes (Sequence t) c after vs
 
--- and a sequence is nothing else
+-- a sequence is a count and that number of items
 abbrev pub SequenceIsItems : Type 0
 SequenceIsItems = (t : CdrType) (c after : Cursor) (vs : List (ValueOf t)) → Takes (Sequence t) c after vs → (middle : Cursor) × Takes (Unsigned 4) c middle (length vs) × TakesAll t middle after vs
 
@@ -37,25 +37,25 @@ abbrev pub all_appended : (t : CdrType) → List (ValueOf t) → Output → Outp
 all_appended t [] o = o
 all_appended t (v ∷ vs) o = all_appended t vs (appended t v o)
 
--- to write a count, and then as many items, is to write a sequence
+-- writing a count and that number of items is writing a sequence
 abbrev pub ItemsWriteSequence : Type 0
 ItemsWriteSequence = (t : CdrType) (vs : List (ValueOf t)) (o : Output) → all_appended t vs (appended (Unsigned 4) (length vs) o) ≡ appended (Sequence t) vs o
 
--- a reader before a value that was written after some octets and before others
+-- a reader in front of a written value, which has octets before and after it
 abbrev pub before : List ℕ → Endian → (t : CdrType) → ValueOf t → List ℕ → Cursor
 before front e t v rest = record { octets = front ++ (written t (length front) e v ++ rest); endian = e; position = length front }
 
--- the place after it
+-- the position after that value
 abbrev pub behind : List ℕ → Endian → (t : CdrType) → ValueOf t → ℕ
 behind front e t v = length front + length (written t (length front) e v)
 
--- whatever reads values of a type as the relation has them, reads what was written, and moves after
--- it
+-- any read that follows the representation reads a written value as the same value, and moves to
+-- its end
 abbrev pub WrittenIsReadAgain : Type 0
 WrittenIsReadAgain = (t : CdrType) (front rest : List ℕ) (e : Endian) (v : ValueOf t) (after : Cursor) (answer : Result (ValueOf t) CdrFault) → Fits t v →
     Reads t (before front e t v rest) after answer → (answer ≡ Ok v) × (after ≡ placed (before front e t v rest) (behind front e t v))
 
--- the same for what each read gives
+-- the same for each read here
 pub record EachIsReadAgain (front rest : List ℕ) (e : Endian) : Type 0 where
   pub unsigned : (size n : ℕ) → 0 < size → n < 256 ^ size → number_in size (before front e (Unsigned size) n rest) ≡ Ok (n, behind front e (Unsigned size) n)
   pub signed : (w : Width) (z : ℤ) → 0 < byte_len w → Fits (Signed w) z → signed_in w (before front e (Signed w) z rest) ≡ Ok (z, behind front e (Signed w) z)

@@ -1,4 +1,4 @@
--- What each write of a writer adds at the end (DDSI-RTPS 10.2).
+-- The octets that each write appends (DDSI-RTPS 10.2).
 use Rattle.std.specs.Prelude.{◌≡◌, ℕ, ◌+◌, ◌^◌, ◌<◌, List, [], ◌∷◌, ◌++◌, length, replicate, if◌then◌else◌, IsUtf8}
 use Rattle.std.specs.List.{AllByRecursion}
 use Rattle.std.specs.Int.{byte_len, cast_unsigned}
@@ -7,27 +7,27 @@ use Rattle.rtps_types.specs.declared.field.Endian.{Endian}
 use Rattle.rtps_types.specs.Field.{spelled}
 use Rattle.rtps_cdr.specs.Cdr.{CdrType, Unsigned, Signed, Boolean, Text, Octets, Both, Sequence, ValueOf, Zeros, IsCdr, padding}
 
--- a writer: what was written
+-- a writer: the octets that it has written, and its byte order
 pub record Output : Type 0 where
   pub octets : List ℕ
   pub endian : Endian
 
 -- ---- by functions
 
--- a gap of zeros, and the field
+-- padding of zeros, and the number
 abbrev pub number_written : ℕ → ℕ → Endian → ℕ → List ℕ
 number_written size at e n = replicate (padding size at) 0 ++ spelled e size n
 
--- a text's length, which counts its NUL, the text and the NUL
+-- a string: its length, which counts its NUL, the string and the NUL
 abbrev pub text_written : ℕ → Endian → List ℕ → List ℕ
 text_written at e text = number_written 4 at e (length text + 1) ++ (text ++ 0 ∷ [])
 
--- items one after the other
+-- items, one after another
 abbrev pub all_written : {A : Type 0} → (ℕ → A → List ℕ) → ℕ → List A → List ℕ
 all_written f at [] = []
 all_written f at (x ∷ xs) = f at x ++ all_written f (at + length (f at x)) xs
 
--- the octets of a value at a place
+-- the octets of a value at a position
 abbrev pub written : (t : CdrType) → ℕ → Endian → ValueOf t → List ℕ
 written (Unsigned size) at e n = number_written size at e n
 written (Signed w) at e z = number_written (byte_len w) at e (cast_unsigned w z)
@@ -46,7 +46,7 @@ field_appended size field o = record { octets = o.octets ++ (replicate (padding 
 
 -- ---- by the relation
 
--- what can be written as a value of the type
+-- a value can be written as one of its type
 abbrev pub Fits : (t : CdrType) → ValueOf t → Type 0
 Fits (Unsigned size) n = n < 256 ^ size
 Fits (Signed w) z = FitsSigned w z
@@ -56,7 +56,7 @@ Fits (Octets count) body = length body ≡ count
 Fits (Both s t) v = Fits s v.0 × Fits t v.1
 Fits (Sequence t) vs = (length vs < 2 ^ 32) × AllByRecursion (Fits t) vs
 
--- what is written is related, with zeros in its gaps
+-- the octets that are written encode the value, with zeros as padding
 pub record Writes (t : CdrType) (old new : Output) (v : ValueOf t) : Type 0 where
   pub octets : List ℕ
   pub parts : new.octets ≡ old.octets ++ octets

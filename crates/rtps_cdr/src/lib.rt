@@ -1,9 +1,9 @@
-//! Values in the common data representation (CORBA CDR 9.3, DDSI-RTPS 10): read from a slice, and
-//! written into a buffer, in either byte order.
+//! Values in the common data representation (CORBA CDR 9.3, DDSI-RTPS 10): they are read from a
+//! slice, and written into a buffer, in either byte order.
 //!
-//! What octets stand for is the relation `IsCdr` of `specs/Cdr.antt`. Alignment is counted from the
-//! first octet that a reader or a writer has, which is the one after the encapsulation of a
-//! payload.
+//! The relation `IsCdr` in `specs/Cdr.antt` defines which octets encode which value. Alignment
+//! counts from the first octet of a reader or a writer, which is the one after the encapsulation
+//! header of a payload.
 #![tactic(auto)]
 
 mod fault;

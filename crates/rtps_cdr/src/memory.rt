@@ -1,6 +1,6 @@
-//! The error of the calls that allocate.
+//! The error of calls that allocate.
 
 use std::alloc::AllocError;
 
-/// The allocator refused a growth. It is the allocator's own error under another name.
+/// The allocator refused a growth: another name for the allocator's own error.
 pub type NoMemory = AllocError;

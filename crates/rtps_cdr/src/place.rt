@@ -1,10 +1,10 @@
-//! Places of values: a primitive is at a multiple of its size (CORBA CDR 9.3.1.1).
+//! Alignment of values: a primitive is at a multiple of its size (CORBA CDR 9.3.1.1).
 
 ghost use Rattle.std.specs.Prelude.{◌≡◌, ◌+◌, ◌^◌, ◌≤◌, ◌<◌};
 ghost use Rattle.rtps_cdr.specs.Cdr.{padding};
 ghost use Rattle.rtps_cdr.specs.Reading.{aligned};
 
-/// How many octets lie between a place and the next multiple of `size`, itself included.
+/// Returns the number of octets up to the next multiple of `size`; 0 if the position is one.
 pub(crate) fn gap_before(position: usize, size: usize) -> usize
     requires some { 0 < size }
     requires small { size ≤ 8 }
@@ -14,7 +14,7 @@ pub(crate) fn gap_before(position: usize, size: usize) -> usize
     (size - position % size) % size
 }
 
-/// The first multiple of `size` that is not below a place.
+/// Returns the least multiple of `size` that is not below a position.
 pub(crate) fn align(position: usize, size: usize) -> usize
     requires some { 0 < size }
     requires small { size ≤ 8 }

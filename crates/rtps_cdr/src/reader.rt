@@ -1,4 +1,4 @@
-//! Values read one after the other.
+//! Reading values one after another.
 
 ghost use Rattle.std.specs.Prelude.{◌≡◌, ◌≤◌, length, IfOk};
 ghost use Rattle.std.specs.Int.{w8, w16, w32, w64};
@@ -13,12 +13,12 @@ use std::marker::Model;
 
 /// Reads values from borrowed octets.
 ///
-/// Alignment is counted from the first octet, and the octets of a gap are free. Each read moves
-/// after its value; after a fault the reader is where it was. Nothing is copied, and no
+/// Alignment counts from the first octet, and padding may have any octets. Each read moves the
+/// reader after its value; after a fault the reader is where it was. Nothing is copied, and no
 /// memory is taken.
 ///
-/// A read is `Short` where the octets end before the value does, the gap before it included; other
-/// faults are reported at the read that has them.
+/// A read fails with `Short` if the octets end before the value does, or within the padding before
+/// it. Other faults are reported by the read that finds them.
 #[derive(Drop)]
 pub struct CdrReader<'a> {
     octets: &'a [u8],
@@ -39,8 +39,8 @@ impl<'a> Model for CdrReader<'a> {
 }
 
 impl<'a> CdrReader<'a> {
-    /// A reader at the first octet, from which alignment is counted. Every number that it reads has
-    /// its octets in that order.
+    /// Returns a reader at the first octet, from which alignment counts. `endian` is the byte order
+    /// of every number that it reads.
     pub fn new(octets: &'a [u8], endian: Endian) -> CdrReader<'a>
         ensures { result ≡ start endian octets.entry.now }
     {
@@ -51,14 +51,14 @@ impl<'a> CdrReader<'a> {
         }
     }
 
-    /// How many octets lie before the reader, gaps included.
+    /// Returns the number of octets before the reader, with padding.
     pub fn position(&self) -> usize
         ensures { result ≡ self.now.position }
     {
         self.position
     }
 
-    /// Moves to the end of what was read; at a fault the reader stays.
+    /// Moves to the end of the value that was read; after a fault the reader stays where it is.
     fn settle<T>(&mut self, read: Result<(T, usize), CdrFault>) -> Result<T, CdrFault>
         requires { IfOk read (λ r. r.1 ≤ length self.old.octets) }
         ensures value { result ≡ value_of read }
@@ -73,7 +73,7 @@ impl<'a> CdrReader<'a> {
         }
     }
 
-    /// Reads a number of 8 bits. `Short` where no octet is left.
+    /// Reads an unsigned number of 8 bits. `Short` if no octet is left.
     pub fn read_u8(&mut self) -> Result<u8, CdrFault>
         ensures value { result ≡ value_of (number_in 1 self.old) }
         ensures moves { self.new ≡ moved self.old (number_in 1 self.old) }
@@ -83,7 +83,7 @@ impl<'a> CdrReader<'a> {
         self.settle(read)
     }
 
-    /// Reads a number of 8 bits with a sign.
+    /// Reads a signed number of 8 bits.
     pub fn read_i8(&mut self) -> Result<i8, CdrFault>
         ensures value { result ≡ value_of (signed_in w8 self.old) }
         ensures moves { self.new ≡ moved self.old (signed_in w8 self.old) }
@@ -95,7 +95,7 @@ impl<'a> CdrReader<'a> {
         }
     }
 
-    /// Reads a number of 16 bits, aligned to 2 octets (CORBA CDR 9.3.1.1).
+    /// Reads an unsigned number of 16 bits, aligned to 2 octets (CORBA CDR 9.3.1.1).
     pub fn read_u16(&mut self) -> Result<u16, CdrFault>
         ensures value { result ≡ value_of (number_in 2 self.old) }
         ensures moves { self.new ≡ moved self.old (number_in 2 self.old) }
@@ -105,7 +105,7 @@ impl<'a> CdrReader<'a> {
         self.settle(read)
     }
 
-    /// Reads a number of 16 bits with a sign, aligned to 2 octets.
+    /// Reads a signed number of 16 bits, aligned to 2 octets.
     pub fn read_i16(&mut self) -> Result<i16, CdrFault>
         ensures value { result ≡ value_of (signed_in w16 self.old) }
         ensures moves { self.new ≡ moved self.old (signed_in w16 self.old) }
@@ -117,7 +117,7 @@ impl<'a> CdrReader<'a> {
         }
     }
 
-    /// Reads a number of 32 bits, aligned to 4 octets (CORBA CDR 9.3.1.1).
+    /// Reads an unsigned number of 32 bits, aligned to 4 octets (CORBA CDR 9.3.1.1).
     pub fn read_u32(&mut self) -> Result<u32, CdrFault>
         ensures value { result ≡ value_of (number_in 4 self.old) }
         ensures moves { self.new ≡ moved self.old (number_in 4 self.old) }
@@ -127,7 +127,7 @@ impl<'a> CdrReader<'a> {
         self.settle(read)
     }
 
-    /// Reads a number of 32 bits with a sign, aligned to 4 octets.
+    /// Reads a signed number of 32 bits, aligned to 4 octets.
     pub fn read_i32(&mut self) -> Result<i32, CdrFault>
         ensures value { result ≡ value_of (signed_in w32 self.old) }
         ensures moves { self.new ≡ moved self.old (signed_in w32 self.old) }
@@ -139,7 +139,7 @@ impl<'a> CdrReader<'a> {
         }
     }
 
-    /// Reads a number of 64 bits, aligned to 8 octets (CORBA CDR 9.3.1.1).
+    /// Reads an unsigned number of 64 bits, aligned to 8 octets (CORBA CDR 9.3.1.1).
     pub fn read_u64(&mut self) -> Result<u64, CdrFault>
         ensures value { result ≡ value_of (number_in 8 self.old) }
         ensures moves { self.new ≡ moved self.old (number_in 8 self.old) }
@@ -149,7 +149,7 @@ impl<'a> CdrReader<'a> {
         self.settle(read)
     }
 
-    /// Reads a number of 64 bits with a sign, aligned to 8 octets.
+    /// Reads a signed number of 64 bits, aligned to 8 octets.
     pub fn read_i64(&mut self) -> Result<i64, CdrFault>
         ensures value { result ≡ value_of (signed_in w64 self.old) }
         ensures moves { self.new ≡ moved self.old (signed_in w64 self.old) }
@@ -161,7 +161,7 @@ impl<'a> CdrReader<'a> {
         }
     }
 
-    /// Reads a truth value. `BadBool` where its octet is neither 0 nor 1 (CORBA CDR 9.3.1.5).
+    /// Reads a boolean. `BadBool` if its octet is neither 0 nor 1 (CORBA CDR 9.3.1.5).
     pub fn read_bool(&mut self) -> Result<bool, CdrFault>
         ensures value { result ≡ value_of (bool_in self.old) }
         ensures moves { self.new ≡ moved self.old (bool_in self.old) }
@@ -171,8 +171,8 @@ impl<'a> CdrReader<'a> {
         self.settle(read)
     }
 
-    /// Reads how many items a sequence has, aligned to 4 octets (CORBA CDR 9.3.2.5). It is not
-    /// compared with the octets that are left.
+    /// Reads the number of items of a sequence, aligned to 4 octets (CORBA CDR 9.3.2.5). It is not
+    /// compared with the number of octets left.
     pub fn read_len(&mut self) -> Result<u32, CdrFault>
         ensures value { result ≡ value_of (number_in 4 self.old) }
         ensures moves { self.new ≡ moved self.old (number_in 4 self.old) }
@@ -181,11 +181,11 @@ impl<'a> CdrReader<'a> {
         self.read_u32()
     }
 
-    /// Reads a text, and gives it without its NUL (CORBA CDR 9.3.2.7).
+    /// Reads a string, and returns it without its NUL (CORBA CDR 9.3.2.7).
     ///
-    /// Its length counts the NUL; a length of 0 is the empty text too, with no NUL. `BadString`
-    /// where the last octet is not NUL, else `NotUtf8` where the others are not UTF-8. They may
-    /// hold a NUL.
+    /// The length counts the NUL. A length of 0, without a NUL, is accepted as the empty string,
+    /// since some serializers write it so. `BadString` if the last octet is not NUL, else `NotUtf8`
+    /// if the others are not UTF-8. A NUL among them is accepted.
     #[tactic(auto, using(crate::proofs::Related::seen_value, crate::proofs::Related::seen_moved))]
     pub fn read_string(&mut self) -> Result<&'a str, CdrFault>
         ensures value { seen result ≡ value_of (text_in self.old) }
@@ -196,9 +196,9 @@ impl<'a> CdrReader<'a> {
         self.settle(read)
     }
 
-    /// Reads a sequence of texts (CORBA CDR 9.3.2.5).
+    /// Reads a sequence of strings (CORBA CDR 9.3.2.5).
     ///
-    /// All of them are looked at here, in order, and the first fault is the fault of the sequence.
+    /// All of them are checked here, in order; the first fault is that of the sequence.
     pub fn read_strings(&mut self) -> Result<Strings<'a>, CdrFault>
         ensures value { result ≡ value_of (texts_in self.old) }
         ensures moves { self.new ≡ moved self.old (texts_in self.old) }
@@ -208,7 +208,7 @@ impl<'a> CdrReader<'a> {
         self.settle(read)
     }
 
-    /// Reads that many octets as they are, with no gap before them. `Short` where fewer are left.
+    /// Reads `count` octets as they are, without padding before them. `Short` if fewer are left.
     #[tactic(auto, using(crate::proofs::Related::seen_value, crate::proofs::Related::seen_moved))]
     pub fn read_octets(&mut self, count: usize) -> Result<&'a [u8], CdrFault>
         ensures value { seen result ≡ value_of (octets_in count self.old) }

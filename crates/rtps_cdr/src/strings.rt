@@ -1,4 +1,4 @@
-//! A sequence of texts.
+//! Sequences of strings.
 
 ghost use Rattle.std.specs.Prelude.{◌≡◌, ◌≤◌, length, true, is_ok, List, ℕ, IfOk};
 ghost use Rattle.std.specs.Iterator.{YieldsFirstBy, item_count};
@@ -10,11 +10,11 @@ use crate::value::{text_at, u32_at};
 use rtps_types::Endian;
 use std::marker::Model;
 
-/// The texts of a sequence, one after the other, as
-/// [`CdrReader::read_strings`](crate::CdrReader::read_strings) gives them.
+/// An iterator over the strings of a sequence, as
+/// [`CdrReader::read_strings`](crate::CdrReader::read_strings) returns it.
 ///
-/// None of them is faulty, since the whole sequence was looked at when it was read. They lie where
-/// the octets lie, so no memory is taken.
+/// None of them has a fault, since the whole sequence was checked when it was read. They are
+/// borrowed from the octets, so no memory is taken.
 #[derive(Drop)]
 pub struct Strings<'a> {
     octets: &'a [u8],
@@ -56,7 +56,7 @@ impl<'a> Iterator for Strings<'a> {
     }
 }
 
-/// The place after `count` texts.
+/// Returns the position after `count` strings.
 #[tactic(auto, using(crate::proofs::Texts::places_end))]
 fn behind_strings(
     octets: &[u8],
@@ -78,7 +78,8 @@ fn behind_strings(
     Ok(at)
 }
 
-/// The sequence of texts whose count is at the next multiple of four, and the place after it.
+/// Reads the sequence of strings whose count is at the next multiple of four. Returns it and the
+/// position after it.
 pub(crate) fn strings_at(
     octets: &[u8],
     position: usize,

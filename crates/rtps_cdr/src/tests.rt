@@ -1,4 +1,4 @@
-//! Values against octets from outside.
+//! Values, with octets from other sources.
 
 use crate::{CdrFault, CdrReader, CdrWriter};
 use linked_list_allocator::LocalHeap;
@@ -6,18 +6,17 @@ use rtps_types::Endian;
 use std::alloc::{AllocError, Allocator};
 use std::test::Fail;
 
-/// Octets that each are their place.
+/// Octets that are equal to their positions.
 const PLACES: [u8; 16] = [0, 1, 2, 3, 4, 5, 6, 7, 8, 9, 10, 11, 12, 13, 14, 15];
 
-/// A reader that has passed `octets` octets.
+/// Returns a reader that has passed `count` octets.
 fn behind(octets: &[u8], count: usize, endian: Endian) -> Result<CdrReader<'_>, CdrFault> {
     let mut reader = CdrReader::new(octets, endian);
     reader.read_octets(count)?;
     Ok(reader)
 }
 
-/// Where a reader of [`PLACES`] is, and the numbers of 16, 32 and 64 bits that it finds, high
-/// octet first.
+/// A position in [`PLACES`], and the big-endian numbers of 16, 32 and 64 bits that are read there.
 const ALIGNED: [(usize, u16, u32, u64); 9] = [
     (0, 0x0001, 0x0001_0203, 0x0001_0203_0405_0607),
     (1, 0x0203, 0x0405_0607, 0x0809_0a0b_0c0d_0e0f),
@@ -30,7 +29,8 @@ const ALIGNED: [(usize, u16, u32, u64); 9] = [
     (8, 0x0809, 0x0809_0a0b, 0x0809_0a0b_0c0d_0e0f),
 ];
 
-/// The numbers of 16, 32 and 64 bits that a reader finds after the first `count` of [`PLACES`].
+/// Returns the numbers of 16, 32 and 64 bits that are read after the first `start` octets of
+/// [`PLACES`].
 fn found(start: usize, endian: Endian) -> Result<(u16, u32, u64), CdrFault> {
     Ok((
         behind(&PLACES, start, endian)?.read_u16()?,
@@ -75,7 +75,7 @@ fn numbers_have_a_sign(rt: HostRuntime) -> Result<(), Fail> {
     Ok(())
 }
 
-/// A value to be read.
+/// The kinds of values that are read.
 #[derive(Clone, Copy)]
 enum Kind {
     Octet,
@@ -88,7 +88,7 @@ enum Kind {
     Texts,
 }
 
-/// The fault of reading a value.
+/// Returns the fault of reading a value, if there is one.
 fn fault(reader: &mut CdrReader<'_>, kind: Kind) -> Option<CdrFault> {
     match kind {
         Kind::Octet => reader.read_u8().err(),
@@ -102,7 +102,8 @@ fn fault(reader: &mut CdrReader<'_>, kind: Kind) -> Option<CdrFault> {
     }
 }
 
-/// Octets, high octet first, how many are passed, what is read after them, and its fault.
+/// Big-endian octets, the number of octets to be passed, the kind of value after them, and the
+/// expected fault.
 type Row = (&'static [u8], usize, Kind, Option<CdrFault>);
 
 const SHORT: Option<CdrFault> = Some(CdrFault::Short);
@@ -153,7 +154,7 @@ const TEXTS: [Row; 9] = [
     ),
 ];
 
-/// The fault of a row, once it is seen that a fault moves nothing.
+/// Returns the fault of a row, after a check that a fault doesn't move the reader.
 fn fault_of(octets: &[u8], start: usize, kind: Kind) -> Result<Option<CdrFault>, Fail> {
     let mut reader = behind(octets, start, Endian::Big)?;
     let found = fault(&mut reader, kind);
@@ -211,7 +212,7 @@ fn a_text_ends_with_its_nul(rt: HostRuntime) -> Result<(), Fail> {
     Ok(())
 }
 
-/// One value of each type.
+/// Writes one value of each type.
 fn write_each<A: Allocator>(writer: &mut CdrWriter<A>) -> Result<(), AllocError> {
     writer.write_bool(true)?;
     writer.write_u16(0x0203)?;
@@ -227,7 +228,7 @@ fn write_each<A: Allocator>(writer: &mut CdrWriter<A>) -> Result<(), AllocError>
     writer.write_len(2)
 }
 
-/// The octets of these values, high octet first.
+/// The octets of these values, big-endian.
 const EACH: &[u8] =
     b"\x01\0\x02\x03\xff\0\0\0\x08\x09\x0a\x0b\xaa\0\0\0\xff\xff\xff\xff\xff\xff\xff\xfe\
     \xff\xfd\0\0\0\0\0\x05BLUE\0\0\0\0\xff\xff\xff\xfc\x01\x02\x03\0\x01\x02\x03\x04\x05\x06\x07\x08\0\0\0\x02";

@@ -1,4 +1,4 @@
-//! The value at a place, and the place after it.
+//! Reading one value at a position. Each function returns the value and the position after it.
 
 ghost use Rattle.std.specs.Prelude.{◌≡◌, ◌≤◌, ◌<◌, length, IfOk};
 ghost use Rattle.rtps_types.specs.declared.field.Endian.{Endian};
@@ -8,7 +8,7 @@ use crate::CdrFault;
 use crate::place::align;
 use rtps_types::{Endian, get_u16, get_u32, get_u64};
 
-/// The octet at a place, and the place after it.
+/// Reads the octet at a position.
 #[tactic(auto, using(crate::proofs::Related::octet_is, crate::proofs::Related::octet_none))]
 pub(crate) fn octet_at(octets: &[u8], at: usize) -> Result<(u8, usize), CdrFault>
     requires { at ≤ length octets.now }
@@ -21,7 +21,7 @@ pub(crate) fn octet_at(octets: &[u8], at: usize) -> Result<(u8, usize), CdrFault
     }
 }
 
-/// The number at the next multiple of 2, and the place after it.
+/// Reads the number at the next multiple of 2.
 pub(crate) fn u16_at(
     octets: &[u8],
     position: usize,
@@ -36,7 +36,7 @@ pub(crate) fn u16_at(
     Ok((x, at + 2))
 }
 
-/// The number at the next multiple of 4, and the place after it.
+/// Reads the number at the next multiple of 4.
 pub(crate) fn u32_at(
     octets: &[u8],
     position: usize,
@@ -51,7 +51,7 @@ pub(crate) fn u32_at(
     Ok((x, at + 4))
 }
 
-/// The number at the next multiple of 8, and the place after it.
+/// Reads the number at the next multiple of 8.
 pub(crate) fn u64_at(
     octets: &[u8],
     position: usize,
@@ -66,7 +66,7 @@ pub(crate) fn u64_at(
     Ok((x, at + 8))
 }
 
-/// The octets at a place, and the place after them.
+/// Reads octets at a position.
 pub(crate) fn octets_at(octets: &[u8], at: usize, count: usize) -> Result<(&[u8], usize), CdrFault>
     requires { at ≤ length octets.now }
     ensures value { place_seen result ≡ octets_from count octets.now at }
@@ -80,7 +80,7 @@ pub(crate) fn octets_at(octets: &[u8], at: usize, count: usize) -> Result<(&[u8]
     Ok((body, at + count))
 }
 
-/// A text without its NUL.
+/// Checks a string with its NUL. Returns it without the NUL, and `after`.
 #[tactic(auto, using(crate::proofs::Related::utf8_true, crate::proofs::Related::utf8_false))]
 fn text_in_body(body: &[u8], after: usize) -> Result<(&str, usize), CdrFault>
     requires { 0 < length body.now }
@@ -98,7 +98,7 @@ fn text_in_body(body: &[u8], after: usize) -> Result<(&str, usize), CdrFault>
     }
 }
 
-/// The text whose length is at the next multiple of four.
+/// Reads the string whose length is at the next multiple of four.
 #[tactic(auto, unfolding(crate::specs::Reading::text_from))]
 pub(crate) fn text_at(
     octets: &[u8],
@@ -117,7 +117,7 @@ pub(crate) fn text_at(
     text_in_body(body, after)
 }
 
-/// The truth value at a place, and the place after it.
+/// Reads the boolean at a position.
 pub(crate) fn bool_at(octets: &[u8], position: usize) -> Result<(bool, usize), CdrFault>
     requires { position ≤ length octets.now }
     ensures value { (e : Endian) → result ≡ bool_from e octets.now position }

@@ -1,4 +1,4 @@
-//! Values written one after the other.
+//! Writing values one after another.
 
 ghost use Rattle.std.specs.Prelude.{◌≡◌, ◌+◌, ◌<◌, ◌≤◌, ◌^◌, [], length, IsUtf8, take, is_ok, OnOk, OnErr, if◌then◌else◌};
 ghost use Rattle.std.specs.Int.{w8, w16, w32, w64};
@@ -12,8 +12,8 @@ use std::marker::Model;
 
 /// Writes values one after another into a buffer of its own.
 ///
-/// Alignment is counted from the first octet, and the octets of a gap are zeros. When a call
-/// is out of memory, the writer is as it was before it.
+/// Alignment counts from the first octet, and padding has zeros. When a call runs out of memory,
+/// the writer is as it was before.
 #[derive(Drop)]
 pub struct CdrWriter<A: Allocator = Global> {
     octets: Vec<u8, A>,
@@ -26,11 +26,11 @@ impl<A: Allocator> Model for CdrWriter<A> {
     ghost view = { λ w. record { octets = w.octets.items; endian = w.endian } };
 }
 
-/// What fills the gaps.
+/// The octets of padding.
 const ZEROS: [u8; 8] = [0; 8];
 
 impl<A: Allocator> CdrWriter<A> {
-    /// A writer that has written nothing.
+    /// Returns an empty writer.
     pub fn new(alloc: A, endian: Endian) -> CdrWriter<A>
         ensures { result ≡ record { octets = []; endian = endian } }
     {
@@ -40,14 +40,14 @@ impl<A: Allocator> CdrWriter<A> {
         }
     }
 
-    /// What was written, from the first octet on.
+    /// Returns the octets that were written.
     pub fn finish(self) -> Vec<u8, A>
         ensures { result.items ≡ self.octets }
     {
         self.octets
     }
 
-    /// Writes a field after its gap.
+    /// Writes a field after its padding.
     #[tactic(auto, using(crate::proofs::Written::zeros))]
     fn append(&mut self, size: usize, field: &[u8]) -> Result<(), AllocError>
         requires some { 0 < size }
@@ -65,7 +65,7 @@ impl<A: Allocator> CdrWriter<A> {
         Ok(())
     }
 
-    /// Writes a number of 8 bits.
+    /// Writes an unsigned number of 8 bits.
     pub fn write_u8(&mut self, value: u8) -> Result<(), AllocError>
         ensures value { self.new
             ≡ (if is_ok result then appended (Unsigned 1) value self.old else self.old) }
@@ -77,7 +77,7 @@ impl<A: Allocator> CdrWriter<A> {
         }
     }
 
-    /// Writes a number of 16 bits, aligned to 2 octets.
+    /// Writes an unsigned number of 16 bits, aligned to 2 octets.
     pub fn write_u16(&mut self, value: u16) -> Result<(), AllocError>
         ensures value { self.new
             ≡ (if is_ok result then appended (Unsigned 2) value self.old else self.old) }
@@ -89,7 +89,7 @@ impl<A: Allocator> CdrWriter<A> {
         }
     }
 
-    /// Writes a number of 32 bits, aligned to 4 octets.
+    /// Writes an unsigned number of 32 bits, aligned to 4 octets.
     pub fn write_u32(&mut self, value: u32) -> Result<(), AllocError>
         ensures value { self.new
             ≡ (if is_ok result then appended (Unsigned 4) value self.old else self.old) }
@@ -101,7 +101,7 @@ impl<A: Allocator> CdrWriter<A> {
         }
     }
 
-    /// Writes a number of 64 bits, aligned to 8 octets.
+    /// Writes an unsigned number of 64 bits, aligned to 8 octets.
     pub fn write_u64(&mut self, value: u64) -> Result<(), AllocError>
         ensures value { self.new
             ≡ (if is_ok result then appended (Unsigned 8) value self.old else self.old) }
@@ -113,7 +113,7 @@ impl<A: Allocator> CdrWriter<A> {
         }
     }
 
-    /// Writes a number of 8 bits with a sign.
+    /// Writes a signed number of 8 bits.
     pub fn write_i8(&mut self, value: i8) -> Result<(), AllocError>
         ensures value { self.new
             ≡ (if is_ok result then appended (Signed w8) value self.old else self.old) }
@@ -122,7 +122,7 @@ impl<A: Allocator> CdrWriter<A> {
         self.write_u8(value.cast_unsigned())
     }
 
-    /// Writes a number of 16 bits with a sign, aligned to 2 octets.
+    /// Writes a signed number of 16 bits, aligned to 2 octets.
     pub fn write_i16(&mut self, value: i16) -> Result<(), AllocError>
         ensures value { self.new
             ≡ (if is_ok result then appended (Signed w16) value self.old else self.old) }
@@ -131,7 +131,7 @@ impl<A: Allocator> CdrWriter<A> {
         self.write_u16(value.cast_unsigned())
     }
 
-    /// Writes a number of 32 bits with a sign, aligned to 4 octets.
+    /// Writes a signed number of 32 bits, aligned to 4 octets.
     pub fn write_i32(&mut self, value: i32) -> Result<(), AllocError>
         ensures value { self.new
             ≡ (if is_ok result then appended (Signed w32) value self.old else self.old) }
@@ -140,7 +140,7 @@ impl<A: Allocator> CdrWriter<A> {
         self.write_u32(value.cast_unsigned())
     }
 
-    /// Writes a number of 64 bits with a sign, aligned to 8 octets.
+    /// Writes a signed number of 64 bits, aligned to 8 octets.
     pub fn write_i64(&mut self, value: i64) -> Result<(), AllocError>
         ensures value { self.new
             ≡ (if is_ok result then appended (Signed w64) value self.old else self.old) }
@@ -149,7 +149,7 @@ impl<A: Allocator> CdrWriter<A> {
         self.write_u64(value.cast_unsigned())
     }
 
-    /// Writes a truth value, as an octet that is 0 or 1.
+    /// Writes a boolean, as an octet that is 0 or 1.
     pub fn write_bool(&mut self, value: bool) -> Result<(), AllocError>
         ensures value { self.new
             ≡ (if is_ok result then appended Boolean value self.old else self.old) }
@@ -158,8 +158,8 @@ impl<A: Allocator> CdrWriter<A> {
         self.append(1, &[u8::from(value)])
     }
 
-    /// Writes how many items a sequence has, aligned to 4 octets; each is then to be written (CORBA
-    /// CDR 9.3.2.5).
+    /// Writes the number of items of a sequence, aligned to 4 octets. The items have to be written
+    /// after it (CORBA CDR 9.3.2.5).
     pub fn write_len(&mut self, count: u32) -> Result<(), AllocError>
         ensures value { self.new
             ≡ (if is_ok result then appended (Unsigned 4) count self.old else self.old) }
@@ -168,7 +168,8 @@ impl<A: Allocator> CdrWriter<A> {
         self.write_u32(count)
     }
 
-    /// Writes a text: its length, which counts its NUL, the text and the NUL (CORBA CDR 9.3.2.7).
+    /// Writes a string: its length, which counts its NUL, the string and the NUL (CORBA CDR
+    /// 9.3.2.7).
     #[tactic(auto, using(crate::proofs::Written::text_writes))]
     pub fn write_string(&mut self, text: &str) -> Result<(), AllocError>
         requires { length text.now + 1 < 2 ^ 32 }
@@ -184,7 +185,7 @@ impl<A: Allocator> CdrWriter<A> {
         written
     }
 
-    /// Writes a text; when it is out of memory, a part of the text may be left.
+    /// Writes a string. When memory runs out, a part of it may be left.
     fn put_string(&mut self, text: &str) -> Result<(), AllocError>
         requires { length text.now + 1 < 2 ^ 32 }
         ensures text { IsUtf8 text.now }
@@ -197,7 +198,7 @@ impl<A: Allocator> CdrWriter<A> {
         Ok(self.octets.push(0)?)
     }
 
-    /// Writes octets as they are, with no gap and no length.
+    /// Writes octets as they are, without padding or a length.
     pub fn write_octets(&mut self, octets: &[u8]) -> Result<(), AllocError>
         ensures value { self.new
             ≡ (if is_ok result then appended (Octets

@@ -15,8 +15,8 @@ use Rattle.rtps_proxy.specs.Kept as proxy
 use Rattle.rtps_proxy.specs.Matches.{AllStand, Match, begun}
 use Rattle.rtps_discovery.specs.Announcement.{Comes, Facts}
 use Rattle.rtps_discovery.specs.Changes.{ChangeAt}
-use Rattle.rtps_discovery.specs.Known.{Known, Participant, announcer, known_after, participant_at, prefix_order, publications_reader, publications_writer, subscriptions_reader, subscriptions_writer, where_announced, with_announcers}
-use Rattle.rtps_discovery.specs.Kept.{Applies, HeldView, IsKnown, is_announcer, participant_in}
+use Rattle.rtps_discovery.specs.Known.{Known, RemoteParticipant, announcer, known_after, participant_at, prefix_order, publications_reader, publications_writer, subscriptions_reader, subscriptions_writer, where_announced, with_announcers}
+use Rattle.rtps_discovery.specs.Kept.{Applies, RegistryView, IsKnown, is_announcer, participant_in}
 use Rattle.rtps_discovery.specs.Ends.{Covers}
 use Rattle.rtps_discovery.proofs.Unheard.{quiet}
 
@@ -41,10 +41,10 @@ with_announces own p f ms all =
     announced_where f.announces_readers (announcer own p subscriptions_writer subscriptions_reader f.metatraffic) (where_announced f.announces_writers (announcer own p publications_writer publications_reader f.metatraffic) ms) refl
     (announced_where f.announces_writers (announcer own p publications_writer publications_reader f.metatraffic) ms refl all)
 
-abbrev told_of : ℕ → Facts → Participant
+abbrev told_of : ℕ → Facts → RemoteParticipant
 told_of moment f = record { locators = f.locators; lease = f.lease; heard = moment }
 
-pub comes : (d : HeldView) (p : GuidPrefix) (f : Facts) (ps : List (GuidPrefix × Participant)) (leases : List (ℕ × GuidPrefix)) (proxies : List (Guid × proxy.ProxyView)) (earlier : List ChangeAt)
+pub comes : (d : RegistryView) (p : GuidPrefix) (f : Facts) (ps : List (GuidPrefix × RemoteParticipant)) (leases : List (ℕ × GuidPrefix)) (proxies : List (Guid × proxy.ProxyView)) (earlier : List ChangeAt)
     → ps ≡ insert_entry prefix_order d.participants p (told_of d.moment f)
     → IsStrictlySortedBy prefix_order (keys_of ps)
     → (Covers d.leases d.participants → Covers leases ps)
@@ -58,7 +58,7 @@ comes d p f ps leases proxies earlier e up renew begin = record {
     fixed = is.fixed;
     started = is.started;
     participants = entered k is;
-    in_order = subst (λ (es : List (GuidPrefix × Participant)). IsStrictlySortedBy prefix_order (keys_of es)) (entered k is) up;
+    in_order = subst (λ (es : List (GuidPrefix × RemoteParticipant)). IsStrictlySortedBy prefix_order (keys_of es)) (entered k is) up;
     leases = subst (Covers leases) (entered k is) (renew (subst (Covers d.leases) (sym is.participants) is.leases));
     announcers = rw (← is.own, ← is.participants) (begin k.announcers is.announcers);
     announce = by_test k (is_some (participant_at k p)) is.announce;
@@ -71,7 +71,7 @@ comes d p f ps leases proxies earlier e up renew begin = record {
 }
   where
     entered : (k : Known) → IsKnown k d → ps ≡ insert_entry prefix_order k.participants p (told_of k.moment f)
-    entered k is = e ∙ ap (λ (l : List (GuidPrefix × Participant)). insert_entry prefix_order l p (told_of d.moment f)) is.participants ∙ ap (λ m. insert_entry prefix_order k.participants p (told_of m f)) is.moment
+    entered k is = e ∙ ap (λ (l : List (GuidPrefix × RemoteParticipant)). insert_entry prefix_order l p (told_of d.moment f)) is.participants ∙ ap (λ m. insert_entry prefix_order k.participants p (told_of m f)) is.moment
 
     by_test : (k : Known) (b : Bool) → Announce k.announcers → Announce (if b then k.announcers else with_announcers k.own p f k.announcers)
     by_test k true all = all

@@ -21,7 +21,7 @@ use Rattle.rtps_types.specs.MatchChange.{MatchChange, Matches, Unmatches, Refuse
 use Rattle.rtps_discovery.specs.Changes.{ChangeAt, at, at_pair, both, changes, row, rows, told}
 use Rattle.rtps_discovery.specs.Differences.{ChangesAreDifferences, IsRefused}
 use Rattle.rtps_discovery.proofs.Following.{in_order}
-use Rattle.rtps_discovery.specs.Known.{Known, Standing, Apart, Joined, Refused, Wish, is_fixed, is_joined, is_matched, locators_at, reader_at, standing, writer_at}
+use Rattle.rtps_discovery.specs.Known.{Known, PairState, Unmatched, Joined, Refused, Wish, is_fixed, is_joined, is_matched, locators_at, reader_at, standing, writer_at}
 
 -- ---- what a list contains
 
@@ -124,12 +124,12 @@ keyed (e ∷ ws) g w h = by_test (is_at g e.0) refl (keyed ws g w)
         let left : lookup (is_at g) ws ≡ Some w = rw t at h in
         later_in e.0 (keys_of ws) g (rest left)
 
-abbrev is_apart : Standing → Bool
-is_apart Apart = true
-is_apart Joined = false
-is_apart (Refused p) = false
+abbrev is_unmatched : PairState → Bool
+is_unmatched Unmatched = true
+is_unmatched Joined = false
+is_unmatched (Refused p) = false
 
-has_writer : (r : Option Wish) (ws : List (Guid × Offer)) (g : Guid) → is_apart (standing r (lookup (is_at g) ws)) ≡ false → Contains (keys_of ws) g
+has_writer : (r : Option Wish) (ws : List (Guid × Offer)) (g : Guid) → is_unmatched (standing r (lookup (is_at g) ws)) ≡ false → Contains (keys_of ws) g
 has_writer None ws g h = absurd (true≢false h)
 has_writer (Some r) ws g h = by_found (lookup (is_at g) ws) refl
   where
@@ -144,21 +144,21 @@ become_one k rank x y c =
     let is : at k x ≡ at rank y = one_in (at k x) (at rank y) c in
     (ap (λ (d : ChangeAt). d.rank) is, ap (λ (d : ChangeAt). d.what) is)
 
-pub record Begins (k rank : ℕ) (h g : Guid) (ls ms : List Locator) (a b : Standing) : Type 0 where
+pub record Begins (k rank : ℕ) (h g : Guid) (ls ms : List Locator) (a b : PairState) : Type 0 where
   pub ranks : k ≡ rank
   pub writers : h ≡ g
   pub locators : ls ≡ ms
   pub before : is_joined a ≡ false
   pub after : is_joined b ≡ true
 
-begins_told : (k rank : ℕ) (h g : Guid) (ls ms : List Locator) (a b : Standing) → Contains (told k h ls a b) (at rank (Matches g ms)) → Begins k rank h g ls ms a b
-begins_told k rank h g ls ms Apart Apart c = absurd (none_in _ c)
-begins_told k rank h g ls ms Apart Joined c =
+begins_told : (k rank : ℕ) (h g : Guid) (ls ms : List Locator) (a b : PairState) → Contains (told k h ls a b) (at rank (Matches g ms)) → Begins k rank h g ls ms a b
+begins_told k rank h g ls ms Unmatched Unmatched c = absurd (none_in _ c)
+begins_told k rank h g ls ms Unmatched Joined c =
     let is = become_one k rank (Matches h ls) (Matches g ms) c in let what : Matches h ls ≡ Matches g ms = is.1 in
     record { ranks = is.0; writers = cc; locators = cc; before = refl; after = refl }
-begins_told k rank h g ls ms Apart (Refused p) c =
+begins_told k rank h g ls ms Unmatched (Refused p) c =
     let is = become_one k rank (Refuses h p) (Matches g ms) c in let what : Refuses h p ≡ Matches g ms = is.1 in absurd cc
-begins_told k rank h g ls ms Joined Apart c =
+begins_told k rank h g ls ms Joined Unmatched c =
     let is = become_one k rank (Unmatches h) (Matches g ms) c in let what : Unmatches h ≡ Matches g ms = is.1 in absurd cc
 begins_told k rank h g ls ms Joined Joined c = absurd (none_in _ c)
 begins_told k rank h g ls ms Joined (Refused p) c = by_part (first_or (at k (Unmatches h)) (at k (Refuses h p) ∷ []) _ c)
@@ -166,7 +166,7 @@ begins_told k rank h g ls ms Joined (Refused p) c = by_part (first_or (at k (Unm
     by_part : (at k (Unmatches h) ≡ at rank (Matches g ms)) ⊎ Contains (at k (Refuses h p) ∷ []) (at rank (Matches g ms)) → Begins k rank h g ls ms Joined (Refused p)
     by_part (inl same) = let what : Unmatches h ≡ Matches g ms = ap (λ (d : ChangeAt). d.what) same in absurd cc
     by_part (inr later) = let is = become_one k rank (Refuses h p) (Matches g ms) later in let what : Refuses h p ≡ Matches g ms = is.1 in absurd cc
-begins_told k rank h g ls ms (Refused q) Apart c = absurd (none_in _ c)
+begins_told k rank h g ls ms (Refused q) Unmatched c = absurd (none_in _ c)
 begins_told k rank h g ls ms (Refused q) Joined c =
     let is = become_one k rank (Matches h ls) (Matches g ms) c in let what : Matches h ls ≡ Matches g ms = is.1 in
     record { ranks = is.0; writers = cc; locators = cc; before = refl; after = refl }
@@ -176,28 +176,28 @@ begins_told k rank h g ls ms (Refused q) (Refused p) c = by_test (same_policy q 
     by_test true d = absurd (none_in _ d)
     by_test false d = let is = become_one k rank (Refuses h p) (Matches g ms) d in let what : Refuses h p ≡ Matches g ms = is.1 in absurd cc
 
-told_begins : (k : ℕ) (g : Guid) (ls : List Locator) (a b : Standing) → is_joined a ≡ false → is_joined b ≡ true → Contains (told k g ls a b) (at k (Matches g ls))
-told_begins k g ls Apart Apart n y = absurd (true≢false (sym y))
-told_begins k g ls Apart Joined n y = at_first (at k (Matches g ls)) []
-told_begins k g ls Apart (Refused p) n y = absurd (true≢false (sym y))
+told_begins : (k : ℕ) (g : Guid) (ls : List Locator) (a b : PairState) → is_joined a ≡ false → is_joined b ≡ true → Contains (told k g ls a b) (at k (Matches g ls))
+told_begins k g ls Unmatched Unmatched n y = absurd (true≢false (sym y))
+told_begins k g ls Unmatched Joined n y = at_first (at k (Matches g ls)) []
+told_begins k g ls Unmatched (Refused p) n y = absurd (true≢false (sym y))
 told_begins k g ls Joined b n y = absurd (true≢false n)
-told_begins k g ls (Refused q) Apart n y = absurd (true≢false (sym y))
+told_begins k g ls (Refused q) Unmatched n y = absurd (true≢false (sym y))
 told_begins k g ls (Refused q) Joined n y = at_first (at k (Matches g ls)) []
 told_begins k g ls (Refused q) (Refused p) n y = absurd (true≢false (sym y))
 
-pub record EndsAt (k rank : ℕ) (h g : Guid) (a b : Standing) : Type 0 where
+pub record EndsAt (k rank : ℕ) (h g : Guid) (a b : PairState) : Type 0 where
   pub ranks : k ≡ rank
   pub writers : h ≡ g
   pub before : is_joined a ≡ true
   pub after : is_joined b ≡ false
 
-ends_told : (k rank : ℕ) (h g : Guid) (ls : List Locator) (a b : Standing) → Contains (told k h ls a b) (at rank (Unmatches g)) → EndsAt k rank h g a b
-ends_told k rank h g ls Apart Apart c = absurd (none_in _ c)
-ends_told k rank h g ls Apart Joined c =
+ends_told : (k rank : ℕ) (h g : Guid) (ls : List Locator) (a b : PairState) → Contains (told k h ls a b) (at rank (Unmatches g)) → EndsAt k rank h g a b
+ends_told k rank h g ls Unmatched Unmatched c = absurd (none_in _ c)
+ends_told k rank h g ls Unmatched Joined c =
     let is = become_one k rank (Matches h ls) (Unmatches g) c in let what : Matches h ls ≡ Unmatches g = is.1 in absurd cc
-ends_told k rank h g ls Apart (Refused p) c =
+ends_told k rank h g ls Unmatched (Refused p) c =
     let is = become_one k rank (Refuses h p) (Unmatches g) c in let what : Refuses h p ≡ Unmatches g = is.1 in absurd cc
-ends_told k rank h g ls Joined Apart c =
+ends_told k rank h g ls Joined Unmatched c =
     let is = become_one k rank (Unmatches h) (Unmatches g) c in let what : Unmatches h ≡ Unmatches g = is.1 in
     record { ranks = is.0; writers = cc; before = refl; after = refl }
 ends_told k rank h g ls Joined Joined c = absurd (none_in _ c)
@@ -208,7 +208,7 @@ ends_told k rank h g ls Joined (Refused p) c = by_part (first_or (at k (Unmatche
         let what : Unmatches h ≡ Unmatches g = ap (λ (d : ChangeAt). d.what) same in
         record { ranks = ap (λ (d : ChangeAt). d.rank) same; writers = cc; before = refl; after = refl }
     by_part (inr later) = let is = become_one k rank (Refuses h p) (Unmatches g) later in let what : Refuses h p ≡ Unmatches g = is.1 in absurd cc
-ends_told k rank h g ls (Refused q) Apart c = absurd (none_in _ c)
+ends_told k rank h g ls (Refused q) Unmatched c = absurd (none_in _ c)
 ends_told k rank h g ls (Refused q) Joined c =
     let is = become_one k rank (Matches h ls) (Unmatches g) c in let what : Matches h ls ≡ Unmatches g = is.1 in absurd cc
 ends_told k rank h g ls (Refused q) (Refused p) c = by_test (same_policy q p) c
@@ -217,27 +217,27 @@ ends_told k rank h g ls (Refused q) (Refused p) c = by_test (same_policy q p) c
     by_test true d = absurd (none_in _ d)
     by_test false d = let is = become_one k rank (Refuses h p) (Unmatches g) d in let what : Refuses h p ≡ Unmatches g = is.1 in absurd cc
 
-told_ends : (k : ℕ) (g : Guid) (ls : List Locator) (a b : Standing) → is_joined a ≡ true → is_joined b ≡ false → Contains (told k g ls a b) (at k (Unmatches g))
-told_ends k g ls Apart b y n = absurd (true≢false (sym y))
-told_ends k g ls Joined Apart y n = at_first (at k (Unmatches g)) []
+told_ends : (k : ℕ) (g : Guid) (ls : List Locator) (a b : PairState) → is_joined a ≡ true → is_joined b ≡ false → Contains (told k g ls a b) (at k (Unmatches g))
+told_ends k g ls Unmatched b y n = absurd (true≢false (sym y))
+told_ends k g ls Joined Unmatched y n = at_first (at k (Unmatches g)) []
 told_ends k g ls Joined Joined y n = absurd (true≢false n)
 told_ends k g ls Joined (Refused p) y n = at_first (at k (Unmatches g)) (at k (Refuses g p) ∷ [])
 told_ends k g ls (Refused q) b y n = absurd (true≢false (sym y))
 
-pub record RefusesAt (k rank : ℕ) (h g : Guid) (policy : PolicyId) (a b : Standing) : Type 0 where
+pub record RefusesAt (k rank : ℕ) (h g : Guid) (policy : PolicyId) (a b : PairState) : Type 0 where
   pub ranks : k ≡ rank
   pub writers : h ≡ g
   pub before : a ≡ Refused policy → ⊥
   pub after : b ≡ Refused policy
 
-refuses_told : (k rank : ℕ) (h g : Guid) (ls : List Locator) (policy : PolicyId) (a b : Standing) → Contains (told k h ls a b) (at rank (Refuses g policy)) → RefusesAt k rank h g policy a b
-refuses_told k rank h g ls policy Apart Apart c = absurd (none_in _ c)
-refuses_told k rank h g ls policy Apart Joined c =
+refuses_told : (k rank : ℕ) (h g : Guid) (ls : List Locator) (policy : PolicyId) (a b : PairState) → Contains (told k h ls a b) (at rank (Refuses g policy)) → RefusesAt k rank h g policy a b
+refuses_told k rank h g ls policy Unmatched Unmatched c = absurd (none_in _ c)
+refuses_told k rank h g ls policy Unmatched Joined c =
     let is = become_one k rank (Matches h ls) (Refuses g policy) c in let what : Matches h ls ≡ Refuses g policy = is.1 in absurd cc
-refuses_told k rank h g ls policy Apart (Refused p) c =
+refuses_told k rank h g ls policy Unmatched (Refused p) c =
     let is = become_one k rank (Refuses h p) (Refuses g policy) c in let what : Refuses h p ≡ Refuses g policy = is.1 in
     record { ranks = is.0; writers = cc; before = λ e. absurd cc; after = cc }
-refuses_told k rank h g ls policy Joined Apart c =
+refuses_told k rank h g ls policy Joined Unmatched c =
     let is = become_one k rank (Unmatches h) (Refuses g policy) c in let what : Unmatches h ≡ Refuses g policy = is.1 in absurd cc
 refuses_told k rank h g ls policy Joined Joined c = absurd (none_in _ c)
 refuses_told k rank h g ls policy Joined (Refused p) c = by_part (first_or (at k (Unmatches h)) (at k (Refuses h p) ∷ []) _ c)
@@ -247,7 +247,7 @@ refuses_told k rank h g ls policy Joined (Refused p) c = by_part (first_or (at k
     by_part (inr later) =
         let is = become_one k rank (Refuses h p) (Refuses g policy) later in let what : Refuses h p ≡ Refuses g policy = is.1 in
         record { ranks = is.0; writers = cc; before = λ e. absurd cc; after = cc }
-refuses_told k rank h g ls policy (Refused q) Apart c = absurd (none_in _ c)
+refuses_told k rank h g ls policy (Refused q) Unmatched c = absurd (none_in _ c)
 refuses_told k rank h g ls policy (Refused q) Joined c =
     let is = become_one k rank (Matches h ls) (Refuses g policy) c in let what : Matches h ls ≡ Refuses g policy = is.1 in absurd cc
 refuses_told k rank h g ls policy (Refused q) (Refused p) c = by_test (same_policy q p) refl c
@@ -259,10 +259,10 @@ refuses_told k rank h g ls policy (Refused q) (Refused p) c = by_test (same_poli
         let policies : p ≡ policy = cc in
         record { ranks = is.0; writers = cc; before = λ f. let same : q ≡ policy = cc in policy_isnt q p e (same ∙ sym policies); after = cc }
 
-told_refuses : (k : ℕ) (g : Guid) (ls : List Locator) (policy : PolicyId) (a b : Standing) → (a ≡ Refused policy → ⊥) → b ≡ Refused policy → Contains (told k g ls a b) (at k (Refuses g policy))
-told_refuses k g ls policy a Apart n y = absurd cc
+told_refuses : (k : ℕ) (g : Guid) (ls : List Locator) (policy : PolicyId) (a b : PairState) → (a ≡ Refused policy → ⊥) → b ≡ Refused policy → Contains (told k g ls a b) (at k (Refuses g policy))
+told_refuses k g ls policy a Unmatched n y = absurd cc
 told_refuses k g ls policy a Joined n y = absurd cc
-told_refuses k g ls policy Apart (Refused p) n y = let is : p ≡ policy = cc in subst (λ q. Contains (at k (Refuses g p) ∷ []) (at k (Refuses g q))) is (at_first (at k (Refuses g p)) [])
+told_refuses k g ls policy Unmatched (Refused p) n y = let is : p ≡ policy = cc in subst (λ q. Contains (at k (Refuses g p) ∷ []) (at k (Refuses g q))) is (at_first (at k (Refuses g p)) [])
 told_refuses k g ls policy Joined (Refused p) n y =
     let is : p ≡ policy = cc in
     later_in (at k (Unmatches g)) (at k (Refuses g p) ∷ []) (at k (Refuses g policy)) (subst (λ q. Contains (at k (Refuses g p) ∷ []) (at k (Refuses g q))) is (at_first (at k (Refuses g p)) []))
@@ -278,18 +278,18 @@ told_refuses k g ls policy (Refused q) (Refused p) n y = by_test (same_policy q 
 -- ---- the pairs
 
 -- what is reported of a pair, where it isn't fixed
-pub record IsTold (fixed : List (ℕ × Guid)) (k : ℕ) (g : Guid) (ls : List Locator) (a b : Standing) (c : ChangeAt) : Type 0 where
+pub record IsTold (fixed : List (ℕ × Guid)) (k : ℕ) (g : Guid) (ls : List Locator) (a b : PairState) (c : ChangeAt) : Type 0 where
   pub free : is_fixed fixed k g ≡ false
   pub given : Contains (told k g ls a b) c
 
-told_at : (fixed : List (ℕ × Guid)) (k : ℕ) (g : Guid) (ls : List Locator) (a b : Standing) (c : ChangeAt) → Contains (at_pair fixed k g ls a b) c → IsTold fixed k g ls a b c
+told_at : (fixed : List (ℕ × Guid)) (k : ℕ) (g : Guid) (ls : List Locator) (a b : PairState) (c : ChangeAt) → Contains (at_pair fixed k g ls a b) c → IsTold fixed k g ls a b c
 told_at fixed k g ls a b c = by_test (is_fixed fixed k g) refl
   where
     by_test : (t : Bool) → is_fixed fixed k g ≡ t → Contains (if t then [] else told k g ls a b) c → IsTold fixed k g ls a b c
     by_test true e h = absurd (none_in c h)
     by_test false e h = record { free = e; given = h }
 
-at_told : (fixed : List (ℕ × Guid)) (k : ℕ) (g : Guid) (ls : List Locator) (a b : Standing) (c : ChangeAt) → is_fixed fixed k g ≡ false → Contains (told k g ls a b) c → Contains (at_pair fixed k g ls a b) c
+at_told : (fixed : List (ℕ × Guid)) (k : ℕ) (g : Guid) (ls : List Locator) (a b : PairState) (c : ChangeAt) → is_fixed fixed k g ≡ false → Contains (told k g ls a b) c → Contains (at_pair fixed k g ls a b) c
 at_told fixed k g ls a b c free h = rw free h
 
 -- ---- the ranks
@@ -354,8 +354,8 @@ in_rows before after k (q ∷ qs) (r ∷ rs) c h =
 -- where there is no reader nothing is reported
 nobody_hears : (before after : Known) (n : ℕ) (c : ChangeAt) → Contains (row before after (guids before after) n None None) c → ⊥
 nobody_hears before after n c h =
-    let one = among (λ g. at_pair before.fixed n g (locators_at after g) Apart Apart) (guids before after) c h in
-    none_in c (told_at before.fixed n one.from (locators_at after one.from) Apart Apart c one.given).given
+    let one = among (λ g. at_pair before.fixed n g (locators_at after g) Unmatched Unmatched) (guids before after) c h in
+    none_in c (told_at before.fixed n one.from (locators_at after one.from) Unmatched Unmatched c one.given).given
 
 rows_in : (before after : Known) (k : ℕ) (qs rs : List (Option Wish)) (rank : ℕ) (c : ChangeAt) → Contains (row_at before after k qs rs rank) c → Contains (rows_of before after k qs rs) c
 rows_in before after k [] [] rank c h = absurd (nobody_hears before after (k + rank) c h)
@@ -377,7 +377,7 @@ rows_in before after k (q ∷ qs) (r ∷ rs) (suc i) c h =
 
 -- ---- from all changes to one pair, and back
 
-abbrev was : Known → ℕ → Guid → Standing
+abbrev was : Known → ℕ → Guid → PairState
 was k rank g = standing (reader_at k.readers rank) (writer_at k g)
 
 pub record AtPair (before after : Known) (c : ChangeAt) : Type 0 where
@@ -414,15 +414,15 @@ or_true : (a b : Bool) → a ≡ false → (a || b) ≡ true → b ≡ true
 or_true false b free h = h
 or_true true b free h = absurd (true≢false free)
 
-joined_isnt_apart : (s : Standing) → is_joined s ≡ true → is_apart s ≡ false
-joined_isnt_apart Apart h = absurd (true≢false (sym h))
+joined_isnt_apart : (s : PairState) → is_joined s ≡ true → is_unmatched s ≡ false
+joined_isnt_apart Unmatched h = absurd (true≢false (sym h))
 joined_isnt_apart Joined h = refl
 joined_isnt_apart (Refused p) h = refl
 
-known_after_is : (before after : Known) (rank : ℕ) (g : Guid) → is_apart (was after rank g) ≡ false → Contains (guids before after) g
+known_after_is : (before after : Known) (rank : ℕ) (g : Guid) → is_unmatched (was after rank g) ≡ false → Contains (guids before after) g
 known_after_is before after rank g h = in_second (keys_of before.writers) (keys_of after.writers) g (has_writer (reader_at after.readers rank) after.writers g h)
 
-known_before_is : (before after : Known) (rank : ℕ) (g : Guid) → is_apart (was before rank g) ≡ false → Contains (guids before after) g
+known_before_is : (before after : Known) (rank : ℕ) (g : Guid) → is_unmatched (was before rank g) ≡ false → Contains (guids before after) g
 known_before_is before after rank g h = in_first (keys_of before.writers) (keys_of after.writers) g (has_writer (reader_at before.readers rank) before.writers g h)
 
 -- what holds of a pair holds of the one that it is
@@ -484,7 +484,7 @@ refuse_is before after fixed rank g policy h =
     let other : was before rank g ≡ Refused policy → ⊥ = moved_to (λ n v. was before n v ≡ Refused policy → ⊥) pair.rank rank pair.writer g one.ranks one.writers one.before in
     (record { free = free_after; refused = refused }, λ was_refused. other was_refused.refused)
 
-refused_isnt_apart : (s : Standing) (policy : PolicyId) → s ≡ Refused policy → is_apart s ≡ false
+refused_isnt_apart : (s : PairState) (policy : PolicyId) → s ≡ Refused policy → is_unmatched s ≡ false
 refused_isnt_apart s policy h = rw h refl
 
 refuse_from : (before after : Known) → before.fixed ≡ after.fixed → (rank : ℕ) (g : Guid) (policy : PolicyId)

@@ -12,7 +12,7 @@ use Rattle.std.proofs.lemmas.Slice.Eq.{bytes_eq-Decides}
 use Rattle.rtps_types.specs.declared.identity.GuidPrefix.{GuidPrefix}
 use Rattle.rtps_types.specs.Order.{octet_order}
 use Rattle.std.specs.Map.{lookup}
-use Rattle.rtps_discovery.specs.Known.{Participant, prefix_order}
+use Rattle.rtps_discovery.specs.Known.{RemoteParticipant, prefix_order}
 use Rattle.rtps_discovery.proofs.Taking.{turned}
 use Rattle.rtps_discovery.specs.Ends.{Covers, EndsAt, Renews, end_of, end_order, has_due, has_end, is_due, is_last, soonest_of}
 
@@ -116,7 +116,7 @@ renewed prefix last old mid new first next = λ m p. next m p ∙ by_test m p (i
     by_test m p false h = first m p ∙ ap (λ b. if b then false else has_end old m p) h
 
 -- so the index has the last moments of the participants that are there then
-pub covers_then : (prefix : GuidPrefix) (o : Option Participant) (old new : List (ℕ × GuidPrefix)) (ps qs : List (GuidPrefix × Participant)) → Renews prefix (end_of o) old new
+pub covers_then : (prefix : GuidPrefix) (o : Option RemoteParticipant) (old new : List (ℕ × GuidPrefix)) (ps qs : List (GuidPrefix × RemoteParticipant)) → Renews prefix (end_of o) old new
     → ((p : GuidPrefix) → lookup (λ q. is_eq (prefix_order p q)) qs ≡ cond (is_eq (prefix_order prefix p)) o (lookup (λ q. is_eq (prefix_order p q)) ps)) → Covers old ps → Covers new qs
 covers_then prefix o old new ps qs renews is covers = λ p m. renews m p ∙ by_test p m (is_eq (prefix_order prefix p)) ∙ ap (λ x. is_last m (end_of x)) (sym (is p))
   where

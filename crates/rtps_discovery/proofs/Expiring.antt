@@ -16,9 +16,9 @@ use Rattle.rtps_proxy.specs.Matches.{Match}
 use Rattle.rtps_discovery.specs.Announcement.{Leave, Offer}
 use Rattle.rtps_discovery.specs.Changes.{ChangeAt, changes}
 use Rattle.rtps_discovery.specs.Ends.{Covers, end_of, end_order, has_due, has_end, has_prefix, is_due, is_last}
-use Rattle.rtps_discovery.specs.Known.{Known, Participant, lapsed_by, expired, has_expired, is_of, known_after, moved, passed, prefix_order}
-use Rattle.rtps_discovery.specs.Lease.{is_after}
-use Rattle.rtps_discovery.specs.Kept.{Applies, HeldView, IsKnown}
+use Rattle.rtps_discovery.specs.Known.{Known, RemoteParticipant, lapsed_by, expired, has_expired, is_of, known_after, moved, passed, prefix_order}
+use Rattle.rtps_discovery.specs.Leases.{is_after}
+use Rattle.rtps_discovery.specs.Kept.{Applies, RegistryView, IsKnown}
 use Rattle.rtps_discovery.proofs.Ends.{both_equal, prefix_itself}
 use Rattle.rtps_discovery.proofs.Guids.{equal_from, prefix_total}
 use Rattle.rtps_discovery.proofs.Taking.{turned}
@@ -65,7 +65,7 @@ last_after l moment None h less = absurd cc
 last_after l moment (Some x) h less = let one : x ≡ l = grind (arith, nat_tests) in ap (λ n. nat_lt n moment) one ∙ less
 
 -- by the index, those whose leases have ended
-due_is : (ends : List (ℕ × GuidPrefix)) (ps : List (GuidPrefix × Participant)) (moment : ℕ) (p : GuidPrefix) → Covers ends ps → has_due ends moment p ≡ is_after moment (end_of (lookup (at p) ps))
+due_is : (ends : List (ℕ × GuidPrefix)) (ps : List (GuidPrefix × RemoteParticipant)) (moment : ℕ) (p : GuidPrefix) → Covers ends ps → has_due ends moment p ≡ is_after moment (end_of (lookup (at p) ps))
 due_is ends ps moment p covers = both_ways (has_due ends moment p) (is_after moment (end_of (lookup (at p) ps))) there (λ h. back (end_of (lookup (at p) ps)) refl h)
   where
     there : has_due ends moment p ≡ true → is_after moment (end_of (lookup (at p) ps)) ≡ true
@@ -75,7 +75,7 @@ due_is ends ps moment p covers = both_ways (has_due ends moment p) (is_after mom
     back None is h = absurd cc
     back (Some l) is h = end_due ends moment l p h (covers p l ∙ ap (is_last l) is ∙ eq-eqb l l refl)
 
-none_above : (p q : GuidPrefix) (f : GuidPrefix × Participant → Bool) (es : List (GuidPrefix × Participant)) → at p q ≡ true → AllByRecursion (λ y. prefix_order q y ≡ Less) (keys_of es) → has_prefix (keys_of (filter f es)) p ≡ false
+none_above : (p q : GuidPrefix) (f : GuidPrefix × RemoteParticipant → Bool) (es : List (GuidPrefix × RemoteParticipant)) → at p q ≡ true → AllByRecursion (λ y. prefix_order q y ≡ Less) (keys_of es) → has_prefix (keys_of (filter f es)) p ≡ false
 none_above p q f [] is above = refl
 none_above p q f (e ∷ es) is above = by_test (f e) (none_above p q f es is above.1)
   where
@@ -86,7 +86,7 @@ none_above p q f (e ∷ es) is above = by_test (f e) (none_above p q f es is abo
     by_test true more = rw apart more
     by_test false more = more
 
-pub expired_is : (moment : ℕ) (ps : List (GuidPrefix × Participant)) (p : GuidPrefix) → IsStrictlySortedBy prefix_order (keys_of ps) → has_prefix (keys_of (filter (lapsed_by moment) ps)) p ≡ is_after moment (end_of (lookup (at p) ps))
+pub expired_is : (moment : ℕ) (ps : List (GuidPrefix × RemoteParticipant)) (p : GuidPrefix) → IsStrictlySortedBy prefix_order (keys_of ps) → has_prefix (keys_of (filter (lapsed_by moment) ps)) p ≡ is_after moment (end_of (lookup (at p) ps))
 expired_is moment [] p up = refl
 expired_is moment (e ∷ es) p up = by_key (at p e.0) refl (expired_is moment es p (sorted_tail prefix_order e.0 (keys_of es) up))
   where
@@ -107,7 +107,7 @@ pub is_of_has : (gone : List GuidPrefix) (p : GuidPrefix) → is_of gone p ≡ h
 is_of_has [] p = refl
 is_of_has (q ∷ gone) p = rw (is_of_has gone p) (ap (λ b. b || has_prefix gone p) (turned q.0 p.0 ∙ sym (is_eq-slice_cmp p.0 q.0)))
 
-same_gone : (k : Known) (d : HeldView) (gone : List GuidPrefix) → IsKnown k d → ((p : GuidPrefix) → has_prefix gone p ≡ has_due d.leases d.moment p) → (p : GuidPrefix) → is_of gone p ≡ is_of (expired k) p
+same_gone : (k : Known) (d : RegistryView) (gone : List GuidPrefix) → IsKnown k d → ((p : GuidPrefix) → has_prefix gone p ≡ has_due d.leases d.moment p) → (p : GuidPrefix) → is_of gone p ≡ is_of (expired k) p
 same_gone k d gone is due p =
     is_of_has gone p ∙ due p ∙ ap (λ m. has_due d.leases m p) is.moment ∙ due_is d.leases k.participants k.moment p is.leases
     ∙ sym (expired_is k.moment k.participants p is.in_order) ∙ sym (is_of_has (expired k) p)
@@ -115,14 +115,14 @@ same_gone k d gone is due p =
 -- those who leave are given by a test
 same_leave : (k : Known) (gs hs : List GuidPrefix) → ((p : GuidPrefix) → is_of gs p ≡ is_of hs p) → known_after k (Leave gs) ≡ known_after k (Leave hs)
 same_leave k gs hs same = rw (
-  same_filter (λ (e : GuidPrefix × Participant). not (is_of gs e.0)) (λ (e : GuidPrefix × Participant). not (is_of hs e.0)) (λ e. ap not (same e.0)) k.participants,
+  same_filter (λ (e : GuidPrefix × RemoteParticipant). not (is_of gs e.0)) (λ (e : GuidPrefix × RemoteParticipant). not (is_of hs e.0)) (λ e. ap not (same e.0)) k.participants,
   same_filter (λ (m : Match). not (is_of gs m.pairing.writer.prefix)) (λ (m : Match). not (is_of hs m.pairing.writer.prefix)) (λ m. ap not (same m.pairing.writer.prefix)) k.announcers,
   same_filter (λ (e : Guid × Offer). not (is_of gs e.0.prefix)) (λ (e : Guid × Offer). not (is_of hs e.0.prefix)) (λ e. ap not (same e.0.prefix)) k.writers,
   same_filter (λ (g : Guid). not (is_of gs g.prefix)) (λ (g : Guid). not (is_of hs g.prefix)) (λ g. ap not (same g.prefix)) k.remote_readers,
 ) refl
 
 -- a moment comes
-pub moves : (k : Known) (d : HeldView) (moment m : ℕ) → IsKnown k d → m ≡ (moved moment (record k { moment = d.moment })).moment → IsKnown (moved moment k) (record d { moment = m })
+pub moves : (k : Known) (d : RegistryView) (moment m : ℕ) → IsKnown k d → m ≡ (moved moment (record k { moment = d.moment })).moment → IsKnown (moved moment k) (record d { moment = m })
 moves k d moment m is e = record {
   own = is.own;
   moment = e ∙ ap (λ n. (moved moment (record k { moment = n })).moment) is.moment;
@@ -141,11 +141,11 @@ moves k d moment m is e = record {
 }
 
 -- they leave
-pub record Expires (moment : ℕ) (k : Known) (new : HeldView) (ended : List ChangeAt) : Type 0 where
+pub record Expires (moment : ℕ) (k : Known) (new : RegistryView) (ended : List ChangeAt) : Type 0 where
   pub known : IsKnown (passed moment k) new
   pub changes : ended ≡ changes (moved moment k) (passed moment k)
 
-pub expires : (k : Known) (d new : HeldView) (moment : ℕ) (gone : List GuidPrefix) (ended : List ChangeAt) → IsKnown (moved moment k) d → ((p : GuidPrefix) → has_prefix gone p ≡ has_due d.leases d.moment p)
+pub expires : (k : Known) (d new : RegistryView) (moment : ℕ) (gone : List GuidPrefix) (ended : List ChangeAt) → IsKnown (moved moment k) d → ((p : GuidPrefix) → has_prefix gone p ≡ has_due d.leases d.moment p)
     → Applies (Leave gone) d new [] ended → Expires moment k new ended
 expires k d new moment gone ended is due applies =
     let same : known_after (moved moment k) (Leave gone) ≡ passed moment k = same_leave (moved moment k) gone (expired (moved moment k)) (same_gone (moved moment k) d gone is due) in
@@ -167,13 +167,13 @@ none_due (e ∷ es) moment p h = by_test (nat_lt e.0 moment) h (λ k. none_due e
 stay_all : (k : Known) → known_after k (Leave []) ≡ k
 stay_all k = rw (filter_every k.participants, filter_every k.announcers, filter_every k.writers, filter_every k.remote_readers) refl
 
-nobody : (d : HeldView) → Applies (Leave []) d d [] []
+nobody : (d : RegistryView) → Applies (Leave []) d d [] []
 nobody d = record {
   known = λ k is. rw (stay_all k) is;
   changes = λ k is. rw (stay_all k) (quiet k k [] refl refl);
 }
 
-pub expires_none : (k : Known) (d : HeldView) (moment : ℕ) → IsKnown (moved moment k) d → is_due d.leases d.moment ≡ false → Expires moment k d []
+pub expires_none : (k : Known) (d : RegistryView) (moment : ℕ) → IsKnown (moved moment k) d → is_due d.leases d.moment ≡ false → Expires moment k d []
 expires_none k d moment is none = expires k d d moment [] [] is (λ p. sym (none_due d.leases d.moment p none)) (nobody d)
 
 -- ---- whether somebody's lease has ended
@@ -190,7 +190,7 @@ one_due (e ∷ es) moment h = by_test (nat_lt e.0 moment) refl h (λ k. one_due 
     by_test true less k more = record { who = e.1; ended = rw (less, prefix_itself e.1) refl }
     by_test false less k more = let d : Due es moment = more k in record { who = d.who; ended = or_later (nat_lt e.0 moment && at d.who e.1) (has_due es moment d.who) d.ended }
 
-ended_any : (moment : ℕ) (ps : List (GuidPrefix × Participant)) (p : GuidPrefix) → is_after moment (end_of (lookup (at p) ps)) ≡ true → list_any (lapsed_by moment) ps ≡ true
+ended_any : (moment : ℕ) (ps : List (GuidPrefix × RemoteParticipant)) (p : GuidPrefix) → is_after moment (end_of (lookup (at p) ps)) ≡ true → list_any (lapsed_by moment) ps ≡ true
 ended_any moment [] p h = absurd cc
 ended_any moment (e ∷ es) p h = by_key (at p e.0) h (λ k. ended_any moment es p k)
   where
@@ -198,7 +198,7 @@ ended_any moment (e ∷ es) p h = by_key (at p e.0) h (λ k. ended_any moment es
     by_key true h more = ap (λ b. b || list_any (lapsed_by moment) es) h
     by_key false h more = or_later (lapsed_by moment e) (list_any (lapsed_by moment) es) (more h)
 
-none_ends : (moment : ℕ) (ps : List (GuidPrefix × Participant)) → ((p : GuidPrefix) → has_prefix (keys_of (filter (lapsed_by moment) ps)) p ≡ false) → list_any (lapsed_by moment) ps ≡ false
+none_ends : (moment : ℕ) (ps : List (GuidPrefix × RemoteParticipant)) → ((p : GuidPrefix) → has_prefix (keys_of (filter (lapsed_by moment) ps)) p ≡ false) → list_any (lapsed_by moment) ps ≡ false
 none_ends moment [] none = refl
 none_ends moment (e ∷ es) none = by_end (lapsed_by moment e) none (λ k. none_ends moment es k)
   where
@@ -208,7 +208,7 @@ none_ends moment (e ∷ es) none = by_end (lapsed_by moment e) none (λ k. none_
     by_end false none more = more none
 
 -- by the index, and by the definition
-pub due_is_expired : (k : Known) (d : HeldView) → IsKnown k d → is_due d.leases d.moment ≡ has_expired k
+pub due_is_expired : (k : Known) (d : RegistryView) → IsKnown k d → is_due d.leases d.moment ≡ has_expired k
 due_is_expired k d is = by_test (is_due d.leases d.moment) refl
   where
     by_test : (b : Bool) → is_due d.leases d.moment ≡ b → b ≡ has_expired k
@@ -219,7 +219,7 @@ due_is_expired k d is = by_test (is_due d.leases d.moment) refl
         sym (none_ends k.moment k.participants (λ p. expired_is k.moment k.participants p is.in_order ∙ sym (due_is d.leases k.participants k.moment p is.leases) ∙ ap (λ m. has_due d.leases m p) (sym is.moment) ∙ none_due d.leases d.moment p h))
 
 -- where a growth is refused, somebody's lease has ended
-pub refused : (k : Known) (d : HeldView) (moment m : ℕ) → IsKnown k d → m ≡ (moved moment (record k { moment = d.moment })).moment → is_due d.leases m ≡ true → has_expired (moved moment k) ≡ false → ⊥
+pub refused : (k : Known) (d : RegistryView) (moment m : ℕ) → IsKnown k d → m ≡ (moved moment (record k { moment = d.moment })).moment → is_due d.leases m ≡ true → has_expired (moved moment k) ≡ false → ⊥
 refused k d moment m is e due none =
     let same : is_due d.leases m ≡ has_expired (moved moment k) = due_is_expired (moved moment k) (record d { moment = m }) (moves k d moment m is e) in
     let bad : true ≡ false = sym due ∙ same ∙ none in cc

@@ -15,7 +15,7 @@ use Rattle.rtps_types.specs.declared.locator.Locator.{Locator}
 use Rattle.rtps_types.specs.Order.{guid_order}
 use Rattle.rtps_discovery.specs.Changes.{ChangeAt, at_pair, both, changes, row, rows, told}
 use Rattle.rtps_discovery.specs.Differences.{comes_before, writer_in}
-use Rattle.rtps_discovery.specs.Known.{Known, Standing, Apart, Joined, Refused, Wish, is_fixed, locators_at, standing, writer_at}
+use Rattle.rtps_discovery.specs.Known.{Known, PairState, Unmatched, Joined, Refused, Wish, is_fixed, locators_at, standing, writer_at}
 use Rattle.rtps_discovery.proofs.Guids.{itself}
 use Rattle.rtps_discovery.proofs.SortedKeys.{InOrder, sorted_both}
 
@@ -57,44 +57,44 @@ record IsOf (k : ℕ) (g : Guid) (c : ChangeAt) : Type 0 where
   rank : c.rank ≡ k
   writer : writer_in c.what ≡ g
 
-told_of : (k : ℕ) (g : Guid) (ls : List Locator) (s t : Standing) → AllByRecursion (IsOf k g) (told k g ls s t)
-told_of k g ls Apart Apart = tt
-told_of k g ls Apart Joined = (record { rank = refl; writer = refl }, tt)
-told_of k g ls Apart (Refused p) = (record { rank = refl; writer = refl }, tt)
-told_of k g ls Joined Apart = (record { rank = refl; writer = refl }, tt)
+told_of : (k : ℕ) (g : Guid) (ls : List Locator) (s t : PairState) → AllByRecursion (IsOf k g) (told k g ls s t)
+told_of k g ls Unmatched Unmatched = tt
+told_of k g ls Unmatched Joined = (record { rank = refl; writer = refl }, tt)
+told_of k g ls Unmatched (Refused p) = (record { rank = refl; writer = refl }, tt)
+told_of k g ls Joined Unmatched = (record { rank = refl; writer = refl }, tt)
 told_of k g ls Joined Joined = tt
 told_of k g ls Joined (Refused p) = (record { rank = refl; writer = refl }, (record { rank = refl; writer = refl }, tt))
-told_of k g ls (Refused q) Apart = tt
+told_of k g ls (Refused q) Unmatched = tt
 told_of k g ls (Refused q) Joined = (record { rank = refl; writer = refl }, tt)
 told_of k g ls (Refused q) (Refused p) = by_test (same_policy q p)
   where
-    by_test : (b : Bool) → AllByRecursion (IsOf k g) (if b then [] else told k g ls Apart (Refused p))
+    by_test : (b : Bool) → AllByRecursion (IsOf k g) (if b then [] else told k g ls Unmatched (Refused p))
     by_test true = tt
     by_test false = (record { rank = refl; writer = refl }, tt)
 
-told_follow : (k : ℕ) (g : Guid) (ls : List Locator) (s t : Standing) → Follow (told k g ls s t)
-told_follow k g ls Apart Apart = tt
-told_follow k g ls Apart Joined = (tt, tt)
-told_follow k g ls Apart (Refused p) = (tt, tt)
-told_follow k g ls Joined Apart = (tt, tt)
+told_follow : (k : ℕ) (g : Guid) (ls : List Locator) (s t : PairState) → Follow (told k g ls s t)
+told_follow k g ls Unmatched Unmatched = tt
+told_follow k g ls Unmatched Joined = (tt, tt)
+told_follow k g ls Unmatched (Refused p) = (tt, tt)
+told_follow k g ls Joined Unmatched = (tt, tt)
 told_follow k g ls Joined Joined = tt
 told_follow k g ls Joined (Refused p) = ((rw (number_itself k, itself g) refl, tt), (tt, tt))
-told_follow k g ls (Refused q) Apart = tt
+told_follow k g ls (Refused q) Unmatched = tt
 told_follow k g ls (Refused q) Joined = (tt, tt)
 told_follow k g ls (Refused q) (Refused p) = by_test (same_policy q p)
   where
-    by_test : (b : Bool) → Follow (if b then [] else told k g ls Apart (Refused p))
+    by_test : (b : Bool) → Follow (if b then [] else told k g ls Unmatched (Refused p))
     by_test true = tt
     by_test false = (tt, tt)
 
-pair_of : (fixed : List (ℕ × Guid)) (k : ℕ) (g : Guid) (ls : List Locator) (s t : Standing) → AllByRecursion (IsOf k g) (at_pair fixed k g ls s t)
+pair_of : (fixed : List (ℕ × Guid)) (k : ℕ) (g : Guid) (ls : List Locator) (s t : PairState) → AllByRecursion (IsOf k g) (at_pair fixed k g ls s t)
 pair_of fixed k g ls s t = by_test (is_fixed fixed k g)
   where
     by_test : (b : Bool) → AllByRecursion (IsOf k g) (if b then [] else told k g ls s t)
     by_test true = tt
     by_test false = told_of k g ls s t
 
-pair_follow : (fixed : List (ℕ × Guid)) (k : ℕ) (g : Guid) (ls : List Locator) (s t : Standing) → Follow (at_pair fixed k g ls s t)
+pair_follow : (fixed : List (ℕ × Guid)) (k : ℕ) (g : Guid) (ls : List Locator) (s t : PairState) → Follow (at_pair fixed k g ls s t)
 pair_follow fixed k g ls s t = by_test (is_fixed fixed k g)
   where
     by_test : (b : Bool) → Follow (if b then [] else told k g ls s t)

@@ -16,7 +16,7 @@ use Rattle.rtps_proxy.specs.Matches.{AllStand, AreTaken, Match, extended, match_
 use Rattle.rtps_discovery.specs.Addressed.{is_for, writer_of}
 use Rattle.rtps_discovery.specs.Effects.{extends, match_of}
 use Rattle.rtps_discovery.specs.Known.{Known, publications_reader, publications_writer, spdp_writer, subscriptions_reader, subscriptions_writer}
-use Rattle.rtps_discovery.specs.Kept.{IsKnown, HeldView, is_announcer}
+use Rattle.rtps_discovery.specs.Kept.{IsKnown, RegistryView, is_announcer}
 use Rattle.rtps_discovery.specs.Records.{announcer_of, answer_by, answered, changes_by, detector_of, known_by, named_match, participants_in, ready_records}
 use Rattle.rtps_discovery.specs.Changes.{ChangeAt, changes_run, known_run}
 
@@ -32,7 +32,7 @@ extended_announce w e (m ∷ ms) (is, all) = by_test (same_guid m.pairing.writer
     by_test false more = (is, more)
 
 -- an event came for a match
-pub came_for : (k : Known) (d : HeldView) (e : EventView) (proxies : List (Guid × proxy.ProxyView)) → IsKnown k d → AllStand (extended (writer_of e) (match_event_of e) k.announcers) proxies → IsKnown (extends k e) (record d { announcers = proxies })
+pub came_for : (k : Known) (d : RegistryView) (e : EventView) (proxies : List (Guid × proxy.ProxyView)) → IsKnown k d → AllStand (extended (writer_of e) (match_event_of e) k.announcers) proxies → IsKnown (extends k e) (record d { announcers = proxies })
 came_for k d e proxies is stand = record {
   own = is.own;
   moment = is.moment;

@@ -15,10 +15,10 @@ use Rattle.rtps_proxy.specs.Kept as proxy
 use Rattle.rtps_proxy.specs.Matches.{AllStand, Match, ended, is_at, same_guid}
 use Rattle.rtps_discovery.specs.Announcement.{Leave, Offer}
 use Rattle.rtps_discovery.specs.Changes.{ChangeAt, at_pair, both, changes, row, rows}
-use Rattle.rtps_discovery.specs.Known.{Known, Participant, Wish, is_fixed, is_of, known_after, locators_at, prefix_order, publications_reader, publications_writer, standing, subscriptions_reader, subscriptions_writer, writer_at}
-use Rattle.rtps_discovery.specs.Kept.{Applies, IsKnown, HeldView, is_announcer, matched_ranks, ranks_at}
+use Rattle.rtps_discovery.specs.Known.{Known, RemoteParticipant, Wish, is_fixed, is_of, known_after, locators_at, prefix_order, publications_reader, publications_writer, standing, subscriptions_reader, subscriptions_writer, writer_at}
+use Rattle.rtps_discovery.specs.Kept.{Applies, IsKnown, RegistryView, is_announcer, matched_ranks, ranks_at}
 use Rattle.rtps_discovery.specs.Ends.{Covers}
-use Rattle.rtps_discovery.specs.Leaving.{ended_by, ending, endings, endpoint, gone_by, gone_of, reranked}
+use Rattle.rtps_discovery.specs.Leave.{ended_by, ending, endings, endpoint, gone_by, gone_of, reranked}
 use Rattle.rtps_discovery.specs.OneWriter.{has_rank, matched_from}
 use Rattle.rtps_discovery.specs.declared.gone.Gone.{Gone}
 use Rattle.rtps_discovery.proofs.Guids.{at_itself, found_is, flipped, tied}
@@ -204,7 +204,7 @@ keys_left f (e ∷ es) = by_test (f e.0) (keys_left f es)
     by_test false more = more
 
 -- what is kept of the ranks
-module _ {A : Type 0} (d : HeldView) (those : List GuidPrefix) (q : Guid) where
+module _ {A : Type 0} (d : RegistryView) (those : List GuidPrefix) (q : Guid) where
   abbrev Fixed : List (Gone A) → Type 0
   Fixed gone = map (λ (n : Gone A). n.fixed) gone ≡ map (λ (n : Gone A). ranks_at n.writer d.fixed) gone
 
@@ -258,8 +258,8 @@ all_mine those (e ∷ es) = by_test (of_any those e.0) refl (all_mine those es)
     by_test false is more = more
 
 -- what the parts of what is kept are once participants left
-pub record Leaves {A : Type 0} (d : HeldView) (those : List GuidPrefix) (ps : List (GuidPrefix × Participant)) (leases : List (ℕ × GuidPrefix)) (proxies : List (Guid × proxy.ProxyView)) (ws : List (Guid × Offer)) (rs : List (Guid × List ℕ)) (ns : List (Gone A)) : Type 0 where
-  pub participants : ps ≡ filter (λ (e : GuidPrefix × Participant). not (is_of those e.0)) d.participants
+pub record Leaves {A : Type 0} (d : RegistryView) (those : List GuidPrefix) (ps : List (GuidPrefix × RemoteParticipant)) (leases : List (ℕ × GuidPrefix)) (proxies : List (Guid × proxy.ProxyView)) (ws : List (Guid × Offer)) (rs : List (Guid × List ℕ)) (ns : List (Gone A)) : Type 0 where
+  pub participants : ps ≡ filter (λ (e : GuidPrefix × RemoteParticipant). not (is_of those e.0)) d.participants
   pub covers : Covers d.leases d.participants → Covers leases ps
   pub announcers : (ms : List Match) → AllStand ms d.announcers → AllStand (ended_by those ms) proxies
   pub gone : map gone_of ns ≡ gone_by those d.writers
@@ -267,19 +267,19 @@ pub record Leaves {A : Type 0} (d : HeldView) (those : List GuidPrefix) (ps : Li
   pub left : ws ≡ filter (stay those) d.writers
   pub ranks : (q : Guid) → ranks_at q rs ≡ reranked ns q (ranks_at q d.ranks)
 
-are_fixed : {A : Type 0} (k : Known) (d : HeldView) (those : List GuidPrefix) (sorted : InOrder (keys_of k.writers)) → IsKnown k d → (gone : List (Gone A)) → map (λ (n : Gone A). n.fixed) gone ≡ map (λ (n : Gone A). ranks_at n.writer d.fixed) gone → AreFixed k those sorted gone
+are_fixed : {A : Type 0} (k : Known) (d : RegistryView) (those : List GuidPrefix) (sorted : InOrder (keys_of k.writers)) → IsKnown k d → (gone : List (Gone A)) → map (λ (n : Gone A). n.fixed) gone ≡ map (λ (n : Gone A). ranks_at n.writer d.fixed) gone → AreFixed k those sorted gone
 are_fixed k d those sorted is [] same = tt
 are_fixed k d those sorted is (n ∷ ns) same =
     let here : n.fixed ≡ ranks_at n.writer d.fixed = cc in
     let rest : map (λ (n : Gone _). n.fixed) ns ≡ map (λ (n : Gone _). ranks_at n.writer d.fixed) ns = cc in
     (λ rank. ap (λ l. has_rank l rank) here ∙ is.fixed n.writer rank, are_fixed k d those sorted is ns rest)
 
-module _ {A : Type 0} (d : HeldView) (those : List GuidPrefix) (ps : List (GuidPrefix × Participant)) (leases : List (ℕ × GuidPrefix)) (proxies : List (Guid × proxy.ProxyView)) (ws : List (Guid × Offer)) (rs : List (Guid × List ℕ)) (ns : List (Gone A)) (l : Leaves d those ps leases proxies ws rs ns) (up : IsStrictlySortedBy prefix_order those) where
+module _ {A : Type 0} (d : RegistryView) (those : List GuidPrefix) (ps : List (GuidPrefix × RemoteParticipant)) (leases : List (ℕ × GuidPrefix)) (proxies : List (Guid × proxy.ProxyView)) (ws : List (Guid × Offer)) (rs : List (Guid × List ℕ)) (ns : List (Gone A)) (l : Leaves d those ps leases proxies ws rs ns) (up : IsStrictlySortedBy prefix_order those) where
   gone_is : (k : Known) → IsKnown k d → map gone_of ns ≡ filter (any those) d.writers
   gone_is k is = l.gone ∙ together those d.writers up (subst (λ (es : List (Guid × Offer)). InOrder (keys_of es)) (sym is.writers) is.ordered)
 
-  stayed : (k : Known) → IsKnown k d → ps ≡ filter (λ (e : GuidPrefix × Participant). not (is_of those e.0)) k.participants
-  stayed k is = l.participants ∙ ap (filter (λ (e : GuidPrefix × Participant). not (is_of those e.0))) is.participants
+  stayed : (k : Known) → IsKnown k d → ps ≡ filter (λ (e : GuidPrefix × RemoteParticipant). not (is_of those e.0)) k.participants
+  stayed k is = l.participants ∙ ap (filter (λ (e : GuidPrefix × RemoteParticipant). not (is_of those e.0))) is.participants
 
   abbrev start : Known → Guid → Option Offer → List ℕ
   start k q o = matched_from (λ rank. is_fixed k.fixed rank q) o 0 k.readers
@@ -317,7 +317,7 @@ module _ {A : Type 0} (d : HeldView) (those : List GuidPrefix) (ps : List (GuidP
       fixed = is.fixed;
       started = is.started;
       participants = stayed k is;
-      in_order = sorted_left (λ (e : GuidPrefix × Participant). not (is_of those e.0)) k.participants is.in_order;
+      in_order = sorted_left (λ (e : GuidPrefix × RemoteParticipant). not (is_of those e.0)) k.participants is.in_order;
       leases = subst (Covers leases) (stayed k is) (l.covers (subst (Covers d.leases) (sym is.participants) is.leases));
       announcers = subst (λ ms. AllStand ms proxies) (all_end those k.announcers is.announce) (l.announcers k.announcers is.announcers);
       announce = announce_left (λ m. not (is_of those m.pairing.writer.prefix)) k.announcers is.announce;

@@ -16,7 +16,7 @@ use Rattle.rtps_types.specs.declared.identity.Guid.{Guid}
 use Rattle.rtps_types.specs.Order.{guid_order}
 use Rattle.rtps_proxy.specs.Matches.{is_at}
 use Rattle.rtps_proxy.proofs.Matching.{exact}
-use Rattle.rtps_discovery.specs.Kept.{IsKnown, HeldView, ranks_at}
+use Rattle.rtps_discovery.specs.Kept.{IsKnown, RegistryView, ranks_at}
 use Rattle.rtps_discovery.specs.Known.{Known}
 use Rattle.rtps_discovery.specs.OneWriter.{has_rank}
 use Rattle.rtps_discovery.specs.Pairs.{AreKeptPairs, ArePairs, pair_order, with_entries, with_ranks}
@@ -186,7 +186,7 @@ at_writer rank q (e ∷ es) up = by_test (is_at q e.0) refl (at_writer rank q es
 
 -- ---- what is listed is what is kept, and what is known
 
-pub are_kept : (d : HeldView) (pairs : List (ℕ × Guid)) → pairs ≡ with_entries [] d.ranks → IsStrictlySortedBy guid_order (keys_of d.ranks) → AreKeptPairs d pairs
+pub are_kept : (d : RegistryView) (pairs : List (ℕ × Guid)) → pairs ≡ with_entries [] d.ranks → IsStrictlySortedBy guid_order (keys_of d.ranks) → AreKeptPairs d pairs
 are_kept d pairs is up = record {
   exact = λ rank g. (λ h. found (ranks_at g d.ranks) rank (sym (tells rank g) ∙ pair_contained pairs rank g h), λ h. pair_found pairs rank g (tells rank g ∙ contained (ranks_at g d.ranks) rank h));
   ordered = subst (IsStrictlySortedBy pair_order) (sym is) (sorted_entries [] d.ranks no_pair);
@@ -201,7 +201,7 @@ are_kept d pairs is up = record {
         ap (λ ps. has_pair ps rank g) is ∙ has_entries rank g [] d.ranks ∙ or_none (list_any (listed rank g) d.ranks)
         ∙ at_writer rank g d.ranks up
 
-pub are_known : (k : Known) (d : HeldView) (pairs : List (ℕ × Guid)) → IsKnown k d → AreKeptPairs d pairs → ArePairs k pairs
+pub are_known : (k : Known) (d : RegistryView) (pairs : List (ℕ × Guid)) → IsKnown k d → AreKeptPairs d pairs → ArePairs k pairs
 are_known k d pairs is kept = record {
   exact = λ rank g.
       let law = (ranks_are_matched k g).exact rank in (

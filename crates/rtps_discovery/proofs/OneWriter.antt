@@ -13,18 +13,18 @@ use Rattle.rtps_types.specs.Order.{guid_order}
 use Rattle.rtps_proxy.specs.Matches.{is_at}
 use Rattle.rtps_proxy.proofs.Matching.{exact}
 use Rattle.rtps_discovery.specs.Changes.{ChangeAt, at_pair, both, changes, row, rows, told}
-use Rattle.rtps_discovery.specs.Known.{Known, Standing, Apart, Joined, Refused, Wish, is_fixed, locators_at, standing, writer_at}
+use Rattle.rtps_discovery.specs.Known.{Known, PairState, Unmatched, Joined, Refused, Wish, is_fixed, locators_at, standing, writer_at}
 use Rattle.rtps_discovery.specs.OneWriter.{column}
 use Rattle.rtps_discovery.proofs.Guids.{guid_total}
 use Rattle.rtps_discovery.proofs.SortedKeys.{InOrder, any_tied, not_in_both, sorted_both}
 
 -- nothing is reported where nothing becomes
-told_same : (k : ℕ) (g : Guid) (ls : List Locator) (s : Standing) → told k g ls s s ≡ []
-told_same k g ls Apart = refl
+told_same : (k : ℕ) (g : Guid) (ls : List Locator) (s : PairState) → told k g ls s s ≡ []
+told_same k g ls Unmatched = refl
 told_same k g ls Joined = refl
 told_same k g ls (Refused p) = grind (arith, nat_tests)
 
-pub at_pair_same : (fixed : List (ℕ × Guid)) (k : ℕ) (g : Guid) (ls : List Locator) (s : Standing) → at_pair fixed k g ls s s ≡ []
+pub at_pair_same : (fixed : List (ℕ × Guid)) (k : ℕ) (g : Guid) (ls : List Locator) (s : PairState) → at_pair fixed k g ls s s ≡ []
 at_pair_same fixed k g ls s = by_test (is_fixed fixed k g)
   where
     by_test : (b : Bool) → (if b then [] else told k g ls s s) ≡ []
@@ -60,7 +60,7 @@ pub record DiffersAt (before after : Known) (g : Guid) : Type 0 where
   pub others : (q : Guid) → is_at g q ≡ false → writer_at after q ≡ writer_at before q
   pub sorted : InOrder (keys_of after.writers)
 
-pub no_writer : (r : Option Wish) → standing r None ≡ Apart
+pub no_writer : (r : Option Wish) → standing r None ≡ Unmatched
 no_writer (Some r) = refl
 no_writer None = refl
 
@@ -82,7 +82,7 @@ module _ (before after : Known) (g : Guid) (d : DiffersAt before after g) where
       (λ n. let m = not_in_both g (keys_of before.writers) (keys_of after.writers) (sym (any_tied g gs) ∙ n) in
       let one : writer_at before g ≡ None = lookup_none (is_at g) before.writers m.0 in
       let two : writer_at after g ≡ None = lookup_none (is_at g) after.writers m.1 in
-      rw (one, two, no_writer r) (at_pair_same before.fixed k g [] Apart))
+      rw (one, two, no_writer r) (at_pair_same before.fixed k g [] Unmatched))
 
   rows_one : (k : ℕ) (rs : List (Option Wish)) → rows before after gs k rs rs ≡ column fixed_of g (locators_at after g) (writer_at before g) (writer_at after g) k rs
   rows_one k [] = refl

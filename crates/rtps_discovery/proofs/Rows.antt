@@ -5,7 +5,7 @@ use Rattle.std.specs.Map.{keys_of}
 use Rattle.rtps_types.specs.declared.identity.Guid.{Guid}
 use Rattle.rtps_types.specs.declared.identity.EntityId.{EntityId}
 use Rattle.rtps_types.specs.declared.locator.Locator.{Locator}
-use Rattle.rtps_receiver.specs.EventBody.{EventBody, Whole}
+use Rattle.rtps_receiver.specs.EventBody.{EventBodyView, Whole}
 use Rattle.rtps_receiver.specs.Events.{EventView}
 use Rattle.rtps_wire.specs.declared.data.ChangeInfo.{ChangeInfo}
 use Rattle.rtps_wire.specs.declared.data.Form.TheVariants as form
@@ -18,9 +18,9 @@ use Rattle.rtps_types.specs.declared.policy.PolicyId.TheVariants as policy
 use Rattle.rtps_types.specs.MatchChange.{Matches, Unmatches, Refuses}
 use Rattle.rtps_discovery.specs.Changes.{ChangeAt, at, changes}
 use Rattle.rtps_discovery.specs.Known.{Known, moved, passed}
-use Rattle.rtps_discovery.specs.Lease.{deadline, lease_of}
+use Rattle.rtps_discovery.specs.Leases.{deadline, lease_of}
 use Rattle.rtps_discovery.specs.Records.{changes_by, known_by}
-use Rattle.rtps_discovery.specs.Said.{said_in}
+use Rattle.rtps_discovery.specs.AnnouncedData.{said_in}
 use Rattle.rtps_params.specs.Reading as params
 use Rattle.rtps_cdr.specs.Reading as cdr
 use Rattle.std.specs.Str as str
@@ -119,7 +119,7 @@ abbrev disposed : List ℕ → ChangeInfo
 disposed octets = record { form = form.Nothing; status = 1; hash = Some (record { 0 = theirs ++ octets }) }
 
 -- an event of their writer for our reader
-abbrev sends : EntityId → EntityId → EventBody → EventView
+abbrev sends : EntityId → EntityId → EventBodyView → EventView
 sends writer reader body = record {
   place = record { datagram = 0; submessage = 1 };
   source = record { 0 = theirs };
@@ -129,7 +129,7 @@ sends writer reader body = record {
   body = body;
 }
 
-abbrev whole : ℕ → ChangeInfo → List ℕ → EventBody
+abbrev whole : ℕ → ChangeInfo → List ℕ → EventBodyView
 whole number info payload = Whole (record { number = number; info = info; payload = payload })
 
 abbrev of_participants : ℕ → ChangeInfo → List ℕ → EventView

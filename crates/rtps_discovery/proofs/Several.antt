@@ -8,19 +8,19 @@ use Rattle.rtps_types.specs.declared.identity.Guid.{Guid}
 use Rattle.rtps_types.specs.declared.identity.GuidPrefix.{GuidPrefix}
 use Rattle.rtps_proxy.specs.Kept as proxy
 use Rattle.rtps_proxy.specs.Matches.{AllStand, Match, ended}
-use Rattle.rtps_discovery.specs.Known.{Participant, is_of, prefix_order, publications_writer, subscriptions_writer}
-use Rattle.rtps_discovery.specs.Leaving.{any_of, are_of, ended_by, endpoint}
+use Rattle.rtps_discovery.specs.Known.{RemoteParticipant, is_of, prefix_order, publications_writer, subscriptions_writer}
+use Rattle.rtps_discovery.specs.Leave.{any_of, are_of, ended_by, endpoint}
 use Rattle.rtps_discovery.proofs.Leaving.{both_out, removed_all}
 use Rattle.rtps_discovery.proofs.Taking.{of_equal}
 use Rattle.rtps_discovery.proofs.Together.{filter_both, filter_every, same_filter}
 
 -- one more is out
-pub participant_goes : (p : GuidPrefix) (ps : List GuidPrefix) (old new : List (GuidPrefix × Participant)) → new ≡ remove_entry (λ q. is_eq (prefix_order p q)) old → lookup (λ q. is_eq (prefix_order p q)) new ≡ None
-    → filter (λ (e : GuidPrefix × Participant). not (is_of ps e.0)) new ≡ filter (λ (e : GuidPrefix × Participant). not (is_of (p ∷ ps) e.0)) old
+pub participant_goes : (p : GuidPrefix) (ps : List GuidPrefix) (old new : List (GuidPrefix × RemoteParticipant)) → new ≡ remove_entry (λ q. is_eq (prefix_order p q)) old → lookup (λ q. is_eq (prefix_order p q)) new ≡ None
+    → filter (λ (e : GuidPrefix × RemoteParticipant). not (is_of ps e.0)) new ≡ filter (λ (e : GuidPrefix × RemoteParticipant). not (is_of (p ∷ ps) e.0)) old
 participant_goes p ps old new is none =
-    ap (filter (λ (e : GuidPrefix × Participant). not (is_of ps e.0))) (is ∙ removed_all (λ q. is_eq (prefix_order p q)) old (ap (lookup (λ q. is_eq (prefix_order p q))) (sym is) ∙ none))
-    ∙ filter_both (λ (e : GuidPrefix × Participant). not (is_of ps e.0)) (λ (e : GuidPrefix × Participant). not (is_eq (prefix_order p e.0))) old
-    ∙ same_filter (λ (e : GuidPrefix × Participant). not (is_eq (prefix_order p e.0)) && not (is_of ps e.0)) (λ (e : GuidPrefix × Participant). not (is_of (p ∷ ps) e.0))
+    ap (filter (λ (e : GuidPrefix × RemoteParticipant). not (is_of ps e.0))) (is ∙ removed_all (λ q. is_eq (prefix_order p q)) old (ap (lookup (λ q. is_eq (prefix_order p q))) (sym is) ∙ none))
+    ∙ filter_both (λ (e : GuidPrefix × RemoteParticipant). not (is_of ps e.0)) (λ (e : GuidPrefix × RemoteParticipant). not (is_eq (prefix_order p e.0))) old
+    ∙ same_filter (λ (e : GuidPrefix × RemoteParticipant). not (is_eq (prefix_order p e.0)) && not (is_of ps e.0)) (λ (e : GuidPrefix × RemoteParticipant). not (is_of (p ∷ ps) e.0))
     (λ e. ap (λ b. not b && not (is_of ps e.0)) (sym (of_equal p (endpoint e.0 publications_writer))) ∙ both_out (bytes_eq p.0 e.0.0) (is_of ps e.0)) old
 
 module _ {X : Type 0} where
@@ -34,8 +34,8 @@ module _ {X : Type 0} where
   pub none_go : (ps : List GuidPrefix) (es : List (Guid × X)) → ps ≡ [] → filter (λ e. not (any_of ps e)) es ≡ es
   none_go ps es none = ap (λ l. filter (λ (e : Guid × X). not (any_of l e)) es) none ∙ filter_every es
 
-pub no_participants_go : (ps : List GuidPrefix) (es : List (GuidPrefix × Participant)) → ps ≡ [] → filter (λ (e : GuidPrefix × Participant). not (is_of ps e.0)) es ≡ es
-no_participants_go ps es none = ap (λ l. filter (λ (e : GuidPrefix × Participant). not (is_of l e.0)) es) none ∙ filter_every es
+pub no_participants_go : (ps : List GuidPrefix) (es : List (GuidPrefix × RemoteParticipant)) → ps ≡ [] → filter (λ (e : GuidPrefix × RemoteParticipant). not (is_of ps e.0)) es ≡ es
+no_participants_go ps es none = ap (λ l. filter (λ (e : GuidPrefix × RemoteParticipant). not (is_of l e.0)) es) none ∙ filter_every es
 
 -- the matches that are kept now, once those that are left end, are those that are kept once all did
 pub record Ending (left all : List GuidPrefix) (ms : List Match) (now : List (Guid × proxy.ProxyView)) : Type 0 where

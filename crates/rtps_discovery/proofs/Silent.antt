@@ -11,8 +11,8 @@ use Rattle.rtps_types.specs.declared.identity.GuidPrefix.{GuidPrefix}
 use Rattle.rtps_proxy.specs.Matches.{Match}
 use Rattle.rtps_discovery.specs.Announcement.{Offer}
 use Rattle.rtps_discovery.specs.Ends.{end_of}
-use Rattle.rtps_discovery.specs.Known.{Known, Participant, expired, is_of, moved, participant_at, passed, prefix_order}
-use Rattle.rtps_discovery.specs.Lease.{deadline, is_after}
+use Rattle.rtps_discovery.specs.Known.{Known, RemoteParticipant, expired, is_of, moved, participant_at, passed, prefix_order}
+use Rattle.rtps_discovery.specs.Leases.{deadline, is_after}
 use Rattle.rtps_discovery.specs.Silence.{MomentsBetweenAddNothing, SilenceIsForgotten, has_lapsed, is_silent}
 use Rattle.rtps_discovery.proofs.Ends.{prefix_is}
 use Rattle.rtps_discovery.proofs.Expiring.{expired_is, is_of_has}
@@ -21,12 +21,12 @@ use Rattle.rtps_discovery.proofs.Together.{filter_both, same_filter, sorted_left
 abbrev at : GuidPrefix → GuidPrefix → Bool
 at p q = is_eq (prefix_order p q)
 
-lapsed : (moment : ℕ) (o : Option Participant) → is_after moment (end_of o) ≡ has_lapsed moment o
+lapsed : (moment : ℕ) (o : Option RemoteParticipant) → is_after moment (end_of o) ≡ has_lapsed moment o
 lapsed moment None = refl
 lapsed moment (Some x) = refl
 
 -- a lease that has ended stays so
-later : (a b : ℕ) (o : Option Participant) → a ≤ b → has_lapsed a o ≡ true → has_lapsed b o ≡ true
+later : (a b : ℕ) (o : Option RemoteParticipant) → a ≤ b → has_lapsed a o ≡ true → has_lapsed b o ≡ true
 later a b None le h = absurd cc
 later a b (Some x) le h = by_last (deadline x.heard x.lease) h
   where
@@ -57,7 +57,7 @@ module _ (moment : ℕ) (k : Known) (up : IsStrictlySortedBy prefix_order (keys_
 pub silence_is_forgotten : SilenceIsForgotten
 silence_is_forgotten moment k up = record {
   participant = left_at moment k up;
-  participants = same_filter (λ (e : GuidPrefix × Participant). not (is_of (expired (moved moment k)) e.0)) (λ (e : GuidPrefix × Participant). not (is_silent moment k e.0)) (λ e. ap not (gone moment k up e.0)) k.participants;
+  participants = same_filter (λ (e : GuidPrefix × RemoteParticipant). not (is_of (expired (moved moment k)) e.0)) (λ (e : GuidPrefix × RemoteParticipant). not (is_silent moment k e.0)) (λ e. ap not (gone moment k up e.0)) k.participants;
   announcers = same_filter (λ (m : Match). not (is_of (expired (moved moment k)) m.pairing.writer.prefix)) (λ (m : Match). not (is_silent moment k m.pairing.writer.prefix)) (λ m. ap not (gone moment k up m.pairing.writer.prefix)) k.announcers;
   writers = same_filter (λ (e : Guid × Offer). not (is_of (expired (moved moment k)) e.0.prefix)) (λ (e : Guid × Offer). not (is_silent moment k e.0.prefix)) (λ e. ap not (gone moment k up e.0.prefix)) k.writers;
   remote_readers = same_filter (λ (g : Guid). not (is_of (expired (moved moment k)) g.prefix)) (λ (g : Guid). not (is_silent moment k g.prefix)) (λ g. ap not (gone moment k up g.prefix)) k.remote_readers;
@@ -71,7 +71,7 @@ module _ (m n : ℕ) (k : Known) (up : IsStrictlySortedBy prefix_order (keys_of 
 
   gone_then : (p : GuidPrefix) → is_of (expired (moved m (passed n k))) p ≡ has_lapsed both (if is_silent n k p then None else participant_at k p)
   gone_then p =
-      gone m (passed n k) (sorted_left (λ (e : GuidPrefix × Participant). not (is_of (expired (moved n k)) e.0)) k.participants up) p
+      gone m (passed n k) (sorted_left (λ (e : GuidPrefix × RemoteParticipant). not (is_of (expired (moved n k)) e.0)) k.participants up) p
       ∙ ap (has_lapsed both) (left_at n k up p)
 
   one_moment : max k.moment (max m n) ≡ both
@@ -94,7 +94,7 @@ module _ (m n : ℕ) (k : Known) (up : IsStrictlySortedBy prefix_order (keys_of 
 
   between : passed m (passed n k) ≡ passed (max m n) k
   between =
-      ap (λ (l : List (GuidPrefix × Participant)). record (passed m (passed n k)) { participants = l }) (twice (λ (e : GuidPrefix × Participant). not (is_of (expired (moved n k)) e.0)) (λ (e : GuidPrefix × Participant). not (is_of (expired (moved m (passed n k))) e.0)) (λ (e : GuidPrefix × Participant). not (is_of (expired (moved (max m n) k)) e.0)) (λ e. same_gone e.0) k.participants)
+      ap (λ (l : List (GuidPrefix × RemoteParticipant)). record (passed m (passed n k)) { participants = l }) (twice (λ (e : GuidPrefix × RemoteParticipant). not (is_of (expired (moved n k)) e.0)) (λ (e : GuidPrefix × RemoteParticipant). not (is_of (expired (moved m (passed n k))) e.0)) (λ (e : GuidPrefix × RemoteParticipant). not (is_of (expired (moved (max m n) k)) e.0)) (λ e. same_gone e.0) k.participants)
       ∙ ap (λ (l : List Match). record (passed m (passed n k)) { participants = (passed (max m n) k).participants; announcers = l }) (twice (λ (a : Match). not (is_of (expired (moved n k)) a.pairing.writer.prefix)) (λ (a : Match). not (is_of (expired (moved m (passed n k))) a.pairing.writer.prefix)) (λ (a : Match). not (is_of (expired (moved (max m n) k)) a.pairing.writer.prefix)) (λ a. same_gone a.pairing.writer.prefix) k.announcers)
       ∙ ap (λ (l : List (Guid × Offer)). record (passed (max m n) k) { moment = both; writers = l; remote_readers = (passed m (passed n k)).remote_readers }) (twice (λ (e : Guid × Offer). not (is_of (expired (moved n k)) e.0.prefix)) (λ (e : Guid × Offer). not (is_of (expired (moved m (passed n k))) e.0.prefix)) (λ (e : Guid × Offer). not (is_of (expired (moved (max m n) k)) e.0.prefix)) (λ e. same_gone e.0.prefix) k.writers)
       ∙ ap (λ (l : List Guid). record (passed (max m n) k) { moment = both; remote_readers = l }) (twice (λ (h : Guid). not (is_of (expired (moved n k)) h.prefix)) (λ (h : Guid). not (is_of (expired (moved m (passed n k))) h.prefix)) (λ (h : Guid). not (is_of (expired (moved (max m n) k)) h.prefix)) (λ h. same_gone h.prefix) k.remote_readers)

@@ -11,10 +11,9 @@ use Rattle.std.specs.declared.cmp.Ordering.{Ordering}
 use Rattle.std.specs.declared.cmp.Ordering.TheVariants.{Less, Equal, Greater}
 use Rattle.rtps_types.specs.declared.identity.Guid.{Guid}
 use Rattle.rtps_types.specs.Order.{guid_order}
-use Rattle.rtps_discovery.proofs.Guids.{guid_total}
+use Rattle.rtps_discovery.proofs.Guids.{guid_total, tied}
 use Rattle.rtps_proxy.specs.Matches.{is_at}
 use Rattle.rtps_discovery.specs.Changes.{both}
-use Rattle.rtps_discovery.proofs.Guids.{tied}
 use Rattle.rtps_discovery.proofs.Inserted.{all_above, inserted}
 
 -- a guid is among these

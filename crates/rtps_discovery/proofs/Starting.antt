@@ -12,7 +12,7 @@ use Rattle.rtps_discovery.specs.declared.config.Config.{Config}
 use Rattle.rtps_discovery.specs.declared.config.FixedMatch.{FixedMatch}
 use Rattle.rtps_discovery.specs.Announcement.{Offer}
 use Rattle.rtps_discovery.specs.Config.{check_of, is_bad_fixed}
-use Rattle.rtps_discovery.specs.Kept.{IsKnown, HeldView, ranks_at}
+use Rattle.rtps_discovery.specs.Kept.{IsKnown, RegistryView, ranks_at}
 use Rattle.rtps_discovery.specs.Known.{Wish, is_fixed, is_joined, prefix_order, reader_at, standing}
 use Rattle.rtps_discovery.specs.OneWriter.{has_rank, matched_from}
 use Rattle.rtps_discovery.specs.Start.{first_known, fixed_ranks, pair_of, reader_of}
@@ -170,7 +170,7 @@ fixed_within own n (p ∷ ps) good g rank past = by_tests (p.rank == rank) refl 
     by_tests false e false ok left more = more left g rank past
     by_tests true e false ok left more = absurd (let worse : nat_le n p.rank ≡ true = grind (arith, nat_tests) in cc)
 
-abbrev pub at_first : GuidPrefix → List (Option Wish) → List (Guid × List ℕ) → List (Guid × List ℕ) → HeldView
+abbrev pub at_first : GuidPrefix → List (Option Wish) → List (Guid × List ℕ) → List (Guid × List ℕ) → RegistryView
 at_first own readers fixed ranks = record { own = own; moment = 0; readers = readers; fixed = fixed; participants = []; leases = []; announcers = []; writers = []; remote_readers = []; ranks = ranks }
 
 map_length : {X Y : Type 0} (f : X → Y) (xs : List X) → length (map f xs) ≡ length xs

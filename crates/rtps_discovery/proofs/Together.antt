@@ -12,8 +12,8 @@ use Rattle.std.proofs.lemmas.Map.Keys.{sorted_head, sorted_tail}
 use Rattle.rtps_types.specs.declared.identity.Guid.{Guid}
 use Rattle.rtps_types.specs.declared.identity.GuidPrefix.{GuidPrefix}
 use Rattle.rtps_types.specs.Order.{guid_order}
-use Rattle.rtps_discovery.specs.Known.{Participant, is_of, prefix_order}
-use Rattle.rtps_discovery.specs.Leaving.{gone_by}
+use Rattle.rtps_discovery.specs.Known.{RemoteParticipant, is_of, prefix_order}
+use Rattle.rtps_discovery.specs.Leave.{gone_by}
 use Rattle.rtps_discovery.proofs.Guids.{equal_from, flipped, prefix_total}
 use Rattle.rtps_discovery.proofs.Taking.{of, of_equal, others, sorted_filter}
 
@@ -38,8 +38,8 @@ filter_every [] = refl
 filter_every (x ∷ xs) = ap (λ l. x ∷ l) (filter_every xs)
 
 -- participants that are left are in order
-module _ (f : GuidPrefix × Participant → Bool) where
-  below_left : (p : GuidPrefix) (es : List (GuidPrefix × Participant)) → AllByRecursion (λ q. prefix_order p q ≡ Less) (keys_of es) → AllByRecursion (λ q. prefix_order p q ≡ Less) (keys_of (filter f es))
+module _ (f : GuidPrefix × RemoteParticipant → Bool) where
+  below_left : (p : GuidPrefix) (es : List (GuidPrefix × RemoteParticipant)) → AllByRecursion (λ q. prefix_order p q ≡ Less) (keys_of es) → AllByRecursion (λ q. prefix_order p q ≡ Less) (keys_of (filter f es))
   below_left p [] all = tt
   below_left p (e ∷ es) (here, more) = by_test (f e) (below_left p es more)
     where
@@ -47,7 +47,7 @@ module _ (f : GuidPrefix × Participant → Bool) where
       by_test true rest = (here, rest)
       by_test false rest = rest
 
-  pub sorted_left : (es : List (GuidPrefix × Participant)) → IsStrictlySortedBy prefix_order (keys_of es) → IsStrictlySortedBy prefix_order (keys_of (filter f es))
+  pub sorted_left : (es : List (GuidPrefix × RemoteParticipant)) → IsStrictlySortedBy prefix_order (keys_of es) → IsStrictlySortedBy prefix_order (keys_of (filter f es))
   unfolding IsStrictlySortedBy
   sorted_left [] up = tt
   sorted_left (e ∷ es) (here, up) = by_test (f e) (sorted_left es up)
@@ -58,11 +58,11 @@ module _ (f : GuidPrefix × Participant → Bool) where
 
 -- ---- two tests of which no item of the second comes before one of the first
 
-abbrev Apart : {E : Type 0} → (E → Bool) → (E → Bool) → List E → Type 0
-Apart f g [] = Unit {0}
-Apart f g (x ∷ xs) = (f x ≡ true → g x ≡ false) × ((g x ≡ true → AllByRecursion (λ y. f y ≡ false) xs) × Apart f g xs)
+abbrev Unmatched : {E : Type 0} → (E → Bool) → (E → Bool) → List E → Type 0
+Unmatched f g [] = Unit {0}
+Unmatched f g (x ∷ xs) = (f x ≡ true → g x ≡ false) × ((g x ≡ true → AllByRecursion (λ y. f y ≡ false) xs) × Unmatched f g xs)
 
-apart_filter : {E : Type 0} (f g : E → Bool) (xs : List E) → Apart f g xs → filter f xs ++ filter g xs ≡ filter (λ x. f x || g x) xs
+apart_filter : {E : Type 0} (f g : E → Bool) (xs : List E) → Unmatched f g xs → filter f xs ++ filter g xs ≡ filter (λ x. f x || g x) xs
 apart_filter f g [] h = refl
 apart_filter {E} f g (x ∷ xs) h = by_tests (f x) (g x) refl refl (apart_filter f g xs h.1.1)
   where
@@ -168,7 +168,7 @@ module _ {X : Type 0} where
   abbrev pub stay : List GuidPrefix → Guid × X → Bool
   stay ps e = not (of_any ps e.0)
 
-  apart : (p : GuidPrefix) (ps : List GuidPrefix) (es : List (Guid × X)) → Before p ps → IsStrictlySortedBy guid_order (keys_of es) → Apart (own p) (any ps) es
+  apart : (p : GuidPrefix) (ps : List GuidPrefix) (es : List (Guid × X)) → Before p ps → IsStrictlySortedBy guid_order (keys_of es) → Unmatched (own p) (any ps) es
   apart p ps [] before up = tt
   apart p ps (e ∷ es) before up = (
     λ is. by_other is (of_any ps e.0) refl,

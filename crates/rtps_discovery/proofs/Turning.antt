@@ -9,8 +9,8 @@ use Rattle.rtps_types.specs.declared.locator.Locator.{Locator}
 use Rattle.rtps_proxy.specs.Matches.{is_at}
 use Rattle.rtps_discovery.specs.Announcement.{Offer, Offers, Withdraws}
 use Rattle.rtps_discovery.specs.Changes.{ChangeAt, changes}
-use Rattle.rtps_discovery.specs.Known.{Known, Participant, Wish, is_fixed, locators_for, own_or, writer_at}
-use Rattle.rtps_discovery.specs.Kept.{Applies, IsKnown, HeldView, fixed_at, heard_of, locators_by, matched_ranks, participant_in, ranks_at, ranks_of}
+use Rattle.rtps_discovery.specs.Known.{Known, RemoteParticipant, Wish, is_fixed, locators_for, own_or, writer_at}
+use Rattle.rtps_discovery.specs.Kept.{Applies, IsKnown, RegistryView, fixed_at, heard_of, locators_by, matched_ranks, participant_in, ranks_at, ranks_of}
 use Rattle.rtps_discovery.specs.OneWriter.{column, matched_from}
 use Rattle.rtps_discovery.proofs.Guids.{found_is}
 use Rattle.rtps_discovery.proofs.OneWriter.{DiffersAt, changes_one}
@@ -34,7 +34,7 @@ pub record IsStep (es fs : List (Guid × Offer)) (g : Guid) (w : Option Offer) :
 abbrev pub with_writers : Known → List (Guid × Offer) → Known
 with_writers k ws = record k { writers = ws }
 
-module _ (k : Known) (d : HeldView) (is : IsKnown k d) (g : Guid) (w : Option Offer) (ws : List (Guid × Offer)) (step : IsStep d.writers ws g w) where
+module _ (k : Known) (d : RegistryView) (is : IsKnown k d) (g : Guid) (w : Option Offer) (ws : List (Guid × Offer)) (step : IsStep d.writers ws g w) where
   differs : DiffersAt k (with_writers k ws) g
   differs = record {
     readers = refl;
@@ -44,7 +44,7 @@ module _ (k : Known) (d : HeldView) (is : IsKnown k d) (g : Guid) (w : Option Of
 
   locators_are : (o : Option Offer) → locators_for (with_writers k ws) g.prefix o ≡ locators_by d g.prefix o
   locators_are None = refl
-  locators_are (Some x) = ap (λ (ps : List (GuidPrefix × Participant)). own_or x.locators (participant_in g.prefix ps)) (sym is.participants)
+  locators_are (Some x) = ap (λ (ps : List (GuidPrefix × RemoteParticipant)). own_or x.locators (participant_in g.prefix ps)) (sym is.participants)
 
   pub heard : changes k (with_writers k ws) ≡ heard_of d g w
   heard =
@@ -87,7 +87,7 @@ module _ (k : Known) (d : HeldView) (is : IsKnown k d) (g : Guid) (w : Option Of
   }
 
 -- where these are the writers that are known after an announcement of one of them
-pub offers : (d : HeldView) (g : Guid) (w : Offer) (ws : List (Guid × Offer)) (rs : List (Guid × List ℕ)) (earlier all : List ChangeAt) → IsStep d.writers ws g (Some w)
+pub offers : (d : RegistryView) (g : Guid) (w : Offer) (ws : List (Guid × Offer)) (rs : List (Guid × List ℕ)) (earlier all : List ChangeAt) → IsStep d.writers ws g (Some w)
     → ws ≡ insert_entry guid_order d.writers g w → ((q : Guid) → ranks_at q rs ≡ (if is_at g q then ranks_of d g (Some w) else ranks_at q d.ranks)) → all ≡ earlier ++ heard_of d g (Some w)
     → Applies (Offers g w) d (record d { writers = ws; ranks = rs }) earlier all
 offers d g w ws rs earlier all step e put told = record {
@@ -99,7 +99,7 @@ offers d g w ws rs earlier all step e put told = record {
       told ∙ ap (λ l. earlier ++ l) (sym (heard k d is g (Some w) ws step) ∙ ap (λ l. changes k (with_writers k l)) same);
 }
 
-pub withdraws : (d : HeldView) (g : Guid) (ws : List (Guid × Offer)) (rs : List (Guid × List ℕ)) (earlier all : List ChangeAt) → IsStep d.writers ws g None
+pub withdraws : (d : RegistryView) (g : Guid) (ws : List (Guid × Offer)) (rs : List (Guid × List ℕ)) (earlier all : List ChangeAt) → IsStep d.writers ws g None
     → ws ≡ remove_entry (is_at g) d.writers → ((q : Guid) → ranks_at q rs ≡ (if is_at g q then ranks_of d g None else ranks_at q d.ranks)) → all ≡ earlier ++ heard_of d g None
     → Applies (Withdraws g) d (record d { writers = ws; ranks = rs }) earlier all
 withdraws d g ws rs earlier all step e put told = record {

@@ -11,7 +11,7 @@ use Rattle.rtps_proxy.specs.Matches.{is_at}
 use Rattle.rtps_discovery.specs.Announcement.{Asks, AsksNoMore, Offer}
 use Rattle.rtps_discovery.specs.Changes.{ChangeAt, at_pair, both, changes, row, rows}
 use Rattle.rtps_discovery.specs.Known.{Known, Wish, known_after, locators_at, standing, writer_at}
-use Rattle.rtps_discovery.specs.Kept.{Applies, IsKnown, HeldView}
+use Rattle.rtps_discovery.specs.Kept.{Applies, IsKnown, RegistryView}
 use Rattle.rtps_discovery.proofs.OneWriter.{at_pair_same}
 
 none_counts : {X Y : Type 0} → (f : X → List Y) → ((x : X) → f x ≡ []) → (xs : List X) → flat_map f xs ≡ []
@@ -36,10 +36,10 @@ unheard before after same writers = ap (rows before after gs 0 before.readers) s
     rows_none k [] = refl
     rows_none k (r ∷ rs) = rw (row_none k r, rows_none (k + 1) rs) refl
 
-abbrev with_readers : HeldView → List Guid → HeldView
+abbrev with_readers : RegistryView → List Guid → RegistryView
 with_readers d gs = record d { remote_readers = gs }
 
-keeps_readers : (k : Known) (d : HeldView) (gs : List Guid) → IsKnown k d → IsKnown (record k { remote_readers = gs }) (with_readers d gs)
+keeps_readers : (k : Known) (d : RegistryView) (gs : List Guid) → IsKnown k d → IsKnown (record k { remote_readers = gs }) (with_readers d gs)
 keeps_readers k d gs is = record {
   own = is.own;
   moment = is.moment;
@@ -60,7 +60,7 @@ keeps_readers k d gs is = record {
 pub quiet : (k k' : Known) (earlier : List ChangeAt) → k'.readers ≡ k.readers → k'.writers ≡ k.writers → earlier ≡ earlier ++ changes k k'
 quiet k k' earlier same writers = sym (append-nil earlier) ∙ ap (λ l. earlier ++ l) (sym (unheard k k' same writers))
 
-pub asks : (d : HeldView) (g : Guid) (gs : List Guid) (earlier : List ChangeAt) → gs ≡ insert_key guid_order d.remote_readers g → Applies (Asks g) d (with_readers d gs) earlier earlier
+pub asks : (d : RegistryView) (g : Guid) (gs : List Guid) (earlier : List ChangeAt) → gs ≡ insert_key guid_order d.remote_readers g → Applies (Asks g) d (with_readers d gs) earlier earlier
 asks d g gs earlier e = record {
   known = λ k is.
       let same : gs ≡ insert_key guid_order k.remote_readers g = e ∙ ap (λ l. insert_key guid_order l g) is.remote_readers in
@@ -68,7 +68,7 @@ asks d g gs earlier e = record {
   changes = λ k is. quiet k (known_after k (Asks g)) earlier refl refl;
 }
 
-pub asks_no_more : (d : HeldView) (g : Guid) (gs : List Guid) (earlier : List ChangeAt) → gs ≡ remove_key (is_at g) d.remote_readers → Applies (AsksNoMore g) d (with_readers d gs) earlier earlier
+pub asks_no_more : (d : RegistryView) (g : Guid) (gs : List Guid) (earlier : List ChangeAt) → gs ≡ remove_key (is_at g) d.remote_readers → Applies (AsksNoMore g) d (with_readers d gs) earlier earlier
 asks_no_more d g gs earlier e = record {
   known = λ k is.
       let same : gs ≡ remove_key (is_at g) k.remote_readers = e ∙ ap (remove_key (is_at g)) is.remote_readers in

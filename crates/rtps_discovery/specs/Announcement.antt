@@ -1,4 +1,4 @@
--- What is announced of a participant, of its writers and of its readers (DDSI-RTPS 8.5.3, 8.5.4).
+-- The announcements of participants, writers and readers (DDSI-RTPS 8.5.3, 8.5.4).
 use Rattle.std.specs.Prelude.{ℕ, ◌/◌, ◌%◌, ◌^◌, ◌==◌, List, [], ◌∷◌, Option, Some, None, option_and_then, Bool, true, not, ◌&&◌, if◌then◌else◌, pos}
 use Rattle.std.specs.Option.{option_map, unwrap_or}
 use Rattle.std.specs.Str.{bytes_eq}
@@ -12,11 +12,11 @@ use Rattle.dds_qos.specs.declared.policies.Policies.{Policies}
 use Rattle.dds_qos.specs.Settings.{Settings}
 use Rattle.dds_qos.specs.Values.{guid_of}
 use Rattle.rtps_discovery.specs.Config.{is_reader, is_writer}
-use Rattle.rtps_discovery.specs.Said.{Said, Announces, Ends}
+use Rattle.rtps_discovery.specs.AnnouncedData.{AnnouncedData, Announces, Ends}
 
--- what a participant says of itself
+-- what a participant announces of itself
 pub record Facts : Type 0 where
-  -- where its announcers are reached, and by default its endpoints
+  -- the locators of its announcers, and the default ones of its endpoints
   pub metatraffic : List Locator
   pub locators : List Locator
   -- how long it may keep silent
@@ -24,7 +24,7 @@ pub record Facts : Type 0 where
   pub announces_writers : Bool
   pub announces_readers : Bool
 
--- what a writer offers, or a reader asks for, and its own locators
+-- what a writer offers, or a reader requests, and its own locators
 pub record Offer : Type 0 where
   pub topic : List ℕ
   pub type_name : List ℕ
@@ -32,8 +32,8 @@ pub record Offer : Type 0 where
   pub partitions : List (List ℕ)
   pub locators : List Locator
 
--- what one record says, or one end: a participant comes, or speaks again; participants leave; a
--- writer or a reader comes, or changes, or goes
+-- the content of one change: a participant is announced, for the first time or again; participants
+-- leave; a writer or a reader is announced, for the first time or again, or is removed
 pub data Announcement : Type 0 where
   Comes : GuidPrefix → Facts → Announcement
   Leave : List GuidPrefix → Announcement
@@ -42,11 +42,11 @@ pub data Announcement : Type 0 where
   Asks : Guid → Announcement
   AsksNoMore : Guid → Announcement
 
--- 100 seconds, where no lease is given (DDSI-RTPS 8.5.3.2)
+-- the lease of a participant that announces none: 100 seconds (DDSI-RTPS 8.5.3.2)
 abbrev pub default_lease : Duration
 default_lease = record { seconds = pos 100; fraction = 0 }
 
--- a bit of the set of builtin endpoints; all are there where the set isn't given
+-- a builtin endpoint set has a bit; a participant without a set has all endpoints
 -- (DDSI-RTPS 9.3.2.12)
 abbrev pub has_bit : ℕ → Option ℕ → Bool
 has_bit bit None = true
@@ -62,52 +62,52 @@ facts_of s = record {
   announces_readers = has_bit 4 s.builtin_endpoints;
 }
 
--- topic and type have to be given
+-- what a record with this topic and this type offers; nothing if one of them is missing
 abbrev pub offer_by : Settings → Option (List ℕ) → Option (List ℕ) → Option Offer
 offer_by s None name = None
 offer_by s (Some topic) None = None
 offer_by s (Some topic) (Some name) =
     Some (record { topic = topic; type_name = name; policies = s.policies; partitions = s.partitions; locators = s.unicast })
 
--- what the record of a writer or a reader says of it, where topic and type are given
+-- what the record of a writer or a reader says of it, if it has a topic and a type
 abbrev pub offer_of : Settings → Option Offer
 offer_of s = offer_by s s.topic s.type_name
 
--- a value, where something holds
+-- a value, if a condition holds
 abbrev pub when : {X : Type 0} → Bool → X → Option X
 when holds x = if holds then Some x else None
 
--- what is named, else what the key hash names that was sent with the change
+-- the guid that the record names, else the one in the key hash of the change
 abbrev pub or_hash : Option Guid → Option KeyHash → Option Guid
 or_hash (Some g) hash = Some g
 or_hash None None = None
 or_hash None (Some h) = guid_of h.0
 
--- the participant that is named, else the one that sends
+-- the participant that the record names, else the sender
 abbrev pub prefix_of : GuidPrefix → Option Guid → GuidPrefix
 prefix_of source None = source
 prefix_of source (Some g) = g.prefix
 
--- a participant speaks of itself alone, and never for us (own)
-abbrev pub participant_said : GuidPrefix → GuidPrefix → Option KeyHash → Said → Option Announcement
+-- a participant may announce only itself, and never our own participant (own)
+abbrev pub participant_said : GuidPrefix → GuidPrefix → Option KeyHash → AnnouncedData → Option Announcement
 participant_said own source hash (Announces s) =
     when (bytes_eq (prefix_of source s.participant).0 source.0 && not (bytes_eq source.0 own.0)) (Comes source (facts_of s))
 participant_said own source hash (Ends named) =
     when (bytes_eq (prefix_of source (or_hash named hash)).0 source.0) (Leave (source ∷ []))
 
--- an endpoint of the participant that sends, of a kind that users have
+-- an endpoint of the sender, of a user-defined kind
 abbrev pub endpoint_of : GuidPrefix → (EntityId → Bool) → Option Guid → Option Guid
 endpoint_of source is_kind named =
     option_and_then (λ (g : Guid). when (bytes_eq g.prefix.0 source.0 && is_kind g.entity) g) named
 
--- a writer of the participant that sends, named by the record or the end, else by the key hash
-abbrev pub writer_said : GuidPrefix → Option KeyHash → Said → Option Announcement
+-- the announcement of a writer of the sender, named by the record or the end, else by the key hash
+abbrev pub writer_said : GuidPrefix → Option KeyHash → AnnouncedData → Option Announcement
 writer_said source hash (Announces s) =
     option_and_then (λ g. option_map (Offers g) (offer_of s)) (endpoint_of source is_writer (or_hash s.endpoint hash))
 writer_said source hash (Ends named) = option_map Withdraws (endpoint_of source is_writer (or_hash named hash))
 
--- and a reader in the same way; of what it asks for only that it gives topic and type counts
-abbrev pub reader_said : GuidPrefix → Option KeyHash → Said → Option Announcement
+-- the same for a reader, of whose record it only matters that it has a topic and a type
+abbrev pub reader_said : GuidPrefix → Option KeyHash → AnnouncedData → Option Announcement
 reader_said source hash (Announces s) =
     option_and_then (λ g. option_map (λ offer. Asks g) (offer_of s)) (endpoint_of source is_reader (or_hash s.endpoint hash))
 reader_said source hash (Ends named) = option_map AsksNoMore (endpoint_of source is_reader (or_hash named hash))

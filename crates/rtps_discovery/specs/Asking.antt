@@ -1,11 +1,11 @@
--- What a configuration asks for that is made by calls.
+-- The readers of a configuration, as its calls make them.
 use Rattle.std.specs.Prelude.{ℕ, List, []}
 use Rattle.rtps_types.specs.declared.identity.EntityId.{EntityId}
 use Rattle.dds_qos.specs.Defaults.{default_policies}
 use Rattle.dds_qos.specs.declared.policies.Reliability.TheVariants.{BestEffort, Reliable}
 use Rattle.rtps_discovery.specs.Known.{Wish}
 
--- a reader that gives no policy (DDS 1.4, 2.2.3): best-effort, in no partition
+-- a reader with the default policies (DDS 1.4, 2.2.3): best-effort, in no partition
 abbrev pub first_wish : EntityId → List ℕ → List ℕ → Wish
 first_wish entity topic type_name = record {
   entity = entity;
@@ -15,6 +15,6 @@ first_wish entity topic type_name = record {
   partitions = [];
 }
 
--- the same reader, which asks for reliable writers (DDS 1.4, 2.2.3.14)
+-- the same reader, requesting reliable writers (DDS 1.4, 2.2.3.14)
 abbrev pub reliably : Wish → Wish
 reliably w = record w { policies = record w.policies { reliability = Reliable } }

@@ -1,5 +1,5 @@
--- The changes of what is known, in the words of sets: differences of the pairs that are matched,
--- and of those that are refused (DDSI-RTPS 8.5.4.4; DDS 1.4, 2.2.4.1).
+-- The changes of matches, stated as sets: the differences of the pairs that are matched, and of
+-- those that are refused (DDSI-RTPS 8.5.4.4; DDS 1.4, 2.2.4.1).
 use Rattle.std.specs.Prelude.{◌≡◌, ℕ, List, Bool, false, true, ◌↔◌, AllPairs, Contains, IsTrue}
 use Rattle.std.specs.List.Sorted.{IsStrictlySortedBy}
 use Rattle.std.specs.Map.{keys_of}
@@ -14,38 +14,37 @@ use Rattle.rtps_types.specs.MatchChange.{MatchChange, Matches, Unmatches, Refuse
 use Rattle.rtps_discovery.specs.Changes.{ChangeAt, at, changes}
 use Rattle.rtps_discovery.specs.Known.{Known, Refused, is_fixed, is_matched, locators_at, reader_at, standing, writer_at}
 
--- a reader and a writer would be matched, but for this policy
+-- a reader and a writer would be matched, but this policy is incompatible
 pub record IsRefused (k : Known) (rank : ℕ) (g : Guid) (policy : PolicyId) : Type 0 where
   pub free : is_fixed k.fixed rank g ≡ false
   pub refused : standing (reader_at k.readers rank) (writer_at k g) ≡ Refused policy
 
 -- ---- the order of changes
 
--- the writer that becomes something
+-- the writer of a change
 abbrev pub writer_in : MatchChange → Guid
 writer_in (Matches g ls) = g
 writer_in (Unmatches g) = g
 writer_in (Refuses g policy) = g
 
--- at one reader and of one writer an end comes first, and then a refusal
+-- for one reader and one writer, an end comes before a refusal
 abbrev pub ends_first : MatchChange → MatchChange → Bool
 ends_first (Unmatches g) (Refuses h policy) = true
 ends_first a b = false
 
--- one comes before the other by this order, or is equal by it and comes before otherwise
+-- a lexicographic order: by the first order, and where that is equal, by a second test
 abbrev pub first_by : Ordering → Bool → Bool
 first_by Less otherwise = true
 first_by Equal otherwise = otherwise
 first_by Greater otherwise = false
 
--- by rank, then by writer, and an end before a refusal
+-- a change comes before another: by rank, then by writer, and an end before a refusal
 abbrev pub comes_before : ChangeAt → ChangeAt → Bool
 comes_before a b = first_by (nat_cmp a.rank b.rank) (first_by (guid_order (writer_in a.what) (writer_in b.what)) (ends_first a.what b.what))
 
--- Matches begin at the pairs that are matched after and weren't before, with the locators that are
--- known then; they end at those that were matched before and aren't after; refusals are reported
--- that are new, or of another policy. Where the writers known after are in order, so are the
--- changes.
+-- Matches begin for the pairs that are matched after and weren't before, with the locators known
+-- after. Matches end for the pairs that were matched before and aren't after. A refusal is reported
+-- if it is new or names another policy. If the writers known after are in order, the changes are.
 pub record AreDifferences (before after : Known) : Type 0 where
   pub begin : (rank : ℕ) (g : Guid) (ls : List Locator) →
       Contains (changes before after) (at rank (Matches g ls))
@@ -58,6 +57,6 @@ pub record AreDifferences (before after : Known) : Type 0 where
       ↔ (IsRefused after rank g policy × (IsRefused before rank g policy → ⊥))
   pub order : IsStrictlySortedBy guid_order (keys_of after.writers) → AllPairs (λ a b. IsTrue (comes_before a b)) (changes before after)
 
--- whatever is known before and after, where the fixed pairs stay
+-- this holds for any two states with the same fixed matches
 abbrev pub ChangesAreDifferences : Type 0
 ChangesAreDifferences = (before after : Known) → before.fixed ≡ after.fixed → AreDifferences before after

@@ -1,4 +1,4 @@
--- What the code reads, without where its texts lie in memory.
+-- The code's types as contracts see them, with texts as lists of octets.
 use Rattle.std.specs.Prelude.{[], ◌∷◌, Option}
 use Rattle.std.specs.Borrow.{Bor}
 use Rattle.std.specs.Option.{option_map}
@@ -12,18 +12,18 @@ use Rattle.rtps_discovery.specs.Announcement as announcement
 use Rattle.rtps_discovery.specs.Changes as changes
 use Rattle.rtps_discovery.specs.Known as known
 use Rattle.rtps_discovery.specs.declared.changes.MatchChange.{MatchChange}
-use Rattle.rtps_discovery.specs.declared.standing.Standing.{Standing}
-use Rattle.rtps_discovery.specs.declared.standing.Standing.TheVariants as stands
-use Rattle.rtps_discovery.specs.declared.said.Said.{Said}
-use Rattle.rtps_discovery.specs.declared.said.Said.TheVariants as code
-use Rattle.rtps_discovery.specs.Said as said
+use Rattle.rtps_discovery.specs.declared.pair_state.PairState.{PairState}
+use Rattle.rtps_discovery.specs.declared.pair_state.PairState.TheVariants as stands
+use Rattle.rtps_discovery.specs.declared.announced_data.AnnouncedData.{AnnouncedData}
+use Rattle.rtps_discovery.specs.declared.announced_data.AnnouncedData.TheVariants as code
+use Rattle.rtps_discovery.specs.AnnouncedData as said
 
--- what contracts see of what a change of an announcer says
-abbrev pub said_seen : Said → said.Said
+-- the view of the data of a change
+abbrev pub said_seen : AnnouncedData → said.AnnouncedData
 said_seen (code.Announces s) = said.Announces (settings_seen s)
 said_seen (code.Ends named) = said.Ends named
 
--- what contracts see of what a participant says of itself
+-- the view of what a participant announces of itself
 abbrev pub facts_seen : Facts → announcement.Facts
 facts_seen f = record {
   metatraffic = f.metatraffic;
@@ -33,7 +33,7 @@ facts_seen f = record {
   announces_readers = f.announces_readers;
 }
 
--- what contracts see of what a writer offers, or a reader asks for
+-- the view of what a writer offers, or a reader requests
 abbrev pub offer_seen : Offer → announcement.Offer
 offer_seen o = record {
   topic = o.topic.now;
@@ -43,7 +43,7 @@ offer_seen o = record {
   locators = o.locators;
 }
 
--- what contracts see of an announcement
+-- the view of an announcement
 abbrev pub announcement_seen : Announcement → announcement.Announcement
 announcement_seen (announced.Comes p f) = announcement.Comes p (facts_seen f)
 announcement_seen (announced.Leaves p) = announcement.Leave (p ∷ [])
@@ -52,16 +52,16 @@ announcement_seen (announced.Withdraws g) = announcement.Withdraws g
 announcement_seen (announced.Asks g) = announcement.Asks g
 announcement_seen (announced.AsksNoMore g) = announcement.AsksNoMore g
 
--- what contracts see of how a reader is with a writer
-abbrev pub standing_seen : Standing → known.Standing
-standing_seen stands.Apart = known.Apart
+-- the view of the state of a reader and a writer
+abbrev pub standing_seen : PairState → known.PairState
+standing_seen stands.Unmatched = known.Unmatched
 standing_seen stands.Joined = known.Joined
 standing_seen (stands.Refused policy) = known.Refused policy
 
--- what contracts see of a change of a match
+-- the view of a change of a match
 abbrev pub change_seen : {A : Type 0} → MatchChange A → changes.ChangeAt
 change_seen c = record { rank = c.rank; what = match_change_view c.what }
 
--- what is borrowed, if something is
+-- the value of an optional borrow
 abbrev pub lent : {X : Type 0} → Option (Bor X) → Option X
 lent o = option_map (λ b. b.now) o

@@ -1,5 +1,4 @@
--- What is known at the start (DDSI-RTPS 8.5): our readers, and the matches that there are from the
--- start.
+-- The state of discovery at the start (DDSI-RTPS 8.5): our readers, and the fixed matches.
 use Rattle.std.specs.Prelude.{ℕ, List, [], Option, Some, None, map}
 use Rattle.std.specs.String.{string_bytes}
 use Rattle.rtps_types.specs.declared.identity.Guid.{Guid}
@@ -9,7 +8,7 @@ use Rattle.rtps_discovery.specs.declared.config.Config.{Config}
 use Rattle.rtps_discovery.specs.Known.{Known, Wish, is_fixed}
 use Rattle.rtps_discovery.specs.OneWriter.{matched_from}
 
--- a reader of the configuration, and what it asks for
+-- a reader of the configuration, and what it requests
 abbrev pub wish_of : ReaderConfig → Wish
 wish_of r = record {
   entity = r.entity;
@@ -19,7 +18,7 @@ wish_of r = record {
   partitions = r.requested.partitions;
 }
 
--- the same, as a reader that is there
+-- the same, as a reader that is present
 abbrev pub reader_of : ReaderConfig → Option Wish
 reader_of r = Some (wish_of r)
 
@@ -27,7 +26,7 @@ reader_of r = Some (wish_of r)
 abbrev pub pair_of : FixedMatch → ℕ × Guid
 pair_of m = (m.rank, m.writer)
 
--- every reader of the configuration, its fixed matches, and nobody else
+-- the readers of the configuration, its fixed matches, and nothing else
 abbrev pub first_known : Config → Known
 first_known c = record {
   own = c.own;
@@ -40,6 +39,6 @@ first_known c = record {
   remote_readers = [];
 }
 
--- the ranks of these readers that one of these pairs joins to a writer, rising
+-- the ranks of the readers that have a fixed match with a writer, rising
 abbrev pub fixed_ranks : List (ℕ × Guid) → List (Option Wish) → Guid → List ℕ
 fixed_ranks pairs readers g = matched_from (λ rank. is_fixed pairs rank g) None 0 readers

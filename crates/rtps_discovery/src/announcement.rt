@@ -1,4 +1,4 @@
-//! What is announced of a participant, of its writers and of its readers (DDSI-RTPS 8.5.3, 8.5.4).
+//! Announcements of participants, writers and readers (DDSI-RTPS 8.5.3, 8.5.4).
 
 ghost use Rattle.std.specs.Prelude.{◌≡◌, ◌<◌};
 ghost use Rattle.std.specs.Option.{option_map};
@@ -7,66 +7,66 @@ ghost use Rattle.rtps_discovery.specs.Config as config;
 ghost use Rattle.rtps_discovery.specs.Seen.{announcement_seen, facts_seen, offer_seen, said_seen};
 ghost use Rattle.dds_qos.specs.Seen.{settings_seen};
 
+use crate::announced_data::AnnouncedData;
 use crate::faults::{is_reader, is_writer};
-use crate::said::Said;
 use dds_qos::{ListedLocators, Policies, Settings};
 use rtps_cdr::Strings;
 use rtps_types::{Duration, EntityId, Guid, GuidPrefix, KeyHash, get_octets};
 
-/// How long a participant may keep silent that doesn't say it (DDSI-RTPS 8.5.3.2).
+/// The lease of a participant that announces none (DDSI-RTPS 8.5.3.2).
 const DEFAULT_LEASE: Duration = Duration {
     seconds: 100,
     fraction: 0,
 };
 
-/// The bit of the announcer of writers in a set of builtin endpoints (DDSI-RTPS 9.3.2.12).
+/// The bit of the announcer of writers in a builtin endpoint set (DDSI-RTPS 9.3.2.12).
 const PUBLICATIONS_ANNOUNCER: u32 = 2;
 
-/// The bit of the announcer of readers.
+/// The bit of the announcer of readers in a builtin endpoint set.
 const SUBSCRIPTIONS_ANNOUNCER: u32 = 4;
 
-/// What a participant says of itself. Its locators lie where the octets of its record lie.
+/// What a participant announces of itself. Its locators are borrowed from the octets of its record.
 #[derive(Drop)]
 pub(crate) struct Facts<'a> {
-    /// Where its announcers are reached.
+    /// The locators of its announcers.
     pub(crate) metatraffic: ListedLocators<'a>,
-    /// Where its endpoints are reached that give no locators of their own.
+    /// The default locators: those of its endpoints that announce no locators of their own.
     pub(crate) locators: ListedLocators<'a>,
     pub(crate) lease: Duration,
     pub(crate) announces_writers: bool,
     pub(crate) announces_readers: bool,
 }
 
-/// What a writer offers, or a reader asks for. Texts and locators lie where the octets of its
-/// record lie.
+/// What a writer offers, or a reader requests. Its texts and locators are borrowed from the octets
+/// of its record.
 #[derive(Drop)]
 pub(crate) struct Offer<'a> {
     pub(crate) topic: &'a str,
     pub(crate) type_name: &'a str,
     pub(crate) policies: Policies,
     pub(crate) partitions: Option<Strings<'a>>,
-    /// Where it is reached.
+    /// Its own locators.
     pub(crate) locators: ListedLocators<'a>,
 }
 
-/// What one record says, or one end.
+/// The content of one change of an announcer.
 #[derive(Drop)]
 pub(crate) enum Announcement<'a> {
-    /// A participant comes, or speaks again.
+    /// A participant is announced, for the first time or again.
     Comes(GuidPrefix, Facts<'a>),
     /// A participant leaves.
     Leaves(GuidPrefix),
-    /// A writer comes, or changes.
+    /// A writer is announced, for the first time or again.
     Offers(Guid, Offer<'a>),
-    /// A writer goes.
+    /// A writer is removed.
     Withdraws(Guid),
-    /// A reader comes, or changes.
+    /// A reader is announced, for the first time or again.
     Asks(Guid),
-    /// A reader goes.
+    /// A reader is removed.
     AsksNoMore(Guid),
 }
 
-/// Whether a set of builtin endpoints has a bit; where none is given, it has.
+/// Whether a builtin endpoint set has a bit. A participant without a set has all endpoints.
 fn has_bit(bit: u32, set: Option<u32>) -> bool
     requires { bit < 32 }
     ensures { result ≡ announcement.has_bit bit set }
@@ -77,7 +77,7 @@ fn has_bit(bit: u32, set: Option<u32>) -> bool
     }
 }
 
-/// What the record of a participant says of it.
+/// Returns what the record of a participant says of it.
 fn facts_of(settings: Settings<'_>) -> Facts<'_>
     ensures { facts_seen result ≡ announcement.facts_of (settings_seen settings.entry) }
 {
@@ -90,7 +90,7 @@ fn facts_of(settings: Settings<'_>) -> Facts<'_>
     }
 }
 
-/// What the record of an endpoint offers, or asks for, if it gives its topic and its type.
+/// Returns what the record of an endpoint offers or requests; `None` without a topic or a type.
 fn offer_of(settings: Settings<'_>) -> Option<Offer<'_>>
     ensures { option_map offer_seen result ≡ announcement.offer_of (settings_seen settings.entry) }
 {
@@ -105,7 +105,7 @@ fn offer_of(settings: Settings<'_>) -> Option<Offer<'_>>
     })
 }
 
-/// What is named, else what the key hash names that was sent with the change.
+/// Returns the guid that the record names, else the one in the key hash of the change.
 fn or_hash(named: Option<Guid>, hash: Option<KeyHash>) -> Option<Guid>
     ensures { result ≡ announcement.or_hash named hash }
 {
@@ -119,7 +119,7 @@ fn or_hash(named: Option<Guid>, hash: Option<KeyHash>) -> Option<Guid>
     })
 }
 
-/// The participant that is named, else the one that sends.
+/// Returns the participant that the record names, else the sender.
 fn prefix_of(source: GuidPrefix, named: Option<Guid>) -> GuidPrefix
     ensures { result ≡ announcement.prefix_of source named }
 {
@@ -129,19 +129,19 @@ fn prefix_of(source: GuidPrefix, named: Option<Guid>) -> GuidPrefix
     }
 }
 
-/// What a change of the participants' announcer announces (DDSI-RTPS 8.5.3): a participant speaks
-/// of itself alone, and never for us, `own`.
+/// Returns the announcement of a change from the participants' announcer (DDSI-RTPS 8.5.3). `None`
+/// if it names a participant other than its sender, or our own participant, `own`.
 pub(crate) fn participant_said<'a>(
     own: GuidPrefix,
     source: GuidPrefix,
     hash: Option<KeyHash>,
-    said: Said<'a>,
+    said: AnnouncedData<'a>,
 ) -> Option<Announcement<'a>>
     ensures { option_map announcement_seen result
         ≡ announcement.participant_said own source hash (said_seen said.entry) }
 {
     match said {
-        Said::Announces(settings) => {
+        AnnouncedData::Announces(settings) => {
             let prefix = prefix_of(source, settings.participant);
             let speaks_for_itself = prefix == source && source != own;
             if !speaks_for_itself {
@@ -149,15 +149,14 @@ pub(crate) fn participant_said<'a>(
             }
             Some(Announcement::Comes(source, facts_of(settings)))
         }
-        Said::Ends(named) => {
+        AnnouncedData::Ends(named) => {
             let prefix = prefix_of(source, or_hash(named, hash));
             (prefix == source).then_some(Announcement::Leaves(source))
         }
     }
 }
 
-/// The endpoint that is named, if it is one of the participant that sends and of a kind that users
-/// have.
+/// Returns the writer that is named, if it belongs to the sender and is of a user-defined kind.
 fn writer_of(source: GuidPrefix, named: Option<Guid>) -> Option<Guid>
     ensures { result ≡ announcement.endpoint_of source config.is_writer named }
 {
@@ -165,7 +164,7 @@ fn writer_of(source: GuidPrefix, named: Option<Guid>) -> Option<Guid>
     (guid.prefix == source && is_writer(guid.entity)).then_some(guid)
 }
 
-/// The same of a reader.
+/// Like [`writer_of`], for a reader.
 fn reader_of(source: GuidPrefix, named: Option<Guid>) -> Option<Guid>
     ensures { result ≡ announcement.endpoint_of source config.is_reader named }
 {
@@ -173,47 +172,46 @@ fn reader_of(source: GuidPrefix, named: Option<Guid>) -> Option<Guid>
     (guid.prefix == source && is_reader(guid.entity)).then_some(guid)
 }
 
-/// What a change of the writers' announcer announces (DDSI-RTPS 8.5.4): a writer of the participant
-/// that sends, named by its record, else by the key hash. A record without topic or type announces
-/// nothing.
+/// Returns the announcement of a change from the writers' announcer (DDSI-RTPS 8.5.4): of a writer
+/// of the sender, which its record names, else the key hash. `None` for a record without topic or
+/// type.
 pub(crate) fn writer_said<'a>(
     source: GuidPrefix,
     hash: Option<KeyHash>,
-    said: Said<'a>,
+    said: AnnouncedData<'a>,
 ) -> Option<Announcement<'a>>
     ensures { option_map announcement_seen result
         ≡ announcement.writer_said source hash (said_seen said.entry) }
 {
     match said {
-        Said::Announces(settings) => {
+        AnnouncedData::Announces(settings) => {
             let writer = writer_of(source, or_hash(settings.endpoint, hash))?;
             let offer = offer_of(settings)?;
             Some(Announcement::Offers(writer, offer))
         }
-        Said::Ends(named) => {
+        AnnouncedData::Ends(named) => {
             let writer = writer_of(source, or_hash(named, hash))?;
             Some(Announcement::Withdraws(writer))
         }
     }
 }
 
-/// What a change of the readers' announcer announces (DDSI-RTPS 8.5.4), as [`writer_said`] of a
-/// writer.
+/// Like [`writer_said`], for a change from the readers' announcer (DDSI-RTPS 8.5.4).
 pub(crate) fn reader_said<'a>(
     source: GuidPrefix,
     hash: Option<KeyHash>,
-    said: Said<'a>,
+    said: AnnouncedData<'a>,
 ) -> Option<Announcement<'a>>
     ensures { option_map announcement_seen result
         ≡ announcement.reader_said source hash (said_seen said.entry) }
 {
     match said {
-        Said::Announces(settings) => {
+        AnnouncedData::Announces(settings) => {
             let reader = reader_of(source, or_hash(settings.endpoint, hash))?;
             let _asked = offer_of(settings)?;
             Some(Announcement::Asks(reader))
         }
-        Said::Ends(named) => {
+        AnnouncedData::Ends(named) => {
             let reader = reader_of(source, or_hash(named, hash))?;
             Some(Announcement::AsksNoMore(reader))
         }

@@ -11,7 +11,7 @@ use crate::addressed::{
 };
 use rtps_types::EntityId;
 
-/// A builtin writer, whose events are discovery's alone (DDSI-RTPS 8.5.3, 8.5.4, 9.3.1.3).
+/// A builtin writer, whose events are for discovery alone (DDSI-RTPS 8.5.3, 8.5.4, 9.3.1.3).
 #[derive(Clone, Copy, Debug, PartialEq, Eq)]
 pub enum Announcer {
     /// It announces its participant (SPDP).
@@ -23,8 +23,8 @@ pub enum Announcer {
 }
 
 impl Announcer {
-    /// The announcer that a writer is; `None` for a user's writer. Each other test of a writer's
-    /// entity stands on this one.
+    /// Returns the announcer with this entity; `None` for a user's writer. All other tests for
+    /// announcers call this one.
     pub fn of(writer: EntityId) -> Option<Announcer>
         ensures { result ≡ announcer_at writer }
     {

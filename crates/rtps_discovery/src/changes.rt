@@ -1,4 +1,4 @@
-//! What our readers hear of one writer.
+//! The changes of our readers' matches with one writer.
 
 ghost use Rattle.std.specs.Prelude.{◌≡◌, ◌≤◌, ◌<◌, ◌||◌, ◌++◌, ℕ, IfOk, OnOk, false, length, map, slice_index_or};
 ghost use Rattle.rtps_discovery.specs.Changes.{told};
@@ -8,7 +8,7 @@ ghost use Rattle.rtps_discovery.specs.Seen.{change_seen, lent, standing_seen};
 
 use crate::faults::READER_LIMIT;
 use crate::known::{Ranks, Reader, Writer};
-use crate::standing::{Standing, standing_between};
+use crate::pair_state::{PairState, standing_between};
 use rtps_types::{Guid, Locator, Locators, MatchChangeKind, PolicyId, WriterFacts};
 use std::alloc::{AllocError, Allocator, Global};
 
@@ -20,7 +20,7 @@ pub struct MatchChange<A: Allocator = Global> {
     pub what: MatchChangeKind<A>,
 }
 
-/// One of our readers and a writer, and where answers to the writer go.
+/// One of our readers and a writer, and the locators that answers to the writer are sent to.
 #[derive(Clone, Copy)]
 struct Pair<'a> {
     rank: u32,
@@ -28,17 +28,17 @@ struct Pair<'a> {
     locators: &'a [Locator],
 }
 
-fn is_joined(standing: Standing) -> bool
+fn is_joined(standing: PairState) -> bool
     ensures { result ≡ known.is_joined (standing_seen standing) }
 {
-    matches!(standing, Standing::Joined)
+    matches!(standing, PairState::Joined)
 }
 
-/// Puts a refusal of a pair after the changes, where it is new or of another policy, and before it
-/// the end of the match that there was.
+/// Appends a refusal of a pair, if it is new or names another policy than before. If the pair was
+/// matched, the end of the match is appended first.
 fn tell_refusal<A: Allocator>(
     pair: Pair<'_>,
-    before: Standing,
+    before: PairState,
     policy: PolicyId,
     changes: &mut Vec<MatchChange<A>, A>,
 ) -> Result<(), AllocError>
@@ -48,12 +48,12 @@ fn tell_refusal<A: Allocator>(
 {
     let rank = pair.rank;
     match before {
-        Standing::Apart => {}
-        Standing::Joined => {
+        PairState::Unmatched => {}
+        PairState::Joined => {
             let what = MatchChangeKind::Unmatch(pair.writer);
             changes.push(MatchChange { rank, what })?;
         }
-        Standing::Refused(earlier) => {
+        PairState::Refused(earlier) => {
             if earlier == policy {
                 return Ok(());
             }
@@ -67,12 +67,12 @@ fn tell_refusal<A: Allocator>(
     Ok(())
 }
 
-/// Adds the changes of a pair.
+/// Appends the changes of a pair.
 fn tell<A: Allocator + Copy>(
     alloc: A,
     pair: Pair<'_>,
-    before: Standing,
-    after: Standing,
+    before: PairState,
+    after: PairState,
     changes: &mut Vec<MatchChange<A>, A>,
 ) -> Result<(), AllocError>
     ensures { OnOk result (map change_seen changes.new.items
@@ -81,26 +81,26 @@ fn tell<A: Allocator + Copy>(
 {
     let rank = pair.rank;
     let what = match after {
-        Standing::Apart if is_joined(before) => MatchChangeKind::Unmatch(pair.writer),
-        Standing::Joined if !is_joined(before) => {
+        PairState::Unmatched if is_joined(before) => MatchChangeKind::Unmatch(pair.writer),
+        PairState::Joined if !is_joined(before) => {
             let locators = Locators::copied(alloc, pair.locators)?;
             MatchChangeKind::Match(WriterFacts {
                 writer: pair.writer,
                 locators,
             })
         }
-        Standing::Apart | Standing::Joined => return Ok(()),
-        Standing::Refused(policy) => return tell_refusal(pair, before, policy, changes),
+        PairState::Unmatched | PairState::Joined => return Ok(()),
+        PairState::Refused(policy) => return tell_refusal(pair, before, policy, changes),
     };
     changes.push(MatchChange { rank, what })?;
     Ok(())
 }
 
-/// What a writer was known for, and what it is known for now.
+/// A writer before and after an announcement.
 #[derive(Drop)]
-pub(crate) struct Turn<'a, A: Allocator> {
+pub(crate) struct WriterUpdate<'a, A: Allocator> {
     pub writer: Guid,
-    /// Where answers to it go now.
+    /// The locators that answers to it are sent to now.
     pub locators: &'a [Locator],
     pub before: Option<&'a Writer<A>>,
     pub after: Option<&'a Writer<A>>,
@@ -110,41 +110,41 @@ pub(crate) struct Turn<'a, A: Allocator> {
 #[derive(Clone, Copy)]
 pub(crate) struct Seat {
     pub rank: u32,
-    /// Whether it is matched with the writer from the start.
+    /// Whether it has a fixed match with the writer.
     pub is_fixed: bool,
 }
 
-/// Puts what the reader of a rank hears after the changes, and whether it is matched now with the
-/// writer.
+/// Appends the changes of the match of the reader of a rank. Returns whether it is matched with the
+/// writer now.
 pub(crate) fn meet<A: Allocator + Copy>(
     alloc: A,
     seat: Seat,
     reader: &Option<Reader<A>>,
-    turn: &Turn<'_, A>,
+    update: &WriterUpdate<'_, A>,
     changes: &mut Vec<MatchChange<A>, A>,
 ) -> Result<bool, AllocError>
     ensures changes { OnOk result (map change_seen changes.new.items
-        ≡ map change_seen changes.old.items ++ met (λ _. seat.is_fixed) turn.now.writer
-        turn.now.locators.now seat.rank (known.standing reader.now (lent turn.now.before))
-        (known.standing reader.now (lent turn.now.after))) }
+        ≡ map change_seen changes.old.items ++ met (λ _. seat.is_fixed) update.now.writer
+        update.now.locators.now seat.rank (known.standing reader.now (lent update.now.before))
+        (known.standing reader.now (lent update.now.after))) }
     ensures matched { IfOk result (λ matched. matched ≡ (seat.is_fixed
-        || known.is_joined (known.standing reader.now (lent turn.now.after)))) }
+        || known.is_joined (known.standing reader.now (lent update.now.after)))) }
 {
     if seat.is_fixed {
         return Ok(true);
     }
     let pair = Pair {
         rank: seat.rank,
-        writer: turn.writer,
-        locators: turn.locators,
+        writer: update.writer,
+        locators: update.locators,
     };
-    let after = standing_between(reader, turn.after);
-    let before = standing_between(reader, turn.before);
+    let after = standing_between(reader, update.after);
+    let before = standing_between(reader, update.before);
     tell(alloc, pair, before, after, changes)?;
     Ok(is_joined(after))
 }
 
-/// By rank, whether it is among these.
+/// Returns an array that says for each rank whether it is among `ranks`.
 fn marked(ranks: &[u32]) -> [bool; READER_LIMIT]
     ensures { (rank : ℕ) → rank < 256
         → slice_index_or result rank false ≡ has_rank ranks.now rank }
@@ -159,30 +159,30 @@ fn marked(ranks: &[u32]) -> [bool; READER_LIMIT]
     marks
 }
 
-/// Puts what our readers hear of a writer after the changes, by rank, where those of the ranks
-/// `fixed` are matched with it from the start; and gives the ranks of the readers that are matched
-/// with it now.
+/// Appends the changes of our readers' matches with a writer, by rank. The readers of the ranks
+/// `fixed` have fixed matches with it, which don't change. Returns the ranks of the readers that
+/// are matched with it now.
 pub(crate) fn rematch<A: Allocator + Copy>(
     alloc: A,
     readers: &[Option<Reader<A>>],
     fixed: &[u32],
-    turn: &Turn<'_, A>,
+    update: &WriterUpdate<'_, A>,
     changes: &mut Vec<MatchChange<A>, A>,
 ) -> Result<Ranks<A>, AllocError>
     requires { length readers.now ≤ 256 }
     ensures changes { OnOk result (map change_seen changes.new.items
         ≡ map change_seen changes.old.items ++ column (has_rank fixed.now)
-        turn.now.writer turn.now.locators.now (lent turn.now.before) (lent turn.now.after) 0
+        update.now.writer update.now.locators.now (lent update.now.before) (lent update.now.after) 0
         readers.now) }
     ensures ranks { IfOk result (λ ranks. ranks ≡ matched_from (has_rank fixed.now)
-        (lent turn.now.after) 0 readers.now) }
+        (lent update.now.after) 0 readers.now) }
 {
     let marks = marked(fixed);
     let mut matched = Vec::new(alloc);
     let mut rank = 0;
     for reader in readers {
         let is_fixed = marks[rank as usize];
-        if meet(alloc, Seat { rank, is_fixed }, reader, turn, changes)? {
+        if meet(alloc, Seat { rank, is_fixed }, reader, update, changes)? {
             matched.push(rank)?;
         }
         rank += 1;

@@ -1,5 +1,4 @@
-//! What an application asks of discovery: its readers, and the matches that there are from the
-//! start.
+//! The configuration of discovery: the application's readers, and the fixed matches.
 
 ghost use Rattle.std.specs.Prelude.{◌≡◌, ◌∷◌, ◌++◌, [], IfOk, OnErr, OnOk};
 
@@ -7,15 +6,14 @@ use dds_qos::{Reliability, Requested};
 use rtps_types::{EntityId, Guid, GuidPrefix, Locators};
 use std::alloc::{AllocError, Global};
 
-/// A reader. Its rank is its place among the readers of its configuration, from 0 on.
+/// A reader. Its rank is its index among the readers of its configuration, from 0 on.
 #[derive(Debug, Drop)]
 pub struct ReaderConfig {
-    /// Its own part of its guid; its last octet is 07, or 04 of a topic without key (DDSI-RTPS
-    /// 9.3.1.2).
+    /// Its entity id. The last octet is 07, or 04 for a topic without key (DDSI-RTPS 9.3.1.2).
     pub entity: EntityId,
     pub topic: String,
     pub type_name: String,
-    /// What it asks of the writers that it is to be matched with.
+    /// The policies and partitions that it requests of writers.
     pub requested: Requested,
 }
 
@@ -23,9 +21,9 @@ impl ReaderConfig {
     ghost use Rattle.rtps_discovery.specs.Start.{wish_of};
     ghost use Rattle.rtps_discovery.specs.Asking.{first_wish, reliably};
 
-    /// A reader of a topic and a type, with copies of their names, that asks for what holds where
-    /// no policy is given (DDS 1.4, 2.2.3), so a best-effort one without partitions. `AllocError`
-    /// where memory for the names is refused.
+    /// Returns a reader of a topic and a type, with copies of their names. It requests the default
+    /// policies (DDS 1.4, 2.2.3), so it is best-effort and in no partition. `AllocError` where
+    /// memory for the names is refused.
     pub fn new(
         alloc: Global,
         entity: EntityId,
@@ -42,7 +40,7 @@ impl ReaderConfig {
         })
     }
 
-    /// The same reader, that asks for reliable writers (DDS 1.4, 2.2.3.14).
+    /// Returns this reader, changed to request reliable writers (DDS 1.4, 2.2.3.14).
     pub fn reliable(mut self) -> ReaderConfig
         ensures { wish_of result ≡ reliably (wish_of self) }
     {
@@ -51,17 +49,17 @@ impl ReaderConfig {
     }
 }
 
-/// A match that there is from the start, and that no announcement makes or ends.
+/// A fixed match: it exists from the start, and no announcement begins or ends it.
 #[derive(Debug, Drop)]
 pub struct FixedMatch {
     /// The rank of the reader.
     pub rank: u32,
     pub writer: Guid,
-    /// Where answers to the writer go.
+    /// The locators that answers to the writer are sent to.
     pub locators: Locators,
 }
 
-/// A participant of our own.
+/// The configuration of our own participant.
 #[derive(Debug, Drop)]
 pub struct Config {
     pub own: GuidPrefix,
@@ -70,7 +68,8 @@ pub struct Config {
 }
 
 impl Config {
-    /// A participant without readers, which [`check`](crate::check) refuses. No memory is taken.
+    /// Returns a configuration without readers, which [`check`](crate::check) refuses. No memory
+    /// is taken.
     pub fn new(alloc: Global, own: GuidPrefix) -> Config
         ensures own { result.own ≡ own }
         ensures readers { result.readers.items ≡ [] }
@@ -83,8 +82,8 @@ impl Config {
         }
     }
 
-    /// Puts a reader after the others, so that its rank is how many there were. `AllocError` where
-    /// memory is refused; then the reader is dropped and the configuration is unchanged.
+    /// Appends a reader. Its rank is the number of readers before it. `AllocError` where memory is
+    /// refused; then the reader is dropped and the configuration is unchanged.
     pub fn add_reader(&mut self, reader: ReaderConfig) -> Result<(), AllocError>
         ensures added { OnOk result (self.new.readers.items
             ≡ self.old.readers.items ++ reader ∷ []) }
@@ -97,9 +96,9 @@ impl Config {
         }
     }
 
-    /// Puts a match that there is from the start after the others: of the reader of this rank with
-    /// a writer, and where answers to it go. `AllocError` where memory is refused; then the
-    /// locators are dropped and the configuration is unchanged.
+    /// Appends a fixed match of the reader of this rank with a writer; answers to the writer are
+    /// sent to `locators`. `AllocError` where memory is refused; then the locators are dropped and
+    /// the configuration is unchanged.
     pub fn add_fixed(
         &mut self,
         rank: u32,

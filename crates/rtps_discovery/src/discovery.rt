@@ -1,4 +1,4 @@
-//! What a participant knows of the others, event by event.
+//! The discovery of a participant, event by event.
 
 ghost use Rattle.std.specs.Prelude.{◌≡◌, ◌≤◌, IfOk, IsErr, IsOk, Ok, OnErr, OnOk, false, length, map, true};
 ghost use Rattle.rtps_receiver.specs.Events.{view};
@@ -16,9 +16,9 @@ use crate::changes::MatchChange;
 use crate::config::Config;
 use crate::effects::DiscoveryEffects;
 use crate::hear::ranks_at;
-use crate::held::Held;
-use crate::known::{Participant, Reader, Writer};
+use crate::known::{Reader, RemoteParticipant, Writer};
 use crate::pairs::pairs_of;
+use crate::registry::Registry;
 use rtps_receiver::Event;
 use rtps_types::{Guid, GuidPrefix};
 use std::alloc::{AllocError, Allocator, Global};
@@ -26,13 +26,13 @@ use std::collections::BTreeSet;
 use std::collections::btree_map::{Iter, Keys};
 use std::marker::Model;
 
-/// What a participant of ours knows of the others (DDSI-RTPS 8.5): participants, their writers and
-/// their readers; and which of its own readers are matched with which writers.
+/// The discovery of our participant (DDSI-RTPS 8.5): the remote participants that it knows, their
+/// writers and their readers, and the matches of its own readers with writers.
 #[derive(Drop)]
 pub struct Discovery<A: Allocator = Global> {
-    /// A growth was refused: an event may have been taken in by half.
+    /// Whether memory was refused, so that an event may be processed only in part.
     spent: bool,
-    held: Held<A>,
+    held: Registry<A>,
 }
 
 impl<A: Allocator> Model for Discovery<A> {
@@ -44,23 +44,24 @@ impl<A: Allocator> Model for Discovery<A> {
 }
 
 impl<A: Allocator + Copy> Discovery<A> {
-    /// Discovery at its start, for a configuration that [`check`](crate::check) takes: its readers
-    /// and its fixed matches are known, and nobody else. `AllocError` where memory is refused.
+    /// Returns discovery at its start, for a configuration that [`check`](crate::check) takes: its
+    /// readers and its fixed matches are known, and nothing else. `AllocError` where memory is
+    /// refused.
     pub fn new(alloc: A, config: &Config) -> Result<Discovery<A>, AllocError>
         requires { check_of config.now ≡ Ok tt }
         ensures known { IfOk result (λ discovery.
             IsKnown (first_known config.now) discovery.kept) }
         ensures ok { IfOk result (λ discovery. discovery.spent ≡ false) }
     {
-        let held = Held::new(alloc, config)?;
+        let held = Registry::new(alloc, config)?;
         Ok(Discovery { spent: false, held })
     }
 
-    /// Takes an event in, and gives what our readers hear and what is answered (DDSI-RTPS 8.5.3,
-    /// 8.5.4): what an announcer says is applied record by record, and any other event changes
-    /// nothing. A participant's record is heard at the greatest moment so far, and nobody's lease
-    /// ends here. After a refused growth each later call, of [`expire`](Discovery::expire) too,
-    /// answers out of memory and changes nothing.
+    /// Processes an event, and returns the changes of our readers' matches and the answer to send
+    /// (DDSI-RTPS 8.5.3, 8.5.4). The records of an announcer are applied one by one; any other
+    /// event changes nothing. A participant's record counts as heard at the greatest moment so far,
+    /// and no lease ends here. `AllocError` where memory is refused; from then on each call of this
+    /// and of [`expire`](Discovery::expire) returns `AllocError` and changes nothing.
     pub fn step(&mut self, alloc: A, event: &Event<'_>) -> Result<DiscoveryEffects<A>, AllocError>
         ensures known { (k : Known) → IsKnown k self.old.kept
             → OnOk result (IsKnown (known_by k (view event.now)) self.new.kept) }
@@ -74,15 +75,16 @@ impl<A: Allocator + Copy> Discovery<A> {
         if self.spent {
             return Err(AllocError);
         }
-        // Spent until the event is taken in: a `?` leaves it so.
+        // Spent until the event is processed: a `?` leaves it so.
         self.spent = true;
         let effects = self.held.take(alloc, event)?;
         self.spent = false;
         Ok(effects)
     }
 
-    /// Whether [`expire`](Discovery::expire) would forget somebody at a moment, in milliseconds: a
-    /// lease has ended then, or by a greater moment that came before. It takes one comparison.
+    /// Whether [`expire`](Discovery::expire) would remove a participant at a moment, in
+    /// milliseconds: a lease has ended then, or at the greatest moment so far. It takes one
+    /// comparison.
     pub fn is_due(&self, moment: u64) -> bool
         ensures { (k : Known) → IsKnown k self.now.kept
             → result ≡ has_expired (moved moment k) }
@@ -90,12 +92,12 @@ impl<A: Allocator + Copy> Discovery<A> {
         self.held.leases.is_due(self.held.moment.max(moment))
     }
 
-    /// A moment comes, in milliseconds (DDSI-RTPS 8.5.3.2): the participants whose leases have
-    /// ended leave together, and it gives what our readers hear, by rank and then by writer. A
-    /// moment below an earlier one counts as the greatest so far. Where no lease has ended it takes
-    /// no memory, and no step goes over the participants that stay. `AllocError` where memory is
-    /// refused: then each later call, of [`step`](Discovery::step) too, answers so and changes
-    /// nothing.
+    /// Advances to a moment, in milliseconds (DDSI-RTPS 8.5.3.2): removes the participants whose
+    /// leases have ended, all together, and returns the changes of our readers' matches, by rank
+    /// and then by writer. A moment below an earlier one counts as the greatest so far. If no lease
+    /// has ended, it takes no memory; it takes no step for a participant that stays. `AllocError`
+    /// where memory is refused; from then on each call of this and of [`step`](Discovery::step)
+    /// returns `AllocError` and changes nothing.
     pub fn expire(&mut self, alloc: A, moment: u64) -> Result<Vec<MatchChange<A>, A>, AllocError>
         ensures known { (k : Known) → IsKnown k self.old.kept
             → OnOk result (IsKnown (passed moment k) self.new.kept) }
@@ -111,24 +113,24 @@ impl<A: Allocator + Copy> Discovery<A> {
         if self.spent {
             return Err(AllocError);
         }
-        // Spent until they are gone: a `?` leaves it so.
+        // Spent until they are removed: a `?` leaves it so.
         self.spent = true;
         let ended = self.held.expire(alloc, moment)?;
         self.spent = false;
         Ok(ended)
     }
 
-    /// Whether a growth was refused, so that [`step`](Discovery::step) and
-    /// [`expire`](Discovery::expire) answer out of memory from now on.
+    /// Whether memory was refused, so that [`step`](Discovery::step) and
+    /// [`expire`](Discovery::expire) return `AllocError` from now on.
     pub fn is_spent(&self) -> bool
         ensures { result ≡ self.now.spent }
     {
         self.spent // and stays so
     }
 
-    /// Has each later call of [`step`](Discovery::step) and [`expire`](Discovery::expire) answer
-    /// out of memory and change nothing: for a caller who was refused memory for what came of an
-    /// event, so that this was taken in by half.
+    /// Makes each later call of [`step`](Discovery::step) and [`expire`](Discovery::expire) return
+    /// `AllocError` and change nothing. It is for a caller that was refused memory for the results
+    /// of an event, which was therefore processed only in part.
     pub fn spend(&mut self)
         ensures { self.new ≡ record self.old { spent = true } }
     {
@@ -142,18 +144,18 @@ impl<A: Allocator + Copy> Discovery<A> {
         self.held.moment
     }
 
-    /// The ranks of our readers that are matched with a writer, rising: those that are matched with
-    /// it from the start, and those that it was announced to. It takes one search.
+    /// Returns the ranks of our readers that are matched with a writer, rising: those that have a
+    /// fixed match with it, and those that its announcement matched. It takes one search.
     pub fn matched(&self, writer: Guid) -> &[u32]
         ensures { (k : Known) → IsKnown k self.now.kept → result.now ≡ matched_ranks k writer }
     {
         ranks_at(&self.held.ranks, writer)
     }
 
-    /// The matches that there are: the rank of a reader of ours and a writer each, by rank and then
-    /// by the octets of the writer's guid. They are those that [`matched`](Discovery::matched)
-    /// answers by writers, also after a refused growth of [`step`](Discovery::step), when an event
-    /// may have been taken in by half. `AllocError` where memory is refused; nothing changes.
+    /// Returns all matches: the rank of a reader of ours and a writer each, by rank and then by the
+    /// octets of the writer's guid. They are those that [`matched`](Discovery::matched) returns for
+    /// each writer, also after [`step`](Discovery::step) was refused memory, when an event may be
+    /// processed only in part. `AllocError` where memory is refused; nothing changes.
     pub fn matches(&self, alloc: A) -> Result<BTreeSet<(u32, Guid), A>, AllocError>
         ensures matches { (k : Known) → IsKnown k self.now.kept
             → IfOk result (λ matches. ArePairs k matches.keys) }
@@ -163,7 +165,8 @@ impl<A: Allocator + Copy> Discovery<A> {
         Ok(pairs)
     }
 
-    /// Our readers by rank, at most 256; `None` would mean one that went, and none goes today.
+    /// Our readers by rank, at most 256. `None` stands for a reader that was removed; no call
+    /// removes one today.
     pub fn readers(&self) -> &[Option<Reader<A>>]
         ensures known { result.now ≡ self.now.kept.readers }
         ensures few { length result.now ≤ 256 }
@@ -172,7 +175,7 @@ impl<A: Allocator + Copy> Discovery<A> {
     }
 
     /// The known participants, in the order of the octets of their prefixes.
-    pub fn participants(&self) -> Iter<'_, GuidPrefix, Participant<A>>
+    pub fn participants(&self) -> Iter<'_, GuidPrefix, RemoteParticipant<A>>
         ensures { result ≡ self.now.kept.participants }
     {
         self.held.participants.iter()
@@ -185,7 +188,7 @@ impl<A: Allocator + Copy> Discovery<A> {
         self.held.writers.iter()
     }
 
-    /// The known readers of the others, in the order of their octets.
+    /// The known remote readers, in the order of the octets of their guids.
     pub fn remote_readers(&self) -> Keys<'_, Guid, ()>
         ensures { result ≡ self.now.kept.remote_readers }
     {

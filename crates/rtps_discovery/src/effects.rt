@@ -1,4 +1,4 @@
-//! What an event gives to discovery.
+//! The result of an event in discovery.
 
 ghost use Rattle.std.specs.Prelude.{◌≡◌, [], None};
 
@@ -6,17 +6,18 @@ use crate::changes::MatchChange;
 use rtps_types::Reply;
 use std::alloc::{Allocator, Global};
 
-/// What follows from an event for our readers and for its writer.
+/// The result of an event for our readers and for its writer.
 #[derive(Debug, Drop)]
 pub struct DiscoveryEffects<A: Allocator = Global> {
-    /// What our readers hear, record by record; of one record by rank and then by writer.
+    /// The changes of our readers' matches, record by record; for one record by rank and then by
+    /// writer.
     pub changes: Vec<MatchChange<A>, A>,
-    /// What is said to the writer.
+    /// The answer to send to the writer.
     pub answer: Option<Reply<A>>,
 }
 
 impl<A: Allocator> DiscoveryEffects<A> {
-    /// Nothing follows.
+    /// Returns a result without changes and without an answer.
     pub(crate) fn none(alloc: A) -> DiscoveryEffects<A>
         ensures changes { result.changes.items ≡ [] }
         ensures answer { result.answer ≡ None }

@@ -1,4 +1,4 @@
-//! What the announcements of writers and of readers change (DDSI-RTPS 8.5.4).
+//! Applying the announcements of writers and of readers (DDSI-RTPS 8.5.4).
 
 ghost use Rattle.std.specs.Prelude.{◌≡◌, List, OnOk, map};
 ghost use Rattle.rtps_discovery.specs.Announcement as announcement;
@@ -9,13 +9,13 @@ ghost use Rattle.rtps_discovery.specs.Seen.{change_seen, offer_seen};
 use crate::announcement::Offer;
 use crate::changes::MatchChange;
 use crate::hear::put_ranks;
-use crate::held::Held;
 use crate::known::Writer;
+use crate::registry::Registry;
 use rtps_types::Guid;
 use std::alloc::{AllocError, Allocator};
 
-impl<A: Allocator + Copy> Held<A> {
-    /// A writer comes, or changes what it offers.
+impl<A: Allocator + Copy> Registry<A> {
+    /// Adds a writer, or changes what it offers.
     pub fn offer(
         &mut self,
         alloc: A,
@@ -36,7 +36,7 @@ impl<A: Allocator + Copy> Held<A> {
         }
     }
 
-    /// A writer goes.
+    /// Removes a writer.
     pub fn withdraw(
         &mut self,
         alloc: A,
@@ -53,7 +53,7 @@ impl<A: Allocator + Copy> Held<A> {
         Ok(())
     }
 
-    /// A reader comes, or changes what it asks for.
+    /// Adds a remote reader, if it isn't known.
     pub fn ask(&mut self, reader: Guid) -> Result<(), AllocError>
         ensures { (earlier : List ChangeAt) → OnOk result (Applies (announcement.Asks reader)
             (kept self.old) (kept self.new) earlier earlier) }
@@ -64,7 +64,7 @@ impl<A: Allocator + Copy> Held<A> {
         }
     }
 
-    /// A reader goes.
+    /// Removes a remote reader.
     pub fn ask_no_more(&mut self, reader: Guid)
         ensures { (earlier : List ChangeAt) → Applies (announcement.AsksNoMore reader)
             (kept self.old) (kept self.new) earlier earlier }

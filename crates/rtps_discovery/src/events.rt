@@ -1,4 +1,4 @@
-//! What an event makes of what is known, by the announcer that it comes from.
+//! Processing an event, by the announcer that it comes from.
 
 ghost use Rattle.std.specs.Prelude.{◌≡◌, IfOk, OnOk, Some, false, true};
 ghost use Rattle.std.specs.Str.{bytes_eq};
@@ -14,13 +14,13 @@ use crate::addressed::{
 };
 use crate::announcer::Announcer;
 use crate::effects::DiscoveryEffects;
-use crate::held::Held;
+use crate::registry::Registry;
 use rtps_receiver::Event;
 use rtps_types::EntityId;
 use std::alloc::{AllocError, Allocator};
 
-impl<A: Allocator + Copy> Held<A> {
-    /// Takes an event of the participants' announcer.
+impl<A: Allocator + Copy> Registry<A> {
+    /// Processes an event of the participants' announcer.
     fn take_participant(
         &mut self,
         alloc: A,
@@ -39,8 +39,8 @@ impl<A: Allocator + Copy> Held<A> {
         })
     }
 
-    /// Takes an event of an announcer of endpoints, whose announcements are for this builtin reader
-    /// of ours.
+    /// Processes an event of an announcer of endpoints, whose announcements are for this builtin
+    /// reader of ours.
     fn take_endpoints(
         &mut self,
         alloc: A,
@@ -60,7 +60,7 @@ impl<A: Allocator + Copy> Held<A> {
         self.hear_announcer(alloc, event)
     }
 
-    /// Takes an event. One of a user's writer changes nothing.
+    /// Processes an event. An event of a user's writer changes nothing.
     #[tactic(auto, using(crate::proofs::Announcers::is_participants, crate::proofs::Announcers::is_publications, crate::proofs::Announcers::is_subscriptions))]
     pub fn take(&mut self, alloc: A, event: &Event<'_>) -> Result<DiscoveryEffects<A>, AllocError>
         ensures known { (k : Known) → IsKnown k (kept self.old)

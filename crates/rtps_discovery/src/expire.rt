@@ -1,4 +1,4 @@
-//! What a moment changes (DDSI-RTPS 8.5.3.2).
+//! Removing participants whose leases have ended (DDSI-RTPS 8.5.3.2).
 
 ghost use Rattle.std.specs.Prelude.{◌≡◌, IfOk, IsOk, OnOk, false, map};
 ghost use Rattle.rtps_discovery.specs.Changes.{changes};
@@ -7,12 +7,12 @@ ghost use Rattle.rtps_discovery.specs.Known.{Known, has_expired, moved, passed};
 ghost use Rattle.rtps_discovery.specs.Seen.{change_seen};
 
 use crate::changes::MatchChange;
-use crate::held::Held;
+use crate::registry::Registry;
 use std::alloc::{AllocError, Allocator};
 
-impl<A: Allocator + Copy> Held<A> {
-    /// A moment comes: the participants whose leases have ended leave together. It takes no step
-    /// for a participant whose lease hasn't ended, and no memory where none has.
+impl<A: Allocator + Copy> Registry<A> {
+    /// Advances to a moment, and removes the participants whose leases have ended, all together. It
+    /// takes no step for a participant whose lease hasn't ended, and no memory if none has ended.
     pub fn expire(&mut self, alloc: A, moment: u64) -> Result<Vec<MatchChange<A>, A>, AllocError>
         ensures known { (k : Known) → IsKnown k (kept self.old)
             → OnOk result (IsKnown (passed moment k) (kept self.new)) }

@@ -1,4 +1,4 @@
-//! Whether a configuration is one that discovery takes.
+//! Checking a configuration.
 
 ghost use Rattle.std.specs.Prelude.{◌≡◌, ◌≤◌, OnOk, length};
 ghost use Rattle.std.specs.List.{list_any};
@@ -9,7 +9,7 @@ use dds_qos::Ownership;
 use rtps_types::{EntityId, GuidPrefix};
 use thiserror::Error;
 
-/// Why a configuration isn't taken: the first cause in this order (DDSI-RTPS 9.3.1.2 for kinds of
+/// Why a configuration is refused: the first fault in this order (DDSI-RTPS 9.3.1.2 for kinds of
 /// entities).
 #[derive(Clone, Copy, Debug, PartialEq, Eq, Error)]
 pub enum ConfigFault {
@@ -29,7 +29,7 @@ pub enum ConfigFault {
 impl ConfigFault {
     ghost use Rattle.rtps_discovery.specs.FaultNames.{name_of};
 
-    /// Its name, for what a person reads. No memory is taken.
+    /// The name of the fault, for messages. No memory is taken.
     pub fn name(self) -> &'static str
         ensures { result.now ≡ name_of self }
     {
@@ -41,7 +41,7 @@ impl ConfigFault {
     }
 }
 
-/// The most readers of a configuration.
+/// The greatest number of readers in a configuration.
 pub(crate) const READER_LIMIT: usize = 256;
 
 pub(crate) fn is_reader(entity: EntityId) -> bool
@@ -75,7 +75,7 @@ fn is_among(reader: &ReaderConfig, others: &[ReaderConfig]) -> bool
     others.iter().any(|other| is_same_entity(reader, other))
 }
 
-/// Whether one of the readers is bad by itself.
+/// Whether one of the readers has a fault of its own.
 fn has_bad_reader(readers: &[ReaderConfig]) -> bool
     ensures { result ≡ list_any is_bad_reader readers.now }
 {
@@ -101,7 +101,7 @@ fn is_bad_fixed(own: GuidPrefix, readers: usize, pair: &FixedMatch) -> bool
     pair.rank as usize >= readers || !is_writer(pair.writer.entity) || own == pair.writer.prefix
 }
 
-/// Whether one of the matches is bad by itself.
+/// Whether one of the fixed matches has a fault of its own.
 fn has_bad_fixed(own: GuidPrefix, readers: usize, pairs: &[FixedMatch]) -> bool
     ensures { result ≡ list_any (is_bad_fixed own readers) pairs.now }
 {
@@ -134,7 +134,8 @@ fn has_pair_twice(pairs: &[FixedMatch]) -> bool
     false
 }
 
-/// Whether discovery takes a configuration; else the first of its faults. No memory is taken.
+/// Checks whether discovery takes a configuration. The error is the first of its faults. No memory
+/// is taken.
 #[tactic(auto, unfolding(crate::specs::Config::check_of))]
 pub fn check(config: &Config) -> Result<(), ConfigFault>
     ensures checked { result ≡ check_of config.now }

@@ -1,11 +1,11 @@
-//! Writers that are gone.
+//! Writers of participants that left.
 
 use crate::known::{Ranks, Writer};
 use rtps_types::Guid;
 use std::alloc::Allocator;
 
-/// A writer of a participant that left, and the ranks of the readers that are matched with it from
-/// the start.
+/// A writer of a participant that left, and the ranks of the readers that have a fixed match with
+/// it.
 #[derive(Drop)]
 pub(crate) struct Gone<A: Allocator> {
     pub writer: Guid,

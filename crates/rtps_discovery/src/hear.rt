@@ -1,4 +1,4 @@
-//! What our readers hear of a writer, by what is kept.
+//! The changes of our readers' matches with a writer, from the registry.
 
 ghost use Rattle.std.specs.Prelude.{◌≡◌, ◌++◌, IfOk, OnOk, map, if◌then◌else◌};
 ghost use Rattle.rtps_types.specs.declared.identity.Guid.{Guid};
@@ -7,14 +7,14 @@ ghost use Rattle.rtps_discovery.specs.Known.{own_or};
 ghost use Rattle.rtps_discovery.specs.Kept.{heard_of, kept, participant_in, ranks_at, ranks_of};
 ghost use Rattle.rtps_discovery.specs.Seen.{change_seen, lent};
 
-use crate::changes::{MatchChange, Turn, rematch};
-use crate::held::Held;
-use crate::known::{Participant, Ranks, Writer};
+use crate::changes::{MatchChange, WriterUpdate, rematch};
+use crate::known::{Ranks, RemoteParticipant, Writer};
+use crate::registry::Registry;
 use rtps_types::{Guid, GuidPrefix, Locator};
 use std::alloc::{AllocError, Allocator};
 use std::collections::BTreeMap;
 
-/// The ranks at a writer.
+/// Returns the ranks listed for a writer; none if it has no entry.
 pub(crate) fn ranks_at<A: Allocator>(index: &BTreeMap<Guid, Ranks<A>, A>, writer: Guid) -> &[u32]
     ensures { result.now ≡ ranks_at writer index.now.entries }
 {
@@ -24,7 +24,7 @@ pub(crate) fn ranks_at<A: Allocator>(index: &BTreeMap<Guid, Ranks<A>, A>, writer
     }
 }
 
-/// Puts ranks in the place of those at a writer.
+/// Replaces the ranks listed for a writer.
 pub(crate) fn put_ranks<A: Allocator + Copy>(
     index: &mut BTreeMap<Guid, Ranks<A>, A>,
     writer: Guid,
@@ -43,9 +43,10 @@ pub(crate) fn put_ranks<A: Allocator + Copy>(
     }
 }
 
-/// Where answers to a writer go: to its own locators, else to the default ones of its participant.
+/// Returns the locators that answers to a writer are sent to: its own, else the default ones of its
+/// participant.
 fn locators_for<'a, A: Allocator>(
-    participants: &'a BTreeMap<GuidPrefix, Participant<A>, A>,
+    participants: &'a BTreeMap<GuidPrefix, RemoteParticipant<A>, A>,
     prefix: GuidPrefix,
     own: &'a [Locator],
 ) -> &'a [Locator]
@@ -60,9 +61,9 @@ fn locators_for<'a, A: Allocator>(
     }
 }
 
-impl<A: Allocator + Copy> Held<A> {
-    /// Puts what our readers hear of a writer after the changes, where it offers this now, or
-    /// nothing any more; and gives the ranks of the readers that are matched with it then.
+impl<A: Allocator + Copy> Registry<A> {
+    /// Appends the changes of our readers' matches with a writer that becomes `after`, where `None`
+    /// means that it goes. Returns the ranks of the readers that are matched with it then.
     pub fn hear<'a>(
         &'a self,
         alloc: A,
@@ -80,13 +81,13 @@ impl<A: Allocator + Copy> Held<A> {
             Some(offer) => locators_for(&self.participants, writer.prefix, offer.locators()),
             None => &[],
         };
-        let turn = Turn {
+        let update = WriterUpdate {
             writer,
             locators,
             before: self.writers.get(&writer),
             after,
         };
         let fixed = ranks_at(&self.fixed, writer);
-        rematch(alloc, &self.readers, fixed, &turn, changes)
+        rematch(alloc, &self.readers, fixed, &update, changes)
     }
 }

@@ -1,4 +1,4 @@
-//! What is kept of our readers, and of what participants announced (DDSI-RTPS 8.5).
+//! Our readers, and the participants and writers that were announced (DDSI-RTPS 8.5).
 
 ghost use Rattle.std.specs.Prelude.{◌≡◌, ◌++◌, ◌∷◌, [], IfOk, IfErr};
 ghost use Rattle.rtps_discovery.specs.OneWriter.{has_rank};
@@ -10,7 +10,7 @@ use rtps_types::{Duration, EntityId, Locator, Locators};
 use std::alloc::{AllocError, Allocator, Global};
 use std::marker::Model;
 
-/// A reader of ours, and what it asks for.
+/// A reader of ours, and what it requests.
 #[derive(Drop)]
 pub struct Reader<A: Allocator = Global> {
     pub(crate) entity: EntityId,
@@ -35,7 +35,7 @@ impl<A: Allocator> Model for Reader<A> {
 }
 
 impl<A: Allocator> Reader<A> {
-    /// Its own part of its guid, by which events name it.
+    /// Its entity id, by which events name it.
     pub fn entity(&self) -> EntityId
         ensures { result ≡ self.now.entity }
     {
@@ -65,20 +65,20 @@ impl<A: Allocator> Reader<A> {
     }
 }
 
-/// What a writer was announced with.
+/// What a writer announced.
 #[derive(Drop)]
 struct Offering<A: Allocator> {
     topic: String<A>,
     type_name: String<A>,
     offered: Offered<A>,
-    /// Its own, where it gives some.
+    /// Its own locators, if it announced any.
     locators: Locators<A>,
 }
 
 /// A writer that was announced, and what it offers.
 #[derive(Drop)]
 pub struct Writer<A: Allocator = Global> {
-    /// In a block of its own, so that little is moved where a writer comes or goes among others.
+    /// Boxed, so that little is moved when a writer is inserted or removed among others.
     offering: Box<Offering<A>, A>,
 }
 
@@ -120,8 +120,8 @@ impl<A: Allocator> Writer<A> {
         &self.offering.as_ref().offered
     }
 
-    /// Where it is reached, if it gives locators of its own; else its participant's default
-    /// locators count.
+    /// The locators that it announced. If there are none, the default locators of its participant
+    /// are used.
     pub fn locators(&self) -> &[Locator]
         ensures { result.now ≡ self.now.locators }
     {
@@ -131,43 +131,43 @@ impl<A: Allocator> Writer<A> {
 
 /// A participant that was announced.
 #[derive(Drop)]
-pub struct Participant<A: Allocator = Global> {
-    /// Where its endpoints are reached that give no locators of their own.
+pub struct RemoteParticipant<A: Allocator = Global> {
+    /// The default locators: those of its endpoints that announce no locators of their own.
     pub(crate) locators: Locators<A>,
-    /// How long it may keep silent.
+    /// The lease: how long it may keep silent.
     pub(crate) lease: Duration,
     /// The moment at which it was last heard.
     pub(crate) heard: u64,
 }
 
-impl<A: Allocator> Model for Participant<A> {
-    ghost use Rattle.rtps_discovery.specs.Known.{Participant};
+impl<A: Allocator> Model for RemoteParticipant<A> {
+    ghost use Rattle.rtps_discovery.specs.Known.{RemoteParticipant};
 
-    ghost Value = { Participant };
+    ghost Value = { RemoteParticipant };
 
     ghost view = { λ p. record { locators = p.locators; lease = p.lease; heard = p.heard } };
 }
 
-impl<A: Allocator> Participant<A> {
-    /// Where its endpoints are reached that give no locators of their own.
+impl<A: Allocator> RemoteParticipant<A> {
+    /// The default locators: those of its endpoints that announce no locators of their own.
     pub fn locators(&self) -> &[Locator]
         ensures { result.now ≡ self.now.locators }
     {
         self.locators.as_slice()
     }
 
-    /// How long it may keep silent (DDSI-RTPS 8.5.3.2).
-    /// [`Discovery::expire`](crate::Discovery::expire) forgets it at the first moment that is more
+    /// The lease: how long it may keep silent (DDSI-RTPS 8.5.3.2).
+    /// [`Discovery::expire`](crate::Discovery::expire) removes it at the first moment that is more
     /// than this, in milliseconds rounded up, after the one at which it was
-    /// [`heard`](Participant::heard).
+    /// [`heard`](RemoteParticipant::heard).
     pub fn lease(&self) -> Duration
         ensures { result ≡ self.now.lease }
     {
         self.lease
     }
 
-    /// When it was last heard: the greatest moment, in milliseconds, that had come before its last
-    /// record. A record that was ignored doesn't count.
+    /// The moment at which it was last heard: the greatest one, in milliseconds, that had come
+    /// before its last record. A record that was ignored doesn't count.
     pub fn heard(&self) -> u64
         ensures { result ≡ self.now.heard }
     {
@@ -190,21 +190,21 @@ impl<A: Allocator> Model for Ranks<A> {
 }
 
 impl<A: Allocator> Ranks<A> {
-    /// The ranks of this list, which rise.
+    /// Makes ranks of this list, which is rising.
     pub fn new(items: Vec<u32, A>) -> Ranks<A>
         ensures { result ≡ items.items }
     {
         Ranks { items }
     }
 
-    /// A copy of ranks.
+    /// Returns a copy of ranks.
     pub fn copied(alloc: A, ranks: &[u32]) -> Result<Ranks<A>, AllocError>
         ensures { IfOk result (λ copy. copy ≡ ranks.now) }
     {
         Ok(Ranks::new(Vec::from_slice(alloc, ranks)?))
     }
 
-    /// A copy of ranks, and one more after them.
+    /// Returns a copy of ranks with one more appended.
     pub fn with(alloc: A, ranks: &[u32], rank: u32) -> Result<Ranks<A>, AllocError>
         ensures { IfOk result (λ copy. copy ≡ ranks.now ++ rank ∷ []) }
     {
@@ -228,7 +228,7 @@ impl<A: Allocator> Ranks<A> {
     }
 }
 
-/// Two locators and those that a record lists after them.
+/// Returns the locators of a record, given the first two and an iterator over the rest.
 fn gathered<A: Allocator + Copy>(
     alloc: A,
     first: Locator,
@@ -246,7 +246,7 @@ fn gathered<A: Allocator + Copy>(
     Ok(Locators::new(locators))
 }
 
-/// A copy of the locators that a record lists. None and one take no memory.
+/// Returns a copy of the locators that a record lists. No memory is taken for none or one.
 pub(crate) fn collected<A: Allocator + Copy>(
     alloc: A,
     mut listed: ListedLocators<'_>,
@@ -263,7 +263,7 @@ pub(crate) fn collected<A: Allocator + Copy>(
 }
 
 impl<A: Allocator + Copy> Writer<A> {
-    /// What a record offers, as a copy of its own.
+    /// Returns a copy of what the record of a writer offers.
     pub(crate) fn of_offer(alloc: A, offer: Offer<'_>) -> Result<Writer<A>, AllocError>
         ensures { IfOk result (λ writer. writer ≡ offer_seen offer.entry) }
     {

@@ -1,4 +1,4 @@
-//! When the leases of participants end (DDSI-RTPS 8.5.3.2).
+//! The ends of the leases of participants (DDSI-RTPS 8.5.3.2).
 
 ghost use Rattle.std.specs.Prelude.{◌≡◌, ◌||◌, ◌<◌, ℕ, [], IfNone, IfOk, IfSome, None, OnOk, OnSome, cond, false, length, true};
 ghost use Rattle.std.specs.Ordering.{is_eq};
@@ -6,16 +6,16 @@ ghost use Rattle.rtps_types.specs.declared.identity.GuidPrefix.{GuidPrefix};
 ghost use Rattle.std.specs.List.Sorted.{IsStrictlySortedBy, IsStrictlySortedBy-prop};
 ghost use Rattle.rtps_discovery.specs.Ends.{AreSorted, EndsAt, Renews, end_of, end_order, has_due, has_end, has_prefix, is_due, soonest_of};
 ghost use Rattle.rtps_discovery.specs.Known.{prefix_order};
-ghost use Rattle.rtps_discovery.specs.Lease.{deadline, milliseconds};
+ghost use Rattle.rtps_discovery.specs.Leases.{deadline, milliseconds};
 
-use crate::known::Participant;
+use crate::known::RemoteParticipant;
 use rtps_types::{Duration, GuidPrefix};
 use std::alloc::{AllocError, Allocator};
 use std::collections::BTreeSet;
 use std::collections::btree_set::Iter;
 use std::marker::Model;
 
-/// A lease in milliseconds, rounded up; 0, where it is negative.
+/// Returns a lease in milliseconds, rounded up; 0 if it is negative.
 fn milliseconds(lease: Duration) -> u64
     ensures { result ≡ milliseconds lease.seconds lease.fraction }
 {
@@ -26,7 +26,8 @@ fn milliseconds(lease: Duration) -> u64
     u64::from(lease.seconds.cast_unsigned()) * 1000 + rounded
 }
 
-/// The last moment of a lease that began at a moment, if it ends; at most the greatest one.
+/// Returns the last moment of a lease that began at `heard`, at most the greatest moment; `None` if
+/// the lease is infinite.
 pub(crate) fn deadline(heard: u64, lease: Duration) -> Option<u64>
     ensures { result ≡ deadline heard lease }
 {
@@ -36,8 +37,9 @@ pub(crate) fn deadline(heard: u64, lease: Duration) -> Option<u64>
     Some(heard.saturating_add(milliseconds(lease)))
 }
 
-/// The last moment of a participant's lease, if there is a participant, and it has one.
-pub(crate) fn end_of<A: Allocator>(participant: &Option<Participant<A>>) -> Option<u64>
+/// Returns the last moment of a participant's lease; `None` without a participant, or if the lease
+/// is infinite.
+pub(crate) fn end_of<A: Allocator>(participant: &Option<RemoteParticipant<A>>) -> Option<u64>
     ensures { result ≡ end_of participant.now }
 {
     match participant {
@@ -46,12 +48,12 @@ pub(crate) fn end_of<A: Allocator>(participant: &Option<Participant<A>>) -> Opti
     }
 }
 
-/// The last moments of leases, each with its participant.
+/// The ends of leases: the last moment of each, with its participant.
 #[derive(Drop)]
 pub(crate) struct Leases<A: Allocator> {
     ends: BTreeSet<(u64, GuidPrefix), A>,
-    /// The first of them, so that a moment at which none has ended costs one comparison; the
-    /// greatest moment, where there is none.
+    /// The earliest end, or the greatest moment if there is none. With it, a moment at which no
+    /// lease has ended costs one comparison.
     soonest: u64,
 
     ghost first: { soonest ≡ soonest_of ends.keys },
@@ -67,7 +69,7 @@ impl<A: Allocator> Model for Leases<A> {
     ghost view = { λ l. l.ends.keys };
 }
 
-/// The first last moment; the greatest moment, where there is none.
+/// Returns the earliest end, or the greatest moment if there is none.
 fn soonest_of<A: Allocator>(ends: &BTreeSet<(u64, GuidPrefix), A>) -> u64
     ensures { result ≡ soonest_of ends.now.keys }
 {
@@ -77,7 +79,7 @@ fn soonest_of<A: Allocator>(ends: &BTreeSet<(u64, GuidPrefix), A>) -> u64
     }
 }
 
-/// The participant of the first end, if it is before a moment.
+/// Returns the participant of the next end, if that end is before `moment`.
 fn next_due(ends: &mut Iter<'_, (u64, GuidPrefix)>, moment: u64) -> Option<GuidPrefix>
     requires { AreSorted ends.old }
     ensures some { IfSome result (λ p. (q : GuidPrefix) → has_due ends.old moment q
@@ -93,7 +95,7 @@ fn next_due(ends: &mut Iter<'_, (u64, GuidPrefix)>, moment: u64) -> Option<GuidP
     Some(end.1)
 }
 
-/// The participants of a set, in order.
+/// Returns the participants of a set, in order.
 fn listed<A: Allocator + Copy>(
     alloc: A,
     mut found: BTreeSet<GuidPrefix, A>,
@@ -116,7 +118,7 @@ impl<A: Allocator> Leases<A> {
         self.soonest < moment
     }
 
-    /// Takes out an end.
+    /// Removes an end.
     fn forget(&mut self, prefix: GuidPrefix, last: u64)
         ensures { (m : ℕ) (p : GuidPrefix) → has_end self.new m p
             ≡ cond (is_eq (end_order (last, prefix) (m, p))) false (has_end self.old m p) }
@@ -125,7 +127,7 @@ impl<A: Allocator> Leases<A> {
         self.soonest = soonest_of(&self.ends);
     }
 
-    /// The lease of a participant ends no more, which ended then.
+    /// Removes the end of a participant's lease, `earlier`, if it had one.
     pub fn end(&mut self, prefix: GuidPrefix, earlier: Option<u64>)
         ensures { EndsAt prefix earlier self.old → Renews prefix None self.old self.new }
     {
@@ -137,7 +139,7 @@ impl<A: Allocator> Leases<A> {
 }
 
 impl<A: Allocator + Copy> Leases<A> {
-    /// No lease ends.
+    /// Returns an index without ends.
     pub fn new(alloc: A) -> Leases<A>
         ensures { result ≡ [] }
     {
@@ -147,7 +149,7 @@ impl<A: Allocator + Copy> Leases<A> {
         }
     }
 
-    /// Puts an end in.
+    /// Adds an end.
     fn add(&mut self, prefix: GuidPrefix, last: u64) -> Result<(), AllocError>
         ensures { OnOk result ((m : ℕ) (p : GuidPrefix) → has_end self.new m p
             ≡ cond (is_eq (end_order (last, prefix) (m, p))) true (has_end self.old m p)) }
@@ -160,7 +162,7 @@ impl<A: Allocator + Copy> Leases<A> {
         Ok(())
     }
 
-    /// The lease of a participant ends then, which ended no more.
+    /// Adds the end of a participant's lease, if it ends.
     pub fn begin(&mut self, prefix: GuidPrefix, last: Option<u64>) -> Result<(), AllocError>
         ensures { OnOk result (EndsAt prefix None self.old → Renews prefix last self.old self.new) }
     {
@@ -173,8 +175,8 @@ impl<A: Allocator + Copy> Leases<A> {
         }
     }
 
-    /// The participants whose leases have ended at a moment, in the order of the octets of their
-    /// prefixes. It takes a step for each of them, and one more.
+    /// Returns the participants whose leases have ended at a moment, in the order of the octets of
+    /// their prefixes. It takes one step for each of them, and one more.
     pub fn due(&self, alloc: A, moment: u64) -> Result<Vec<GuidPrefix, A>, AllocError>
         ensures due { IfOk result (λ gone. (q : GuidPrefix)
             → has_prefix gone.items q ≡ has_due self.now moment q) }
@@ -189,7 +191,7 @@ impl<A: Allocator + Copy> Leases<A> {
         Ok(list)
     }
 
-    /// The lease of a participant ends then, which ended at the earlier moment.
+    /// Replaces the end of a participant's lease.
     pub fn renew(
         &mut self,
         prefix: GuidPrefix,

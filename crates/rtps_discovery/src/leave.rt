@@ -1,4 +1,4 @@
-//! What the end of a participant changes (DDSI-RTPS 8.5.3.3).
+//! Removing participants (DDSI-RTPS 8.5.3.3).
 
 ghost use Rattle.std.specs.Prelude.{◌≡◌, ◌≤◌, ◌<◌, ◌∷◌, ◌++◌, [], List, IfNone, IfOk, IfSome, OnOk, OnSome, filter, length, map, not, true};
 ghost use Rattle.std.specs.List.{flat_map};
@@ -10,7 +10,7 @@ ghost use Rattle.rtps_discovery.specs.Announcement as announcement;
 ghost use Rattle.rtps_discovery.specs.Ends.{Covers};
 ghost use Rattle.rtps_discovery.specs.Kept.{Applies, kept, ranks_at};
 ghost use Rattle.rtps_discovery.specs.Known.{is_of, prefix_order};
-ghost use Rattle.rtps_discovery.specs.Leaving.{any_of, are_of, ended_by, ended_of, ending, endings, gone_by, gone_of, reranked};
+ghost use Rattle.rtps_discovery.specs.Leave.{any_of, are_of, ended_by, ended_of, ending, endings, gone_by, gone_of, reranked};
 ghost use Rattle.rtps_discovery.specs.Seen.{change_seen};
 ghost use Rattle.rtps_discovery.specs.Sized.{are_sized};
 
@@ -18,18 +18,18 @@ use crate::addressed::{
     ENTITYID_SEDP_BUILTIN_PUBLICATIONS_ANNOUNCER, ENTITYID_SEDP_BUILTIN_SUBSCRIPTIONS_ANNOUNCER,
     ENTITYID_UNKNOWN,
 };
-use crate::changes::{MatchChange, Seat, Turn, meet};
+use crate::changes::{MatchChange, Seat, WriterUpdate, meet};
 use crate::gone::Gone;
 use crate::hear::{put_ranks, ranks_at};
-use crate::held::Held;
-use crate::known::{Participant, Ranks, Reader, Writer};
+use crate::known::{Ranks, Reader, RemoteParticipant, Writer};
 use crate::leases::{Leases, end_of};
+use crate::registry::Registry;
 use rtps_proxy::Matches;
 use rtps_types::{Guid, GuidPrefix};
 use std::alloc::{AllocError, Allocator};
 use std::collections::BTreeMap;
 
-/// Takes out the first endpoint of a participant, if there is one.
+/// Removes the first endpoint of a participant and returns it, if there is one.
 fn take_first<V, A: Allocator>(
     endpoints: &mut BTreeMap<Guid, V, A>,
     prefix: GuidPrefix,
@@ -57,7 +57,7 @@ fn take_first<V, A: Allocator>(
     endpoints.remove_entry(&endpoint)
 }
 
-/// Takes out the readers of a participant.
+/// Removes the readers of a participant.
 fn forget_readers<A: Allocator>(readers: &mut BTreeMap<Guid, (), A>, prefix: GuidPrefix)
     requires { are_sized (keys_of readers.old.entries) ≡ true }
     ensures left { readers.new.entries
@@ -67,9 +67,9 @@ fn forget_readers<A: Allocator>(readers: &mut BTreeMap<Guid, (), A>, prefix: Gui
     'readers: while let Some(_reader) = take_first(readers, prefix) {}
 }
 
-/// Takes out these participants, and the ends of their leases.
+/// Removes these participants, and the ends of their leases.
 fn forget_participants<A: Allocator>(
-    participants: &mut BTreeMap<GuidPrefix, Participant<A>, A>,
+    participants: &mut BTreeMap<GuidPrefix, RemoteParticipant<A>, A>,
     leases: &mut Leases<A>,
     prefixes: &[GuidPrefix],
 )
@@ -84,7 +84,7 @@ fn forget_participants<A: Allocator>(
     }
 }
 
-/// Takes out the readers of these participants.
+/// Removes the readers of these participants.
 fn forget_all_readers<A: Allocator>(readers: &mut BTreeMap<Guid, (), A>, prefixes: &[GuidPrefix])
     requires { are_sized (keys_of readers.old.entries) ≡ true }
     ensures left { readers.new.entries
@@ -96,7 +96,7 @@ fn forget_all_readers<A: Allocator>(readers: &mut BTreeMap<Guid, (), A>, prefixe
     }
 }
 
-/// Takes out the writers of a participant, in order, and puts them after those that are gone.
+/// Removes the writers of a participant, in order, and appends them to `gone`.
 fn take_writers<A: Allocator + Copy>(
     alloc: A,
     prefix: GuidPrefix,
@@ -126,7 +126,7 @@ fn take_writers<A: Allocator + Copy>(
     Ok(())
 }
 
-/// Takes out the writers of these participants, one participant after the other.
+/// Removes the writers of these participants, one participant after the other, and returns them.
 fn take_all_writers<A: Allocator + Copy>(
     alloc: A,
     prefixes: &[GuidPrefix],
@@ -149,7 +149,7 @@ fn take_all_writers<A: Allocator + Copy>(
     Ok(gone)
 }
 
-/// Puts what the reader of a rank hears after the changes, as these writers go.
+/// Appends the changes of matches of the reader of a rank as these writers go.
 fn hear_ends<A: Allocator + Copy>(
     alloc: A,
     rank: u32,
@@ -161,19 +161,19 @@ fn hear_ends<A: Allocator + Copy>(
         ≡ map change_seen changes.old.items ++ flat_map (ending rank reader.now) gone.now) }
 {
     for one in gone {
-        let turn = Turn {
+        let update = WriterUpdate {
             writer: one.writer,
             locators: &[],
             before: Some(&one.offer),
             after: None,
         };
         let is_fixed = one.fixed.has(rank);
-        let _matched = meet(alloc, Seat { rank, is_fixed }, reader, &turn, changes)?;
+        let _matched = meet(alloc, Seat { rank, is_fixed }, reader, &update, changes)?;
     }
     Ok(())
 }
 
-/// Puts what our readers hear after the changes, by rank and then by writer, as these writers go.
+/// Appends the changes of matches of our readers as these writers go, by rank and then by writer.
 fn hear_all_ends<A: Allocator + Copy>(
     alloc: A,
     readers: &[Option<Reader<A>>],
@@ -192,7 +192,7 @@ fn hear_all_ends<A: Allocator + Copy>(
     Ok(())
 }
 
-/// Leaves of the matches with these writers those alone that are there from the start.
+/// Removes all matches with these writers except the fixed ones.
 fn rerank<A: Allocator + Copy>(
     gone: Vec<Gone<A>, A>,
     index: &mut BTreeMap<Guid, Ranks<A>, A>,
@@ -231,10 +231,10 @@ fn end_all_announcers<A: Allocator + Copy>(announcers: &mut Matches<A>, prefixes
     }
 }
 
-impl<A: Allocator + Copy> Held<A> {
-    /// Participants leave together, in the order of the octets of their prefixes, and with them
-    /// their announcers, their writers and their readers. It takes no step for an endpoint of
-    /// another participant.
+impl<A: Allocator + Copy> Registry<A> {
+    /// Removes participants together with their announcers, their writers and their readers. The
+    /// participants are in the order of the octets of their prefixes. It takes no step for an
+    /// endpoint of another participant.
     pub fn leave_all(
         &mut self,
         alloc: A,
@@ -255,8 +255,8 @@ impl<A: Allocator + Copy> Held<A> {
         Ok(())
     }
 
-    /// A participant leaves, and with it its announcers, its writers and its readers. It takes no
-    /// step for an endpoint of another participant.
+    /// Removes a participant together with its announcers, its writers and its readers. It takes
+    /// no step for an endpoint of another participant.
     pub fn leave(
         &mut self,
         alloc: A,

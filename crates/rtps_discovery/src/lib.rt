@@ -1,8 +1,9 @@
-//! Discovery: what an application asks of it, and whom an event of a datagram is for (DDSI-RTPS
-//! 8.5).
+//! Discovery (DDSI-RTPS 8.5): its configuration, what it knows of remote participants and their
+//! endpoints, and which local readers an event is for.
 #![tactic(auto)]
 
 mod addressed;
+mod announced_data;
 mod announcement;
 mod announcer;
 mod changes;
@@ -15,17 +16,16 @@ mod expire;
 mod faults;
 mod gone;
 mod hear;
-mod held;
 mod known;
 pub mod laws;
 mod leases;
 mod leave;
+mod pair_state;
 mod pairs;
 mod participants;
 mod readers;
 mod records;
-mod said;
-mod standing;
+mod registry;
 mod start;
 #[cfg(test)]
 mod tests;
@@ -40,4 +40,4 @@ pub use config::{Config, FixedMatch, ReaderConfig};
 pub use discovery::Discovery;
 pub use effects::DiscoveryEffects;
 pub use faults::{ConfigFault, check};
-pub use known::{Participant, Reader, Writer};
+pub use known::{Reader, RemoteParticipant, Writer};

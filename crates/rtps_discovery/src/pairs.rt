@@ -25,7 +25,7 @@ fn add_ranks<A: Allocator + Copy>(
     Ok(())
 }
 
-/// The matches of an index by writers.
+/// Returns the matches of an index by writer.
 pub(crate) fn pairs_of<A: Allocator + Copy>(
     alloc: A,
     index: &BTreeMap<Guid, Ranks<A>, A>,

@@ -1,4 +1,4 @@
-//! What the announcements of participants change (DDSI-RTPS 8.5.3).
+//! Applying the announcements of participants (DDSI-RTPS 8.5.3).
 
 ghost use Rattle.std.specs.Prelude.{◌≡◌, List, OnOk};
 ghost use Rattle.rtps_proxy.specs.Matches.{AllStand, Match};
@@ -13,14 +13,14 @@ use crate::addressed::{
     ENTITYID_SEDP_BUILTIN_SUBSCRIPTIONS_ANNOUNCER, ENTITYID_SEDP_BUILTIN_SUBSCRIPTIONS_DETECTOR,
 };
 use crate::announcement::Facts;
-use crate::held::Held;
-use crate::known::{Participant, collected};
+use crate::known::{RemoteParticipant, collected};
 use crate::leases::{deadline, end_of};
+use crate::registry::Registry;
 use rtps_proxy::{Matches, ProxyConfig};
 use rtps_types::{EntityId, Guid, GuidPrefix, Locator, Locators};
 use std::alloc::{AllocError, Allocator};
 
-/// A builtin reader of ours, and the writer of a participant that announces to it, if there is one.
+/// A builtin reader of ours, and the announcer of a remote participant that writes to it.
 #[derive(Clone, Copy)]
 struct Link {
     own: GuidPrefix,
@@ -58,7 +58,7 @@ fn begin_where<A: Allocator + Copy>(
     announcers.begin(alloc, config)
 }
 
-/// Our builtin reader of writers, and the announcer of a participant's writers.
+/// Returns our builtin reader of writers, with the announcer of a participant's writers.
 fn publications(own: GuidPrefix, prefix: GuidPrefix, announces: bool) -> Link
     ensures { result ≡ record {
       own = own;
@@ -77,7 +77,7 @@ fn publications(own: GuidPrefix, prefix: GuidPrefix, announces: bool) -> Link
     }
 }
 
-/// Our builtin reader of readers, and the announcer of a participant's readers.
+/// Returns our builtin reader of readers, with the announcer of a participant's readers.
 fn subscriptions(own: GuidPrefix, prefix: GuidPrefix, announces: bool) -> Link
     ensures { result ≡ record {
       own = own;
@@ -96,9 +96,10 @@ fn subscriptions(own: GuidPrefix, prefix: GuidPrefix, announces: bool) -> Link
     }
 }
 
-impl<A: Allocator + Copy> Held<A> {
-    /// A participant comes, and our builtin readers are matched with its announcers; of one that is
-    /// known only its default locators, its lease and when it was heard change.
+impl<A: Allocator + Copy> Registry<A> {
+    /// Applies the record of a participant. A new participant is added, and our builtin readers are
+    /// matched with its announcers. For a known one only its default locators, its lease and the
+    /// moment at which it was heard are updated.
     pub fn come(&mut self, alloc: A, prefix: GuidPrefix, facts: Facts<'_>) -> Result<(), AllocError>
         ensures { (earlier : List ChangeAt) → OnOk result (Applies
             (announcement.Comes prefix (facts_seen facts.entry)) (kept self.old) (kept self.new)
@@ -106,7 +107,7 @@ impl<A: Allocator + Copy> Held<A> {
     {
         let lease = facts.lease;
         let locators = collected(alloc, facts.locators)?;
-        let participant = Participant {
+        let participant = RemoteParticipant {
             locators,
             lease,
             heard: self.moment,

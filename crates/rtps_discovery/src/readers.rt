@@ -9,7 +9,7 @@ use crate::known::Reader;
 use dds_qos::{Partitions, Requested};
 use std::alloc::{AllocError, Allocator};
 
-/// A copy of the names of partitions.
+/// Returns a copy of the names of partitions.
 fn copied_names<A: Allocator + Copy>(
     alloc: A,
     names: &[String],
@@ -23,7 +23,7 @@ fn copied_names<A: Allocator + Copy>(
     Ok(Partitions::new(copies))
 }
 
-/// A copy of a reader.
+/// Returns a copy of a reader.
 fn copied_reader<A: Allocator + Copy>(
     alloc: A,
     reader: &ReaderConfig,
@@ -44,7 +44,7 @@ fn copied_reader<A: Allocator + Copy>(
     })
 }
 
-/// Copies of readers, by rank.
+/// Returns copies of readers, by rank.
 pub(crate) fn copied_readers<A: Allocator + Copy>(
     alloc: A,
     readers: &[ReaderConfig],

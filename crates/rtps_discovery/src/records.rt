@@ -1,9 +1,9 @@
-//! What the events of announcers say, and what they make of what is known (DDSI-RTPS 8.5.3, 8.5.4).
+//! Decoding and applying the events of announcers (DDSI-RTPS 8.5.3, 8.5.4).
 
 ghost use Rattle.std.specs.Prelude.{◌≡◌, [], IfOk, OnOk, map, option_to_list};
 ghost use Rattle.std.specs.List.{flat_map};
 ghost use Rattle.std.specs.Option.{option_map};
-ghost use Rattle.rtps_proxy.specs.Changes.{change_view};
+ghost use Rattle.rtps_proxy.specs.Change.{change_view};
 ghost use Rattle.rtps_receiver.specs.Events.{view};
 ghost use Rattle.rtps_receiver.specs.Views.{body_view};
 ghost use Rattle.rtps_discovery.specs.Changes.{changes_run, known_run};
@@ -14,36 +14,37 @@ ghost use Rattle.rtps_discovery.specs.Records as records;
 ghost use Rattle.rtps_discovery.specs.Seen.{announcement_seen, change_seen};
 
 use crate::addressed::{ENTITYID_SPDP_BUILTIN_PARTICIPANT_DETECTOR, is_for};
+use crate::announced_data::said_in;
 use crate::announcement::{Announcement, participant_said, reader_said, writer_said};
 use crate::announcer::announces_writers;
 use crate::changes::MatchChange;
 use crate::effects::DiscoveryEffects;
-use crate::held::Held;
-use crate::said::said_in;
+use crate::registry::Registry;
 use rtps_params::ids::{ENDPOINT_GUID, PARTICIPANT_GUID};
 use rtps_proxy::Change;
-use rtps_receiver::{Body, Event};
+use rtps_receiver::{Event, EventBody};
 use rtps_types::{EntityId, Guid, GuidPrefix};
 use std::alloc::{AllocError, Allocator};
 
-/// What an event of the participants' announcer says: a change counts whatever its number, and
-/// nothing else of that writer does.
+/// Returns the announcement of an event from the participants' announcer. Each DATA counts, with
+/// any number; all other submessages of that writer are ignored.
 fn participant_in<'a>(
     own: GuidPrefix,
     source: GuidPrefix,
-    body: &Body<'a>,
+    body: &EventBody<'a>,
 ) -> Option<Announcement<'a>>
     ensures { option_map announcement_seen result
         ≡ records.participant_in own source (body_view body.now) }
 {
-    let Body::Whole(whole) = body else {
+    let EventBody::Whole(whole) = body else {
         return None;
     };
     let said = said_in(PARTICIPANT_GUID, whole.info, whole.payload)?;
     participant_said(own, source, whole.info.hash, said)
 }
 
-/// What a change says that is ready of the announcer of writers, or of the one of readers.
+/// Returns the announcement of a complete change from an announcer of endpoints, the next one in
+/// order.
 fn endpoint_in<'a, A: Allocator>(
     source: GuidPrefix,
     writer: EntityId,
@@ -60,8 +61,8 @@ fn endpoint_in<'a, A: Allocator>(
     }
 }
 
-impl<A: Allocator + Copy> Held<A> {
-    /// Applies what was announced, and puts what our readers hear of it after the changes.
+impl<A: Allocator + Copy> Registry<A> {
+    /// Applies an announcement, and appends the changes of our readers' matches.
     fn apply(
         &mut self,
         alloc: A,
@@ -85,7 +86,7 @@ impl<A: Allocator + Copy> Held<A> {
         }
     }
 
-    /// Applies what a change says that an announcer has ready.
+    /// Applies one ready change of an announcer.
     fn apply_change(
         &mut self,
         alloc: A,
@@ -105,7 +106,7 @@ impl<A: Allocator + Copy> Held<A> {
         Ok(())
     }
 
-    /// Applies what the changes say that an announcer has ready, one after the other.
+    /// Applies the ready changes of an announcer, one after the other.
     fn apply_ready(
         &mut self,
         alloc: A,
@@ -124,8 +125,8 @@ impl<A: Allocator + Copy> Held<A> {
         Ok(())
     }
 
-    /// Applies what an event of the participants' announcer says, and gives what our readers hear
-    /// of it.
+    /// Applies an event of the participants' announcer, and returns the changes of our readers'
+    /// matches.
     pub fn hear_participant(
         &mut self,
         alloc: A,
@@ -146,8 +147,8 @@ impl<A: Allocator + Copy> Held<A> {
         Ok(changes)
     }
 
-    /// Gives an event to the match with its writer, an announcer of endpoints, if there is one; and
-    /// applies what the changes say that are ready then.
+    /// Passes an event of an announcer of endpoints to the match with it, if there is one, and
+    /// applies the changes that are ready then.
     pub fn hear_announcer(
         &mut self,
         alloc: A,

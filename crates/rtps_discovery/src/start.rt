@@ -1,4 +1,4 @@
-//! What is known at the start.
+//! The state of discovery at the start.
 
 ghost use Rattle.std.specs.Prelude.{◌≡◌, ◌≤◌, ℕ, IfOk, None, Ok, length, map};
 ghost use Rattle.rtps_types.specs.declared.identity.Guid.{Guid};
@@ -8,19 +8,19 @@ ghost use Rattle.rtps_discovery.specs.Known.{is_fixed};
 ghost use Rattle.rtps_discovery.specs.OneWriter.{has_rank, matched_from};
 ghost use Rattle.rtps_discovery.specs.Start.{first_known, fixed_ranks, pair_of};
 
-use crate::changes::{Turn, rematch};
+use crate::changes::{WriterUpdate, rematch};
 use crate::config::{Config, FixedMatch};
 use crate::hear::{put_ranks, ranks_at};
-use crate::held::Held;
 use crate::known::{Ranks, Reader};
 use crate::leases::Leases;
 use crate::readers::copied_readers;
+use crate::registry::Registry;
 use rtps_proxy::Matches;
 use rtps_types::Guid;
 use std::alloc::{AllocError, Allocator};
 use std::collections::BTreeMap;
 
-/// By writers, the ranks that pairs join to them, in the order of the pairs.
+/// Returns for each writer the ranks that it has fixed matches with, in the order of `pairs`.
 fn listed<A: Allocator + Copy>(
     alloc: A,
     pairs: &[FixedMatch],
@@ -36,7 +36,7 @@ fn listed<A: Allocator + Copy>(
     Ok(index)
 }
 
-/// Those of these ranks that readers have, rising.
+/// Returns those of these ranks that belong to readers, rising.
 fn rising<A: Allocator + Copy>(
     alloc: A,
     readers: &[Option<Reader<A>>],
@@ -48,16 +48,16 @@ fn rising<A: Allocator + Copy>(
         rising ≡ matched_from (has_rank ranks.now) None 0 readers.now) }
 {
     let mut changes = Vec::new(alloc);
-    let turn = Turn {
+    let update = WriterUpdate {
         writer,
         locators: &[],
         before: None,
         after: None,
     };
-    rematch(alloc, readers, ranks, &turn, &mut changes)
+    rematch(alloc, readers, ranks, &update, &mut changes)
 }
 
-/// By writers, the ranks of the readers that pairs join to them, rising.
+/// Returns for each writer the ranks of the readers that it has fixed matches with, rising.
 fn index_of<A: Allocator + Copy>(
     alloc: A,
     readers: &[Option<Reader<A>>],
@@ -76,9 +76,10 @@ fn index_of<A: Allocator + Copy>(
     Ok(index)
 }
 
-impl<A: Allocator + Copy> Held<A> {
-    /// The readers and the fixed matches of a configuration are known, and nobody else.
-    pub fn new(alloc: A, config: &Config) -> Result<Held<A>, AllocError>
+impl<A: Allocator + Copy> Registry<A> {
+    /// Returns a registry with the readers and the fixed matches of a configuration, and nothing
+    /// else.
+    pub fn new(alloc: A, config: &Config) -> Result<Registry<A>, AllocError>
         requires { check_of config.now ≡ Ok tt }
         ensures { IfOk result (λ held. IsKnown (first_known config.now) (kept held)) }
     {
@@ -89,7 +90,7 @@ impl<A: Allocator + Copy> Held<A> {
         let announcers = Matches::new(alloc);
         let writers = BTreeMap::new(alloc);
         let remote_readers = BTreeMap::new(alloc);
-        Ok(Held {
+        Ok(Registry {
             own: config.own,
             moment: 0,
             readers,

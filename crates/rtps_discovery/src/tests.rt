@@ -1,4 +1,4 @@
-//! Configurations with one fault or two, and whom events are for.
+//! Tests of configurations with one or two faults, and of the readers that events are for.
 
 mod announcements;
 mod announcers;
@@ -41,7 +41,7 @@ const OUR_WRITER: Guid = Guid {
     entity: EntityId([0x00, 0x00, 0x01, 0x02]),
 };
 
-/// Puts a reader after the others of a configuration.
+/// Appends a reader to a configuration.
 fn add_reader(
     alloc: Global,
     config: &mut Config,
@@ -88,7 +88,7 @@ fn config_of(alloc: Global, row: Row<'_>) -> Result<Config, Fail> {
     Ok(config)
 }
 
-/// Whether the configuration of a row is taken.
+/// Returns the result of the check of a row's configuration.
 fn told(alloc: Global, row: Row<'_>) -> Result<Result<(), ConfigFault>, Fail> {
     let config = config_of(alloc, row)?;
     Ok(check(&config))
@@ -165,7 +165,7 @@ fn readers_are_256_at_most(rt: HostRuntime) -> Result<(), Fail> {
         )?;
     }
     assert_eq!(rt; check(&config), Ok(()));
-    // The one above them is bad by itself too.
+    // The reader past the limit has a fault of its own too.
     add_reader(
         rt.alloc(),
         &mut config,

@@ -1,7 +1,7 @@
 -- A walk through runs, from a fragment on.
 use Rattle.std.proofs.Common.{◌≡◌, ℕ, ◌+◌, ◌<◌, Bool, true, false, ◌&&◌, ◌||◌, refl, ◌∙◌, arith, ltb, leb}
 use Rattle.std.proofs.lemmas.Bool.Decides.{nat_tests}
-use Rattle.rtps_frags.specs.declared.parts.Span.{Span}
+use Rattle.rtps_frags.specs.declared.chunks.Span.{Span}
 use Rattle.rtps_frags.specs.Runs.{AreApart, Runs, covers}
 use Rattle.rtps_frags.specs.Spans.{IsAhead}
 use Rattle.rtps_frags.proofs.Runs.{none_below, weaken}

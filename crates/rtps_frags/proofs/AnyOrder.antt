@@ -43,9 +43,9 @@ pub some_octets : (z : Sizes) → not (is_empty z) ≡ true → 0 < z.fragment
 some_octets z h = grind (arith, nat_tests)
 
 pub any_order : AnyOrderGivesThePayload
-any_order z payload parts size each whole =
-    let cut : 0 < z.fragment = some_octets z (and_first (not (is_empty z)) (has_all (there_after z parts) 1 (last_of z)) whole) in
-    let all : has_all (there_after z parts) 1 (last_of z) ≡ true = and_second (not (is_empty z)) (has_all (there_after z parts) 1 (last_of z)) whole in
-    let from : IsFrom z 1 (last_of z) (there_after z parts) = from_all z 0 (last_of z) (there_after z parts) (omega arith) (in_order z payload parts each) all in
+any_order z payload chunks size each whole =
+    let cut : 0 < z.fragment = some_octets z (and_first (not (is_empty z)) (has_all (there_after z chunks) 1 (last_of z)) whole) in
+    let all : has_all (there_after z chunks) 1 (last_of z) ≡ true = and_second (not (is_empty z)) (has_all (there_after z chunks) 1 (last_of z)) whole in
+    let from : IsFrom z 1 (last_of z) (there_after z chunks) = from_all z 0 (last_of z) (there_after z chunks) (omega arith) (in_order z payload chunks each) all in
     let start : before z 1 ≡ 0 = before_first z in
-    payload_from z cut payload size 1 (last_of z) (there_after z parts) (omega arith) (omega arith) from (of_payload z payload parts each) ∙ ap (λ n. drop n payload) start
+    payload_from z cut payload size 1 (last_of z) (there_after z chunks) (omega arith) (omega arith) from (of_payload z payload chunks each) ∙ ap (λ n. drop n payload) start

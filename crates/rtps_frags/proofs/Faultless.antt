@@ -5,7 +5,7 @@ use Rattle.std.proofs.lemmas.Bool.Decides.{nat_tests}
 use Rattle.std.proofs.lemmas.List.{length-drop, length-take}
 use Rattle.rtps_frags.proofs.Cuts.{before_rises, upto_rises}
 use Rattle.rtps_frags.specs.declared.fault.FragFault.TheVariants.{Sizes as BadSizes, Number, ShortPayload, TooLarge}
-use Rattle.rtps_frags.specs.Fragments as parts
+use Rattle.rtps_frags.specs.Fragments as chunks
 use Rattle.rtps_frags.specs.declared.sizes.Sizes.{Sizes}
 use Rattle.rtps_frags.specs.Fragments.{before, fault_of, fragment_in, is_empty, is_outside, last_of, length_of, upto}
 
@@ -23,7 +23,7 @@ or_none true b h = absurd cc
 or_none false b h = (refl, h)
 
 pub faultless : (z : Sizes) (start count octets : ℕ) → is_some (fault_of z start count octets) ≡ false → Faultless z start count octets
-unfolding parts.fault_of
+unfolding chunks.fault_of
 faultless z start count octets h = by_empty (is_empty z) refl h
   where
     by_short : is_empty z ≡ false → ltb 67108864 z.sample ≡ false → is_outside z start count ≡ false → (b : Bool) → ltb octets (length_of z start count) ≡ b → is_some (cond b (Some ShortPayload) None) ≡ false → Faultless z start count octets

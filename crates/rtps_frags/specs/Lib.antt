@@ -1,9 +1,9 @@
-pub mod Fragments
-pub mod Missing
-pub mod Runs
-pub mod Kept
-pub mod Payload
 pub mod Buffer
-pub mod Parts
-pub mod Spans
+pub mod Chunks
+pub mod Fragments
+pub mod Kept
 pub mod Longer
+pub mod Missing
+pub mod Payload
+pub mod Runs
+pub mod Spans

@@ -1,4 +1,4 @@
-//! One sample, while its fragments come.
+//! Reassembly of one sample.
 
 ghost use Rattle.std.specs.Prelude.{◌≡◌, [], IfErr, OnOk, Err, Some, None, true, false, length};
 ghost use Rattle.std.specs.Option.{option_map};
@@ -9,42 +9,43 @@ ghost use Rattle.rtps_frags.specs.Fragments.{fault_of, payload_of};
 ghost use Rattle.rtps_frags.specs.Kept.{Leaves, has_come, with_part};
 ghost use Rattle.rtps_frags.specs.Missing.{missing, missing_by};
 
+use crate::chunks::{Chunks, Piece};
 use crate::fault::{AddError, fault_in};
-use crate::parts::{Parts, Piece};
 use crate::sizes::Sizes;
 use rtps_types::{FragSet, Octets};
 use std::alloc::{Allocator, Global};
 use std::marker::Model;
 
-/// One sample, while its fragments come. What it takes of memory goes by the octets that came, and
-/// not by the sample's size: unless it is spent, its buffer has room for at most sixteen times the
-/// octets in it that came, and so has each chunk that is kept apart.
+/// One sample that is reassembled from fragments. Its memory depends on the octets received, and
+/// not on the size that the writer states: unless the assembly is spent, its buffer has a capacity
+/// of at most sixteen times the octets received in it, and so has each chunk that is stored apart.
 #[derive(Drop)]
 pub struct Assembly<A: Allocator = Global> {
     sizes: Sizes,
-    parts: Parts<A>,
-    /// A growth was refused: what is there may not be what came.
+    chunks: Chunks<A>,
+    /// A growth was refused: fragments may be stored in part.
     spent: bool,
 }
 
 impl<A: Allocator> Model for Assembly<A> {
     ghost use Rattle.std.specs.Prelude.{◌≡◌, false};
     ghost use Rattle.rtps_frags.specs.Kept.{AssemblyView};
-    ghost use Rattle.rtps_frags.specs.Parts.{IsBounded, IsKept, there_in};
+    ghost use Rattle.rtps_frags.specs.Chunks.{IsBounded, IsKept, there_in};
 
     ghost Value = { AssemblyView };
 
     ghost view = { λ a. record {
       sizes = a.sizes;
-      there = there_in a.sizes a.parts;
+      there = there_in a.sizes a.chunks;
       spent = a.spent;
     } };
 
-    ghost invariant = { λ a. IsKept a.sizes a.parts × (a.spent ≡ false → IsBounded a.parts) };
+    ghost invariant = { λ a. IsKept a.sizes a.chunks × (a.spent ≡ false → IsBounded a.chunks) };
 }
 
 impl<A: Allocator + Copy> Assembly<A> {
-    /// A sample of this size in octets, cut into fragments of this size, of which nothing came yet.
+    /// Returns a sample without fragments, by the sizes of the sample and of its fragments in
+    /// octets.
     pub fn new(alloc: A, sample_size: u32, fragment_size: u16) -> Assembly<A>
         ensures sizes { result.sizes
             ≡ (record { sample = sample_size; fragment = fragment_size }) }
@@ -56,15 +57,15 @@ impl<A: Allocator + Copy> Assembly<A> {
                 sample: sample_size,
                 fragment: fragment_size,
             },
-            parts: Parts::new(alloc),
+            chunks: Chunks::new(alloc),
             spent: false,
         }
     }
 
-    /// Takes in `count` fragments from `start` on, with which the octets begin; what follows them
-    /// is ignored, and a fragment that is there stays as it is. Fragments with a fault are not
-    /// taken, and nothing changes. After a refused growth the assembly is spent: each later call
-    /// answers so, and changes nothing.
+    /// Adds `count` fragments from `start` on, whose octets `payload` begins with. More octets are
+    /// ignored, and a fragment that is stored already stays as it is. Fragments with a fault change
+    /// nothing. After a refused growth the assembly is spent: each later call returns an error, and
+    /// changes nothing.
     pub fn add(&mut self, alloc: A, start: u32, count: u16, payload: &[u8]) -> Result<(), AddError>
         ensures ok { OnOk result (self.new ≡ with_part self.old start count payload.now) }
         ensures faultless { OnOk result
@@ -89,7 +90,7 @@ impl<A: Allocator + Copy> Assembly<A> {
             count: u32::from(count),
             octets: payload,
         };
-        if self.parts.add(alloc, self.sizes, piece).is_err() {
+        if self.chunks.add(alloc, self.sizes, piece).is_err() {
             return Err(AddError::NoMemory);
         }
         self.spent = false;
@@ -98,26 +99,26 @@ impl<A: Allocator + Copy> Assembly<A> {
 }
 
 impl<A: Allocator> Assembly<A> {
-    /// How the sample is cut.
+    /// Returns the sizes of the sample and of its fragments.
     pub fn sizes(&self) -> Sizes
         ensures { result ≡ self.now.sizes }
     {
         self.sizes
     }
 
-    /// Whether each fragment of a sample with octets is there; never where a growth was refused.
+    /// Whether all fragments are stored; false if the sample has no octets or a growth was refused.
     pub fn is_whole(&self) -> bool
         ensures { result ≡ has_come self.now }
     {
         if self.spent || self.sizes.is_empty() {
             return false;
         }
-        // The octets before the least missing fragment are all.
-        self.sizes.upto(self.parts.next - 1) == self.sizes.sample as usize
+        // It is complete if the octets before the least missing fragment are the whole sample.
+        self.sizes.upto(self.chunks.next - 1) == self.sizes.sample as usize
     }
 
-    /// What is missing up to a fragment, and up to the sample's last one: from the least missing
-    /// one on, those of 256 that are. None where nothing is.
+    /// Returns the missing fragments up to `last` and up to the sample's last one, of the 256 that
+    /// begin with the least missing one, or `None` if none is missing.
     pub fn missing_up_to(&self, last: u32) -> Option<FragSet>
         ensures { option_map frag_view result ≡ missing self.now.sizes self.now.there last }
     {
@@ -125,22 +126,22 @@ impl<A: Allocator> Assembly<A> {
             return None;
         }
         let end = last.min(self.sizes.last());
-        self.parts.missing_up_to(end)
+        self.chunks.missing_up_to(end)
     }
 
-    /// The sample's octets, which are handed over as they were put together.
+    /// Returns the sample's octets without a copy.
     pub fn whole(self) -> Octets<A>
         requires { has_come self ≡ true }
         ensures payload { result ≡ payload_of self.there }
         ensures size { length result ≡ self.sizes.sample }
     {
-        Octets::new(self.parts.buffer)
+        Octets::new(self.chunks.buffer)
     }
 }
 
-/// What is missing up to a fragment of a sample of which nothing came.
+/// Returns the missing fragments up to `last` of a sample without fragments.
 pub fn missing_of_none<A: Allocator + Copy>(alloc: A, last: u32) -> Option<FragSet>
     ensures { option_map frag_view result ≡ missing_by (λ _. false) last }
 {
-    Parts::new(alloc).missing_up_to(last)
+    Chunks::new(alloc).missing_up_to(last)
 }

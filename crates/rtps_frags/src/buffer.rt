@@ -1,4 +1,4 @@
-//! Octets that are put at their places.
+//! A buffer for the octets of a sample.
 
 ghost use Rattle.std.specs.Prelude.{◌≡◌, ◌+◌, ◌-◌, ◌++◌, ◌<◌, ◌^◌, ◌≤◌, max, IfOk, IsOk, OnErr, OnOk, length, replicate, vec_capacity, vec_len};
 ghost use Rattle.rtps_frags.specs.Buffer.{IsPutAt};
@@ -6,8 +6,8 @@ ghost use Rattle.rtps_frags.specs.Buffer.{IsPutAt};
 use core::mem::replace_with;
 use std::alloc::{AllocError, Allocator};
 
-/// Makes room for `length` octets more. Where there is none, room is reserved for `room` octets, or
-/// for just these where that is refused.
+/// Makes sure that the buffer has a capacity of `length` octets. If it hasn't, it grows to `room`
+/// octets, or to `length` if that is more.
 pub(crate) fn make_room<A: Allocator>(
     buffer: &mut Vec<u8, A>,
     room: usize,
@@ -26,9 +26,9 @@ pub(crate) fn make_room<A: Allocator>(
     Ok(())
 }
 
-/// A buffer and octets after its own, in room that is there. One by one they make no more, which
-/// the contract of a slice's copy doesn't say; and a buffer that is held by value, whose length
-/// nothing else sees, is filled as fast as by a copy.
+/// Appends octets to a buffer that has the capacity for them, and returns it. They are pushed one
+/// by one, since the contract of a slice copy doesn't say that the capacity stays as it is. For a
+/// buffer that is passed by value the compiler turns that into a copy.
 fn with_octets<A: Allocator>(mut buffer: Vec<u8, A>, octets: &[u8]) -> (Vec<u8, A>, ())
     requires { vec_len buffer + length octets.now ≤ vec_capacity buffer }
     ensures items { result.0.items ≡ buffer.items ++ octets.now }
@@ -40,7 +40,7 @@ fn with_octets<A: Allocator>(mut buffer: Vec<u8, A>, octets: &[u8]) -> (Vec<u8, 
     (buffer, ())
 }
 
-/// A buffer and zeros after its octets, up to a place, in room that is there.
+/// Appends zeros up to the length `end` to a buffer that has the capacity for them, and returns it.
 fn with_zeros<A: Allocator>(mut buffer: Vec<u8, A>, end: usize) -> (Vec<u8, A>, ())
     requires { (vec_len buffer ≤ end) × (end ≤ vec_capacity buffer) }
     ensures items { result.0.items ≡ buffer.items ++ replicate (end - vec_len buffer) 0 }
@@ -52,7 +52,7 @@ fn with_zeros<A: Allocator>(mut buffer: Vec<u8, A>, end: usize) -> (Vec<u8, A>, 
     (buffer, ())
 }
 
-/// A copy of octets, with room for just these.
+/// Returns a copy of octets, with exactly their capacity.
 pub(crate) fn copy_of<A: Allocator>(alloc: A, octets: &[u8]) -> Result<Vec<u8, A>, AllocError>
     ensures items { IfOk result (λ copy. copy.items ≡ octets.now) }
     ensures exact { IfOk result (λ copy. vec_capacity copy ≡ length octets.now) }
@@ -62,7 +62,7 @@ pub(crate) fn copy_of<A: Allocator>(alloc: A, octets: &[u8]) -> Result<Vec<u8, A
     Ok(copy)
 }
 
-/// Puts octets at the end.
+/// Appends octets.
 pub(crate) fn append<A: Allocator>(
     buffer: &mut Vec<u8, A>,
     room: usize,
@@ -81,7 +81,7 @@ pub(crate) fn append<A: Allocator>(
     Ok(())
 }
 
-/// Puts zeros after the end, up to a place.
+/// Appends zeros up to the length `end`.
 fn fill_up<A: Allocator>(buffer: &mut Vec<u8, A>, room: usize, end: usize) -> Result<(), AllocError>
     ensures enough { end ≤ vec_capacity buffer.old → IsOk result }
     ensures ok { OnOk result
@@ -98,7 +98,7 @@ fn fill_up<A: Allocator>(buffer: &mut Vec<u8, A>, room: usize, end: usize) -> Re
     Ok(())
 }
 
-/// Puts octets at a place. It may be the end, or past it.
+/// Writes octets at a place, which may be at or past the end.
 pub(crate) fn put_at<A: Allocator>(
     buffer: &mut Vec<u8, A>,
     room: usize,

@@ -1,4 +1,4 @@
-//! What may be wrong with fragments.
+//! Faults of fragments.
 
 ghost use Rattle.std.specs.Prelude.{◌≡◌};
 ghost use Rattle.rtps_frags.specs.Fragments.{fault_of};
@@ -7,16 +7,16 @@ use crate::sizes::Sizes;
 use std::alloc::AllocError;
 use thiserror::Error;
 
-/// Why fragments count as not come.
+/// Why fragments are ignored.
 #[derive(Clone, Copy, Debug, PartialEq, Eq, Error)]
 pub enum FragFault {
-    /// The sample or its fragments have no octets.
+    /// The size of the sample or of its fragments is 0.
     #[error("a size is 0")]
     Sizes,
-    /// There are no such fragments.
+    /// The sample has no fragments with these numbers.
     #[error("no such fragment")]
     Number,
-    /// There are fewer octets than the fragments have.
+    /// The payload is shorter than the fragments.
     #[error("too few octets")]
     ShortPayload,
     /// The sample has more than 67,108,864 octets.
@@ -24,10 +24,10 @@ pub enum FragFault {
     TooLarge,
 }
 
-/// Why an assembly doesn't take fragments.
+/// Why an assembly refuses fragments.
 #[derive(Clone, Copy, Debug, PartialEq, Eq, Error)]
 pub enum AddError {
-    /// Nothing changed.
+    /// The fragments have a fault; nothing changed.
     #[error("{0}")]
     Fault(FragFault),
     /// The allocator refused a growth, now or at an earlier call.
@@ -45,11 +45,12 @@ impl From<AllocError> for AddError {
     }
 }
 
-/// The greatest sample that is put together, 64 MiB: its size is a stranger's word.
+/// The largest sample that is reassembled, 64 MiB: the size is stated by the writer, which isn't
+/// trusted.
 const MAX_SAMPLE: u32 = 67_108_864;
 
-/// What is wrong with `count` fragments from `start` on in a payload of `octets`: the first of
-/// these, a size of 0, a sample that is too large, no such fragments, too few octets.
+/// Returns the first fault of `count` fragments from `start` on in a payload of `octets`, in this
+/// order: a size of 0, a sample that is too large, no such fragments, too few octets.
 #[tactic(auto, unfolding(crate::specs::Fragments::fault_of))]
 pub fn fault_in(sizes: Sizes, start: u32, count: u16, octets: usize) -> Option<FragFault>
     ensures { result ≡ fault_of sizes start count octets }

@@ -1,8 +1,8 @@
-//! Laws of fragments.
+//! Laws about fragments.
 
 ghost use Rattle.rtps_frags.specs.Payload.{AnyOrderGivesThePayload};
 
-/// Fragments of one payload, in any order and however often, give that payload.
+/// Fragments of one payload give that payload, in any order and with any repetitions.
 pub fn any_order_gives_the_payload()
     ensures { AnyOrderGivesThePayload }
 {}

@@ -1,12 +1,12 @@
-//! Samples that come in fragments (DDSI-RTPS 8.3.7.3, 8.4.14.1): one sample is put together from
-//! what its DATA_FRAGs bring, in any order and however often.
+//! Reassembly of samples from fragments (DDSI-RTPS 8.3.7.3, 8.4.14.1). The DATA_FRAGs of a sample
+//! may arrive in any order and more than once.
 #![tactic(auto)]
 
 mod assembly;
 mod buffer;
+mod chunks;
 mod fault;
 pub mod laws;
-mod parts;
 mod sizes;
 #[cfg(test)]
 mod tests;

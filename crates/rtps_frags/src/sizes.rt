@@ -1,10 +1,9 @@
-//! How a sample is cut.
+//! The sizes of a sample and of its fragments.
 
 ghost use Rattle.std.specs.Prelude.{◌≡◌, ◌+◌, ◌-◌, ◌<◌, ◌≤◌};
 ghost use Rattle.rtps_frags.specs.Fragments.{before, is_empty, is_outside, last_of, length_of, upto};
 
-/// How many octets a sample has, and how many each of its fragments has but the last, which may
-/// have fewer.
+/// The sizes in octets of a sample and of its fragments. The last fragment may be shorter.
 #[derive(Clone, Copy, Debug, PartialEq, Eq)]
 pub struct Sizes {
     pub sample: u32,
@@ -12,14 +11,14 @@ pub struct Sizes {
 }
 
 impl Sizes {
-    /// Whether the sample or its fragments have no octets.
+    /// Whether the size of the sample or of its fragments is 0.
     pub(crate) fn is_empty(self) -> bool
         ensures { result ≡ is_empty self }
     {
         self.sample == 0 || self.fragment == 0
     }
 
-    /// The last fragment.
+    /// Returns the number of the last fragment.
     pub(crate) fn last(self) -> u32
         requires { 0 < self.fragment }
         ensures { result ≡ last_of self }
@@ -27,7 +26,7 @@ impl Sizes {
         self.sample.div_ceil(u32::from(self.fragment))
     }
 
-    /// How many octets stand before a fragment.
+    /// Returns the number of octets before a fragment.
     #[tactic(auto, using(crate::proofs::Cuts::before_is))]
     pub(crate) fn before(self, fragment: u32) -> usize
         requires { 1 ≤ fragment }
@@ -36,15 +35,15 @@ impl Sizes {
         (fragment as usize - 1) * usize::from(self.fragment)
     }
 
-    /// How many octets stand before the end of a fragment.
+    /// Returns the number of octets up to the end of a fragment.
     pub(crate) fn upto(self, fragment: u32) -> usize
         ensures { result ≡ upto self fragment }
     {
         (fragment as usize * usize::from(self.fragment)).min(self.sample as usize)
     }
 
-    /// Whether there are no such fragments: the octets before the last of them are all that the
-    /// sample has, which takes no division.
+    /// Whether the sample has no such fragments. It compares the number of octets before the last
+    /// of them with the sample's size, which saves a division.
     pub(crate) fn is_outside(self, start: u32, count: u16) -> bool
         requires { 0 < self.fragment }
         ensures { result ≡ is_outside self start count }
@@ -56,7 +55,7 @@ impl Sizes {
         u64::from(self.sample) <= earlier * u64::from(self.fragment)
     }
 
-    /// How many octets fragments have.
+    /// Returns the number of octets in `count` fragments from `start` on.
     #[tactic(auto, using(crate::proofs::Cuts::last_within))]
     pub(crate) fn length_of(self, start: u32, count: u32) -> usize
         requires first { 1 ≤ start }

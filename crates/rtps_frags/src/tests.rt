@@ -1,4 +1,4 @@
-//! Samples put together from fragments that were written down by hand.
+//! Samples reassembled from fragments, with octets written by hand.
 
 mod holes;
 mod missing;
@@ -9,7 +9,7 @@ use linked_list_allocator::LocalHeap;
 use std::alloc::{Allocator, Global};
 use std::test::Fail;
 
-/// Faults of a sample of 28 octets in fragments of 10, in their order.
+/// Faults of a sample of 28 octets in fragments of 10, in order.
 #[test]
 fn each_fault_is_the_first(rt: HostRuntime) {
     let sizes = Sizes {
@@ -39,7 +39,7 @@ fn each_fault_is_the_first(rt: HostRuntime) {
     assert_eq!(rt; fault_in(large, 0, 0, 0), Some(FragFault::TooLarge));
 }
 
-/// A fault is answered, and nothing changes: the sample comes whole afterwards.
+/// A fault is reported and changes nothing: the sample is completed afterwards.
 #[test]
 fn a_fault_changes_nothing(rt: HostRuntime) -> Result<(), Fail> {
     let alloc = rt.alloc();
@@ -55,7 +55,7 @@ fn a_fault_changes_nothing(rt: HostRuntime) -> Result<(), Fail> {
     Ok(())
 }
 
-/// A sample of no octets, or without a size of its fragments, is never whole, and nothing of it is
+/// A sample of no octets, or with a fragment size of 0, is never complete, and no fragment of it is
 /// missing.
 #[test]
 fn a_sample_without_octets_never_comes(rt: HostRuntime) {
@@ -72,8 +72,8 @@ fn a_sample_without_octets_never_comes(rt: HostRuntime) {
     assert!(rt; uncut.missing_up_to(9).is_none());
 }
 
-/// Fragments 3, 2 and 1 of a sample, of which the first is kept apart and the second at its place,
-/// and whether it came; `None` where memory ran out.
+/// Adds fragments 3, 2 and 1 of a sample: the first is stored apart, and the second at its place.
+/// Returns whether the sample is complete; `None` where memory ran out.
 fn serves<A: Allocator + Copy>(alloc: A, sample: &mut Assembly<A>) -> Option<bool> {
     if sample.add(alloc, 3, 1, b"ef").is_err() {
         return None;
@@ -87,7 +87,7 @@ fn serves<A: Allocator + Copy>(alloc: A, sample: &mut Assembly<A>) -> Option<boo
     Some(sample.is_whole())
 }
 
-/// Whether each later call is refused, and nothing is whole.
+/// Whether later calls are refused, and the sample isn't complete.
 fn refuses<A: Allocator + Copy>(alloc: A, sample: &mut Assembly<A>) -> bool {
     let again = sample.add(alloc, 1, 1, b"ab") == Err(AddError::NoMemory);
     let faulty = sample.add(alloc, 0, 0, b"") == Err(AddError::NoMemory);
@@ -116,8 +116,8 @@ fn a_refused_growth_is_out_of_memory(rt: HostRuntime) -> Result<(), Fail> {
     Ok(())
 }
 
-/// Two fragments of a sample that is said to have 64 MiB are taken in with 64 KiB of memory: it
-/// goes by what came, wherever in the sample that lies.
+/// 64 KiB of memory are enough for two fragments of a sample whose stated size is 64 MiB, wherever
+/// in the sample they are.
 #[test]
 fn a_stated_size_takes_no_memory(rt: HostRuntime) -> Result<(), Fail> {
     let heap = LocalHeap::new(rt.alloc(), 65_536)?;
@@ -130,7 +130,7 @@ fn a_stated_size_takes_no_memory(rt: HostRuntime) -> Result<(), Fail> {
     Ok(())
 }
 
-/// What is asked of a sample that came whole.
+/// Whether a sample is complete and has these octets.
 fn is_just(sample: Assembly<Global>, octets: &[u8]) -> bool {
     sample.is_whole() && sample.whole().as_slice() == octets
 }

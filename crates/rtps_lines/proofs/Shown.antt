@@ -1,19 +1,15 @@
--- What a line has of a guid, a time and a locator is what is displayed of them.
-use Rattle.std.proofs.Common.{◌≡◌, ℕ, ◌<◌, ◌/◌, ◌%◌, List, [], ◌∷◌, ◌++◌, length, Some, slice_index, codes, append_assoc, refl, sym, ap, ◌∙◌, arith}
+-- What a line has of a guid and of a locator is what is displayed of them.
+use Rattle.std.proofs.Common.{◌≡◌, ℕ, ◌<◌, ◌/◌, ◌%◌, List, [], ◌∷◌, ◌++◌, length, slice_index, codes, append_assoc, refl, sym, ap, ◌∙◌, arith}
 use Rattle.std.specs.Fmt.{decimal}
 use Rattle.std.specs.Net.Text.{ipv4_text}
 use Rattle.std.specs.Int.{w32, to_be_bytes}
 use Rattle.hex.specs.Hex.{encode_lower, encode_with, lower_digits}
 use Rattle.rtps_types.specs.declared.identity.Guid.{Guid}
 use Rattle.rtps_types.specs.declared.locator.Locator.{Locator}
-use Rattle.rtps_types.specs.declared.time.Timestamp.{Timestamp}
 use Rattle.rtps_types.specs.Order.{guid_octets}
-use Rattle.rtps_types.specs.TimeText.{moment_text}
 use Rattle.rtps_ascii.specs.Hex.{hex_text}
-use Rattle.rtps_lines.specs.Line.{time_text}
 use Rattle.rtps_lines.specs.Guid.{guid_text}
 use Rattle.rtps_lines.specs.Locators.{locator_text}
-use Rattle.rtps_lines.specs.Shown.{LinesShow}
 
 -- the digits of two lists, one after the other
 encoded_both : (xs ys : List ℕ) → encode_lower (xs ++ ys) ≡ encode_lower xs ++ encode_lower ys
@@ -26,13 +22,10 @@ some_octets : (xs : List ℕ) → 0 < length xs → hex_text xs ≡ encode_lower
 some_octets [] h = absurd (omega arith)
 some_octets (x ∷ xs) h = refl
 
-guid_shown : (g : Guid) → length g.prefix.0 ≡ 12 → length g.entity.0 ≡ 4 → guid_text g ≡ encode_lower (guid_octets g)
+pub guid_shown : (g : Guid) → length g.prefix.0 ≡ 12 → length g.entity.0 ≡ 4 → guid_text g ≡ encode_lower (guid_octets g)
 guid_shown g twelve four =
     rw (some_octets g.prefix.0 (omega (arith, twelve)), some_octets g.entity.0 (omega (arith, four)))
     (sym (encoded_both g.prefix.0 g.entity.0))
-
-time_shown : (t : Timestamp) → time_text (Some t) ≡ moment_text t
-time_shown t = refl
 
 -- the texts of an address and a port are joined from the left or from the right
 joined : (x y a b c d e : List ℕ)
@@ -57,11 +50,8 @@ after_address x y a b c d e =
     ∙ ap (λ l. x ++ l) (append_assoc c (x ++ d) (y ++ e)
     ∙ ap (λ l. c ++ l) (append_assoc x d (y ++ e))))))
 
-locator_shown : (l : Locator) → locator_text l ≡ ipv4_text l.address ++ codes ":" ++ decimal l.port
+pub locator_shown : (l : Locator) → locator_text l ≡ ipv4_text l.address ++ codes ":" ++ decimal l.port
 locator_shown l =
     let at : ℕ → List ℕ = λ n. decimal (slice_index l.address n) in
     after_address (codes ".") (codes ":") (at 0) (at 1) (at 2) (at 3) (decimal l.port)
     ∙ joined (codes ".") (codes ":") (at 0) (at 1) (at 2) (at 3) (decimal l.port)
-
-pub lines_show : LinesShow
-lines_show = record { guid = guid_shown; time = time_shown; locator = locator_shown }

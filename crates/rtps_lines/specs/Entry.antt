@@ -16,7 +16,7 @@ use Rattle.rtps_ascii.specs.Hex.{hex_text}
 use Rattle.rtps_lines.specs.Line.{◌then◌, time_text}
 use Rattle.rtps_lines.specs.Guid.{guid_text}
 
--- its states (DDS 1.4, 2.2.2.5.1)
+-- the words of the states (DDS 1.4, 2.2.2.5.1)
 abbrev pub sample_word : SampleState → List ℕ
 sample_word sample.Read = codes "Read"
 sample_word sample.NotRead = codes "NotRead"
@@ -33,29 +33,29 @@ instance_word instance.NoWriters = codes "NoWriters"
 abbrev pub states_text : SampleState → ViewState → InstanceState → List ℕ
 states_text s v i = sample_word s then view_word v then instance_word i
 
--- a value, or the end of an instance by the hash of its key
+-- the content of an entry: a value, or the disposal of an instance with the hash of its key
 abbrev pub content_text : {M : Type 0} → (M → List ℕ) → KeyHash → Content M → List ℕ
 content_text text k (content.Value m) = codes "value" then text m
 content_text text k content.Disposed = codes "disposed" then hex_text k.0
 
--- whose it is, and which change
+-- the reader's rank, and the writer, number and time of the change
 abbrev pub change_text : {M : Type 0} → ℕ → Sample M → List ℕ
 change_text rank s =
     codes "entry" then decimal rank then guid_text s.writer then decimal (value_of s.number)
     then time_text s.time
 
--- an entry of the reader of a rank, its value by its text
+-- the line of an entry of the reader of a rank, given the texts of values
 abbrev pub entry_line : {M : Type 0} → (M → List ℕ) → ℕ → Sample M → List ℕ
 entry_line text rank s =
     change_text rank s then states_text s.sample s.view s.instance
     then (content_text text s.key s.body ++ codes "\n")
 
--- what contracts see of what an entry is, with what its value means
+-- the view of the content of an entry
 abbrev pub content_view : {V M : Type 0} → (V → M) → Content V → Content M
 content_view f (content.Value v) = content.Value (f v)
 content_view f content.Disposed = content.Disposed
 
--- what contracts see of an entry as a call answers it, with what its value means
+-- the view of an entry as a call returns it
 abbrev pub sample_view : {V M : Type 0} → (V → M) → Sample V → Sample M
 sample_view f s = record {
   place = s.place;

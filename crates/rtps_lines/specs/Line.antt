@@ -8,7 +8,7 @@ use Rattle.rtps_types.specs.NumberSet.{members}
 use Rattle.rtps_types.specs.NumberText.{place_text}
 use Rattle.rtps_wire.specs.declared.data.Form.{Form}
 use Rattle.rtps_wire.specs.declared.data.Form.TheVariants.{Value, Key, Other, Nothing}
-use Rattle.rtps_receiver.specs.EventBody.{HeartbeatView, HeartbeatFragView, EventBody, WholeView, FragmentView, GapView, Whole, Fragment, Heartbeat, Gap, HeartbeatFrag}
+use Rattle.rtps_receiver.specs.EventBody.{HeartbeatView, HeartbeatFragView, EventBodyView, WholeView, FragmentView, GapView, Whole, Fragment, Heartbeat, Gap, HeartbeatFrag}
 use Rattle.rtps_receiver.specs.Events.{EventView}
 use Rattle.rtps_ascii.specs.Hex.{hex_text}
 
@@ -55,7 +55,7 @@ numbers_text (n ∷ ns) = decimal n ++ more_text ns
 abbrev pub whole_text : WholeView → List ℕ
 whole_text c = codes "data" then decimal c.number then hex_text (c.info.status ∷ []) then form_word c.info.form then hex_text c.payload then hash_text c.info.hash
 
--- which fragments they are, and their payload
+-- the fragment numbers and sizes, and the payload of the fragments
 abbrev pub pieces_text : FragmentView → List ℕ
 pieces_text f = decimal f.start then decimal f.count then decimal f.size then decimal f.sample then hex_text f.payload then hash_text f.info.hash
 
@@ -75,15 +75,15 @@ gap_text g = codes "gap" then decimal g.start then decimal g.list.base then numb
 abbrev pub heartbeat_frag_text : HeartbeatFragView → List ℕ
 heartbeat_frag_text h = codes "heartbeat-frag" then decimal h.number then decimal h.last then signed_decimal h.count
 
--- what an event brings, by its kind
-abbrev pub body_text : EventBody → List ℕ
+-- the text of an event's body, by its kind
+abbrev pub body_text : EventBodyView → List ℕ
 body_text (Whole c) = whole_text c
 body_text (Fragment f) = fragment_text f
 body_text (Heartbeat h) = heartbeat_text h
 body_text (Gap g) = gap_text g
 body_text (HeartbeatFrag h) = heartbeat_frag_text h
 
--- what stands before the body
+-- the part of a line before the body
 abbrev pub context_text : EventView → List ℕ
 context_text h = place_text h.place then hex_text h.source.0 then time_text h.time then hex_text h.writer.0 then hex_text h.reader.0
 

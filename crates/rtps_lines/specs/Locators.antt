@@ -1,4 +1,4 @@
--- Where an answer goes, as text (DDSI-RTPS 9.3.2).
+-- The text of locators (DDSI-RTPS 9.3.2).
 use Rattle.std.specs.Prelude.{ℕ, List, [], ◌∷◌, ◌++◌, slice_index, codes}
 use Rattle.std.specs.Fmt.{decimal}
 use Rattle.rtps_types.specs.declared.locator.Locator.{Locator}

@@ -1,4 +1,4 @@
--- What a change is presented as, as text (DDS 1.4, 2.2.2.5.1.3).
+-- The text of a presented change (DDS 1.4, 2.2.2.5.1.3).
 use Rattle.std.specs.Prelude.{ℕ, List, codes}
 use Rattle.std.specs.Fmt.{decimal}
 use Rattle.dds_topic.specs.Answer.{code_of}
@@ -7,8 +7,8 @@ use Rattle.rtps_reader.specs.declared.body.Body.TheVariants as body
 use Rattle.rtps_ascii.specs.Hex.{hex_text}
 use Rattle.rtps_lines.specs.Line.{◌then◌}
 
--- what a change is presented as (DDS 1.4, 2.2.2.5.1.3): a value, the end of an instance by the hash
--- of its key, or why it is unread
+-- the body of a presented change (DDS 1.4, 2.2.2.5.1.3): a value, the end of an instance with the
+-- hash of its key, or why the payload is unread
 abbrev pub sample_text : {M : Type 0} → (M → List ℕ) → Body M → List ℕ
 sample_text text (body.Value h m) = codes "value" then text m
 sample_text text (body.Disposed h) = codes "disposed" then hex_text h.0

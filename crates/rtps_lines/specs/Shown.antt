@@ -1,4 +1,4 @@
--- A place, a guid, a time and a locator in a line are what is displayed of them.
+-- The text of a place, a guid, a time and a locator in a line is the text that `Display` shows.
 use Rattle.std.specs.Prelude.{◌≡◌, ℕ, ◌++◌, length, Some, codes}
 use Rattle.std.specs.Fmt.{decimal}
 use Rattle.std.specs.Net.Text.{ipv4_text}
@@ -12,7 +12,7 @@ use Rattle.rtps_lines.specs.Line.{time_text}
 use Rattle.rtps_lines.specs.Guid.{guid_text}
 use Rattle.rtps_lines.specs.Locators.{locator_text}
 
--- a guid of twelve octets and four, a moment, and a locator; a place has one definition
+-- this for guids of twelve octets and four, times and locators; a place has only one definition
 pub record LinesShow : Type 0 where
   pub guid : (g : Guid) → length g.prefix.0 ≡ 12 → length g.entity.0 ≡ 4
       → guid_text g ≡ encode_lower (guid_octets g)

@@ -17,8 +17,8 @@ abbrev pub policy_text : Option PolicyId → List ℕ
 policy_text None = codes "-"
 policy_text (Some policy) = decimal (policy_id policy)
 
--- how many matches there were and are, and how many writers offer too little, with the policy that
--- was reported last
+-- the counts of matches so far, of present matches and of refused writers, and the policy that was
+-- reported last
 abbrev pub matches_text : Status → List ℕ
 matches_text s = decimal s.matched_total then decimal s.matched_now then decimal s.incompatible_total then policy_text s.last_policy
 

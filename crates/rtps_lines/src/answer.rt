@@ -10,8 +10,8 @@ use rtps_ascii::{push_hex, push_octet, push_word};
 use rtps_types::{Locator, Place};
 use std::alloc::{AllocError, Allocator};
 
-/// Adds the line of an answer, with its end: the place of the event that it answers, where it goes
-/// and its octets.
+/// Appends the line of an answer, with a newline: the place of the event that it answers, the
+/// locators that it is sent to, and its octets.
 pub fn push_answer<A: Allocator>(
     out: &mut Vec<u8, A>,
     place: Place,

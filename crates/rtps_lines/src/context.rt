@@ -1,4 +1,4 @@
-//! What comes before an event's body: its place and its context.
+//! The part of a line before an event's body: its place and its context.
 
 ghost use Rattle.std.specs.Prelude.{◌≡◌, ◌++◌, OnOk, length};
 ghost use Rattle.std.specs.Io.{StartsWith};
@@ -13,7 +13,7 @@ use rtps_receiver::Event;
 use rtps_types::{Place, Timestamp};
 use std::alloc::{AllocError, Allocator};
 
-/// Adds a place, as datagram and submessage with a colon between.
+/// Appends a place, as datagram and submessage with a colon between.
 pub(crate) fn push_place<A: Allocator>(out: &mut Vec<u8, A>, place: Place) -> Result<(), AllocError>
     ensures ok { OnOk result (out.new.items ≡ out.old.items ++ place_text place) }
     ensures keeps { StartsWith out.new.items out.old.items }
@@ -23,7 +23,7 @@ pub(crate) fn push_place<A: Allocator>(out: &mut Vec<u8, A>, place: Place) -> Re
     push_number(out, u64::from(place.submessage))
 }
 
-/// Adds a time in hex, seconds and fraction with a dot between, or a dash for none.
+/// Appends a time in hex, seconds and fraction with a dot between, or a dash for none.
 pub(crate) fn push_time<A: Allocator>(
     out: &mut Vec<u8, A>,
     time: Option<Timestamp>,
@@ -53,7 +53,7 @@ fn write_hex(number: u32, digits: &mut [u8])
     }
 }
 
-/// Adds an event's place, source, time, writer and reader.
+/// Appends an event's place, source, time, writer and reader.
 pub(crate) fn push_context<A: Allocator>(
     out: &mut Vec<u8, A>,
     event: &Event<'_>,

@@ -13,8 +13,8 @@ use rtps_ascii::{push_number, push_octet, push_word};
 use rtps_types::KeyHash;
 use std::alloc::{AllocError, Allocator};
 
-/// Adds the line of an entry of the reader of this rank, with its end. `last` keeps what the line
-/// before it said.
+/// Appends the line of an entry of the reader of this rank, with a newline. `last` caches the texts
+/// of the line before it.
 pub fn push_entry<C: TextCatalog, A: Allocator, B: Allocator + Copy>(
     out: &mut Vec<u8, A>,
     last: &mut LastLine<B>,
@@ -34,7 +34,7 @@ pub fn push_entry<C: TextCatalog, A: Allocator, B: Allocator + Copy>(
     push_octet(out, b'\n')
 }
 
-/// Adds which reader it is an entry of, and which change.
+/// Appends the reader's rank, and the writer, number and time of the change.
 fn push_change<V, A: Allocator, B: Allocator + Copy>(
     out: &mut Vec<u8, A>,
     last: &mut LastLine<B>,
@@ -80,7 +80,7 @@ fn instance_word(instance: InstanceState) -> &'static str
     }
 }
 
-/// Adds the three states that an entry is answered with.
+/// Appends the three states that an entry is returned with.
 fn push_states<A: Allocator>(
     out: &mut Vec<u8, A>,
     sample: SampleState,
@@ -97,7 +97,7 @@ fn push_states<A: Allocator>(
     push_word(out, instance_word(instance))
 }
 
-/// Adds what an entry of the instance with this key is.
+/// Appends the content of an entry of the instance with this key.
 fn push_content<C: TextCatalog, A: Allocator>(
     out: &mut Vec<u8, A>,
     catalog: &C,

@@ -9,8 +9,8 @@ use rtps_receiver::Events;
 use rtps_types::GuidPrefix;
 use std::alloc::{AllocError, Allocator};
 
-/// Adds a line for each event of the datagram with this index, as the participant of this prefix
-/// sees it.
+/// Appends a line for each event of a datagram. `index` is the number of the datagram in the run,
+/// and `own` the prefix of the participant that receives it.
 pub fn push_events<A: Allocator>(
     out: &mut Vec<u8, A>,
     own: GuidPrefix,

@@ -1,5 +1,5 @@
-//! What the last line said of its place, its writer and its change: most lines in a row say the
-//! same.
+//! A cache of the texts of the last line's place, writer and change, since consecutive lines often
+//! have the same ones.
 
 ghost use Rattle.std.specs.Prelude.{◌≡◌, ◌++◌, OnOk};
 ghost use Rattle.std.specs.Io.{StartsWith};
@@ -16,14 +16,14 @@ use rtps_ascii::{push_number, push_octet};
 use rtps_types::{Guid, Number, Place, Timestamp};
 use std::alloc::{AllocError, Allocator, Global};
 
-/// A place, a writer and a change, each with its text, so that it need not be formatted again.
+/// The last place, writer and change, each with its text, so that it need not be formatted again.
 #[derive(Drop)]
 pub struct LastLine<A: Allocator = Global> {
     place: Option<Place>,
     place_octets: Vec<u8, A>,
     writer: Option<Guid>,
     writer_octets: Vec<u8, A>,
-    /// A change's number and time.
+    /// The number and the time of a change.
     change: Option<(Number, Option<Timestamp>)>,
     change_octets: Vec<u8, A>,
     ghost place_right: { ForSome place (λ p. place_octets.items ≡ place_text p) },
@@ -33,7 +33,7 @@ pub struct LastLine<A: Allocator = Global> {
 }
 
 impl<A: Allocator + Copy> LastLine<A> {
-    /// No line yet. No memory is taken.
+    /// Returns an empty cache. No memory is taken.
     pub fn none(alloc: A) -> LastLine<A> {
         LastLine {
             place: None,
@@ -45,7 +45,7 @@ impl<A: Allocator + Copy> LastLine<A> {
         }
     }
 
-    /// Adds a place.
+    /// Appends a place.
     pub(crate) fn push_place<B: Allocator>(
         &mut self,
         out: &mut Vec<u8, B>,
@@ -63,7 +63,7 @@ impl<A: Allocator + Copy> LastLine<A> {
         out.extend_from_slice(self.place_octets.as_slice())
     }
 
-    /// Adds a writer.
+    /// Appends a writer.
     pub(crate) fn push_writer<B: Allocator>(
         &mut self,
         out: &mut Vec<u8, B>,
@@ -81,7 +81,7 @@ impl<A: Allocator + Copy> LastLine<A> {
         out.extend_from_slice(self.writer_octets.as_slice())
     }
 
-    /// Adds the number and the time of a change.
+    /// Appends the number and the time of a change.
     pub(crate) fn push_change<B: Allocator>(
         &mut self,
         out: &mut Vec<u8, B>,
@@ -102,7 +102,7 @@ impl<A: Allocator + Copy> LastLine<A> {
     }
 }
 
-/// Adds a number and a time.
+/// Appends a number and a time.
 fn push_dated<A: Allocator>(
     out: &mut Vec<u8, A>,
     number: Number,

@@ -1,9 +1,9 @@
-//! Laws of the definitions. Each is a function that does nothing, whose contract is the law.
+//! Laws of the definitions. Each is an empty function whose contract is the law.
 
 ghost use Rattle.rtps_lines.specs.Shown.{LinesShow};
 
-/// What a line has of a guid, of a time and of a locator is what `Display` shows of them, octet for
-/// octet, as `rtps_types` says it. Of a place both stand on one definition.
+/// The text of a guid, a time and a locator in a line is the text that `Display` of `rtps_types`
+/// shows, octet for octet. For a place, both use one definition.
 pub fn lines_show_as_displayed()
     ensures { LinesShow }
 {}

@@ -1,10 +1,10 @@
-//! The lines that are printed of events, of what readers report and answer, and of what caches hold.
+//! The text lines of events, of the notices and answers of readers, and of the entries of caches.
 #![tactic(auto)]
 
 mod answer;
-mod body;
 mod context;
 mod entry;
+mod event_body;
 mod event_lines;
 mod guid;
 mod last_line;

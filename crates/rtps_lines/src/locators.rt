@@ -1,4 +1,4 @@
-//! Addresses, alone and in a row.
+//! Locators, and lists of them.
 
 ghost use Rattle.std.specs.Prelude.{◌≡◌, ◌++◌, OnOk};
 ghost use Rattle.std.specs.Io.{StartsWith};
@@ -8,7 +8,7 @@ use rtps_ascii::{push_number, push_octet};
 use rtps_types::Locator;
 use std::alloc::{AllocError, Allocator};
 
-/// Adds locators, joined by commas; a dash where there are none.
+/// Appends locators, joined by commas; a dash where there are none.
 pub(crate) fn push_locators<A: Allocator>(
     out: &mut Vec<u8, A>,
     locators: &[Locator],
@@ -23,7 +23,7 @@ pub(crate) fn push_locators<A: Allocator>(
     push_more(out, rest)
 }
 
-/// Adds locators after others, each after a comma.
+/// Appends locators after others, each after a comma.
 fn push_more<A: Allocator>(out: &mut Vec<u8, A>, locators: &[Locator]) -> Result<(), AllocError>
     ensures ok { OnOk result (out.new.items ≡ out.old.items ++ more_locators locators.now) }
     ensures keeps { StartsWith out.new.items out.old.items }
@@ -35,7 +35,7 @@ fn push_more<A: Allocator>(out: &mut Vec<u8, A>, locators: &[Locator]) -> Result
     Ok(())
 }
 
-/// Adds an address and its port, with a colon between.
+/// Appends an address and its port, with a colon between.
 fn push_locator<A: Allocator>(out: &mut Vec<u8, A>, locator: &Locator) -> Result<(), AllocError>
     ensures ok { OnOk result (out.new.items ≡ out.old.items ++ locator_text locator.now) }
     ensures keeps { StartsWith out.new.items out.old.items }
@@ -45,7 +45,7 @@ fn push_locator<A: Allocator>(out: &mut Vec<u8, A>, locator: &Locator) -> Result
     push_number(out, u64::from(locator.port))
 }
 
-/// Adds the octets of an address with dots between.
+/// Appends the octets of an address with dots between.
 fn push_address<A: Allocator>(out: &mut Vec<u8, A>, address: [u8; 4]) -> Result<(), AllocError>
     ensures ok { OnOk result (out.new.items ≡ out.old.items ++ address_text address) }
     ensures keeps { StartsWith out.new.items out.old.items }

@@ -1,9 +1,9 @@
-//! The line of what a reader reports.
+//! The line of a notice.
 
 ghost use Rattle.std.specs.Prelude.{◌≡◌, ◌++◌, OnOk};
 ghost use Rattle.std.specs.Io.{StartsWith};
 ghost use Rattle.std.specs.Fmt.{decimal};
-ghost use Rattle.rtps_reader.specs.Notices.{kind_view, notice_view};
+ghost use Rattle.rtps_reader.specs.Notice.{kind_view, notice_view};
 ghost use Rattle.rtps_lines.specs.Line.{◌then◌};
 ghost use Rattle.rtps_lines.specs.Guid.{guid_text};
 ghost use Rattle.rtps_lines.specs.Notice.{heard_line, notice_text};
@@ -16,8 +16,8 @@ use rtps_reader::{Notice, NoticeKind};
 use rtps_types::Guid;
 use std::alloc::{AllocError, Allocator};
 
-/// Adds the line of a notice of the reader of this rank, with its end. `last` keeps what the line
-/// before it began with.
+/// Appends the line of a notice of the reader of this rank, with a newline. `last` caches the texts
+/// of the line before it.
 pub fn push_notice<C: TextCatalog, A: Allocator, B: Allocator + Copy>(
     out: &mut Vec<u8, A>,
     last: &mut LastLine<B>,
@@ -37,7 +37,7 @@ pub fn push_notice<C: TextCatalog, A: Allocator, B: Allocator + Copy>(
     push_octet(out, b'\n')
 }
 
-/// Adds what is reported of a writer.
+/// Appends the kind of a notice, with its writer and values.
 fn push_kind<C: TextCatalog, A: Allocator, B: Allocator + Copy>(
     out: &mut Vec<u8, A>,
     last: &mut LastLine<B>,
@@ -66,7 +66,7 @@ fn push_kind<C: TextCatalog, A: Allocator, B: Allocator + Copy>(
     }
 }
 
-/// Adds a word and the writer that it is about.
+/// Appends a word and a writer.
 fn push_about<A: Allocator, B: Allocator + Copy>(
     out: &mut Vec<u8, A>,
     last: &mut LastLine<B>,
@@ -81,7 +81,7 @@ fn push_about<A: Allocator, B: Allocator + Copy>(
     last.push_writer(out, writer)
 }
 
-/// Adds a word, the writer that it is about, and a number.
+/// Appends a word, a writer and a number.
 fn push_counted<A: Allocator, B: Allocator + Copy>(
     out: &mut Vec<u8, A>,
     last: &mut LastLine<B>,

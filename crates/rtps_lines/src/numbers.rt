@@ -1,4 +1,4 @@
-//! Numbers in a row.
+//! Lists of numbers.
 
 ghost use Rattle.std.specs.Prelude.{◌≡◌, ◌++◌, OnOk};
 ghost use Rattle.std.specs.Io.{StartsWith};
@@ -10,7 +10,7 @@ use rtps_ascii::{push_number, push_octet};
 use rtps_types::SnSet;
 use std::alloc::{AllocError, Allocator};
 
-/// Adds the members of a set, joined by commas; a dash where there are none.
+/// Appends the members of a set, joined by commas; a dash where there are none.
 pub(crate) fn push_members<A: Allocator>(
     out: &mut Vec<u8, A>,
     set: &SnSet,

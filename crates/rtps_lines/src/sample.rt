@@ -1,4 +1,4 @@
-//! What a change is presented as, as text.
+//! The text of a presented change.
 
 ghost use Rattle.std.specs.Prelude.{◌≡◌, ◌++◌, OnOk, codes};
 ghost use Rattle.std.specs.Io.{StartsWith};
@@ -15,7 +15,7 @@ use rtps_reader::Body;
 use rtps_types::KeyHash;
 use std::alloc::{AllocError, Allocator};
 
-/// Adds what a change is presented as.
+/// Appends the body of a presented change.
 pub(crate) fn push_presented<C: TextCatalog, A: Allocator>(
     out: &mut Vec<u8, A>,
     catalog: &C,
@@ -46,7 +46,7 @@ pub(crate) fn push_value<C: TextCatalog, A: Allocator>(
     catalog.push_text(out, value)
 }
 
-/// Adds how an instance ended, and the hash of its key.
+/// Appends a word for the end of an instance, and the hash of its key.
 pub(crate) fn push_ended<A: Allocator>(
     out: &mut Vec<u8, A>,
     word: &str,

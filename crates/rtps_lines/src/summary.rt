@@ -10,7 +10,7 @@ use rtps_reader::Status;
 use rtps_types::{Guid, PolicyId};
 use std::alloc::{AllocError, Allocator};
 
-/// Adds the line of a match between the reader of this rank and a writer, with its end.
+/// Appends the line of a match between the reader of this rank and a writer, with a newline.
 pub fn push_match<A: Allocator>(
     out: &mut Vec<u8, A>,
     rank: u32,
@@ -26,7 +26,7 @@ pub fn push_match<A: Allocator>(
     push_octet(out, b'\n')
 }
 
-/// Adds the line of the status of the reader of this rank, with its end.
+/// Appends the line of the status of the reader of this rank, with a newline.
 pub fn push_status<A: Allocator>(
     out: &mut Vec<u8, A>,
     rank: u32,
@@ -46,7 +46,8 @@ pub fn push_status<A: Allocator>(
     push_octet(out, b'\n')
 }
 
-/// Adds the totals and the number of matches, and the policy that was reported last.
+/// Appends the counts of matches so far, of present matches and of refused writers, and the policy
+/// that was reported last.
 fn push_matches<A: Allocator>(out: &mut Vec<u8, A>, status: &Status) -> Result<(), AllocError>
     ensures ok { OnOk result (out.new.items ≡ out.old.items ++ matches_text status.now) }
     ensures keeps { StartsWith out.new.items out.old.items }
@@ -60,7 +61,7 @@ fn push_matches<A: Allocator>(out: &mut Vec<u8, A>, status: &Status) -> Result<(
     push_policy(out, status.last_policy)
 }
 
-/// Adds a policy by its id, or a dash for none.
+/// Appends a policy by its id, or a dash for none.
 fn push_policy<A: Allocator>(
     out: &mut Vec<u8, A>,
     policy: Option<PolicyId>,

@@ -1,4 +1,4 @@
-//! The lines of a run against lines that were written down by hand.
+//! Tests of lines against lines written by hand.
 
 use crate::{LastLine, push_answer, push_match, push_notice, push_status};
 use dds_topic::{Raw, RawValue};
@@ -27,7 +27,7 @@ const THERE: Locator = Locator {
     address: [10, 20, 30, 255],
 };
 
-/// The line of what the reader of rank 3 reports.
+/// Returns the line of a notice of the reader of rank 3.
 fn heard(alloc: Global, what: NoticeKind<RawValue>) -> Result<Vec<u8>, Fail> {
     let notice = Notice {
         place: PLACE,
@@ -70,7 +70,7 @@ fn prints_what_is_reported_of_matches(rt: HostRuntime) -> Result<(), Fail> {
     Ok(())
 }
 
-/// The lines of matches at these places, each with what is kept of the one before.
+/// Returns the lines of matches at these places, each with the cached texts of the line before it.
 fn matched(alloc: Global, matches: [(Place, Guid); 3]) -> Result<Vec<u8>, AllocError> {
     let mut last = LastLine::none(alloc);
     let mut out = Vec::new(alloc);

@@ -2,9 +2,8 @@
 
 ghost use Rattle.std.specs.Prelude.{◌≡◌, ◌≤◌, IfErr, IfOk};
 ghost use Rattle.rtps_text.specs.Listened.{limits_of, live_run};
-ghost use Rattle.rtps_listen.specs.Configs.{Refuses};
+ghost use Rattle.rtps_listen.specs.Configs.{Refuses, IsCause};
 ghost use Rattle.rtps_listen.specs.Domain.{IsLiveCause, IsLiveTaskOf, ListensBy, PrintsLive};
-ghost use Rattle.rtps_listen.specs.Configs.{IsCause};
 
 use crate::fault::ListenFault;
 use crate::live_task::LiveTask;

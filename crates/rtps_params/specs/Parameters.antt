@@ -1,4 +1,4 @@
--- The grammar of a parameter list, on whole lists of octets (DDSI-RTPS 9.4.2.11).
+-- The grammar of a parameter list, for all of its octets (DDSI-RTPS 9.4.2.11).
 use Rattle.std.specs.Prelude.{◌≡◌, ◌≢◌, ℕ, ◌<◌, ◌%◌, List, [], ◌∷◌, ◌++◌, length, Result, Ok, Err, ◌⊎◌}
 use Rattle.rtps_types.specs.declared.field.Endian.{Endian}
 use Rattle.rtps_types.specs.Field.{number}
@@ -6,7 +6,7 @@ use Rattle.rtps_params.specs.declared.front.ParamFault.{ParamFault}
 use Rattle.rtps_params.specs.declared.front.ParamFault.TheVariants.{Short, NoEnd, OddLength}
 use Rattle.rtps_params.specs.Reading.{Parameter, Contents, answer}
 
--- two octets of an id, two of a length, and what follows
+-- octets begin with two octets of an id and two of a length
 pub record HasHead (e : Endian) (id len : ℕ) (octets more : List ℕ) : Type 0 where
   pub first : ℕ
   pub second : ℕ
@@ -16,18 +16,19 @@ pub record HasHead (e : Endian) (id len : ℕ) (octets more : List ℕ) : Type 0
   pub spells_id : number e 2 (first ∷ second ∷ []) ≡ id
   pub spells_length : number e 2 (third ∷ fourth ∷ []) ≡ len
 
--- a parameter comes before a rest: its value is as long as its length says, a multiple of four
+-- octets begin with a parameter, whose length is that of its value and a multiple of four; then
+-- comes a rest
 pub record IsParameter (e : Endian) (p : Parameter) (octets rest : List ℕ) : Type 0 where
   pub head : HasHead e p.id (length p.value) octets (p.value ++ rest)
   pub no_end : p.id ≢ 1
   pub whole_words : length p.value % 4 ≡ 0
 
--- the end of the list comes before a rest; its length says nothing
+-- octets begin with the end of the list, whose length is ignored; then comes a rest
 pub record IsEnd (e : Endian) (octets rest : List ℕ) : Type 0 where
   pub len : ℕ
   pub head : HasHead e 1 len octets rest
 
--- a value passes the end
+-- a length is greater than the number of octets left
 pub record IsCut (e : Endian) (octets : List ℕ) : Type 0 where
   pub id : ℕ
   pub len : ℕ
@@ -46,19 +47,20 @@ pub record IsOdd (e : Endian) (octets : List ℕ) : Type 0 where
   pub no_end : id ≢ 1
   pub odd : len % 4 ≢ 0
 
--- neither a parameter nor an end is there, for this reason
+-- octets begin with neither a parameter nor an end, for this reason
 abbrev pub Fails : Endian → List ℕ → ParamFault → Type 0
 Fails e octets NoEnd = octets ≡ []
 Fails e octets Short = ((0 < length octets) × (length octets < 4)) ⊎ IsCut e octets
 Fails e octets OddLength = IsOdd e octets
 
--- parameters, each before all that follows it, padding too; then the end before a rest, or a fault
+-- octets begin with these parameters, in order, with padding; then comes the end and a rest, or a
+-- fault
 abbrev pub IsList : Endian → List ℕ → List Parameter → Result (List ℕ) ParamFault → Type 0
 IsList e octets [] (Ok rest) = IsEnd e octets rest
 IsList e octets [] (Err fault) = Fails e octets fault
 IsList e octets (p ∷ ps) outcome = (rest : List ℕ) × IsParameter e p octets rest × IsList e rest ps outcome
 
--- an answer is what the grammar says of some octets
+-- a result is the one that the grammar gives for some octets
 pub record IsFound (e : Endian) (octets : List ℕ) (answered : Result Contents ParamFault) : Type 0 where
   pub parameters : List Parameter
   pub outcome : Result (List ℕ) ParamFault

@@ -1,4 +1,4 @@
-//! One parameter at a time.
+//! Reading one parameter at a time.
 
 ghost use Rattle.std.specs.Prelude.{◌≡◌};
 ghost use Rattle.rtps_params.specs.Reading.{LeavesLess, front_of, seen};
@@ -11,33 +11,34 @@ use rtps_types::{Endian, get_u16};
 pub struct Param<'a> {
     /// One of [`ids`](crate::ids), or any other.
     pub id: u16,
-    /// As many octets as its length says, a multiple of four: the value, and what fills it up.
+    /// The value and what pads it to its length, which is a multiple of four.
     pub value: &'a [u8],
 }
 
 /// Why octets are no parameter list: the first fault from left to right.
 #[derive(Clone, Copy, Debug, PartialEq, Eq)]
 pub enum ParamFault {
-    /// The octets end within a parameter: one to three are left, or a value passes the end.
+    /// The octets end within a parameter: one to three are left, or a length is greater than what
+    /// is left.
     Short,
-    /// No octet is left where a parameter or the end of the list should be.
+    /// No octets are left, and the list has not ended.
     NoEnd,
     /// A length is no multiple of four.
     OddLength,
 }
 
-/// What octets begin with, and the octets after it.
+/// The result of reading one parameter, with the octets after it.
 #[derive(Clone, Copy, Debug)]
 pub enum Front<'a> {
     /// A parameter; padding is one with the id 0.
     Param(Param<'a>, &'a [u8]),
     /// The end of the list.
     End(&'a [u8]),
-    /// Neither is there.
+    /// The octets begin with neither.
     Fault(ParamFault),
 }
 
-/// Reads what octets begin with, by the byte order of their list: for whoever takes a list one
+/// Reads the first parameter of a list, by the list's byte order. For callers that read a list one
 /// parameter at a time. No memory is taken.
 #[tactic(auto, unfolding(crate::specs::Reading::front_of))]
 pub fn read_front(octets: &[u8], endian: Endian) -> Front<'_>

@@ -3,7 +3,7 @@
 /// `PID_PAD`: padding, which is skipped.
 pub const PAD: u16 = 0x0000;
 
-/// `PID_SENTINEL`: the end of the list; its length says nothing.
+/// `PID_SENTINEL`: the end of the list; its length is ignored.
 pub const SENTINEL: u16 = 0x0001;
 
 /// `PID_PARTICIPANT_LEASE_DURATION`.
@@ -60,8 +60,8 @@ pub const BUILTIN_ENDPOINT_SET: u16 = 0x0058;
 /// `PID_ENDPOINT_GUID`.
 pub const ENDPOINT_GUID: u16 = 0x005a;
 
-/// `PID_KEY_HASH`: the key of the change's instance.
+/// `PID_KEY_HASH`: the key hash of the change's instance.
 pub const KEY_HASH: u16 = 0x0070;
 
-/// `PID_STATUS_INFO`: what became of the change's instance.
+/// `PID_STATUS_INFO`: the state of the change's instance.
 pub const STATUS_INFO: u16 = 0x0071;

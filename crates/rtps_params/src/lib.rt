@@ -1,7 +1,7 @@
-//! Parameter lists: what inline QoS and discovery records are made of (DDSI-RTPS 9.4.2.11).
+//! Parameter lists, which inline QoS and discovery data consist of (DDSI-RTPS 9.4.2.11).
 //!
-//! A parameter is an id, a length and as many octets of value. The id 1 ends the list, the id 0
-//! is padding. Values stay where the list lies, and nothing here takes memory.
+//! A parameter is an id, a length, and a value of that length in octets. The id 1 ends the list,
+//! and the id 0 is padding. Values are borrowed from the list's octets, and no memory is taken.
 #![tactic(auto)]
 
 mod front;

@@ -1,4 +1,4 @@
-//! A whole list, in the slice that begins with it.
+//! Complete parameter lists.
 
 ghost use Rattle.std.specs.Prelude.{◌≡◌, ℕ, List, Result};
 ghost use Rattle.std.specs.Iterator.{YieldsFirstBy, item_count};
@@ -29,12 +29,11 @@ impl<'a> Model for ParamList<'a> {
 }
 
 impl<'a> ParamList<'a> {
-    /// Checks the whole list, up to its end; octets may follow. `endian` is the order of its ids
-    /// and lengths. The refusal is the first fault that is met from left to right. No memory is
-    /// taken.
+    /// Checks a complete list, up to its end; octets may follow it. `endian` is the byte order of
+    /// ids and lengths. The error is the first fault from left to right. No memory is taken.
     #[tactic(auto, using(crate::proofs::Steps::leads_on, crate::proofs::Steps::leads_end, crate::proofs::Steps::leads_fault, crate::proofs::Steps::front_shortens))]
     pub fn new(octets: &'a [u8], endian: Endian) -> Result<ParamList<'a>, ParamFault>
-        // The answer is what the grammar says of these octets, and the grammar says nothing else.
+        // By the grammar, this is the one result for these octets.
         ensures found { IsFound endian octets.now result }
         ensures only { (parameters : List Parameter) (outcome : Result (List ℕ) ParamFault) →
             IsList endian octets.now parameters outcome →
@@ -58,21 +57,21 @@ impl<'a> ParamList<'a> {
         }
     }
 
-    /// The byte order of the list's numbers, and of the numbers in its values.
+    /// Returns the byte order of the ids and lengths, and of the numbers in values.
     pub fn endian(&self) -> Endian
         ensures { result ≡ self.now.endian }
     {
         self.endian
     }
 
-    /// How many octets the list takes, its end included.
+    /// Returns the number of octets of the list, with its end.
     pub fn used(&self) -> usize
         ensures { result ≡ self.now.used }
     {
         self.used
     }
 
-    /// The parameters in order, without padding.
+    /// Returns the parameters in order, without padding.
     pub fn iter(&self) -> Params<'a>
         ensures { result ≡ self.now.parameters }
     {
@@ -83,7 +82,7 @@ impl<'a> ParamList<'a> {
     }
 }
 
-/// The parameters of a list, one after the other, as slices of its octets.
+/// An iterator over the parameters of a list, whose values are borrowed from its octets.
 #[derive(Drop)]
 pub struct Params<'a> {
     rest: &'a [u8],

@@ -1,4 +1,4 @@
-//! Lists against octets that were written down by hand.
+//! Parameter lists, with octets written by hand.
 
 use crate::*;
 use rtps_types::Endian;
@@ -34,12 +34,12 @@ fn a_list_and_what_stands_behind_it(rt: HostRuntime) -> Result<(), Fail> {
 
 #[test]
 fn the_end_in_the_last_octets(rt: HostRuntime) -> Result<(), Fail> {
-    // Big-endian; the length of the end says nothing.
+    // Big-endian; the length of the end is ignored.
     let list = ParamList::new(&[0x00, 0x01, 0xff, 0xff], Endian::Big)?;
     assert_eq!(rt; list.used(), 4);
     assert_eq!(rt; list.endian(), Endian::Big);
     assert!(rt; list.iter().next().is_none());
-    // The same octets in little-endian are the id 0100 with a length of 65,535.
+    // In little-endian order the same octets are the id 0100 with a length of 65,535.
     assert_eq!(rt;
         ParamList::new(&[0x00, 0x01, 0xff, 0xff], Endian::Little).err(),
         Some(ParamFault::OddLength)
@@ -47,7 +47,7 @@ fn the_end_in_the_last_octets(rt: HostRuntime) -> Result<(), Fail> {
     Ok(())
 }
 
-/// Octets in little-endian order, and the fault that is met first.
+/// Octets in little-endian order, and their first fault.
 const FAULTY: [(&[u8], ParamFault); 9] = [
     (&[], ParamFault::NoEnd),
     (&[0x70], ParamFault::Short),
@@ -59,9 +59,9 @@ const FAULTY: [(&[u8], ParamFault); 9] = [
         &[0x70, 0, 3, 0, 1, 2, 3, 0, 1, 0, 0, 0],
         ParamFault::OddLength,
     ),
-    // An odd length that also passes the end is odd.
+    // An odd length is reported as such, even if it also passes the end.
     (&[0x70, 0, 9, 0, 1], ParamFault::OddLength),
-    // Padding is measured like any parameter.
+    // The length of padding is checked as for any parameter.
     (&[0, 0, 2, 0, 1, 2, 1, 0, 0, 0], ParamFault::OddLength),
 ];
 

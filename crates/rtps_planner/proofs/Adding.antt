@@ -7,13 +7,13 @@ use Rattle.std.proofs.lemmas.List.{map-append}
 use Rattle.std.proofs.lemmas.List.Elements.{All-contains, All-from_recursion, recursion_from_All}
 use Rattle.rtps_types.specs.declared.place.Place.{Place}
 use Rattle.rtps_receiver.specs.Events.{EventView}
-use Rattle.rtps_discovery.specs.Kept.{HeldView}
+use Rattle.rtps_discovery.specs.Kept.{RegistryView}
 use Rattle.rtps_discovery.specs.Known.{Known}
 use Rattle.dds_topic.specs.Decoding.{Decoding}
 use Rattle.rtps_proxy.specs.Replies.{ReplyView}
 use Rattle.rtps_reader.specs.declared.notice.Notice.{Notice}
 use Rattle.rtps_reader.specs.declared.notice.Output.{Output}
-use Rattle.rtps_reader.specs.Notices as reader
+use Rattle.rtps_reader.specs.Notice as reader
 use Rattle.rtps_reader.specs.Reader.{Reader, reader_run}
 use Rattle.rtps_run.specs.declared.outcome.Outcome.{Outcome}
 use Rattle.rtps_run.specs.Outcome.{Adds, answer_view, notices_in}
@@ -26,7 +26,7 @@ use Rattle.rtps_run.proofs.Places.{PlacesRise, all_append, all_map, all_weaker}
 use Rattle.rtps_run.proofs.Running.{count_stays}
 use Rattle.rtps_planner.specs.Commuting.{answers_at, merged, parts_of, same_place}
 use Rattle.rtps_planner.specs.Job.{Job, discovery_answer, discovery_answers, job_of, job_sent, job_told}
-use Rattle.rtps_planner.specs.Gather.{AreRising, IsGathered, IsOutputOf, StandAmong, is_among, parts_in, ranks_of, replies_by, said_in, times}
+use Rattle.rtps_planner.specs.Outputs.{AreRising, IsGathered, IsOutputOf, StandAmong, is_among, parts_in, ranks_of, replies_by, said_in, times}
 use Rattle.rtps_planner.specs.Plan.{IsPlan, job_at, job_seen, jobs_by}
 use Rattle.rtps_planner.specs.declared.jobs.Job as plan_job
 use Rattle.rtps_planner.specs.declared.jobs.Plan.{Plan}
@@ -137,7 +137,7 @@ along_same said xs ys n (p ∷ ps) same =
 
 -- ---- the outcome
 
-module _ {V M A : Type 0} (f : V → M) (decoding : Decoding M) (w : World M) (es : List EventView) (up : PlacesRise es) (plan : Plan A) (kept : HeldView) (outputs : List (ℕ × Output V A)) (outcome : Outcome V A)
+module _ {V M A : Type 0} (f : V → M) (decoding : Decoding M) (w : World M) (es : List EventView) (up : PlacesRise es) (plan : Plan A) (kept : RegistryView) (outputs : List (ℕ × Output V A)) (outcome : Outcome V A)
     (planned : IsPlan w.known es plan kept) (fine : IsRight plan.rest.ranks.items (ranks_of outputs)) (of : All (IsOutputOf f decoding w es) outputs) (has : IsGathered plan.rest outputs outcome) where
   abbrev count : ℕ
   count = reader_count w

@@ -11,7 +11,7 @@ use Rattle.dds_topic.specs.Decoding.{Decoding}
 use Rattle.rtps_proxy.specs.Replies.{ReplyView}
 use Rattle.rtps_reader.specs.declared.notice.Notice.{Notice}
 use Rattle.rtps_reader.specs.Reader.{Reader, placed, reader_after, reader_run, sends, tells}
-use Rattle.rtps_reader.specs.Steps.{StepView}
+use Rattle.rtps_reader.specs.Step.{StepView}
 use Rattle.rtps_run.specs.Run.{world_run}
 use Rattle.rtps_run.specs.Seen.{notices_by, reader_count}
 use Rattle.rtps_run.specs.World.{ReportView, NoticeOf, AnswerOf, World, discovery_puts, doings, puts_at, puts_below, puts_run, sent_by, world_after}

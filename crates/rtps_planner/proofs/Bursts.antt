@@ -14,7 +14,7 @@ use Rattle.rtps_proxy.proofs.Matching.{same_is}
 use Rattle.rtps_discovery.specs.Addressed.{is_discovery, writer_of}
 use Rattle.rtps_discovery.specs.Kept.{matched_ranks}
 use Rattle.rtps_discovery.specs.Known.{Known, Wish, reader_at}
-use Rattle.rtps_reader.specs.Steps.{asks_of}
+use Rattle.rtps_reader.specs.Step.{asks_of}
 use Rattle.rtps_run.specs.Steps.{ReaderStep, step_by}
 use Rattle.rtps_run.specs.World.{addressed_to, doings, known_after_event}
 use Rattle.rtps_run.proofs.Hearing.{other_known}

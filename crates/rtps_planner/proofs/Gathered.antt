@@ -17,7 +17,7 @@ use Rattle.rtps_types.specs.declared.traffic.Reply.{Reply}
 use Rattle.rtps_proxy.specs.Replies.{ReplyView}
 use Rattle.rtps_reader.specs.declared.notice.Notice.{Notice}
 use Rattle.rtps_reader.specs.declared.notice.Output.{Output}
-use Rattle.rtps_reader.specs.Notices as reader
+use Rattle.rtps_reader.specs.Notice as reader
 use Rattle.rtps_run.specs.declared.outcome.Answer.{Answer}
 use Rattle.rtps_run.specs.declared.outcome.Outcome.{Outcome}
 use Rattle.rtps_run.specs.declared.turn.ReportKind.TheVariants as kind
@@ -31,8 +31,8 @@ use Rattle.rtps_run.proofs.Dealt.{answers_in-append}
 use Rattle.rtps_run.proofs.OneOrder.{Rises, filter-map, filter_none, one_order, rises_map, rises_sorted, rises_then, stable_by}
 use Rattle.rtps_run.proofs.Places.{all_append, all_weaker}
 use Rattle.rtps_run.proofs.Turns.{alike_turns, discovery_first, discovery_turn, equal_turns, later_place, level, lower_first, same_rank, then_first, then_second, turn_at, turns_total}
-use Rattle.rtps_planner.specs.Commuting.{Parts, answers_at, is_of, merged, merged_below, notices_at, same_place}
-use Rattle.rtps_planner.specs.Gather.{AreRising, StandAmong, sent_in}
+use Rattle.rtps_planner.specs.Commuting.{PartsByRank, answers_at, is_of, merged, merged_below, notices_at, same_place}
+use Rattle.rtps_planner.specs.Outputs.{AreRising, StandAmong, sent_in}
 use Rattle.rtps_planner.proofs.Judged.{sent_past}
 use Rattle.rtps_planner.proofs.Merged.{not_later, same_self}
 
@@ -63,7 +63,7 @@ said_seen : (M : Type 0) (ss : List (Place × ReplyView)) → answers_in {M = M}
 said_seen M [] = refl
 said_seen M (s ∷ ss) = ap (λ l. answer_by None s ∷ l) (said_seen M ss)
 
-below_seen : {M : Type 0} (p : Place) (parts : Parts M) (n : ℕ) → answers_in (merged_below p parts n) ≡ below parts.answers parts.sent p n
+below_seen : {M : Type 0} (p : Place) (parts : PartsByRank M) (n : ℕ) → answers_in (merged_below p parts n) ≡ below parts.answers parts.sent p n
 below_seen p parts zero = refl
 below_seen {M} p parts (suc n) =
     let told : List (ReportView M) = map (NoticeOf n) (notices_at p (parts.told n)) in
@@ -73,7 +73,7 @@ below_seen {M} p parts (suc n) =
     (answers_in-append told sent ∙ ap (λ l. l ++ answers_in sent) (heard_unseen n (notices_at p (parts.told n))) ∙ sent_seen M n (answers_at p (parts.sent n)))
     ∙ ap (λ l. l ++ map (answer_by (Some n)) (answers_at p (parts.sent n))) (below_seen p parts n)
 
-pub merged_seen : {M : Type 0} (parts : Parts M) (n : ℕ) (places : List Place) → answers_in (merged parts n places) ≡ along parts.answers parts.sent n places
+pub merged_seen : {M : Type 0} (parts : PartsByRank M) (n : ℕ) (places : List Place) → answers_in (merged parts n places) ≡ along parts.answers parts.sent n places
 merged_seen parts n [] = refl
 merged_seen {M} parts n (p ∷ ps) =
     let said : List (ReportView M) = map (sent_by None) (answers_at p parts.answers) in

@@ -1,6 +1,6 @@
 -- What an outcome has that was made of outputs by rank.
 use Rattle.std.proofs.Common.{◌≡◌, ℕ, zero, suc, ◌<◌, ◌≤◌, ◌==◌, nat_lt, List, [], ◌∷◌, length, map, get_or, Bool, true, false, None, refl, sym, ap, ◌∙◌, subst, arith, true≢false, inl, inr}
-use Rattle.std.specs.List.{All, AllByRecursion, Contains}
+use Rattle.std.specs.List.{All, AllByRecursion, Contains, list_any}
 use Rattle.std.specs.declared.vec.Vec.{Vec}
 use Rattle.std.proofs.lemmas.Bool.{cases_lt, ne_eqb, or_from}
 use Rattle.std.proofs.lemmas.List.{get_or_default, length-map}
@@ -9,14 +9,13 @@ use Rattle.rtps_types.specs.declared.place.Place.{Place}
 use Rattle.rtps_proxy.specs.Replies.{ReplyView}
 use Rattle.rtps_reader.specs.declared.notice.Notice.{Notice}
 use Rattle.rtps_reader.specs.declared.notice.Output.{Output}
-use Rattle.rtps_reader.specs.Notices as reader
+use Rattle.rtps_reader.specs.Notice as reader
 use Rattle.rtps_run.specs.declared.outcome.Outcome.{Outcome}
 use Rattle.rtps_run.specs.Outcome.{IsOutcomeOf, answer_view}
 use Rattle.rtps_run.specs.Seen.{answers_in}
 use Rattle.rtps_planner.specs.declared.jobs.Rest.{Rest}
 use Rattle.rtps_planner.specs.Commuting.{merged, same_place}
-use Rattle.rtps_planner.specs.Gather.{AreRising, IsGathered, StandAmong, fault_of, is_among, outputs_with, parts_in, ranks_of, replies_by, said_in, sent_in, times}
-use Rattle.std.specs.List.{list_any}
+use Rattle.rtps_planner.specs.Outputs.{AreRising, IsGathered, StandAmong, fault_of, is_among, outputs_with, parts_in, ranks_of, replies_by, said_in, sent_in, times}
 use Rattle.rtps_planner.proofs.Adding.{along_same}
 use Rattle.rtps_planner.proofs.Gathered.{along, merged_seen, sorted_merged}
 use Rattle.rtps_planner.proofs.Judged.{IsRight, any_at, count_with, given_planned, moved_at, none_sent, one_sent, right, sent_at, sent_past, unplanned, untouched}

@@ -7,10 +7,10 @@ use Rattle.std.proofs.lemmas.List.{get_or-set_other, get_or-set_same, length-set
 use Rattle.rtps_types.specs.declared.place.Place.{Place}
 use Rattle.rtps_proxy.specs.Replies.{ReplyView}
 use Rattle.rtps_reader.specs.declared.notice.Output.{Output}
-use Rattle.rtps_reader.specs.Notices as reader
+use Rattle.rtps_reader.specs.Notice as reader
 use Rattle.rtps_planner.specs.declared.outputs.GatherFault.{GatherFault}
 use Rattle.rtps_planner.specs.declared.outputs.GatherFault.TheVariants as fault
-use Rattle.rtps_planner.specs.Gather.{IsJudged, fault_of, is_among, outputs_with, ranks_of, replies_by, sent_in, times}
+use Rattle.rtps_planner.specs.Outputs.{IsJudged, fault_of, is_among, outputs_with, ranks_of, replies_by, sent_in, times}
 
 -- ---- where nothing is wrong
 

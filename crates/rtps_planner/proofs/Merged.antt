@@ -15,7 +15,7 @@ use Rattle.dds_topic.specs.Decoding.{Decoding}
 use Rattle.rtps_proxy.specs.Replies.{ReplyView}
 use Rattle.rtps_reader.specs.declared.notice.Notice.{Notice}
 use Rattle.rtps_reader.specs.Reader.{Reader, placed, reader_after, reader_run, sends, tells}
-use Rattle.rtps_reader.specs.Steps.{Changes, StepView, asks_of}
+use Rattle.rtps_reader.specs.Step.{Changes, StepView, asks_of}
 use Rattle.rtps_run.specs.Presentation.{not_after}
 use Rattle.rtps_run.specs.Seen.{reader_count}
 use Rattle.rtps_run.specs.World.{ReportView, NoticeOf, World, addressed_to, changes_for, discovery_puts, doings, known_after_event, puts_at, puts_below, puts_run, sent_by, world_after}
@@ -24,7 +24,7 @@ use Rattle.rtps_run.proofs.Matched.{told_run}
 use Rattle.rtps_run.proofs.OneOrder.{filter_none}
 use Rattle.rtps_run.proofs.Places.{PlacesRise, all_append, all_weaker}
 use Rattle.rtps_run.proofs.Turns.{no_answer, sends_at, tells_at}
-use Rattle.rtps_planner.specs.Commuting.{IsByPlace, Parts, answers_at, merged, merged_below, notices_at, parts_of, same_place}
+use Rattle.rtps_planner.specs.Commuting.{IsByPlace, PartsByRank, answers_at, merged, merged_below, notices_at, parts_of, same_place}
 use Rattle.rtps_planner.specs.Job.{discovery_answer, discovery_answers, job_of, job_sent, job_told}
 use Rattle.rtps_planner.proofs.Alone.{sent_front, sent_run, told_front}
 
@@ -196,10 +196,10 @@ module _ {M : Type 0} (decoding : Decoding M) (k : Known) (readers : ℕ → Rea
   abbrev stepped : ℕ → Reader
   stepped rank = reader_run (readers rank) (doings k rank e)
 
-  abbrev all : Parts M
+  abbrev all : PartsByRank M
   all = parts_of decoding k readers (e ∷ es)
 
-  abbrev rest : Parts M
+  abbrev rest : PartsByRank M
   rest = parts_of decoding after stepped es
 
   told_all : (rank : ℕ) → all.told rank ≡ told_run decoding e.place (readers rank) (doings k rank e) ++ rest.told rank

@@ -22,7 +22,7 @@ use Rattle.rtps_discovery.specs.Kept.{matched_ranks}
 use Rattle.rtps_discovery.specs.Known.{Known, Wish, is_fixed, is_matched, reader_at, writer_at}
 use Rattle.rtps_discovery.specs.Records.{answered, changes_by}
 use Rattle.rtps_reader.specs.Reader.{placed}
-use Rattle.rtps_reader.specs.Steps.{Changes, asks_of}
+use Rattle.rtps_reader.specs.Step.{Changes, asks_of}
 use Rattle.rtps_run.specs.Addressed.{is_named}
 use Rattle.rtps_run.specs.Steps.{ReaderStep, step_by}
 use Rattle.rtps_run.proofs.Hearing.{announced_doings, asked_from}

@@ -7,7 +7,7 @@ use Rattle.std.proofs.lemmas.List.{drop_all, drop_more, length-map}
 use Rattle.std.proofs.lemmas.List.Elements.{All-cons, All-nil}
 use Rattle.std.proofs.lemmas.List.Folds.{list_any_none}
 use Rattle.rtps_reader.specs.declared.notice.Output.{Output}
-use Rattle.rtps_planner.specs.Gather.{fault_of, is_among, ranks_of, times}
+use Rattle.rtps_planner.specs.Outputs.{fault_of, is_among, ranks_of, times}
 
 -- each of these is this number or more, and above those before it
 abbrev pub AreRisen : ℕ → List ℕ → Type 0

@@ -7,7 +7,7 @@ use Rattle.std.proofs.Math.Seq.{get_or-append_seam}
 use Rattle.std.proofs.lemmas.List.{drop-append-le, length-append, length-drop, length-map, length-replicate, length-take, map_push, nil_from_length, take-append-le}
 use Rattle.std.proofs.lemmas.Option.{slice_get-get_or, slice_get_within}
 use Rattle.rtps_receiver.specs.Events.{EventView}
-use Rattle.rtps_discovery.specs.Kept.{IsKnown, HeldView}
+use Rattle.rtps_discovery.specs.Kept.{IsKnown, RegistryView}
 use Rattle.rtps_discovery.specs.Known.{Known}
 use Rattle.rtps_run.specs.World.{doings, known_after_event}
 use Rattle.rtps_run.proofs.Routed.{readers_stay}
@@ -87,7 +87,7 @@ back_nil : {X : Type 0} (xs ys : List X) → xs ++ ys ≡ [] → ys ≡ []
 back_nil xs ys e = nil_from_length ys (omega (arith, length-append xs ys, ap length e))
 
 -- these events more are planned
-pub planned_more : {A : Type 0} (k : Known) (all es : List EventView) (i n : ℕ) (old new : Planning A) (before kept : HeldView)
+pub planned_more : {A : Type 0} (k : Known) (all es : List EventView) (i n : ℕ) (old new : Planning A) (before kept : RegistryView)
     → 0 < n → i + n ≤ length all → AreAllPlanned k all es old before
     → ((hs : List EventView) → ReadsAs all hs i n → IsPlanned hs (known_after_events k es) (take n (drop i hs)) old new kept)
     → AreAllPlanned k all (es ++ take n (drop i all)) new kept

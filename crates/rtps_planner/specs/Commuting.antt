@@ -50,7 +50,7 @@ pub record IsDiscovered {M : Type 0} (decoding : Decoding M) (w : World M) (es :
 -- ---- all readers together
 
 -- discovery's answers, and by rank the notices and the answers of each reader
-pub record Parts (M : Type 0) : Type 0 where
+pub record PartsByRank (M : Type 0) : Type 0 where
   pub answers : List (Place × ReplyView)
   pub told : ℕ → List (Notice M)
   pub sent : ℕ → List (Place × ReplyView)
@@ -69,7 +69,7 @@ notices_at place notices = filter (λ n. same_place n.place place) notices
 
 -- at one place, for the ranks below a count in ascending order: the reader's notices, then its
 -- answer
-abbrev pub merged_below : {M : Type 0} → Place → Parts M → ℕ → List (ReportView M)
+abbrev pub merged_below : {M : Type 0} → Place → PartsByRank M → ℕ → List (ReportView M)
 merged_below place parts zero = []
 merged_below place parts (suc rank) =
     merged_below place parts rank
@@ -77,14 +77,14 @@ merged_below place parts (suc rank) =
     ++ map (sent_by (Some rank)) (answers_at place (parts.sent rank)))
 
 -- place by place: discovery's answer, and then the readers by rank
-abbrev pub merged : {M : Type 0} → Parts M → ℕ → List Place → List (ReportView M)
+abbrev pub merged : {M : Type 0} → PartsByRank M → ℕ → List Place → List (ReportView M)
 merged parts count [] = []
 merged parts count (place ∷ places) =
     (map (sent_by None) (answers_at place parts.answers) ++ merged_below place parts count)
     ++ merged parts count places
 
 -- discovery's answers to a list of events, and the notices and answers of each reader's job
-abbrev pub parts_of : {M : Type 0} → Decoding M → Known → (ℕ → Reader) → List EventView → Parts M
+abbrev pub parts_of : {M : Type 0} → Decoding M → Known → (ℕ → Reader) → List EventView → PartsByRank M
 parts_of decoding k readers es = record {
   answers = discovery_answers k es;
   told = λ rank. job_told decoding (readers rank) (job_of rank k es);

@@ -11,12 +11,12 @@ use Rattle.rtps_receiver.specs.Events.{EventView}
 use Rattle.rtps_discovery.specs.Addressed.{writer_of}
 use Rattle.rtps_discovery.specs.Changes as changes
 use Rattle.rtps_discovery.specs.Known.{Known, Wish, reader_at}
-use Rattle.rtps_reader.specs.Notices.{answer_view}
-use Rattle.rtps_reader.specs.Steps.{Changes, StepView, asks_of}
+use Rattle.rtps_reader.specs.Notice.{answer_view}
+use Rattle.rtps_reader.specs.Step.{Changes, StepView, asks_of}
 use Rattle.rtps_run.specs.Addressed.{is_named}
 use Rattle.rtps_proxy.specs.Matches.{same_guid}
 use Rattle.rtps_types.specs.declared.place.Place.{Place}
-use Rattle.rtps_discovery.specs.Kept.{IsKnown, HeldView}
+use Rattle.rtps_discovery.specs.Kept.{IsKnown, RegistryView}
 use Rattle.rtps_planner.specs.declared.steps.Burst.{Burst}
 use Rattle.rtps_planner.specs.declared.steps.Planning.{Planning}
 use Rattle.rtps_planner.specs.declared.steps.PlannedStep.{PlannedStep}
@@ -80,7 +80,7 @@ ReadsAs all es first count = take count (drop first es) ≡ take count (drop fir
 -- what events ask of each reader, and discovery's answers to them, are appended, and discovery
 -- keeps what is known after them
 pub record IsPlanned {A : Type 0} (es : List EventView) (k : Known) (run : List EventView)
-    (old new : Planning A) (kept : HeldView) : Type 0 where
+    (old new : Planning A) (kept : RegistryView) : Type 0 where
   pub known : IsKnown (known_after_events k run) kept
   pub steps : length old.lists.items ≡ length k.readers
       → Grow es old.lists.items new.lists.items (λ rank. job_of rank k run)
@@ -98,7 +98,7 @@ pub record AreSteps {A : Type 0} (es : List EventView) (lists : List (Vec (Plann
 -- what these events ask of each reader, and discovery's answers to them, are planned, and discovery
 -- keeps what is known after them; steps refer to the events of the whole batch
 pub record AreAllPlanned {A : Type 0} (k : Known) (all es : List EventView) (new : Planning A)
-    (kept : HeldView) : Type 0 where
+    (kept : RegistryView) : Type 0 where
   pub known : IsKnown (known_after_events k es) kept
   pub count : length new.lists.items ≡ length k.readers
   pub steps : AreSteps all new.lists.items (λ rank. job_of rank k es)
@@ -120,7 +120,7 @@ jobs_by asked (suc n) = jobs_by asked n ++ job_at n (asked n)
 
 -- a plan has a job for each reader that the events ask something of, and discovery's answers; and
 -- discovery keeps what is known after the events
-pub record IsPlan {A : Type 0} (k : Known) (es : List EventView) (plan : Plan A) (kept : HeldView)
+pub record IsPlan {A : Type 0} (k : Known) (es : List EventView) (plan : Plan A) (kept : RegistryView)
     : Type 0 where
   pub known : IsKnown (known_after_events k es) kept
   pub jobs : map (job_seen es) plan.jobs.items

@@ -4,7 +4,7 @@ ghost use Rattle.std.specs.Prelude.{◌≡◌, ℕ, List, None};
 ghost use Rattle.std.specs.List.{All};
 ghost use Rattle.rtps_types.specs.declared.identity.GuidPrefix.{GuidPrefix};
 ghost use Rattle.rtps_receiver.specs.Events.{EventView};
-ghost use Rattle.rtps_discovery.specs.Kept.{HeldView};
+ghost use Rattle.rtps_discovery.specs.Kept.{RegistryView};
 ghost use Rattle.dds_topic.specs.Decoding.{Decoding};
 ghost use Rattle.rtps_reader.specs.declared.notice.Output.{Output};
 ghost use Rattle.rtps_run.specs.declared.outcome.Outcome.{Outcome};
@@ -14,7 +14,7 @@ ghost use Rattle.rtps_run.specs.World.{World};
 ghost use Rattle.rtps_planner.specs.Commuting.{IsByPlace, IsDiscovered, IsPart};
 ghost use Rattle.rtps_planner.specs.Cut.{EveryCut};
 ghost use Rattle.rtps_planner.specs.declared.jobs.Plan.{Plan};
-ghost use Rattle.rtps_planner.specs.Gather.{IsGathered, IsOutputOf, fault_of, ranks_of};
+ghost use Rattle.rtps_planner.specs.Outputs.{IsGathered, IsOutputOf, fault_of, ranks_of};
 ghost use Rattle.rtps_planner.specs.Plan.{IsPlan};
 
 use std::alloc::Allocator;
@@ -44,7 +44,7 @@ pub fn every_cut<M>()
 /// gathered from them has what the batch adds to all that the run puts out.
 pub fn gathered<V, M, A: Allocator>()
     ensures { (view : V → M) (decoding : Decoding M) (w : World M) (own : GuidPrefix) (index : ℕ)
-        (datagrams : List (List ℕ)) (plan : Plan A) (kept : HeldView)
+        (datagrams : List (List ℕ)) (plan : Plan A) (kept : RegistryView)
         (outputs : List (ℕ × Output V A))
         (outcome : Outcome V A) → IsPlan w.known (events_from own index datagrams) plan kept
         → fault_of plan.rest.ranks.items (ranks_of outputs) ≡ None

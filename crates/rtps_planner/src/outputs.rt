@@ -3,7 +3,7 @@
 ghost use Rattle.std.specs.Prelude.{◌≡◌, ◌==◌, ◌<◌, [], ℕ, IfOk, None, length, nat_lt, not, set, slice_index_or, true};
 ghost use Rattle.std.specs.List.{list_any};
 ghost use Rattle.rtps_planner.specs.declared.outputs.GatherFault.TheVariants as fault;
-ghost use Rattle.rtps_planner.specs.Gather.{IsGathered, IsJudged, fault_of, is_among, outputs_with, ranks_of, times};
+ghost use Rattle.rtps_planner.specs.Outputs.{IsGathered, IsJudged, fault_of, is_among, outputs_with, ranks_of, times};
 
 use crate::jobs::Rest;
 use rtps_reader::Output;
@@ -173,7 +173,7 @@ fn put_outputs<V: Drop, A: Allocator>(
 ///
 /// The outputs are checked before any memory is taken. On an error they are dropped, with what they
 /// hold.
-#[tactic(auto, unfolding(crate::specs::Gather::IsJudged))]
+#[tactic(auto, unfolding(crate::specs::Outputs::IsJudged))]
 pub fn gather<V: Drop, A: Allocator + Copy>(
     alloc: A,
     rest: Rest<A>,

@@ -9,7 +9,7 @@ ghost use Rattle.rtps_discovery.specs.Known.{Known};
 ghost use Rattle.rtps_discovery.specs.Seen.{change_seen};
 ghost use Rattle.rtps_receiver.specs.Events.{EventView, view};
 ghost use Rattle.rtps_proxy.specs.Replies.{reply_view};
-ghost use Rattle.rtps_reader.specs.Notices.{answer_view};
+ghost use Rattle.rtps_reader.specs.Notice.{answer_view};
 ghost use Rattle.rtps_reader.specs.Reader.{placed};
 ghost use Rattle.rtps_run.specs.World.{changes_for};
 ghost use Rattle.rtps_planner.specs.Plan.{AreFrom, Grow, IsPlanned, burst_at, events_at, step_seen, steps_seen, taken_in};

@@ -13,7 +13,9 @@ use Rattle.rtps_types.specs.Numbers.{lacks, count_failing}
 use Rattle.rtps_proxy.specs.Runs.{AreApart, Run, marks}
 use Rattle.rtps_proxy.specs.Answer.{Acknack, acknack_by, answer, answers, is_answered, is_incomplete}
 use Rattle.rtps_proxy.specs.Effects.{exceeds}
-use Rattle.rtps_proxy.specs.History.{MatchEvent, announced_of, first_of, is_irrelevant, is_new}
+use Rattle.rtps_proxy.specs.Gap.{is_irrelevant}
+use Rattle.rtps_proxy.specs.Heartbeat.{announced_of, first_of, is_new}
+use Rattle.rtps_proxy.specs.History.{MatchEvent}
 use Rattle.rtps_proxy.specs.Kept.{Pairing}
 use Rattle.rtps_proxy.specs.Received.{frontier_of, is_settled, received}
 use Rattle.rtps_proxy.specs.Replies.{reply_of}

@@ -3,14 +3,15 @@ use Rattle.std.proofs.Common.{◌≡◌, ℕ, suc, ◌+◌, ◌-◌, ◌<◌, �
 use Rattle.std.specs.List.{filter, AllByRecursion}
 use Rattle.std.proofs.lemmas.Bool.Decides.{nat_tests, leb_tells, eqb_tells}
 use Rattle.rtps_types.specs.declared.time.Timestamp.{Timestamp}
-use Rattle.rtps_receiver.specs.EventBody.{EventBody, FragmentView, Whole, Fragment, Heartbeat, Gap, HeartbeatFrag}
+use Rattle.rtps_receiver.specs.EventBody.{EventBodyView, FragmentView, Whole, Fragment, Heartbeat, Gap, HeartbeatFrag}
 use Rattle.rtps_frags.specs.Fragments.{has_all, is_empty, is_whole, last_of, payload_of, before}
 use Rattle.rtps_frags.specs.declared.sizes.Sizes.{Sizes}
 use Rattle.rtps_frags.specs.Payload.{AreFragments}
 use Rattle.rtps_frags.proofs.Faultless.{Faultless, faultless, fits as fits_all}
 use Rattle.rtps_frags.proofs.Puts.{puts_hold, puts_stay}
 use Rattle.rtps_frags.proofs.Whole.{IsFrom, from_all, length_from, part_from}
-use Rattle.rtps_proxy.specs.History.{MatchEvent, ChangeView, change_of}
+use Rattle.rtps_proxy.specs.Change.{ChangeView, change_of}
+use Rattle.rtps_proxy.specs.History.{MatchEvent}
 use Rattle.rtps_proxy.specs.Settled.{has_room_by, is_settled_by}
 use Rattle.rtps_proxy.specs.Fragments.{Begun, begun_at, fits, fits_in, grown, is_cut_so, is_faulty, opened, sample_in, sizes_of, whole_at, whole_of, with_fragments_of}
 use Rattle.rtps_proxy.specs.Received.{in_order, is_covered, put, ready, received, taken, taken_after, takes_fragments, with_begun}
@@ -33,7 +34,7 @@ told_alike : (past : List MatchEvent) (z : Sizes) (s : ChangeView) (payload : Li
 told_alike [] z s payload h = absurd h
 told_alike (e ∷ past) z s payload (inl h) = inl (by_body e.body h)
   where
-    by_body : (b : EventBody) → IsToldBy z s e.time b → IsToldBy z (record { number = s.number; time = s.time; info = s.info; payload = payload }) e.time b
+    by_body : (b : EventBodyView) → IsToldBy z s e.time b → IsToldBy z (record { number = s.number; time = s.time; info = s.info; payload = payload }) e.time b
     by_body (Whole c) h = absurd h
     by_body (Fragment f) h = h
     by_body (Heartbeat b) h = absurd h
@@ -154,11 +155,11 @@ all_sound : (past : List MatchEvent) → AllSound past
 all_sound [] = (tt, tt)
 all_sound (e ∷ past) = by_body e.body (all_weaker (Brings past) (Brings (e ∷ past)) (received past) (brings_then past e) (all_sound past).0, all_weaker (IsSound past) (IsSound (e ∷ past)) (taken past).begun (sound_then past e) (all_sound past).1) (all_sound past).1
   where
-    Then : EventBody → Type 0
+    Then : EventBodyView → Type 0
     Then b = AllByRecursion (Brings (record { time = e.time; body = b } ∷ past)) (taken_after (taken past) past (record { time = e.time; body = b })).changes
         × AllByRecursion (IsSound (record { time = e.time; body = b } ∷ past)) (taken_after (taken past) past (record { time = e.time; body = b })).begun
 
-    by_body : (b : EventBody) → AllByRecursion (Brings (record { time = e.time; body = b } ∷ past)) (received past) × AllByRecursion (IsSound (record { time = e.time; body = b } ∷ past)) (taken past).begun
+    by_body : (b : EventBodyView) → AllByRecursion (Brings (record { time = e.time; body = b } ∷ past)) (received past) × AllByRecursion (IsSound (record { time = e.time; body = b } ∷ past)) (taken past).begun
         → AllByRecursion (IsSound past) (taken past).begun
         → AllByRecursion (Brings (record { time = e.time; body = b } ∷ past)) (taken_after (taken past) past (record { time = e.time; body = b })).changes
         × AllByRecursion (IsSound (record { time = e.time; body = b } ∷ past)) (taken_after (taken past) past (record { time = e.time; body = b })).begun

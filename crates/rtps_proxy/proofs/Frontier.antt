@@ -4,10 +4,13 @@ use Rattle.std.proofs.Common.{add-zero, add-suc, ◌≡◌, ℕ, zero, suc, ◌+
 use Rattle.std.specs.List.{list_any}
 use Rattle.std.proofs.lemmas.Bool.Decides.{eqb_tells, nat_tests, leb_tells}
 use Rattle.rtps_types.specs.NumberSet.{members}
-use Rattle.rtps_receiver.specs.EventBody.{EventBody, WholeView, FragmentView, Whole, Fragment, Heartbeat, Gap, HeartbeatFrag}
+use Rattle.rtps_receiver.specs.EventBody.{EventBodyView, WholeView, FragmentView, Whole, Fragment, Heartbeat, Gap, HeartbeatFrag}
 use Rattle.rtps_proxy.specs.Runs.{Run}
 use Rattle.rtps_types.specs.Numbers.{first_failing}
-use Rattle.rtps_proxy.specs.History.{MatchEvent, first_after, first_of, is_irrelevant, is_new, names, change_of}
+use Rattle.rtps_proxy.specs.Change.{change_of}
+use Rattle.rtps_proxy.specs.Gap.{is_irrelevant, names}
+use Rattle.rtps_proxy.specs.Heartbeat.{first_after, first_of, is_new}
+use Rattle.rtps_proxy.specs.History.{MatchEvent}
 use Rattle.rtps_proxy.specs.Received.{frontier_of, greatest_in, greatest_named, is_settled, max_of, received, taken, taken_after, takes_fragments, with_begun}
 use Rattle.rtps_proxy.specs.Fragments.{with_fragments_of}
 use Rattle.rtps_proxy.specs.Settled.{has_room_by, is_settled_by}
@@ -22,7 +25,7 @@ first_bound : (past : List MatchEvent) → first_of past ≤ greatest_named past
 first_bound [] = omega arith
 first_bound (e ∷ past) = by_body e.body (first_bound past)
   where
-    by_body : (b : EventBody) → first_of past ≤ greatest_named past + 1 → first_after past (first_of past) b ≤ max (greatest_in b) (greatest_named past) + 1
+    by_body : (b : EventBodyView) → first_of past ≤ greatest_named past + 1 → first_after past (first_of past) b ≤ max (greatest_in b) (greatest_named past) + 1
     by_body (Whole c) rest = omega arith
     by_body (Fragment f) rest = omega arith
     by_body (Heartbeat h) rest =
@@ -38,7 +41,7 @@ member_bound (m ∷ ns) n h =
       | inr e ↦ (let rest : n ≤ max_of ns = member_bound ns n e in omega arith)
     ]
 
-named_bound : (b : EventBody) (n : ℕ) → names b n ≡ true → n ≤ greatest_in b
+named_bound : (b : EventBodyView) (n : ℕ) → names b n ≡ true → n ≤ greatest_in b
 named_bound (Whole c) n h = absurd cc
 named_bound (Fragment f) n h = absurd cc
 named_bound (Heartbeat b) n h = absurd cc
@@ -75,7 +78,7 @@ received_bound (e ∷ past) n h = by_body e.body (received_bound past n) h
     ]
     by_fragments f false rest h = let le : n ≤ greatest_named past = rest h in omega arith
 
-    by_body : (b : EventBody) → (list_any (λ s. eqb s.number n) (received past) ≡ true → n ≤ greatest_named past) → list_any (λ s. eqb s.number n) (taken_after (taken past) past (record { time = e.time; body = b })).changes ≡ true → n ≤ max (greatest_in b) (greatest_named past)
+    by_body : (b : EventBodyView) → (list_any (λ s. eqb s.number n) (received past) ≡ true → n ≤ greatest_named past) → list_any (λ s. eqb s.number n) (taken_after (taken past) past (record { time = e.time; body = b })).changes ≡ true → n ≤ max (greatest_in b) (greatest_named past)
     by_body (Whole c) rest h = by_test c (not (is_settled_by (received past) past c.number) && has_room_by (received past) past c.number) rest h
     by_body (Fragment f) rest h = by_fragments f (takes_fragments (taken past) past f) rest h
     by_body (Heartbeat b) rest h = let le : n ≤ greatest_named past = rest h in omega arith

@@ -10,7 +10,8 @@ use Rattle.rtps_types.specs.declared.set.SnSet.{SnSet}
 use Rattle.rtps_types.specs.declared.number.Number.{Number}
 use Rattle.rtps_types.specs.declared.set.FragSet.{FragSet}
 use Rattle.rtps_types.specs.Number.{value_of}
-use Rattle.rtps_wire.specs.Answering.{acknack_octets, nack_frag_octets}
+use Rattle.rtps_wire.specs.AckNack.{acknack_octets}
+use Rattle.rtps_wire.specs.NackFrag.{nack_frag_octets}
 use Rattle.rtps_proxy.specs.Answer.{Acknack}
 use Rattle.rtps_proxy.specs.Kept.{Pairing}
 use Rattle.rtps_proxy.specs.NackFrag.{Nack, nack_by}

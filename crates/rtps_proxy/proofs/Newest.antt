@@ -4,12 +4,12 @@ use Rattle.std.specs.Prelude.{is_some, IfOk, OnOk}
 use Rattle.std.specs.List.{filter, AllByRecursion}
 use Rattle.std.proofs.lemmas.Bool.Decides.{nat_tests, leb_tells, eqb_tells}
 use Rattle.rtps_types.specs.declared.time.Timestamp.{Timestamp}
-use Rattle.rtps_receiver.specs.EventBody.{EventBody, FragmentView, Whole, Fragment, Heartbeat, Gap, HeartbeatFrag}
+use Rattle.rtps_receiver.specs.EventBody.{EventBodyView, FragmentView, Whole, Fragment, Heartbeat, Gap, HeartbeatFrag}
 use Rattle.rtps_proxy.specs.BestEffort.{Taken, above, begun_by, greatest, is_among, ready, ready_by, skipped, standing, taken, takes_fragments, top_of, with_ready}
-use Rattle.rtps_proxy.specs.Changes.{change_view}
+use Rattle.rtps_proxy.specs.Change.{change_view, ChangeView}
 use Rattle.rtps_proxy.specs.Effects.{BestEffortStandsAt, given_in}
 use Rattle.rtps_proxy.specs.Fragments.{Begun, begun_at, fits, fits_in, grown, is_faulty, opened, whole_at, with_fragments_of}
-use Rattle.rtps_proxy.specs.History.{MatchEvent, ChangeView}
+use Rattle.rtps_proxy.specs.History.{MatchEvent}
 use Rattle.rtps_proxy.specs.Kept.{BestEffortView, takes_above}
 use Rattle.rtps_proxy.specs.Pending.{fits_found, found_at, last_64, place_in, whole_found}
 use Rattle.rtps_proxy.specs.Steps.{BestEffortStep}
@@ -198,7 +198,7 @@ in_order (e ∷ past) = with_it (begun_by (taken past) e.time e.body) (ready_by 
     by_test true f h = in_order_put e.time f (standing past) h
     by_test false f h = h
 
-    by_body : (b : EventBody) → InOrder (standing past) → InOrder (begun_by (taken past) e.time b)
+    by_body : (b : EventBodyView) → InOrder (standing past) → InOrder (begun_by (taken past) e.time b)
     by_body (Whole c) h = h
     by_body (Fragment f) h = by_test (takes_fragments (taken past) f) f h
     by_body (Heartbeat b) h = h

@@ -2,7 +2,7 @@
 use Rattle.std.proofs.Common.{◌≡◌, ℕ, suc, ◌≤◌, Bool, true, false, ◌&&◌, cond, List, [], ◌∷◌, refl, sym, ◌∙◌, ap, arith, ltb, inl, inr}
 use Rattle.std.specs.List.{filter, AllByRecursion}
 use Rattle.std.proofs.lemmas.Bool.Decides.{nat_tests, leb_tells}
-use Rattle.rtps_proxy.specs.History.{ChangeView}
+use Rattle.rtps_proxy.specs.Change.{ChangeView}
 use Rattle.rtps_proxy.specs.Received.{in_order, put}
 use Rattle.rtps_proxy.specs.Held.{IsRising, behind_front, front_below, is_below, not_below}
 

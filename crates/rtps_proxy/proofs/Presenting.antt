@@ -4,12 +4,15 @@ use Rattle.std.specs.List.{list_any, filter, AllByRecursion}
 use Rattle.std.proofs.lemmas.Bool.Decides.{nat_tests, leb_tells, eqb_tells}
 use Rattle.std.proofs.lemmas.List.Folds.{list_any-append}
 use Rattle.std.proofs.lemmas.Map.Views.{any-filter_same}
-use Rattle.rtps_receiver.specs.EventBody.{EventBody, WholeView, FragmentView, Whole, Fragment, Heartbeat, Gap, HeartbeatFrag}
+use Rattle.rtps_receiver.specs.EventBody.{EventBodyView, WholeView, FragmentView, Whole, Fragment, Heartbeat, Gap, HeartbeatFrag}
 use Rattle.rtps_types.specs.Numbers.{all_below}
 use Rattle.rtps_proxy.specs.Fragments.{fits, whole_at, with_fragments_of}
 pub use Rattle.rtps_proxy.proofs.EventBody.{ready_brought}
 use Rattle.rtps_proxy.proofs.Wholes.{frags_left, frags_received, never_two, whole_number}
-use Rattle.rtps_proxy.specs.History.{MatchEvent, ChangeView, first_after, first_of, is_irrelevant, is_new, names, change_of}
+use Rattle.rtps_proxy.specs.Change.{ChangeView, change_of}
+use Rattle.rtps_proxy.specs.Gap.{is_irrelevant, names}
+use Rattle.rtps_proxy.specs.Heartbeat.{first_after, first_of, is_new}
+use Rattle.rtps_proxy.specs.History.{MatchEvent}
 use Rattle.rtps_proxy.specs.Received.{Taken, in_order, is_covered, is_settled, put, ready, received, taken, takes_fragments}
 use Rattle.rtps_proxy.specs.Settled.{has_room_by}
 use Rattle.rtps_proxy.specs.Presentation.{GivesUp, IsGivenUp, IsPresented, PassesOverOnly, RisesStrictly, presented}
@@ -107,7 +110,7 @@ step past e = by_body e.body
     by_fragments f true h = by_whole f h (whole_at f.number (with_fragments_of e.time f (taken past).begun)) refl
     by_fragments f false h = inl (ap (λ (t : Taken). t.changes) (frags_left past e.time f h))
 
-    by_body : (b : EventBody) → Step past (record { time = e.time; body = b })
+    by_body : (b : EventBodyView) → Step past (record { time = e.time; body = b })
     by_body (Whole c) = by_test c (not (is_settled past c.number) && has_room_by (received past) past c.number) refl
     by_body (Fragment f) = by_fragments f (takes_fragments (taken past) past f) refl
     by_body (Heartbeat h) = inl refl
@@ -247,7 +250,7 @@ ready_uncovered past e = all_weaker (λ s. gets_ready past e s ≡ true) (λ s. 
 first_rises : (past : List MatchEvent) (e : MatchEvent) → first_of past ≤ first_of (e ∷ past)
 first_rises past e = by_body e.body
   where
-    by_body : (b : EventBody) → first_of past ≤ first_after past (first_of past) b
+    by_body : (b : EventBodyView) → first_of past ≤ first_after past (first_of past) b
     by_body (Whole c) = omega arith
     by_body (Fragment f) = omega arith
     by_body (Heartbeat h) = elim (is_new past h.count) as (λ b. first_of past ≤ cond b (max (first_of past) h.first) (first_of past)) [ true ↦ omega arith | false ↦ omega arith ]
@@ -307,7 +310,7 @@ given_up_first (e ∷ past) k one l = by_body e.body l (given_up_first past k on
     by_test true first rest l = elim (leb_tells (suc k) first) [ inl w ↦ inl (refl, omega arith) | inr w ↦ inr (rest (omega arith)) ]
     by_test false first rest l = inr (rest l)
 
-    by_body : (b : EventBody) → k < first_after past (first_of past) b → (k < first_of past → IsGivenUp past k) → GivesUp past b k ⊎ IsGivenUp past k
+    by_body : (b : EventBodyView) → k < first_after past (first_of past) b → (k < first_of past → IsGivenUp past k) → GivesUp past b k ⊎ IsGivenUp past k
     by_body (Whole c) l rest = inr (rest l)
     by_body (Fragment f) l rest = inr (rest l)
     by_body (Heartbeat h) l rest = by_test (is_new past h.count) h.first rest l
@@ -319,7 +322,7 @@ given_up_named : (past : List MatchEvent) (k : ℕ) → is_irrelevant past k ≡
 given_up_named [] k h = absurd cc
 given_up_named (e ∷ past) k h = by_body e.body h (given_up_named past k)
   where
-    by_body : (b : EventBody) → (names b k || is_irrelevant past k) ≡ true → (is_irrelevant past k ≡ true → IsGivenUp past k) → GivesUp past b k ⊎ IsGivenUp past k
+    by_body : (b : EventBodyView) → (names b k || is_irrelevant past k) ≡ true → (is_irrelevant past k ≡ true → IsGivenUp past k) → GivesUp past b k ⊎ IsGivenUp past k
     by_body (Whole c) h rest = inr (rest h)
     by_body (Fragment f) h rest = inr (rest h)
     by_body (Heartbeat b) h rest = inr (rest h)

@@ -6,10 +6,11 @@ use Rattle.std.proofs.lemmas.Bool.Decides.{nat_tests, leb_tells, eqb_tells}
 use Rattle.std.proofs.lemmas.List.Elements.{filter_agree}
 use Rattle.rtps_types.specs.declared.time.Timestamp.{Timestamp}
 use Rattle.rtps_types.specs.Numbers.{all_below}
-use Rattle.rtps_receiver.specs.EventBody.{EventBody, FragmentView, Whole, Fragment, Heartbeat, Gap, HeartbeatFrag}
+use Rattle.rtps_receiver.specs.EventBody.{EventBodyView, FragmentView, Whole, Fragment, Heartbeat, Gap, HeartbeatFrag}
 use Rattle.rtps_frags.specs.Fragments.{is_whole}
 use Rattle.rtps_proxy.specs.Fragments.{Begun, begun_at, fits, fits_in, grown, is_begun, is_faulty, opened, sample_in, whole_at, whole_of, with_fragments_of}
-use Rattle.rtps_proxy.specs.History.{MatchEvent, ChangeView}
+use Rattle.rtps_proxy.specs.Change.{ChangeView}
+use Rattle.rtps_proxy.specs.History.{MatchEvent}
 use Rattle.rtps_proxy.specs.Pending.{fits_found, found_at, whole_found}
 use Rattle.rtps_proxy.specs.Received.{Taken, has_seat_by, held, in_order, is_settled, received, standing, taken, taken_after, takes_fragments, with_begun}
 use Rattle.rtps_proxy.specs.Runs.{Run, marks}
@@ -60,7 +61,7 @@ rising_begun (e ∷ past) = by_body e.body (rising_begun past)
     by_test f true rest = rising_put e.time f (taken past).begun rest
     by_test f false rest = rest
 
-    by_body : (b : EventBody) → Rising (taken past).begun → Rising (taken_after (taken past) past (record { time = e.time; body = b })).begun
+    by_body : (b : EventBodyView) → Rising (taken past).begun → Rising (taken_after (taken past) past (record { time = e.time; body = b })).begun
     by_body (Whole c) rest = rest
     by_body (Fragment f) rest = by_test f (takes_fragments (taken past) past f) rest
     by_body (Heartbeat h) rest = rest

@@ -6,7 +6,10 @@ use Rattle.std.proofs.lemmas.List.Elements.{filter_agree}
 use mathlib.Core.Path.{fun_ext}
 use Rattle.rtps_types.specs.Numbers.{lacks, all_below, count_failing}
 use Rattle.rtps_proxy.specs.Runs.{AreApart, Run, marks}
-use Rattle.rtps_proxy.specs.History.{MatchEvent, ChangeView, first_of, has_heartbeat, is_irrelevant, names}
+use Rattle.rtps_proxy.specs.Change.{ChangeView}
+use Rattle.rtps_proxy.specs.Gap.{is_irrelevant, names}
+use Rattle.rtps_proxy.specs.Heartbeat.{first_of, has_heartbeat}
+use Rattle.rtps_proxy.specs.History.{MatchEvent}
 use Rattle.rtps_proxy.specs.Received.{held, in_order, is_covered, is_settled, lost, ready, received}
 use Rattle.rtps_proxy.specs.Held.{behind_front, front_below, is_below, not_below}
 use Rattle.rtps_proxy.proofs.Apart.{none_behind}

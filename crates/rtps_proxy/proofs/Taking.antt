@@ -6,7 +6,10 @@ use Rattle.rtps_types.specs.declared.time.Timestamp.{Timestamp}
 use Rattle.rtps_receiver.specs.EventBody.{WholeView, Whole}
 use Rattle.rtps_types.specs.Numbers.{all_below}
 use Rattle.rtps_proxy.specs.Runs.{AreApart, Run, marks}
-use Rattle.rtps_proxy.specs.History.{MatchEvent, ChangeView, first_of, is_irrelevant, change_of}
+use Rattle.rtps_proxy.specs.Change.{ChangeView, change_of}
+use Rattle.rtps_proxy.specs.Gap.{is_irrelevant}
+use Rattle.rtps_proxy.specs.Heartbeat.{first_of}
+use Rattle.rtps_proxy.specs.History.{MatchEvent}
 use Rattle.rtps_proxy.specs.Settled.{has_room_by}
 use Rattle.rtps_proxy.specs.Received.{held, in_order, is_covered, is_settled, put, ready, received}
 use Rattle.rtps_proxy.specs.Held.{behind_front, front_below, is_below, not_below}

@@ -5,10 +5,9 @@ use Rattle.std.specs.List.{AllByRecursion}
 use Rattle.std.specs.List.Sorted.{IsPartitionedBy}
 use Rattle.std.proofs.lemmas.Bool.Decides.{nat_tests}
 use Rattle.rtps_types.specs.Number.{value_of}
-use Rattle.rtps_proxy.specs.Changes.{change_view}
+use Rattle.rtps_proxy.specs.Change.{change_view, ChangeView}
 use Rattle.rtps_proxy.specs.declared.change.Change.{Change}
 use Rattle.rtps_proxy.specs.Held.{IsPlace, IsRising}
-use Rattle.rtps_proxy.specs.History.{ChangeView}
 use Rattle.rtps_proxy.specs.Received.{put}
 
 module _ {A : Type 0} where

@@ -6,7 +6,8 @@ use Rattle.rtps_types.specs.declared.time.Timestamp.{Timestamp}
 use Rattle.rtps_receiver.specs.EventBody.{FragmentView, Fragment}
 use Rattle.rtps_frags.specs.Fragments.{is_whole}
 use Rattle.rtps_proxy.specs.Fragments.{Begun, begun_at, sample_in, whole_at, whole_of, with_fragments_of}
-use Rattle.rtps_proxy.specs.History.{MatchEvent, ChangeView}
+use Rattle.rtps_proxy.specs.Change.{ChangeView}
+use Rattle.rtps_proxy.specs.History.{MatchEvent}
 use Rattle.rtps_proxy.specs.Received.{Taken, received, taken, takes_fragments, with_begun}
 
 -- at most one sample of a number is whole, and it has that number

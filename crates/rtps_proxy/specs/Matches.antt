@@ -1,5 +1,4 @@
--- The matches of a reader (DDSI-RTPS 8.4.10): between whom each is, and what came for it since it
--- began.
+-- The matches of a reader (DDSI-RTPS 8.4.10), each with its history.
 use Rattle.std.specs.Prelude.{◌≡◌, List, [], ◌∷◌, filter, Option, Some, None, Bool, false, true, not, ◌&&◌, if◌then◌else◌}
 use Rattle.std.specs.Map.{lookup, set_value}
 use Rattle.std.specs.Str.{bytes_eq}
@@ -12,12 +11,12 @@ use Rattle.rtps_proxy.specs.Effects.{AreEffects}
 use Rattle.rtps_proxy.specs.History.{MatchEvent}
 use Rattle.rtps_proxy.specs.Kept.{ProxyView, Pairing}
 
--- a match: between whom it is, and what came for it since it began, the newest first
+-- a match: the reader and the writer, and the events since it began, the newest first
 pub record Match : Type 0 where
   pub pairing : Pairing
   pub past : List MatchEvent
 
--- a match to which nothing came yet
+-- a match without events
 abbrev pub fresh : Pairing → Match
 fresh w = record { pairing = w; past = [] }
 
@@ -30,14 +29,14 @@ abbrev pub match_with : Guid → List Match → Option Match
 match_with w [] = None
 match_with w (m ∷ ms) = if same_guid m.pairing.writer w then Some m else match_with w ms
 
--- an event comes for the match with its writer
+-- an event extends the history of the match with its writer
 abbrev pub extended : Guid → MatchEvent → List Match → List Match
 extended w e [] = []
 extended w e (m ∷ ms) =
     if same_guid m.pairing.writer w then record { pairing = m.pairing; past = e ∷ m.past } ∷ ms else m ∷ extended w e ms
 
--- a match begins, in the place of one that was there with its writer; matches are in the order of
--- their writers
+-- a match begins, and replaces an earlier one with its writer; matches are in the order of their
+-- writers
 abbrev pub begun : Match → List Match → List Match
 begun m [] = m ∷ []
 begun m (n ∷ ms) =
@@ -47,29 +46,29 @@ begun m (n ∷ ms) =
 abbrev pub ended : Guid → List Match → List Match
 ended w ms = filter (λ m. not (same_guid m.pairing.writer w)) ms
 
--- ---- what is kept of them, by the writer
+-- ---- the proxies of the matches, by writer
 
--- a match is kept
+-- a proxy has the state that follows from its match
 pub record Stands (m : Match) (entry : Guid × ProxyView) : Type 0 where
   pub writer : m.pairing.writer ≡ entry.0
   pub pairing : m.pairing ≡ entry.1.pairing
   pub stands : proxy.StandsAt m.past entry.1
 
--- each match is kept, in order
+-- each match has its proxy, in order
 abbrev pub AllStand : List Match → List (Guid × ProxyView) → Type 0
 AllStand [] [] = Unit {0}
 AllStand [] (k ∷ ks) = ⊥
 AllStand (m ∷ ms) [] = ⊥
 AllStand (m ∷ ms) (k ∷ ks) = Stands m k × AllStand ms ks
 
--- what the match with a writer gave at an event, if there is one
+-- the effects of an event on the match with its writer, if there is one
 abbrev pub AreTaken : {A : Type 0} → Option Match → MatchEvent → Option (Effects A) → Type 0
 AreTaken None e None = Unit {0}
 AreTaken None e (Some effects) = ⊥
 AreTaken (Some m) e None = ⊥
 AreTaken (Some m) e (Some effects) = AreEffects m.pairing m.past e effects
 
--- what was put into effects, where there is a match
+-- the caller's effects, if there is a match
 abbrev pub given_where : {A : Type 0} → Bool → Effects A → Option (Effects A)
 given_where false effects = None
 given_where true effects = Some effects
@@ -78,7 +77,7 @@ given_where true effects = Some effects
 abbrev pub is_at : Guid → Guid → Bool
 is_at w g = is_eq (guid_order w g)
 
--- the proxy of one writer was refused memory, and is spent; the others are as they were
+-- the proxy of one writer was refused memory, and is spent; the others are unchanged
 pub record IsSpentAt (w : Guid) (old new : List (Guid × ProxyView)) : Type 0 where
   pub was : ProxyView
   pub kept : ProxyView

@@ -1,9 +1,9 @@
-//! What a best-effort reader keeps of one writer (DDSI-RTPS 8.4.12).
+//! The state that a best-effort reader keeps for one writer (DDSI-RTPS 8.4.12).
 
 ghost use Rattle.std.specs.Prelude.{◌≡◌, ◌<◌, [], ◌∷◌, None, map, true, OnOk};
 ghost use Rattle.rtps_types.specs.Number.{value_of};
 ghost use Rattle.rtps_proxy.specs.BestEffort.{above, skipped};
-ghost use Rattle.rtps_proxy.specs.Changes.{change_view};
+ghost use Rattle.rtps_proxy.specs.Change.{change_view};
 ghost use Rattle.rtps_proxy.specs.Effects.{BestEffortStandsAt, GivesNothing, given_in, match_event};
 ghost use Rattle.rtps_proxy.specs.Kept.{best_effort_view, best_effort_first};
 ghost use Rattle.rtps_proxy.specs.Pending.{are_sound, pending_views};
@@ -12,21 +12,21 @@ ghost use Rattle.rtps_proxy.specs.Steps.{BestEffortTakes};
 use crate::change::Change;
 use crate::effects::{Effects, ProxyError};
 use crate::pending::{Pending, give_up_to};
-use rtps_receiver::Body;
+use rtps_receiver::EventBody;
 use rtps_types::Timestamp;
 use std::alloc::Allocator;
 
-/// What was received of a writer, and what is awaited.
+/// The greatest number received, and the samples with missing fragments.
 #[derive(Drop)]
 pub(crate) struct BestEffort<A: Allocator> {
-    /// The greatest number of a change that was received, 0 before the first.
+    /// The greatest number of a change that was received; 0 before the first.
     pub top: u64,
-    /// The samples above it whose fragments are awaited, in order of their numbers.
+    /// The samples above `top` with missing fragments, in order of their numbers.
     pub pending: Vec<Pending<A>, A>,
 }
 
 impl<A: Allocator + Copy> BestEffort<A> {
-    /// Nothing has come yet.
+    /// Returns the state before the first event.
     pub fn new(alloc: A) -> BestEffort<A>
         ensures { best_effort_view result ≡ best_effort_first }
     {
@@ -36,13 +36,13 @@ impl<A: Allocator + Copy> BestEffort<A> {
         }
     }
 
-    /// Takes in what an event brings, and puts what it gives into `effects`. All but changes, in
-    /// one piece or in fragments, is ignored.
+    /// Handles an event, and writes its effects into `effects`. Everything but DATA and DATA_FRAG
+    /// is ignored.
     pub fn on_event<'a>(
         &mut self,
         alloc: A,
         time: Option<Timestamp>,
-        brought: &Body<'a>,
+        brought: &EventBody<'a>,
         effects: &mut Effects<'a, A>,
     ) -> Result<(), ProxyError>
         requires { GivesNothing effects.old }
@@ -50,14 +50,14 @@ impl<A: Allocator + Copy> BestEffort<A> {
             (match_event time brought.now) (given_in effects.new result) }
     {
         match brought {
-            Body::Whole(whole) => self.on_whole(time, whole, effects),
-            Body::Fragment(fragment) => self.on_fragment(alloc, time, fragment, effects),
+            EventBody::Whole(whole) => self.on_whole(time, whole, effects),
+            EventBody::Fragment(fragment) => self.on_fragment(alloc, time, fragment, effects),
             _ => Ok(()),
         }
     }
 
-    /// Receives a change above all others: it is ready, and nothing up to it is awaited any more.
-    /// The numbers that it skips are lost, none before the first change.
+    /// Receives a change whose number is above `top`: it is ready, and all samples up to it are
+    /// dropped. The numbers that it skips are lost; before the first change no number is lost.
     pub fn receive<'a>(
         &mut self,
         change: Change<'a, A>,

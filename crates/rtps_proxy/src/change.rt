@@ -1,9 +1,8 @@
-//! A change that is ready to be presented, or that waits for earlier ones.
+//! Changes, with payloads that are borrowed from the datagram or owned.
 
 ghost use Rattle.std.specs.Prelude.{◌≡◌, IfOk};
 ghost use Rattle.rtps_receiver.specs.Views.{whole_view};
-ghost use Rattle.rtps_proxy.specs.Changes.{change_view, octets_of};
-ghost use Rattle.rtps_proxy.specs.History.{change_of};
+ghost use Rattle.rtps_proxy.specs.Change.{change_view, octets_of, change_of};
 
 use crate::effects::ProxyError;
 use rtps_receiver::Whole;
@@ -11,12 +10,12 @@ use rtps_types::{Number, Octets, Timestamp};
 use rtps_wire::ChangeInfo;
 use std::alloc::{Allocator, Global};
 
-/// The octets of a payload, its encapsulation first.
+/// The octets of a payload: encapsulation header, then data.
 #[derive(Debug, Drop)]
 pub enum Payload<'a, A: Allocator = Global> {
-    /// Where the datagram lies that brought them.
+    /// Borrowed from the datagram that brought them.
     Lent(&'a [u8]),
-    /// Kept since an earlier datagram.
+    /// Owned, from an earlier datagram.
     Kept(Octets<A>),
 }
 
@@ -26,12 +25,12 @@ pub struct Change<'a, A: Allocator = Global> {
     pub number: Number,
     pub time: Option<Timestamp>,
     pub info: ChangeInfo,
-    /// Its encapsulation and what follows.
+    /// The encapsulation header, and the data after it.
     pub payload: Payload<'a, A>,
 }
 
 impl<A: Allocator> Payload<'_, A> {
-    /// Its octets, wherever they lie.
+    /// Returns the octets, borrowed or owned.
     pub fn as_slice(&self) -> &[u8]
         ensures { result.now ≡ octets_of self.now }
     {
@@ -43,7 +42,7 @@ impl<A: Allocator> Payload<'_, A> {
 }
 
 impl<'a, A: Allocator> Change<'a, A> {
-    /// The change as it lies in the datagram.
+    /// Returns the change with a payload that is borrowed from the datagram.
     pub(crate) fn lent(time: Option<Timestamp>, whole: &Whole<'a>) -> Change<'a, A>
         ensures { change_view result ≡ change_of time (whole_view whole.now) }
     {
@@ -57,7 +56,7 @@ impl<'a, A: Allocator> Change<'a, A> {
 }
 
 impl<A: Allocator> Change<'static, A> {
-    /// The change with a payload of its own, for which the datagram isn't needed.
+    /// Returns the change with a payload of its own, so that it can outlive the datagram.
     pub(crate) fn kept(
         alloc: A,
         time: Option<Timestamp>,

@@ -1,9 +1,9 @@
-//! What a proxy is made for.
+//! The configuration of a proxy.
 
 use rtps_types::{EntityId, Guid, GuidPrefix, Locators};
 use std::alloc::{Allocator, Global};
 
-/// The match that a proxy is made for, and where answers go (DDSI-RTPS 8.4.10.4).
+/// The match that a proxy serves, and where its answers are sent (DDSI-RTPS 8.4.10.4).
 #[derive(Debug, Drop)]
 pub struct ProxyConfig<A: Allocator = Global> {
     /// Our participant.
@@ -11,8 +11,8 @@ pub struct ProxyConfig<A: Allocator = Global> {
     pub writer: Guid,
     /// The reader that is matched with the writer.
     pub reader: EntityId,
-    /// Whether the reader asks for what is missing.
+    /// Whether the reader asks for missing changes.
     pub reliable: bool,
-    /// Where answers go.
+    /// Where answers are sent.
     pub locators: Locators<A>,
 }

@@ -1,4 +1,4 @@
-//! What an event gives.
+//! The effects of an event.
 
 ghost use Rattle.std.specs.Prelude.{◌≡◌, [], None};
 
@@ -6,13 +6,13 @@ use crate::change::Change;
 use rtps_types::Reply;
 use std::alloc::{AllocError, Allocator, Global};
 
-/// Why an event could not be taken in: the allocator refused a growth, now or at an earlier event.
+/// Why an event could not be handled: the allocator refused a growth, now or at an earlier event.
 pub type ProxyError = AllocError;
 
-/// What an event gives: what is reported of it in this order, and what is answered.
+/// The effects of an event: what is reported, in this order, and the answer to the writer.
 #[derive(Debug, Drop)]
 pub struct Effects<'a, A: Allocator = Global> {
-    /// How many numbers are given up (DDS 1.4, 2.2.4.1, SAMPLE_LOST).
+    /// The number of sequence numbers that are given up (DDS 1.4, 2.2.4.1, SAMPLE_LOST).
     pub lost: u64,
     /// The changes that are ready now, by rising number.
     pub ready: Vec<Change<'a, A>, A>,
@@ -21,7 +21,7 @@ pub struct Effects<'a, A: Allocator = Global> {
 }
 
 impl<'a, A: Allocator> Effects<'a, A> {
-    /// Nothing happens, as long as nothing is put in. No memory is taken.
+    /// Returns empty effects. No memory is taken.
     pub fn none(alloc: A) -> Effects<'a, A>
         ensures lost { result.lost ≡ 0 }
         ensures ready { result.ready.items ≡ [] }

@@ -1,12 +1,11 @@
-//! Fragments of a change (DDSI-RTPS 8.3.7.3, 8.4.14.1).
+//! DATA_FRAG: fragments of a change (DDSI-RTPS 8.3.7.3, 8.4.14.1).
 
 ghost use Rattle.std.specs.Prelude.{◌≡◌, ◌≤◌, ◌^◌, IfSome, is_some};
 ghost use Rattle.rtps_types.specs.Number.{value_of};
-ghost use Rattle.rtps_receiver.specs.declared.body.Body.TheVariants as body;
+ghost use Rattle.rtps_receiver.specs.declared.event_body.EventBody.TheVariants as body;
 ghost use Rattle.rtps_receiver.specs.Views.{fragment_view};
 ghost use Rattle.rtps_proxy.specs.Effects.{GivesNothing, given_in, match_event};
-ghost use Rattle.rtps_proxy.specs.Kept.{Pairing, best_effort_view, reliable_view};
-ghost use Rattle.rtps_proxy.specs.Kept.{takes_above, takes_by};
+ghost use Rattle.rtps_proxy.specs.Kept.{Pairing, best_effort_view, reliable_view, takes_above, takes_by};
 ghost use Rattle.rtps_proxy.specs.Pending.{pending_views, place_in};
 ghost use Rattle.rtps_proxy.specs.Runs.{IsPlaceOf};
 ghost use Rattle.rtps_proxy.specs.Steps.{BestEffortTakes, ReliableTakes};
@@ -21,8 +20,8 @@ use rtps_types::Timestamp;
 use std::alloc::Allocator;
 
 impl<A: Allocator + Copy> BestEffort<A> {
-    /// Whether a DATA_FRAG is taken: its number is above the greatest one received, fewer than 64
-    /// greater ones stand, and it fits.
+    /// Whether a DATA_FRAG is accepted: its number is above the greatest one received, fewer than
+    /// 64 samples with greater numbers are pending, and it fits.
     fn takes(&self, at: usize, fragment: &Fragment<'_>) -> bool
         requires { at ≡ place_in (value_of fragment.now.number)
             (pending_views self.now.pending.items) }
@@ -39,8 +38,8 @@ impl<A: Allocator + Copy> BestEffort<A> {
         fits(pending, at, fragment)
     }
 
-    /// Takes in fragments of a change. One that is whole then is received; else it stands, and the
-    /// least of 65 is given up.
+    /// Handles a DATA_FRAG. A sample that it completes is received. Otherwise the sample is
+    /// pending, and of 65 pending samples the one with the least number is dropped.
     pub fn on_fragment<'a>(
         &mut self,
         alloc: A,
@@ -69,9 +68,9 @@ impl<A: Allocator + Copy> BestEffort<A> {
 }
 
 impl<A: Allocator + Copy> Reliable<A> {
-    /// The place among the runs of a DATA_FRAG's number, if it is taken: it fits, the change would
-    /// be taken, and its fragments are there, or it is the least number that isn't settled, or
-    /// there is a seat.
+    /// Returns the place of a DATA_FRAG's number among the runs, if it is accepted. It has to fit,
+    /// its change would be accepted, and one of these holds: its sample is pending already, its
+    /// number is the least one that isn't settled, or fewer than 64 samples are pending.
     fn place_for_fragments(&self, at: usize, fragment: &Fragment<'_>) -> Option<usize>
         requires { at ≡ place_in (value_of fragment.now.number)
             (pending_views self.now.pending.items) }
@@ -92,7 +91,7 @@ impl<A: Allocator + Copy> Reliable<A> {
         self.place_for(number)
     }
 
-    /// Takes in fragments of a change. One that is whole then is received.
+    /// Handles a DATA_FRAG. A sample that it completes is received.
     pub fn on_fragment<'a>(
         &mut self,
         alloc: A,
@@ -106,7 +105,7 @@ impl<A: Allocator + Copy> Reliable<A> {
             (match_event time (body.Fragment fragment.now)) (given_in effects.new result) }
     {
         let number = fragment.number.get();
-        // `at` is the number's place among the samples in parts, `place` its place among the runs.
+        // `at` is the number's place among the pending samples, `place` its place among the runs.
         let at = place_of(self.pending.as_slice(), number);
         let Some(place) = self.place_for_fragments(at, fragment) else {
             return Ok(());

@@ -1,4 +1,4 @@
-//! A gap, for a reliable reader (DDSI-RTPS 8.3.7.4).
+//! GAP for a reliable reader (DDSI-RTPS 8.3.7.4).
 
 ghost use Rattle.std.specs.Prelude.{◌≡◌, List, ◌||◌, ◌&&◌, ◌==◌, ℕ, nat_le, nat_lt, IfOk, OnOk, Option};
 ghost use Rattle.std.specs.List.{list_any};
@@ -6,9 +6,9 @@ ghost use Rattle.rtps_types.specs.declared.time.Timestamp.{Timestamp};
 ghost use Rattle.rtps_types.specs.Number.{value_of};
 ghost use Rattle.rtps_types.specs.NumberSet.{members};
 ghost use Rattle.rtps_types.specs.Sets.{sn_view};
-ghost use Rattle.rtps_receiver.specs.declared.body.Body.TheVariants as body;
+ghost use Rattle.rtps_receiver.specs.declared.event_body.EventBody.TheVariants as body;
 ghost use Rattle.rtps_proxy.specs.Effects.{GivesNothing, given_in, match_event};
-ghost use Rattle.rtps_proxy.specs.History.{names};
+ghost use Rattle.rtps_proxy.specs.Gap.{names};
 ghost use Rattle.rtps_proxy.specs.Kept.{Pairing, reliable_view};
 ghost use Rattle.rtps_proxy.specs.Runs.{marks};
 ghost use Rattle.rtps_proxy.specs.Steps.{ReliableTakes};
@@ -37,7 +37,7 @@ impl<A: Allocator> Settled<A> {
 }
 
 impl<A: Allocator + Copy> Reliable<A> {
-    /// Takes in a gap.
+    /// Handles a GAP.
     pub fn on_gap<'a>(&mut self, gap: &Gap, effects: &mut Effects<'a, A>) -> Result<(), ProxyError>
         requires { GivesNothing effects.old }
         ensures { (pairing : Pairing) (time : Option Timestamp) →

@@ -1,12 +1,11 @@
-//! A heartbeat, for a reliable reader, and its answer (DDSI-RTPS 8.3.7.5, 8.4.12.2).
+//! HEARTBEAT for a reliable reader, and its answer (DDSI-RTPS 8.3.7.5, 8.4.12.2).
 
 ghost use Rattle.std.specs.Prelude.{◌≡◌, ◌≤◌, ◌^◌, ◌+◌, List, IfOk, OnOk, Option, Some, None, is_some, not, ◌&&◌, ◌||◌, nat_le, if◌then◌else◌};
 ghost use Rattle.std.specs.Option.{option_map};
 ghost use Rattle.rtps_types.specs.declared.time.Timestamp.{Timestamp};
-ghost use Rattle.rtps_receiver.specs.declared.body.Body.TheVariants as body;
+ghost use Rattle.rtps_receiver.specs.declared.event_body.EventBody.TheVariants as body;
 ghost use Rattle.rtps_proxy.specs.Effects.{GivesNothing, exceeds, given_in, match_event};
-ghost use Rattle.rtps_proxy.specs.Kept.{asks_by, asked_by, counts_answer, marked, pairing};
-ghost use Rattle.rtps_proxy.specs.Kept.{reliable_view};
+ghost use Rattle.rtps_proxy.specs.Kept.{asks_by, next_acknack, counts_answer, marked, pairing, reliable_view};
 ghost use Rattle.rtps_types.specs.Numbers.{count_failing};
 ghost use Rattle.rtps_proxy.specs.Replies.{reply_of, reply_view};
 ghost use Rattle.rtps_proxy.specs.Steps.{ReliableTakes};
@@ -22,7 +21,7 @@ use rtps_wire::{AckNack, write_acknack};
 use std::alloc::Allocator;
 
 impl<A: Allocator + Copy> Reliable<A> {
-    /// Whether a heartbeat with this count is accepted.
+    /// Whether a HEARTBEAT with this count is accepted.
     fn is_accepted(&self, count: i32) -> bool
         ensures { result ≡ exceeds self.now.accepted count }
     {
@@ -32,7 +31,8 @@ impl<A: Allocator + Copy> Reliable<A> {
         }
     }
 
-    /// How many numbers an accepted heartbeat gives up: none where it is the first of its match.
+    /// Returns the number of sequence numbers that an accepted HEARTBEAT gives up; 0 for the first
+    /// one of a match, since what the writer no longer had when the match began isn't lost.
     fn lost_below(&self, first: u64) -> u64
         requires { first ≤ 2 ^ 62 + 1 }
         ensures { result ≡ (if is_some self.now.accepted
@@ -44,17 +44,17 @@ impl<A: Allocator + Copy> Reliable<A> {
         self.settled.count_missing(first)
     }
 
-    /// Whether an accepted heartbeat is answered.
+    /// Whether an accepted HEARTBEAT is answered.
     fn is_answer_due(&self, heartbeat: &Heartbeat) -> bool
         ensures { result ≡ asks_by (reliable_view self.now) heartbeat.now }
     {
         !heartbeat.final_flag || (!heartbeat.liveliness && self.settled.lacks(self.announced))
     }
 
-    /// The answer to an accepted heartbeat: what is missing, to the writer's locators.
+    /// Returns the ACKNACK that asks for what is missing, addressed to the writer's locators.
     fn reply_to(&self, alloc: A, config: &ProxyConfig<A>) -> Result<Reply<A>, ProxyError>
         ensures { IfOk result (λ reply.
-            reply_view reply ≡ reply_of (pairing config.now) (asked_by (reliable_view self.now))) }
+            reply_view reply ≡ reply_of (pairing config.now) (next_acknack (reliable_view self.now))) }
     {
         let octets = write_acknack(
             alloc,
@@ -72,7 +72,7 @@ impl<A: Allocator + Copy> Reliable<A> {
         Ok(Reply { to, octets })
     }
 
-    /// The answer to an accepted heartbeat where one is due, which is counted then.
+    /// Returns the answer to an accepted HEARTBEAT and counts it, or `None` where no answer is due.
     fn answer_to(
         &mut self,
         alloc: A,
@@ -81,7 +81,7 @@ impl<A: Allocator + Copy> Reliable<A> {
     ) -> Result<Option<Reply<A>>, ProxyError>
         ensures answer { IfOk result (λ answer. option_map reply_view answer
             ≡ (if asks_by (reliable_view self.old) heartbeat.now
-            then Some (reply_of (pairing config.now) (asked_by (reliable_view self.old)))
+            then Some (reply_of (pairing config.now) (next_acknack (reliable_view self.old)))
             else None)) }
         ensures kept { OnOk result (reliable_view self.new
             ≡ counts_answer (asks_by (reliable_view self.old) heartbeat.now)
@@ -95,7 +95,7 @@ impl<A: Allocator + Copy> Reliable<A> {
         Ok(Some(reply))
     }
 
-    /// Takes in a heartbeat. One whose count isn't above those of all earlier ones does nothing.
+    /// Handles a HEARTBEAT. It is ignored unless its count is above the counts of all earlier ones.
     pub fn on_heartbeat<'a>(
         &mut self,
         alloc: A,
@@ -116,7 +116,7 @@ impl<A: Allocator + Copy> Reliable<A> {
         let lost = self.lost_below(first);
         self.accepted = Some(heartbeat.count);
         self.announced = self.announced.max(heartbeat.last);
-        // Nothing below the first number is awaited any more.
+        // Changes below the first number are no longer available: nothing waits for them.
         self.settled.add(0, first)?;
         give_up(&mut self.pending, &self.settled);
         release(&mut self.held, self.settled.frontier, &mut effects.ready)?;

@@ -1,11 +1,11 @@
-//! A heartbeat of fragments, for a reliable reader, and its answer (DDSI-RTPS 8.3.7.6, 8.3.7.11).
+//! HEARTBEAT_FRAG for a reliable reader, and its answer (DDSI-RTPS 8.3.7.6, 8.3.7.11).
 
 ghost use Rattle.std.specs.Prelude.{◌≡◌, ◌≤◌, ◌^◌, IfOk, Option};
 ghost use Rattle.std.specs.Option.{option_map};
 ghost use Rattle.rtps_types.specs.declared.time.Timestamp.{Timestamp};
 ghost use Rattle.rtps_types.specs.Number.{value_of};
 ghost use Rattle.rtps_types.specs.Sets.{frag_view};
-ghost use Rattle.rtps_receiver.specs.declared.body.Body.TheVariants as body;
+ghost use Rattle.rtps_receiver.specs.declared.event_body.EventBody.TheVariants as body;
 ghost use Rattle.rtps_receiver.specs.Views.{heartbeat_frag_view};
 ghost use Rattle.rtps_proxy.specs.Effects.{GivesNothing, exceeds, given_in, match_event};
 ghost use Rattle.rtps_proxy.specs.Kept.{reliable_view, lacks_frags, pairing};
@@ -24,7 +24,7 @@ use rtps_wire::{NackFrag, write_nack_frag};
 use std::alloc::Allocator;
 
 impl<A: Allocator + Copy> Reliable<A> {
-    /// Whether a heartbeat of fragments with this count is accepted.
+    /// Whether a HEARTBEAT_FRAG with this count is accepted.
     fn is_frag_accepted(&self, count: i32) -> bool
         ensures { result ≡ exceeds self.now.frag_accepted count }
     {
@@ -34,7 +34,8 @@ impl<A: Allocator + Copy> Reliable<A> {
         }
     }
 
-    /// The fragments that an accepted one asks for: none where the number is settled.
+    /// Returns the missing fragments that an accepted HEARTBEAT_FRAG asks about, or `None` where
+    /// none is missing or the number is settled.
     fn missing_fragments(&self, alloc: A, heartbeat: &HeartbeatFrag) -> Option<FragSet>
         ensures { option_map frag_view result
             ≡ lacks_frags (reliable_view self.now) (heartbeat_frag_view heartbeat.now) }
@@ -51,7 +52,7 @@ impl<A: Allocator + Copy> Reliable<A> {
         pending[at].sample.missing_up_to(heartbeat.last)
     }
 
-    /// The answer with these missing fragments, to the writer's locators.
+    /// Returns the NACK_FRAG for these missing fragments, addressed to the writer's locators.
     fn nack_to(
         &self,
         alloc: A,
@@ -79,8 +80,8 @@ impl<A: Allocator + Copy> Reliable<A> {
         Ok(Reply { to, octets })
     }
 
-    /// Takes in a heartbeat of fragments. One whose count isn't above those of all earlier ones
-    /// does nothing.
+    /// Handles a HEARTBEAT_FRAG. It is ignored unless its count is above the counts of all earlier
+    /// ones.
     pub fn on_heartbeat_frag<'a>(
         &mut self,
         alloc: A,

@@ -1,7 +1,7 @@
 //! Changes that wait for earlier ones (DDSI-RTPS 8.4.12.3), in order of their numbers.
 
 ghost use Rattle.std.specs.Prelude.{◌≡◌, ◌≤◌, ◌++◌, length, map, IfOk, OnOk};
-ghost use Rattle.rtps_proxy.specs.Changes.{change_view, change_views};
+ghost use Rattle.rtps_proxy.specs.Change.{change_view, change_views};
 ghost use Rattle.rtps_proxy.specs.Held.{IsPlace, IsRising, behind_front, front_below, starts_below};
 ghost use Rattle.rtps_proxy.specs.Received.{put};
 
@@ -10,7 +10,7 @@ use crate::effects::ProxyError;
 use std::alloc::Allocator;
 use std::collections::VecDeque;
 
-/// Puts a change at its place.
+/// Inserts a change at its place.
 pub(crate) fn hold<A: Allocator>(
     held: &mut VecDeque<Change<'static, A>, A>,
     change: Change<'static, A>,
@@ -24,7 +24,8 @@ pub(crate) fn hold<A: Allocator>(
     Ok(())
 }
 
-/// How many changes have a lesser number. Most numbers come after all that wait, or before them.
+/// Returns the number of changes that have a lesser number. Usually a number is above all of them,
+/// or below.
 fn place_of<A: Allocator>(held: &VecDeque<Change<'static, A>, A>, number: u64) -> usize
     ensures within { result ≤ length held.now.items }
     ensures place { IsRising (change_views held.now.items) →
@@ -43,7 +44,7 @@ fn place_of<A: Allocator>(held: &VecDeque<Change<'static, A>, A>, number: u64) -
     held.partition_point(|other| other.number.get() < number)
 }
 
-/// Takes the changes below the frontier out, and puts them after those that are ready.
+/// Moves the changes below the frontier to the end of `ready`.
 pub(crate) fn release<'a, A: Allocator>(
     held: &mut VecDeque<Change<'static, A>, A>,
     frontier: u64,
@@ -63,7 +64,7 @@ pub(crate) fn release<'a, A: Allocator>(
     Ok(())
 }
 
-/// Whether a change waits, and the first has a number below the frontier.
+/// Whether there is a first change and its number is below the frontier.
 fn is_front_below<A: Allocator>(held: &VecDeque<Change<'static, A>, A>, frontier: u64) -> bool
     ensures { result ≡ starts_below frontier (change_views held.now.items) }
 {

@@ -1,4 +1,4 @@
-//! Laws of the definitions.
+//! Laws about the definitions. Each is an empty function whose contract is the law.
 
 ghost use Rattle.std.specs.Prelude.{◌≡◌, ◌<◌, ℕ, Bool, List, ◌∷◌, false, map, true};
 ghost use Rattle.std.specs.List.{AllByRecursion};
@@ -16,8 +16,8 @@ pub fn frontier_is_least()
     ensures itself { (past : List MatchEvent) → is_settled past (frontier_of past) ≡ false }
 {}
 
-/// The set of an answer names its members, and these are just the numbers that are missing, up to
-/// the announced one, among the 256 from its base on.
+/// The set of an ACKNACK names exactly the missing numbers up to the announced one, of the 256
+/// numbers that begin at its base.
 pub fn an_answer_names_its_members()
     ensures missing { NamesWhatIsMissing }
     ensures members { (settled : ℕ → Bool) (base announced earlier : ℕ) →
@@ -25,10 +25,10 @@ pub fn an_answer_names_its_members()
         ≡ (acknack_by settled base announced earlier).members }
 {}
 
-/// In the match of a reliable reader the sequence numbers of the samples rise strictly; a DATA of
-/// the match, or DATA_FRAGs without a fault that have all its fragments, brought each sample by
-/// then; and each number that a sample passes over was given up by then, by a GAP or an accepted
-/// HEARTBEAT of the match.
+/// In the match of a reliable reader, the sequence numbers of the presented samples rise strictly.
+/// Each sample was received by then, in a DATA of the match or in DATA_FRAGs without a fault that
+/// together have all its fragments. Each number that was skipped was given up by then, by a GAP or
+/// an accepted HEARTBEAT of the match.
 pub fn presents_in_order()
     ensures rising { (past : List MatchEvent) →
         RisesStrictly (map (λ s. s.number) (presented past)) }

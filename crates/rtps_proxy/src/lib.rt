@@ -1,4 +1,4 @@
-//! What a reader keeps of one writer that it is matched with (DDSI-RTPS 8.4.10.4, `WriterProxy`).
+//! The state that a reader keeps for one matched writer (DDSI-RTPS 8.4.10.4, `WriterProxy`).
 #![tactic(auto)]
 
 mod best_effort;

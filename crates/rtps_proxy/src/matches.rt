@@ -7,7 +7,7 @@ ghost use Rattle.rtps_proxy.specs.Kept.{pairing};
 ghost use Rattle.rtps_proxy.specs.Matches.{AllStand, AreTaken, IsSpentAt, Match, begun, ended, extended, fresh, given_where, match_with};
 
 use crate::{Effects, ProxyConfig, ProxyError, WriterProxy};
-use rtps_receiver::Body;
+use rtps_receiver::EventBody;
 use rtps_types::{Guid, Timestamp};
 use std::alloc::{AllocError, Allocator, Global};
 use std::collections::BTreeMap;
@@ -15,7 +15,7 @@ use std::collections::btree_map::Keys;
 use std::marker::Model;
 
 /// The matches of a reader, each with the proxy of its writer (DDSI-RTPS 8.4.10,
-/// `matched_writers`). They are found by their writers: beginning and ending one, and giving one an
+/// `matched_writers`). The writer's guid is the key: beginning or ending a match, or handling an
 /// event, takes one search.
 #[derive(Drop)]
 pub struct Matches<A: Allocator = Global> {
@@ -33,7 +33,7 @@ impl<A: Allocator> Model for Matches<A> {
 }
 
 impl<A: Allocator + Copy> Matches<A> {
-    /// No match. No memory is taken.
+    /// Returns an empty list of matches. No memory is taken.
     pub fn new(alloc: A) -> Matches<A>
         ensures { result ≡ [] }
     {
@@ -42,22 +42,22 @@ impl<A: Allocator + Copy> Matches<A> {
         }
     }
 
-    /// How many matches there are.
+    /// Returns the number of matches.
     pub fn len(&self) -> usize
         ensures { result ≡ length self.now }
     {
         self.proxies.len()
     }
 
-    /// The writers of the matches, in the order of their octets.
+    /// Returns the matched writers, in the order of their guids' octets.
     pub fn writers(&self) -> Keys<'_, Guid, WriterProxy<A>>
         ensures { result ≡ keys_of self.now }
     {
         self.proxies.keys()
     }
 
-    /// Begins a match with the writer of `config`, to which nothing came yet. It takes the place of
-    /// the match that there was with that writer. A refused growth leaves the matches as they were.
+    /// Begins a match with the writer of `config`, with an empty history. It replaces the earlier
+    /// match with that writer, if there is one. A refused growth leaves the matches as they were.
     pub fn begin(&mut self, alloc: A, config: ProxyConfig<A>) -> Result<(), ProxyError>
         ensures stands { (ms : List Match) → AllStand ms self.old
             → OnOk result (AllStand (begun (fresh (pairing config)) ms) self.new) }
@@ -71,23 +71,22 @@ impl<A: Allocator + Copy> Matches<A> {
         }
     }
 
-    /// Ends the match with a writer, if there is one: what came for it is forgotten. No memory is
-    /// taken.
+    /// Ends the match with a writer, if there is one, and drops its state. No memory is taken.
     pub fn end(&mut self, writer: Guid)
         ensures { (ms : List Match) → AllStand ms self.old → AllStand (ended writer ms) self.new }
     {
         self.proxies.remove(&writer);
     }
 
-    /// Gives an event to the match with its writer, and returns what the proxy makes of it; `None`
-    /// where there is no such match. A refused growth leaves the proxy of that writer spent, and
-    /// the others as they were.
+    /// Passes an event to the match with its writer and returns its effects, or `None` where the
+    /// writer isn't matched. A refused growth leaves the proxy of that writer spent, and the others
+    /// as they were.
     pub fn on_event<'a>(
         &mut self,
         alloc: A,
         writer: Guid,
         time: Option<Timestamp>,
-        brought: &Body<'a>,
+        brought: &EventBody<'a>,
     ) -> Result<Option<Effects<'a, A>>, ProxyError>
         ensures stands { (ms : List Match) → AllStand ms self.old
             → OnOk result (AllStand (extended writer (match_event time brought.now) ms) self.new) }
@@ -102,16 +101,15 @@ impl<A: Allocator + Copy> Matches<A> {
         Ok(Some(effects))
     }
 
-    /// Gives an event to the match with its writer as [`Matches::on_event`] does, and puts what the
-    /// proxy makes of it into the caller's effects, which are empty, so that nothing is moved on the
-    /// way; returns whether there is such a match. After a refused growth the effects may have
-    /// a part of it.
+    /// Handles an event as [`Matches::on_event`] does, and writes its effects into the caller's
+    /// `effects`, which have to be empty; this saves moving them. Returns whether the writer is
+    /// matched. After a refused growth `effects` may have a part of them.
     pub fn on_event_into<'a>(
         &mut self,
         alloc: A,
         writer: Guid,
         time: Option<Timestamp>,
-        brought: &Body<'a>,
+        brought: &EventBody<'a>,
         effects: &mut Effects<'a, A>,
     ) -> Result<bool, ProxyError>
         requires { GivesNothing effects.old }

@@ -1,4 +1,4 @@
-//! Samples whose fragments are awaited (DDSI-RTPS 8.4.14.1), in order of their numbers.
+//! Samples that are reassembled from fragments (DDSI-RTPS 8.4.14.1), in order of their numbers.
 
 ghost use Rattle.std.specs.Prelude.{◌≡◌, ◌<◌, ◌≤◌, ℕ, ◌&&◌, ◌==◌, not, is_none, is_some, Bool, IfNone, IfSome, OnOk, length, map, false, true, filter};
 ghost use Rattle.std.specs.Option.{option_map};
@@ -6,7 +6,7 @@ ghost use Rattle.rtps_types.specs.Number.{value_of};
 ghost use Rattle.rtps_receiver.specs.Views.{fragment_view};
 ghost use Rattle.rtps_frags.specs.Kept.{has_come};
 ghost use Rattle.rtps_proxy.specs.BestEffort.{above};
-ghost use Rattle.rtps_proxy.specs.Changes.{change_view};
+ghost use Rattle.rtps_proxy.specs.Change.{change_view};
 ghost use Rattle.rtps_proxy.specs.Fragments.{fits_in, grown, is_faulty, opened, sample_in, with_fragments_of};
 ghost use Rattle.rtps_proxy.specs.Pending.{are_sound, fits_found, found_at, last_64, pending_view, pending_views, place_in, whole_found};
 ghost use Rattle.rtps_proxy.specs.Runs.{marks};
@@ -20,11 +20,11 @@ use rtps_types::{Number, Timestamp};
 use rtps_wire::ChangeInfo;
 use std::alloc::{AllocError, Allocator};
 
-/// How many samples may be put together at a time, besides the next one that a reliable reader
-/// awaits: a writer that begins samples and ends none takes no more memory than these.
+/// The most samples that are reassembled at a time; for a reliable reader, in addition to the next
+/// one in order. It bounds the memory for a writer that begins samples and completes none.
 pub(crate) const SEATS: usize = 64;
 
-/// A sample of which fragments came, and what the first DATA_FRAG of it said.
+/// A sample with missing fragments, and what the first DATA_FRAG of it said.
 #[derive(Drop)]
 pub(crate) struct Pending<A: Allocator> {
     pub number: Number,
@@ -33,7 +33,7 @@ pub(crate) struct Pending<A: Allocator> {
     pub sample: Assembly<A>,
 }
 
-/// How a DATA_FRAG says that its sample is cut.
+/// Returns the sizes that a DATA_FRAG gives: of the sample, and of each fragment.
 fn sizes_of(fragment: &Fragment<'_>) -> Sizes
     ensures { result ≡ (record { sample = fragment.now.sample; fragment = fragment.now.size }) }
 {
@@ -43,7 +43,7 @@ fn sizes_of(fragment: &Fragment<'_>) -> Sizes
     }
 }
 
-/// Whether the fragments of a DATA_FRAG have no fault.
+/// Whether a DATA_FRAG has no fault.
 fn is_faultless(fragment: &Fragment<'_>) -> bool
     ensures { result ≡ not (is_faulty (fragment_view fragment.now)) }
 {
@@ -51,7 +51,7 @@ fn is_faultless(fragment: &Fragment<'_>) -> bool
     fault_in(sizes_of(fragment), fragment.start, fragment.count, octets).is_none()
 }
 
-/// How many samples have a lesser number.
+/// Returns the number of samples that have a lesser number.
 pub(crate) fn place_of<A: Allocator>(pending: &[Pending<A>], number: u64) -> usize
     ensures { result ≡ place_in number (pending_views pending.now) }
 {
@@ -63,7 +63,7 @@ pub(crate) fn place_of<A: Allocator>(pending: &[Pending<A>], number: u64) -> usi
     pending.len()
 }
 
-/// Whether the sample at the place of a number is that number's.
+/// Whether there is a sample with `number`, where `at` is the place of `number`.
 pub(crate) fn is_there<A: Allocator>(pending: &[Pending<A>], at: usize, number: u64) -> bool
     requires { at ≡ place_in number (pending_views pending.now) }
     ensures { result ≡ is_some (found_at number (pending_views pending.now)) }
@@ -71,7 +71,7 @@ pub(crate) fn is_there<A: Allocator>(pending: &[Pending<A>], at: usize, number: 
     at < pending.len() && pending[at].number.get() == number
 }
 
-/// Whether a DATA_FRAG has no fault, and the sizes that the first one of its number had.
+/// Whether a DATA_FRAG has no fault, and the same sizes as the first one of its number.
 pub(crate) fn fits<A: Allocator>(pending: &[Pending<A>], at: usize, fragment: &Fragment<'_>) -> bool
     requires { at ≡ place_in (value_of fragment.now.number) (pending_views pending.now) }
     ensures { result ≡ fits_found (pending_views pending.now) (fragment_view fragment.now) }
@@ -86,7 +86,7 @@ pub(crate) fn fits<A: Allocator>(pending: &[Pending<A>], at: usize, fragment: &F
 }
 
 impl<A: Allocator> Pending<A> {
-    /// The change, which is whole.
+    /// Returns the change of a sample that is complete.
     fn into_change(self) -> Change<'static, A>
         requires { has_come self.sample ≡ true }
         ensures { change_view result ≡ sample_in (pending_view self) }
@@ -101,7 +101,7 @@ impl<A: Allocator> Pending<A> {
 }
 
 impl<A: Allocator + Copy> Pending<A> {
-    /// A sample of which nothing came yet, as a DATA_FRAG begins it.
+    /// Returns a sample without fragments, with what its first DATA_FRAG says.
     fn new(alloc: A, time: Option<Timestamp>, fragment: &Fragment<'_>) -> Pending<A>
         ensures view { pending_view result ≡ opened time (fragment_view fragment.now) }
         ensures sound { result.sample.spent ≡ false }
@@ -114,7 +114,7 @@ impl<A: Allocator + Copy> Pending<A> {
         }
     }
 
-    /// Takes in the fragments of a DATA_FRAG without a fault.
+    /// Adds the fragments of a DATA_FRAG, where it has no fault.
     fn grow(&mut self, alloc: A, fragment: &Fragment<'_>) -> Result<(), ProxyError>
         ensures view { OnOk result (pending_view self.new
             ≡ grown (pending_view self.old) (fragment_view fragment.now)) }
@@ -129,7 +129,8 @@ impl<A: Allocator + Copy> Pending<A> {
     }
 }
 
-/// Puts the fragments of a DATA_FRAG at the place of their number.
+/// Adds the fragments of a DATA_FRAG to the sample of its number, which is created where it is
+/// missing.
 pub(crate) fn put<A: Allocator + Copy>(
     pending: &mut Vec<Pending<A>, A>,
     alloc: A,
@@ -152,7 +153,7 @@ pub(crate) fn put<A: Allocator + Copy>(
     Ok(())
 }
 
-/// Takes out the sample at the place of its number, where it is whole.
+/// Removes the sample at the place of `number` and returns it, where it is complete.
 pub(crate) fn take_whole<A: Allocator>(
     pending: &mut Vec<Pending<A>, A>,
     at: usize,
@@ -176,7 +177,7 @@ pub(crate) fn take_whole<A: Allocator>(
     Some(pending.remove(at).into_change())
 }
 
-/// Gives up the samples of settled numbers.
+/// Removes the samples whose numbers are settled.
 pub(crate) fn give_up<A: Allocator>(pending: &mut Vec<Pending<A>, A>, settled: &Settled<A>)
     ensures left { pending_views pending.new.items
         ≡ filter (λ b. not (marks settled.now.frontier settled.now.runs b.number))
@@ -189,7 +190,7 @@ pub(crate) fn give_up<A: Allocator>(pending: &mut Vec<Pending<A>, A>, settled: &
     pending.retain(|sample| !settled.contains(sample.number.get()));
 }
 
-/// Gives up the samples up to a number.
+/// Removes the samples up to a number.
 pub(crate) fn give_up_to<A: Allocator>(pending: &mut Vec<Pending<A>, A>, number: u64)
     ensures left { pending_views pending.new.items ≡ above number (pending_views pending.old.items) }
     ensures sound { are_sound pending.old.items ≡ true → are_sound pending.new.items ≡ true }
@@ -200,7 +201,7 @@ pub(crate) fn give_up_to<A: Allocator>(pending: &mut Vec<Pending<A>, A>, number:
     pending.retain(|sample| number < sample.number.get());
 }
 
-/// Gives up the first sample where there are more than 64.
+/// Removes the first sample where there are more than 64.
 pub(crate) fn displace<A: Allocator>(pending: &mut Vec<Pending<A>, A>)
     ensures left { pending_views pending.new.items ≡ last_64 (pending_views pending.old.items) }
     ensures sound { are_sound pending.old.items ≡ true → are_sound pending.new.items ≡ true }

@@ -1,7 +1,7 @@
 //! The proxy of one writer.
 
 ghost use Rattle.std.specs.Prelude.{◌≡◌, [], IfOk, List, false, true};
-ghost use Rattle.rtps_receiver.specs.declared.body.Body.TheVariants as body;
+ghost use Rattle.rtps_receiver.specs.declared.event_body.EventBody.TheVariants as body;
 ghost use Rattle.rtps_proxy.specs.Effects.{GivesNothing, StandsAt, TakesIn, given_in, match_event};
 ghost use Rattle.rtps_proxy.specs.History.{MatchEvent};
 ghost use Rattle.rtps_proxy.specs.Kept.{state_view, state_since, pairing};
@@ -10,24 +10,24 @@ ghost use Rattle.rtps_proxy.specs.Runs.{AreRuns};
 use crate::config::ProxyConfig;
 use crate::effects::{Effects, ProxyError};
 use crate::state::State;
-use rtps_receiver::{Body, Fragment, Gap, Heartbeat, HeartbeatFrag, Whole};
+use rtps_receiver::{EventBody, Fragment, Gap, Heartbeat, HeartbeatFrag, Whole};
 use rtps_types::{Number, Timestamp};
 use std::alloc::{AllocError, Allocator, Global};
 use std::marker::Model;
 
-/// What a reader keeps of one writer that it is matched with (DDSI-RTPS 8.4.10.4, `WriterProxy`).
+/// The state that a reader keeps for one matched writer (DDSI-RTPS 8.4.10.4, `WriterProxy`).
 ///
-/// Each call that takes an event in gives what follows from all events of the match. Its only error
-/// is a refused growth: the proxy is spent then, and each later call answers so and changes
-/// nothing.
+/// Each call that handles an event returns the effects that follow from all events of the match so
+/// far. The only error is a refused growth: the proxy is spent then, and each later call returns
+/// the same error and changes nothing.
 #[derive(Drop)]
 pub struct WriterProxy<A: Allocator = Global> {
-    /// In a block of its own, as the state is, so that little is moved where a match begins or ends
+    /// Boxed, as the state is, so that little memory is moved when a match is inserted or removed
     /// among others.
     config: Box<ProxyConfig<A>, A>,
-    /// A growth was refused: the state may be that of an event taken in by half.
+    /// A growth was refused: the state may come from an event that was handled only in part.
     spent: bool,
-    /// None until something comes, so that a match alone takes little memory.
+    /// None until the first event, so that a match without traffic takes little memory.
     state: Option<Box<State<A>, A>>,
 }
 
@@ -43,7 +43,7 @@ impl<A: Allocator> Model for WriterProxy<A> {
     } };
 }
 
-/// What is kept, or, where nothing has come yet, what a reader keeps then.
+/// Returns the state, or the initial state where no event came yet.
 fn begun<A: Allocator + Copy>(
     alloc: A,
     reliable: bool,
@@ -61,7 +61,7 @@ fn begun<A: Allocator + Copy>(
 }
 
 impl<A: Allocator + Copy> WriterProxy<A> {
-    /// The proxy of a match that begins: nothing has come yet. An error is a refused growth.
+    /// Returns the proxy of a new match, which has had no event yet. An error is a refused growth.
     pub fn new(alloc: A, config: ProxyConfig<A>) -> Result<WriterProxy<A>, ProxyError>
         ensures stands { IfOk result (StandsAt []) }
         ensures pairing { IfOk result (λ proxy. proxy.pairing ≡ pairing config) }
@@ -76,13 +76,13 @@ impl<A: Allocator + Copy> WriterProxy<A> {
         }
     }
 
-    /// Takes in what an event brings, by its kind. After a refused growth the proxy is spent: each
-    /// later call answers out of memory and changes nothing.
+    /// Handles an event by its kind and returns its effects. After a refused growth the proxy is
+    /// spent: each later call returns an error and changes nothing.
     pub fn on_event<'a>(
         &mut self,
         alloc: A,
         time: Option<Timestamp>,
-        brought: &Body<'a>,
+        brought: &EventBody<'a>,
     ) -> Result<Effects<'a, A>, ProxyError>
         ensures { TakesIn self.old self.new (match_event time brought.now) result }
     {
@@ -91,14 +91,14 @@ impl<A: Allocator + Copy> WriterProxy<A> {
         Ok(effects)
     }
 
-    /// Takes an event as [`WriterProxy::on_event`] does, and puts what it gives into the caller's
-    /// effects, so that nothing is moved on the way. After a refused
-    /// growth they may have a part of it.
+    /// Handles an event as [`WriterProxy::on_event`] does, and writes its effects into the caller's
+    /// `effects`, which saves moving them. After a refused growth `effects` may have a part of
+    /// them.
     pub fn on_event_into<'a>(
         &mut self,
         alloc: A,
         time: Option<Timestamp>,
-        brought: &Body<'a>,
+        brought: &EventBody<'a>,
         effects: &mut Effects<'a, A>,
     ) -> Result<(), ProxyError>
         requires { GivesNothing effects.old }
@@ -109,7 +109,7 @@ impl<A: Allocator + Copy> WriterProxy<A> {
         if self.spent {
             return Err(AllocError);
         }
-        // Spent until the event is taken in: each `?` on the way leaves it so.
+        // Spent until the event is handled: each early return by `?` leaves it so.
         self.spent = true;
         let config = self.config.as_ref();
         let mut state = begun(alloc, config.reliable, self.state.take())?;
@@ -121,9 +121,9 @@ impl<A: Allocator + Copy> WriterProxy<A> {
         Ok(())
     }
 
-    /// Takes in a change in one piece (DDSI-RTPS 8.3.7.2). One that is ready at once stays where
-    /// the datagram lies; one that waits for earlier changes is copied, and there is room for
-    /// 65,536 of these.
+    /// Handles a DATA (DDSI-RTPS 8.3.7.2). The payload of a change that is ready at once is
+    /// borrowed from the datagram. A change that waits for earlier ones is copied, and at most
+    /// 65,536 of these are kept.
     pub fn on_whole<'a>(
         &mut self,
         alloc: A,
@@ -132,10 +132,10 @@ impl<A: Allocator + Copy> WriterProxy<A> {
     ) -> Result<Effects<'a, A>, ProxyError>
         ensures { TakesIn self.old self.new (match_event time (body.Whole whole.now)) result }
     {
-        self.on_event(alloc, time, &Body::Whole(*whole))
+        self.on_event(alloc, time, &EventBody::Whole(*whole))
     }
 
-    /// Takes in a heartbeat (DDSI-RTPS 8.3.7.5). A best-effort reader ignores it.
+    /// Handles a HEARTBEAT (DDSI-RTPS 8.3.7.5). A best-effort reader ignores it.
     pub fn on_heartbeat<'a>(
         &mut self,
         alloc: A,
@@ -145,10 +145,10 @@ impl<A: Allocator + Copy> WriterProxy<A> {
         ensures { TakesIn self.old self.new (match_event time (body.Heartbeat heartbeat.now))
             result }
     {
-        self.on_event(alloc, time, &Body::Heartbeat(*heartbeat))
+        self.on_event(alloc, time, &EventBody::Heartbeat(*heartbeat))
     }
 
-    /// Takes in a gap (DDSI-RTPS 8.3.7.4). A best-effort reader ignores it.
+    /// Handles a GAP (DDSI-RTPS 8.3.7.4). A best-effort reader ignores it.
     pub fn on_gap<'a>(
         &mut self,
         alloc: A,
@@ -157,12 +157,12 @@ impl<A: Allocator + Copy> WriterProxy<A> {
     ) -> Result<Effects<'a, A>, ProxyError>
         ensures { TakesIn self.old self.new (match_event time (body.Gap gap.now)) result }
     {
-        self.on_event(alloc, time, &Body::Gap(*gap))
+        self.on_event(alloc, time, &EventBody::Gap(*gap))
     }
 
-    /// Takes in fragments of a change (DDSI-RTPS 8.3.7.3). 64 changes may be put together at a
-    /// time: for a reliable reader besides the next one that is awaited, for a best-effort reader
-    /// those of the greatest numbers.
+    /// Handles a DATA_FRAG (DDSI-RTPS 8.3.7.3). At most 64 changes are reassembled at a time: for a
+    /// reliable reader, in addition to the next change in order; for a best-effort reader, those
+    /// with the greatest sequence numbers.
     pub fn on_fragment<'a>(
         &mut self,
         alloc: A,
@@ -171,11 +171,11 @@ impl<A: Allocator + Copy> WriterProxy<A> {
     ) -> Result<Effects<'a, A>, ProxyError>
         ensures { TakesIn self.old self.new (match_event time (body.Fragment fragment.now)) result }
     {
-        self.on_event(alloc, time, &Body::Fragment(*fragment))
+        self.on_event(alloc, time, &EventBody::Fragment(*fragment))
     }
 
-    /// Takes in a heartbeat of fragments (DDSI-RTPS 8.3.7.6), and answers it where some are
-    /// missing. A best-effort reader ignores it.
+    /// Handles a HEARTBEAT_FRAG (DDSI-RTPS 8.3.7.6), and answers it where fragments are missing. A
+    /// best-effort reader ignores it.
     pub fn on_heartbeat_frag<'a>(
         &mut self,
         alloc: A,
@@ -185,11 +185,11 @@ impl<A: Allocator + Copy> WriterProxy<A> {
         ensures { TakesIn self.old self.new (match_event time (body.HeartbeatFrag heartbeat.now))
             result }
     {
-        self.on_event(alloc, time, &Body::HeartbeatFrag(*heartbeat))
+        self.on_event(alloc, time, &EventBody::HeartbeatFrag(*heartbeat))
     }
 
-    /// The first and the last number of each run of settled numbers above the frontier, which is
-    /// the least number that isn't settled; none for a best-effort reader.
+    /// Returns the first and the last number of each run of settled numbers above the frontier,
+    /// which is the least number that isn't settled. It is empty for a best-effort reader.
     pub fn runs(&self) -> &[(Number, Number)]
         ensures reliable { (past : List MatchEvent) → StandsAt past self.now →
             self.now.pairing.reliable ≡ true → AreRuns past result.now }

@@ -1,4 +1,4 @@
-//! What a reliable reader keeps of one writer (DDSI-RTPS 8.4.12).
+//! The state that a reliable reader keeps for one writer (DDSI-RTPS 8.4.12).
 
 ghost use Rattle.std.specs.Prelude.{◌^◌, ◌≤◌};
 
@@ -7,28 +7,28 @@ use crate::config::ProxyConfig;
 use crate::effects::{Effects, ProxyError};
 use crate::pending::Pending;
 use crate::settled::Settled;
-use rtps_receiver::Body;
+use rtps_receiver::EventBody;
 use rtps_types::Timestamp;
 use std::alloc::Allocator;
 use std::collections::VecDeque;
 
-/// What is awaited of a writer, and what waits.
+/// The state of a reliable reader for one writer.
 #[derive(Drop)]
 pub(crate) struct Reliable<A: Allocator> {
-    /// The greatest count of a heartbeat that was accepted.
+    /// The greatest count of an accepted HEARTBEAT.
     pub accepted: Option<i32>,
-    /// The greatest number that an accepted heartbeat named.
+    /// The greatest last number of an accepted HEARTBEAT; 0 before the first.
     pub announced: u64,
     pub settled: Settled<A>,
-    /// The changes that were received after a number that isn't settled.
+    /// The changes that were received but wait for a lesser number that isn't settled.
     pub held: VecDeque<Change<'static, A>, A>,
-    /// The samples whose fragments are awaited, in order of their numbers.
+    /// The samples with missing fragments, in order of their numbers.
     pub pending: Vec<Pending<A>, A>,
-    /// How many answers there were, modulo 2^32.
+    /// The number of ACKNACKs so far, modulo 2^32.
     pub answers: u32,
-    /// The greatest count of a heartbeat of fragments that was accepted.
+    /// The greatest count of an accepted HEARTBEAT_FRAG.
     pub frag_accepted: Option<i32>,
-    /// How many of these were answered, modulo 2^32.
+    /// The number of NACK_FRAGs so far, modulo 2^32.
     pub nacks: u32,
     ghost small: { announced ≤ 2 ^ 62 },
 }
@@ -39,7 +39,7 @@ impl<A: Allocator + Copy> Reliable<A> {
     ghost use Rattle.rtps_proxy.specs.Kept.{reliable_view, reliable_first, pairing};
     ghost use Rattle.rtps_proxy.specs.Steps.{ReliableTakes};
 
-    /// Nothing has come yet.
+    /// Returns the state before the first event.
     pub fn new(alloc: A) -> Reliable<A>
         ensures { reliable_view result ≡ reliable_first }
     {
@@ -55,13 +55,13 @@ impl<A: Allocator + Copy> Reliable<A> {
         }
     }
 
-    /// Takes in what an event brings, by its kind, and puts what it gives into `effects`.
+    /// Handles an event by its kind, and writes its effects into `effects`.
     pub fn on_event<'a>(
         &mut self,
         alloc: A,
         config: &ProxyConfig<A>,
         time: Option<Timestamp>,
-        brought: &Body<'a>,
+        brought: &EventBody<'a>,
         effects: &mut Effects<'a, A>,
     ) -> Result<(), ProxyError>
         requires { GivesNothing effects.old }
@@ -69,11 +69,11 @@ impl<A: Allocator + Copy> Reliable<A> {
             (reliable_view self.new) (match_event time brought.now) (given_in effects.new result) }
     {
         match brought {
-            Body::Whole(whole) => self.on_whole(alloc, time, whole, effects),
-            Body::Heartbeat(heartbeat) => self.on_heartbeat(alloc, config, heartbeat, effects),
-            Body::Gap(gap) => self.on_gap(gap, effects),
-            Body::Fragment(fragment) => self.on_fragment(alloc, time, fragment, effects),
-            Body::HeartbeatFrag(heartbeat) => {
+            EventBody::Whole(whole) => self.on_whole(alloc, time, whole, effects),
+            EventBody::Heartbeat(heartbeat) => self.on_heartbeat(alloc, config, heartbeat, effects),
+            EventBody::Gap(gap) => self.on_gap(gap, effects),
+            EventBody::Fragment(fragment) => self.on_fragment(alloc, time, fragment, effects),
+            EventBody::HeartbeatFrag(heartbeat) => {
                 self.on_heartbeat_frag(alloc, config, heartbeat, effects)
             }
         }

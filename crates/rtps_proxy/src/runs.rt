@@ -1,6 +1,6 @@
-//! Runs of settled numbers, in a slice with room on either side. The frontier gives up the first
-//! ones where they are, and a run that comes or goes moves those on the side where there are fewer:
-//! most numbers come at one end or the other.
+//! Runs of settled numbers, in a vector with free places before them. The frontier drops the first
+//! runs without moving the others, and an insertion or removal moves the runs on the side that has
+//! fewer, since most of them happen at one end.
 
 ghost use Rattle.std.specs.Prelude.{◌≡◌, ◌+◌, ◌-◌, ◌*◌, ◌<◌, ◌≤◌, ◌∷◌, ◌++◌, [], if◌then◌else◌, is_ok, IfOk, OnErr, length, take, drop, vec_len};
 
@@ -9,11 +9,11 @@ use rtps_types::Number;
 use std::alloc::Allocator;
 use std::marker::Model;
 
-/// Runs in order, each by its first and its last number. Of places it keeps at most five times as
-/// many as there are runs, and three.
+/// Runs in order, each by its first and its last number. The vector has at most `5 * n + 3` items
+/// for `n` runs, of which up to `4 * n + 3` are free places.
 #[derive(Drop)]
 pub(crate) struct Runs<A: Allocator> {
-    /// Room, and after it the runs.
+    /// The free places, `room` of them, and then the runs.
     list: Vec<(Number, Number), A>,
     room: usize,
     ghost within: { room ≤ vec_len list },
@@ -30,7 +30,7 @@ impl<A: Allocator> Model for Runs<A> {
 }
 
 impl<A: Allocator> Runs<A> {
-    /// No run.
+    /// Returns an empty list of runs.
     pub fn new(alloc: A) -> Runs<A>
         ensures { result ≡ [] }
     {
@@ -40,7 +40,7 @@ impl<A: Allocator> Runs<A> {
         }
     }
 
-    /// The runs, without the room before them.
+    /// Returns the runs, without the free places before them.
     pub fn as_slice(&self) -> &[(Number, Number)]
         ensures { result.now ≡ self.now }
     {
@@ -48,7 +48,7 @@ impl<A: Allocator> Runs<A> {
         standing
     }
 
-    /// Puts a run before the one at a place.
+    /// Inserts a run at `at`, before the run that is there.
     pub fn insert(&mut self, at: usize, run: (Number, Number)) -> Result<(), ProxyError>
         requires { at ≤ length self.old }
         ensures items { self.new
@@ -65,7 +65,7 @@ impl<A: Allocator> Runs<A> {
         Ok(())
     }
 
-    /// Puts a run in the place of those from `from` on and before `to`.
+    /// Replaces the runs from `from` to `to`, without `to`, with one run.
     pub fn replace(&mut self, from: usize, to: usize, run: (Number, Number))
         requires some { from < to }
         requires within { to ≤ length self.old }
@@ -83,7 +83,7 @@ impl<A: Allocator> Runs<A> {
         self.room = less_room(&mut self.list, self.room + (last - first));
     }
 
-    /// Gives up the first runs.
+    /// Removes the first `count` runs.
     pub fn give_up(&mut self, count: usize)
         requires { count ≤ length self.old }
         ensures { self.new ≡ drop count self.old }
@@ -92,8 +92,8 @@ impl<A: Allocator> Runs<A> {
     }
 }
 
-/// The room before runs, which begin at a place. Up to four fifths of a list may be room: where
-/// more of it would be, the runs are moved to its front.
+/// Returns the number of free places before the runs. Where more than about four fifths of the
+/// vector would be free, the runs are first moved to its front.
 fn less_room<A: Allocator>(list: &mut Vec<(Number, Number), A>, room: usize) -> usize
     requires { room ≤ vec_len list.old }
     ensures within { result ≤ vec_len list.new }
@@ -107,7 +107,7 @@ fn less_room<A: Allocator>(list: &mut Vec<(Number, Number), A>, room: usize) -> 
     0
 }
 
-/// Takes the runs from `from` on and before `to` out.
+/// Removes the items from `from` to `to`, without `to`.
 fn cut<A: Allocator>(list: &mut Vec<(Number, Number), A>, from: usize, to: usize)
     requires order { from ≤ to }
     requires within { to ≤ vec_len list.old }
@@ -118,8 +118,8 @@ fn cut<A: Allocator>(list: &mut Vec<(Number, Number), A>, from: usize, to: usize
     list.truncate(from + left);
 }
 
-/// The last place of the room before the runs. Where there is none, so much is made as there are
-/// runs.
+/// Returns the last free place before the runs. Where there is none, the vector is doubled first,
+/// so that there are as many free places as runs.
 fn place_before<A: Allocator>(
     list: &mut Vec<(Number, Number), A>,
     room: usize,
@@ -141,7 +141,7 @@ fn place_before<A: Allocator>(
     Ok(count - 1)
 }
 
-/// Moves `count` runs from after a place down to it, and puts a run after them.
+/// Moves `count` runs one place down to `place`, and puts a run after them.
 fn put_down<A: Allocator>(
     list: &mut Vec<(Number, Number), A>,
     place: usize,
@@ -158,8 +158,8 @@ fn put_down<A: Allocator>(
     list[place + count] = run;
 }
 
-/// Puts a run in the place of those from `first` to `last`, where the last of them is, and moves
-/// the runs from `place` on and before `first` up to it.
+/// Replaces the runs from `first` to `last` with one run, which is put at `last`, and moves the
+/// runs from `place` to `first` up to it.
 fn lift<A: Allocator>(
     list: &mut Vec<(Number, Number), A>,
     place: usize,

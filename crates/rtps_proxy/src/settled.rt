@@ -1,8 +1,7 @@
-//! The settled numbers of a match (DDSI-RTPS 8.4.12.3), in runs: numbers reach 2^62, so no step
-//! goes number by number.
+//! The settled numbers of a match (DDSI-RTPS 8.4.12.3), as runs: numbers reach 2^62, so no step
+//! loops over single numbers.
 
-ghost use Rattle.std.specs.Prelude.{◌≡◌, ℕ, ◌+◌, ◌^◌, ◌<◌, ◌≤◌, true, ◌&&◌, ◌||◌, nat_le, nat_lt, [], length, take, drop, not, is_some, IfSome, OnOk};
-ghost use Rattle.std.specs.Prelude.{min, max};
+ghost use Rattle.std.specs.Prelude.{◌≡◌, ℕ, ◌+◌, ◌^◌, ◌<◌, ◌≤◌, true, ◌&&◌, ◌||◌, nat_le, nat_lt, [], length, take, drop, not, is_some, IfSome, OnOk, min, max};
 ghost use Rattle.std.specs.List.{list_any, AllByRecursion};
 ghost use Rattle.rtps_types.specs.Number.{value_of};
 ghost use Rattle.rtps_types.specs.SequenceNumber.{IsNumber};
@@ -14,8 +13,8 @@ use crate::runs::Runs;
 use rtps_types::Number;
 use std::alloc::Allocator;
 
-/// A set of numbers: all below the frontier, which is not in it, and those in the runs, which are
-/// in order and don't touch one another.
+/// A set of numbers: all numbers below the frontier, which is not in the set, and those in the
+/// runs, which are in order and don't touch one another.
 #[derive(Drop)]
 pub(crate) struct Settled<A: Allocator> {
     pub frontier: u64,
@@ -25,7 +24,7 @@ pub(crate) struct Settled<A: Allocator> {
     ghost apart: { are_apart frontier runs ≡ true },
 }
 
-/// The number with a value that one may have.
+/// Returns the number of a value that is in range.
 fn number_at(value: u64) -> Number
     requires { IsNumber value }
     ensures { value_of result ≡ value }
@@ -33,14 +32,14 @@ fn number_at(value: u64) -> Number
     Number::new(value).unwrap()
 }
 
-/// Whether a run ends below a number, with a number between.
+/// Whether a run ends below `number` and doesn't touch it.
 fn is_before(run: &(Number, Number), number: u64) -> bool
     ensures { result ≡ nat_lt (end_of run.now) number }
 {
     run.1.get() + 1 < number
 }
 
-/// How many runs end below a number, with a number between.
+/// Returns the number of runs that end below `number` and don't touch it.
 fn first_reaching(runs: &[(Number, Number)], number: u64) -> usize
     requires { (low : ℕ) × AreApart low runs.now }
     ensures within { result ≤ length runs.now }
@@ -51,7 +50,7 @@ fn first_reaching(runs: &[(Number, Number)], number: u64) -> usize
     if count == 0 {
         return 0;
     }
-    // Most numbers come after all runs, or before them.
+    // Usually a number is above all runs, or below them.
     if is_before(&runs[count - 1], number) {
         return count;
     }
@@ -61,8 +60,9 @@ fn first_reaching(runs: &[(Number, Number)], number: u64) -> usize
     runs.partition_point(|run| is_before(run, number))
 }
 
-/// The first run from `at` on that reaches a number, where those before it end before the number
-/// and none of the others ends before the number below it.
+/// Returns the place of the first run from `at` on that ends at `number` or above. All runs before
+/// `at` end below `number`, and none from `at` on ends below `number - 1`, so at most one step is
+/// needed.
 pub(crate) fn next_reaching(runs: &[(Number, Number)], at: usize, number: u64) -> usize
     requires apart { (low : ℕ) × AreApart low runs.now }
     requires within { at ≤ length runs.now }
@@ -81,8 +81,8 @@ pub(crate) fn next_reaching(runs: &[(Number, Number)], at: usize, number: u64) -
     at
 }
 
-/// Whether a number is in the run at a place, if there is one, where it doesn't end before the
-/// number.
+/// Whether the run at `at` contains `number`, where that run ends at `number` or above; false where
+/// there is no run at `at`.
 pub(crate) fn is_begun(runs: &[(Number, Number)], at: usize, number: u64) -> bool
     requires apart { (low : ℕ) × AreApart low runs.now }
     requires before { EndBelow (number + 1) (take at runs.now) }
@@ -92,7 +92,8 @@ pub(crate) fn is_begun(runs: &[(Number, Number)], at: usize, number: u64) -> boo
     at < runs.len() && runs[at].0.get() <= number
 }
 
-/// A run joined with those from `at` on that it touches, and the place after these.
+/// Joins a run with the runs from `at` on that it touches. Returns the joined run, and the place
+/// after the last run that was joined.
 fn joined_from(
     runs: &[(Number, Number)],
     at: usize,
@@ -129,7 +130,7 @@ fn joined_from(
     (joined, next)
 }
 
-/// From the lesser first number to the greater last one.
+/// Returns the run from the lesser first number to the greater last number.
 fn hull(a: (Number, Number), b: (Number, Number)) -> (Number, Number)
     ensures starts { start_of result ≡ min (start_of a) (start_of b) }
     ensures ends { end_of result ≡ max (end_of a) (end_of b) }
@@ -140,7 +141,7 @@ fn hull(a: (Number, Number), b: (Number, Number)) -> (Number, Number)
 }
 
 impl<A: Allocator> Settled<A> {
-    /// The numbers below 1.
+    /// Returns the empty set: 1 is the least number that a change has.
     pub fn new(alloc: A) -> Settled<A>
         ensures frontier { result.frontier ≡ 1 }
         ensures runs { result.runs ≡ [] }
@@ -151,9 +152,9 @@ impl<A: Allocator> Settled<A> {
         }
     }
 
-    /// The place of a number: how many runs end below it with a number between. `None` where the
-    /// number is in the set. The run at the place may touch the number from below; then the next
-    /// one is looked at too.
+    /// Returns the place of `number`: the number of runs that end below it and don't touch it.
+    /// `None` where the number is in the set. The run at the place may touch the number from below;
+    /// then the next run is examined too.
     pub fn place_of(&self, number: u64) -> Option<usize>
         requires { number ≤ 2 ^ 62 + 1 }
         ensures missing { is_some result ≡ not (marks self.now.frontier self.now.runs number) }
@@ -178,14 +179,14 @@ impl<A: Allocator> Settled<A> {
         self.place_of(number).is_none()
     }
 
-    /// Whether a number up to this one isn't in the set.
+    /// Whether some number up to `number` isn't in the set.
     pub fn lacks(&self, number: u64) -> bool
         ensures { result ≡ lacks (marks self.now.frontier self.now.runs) number }
     {
         self.frontier <= number
     }
 
-    /// Adds the numbers from `start` on and below `end`.
+    /// Adds the numbers from `start` to `end`, without `end`.
     pub fn add(&mut self, start: u64, end: u64) -> Result<(), ProxyError>
         requires { end ≤ 2 ^ 62 + 1 }
         ensures ok { OnOk result ((n : ℕ) → marks self.new.frontier self.new.runs n
@@ -199,7 +200,7 @@ impl<A: Allocator> Settled<A> {
         self.add_at(at, start, end)
     }
 
-    /// Adds the numbers from `start` on and below `end`, where `at` is the place of `start`.
+    /// Adds the numbers from `start` to `end`, without `end`, where `at` is the place of `start`.
     pub fn add_at(&mut self, at: usize, start: u64, end: u64) -> Result<(), ProxyError>
         requires some { start < end }
         requires above { self.old.frontier ≤ start }
@@ -221,7 +222,7 @@ impl<A: Allocator> Settled<A> {
         Ok(())
     }
 
-    /// How many numbers below `end` are not in the set.
+    /// Returns the number of numbers below `end` that are not in the set.
     pub fn count_missing(&self, end: u64) -> u64
         requires { end ≤ 2 ^ 62 + 1 }
         ensures { result ≡ count_failing (marks self.now.frontier self.now.runs) end }

@@ -1,4 +1,4 @@
-//! What a proxy keeps, by whether its reader is reliable.
+//! The state of a proxy, by whether its reader is reliable.
 
 ghost use Rattle.std.specs.Prelude.{◌≡◌};
 ghost use Rattle.rtps_proxy.specs.Effects.{GivesNothing, given_in, match_event};
@@ -9,11 +9,11 @@ use crate::best_effort::BestEffort;
 use crate::config::ProxyConfig;
 use crate::effects::{Effects, ProxyError};
 use crate::reliable::Reliable;
-use rtps_receiver::Body;
+use rtps_receiver::EventBody;
 use rtps_types::Timestamp;
 use std::alloc::Allocator;
 
-/// What is kept of a writer.
+/// The state that is kept for a writer.
 #[derive(Drop)]
 pub(crate) enum State<A: Allocator> {
     BestEffort(BestEffort<A>),
@@ -21,7 +21,7 @@ pub(crate) enum State<A: Allocator> {
 }
 
 impl<A: Allocator + Copy> State<A> {
-    /// Nothing has come yet.
+    /// Returns the state before the first event.
     pub fn new(alloc: A, reliable: bool) -> State<A>
         ensures { state_view result ≡ state_first reliable }
     {
@@ -32,14 +32,13 @@ impl<A: Allocator + Copy> State<A> {
         }
     }
 
-    /// Takes in what an event brings, by whether the reader is reliable, and puts what it gives
-    /// into `effects`.
+    /// Handles an event, by whether the reader is reliable, and writes its effects into `effects`.
     pub fn on_event<'a>(
         &mut self,
         alloc: A,
         config: &ProxyConfig<A>,
         time: Option<Timestamp>,
-        brought: &Body<'a>,
+        brought: &EventBody<'a>,
         effects: &mut Effects<'a, A>,
     ) -> Result<(), ProxyError>
         requires { GivesNothing effects.old }

@@ -1,4 +1,4 @@
-//! What a reader takes of one writer, by numbers that were written down by hand.
+//! Effects of a writer's events on a reader, with expected values written by hand.
 
 use crate::*;
 use rtps_receiver::{Fragment, Gap, Heartbeat, HeartbeatFrag, Whole};
@@ -16,7 +16,7 @@ mod matches;
 mod memory;
 mod runs;
 
-/// What comes with each change here.
+/// The flags and inline QoS of each change here.
 const INFO: ChangeInfo = ChangeInfo {
     form: Form::Key,
     status: 1,
@@ -25,7 +25,7 @@ const INFO: ChangeInfo = ChangeInfo {
 
 const PAYLOAD: [u8; 4] = [0xde, 0xad, 0xbe, 0xef];
 
-/// Where the writer is reached.
+/// The writer's locator.
 const LOCATOR: Locator = Locator {
     port: 7411,
     address: [127, 0, 0, 1],
@@ -34,34 +34,33 @@ const LOCATOR: Locator = Locator {
 /// The greatest sequence number, 2^62.
 const MAX: u64 = 4_611_686_018_427_387_904;
 
-/// What each answer begins with: its header and INFO_DST.
+/// The first octets of each answer: header and INFO_DST.
 const FRONT: &[u8] = b"\x52\x54\x50\x53\x02\x05\x00\x00\
     \x0b\x0b\x0b\x0b\x0b\x0b\x0b\x0b\x0b\x0b\x0b\x0b\
     \x0e\x01\x0c\x00\
     \x0a\x0a\x0a\x0a\x0a\x0a\x0a\x0a\x0a\x0a\x0a\x0a";
 
-/// What comes of the writer.
+/// An event of the writer.
 #[derive(Clone, Copy)]
 enum What {
     /// A change with this number.
     Whole(u64),
-    /// The numbers from the first one on, below the second one, will not come.
+    /// A GAP from the first number to the second one, without the second.
     Gap(u64, u64),
-    /// A heartbeat without flags: its first number, its last number and its count.
+    /// A HEARTBEAT without flags: its first number, its last number and its count.
     Asking(u64, u64, i32),
-    /// A heartbeat with flag F.
+    /// A HEARTBEAT with flag F.
     Final(u64, u64, i32),
-    /// A heartbeat with the flags F and L.
+    /// A HEARTBEAT with the flags F and L.
     Alive(u64, u64, i32),
     /// A fragment of the change with this number.
     Fragment(u64),
-    /// A heartbeat of fragments of the change with this number.
+    /// A HEARTBEAT_FRAG of the change with this number.
     HeartbeatFrag(u64),
 }
 
-/// What comes and what it gives: how many numbers are lost, the numbers of the changes that are
-/// ready, the runs that are then above the frontier, and the submessage of the answer; it is empty
-/// where there is none.
+/// An event and what it gives: the number of lost numbers, the numbers of the ready changes, the
+/// runs above the frontier after it, and the submessage of the answer, empty where there is none.
 type Row = (
     What,
     u64,
@@ -70,7 +69,7 @@ type Row = (
     &'static [u8],
 );
 
-/// The proxy of a match of reader 00000107 with writer 00000102.
+/// Returns the proxy of a match of reader 00000107 with writer 00000102.
 fn new_proxy<A: Allocator + Copy>(alloc: A, reliable: bool) -> Result<WriterProxy<A>, AllocError> {
     let locators = Vec::from_slice(alloc, &[LOCATOR])?;
     WriterProxy::new(
@@ -95,7 +94,7 @@ fn number_of(value: u64) -> Result<Number, Fail> {
     }
 }
 
-/// The change of this number.
+/// Returns the change of this number.
 fn whole_of(value: u64) -> Result<Whole<'static>, Fail> {
     Ok(Whole {
         number: number_of(value)?,
@@ -104,7 +103,7 @@ fn whole_of(value: u64) -> Result<Whole<'static>, Fail> {
     })
 }
 
-/// A heartbeat with this first and last number and this count.
+/// Returns a HEARTBEAT with this first and last number and this count.
 fn heartbeat_of(first: u64, last: u64, count: i32) -> Result<Heartbeat, Fail> {
     if last > MAX {
         return Err(Fail::new("no last number"));
@@ -118,7 +117,7 @@ fn heartbeat_of(first: u64, last: u64, count: i32) -> Result<Heartbeat, Fail> {
     })
 }
 
-/// A gap without a list.
+/// Returns a GAP without a list.
 fn gap_of(start: u64, base: u64) -> Result<Gap, Fail> {
     if base == 0 || base > MAX {
         return Err(Fail::new("no base"));
@@ -153,7 +152,7 @@ fn heartbeat_frag_of(value: u64) -> Result<HeartbeatFrag, Fail> {
     })
 }
 
-/// What a proxy gives where this comes.
+/// Passes an event to a proxy and returns its effects.
 fn bring<A: Allocator + Copy>(
     alloc: A,
     proxy: &mut WriterProxy<A>,
@@ -214,13 +213,13 @@ fn has_runs(runs: &[(Number, Number)], expected: &[(u64, u64)]) -> bool {
             && run.1.get() == pair.1)
 }
 
-/// Whether a proxy gives what a row says.
+/// Whether a proxy gives what a row expects.
 fn meets(alloc: Global, proxy: &mut WriterProxy, row: &Row) -> Result<bool, Fail> {
     let effects = bring(alloc, proxy, row.0)??;
     Ok(gives(effects, row) && has_runs(proxy.runs(), row.3))
 }
 
-/// The place of the first row that a new proxy doesn't meet.
+/// Returns the index of the first row whose expectation a new proxy doesn't meet.
 fn first_unmet(alloc: Global, reliable: bool, rows: &[Row]) -> Result<Option<usize>, Fail> {
     let mut proxy = new_proxy(alloc, reliable)?;
     for (at, row) in rows.iter().enumerate() {

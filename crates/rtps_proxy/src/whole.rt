@@ -1,7 +1,7 @@
-//! A change in one piece (DDSI-RTPS 8.3.7.2).
+//! DATA: a change in one piece (DDSI-RTPS 8.3.7.2).
 
 ghost use Rattle.std.specs.Prelude.{◌≡◌, ◌≤◌, ◌^◌, IfSome, is_some, length, not, ◌&&◌, ◌||◌, nat_le, nat_lt};
-ghost use Rattle.rtps_receiver.specs.declared.body.Body.TheVariants as body;
+ghost use Rattle.rtps_receiver.specs.declared.event_body.EventBody.TheVariants as body;
 ghost use Rattle.rtps_proxy.specs.Effects.{GivesNothing, given_in, match_event};
 ghost use Rattle.rtps_proxy.specs.Kept.{Pairing, reliable_view, best_effort_view, marked};
 ghost use Rattle.rtps_proxy.specs.Runs.{IsPlaceOf};
@@ -17,11 +17,12 @@ use rtps_receiver::Whole;
 use rtps_types::Timestamp;
 use std::alloc::Allocator;
 
-/// How many changes may wait: a writer that never sends the missing one takes no more memory.
+/// The most changes that are held. It bounds the memory for a writer that never sends a missing
+/// change.
 const ROOM: usize = 65_536;
 
 impl<A: Allocator + Copy> BestEffort<A> {
-    /// Takes in a change. A number that isn't above the greatest one received counts as not come.
+    /// Handles a DATA. It is ignored if its number isn't above the greatest one received.
     pub fn on_whole<'a>(
         &mut self,
         time: Option<Timestamp>,
@@ -40,8 +41,8 @@ impl<A: Allocator + Copy> BestEffort<A> {
 }
 
 impl<A: Allocator + Copy> Reliable<A> {
-    /// The place of a number among the runs, if a change with it is taken: it isn't settled, and it
-    /// is the least such number or there is room.
+    /// Returns the place of `number` among the runs, if a change with this number is accepted: the
+    /// number isn't settled, and it is the least such number or there is room.
     pub(crate) fn place_for(&self, number: u64) -> Option<usize>
         requires { number ≤ 2 ^ 62 }
         ensures taken { is_some result ≡ (not (marked (reliable_view self.now) number)
@@ -55,7 +56,7 @@ impl<A: Allocator + Copy> Reliable<A> {
         self.settled.place_of(number)
     }
 
-    /// Takes in a change. One that is ready at once stays where the datagram lies.
+    /// Handles a DATA. The payload of a change that is ready at once is borrowed from the datagram.
     pub fn on_whole<'a>(
         &mut self,
         alloc: A,
@@ -74,7 +75,7 @@ impl<A: Allocator + Copy> Reliable<A> {
         };
         self.settled.add_at(at, number, number + 1)?;
         give_up(&mut self.pending, &self.settled);
-        // The frontier is above the number now just where the number was the frontier.
+        // The number is below the frontier now only if it was the frontier before.
         if number >= self.settled.frontier {
             hold(&mut self.held, Change::kept(alloc, time, whole)?)?;
             return Ok(());

@@ -1,4 +1,4 @@
-//! The missing numbers that an answer names (DDSI-RTPS 8.3.7.1, 9.4.2.6).
+//! The missing numbers that an ACKNACK asks for (DDSI-RTPS 8.3.7.1, 9.4.2.6).
 
 ghost use Rattle.std.specs.Prelude.{◌≡◌, ◌+◌, ◌-◌, ◌*◌, ◌^◌, ◌<◌, ◌≤◌, ◌/◌, ◌%◌, min, length};
 ghost use Rattle.rtps_types.specs.Sets.{sn_view};
@@ -11,7 +11,8 @@ use rtps_types::{SnSet, set_bit};
 use std::alloc::Allocator;
 
 impl<A: Allocator> Settled<A> {
-    /// Those of the 256 numbers from the frontier on that are missing, up to the announced one.
+    /// Returns the missing numbers up to `announced`, of the 256 numbers that begin at the
+    /// frontier: an ACKNACK has 256 bits.
     pub fn missing_up_to(&self, announced: u64) -> SnSet
         requires { announced ≤ 2 ^ 62 }
         ensures { sn_view result ≡ set_of

@@ -21,7 +21,7 @@ use Rattle.rtps_proxy.specs.Kept.{Pairing}
 use Rattle.rtps_proxy.specs.Matches.{Match, begun, ended, extended, fresh, match_with, same_guid}
 use Rattle.rtps_proxy.proofs.Matching.{exact, same_is}
 use Rattle.rtps_reader.specs.Reader.{Facts, Reader, all_begun, extended_by, first_reader, fresh_with, reader_after, reader_run, pairing_of}
-use Rattle.rtps_reader.specs.Steps.{StepView, Takes, Changes}
+use Rattle.rtps_reader.specs.Step.{StepView, Takes, Changes}
 use Rattle.rtps_reader.proofs.Begun.{swapped}
 
 -- two writers that are one with a third are one

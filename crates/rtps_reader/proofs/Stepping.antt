@@ -7,7 +7,7 @@ use Rattle.rtps_types.specs.declared.identity.Guid.{Guid}
 use Rattle.rtps_types.specs.declared.locator.Locator.{Locator}
 use Rattle.rtps_types.specs.declared.place.Place.{Place}
 use Rattle.rtps_proxy.specs.declared.effects.Effects.{Effects}
-use Rattle.rtps_proxy.specs.Changes.{change_view}
+use Rattle.rtps_proxy.specs.Change.{change_view}
 use Rattle.rtps_proxy.specs.History.{MatchEvent}
 use Rattle.rtps_proxy.specs.Kept.{ProxyView}
 use Rattle.rtps_proxy.specs.Matches.{AllStand, AreTaken, Match, begun, ended, extended, fresh, match_with}
@@ -18,7 +18,7 @@ use Rattle.rtps_reader.specs.declared.stateful.StatefulReader.{StatefulReader}
 use Rattle.rtps_reader.specs.declared.status.Counts.{Counts}
 use Rattle.rtps_reader.specs.Reader.{Reader, fresh_with, lost_at, notice_of, reader_after, ready_at, tells, told_of, pairing_of}
 use Rattle.rtps_reader.specs.Standing.{IsSameReader, StandsAt, counts_after, counts_given, kept_by, status_by}
-use Rattle.rtps_reader.specs.Steps.{Takes, Changes}
+use Rattle.rtps_reader.specs.Step.{Takes, Changes}
 use Rattle.rtps_reader.specs.Status.{capped, status_of}
 use Rattle.rtps_reader.proofs.Counting.{Adds, GrowBy, adds_end, adds_match, adds_none, adds_refusal, adds_told, first_status, grow_event, grow_match, grow_none, grow_refusal, status_adds}
 

@@ -8,7 +8,7 @@ use Rattle.rtps_types.specs.declared.number.Number.{Number}
 use Rattle.rtps_types.specs.declared.place.Place.{Place}
 use Rattle.rtps_types.specs.declared.time.Timestamp.{Timestamp}
 use Rattle.rtps_proxy.specs.declared.effects.Effects.{Effects}
-use Rattle.rtps_proxy.specs.Changes.{change_view}
+use Rattle.rtps_proxy.specs.Change.{change_view}
 use Rattle.rtps_proxy.specs.History.{MatchEvent}
 use Rattle.rtps_proxy.specs.Replies.{reply_view}
 use Rattle.rtps_reader.specs.declared.body.Body.{Body}

@@ -1,7 +1,7 @@
 pub mod Body
-pub mod Steps
-pub mod Reader
-pub mod Status
-pub mod Standing
-pub mod Notices
 pub mod Listed
+pub mod Notice
+pub mod Reader
+pub mod Standing
+pub mod Status
+pub mod Step

@@ -6,13 +6,13 @@ use Rattle.std.specs.declared.cmp.Ordering.{Ordering}
 use Rattle.rtps_types.specs.declared.identity.Guid.{Guid}
 use Rattle.rtps_types.specs.Order.{octet_order}
 
--- by rank; of one rank by the octets of the writer's participant, and then by the writer's own
+-- by rank, then by the octets of the writer's prefix, then by those of its entity id
 abbrev pub match_order : ℕ × Guid → ℕ × Guid → Ordering
 match_order a b =
     ordering_then (nat_cmp a.0 b.0)
     (ordering_then (octet_order a.1.prefix.0 b.1.prefix.0) (octet_order a.1.entity.0 b.1.entity.0))
 
--- the set with each of these writers, for one rank
+-- the set with the matches of one rank with these writers
 abbrev pub with_writers : List (ℕ × Guid) → ℕ → List Guid → List (ℕ × Guid)
 with_writers listed rank [] = listed
 with_writers listed rank (w ∷ ws) = with_writers (insert_key match_order listed (rank, w)) rank ws

@@ -1,4 +1,4 @@
--- What the code keeps of a reader.
+-- The state that the code keeps for a reader.
 use Rattle.std.specs.Prelude.{◌≡◌, ◌+◌, false, Bool, ℕ, List, [], length, take, Option, Some, None}
 use Rattle.rtps_types.specs.declared.identity.EntityId.{EntityId}
 use Rattle.rtps_types.specs.declared.identity.Guid.{Guid}
@@ -15,18 +15,18 @@ use Rattle.rtps_reader.specs.declared.status.Status.{Status}
 use Rattle.rtps_reader.specs.Reader.{Facts, Reader}
 use Rattle.rtps_reader.specs.Status.{capped, status_of}
 
--- what a reader's state keeps, without where it lies in memory
+-- what contracts see of a reader's state
 pub record ReaderView : Type 0 where
   pub rank : ℕ
   pub spent : Bool
   pub own : GuidPrefix
   pub entity : EntityId
   pub reliable : Bool
-  -- each by its writer
+  -- the proxies of the matches, by writer
   pub matches : List (Guid × ProxyView)
   pub status : Status
 
--- the status, by what is counted and by how many matches there are
+-- the status, by the totals and the number of matches now
 abbrev pub status_by : Counts → ℕ → Status
 status_by counts now = record {
   matched_total = counts.matched_total;
@@ -37,7 +37,7 @@ status_by counts now = record {
   samples = counts.samples;
 }
 
--- what is kept, as contracts see it
+-- what contracts see of the state, given whether the reader is spent
 abbrev pub kept_by : {A : Type 0} → Bool → StatefulReader A → ReaderView
 kept_by is_spent r = record {
   rank = r.rank;
@@ -49,8 +49,7 @@ kept_by is_spent r = record {
   status = status_by r.counts (length r.matches);
 }
 
--- the state keeps what follows from all that the reader was asked to do, and counts the notices
--- that it gave out
+-- the state follows from the reader's steps, and the status counts the notices that it has given
 pub record StandsAt {M : Type 0} (r : Reader) (given : List (Notice M)) (state : ReaderView)
     : Type 0 where
   pub sound : state.spent ≡ false
@@ -60,34 +59,34 @@ pub record StandsAt {M : Type 0} (r : Reader) (given : List (Notice M)) (state :
   pub matches : AllStand r.matches state.matches
   pub status : state.status ≡ status_of r given
 
--- the state of a reader that gave out no notice yet
+-- the state of a reader that has given no notice yet
 abbrev pub StartsAt : Reader → ReaderView → Type 0
 StartsAt r state = StandsAt {M = Unit {0}} r [] state
 
--- only matches and counts have changed
+-- at most the matches and the totals have changed
 pub record IsSameReader {A : Type 0} (old new : StatefulReader A) : Type 0 where
   pub rank : new.rank ≡ old.rank
   pub own : new.own ≡ old.own
   pub entity : new.entity ≡ old.entity
   pub reliable : new.reliable ≡ old.reliable
 
--- a writer and its locators, without where they lie in memory
+-- what contracts see of a writer and its locators
 abbrev pub facts_in : {A : Type 0} → WriterFacts A → Facts
 facts_in facts = (facts.writer, facts.locators)
 
--- the counts once an event lost some numbers and gave some samples
+-- the totals after an event with this number of lost numbers and of samples
 abbrev pub counts_after : Counts → ℕ → ℕ → Counts
 counts_after c lost samples = record c {
   lost_total = capped (c.lost_total + lost);
   samples = capped (c.samples + samples);
 }
 
--- the counts once an event gave this, if there is a match with its writer
+-- the totals after an event with these effects, if its writer is matched
 abbrev pub counts_given : {A : Type 0} → Counts → Option (Effects A) → Counts
 counts_given c None = c
 counts_given c (Some effects) = counts_after c effects.lost (length effects.ready.items)
 
--- what was in an output is still there, in front
+-- an output still begins with what was in it before
 pub record KeepsFront {V A : Type 0} (old new : Output V A) : Type 0 where
   pub notices : take (length old.notices.items) new.notices.items ≡ old.notices.items
   pub answers : take (length old.answers.items) new.answers.items ≡ old.answers.items

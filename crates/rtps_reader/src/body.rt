@@ -1,4 +1,4 @@
-//! What a change is presented as.
+//! The body that a change is presented with.
 
 use dds_topic::Unread;
 use rtps_types::KeyHash;
@@ -6,12 +6,12 @@ use rtps_types::KeyHash;
 /// The body of a sample (DDS 1.4, 2.2.2.5.1.3: the states of instances).
 #[derive(Debug, Drop)]
 pub enum Body<V> {
-    /// A value, with the hash of its key.
+    /// A value, with its key hash.
     Value(KeyHash, V),
-    /// Its writer disposed the instance of this key.
+    /// The writer disposed the instance with this key hash.
     Disposed(KeyHash),
-    /// Its writer no longer writes the instance of this key.
+    /// The writer unregistered the instance with this key hash: it no longer writes it.
     Unregistered(KeyHash),
-    /// The change can't be read, for this reason.
+    /// The change can't be decoded, for this reason.
     Unread(Unread),
 }

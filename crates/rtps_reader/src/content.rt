@@ -1,4 +1,4 @@
-//! The body that a change is presented as.
+//! The body that a change is presented with.
 
 ghost use Rattle.std.specs.Prelude.{◌≡◌, Err, IfErr, IfOk, Ok};
 ghost use Rattle.dds_topic.specs.Answer.{Gives};
@@ -10,21 +10,21 @@ use rtps_types::KeyHash;
 use rtps_wire::{ChangeInfo, Form};
 use std::alloc::AllocError;
 
-/// The octets of an encapsulation: kind and options, two each.
+/// The number of octets of the encapsulation header: kind and options, two each.
 const ENCAPSULATION: usize = 4;
 
 /// The status bit of an instance that was disposed.
 const DISPOSED: u8 = 0x01;
 
-/// The status bit of an instance that its writer no longer writes.
+/// The status bit of an instance that was unregistered.
 const UNREGISTERED: u8 = 0x02;
 
-/// What a change is presented as.
+/// Returns the body that a change is presented with.
 ///
-/// Without status bits it is the value that the catalog decodes. With them it is the end of an
-/// instance, whose key comes from the value, else from the key payload, else, where there is no
-/// payload, from the key hash that was sent with the change. What the catalog can't read is
-/// presented as unread, with its reason.
+/// Without status bits it is the value that the catalog decodes. With status bits it is the end of
+/// an instance, whose key hash comes from the value or the key payload, or, if there is no payload,
+/// from the key hash that was sent in the inline QoS. What the catalog can't decode is presented as
+/// unread, with the reason.
 pub fn body_of<C: Catalog>(
     decoder: &mut Decoder<C>,
     info: ChangeInfo,
@@ -52,7 +52,8 @@ pub fn body_of<C: Catalog>(
         Ok(unpacked) => unpacked,
         Err(unread) => return Ok(Body::Unread(unread)),
     };
-    // Each function that a value is returned through copies it: none stands between.
+    // Decoded here and not in a helper function: each function that a value is returned through
+    // copies it.
     match decoder.decode(kind, body) {
         Ok(value) => {
             let hash = decoder.key_of(&value)?;
@@ -63,7 +64,7 @@ pub fn body_of<C: Catalog>(
     }
 }
 
-/// The kind of a payload's encapsulation, and the body after it.
+/// Returns the kind in a payload's encapsulation header, and the data after the header.
 fn unpack(payload: &[u8]) -> Result<(u16, &[u8]), Unread>
     ensures ok { IfOk result (λ p. encapsulated payload.now ≡ Ok (p.0, p.1.now)) }
     ensures err { IfErr result (λ unread. encapsulated payload.now ≡ Err unread) }
@@ -76,7 +77,7 @@ fn unpack(payload: &[u8]) -> Result<(u16, &[u8]), Unread>
     Ok((kind, body))
 }
 
-/// The key of a change with status bits.
+/// Returns the key hash of a change with status bits.
 fn key_of<C: Catalog>(
     decoder: &mut Decoder<C>,
     info: ChangeInfo,

@@ -12,11 +12,11 @@ ghost use Rattle.rtps_types.specs.Order.{guid_order};
 ghost use Rattle.rtps_proxy.specs.History.{MatchEvent};
 ghost use Rattle.rtps_proxy.specs.Matches.{match_with, same_guid};
 ghost use Rattle.rtps_reader.specs.Reader.{Facts, Reader, extended_by, first_reader, fresh_with, reader_after, reader_run};
-ghost use Rattle.rtps_reader.specs.Steps.{StepView, Takes, Changes};
+ghost use Rattle.rtps_reader.specs.Step.{StepView, Takes, Changes};
 
-/// What a step does to the match with each writer. An event of a writer extends the history of its
-/// match, if there is one. A match that begins has no history, whatever there was before. After an
-/// end there is no match. Of no step does the match with another writer change.
+/// How a step changes the match with each writer. An event of a writer extends the history of its
+/// match, if there is one. A match that begins has no history, even if it replaces one. A match
+/// that ends is removed. No step changes the matches with other writers.
 pub fn matches_follow()
     ensures taken { (r : Reader) (writer other : Guid) (event : MatchEvent)
         → match_with other (reader_after r (Takes writer event)).matches
@@ -31,8 +31,8 @@ pub fn matches_follow()
         ≡ (if same_guid writer other then None else match_with other r.matches) }
 {}
 
-/// Whatever a reader is asked to do, its matches are in the order of their writers, and none of
-/// them is with the writer of another.
+/// After any steps, the matches of a reader are in the order of their writers, and no writer has
+/// two.
 pub fn matches_in_order()
     ensures { (own : GuidPrefix) (entity : EntityId) (is_reliable : Bool) (fixed : List Facts)
         (doings : List StepView)

@@ -1,4 +1,4 @@
-//! A reader: what it presents of the changes that its writers send.
+//! A reader: it presents the changes that its writers send.
 #![tactic(auto)]
 
 mod body;

@@ -1,10 +1,10 @@
-//! What a reader gives out.
+//! The output of a reader: notices and answers.
 
 use crate::body::Body;
 use rtps_types::{Guid, Number, Place, PolicyId, Reply, Timestamp};
 use std::alloc::{Allocator, Global};
 
-/// What a reader reports of a match. The notices of a reader come in the order of their causes.
+/// A report about a match. The notices of a reader are in the order of the events that cause them.
 #[derive(Debug, Drop)]
 pub struct Notice<V> {
     /// The event that caused it.
@@ -14,10 +14,10 @@ pub struct Notice<V> {
     pub what: NoticeKind<V>,
 }
 
-/// What a notice reports.
+/// The kinds of notices.
 #[derive(Debug, Drop)]
 pub enum NoticeKind<V> {
-    /// A change, presented (DDS 1.4, 2.2.2.5).
+    /// A change is presented (DDS 1.4, 2.2.2.5).
     Sample {
         number: Number,
         time: Option<Timestamp>,
@@ -32,16 +32,17 @@ pub enum NoticeKind<V> {
     Incompatible {
         policy: PolicyId,
     },
-    /// Numbers will not come any more; how many (DDS 1.4, 2.2.4.1, SAMPLE_LOST).
+    /// Samples were lost: the number of sequence numbers that are given up (DDS 1.4, 2.2.4.1,
+    /// SAMPLE_LOST).
     Lost {
         count: u64,
     },
 }
 
-/// What the steps of a reader give.
+/// The output of a reader's steps.
 #[derive(Debug, Drop)]
 pub struct Output<V, A: Allocator = Global> {
     pub notices: Vec<Notice<V>, A>,
-    /// What is said to writers, each with the place of the event that it answers.
+    /// Replies to writers, each with the place of the event that it answers.
     pub answers: Vec<(Place, Reply<A>), A>,
 }

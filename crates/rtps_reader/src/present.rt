@@ -1,11 +1,11 @@
-//! Presenting what an event gave.
+//! Presenting the effects of an event.
 
 ghost use Rattle.std.specs.Prelude.{◌≡◌, ◌++◌, None, length, map, take, true, OnOk};
 ghost use Rattle.std.specs.Option.{option_map};
-ghost use Rattle.rtps_proxy.specs.Changes.{change_view};
+ghost use Rattle.rtps_proxy.specs.Change.{change_view};
 ghost use Rattle.rtps_proxy.specs.Effects.{GivesNothing};
 ghost use Rattle.rtps_proxy.specs.Replies.{reply_view};
-ghost use Rattle.rtps_reader.specs.Notices.{answer_view, kind_view, notice_view};
+ghost use Rattle.rtps_reader.specs.Notice.{answer_view, kind_view, notice_view};
 ghost use Rattle.rtps_reader.specs.Reader.{loses, notice_of, placed, presented};
 ghost use Rattle.rtps_reader.specs.Standing.{KeepsFront};
 
@@ -16,8 +16,9 @@ use rtps_proxy::{Change, Effects};
 use rtps_types::{Guid, Place, Reply};
 use std::alloc::{AllocError, Allocator};
 
-/// Adds what an event of a writer gave: what was lost, then the changes that are ready, and what is
-/// said to the writer. Nothing is left in the effects, but the room of their list.
+/// Adds the effects of a writer's event to `output`: a notice of lost samples, then the changes
+/// that are ready, and the answer to the writer. The effects are empty then, and keep only the
+/// capacity of their list.
 #[tactic(auto, using(crate::proofs::Telling::told_then))]
 pub(crate) fn present<C: Catalog, A: Allocator>(
     decoder: &mut Decoder<C>,
@@ -49,15 +50,16 @@ pub(crate) fn present<C: Catalog, A: Allocator>(
     Ok(())
 }
 
-/// Whether an event gave nothing, as most do where changes wait or come in fragments.
+/// Whether there are no effects, which is common where changes wait for earlier ones or are sent in
+/// fragments.
 fn is_nothing<A: Allocator>(effects: &Effects<'_, A>) -> bool
     ensures { result ≡ true → GivesNothing effects.now }
 {
     effects.lost == 0 && effects.ready.is_empty() && effects.answer.is_none()
 }
 
-/// Moves what is said to the writer, if anything is, after the answers, with the place of the event
-/// that it answers.
+/// Moves the answer to the writer, if there is one, to the end of `answers`, with the place of the
+/// event that it answers.
 fn say<A: Allocator>(
     place: Place,
     answer: &mut Option<Reply<A>>,
@@ -77,7 +79,7 @@ fn say<A: Allocator>(
     Ok(())
 }
 
-/// Adds a notice of what was lost, where anything was.
+/// Adds a notice of lost samples, if any were lost.
 fn tell_lost<C: Catalog, A: Allocator>(
     place: Place,
     writer: Guid,
@@ -114,7 +116,7 @@ pub(crate) fn tell<C: Catalog, A: Allocator>(
     Ok(())
 }
 
-/// Adds a notice of each change that is ready.
+/// Adds a notice for each change that is ready.
 fn tell_ready<C: Catalog, A: Allocator>(
     decoder: &mut Decoder<C>,
     place: Place,

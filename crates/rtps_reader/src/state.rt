@@ -1,4 +1,4 @@
-//! A reader's state, and its steps.
+//! The state of a reader, and its steps.
 
 ghost use Rattle.std.specs.Prelude.{◌≡◌, ◌++◌, List, map, IfOk, IsErr, OnErr, OnOk, true};
 ghost use Rattle.std.specs.BTreeSet.{insert_key};
@@ -6,10 +6,10 @@ ghost use Rattle.std.specs.Map.{keys_of};
 ghost use Rattle.rtps_proxy.specs.Effects.{GivesNothing};
 ghost use Rattle.rtps_reader.specs.declared.notice.Notice.{Notice};
 ghost use Rattle.rtps_reader.specs.Listed.{match_order, with_writers};
-ghost use Rattle.rtps_reader.specs.Notices.{answer_view, notice_view};
+ghost use Rattle.rtps_reader.specs.Notice.{answer_view, notice_view};
 ghost use Rattle.rtps_reader.specs.Reader.{Reader, first_reader, reader_after, sends, tells};
 ghost use Rattle.rtps_reader.specs.Standing.{KeepsFront, StandsAt, StartsAt, facts_in};
-ghost use Rattle.rtps_reader.specs.Steps.{asked};
+ghost use Rattle.rtps_reader.specs.Step.{asked};
 
 use crate::notice::Output;
 use crate::stateful::StatefulReader;
@@ -22,13 +22,13 @@ use std::alloc::{AllocError, Allocator, Global};
 use std::collections::BTreeSet;
 use std::marker::Model;
 
-/// A reader could not take a step: the allocator refused a growth, now or at an earlier step.
+/// Why a reader could not do a step: the allocator refused a growth, now or at an earlier step.
 pub type ReaderError = AllocError;
 
-/// A reader: its matches, and what is counted of it (DDSI-RTPS 8.4.10; DDS 1.4, 2.2.4.1).
+/// A reader: its matches and its status (DDSI-RTPS 8.4.10; DDS 1.4, 2.2.4.1).
 #[derive(Drop)]
 pub struct ReaderState<A: Allocator = Global> {
-    /// A growth was refused: a step may have been taken by half.
+    /// A growth was refused: a step may have been done only in part.
     spent: bool,
     reader: StatefulReader<A>,
 }
@@ -42,9 +42,9 @@ impl<A: Allocator> Model for ReaderState<A> {
 }
 
 impl<A: Allocator + Copy> ReaderState<A> {
-    /// A reader at the start, which has its fixed matches and has counted them. `rank` is its place
-    /// among the readers of the participant `own`, `entity` its part of its guid; a reliable one
-    /// asks for what is missing. An error is a refused growth.
+    /// Returns a reader with its fixed matches, which are counted in its status. `rank` is its
+    /// index among the readers of the participant `own`, and `entity` its part of its guid. A
+    /// reliable reader asks for missing changes. An error is a refused growth.
     pub fn new(
         alloc: A,
         rank: u32,
@@ -63,13 +63,13 @@ impl<A: Allocator + Copy> ReaderState<A> {
         })
     }
 
-    /// Takes one step, and adds what it gives after what is in `output`. Of an event of a writer
-    /// that the reader is matched with it gives what was lost, then the samples that are ready, and
-    /// what is said to the writer; of any other event nothing. Whom an event is for is tested
-    /// before: the reader is given only what is for it.
+    /// Does one step, and appends its results to `output`. An event of a matched writer gives a
+    /// notice of lost samples, then the samples that are ready, and the answer to the writer. An
+    /// event of any other writer gives nothing. The caller checks the destination of an event
+    /// first: the reader gets only events that are addressed to it.
     ///
-    /// When a step is out of memory the reader is spent, and what the step gave before is left in
-    /// `output`. Each later step of a spent reader answers so too, and changes nothing.
+    /// When a step runs out of memory the reader is spent, and `output` keeps what the step had
+    /// appended. Each later step of a spent reader returns the same error, and changes nothing.
     pub fn step<C: Catalog>(
         &mut self,
         alloc: A,
@@ -101,9 +101,9 @@ impl<A: Allocator + Copy> ReaderState<A> {
         self.step_with(alloc, decoder, step, &mut effects, output)
     }
 
-    /// Takes one step as [`ReaderState::step`] does. What its match gives on the way is put into the
-    /// caller's effects, and is moved on from there: only their room is left, which the next step
-    /// uses again.
+    /// Does one step as [`ReaderState::step`] does. The effects of the match are written into the
+    /// caller's `effects` and moved on to `output`. Afterwards they are empty, and keep only their
+    /// capacity, which the next step reuses.
     pub fn step_with<'a, C: Catalog>(
         &mut self,
         alloc: A,
@@ -138,29 +138,29 @@ impl<A: Allocator + Copy> ReaderState<A> {
         if self.spent {
             return Err(AllocError);
         }
-        // Spent until the step is taken: a `?` leaves it so.
+        // Spent until the step is done: an early return by `?` leaves it so.
         self.spent = true;
         self.reader.step(alloc, decoder, step, effects, output)?;
         self.spent = false;
         Ok(())
     }
 
-    /// Its place among the readers of its participant, counted from 0.
+    /// Returns the reader's index among the readers of its participant, counted from 0.
     pub fn rank(&self) -> u32
         ensures { result ≡ self.now.rank }
     {
         self.reader.rank
     }
 
-    /// The entity that events name it by.
+    /// Returns the entity id that events address the reader by.
     pub fn entity(&self) -> EntityId
         ensures { result ≡ self.now.entity }
     {
         self.reader.entity
     }
 
-    /// Adds its matches to a set, each as its rank and the writer. A refused growth may leave some
-    /// of them in it.
+    /// Adds the matches to a set, each as the reader's rank and the writer. A refused growth may
+    /// leave some of them in it.
     pub fn add_matches(&self, matches: &mut BTreeSet<(u32, Guid), A>) -> Result<(), ReaderError>
         ensures { OnOk result (matches.new.keys
             ≡ with_writers matches.old.keys self.now.rank (keys_of self.now.matches)) }
@@ -172,8 +172,8 @@ impl<A: Allocator + Copy> ReaderState<A> {
         Ok(())
     }
 
-    /// The status of the reader, by all that it gave out: its matches now, and totals since its
-    /// start (DDS 1.4, 2.2.4.1).
+    /// Returns the status of the reader: its matches now, and totals of what it has reported since
+    /// its start (DDS 1.4, 2.2.4.1).
     pub fn status(&self) -> Status
         ensures { result ≡ self.now.status }
     {

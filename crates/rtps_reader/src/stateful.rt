@@ -1,4 +1,4 @@
-//! A reader that keeps state of each writer that it is matched with.
+//! A reader that keeps the state of each matched writer.
 
 ghost use Rattle.std.specs.Prelude.{◌≡◌, ◌++◌, List, IfOk, OnOk, false, length, map, take};
 ghost use Rattle.rtps_proxy.specs.Effects.{GivesNothing, match_event};
@@ -6,11 +6,10 @@ ghost use Rattle.rtps_proxy.specs.Matches.{AllStand, AreTaken, Match, begun, ext
 ghost use Rattle.rtps_types.specs.MatchChange.{match_change_view};
 ghost use Rattle.dds_topic.specs.Decoding.{Decoding};
 ghost use Rattle.rtps_reader.specs.declared.notice.Notice.{Notice};
-ghost use Rattle.rtps_reader.specs.Notices.{answer_view, notice_view};
-ghost use Rattle.rtps_reader.specs.Reader.{Reader, first_reader, pairing_of, reader_after, sends};
-ghost use Rattle.rtps_reader.specs.Reader.{tells};
+ghost use Rattle.rtps_reader.specs.Notice.{answer_view, notice_view};
+ghost use Rattle.rtps_reader.specs.Reader.{Reader, first_reader, pairing_of, reader_after, sends, tells};
 ghost use Rattle.rtps_reader.specs.Standing.{IsSameReader, KeepsFront, StandsAt, StartsAt, counts_given, facts_in, kept_by};
-ghost use Rattle.rtps_reader.specs.Steps.{Changes, asked};
+ghost use Rattle.rtps_reader.specs.Step.{Changes, asked};
 
 use crate::notice::{Notice, NoticeKind, Output};
 use crate::present::{present, tell};
@@ -18,14 +17,14 @@ use crate::status::Counts;
 use crate::step::{Step, StepKind};
 use dds_topic::{Catalog, Decoder};
 use rtps_proxy::{Effects, Matches, ProxyConfig};
-use rtps_receiver::Body;
+use rtps_receiver::EventBody;
 use rtps_types::{
     EntityId, Guid, GuidPrefix, Locator, Locators, MatchChangeKind, Place, Timestamp, WriterFacts,
 };
 use std::alloc::{AllocError, Allocator};
 
-/// A reader that keeps state of each writer that it is matched with (DDSI-RTPS 8.4.10,
-/// `StatefulReader`), and counts what it reports.
+/// A reader that keeps the state of each matched writer (DDSI-RTPS 8.4.10, `StatefulReader`), and
+/// counts what it reports.
 #[derive(Drop)]
 pub(crate) struct StatefulReader<A: Allocator> {
     pub(crate) rank: u32,
@@ -37,7 +36,7 @@ pub(crate) struct StatefulReader<A: Allocator> {
 }
 
 impl<A: Allocator + Copy> StatefulReader<A> {
-    /// The matches at the start, to which nothing came yet. They are counted.
+    /// Returns a reader with its fixed matches, which are counted and have no events yet.
     pub(crate) fn new(
         alloc: A,
         rank: u32,
@@ -65,8 +64,8 @@ impl<A: Allocator + Copy> StatefulReader<A> {
         Ok(reader)
     }
 
-    /// Takes one step, and adds what it gives after what is in `output`. After a refused growth the
-    /// matches may be those of a step taken by half.
+    /// Does one step, and appends its results to `output`. After a refused growth the step may have
+    /// been done only in part.
     pub(crate) fn step<'a, C: Catalog>(
         &mut self,
         alloc: A,
@@ -110,7 +109,7 @@ impl<A: Allocator + Copy> StatefulReader<A> {
         }
     }
 
-    /// Begins, ends or refuses a match, and reports that.
+    /// Begins or ends a match or refuses a writer, and reports that.
     fn change<C: Catalog>(
         &mut self,
         alloc: A,
@@ -148,14 +147,14 @@ impl<A: Allocator + Copy> StatefulReader<A> {
         }
     }
 
-    /// Gives an event to the match with its writer, puts what that gives into `effects`, and counts
-    /// it. Whether there is such a match.
+    /// Passes an event to the match with its writer, writes the effects into `effects`, and counts
+    /// them. Returns whether the writer is matched.
     fn take<'a>(
         &mut self,
         alloc: A,
         writer: Guid,
         time: Option<Timestamp>,
-        body: &Body<'a>,
+        body: &EventBody<'a>,
         effects: &mut Effects<'a, A>,
     ) -> Result<bool, AllocError>
         requires { GivesNothing effects.old }
@@ -179,7 +178,7 @@ impl<A: Allocator + Copy> StatefulReader<A> {
         Ok(true)
     }
 
-    /// Begins a match with a writer, which keeps a copy of these locators.
+    /// Begins a match with a writer, with a copy of these locators.
     fn begin(&mut self, alloc: A, writer: Guid, locators: &[Locator]) -> Result<(), AllocError>
         ensures stands { (ms : List Match) → AllStand ms self.old.matches
             → OnOk result (AllStand (begun (fresh (pairing_of self.old.own self.old.entity

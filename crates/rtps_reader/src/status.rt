@@ -12,21 +12,21 @@ use std::alloc::Allocator;
 /// stop at 2,147,483,647.
 #[derive(Clone, Copy, Debug, PartialEq, Eq)]
 pub struct Status {
-    /// How many matches began, the fixed ones too.
+    /// The number of matches that began, with the fixed ones.
     pub matched_total: u32,
-    /// How many matches there are now.
+    /// The number of matches now.
     pub matched_now: u64,
-    /// How many times a writer was found to offer less than is requested.
+    /// The number of times that a writer was found to offer less than is requested.
     pub incompatible_total: u32,
     /// The policy of the last such time.
     pub last_policy: Option<PolicyId>,
-    /// How many numbers were given up.
+    /// The number of sequence numbers that were given up.
     pub lost_total: u32,
-    /// How many changes were presented, unread ones and ends of instances too.
+    /// The number of changes that were presented, with unread ones and ends of instances.
     pub samples: u32,
 }
 
-/// What a reader counts: its status without the number of its matches.
+/// The totals of a reader: its status without the number of matches now.
 #[derive(Clone, Copy, Debug)]
 pub(crate) struct Counts {
     pub(crate) matched_total: u32,
@@ -37,7 +37,7 @@ pub(crate) struct Counts {
 }
 
 impl Counts {
-    /// The counts of a reader with this number of matches from the start.
+    /// Returns the totals of a reader that starts with this number of matches.
     pub(crate) fn of_fixed(matches: usize) -> Counts
         ensures { result ≡ record {
           matched_total = capped (0 + matches);
@@ -56,7 +56,7 @@ impl Counts {
         }
     }
 
-    /// The counts once an event had these effects.
+    /// Returns the totals after an event with these effects.
     pub(crate) fn with_effects<A: Allocator>(self, effects: &Effects<'_, A>) -> Counts
         ensures { result ≡ counts_after self effects.now.lost (length effects.now.ready.items) }
     {
@@ -67,7 +67,7 @@ impl Counts {
         }
     }
 
-    /// The counts once a match began.
+    /// Returns the totals after a match began.
     pub(crate) fn with_match(self) -> Counts
         ensures { result ≡ record self { matched_total = capped (self.matched_total + 1) } }
     {
@@ -77,7 +77,7 @@ impl Counts {
         }
     }
 
-    /// The counts once a writer was refused for a policy.
+    /// Returns the totals after a writer was refused for a policy.
     pub(crate) fn with_refusal(self, policy: PolicyId) -> Counts
         ensures { result ≡ record self {
           incompatible_total = capped (self.incompatible_total + 1);
@@ -91,7 +91,7 @@ impl Counts {
         }
     }
 
-    /// The status where `matches` is the number of matches now.
+    /// Returns the status, where `matches` is the number of matches now.
     pub(crate) fn status(self, matches: usize) -> Status
         ensures { result ≡ status_by self matches }
     {
@@ -109,7 +109,7 @@ impl Counts {
 /// The greatest total that is reported: totals are a signed `long` in DDS 1.4, 2.2.4.1.
 pub(crate) const MOST: u64 = 2_147_483_647;
 
-/// A total and some more, up to the greatest that is reported.
+/// Adds to a total, up to the greatest that is reported.
 fn counted(total: u32, more: u64) -> u32
     ensures { result ≡ capped (total + more) }
 {

@@ -1,36 +1,36 @@
-//! What a reader is asked to do.
+//! The steps of a reader.
 
 ghost use Rattle.std.specs.Prelude.{◌≡◌};
 ghost use Rattle.rtps_receiver.specs.Events.{view};
-ghost use Rattle.rtps_reader.specs.Steps.{asked, asks_of};
+ghost use Rattle.rtps_reader.specs.Step.{asked, asks_of};
 
-use rtps_receiver::{Body, Event};
+use rtps_receiver::{Event, EventBody};
 use rtps_types::{Guid, MatchChangeKind, Place, Timestamp};
 use std::alloc::{Allocator, Global};
 
-/// One step of a reader, at a place of the run.
+/// One step of a reader, with its place in the run.
 #[derive(Clone, Copy, Debug)]
 pub struct Step<'a, A: Allocator = Global> {
-    /// The event that asks it.
+    /// The place of the event that causes it.
     pub place: Place,
     pub what: StepKind<'a, A>,
 }
 
-/// What a step asks.
+/// The kinds of steps.
 #[derive(Clone, Copy, Debug)]
 pub enum StepKind<'a, A: Allocator = Global> {
-    /// To take what came from a writer.
+    /// Handle an event of a writer.
     Event {
         writer: Guid,
         time: Option<Timestamp>,
-        body: &'a Body<'a>,
+        body: &'a EventBody<'a>,
     },
-    /// To begin or end a match, or to report a writer that is refused.
+    /// Begin or end a match, or report a writer that is refused.
     Change(&'a MatchChangeKind<A>),
 }
 
 impl<'a, A: Allocator> Step<'a, A> {
-    /// The step of each reader that an event is for.
+    /// Returns the step for each reader that an event is addressed to.
     pub fn of_event(event: &'a Event<'a>) -> Step<'a, A>
         ensures place { result.place ≡ event.now.place }
         ensures what { asked result.what ≡ asks_of (view event.now) }

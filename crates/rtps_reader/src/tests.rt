@@ -1,4 +1,4 @@
-//! Bodies of changes that were written down by hand.
+//! Bodies of changes, with octets written by hand.
 
 mod edges;
 mod matching;
@@ -12,7 +12,7 @@ use rtps_wire::{ChangeInfo, Form};
 use std::alloc::Global;
 use std::test::Fail;
 
-/// BLUE at 10, 20 of size 30, in little-endian CDR.
+/// A shape BLUE at 10, 20 with size 30, in little-endian CDR.
 const BLUE: [u8; 28] = [
     0, 1, 0, 0, 5, 0, 0, 0, 0x42, 0x4c, 0x55, 0x45, 0, 0, 0, 0, 10, 0, 0, 0, 20, 0, 0, 0, 30, 0, 0,
     0,
@@ -26,7 +26,7 @@ const BLUE_HASH: KeyHash = KeyHash([
     0xca, 0xc2, 0x17, 0xc3, 0x18, 0x36, 0x3f, 0x8e, 0xf1, 0x16, 0x0e, 0xee, 0xde, 0xf9, 0xe8, 0x86,
 ]);
 
-/// A hash that no value has.
+/// A key hash that no value here has.
 const SENT: KeyHash = KeyHash([7; 16]);
 
 fn info(form: Form, status: u8, hash: Option<KeyHash>) -> ChangeInfo {
@@ -45,7 +45,7 @@ fn is_blue(body: Body<Shape>) -> bool {
     }
 }
 
-/// Whether a body is the octets of BLUE, which have no key.
+/// Whether a body has the octets of BLUE; raw values have no key.
 fn is_raw_blue(body: Body<RawValue>) -> bool {
     match &body {
         Body::Value(hash, raw) => *hash == KeyHash([0; 16]) && raw.body.len() == 24,
@@ -64,7 +64,7 @@ fn values(rt: HostRuntime) -> Result<(), Fail> {
 #[test]
 fn raw_values(rt: HostRuntime) -> Result<(), Fail> {
     let mut raw = Decoder::new(rt.alloc(), Raw);
-    // Other bits of the status say nothing.
+    // Other bits of the status are ignored.
     let info = info(Form::Value, 0xfc, None);
     assert!(rt; is_raw_blue(body_of(&mut raw, info, &BLUE)?));
     Ok(())
@@ -73,7 +73,7 @@ fn raw_values(rt: HostRuntime) -> Result<(), Fail> {
 #[test]
 fn ends_of_instances(rt: HostRuntime) -> Result<(), Fail> {
     let mut shapes = Decoder::new(rt.alloc(), Shapes);
-    // The key comes from the value, from the key payload, or from what was sent with the change.
+    // The key comes from the value, from the key payload, or from the inline QoS.
     for (form, payload, hash) in [
         (Form::Value, BLUE.as_slice(), BLUE_HASH),
         (Form::Key, BLUE_KEY.as_slice(), BLUE_HASH),
@@ -96,7 +96,7 @@ fn ends_of_instances(rt: HostRuntime) -> Result<(), Fail> {
     Ok(())
 }
 
-/// What can't be read, and why.
+/// Returns why a change can't be decoded, or `None` where it can.
 fn reason(alloc: Global, info: ChangeInfo, payload: &[u8]) -> Result<Option<Unread>, Fail> {
     match body_of(&mut Decoder::new(alloc, Shapes), info, payload)? {
         Body::Unread(unread) => Ok(Some(unread)),

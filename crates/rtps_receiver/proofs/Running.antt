@@ -2,28 +2,28 @@
 use Rattle.std.proofs.Common.{◌≡◌, ℕ, ◌+◌, ◌-◌, List, [], ◌∷◌, length, take, drop, Ok, refl, ap, ◌∙◌}
 use Rattle.std.proofs.lemmas.List.{take_rest}
 use Rattle.rtps_types.specs.declared.identity.GuidPrefix.{GuidPrefix}
-use Rattle.rtps_wire.specs.Submessage.{Content, Item, Pad, HeartbeatOf, GapOf, Time, Source, Destination, HeartbeatFragOf, Whole, Frag, Skipped}
+use Rattle.rtps_wire.specs.Submessage.{PartsView, Item, Pad, Heartbeat, Gap, InfoTimestamp, InfoSource, InfoDestination, HeartbeatFrag, Data, DataFrag, Skipped}
 use Rattle.rtps_wire.specs.Reading.{reading}
 use Rattle.rtps_wire.specs.declared.message_header.Header.{Header}
-use Rattle.rtps_wire.specs.Header.{header_of}
+use Rattle.rtps_wire.specs.MessageHeader.{header_of}
 use Rattle.rtps_receiver.specs.Events.{events_behind, events_of, events_under}
 use Rattle.rtps_receiver.specs.Running.{after, context_of, events_left, first_context}
 
 -- the context that is kept is the one that the submessages before give
-context_after : (own header : GuidPrefix) (before : List Content) (c : Content) → after (context_of own header before) c ≡ context_of own header (c ∷ before)
+context_after : (own header : GuidPrefix) (before : List PartsView) (c : PartsView) → after (context_of own header before) c ≡ context_of own header (c ∷ before)
 context_after own header before Pad = refl
-context_after own header before (HeartbeatOf h) = refl
-context_after own header before (GapOf g) = refl
-context_after own header before (Time t) = refl
-context_after own header before (Source s) = refl
-context_after own header before (Destination p) = refl
-context_after own header before (HeartbeatFragOf h) = refl
-context_after own header before (Whole d) = refl
-context_after own header before (Frag d) = refl
+context_after own header before (Heartbeat h) = refl
+context_after own header before (Gap g) = refl
+context_after own header before (InfoTimestamp t) = refl
+context_after own header before (InfoSource s) = refl
+context_after own header before (InfoDestination p) = refl
+context_after own header before (HeartbeatFrag h) = refl
+context_after own header before (Data d) = refl
+context_after own header before (DataFrag d) = refl
 context_after own header before Skipped = refl
 
 -- so the events that are left are those that the submessages before and after them give
-left_is : (own header : GuidPrefix) (index count : ℕ) (before : List Content) (left : List Item) → events_left (context_of own header before) (record { datagram = index; submessage = count }) left ≡ events_behind own header index count before left
+left_is : (own header : GuidPrefix) (index count : ℕ) (before : List PartsView) (left : List Item) → events_left (context_of own header before) (record { datagram = index; submessage = count }) left ≡ events_behind own header index count before left
 left_is own header index count before [] = refl
 left_is own header index count before (i ∷ left) = rw (context_after own header before i.content, left_is own header index (count + 1) (i.content ∷ before) left) refl
 

@@ -1,14 +1,14 @@
--- What an event brings, without where its octets lie in memory (DDSI-RTPS 8.3.7).
+-- The bodies of events, without their places in memory (DDSI-RTPS 8.3.7).
 use Rattle.std.specs.Prelude.{ℕ, ℤ, ◌^◌, List, ◌∷◌, Bool, nat_le}
 use Rattle.std.specs.List.{list_all}
 use Rattle.rtps_types.specs.NumberSet.{NumberSet, members}
 use Rattle.rtps_wire.specs.declared.data.ChangeInfo.{ChangeInfo}
 
--- a number that a change may have is at most 2^62
+-- numbers of changes are at most 2^62
 abbrev pub is_taken : ℕ → Bool
 is_taken n = nat_le n (2 ^ 62)
 
--- the base and all members of a set are such numbers
+-- the base and all members of a set are at most that
 abbrev pub are_taken : NumberSet → Bool
 are_taken s = list_all is_taken (s.base ∷ members s)
 
@@ -18,7 +18,7 @@ pub record WholeView : Type 0 where
   pub info : ChangeInfo
   pub payload : List ℕ
 
--- fragments of a change, from number start on
+-- consecutive fragments of a change, from number start on
 pub record FragmentView : Type 0 where
   pub number : ℕ
   pub start : ℕ
@@ -28,7 +28,7 @@ pub record FragmentView : Type 0 where
   pub info : ChangeInfo
   pub payload : List ℕ
 
--- which numbers a writer has
+-- the numbers that a writer has
 pub record HeartbeatView : Type 0 where
   pub first : ℕ
   pub last : ℕ
@@ -36,21 +36,21 @@ pub record HeartbeatView : Type 0 where
   pub final_flag : Bool
   pub liveliness : Bool
 
--- numbers that will not come: from start up to below the base of the list, and its members
+-- irrelevant numbers: from start to the base of the list, without the base, and the list's members
 pub record GapView : Type 0 where
   pub start : ℕ
   pub list : NumberSet
 
--- which fragments of a change a writer has
+-- the fragments of a change that a writer has
 pub record HeartbeatFragView : Type 0 where
   pub number : ℕ
   pub last : ℕ
   pub count : ℤ
 
--- what an event brings, by its kind
-pub data EventBody : Type 0 where
-  Whole : WholeView → EventBody
-  Fragment : FragmentView → EventBody
-  Heartbeat : HeartbeatView → EventBody
-  Gap : GapView → EventBody
-  HeartbeatFrag : HeartbeatFragView → EventBody
+-- the body of an event, by its kind
+pub data EventBodyView : Type 0 where
+  Whole : WholeView → EventBodyView
+  Fragment : FragmentView → EventBodyView
+  Heartbeat : HeartbeatView → EventBodyView
+  Gap : GapView → EventBodyView
+  HeartbeatFrag : HeartbeatFragView → EventBodyView

@@ -1,37 +1,37 @@
--- The context as it is kept from one submessage to the next (DDSI-RTPS 8.3.4).
+-- The context as it is updated from one submessage to the next (DDSI-RTPS 8.3.4).
 use Rattle.std.specs.Prelude.{◌+◌, List, [], ◌∷◌, ◌++◌, Option, None, if◌then◌else◌, option_to_list}
 use Rattle.std.specs.Str.{bytes_eq}
 use Rattle.rtps_types.specs.declared.place.Place.{Place}
 use Rattle.rtps_types.specs.declared.identity.GuidPrefix.{GuidPrefix}
-use Rattle.rtps_wire.specs.Submessage.{Content, Item, Pad, HeartbeatOf, GapOf, Time, Source, Destination, HeartbeatFragOf, Whole, Frag, Skipped}
+use Rattle.rtps_wire.specs.Submessage.{PartsView, Item, Pad, Heartbeat, Gap, InfoTimestamp, InfoSource, InfoDestination, HeartbeatFrag, Data, DataFrag, Skipped}
 use Rattle.rtps_receiver.specs.declared.context.Context.{Context}
 use Rattle.rtps_receiver.specs.Addressed.{addressed, taken_of}
 use Rattle.rtps_receiver.specs.Events.{EventView, happening}
 use Rattle.rtps_receiver.specs.Context.{destination_of, resolved, source_of, time_of}
 
--- the context that the submessages before give
-abbrev pub context_of : GuidPrefix → GuidPrefix → List Content → Context
+-- the context after these submessages, the nearest first
+abbrev pub context_of : GuidPrefix → GuidPrefix → List PartsView → Context
 context_of own header before = record { own = own; source = source_of header before; destination = destination_of own before; time = time_of before }
 
 -- the context at the start of a message
 abbrev pub first_context : GuidPrefix → GuidPrefix → Context
 first_context own header = context_of own header []
 
--- what one submessage changes
-abbrev pub after : Context → Content → Context
-after c (Time t) = record c { time = t }
-after c (Source s) = record c { source = s.prefix; time = None }
-after c (Destination p) = record c { destination = resolved c.own p }
+-- the context after one more submessage
+abbrev pub after : Context → PartsView → Context
+after c (InfoTimestamp t) = record c { time = t }
+after c (InfoSource s) = record c { source = s.prefix; time = None }
+after c (InfoDestination p) = record c { destination = resolved c.own p }
 after c Pad = c
-after c (HeartbeatOf h) = c
-after c (GapOf g) = c
-after c (HeartbeatFragOf h) = c
-after c (Whole d) = c
-after c (Frag d) = c
+after c (Heartbeat h) = c
+after c (Gap g) = c
+after c (HeartbeatFrag h) = c
+after c (Data d) = c
+after c (DataFrag d) = c
 after c Skipped = c
 
 -- the event of a submessage in a context
-abbrev pub event_in : Context → Place → Content → Option EventView
+abbrev pub event_in : Context → Place → PartsView → Option EventView
 event_in c place content =
     if bytes_eq c.destination.0 c.own.0 then happening place c.source c.time (taken_of (addressed content)) else None
 
@@ -39,7 +39,7 @@ event_in c place content =
 abbrev pub next_place : Place → Place
 next_place p = record p { submessage = p.submessage + 1 }
 
--- the events of the submessages that are left, in a context, the first of them after a place
+-- the events of the remaining submessages, in a context, after the submessage at a place
 abbrev pub events_left : Context → Place → List Item → List EventView
 events_left c before [] = []
 events_left c before (i ∷ left) = option_to_list (event_in c (next_place before) i.content) ++ events_left (after c i.content) (next_place before) left

@@ -1,5 +1,5 @@
-//! What a submessage brings to readers, by its kind (DDSI-RTPS 8.3.7): nothing where it names a
-//! number above [`MAX_NUMBER`].
+//! The event body of a submessage, by its kind (DDSI-RTPS 8.3.7). There is none if the submessage
+//! names a number above [`MAX_NUMBER`].
 
 ghost use Rattle.std.specs.Prelude.{◌≡◌};
 ghost use Rattle.std.specs.List.{list_all};
@@ -14,24 +14,24 @@ ghost use Rattle.rtps_receiver.specs.Addressed.{brought_by};
 ghost use Rattle.rtps_receiver.specs.EventBody.{are_taken, is_taken};
 ghost use Rattle.rtps_receiver.specs.Views.{body_view};
 
-use crate::body::{Body, Fragment, Gap, Heartbeat, HeartbeatFrag, Whole};
+use crate::event_body::{EventBody, Fragment, Gap, Heartbeat, HeartbeatFrag, Whole};
 use rtps_types::{MAX_NUMBER, Number, SnSet};
 use rtps_wire::{self, Data, DataFrag};
 
-pub(crate) fn whole_of<'a>(change: &Data<'a>) -> Option<Body<'a>>
-    ensures { option_map body_view result ≡ brought_by (wire.Whole (data_view change.now)) }
+pub(crate) fn whole_of<'a>(change: &Data<'a>) -> Option<EventBody<'a>>
+    ensures { option_map body_view result ≡ brought_by (wire.Data (data_view change.now)) }
 {
-    Some(Body::Whole(Whole {
+    Some(EventBody::Whole(Whole {
         number: Number::new(change.number)?,
         info: change.info,
         payload: change.payload,
     }))
 }
 
-pub(crate) fn fragment_of<'a>(fragments: &DataFrag<'a>) -> Option<Body<'a>>
-    ensures { option_map body_view result ≡ brought_by (wire.Frag (frag_view fragments.now)) }
+pub(crate) fn fragment_of<'a>(fragments: &DataFrag<'a>) -> Option<EventBody<'a>>
+    ensures { option_map body_view result ≡ brought_by (wire.DataFrag (frag_view fragments.now)) }
 {
-    Some(Body::Fragment(Fragment {
+    Some(EventBody::Fragment(Fragment {
         number: Number::new(fragments.number)?,
         start: fragments.start,
         count: fragments.count,
@@ -42,14 +42,14 @@ pub(crate) fn fragment_of<'a>(fragments: &DataFrag<'a>) -> Option<Body<'a>>
     }))
 }
 
-pub(crate) fn heartbeat_of<'a>(heartbeat: &rtps_wire::Heartbeat) -> Option<Body<'a>>
-    ensures { option_map body_view result ≡ brought_by (wire.HeartbeatOf heartbeat.now) }
+pub(crate) fn heartbeat_of<'a>(heartbeat: &rtps_wire::Heartbeat) -> Option<EventBody<'a>>
+    ensures { option_map body_view result ≡ brought_by (wire.Heartbeat heartbeat.now) }
 {
     let first = Number::new(heartbeat.first)?;
     if heartbeat.last > MAX_NUMBER {
         return None;
     }
-    Some(Body::Heartbeat(Heartbeat {
+    Some(EventBody::Heartbeat(Heartbeat {
         first,
         last: heartbeat.last,
         count: heartbeat.count,
@@ -58,14 +58,14 @@ pub(crate) fn heartbeat_of<'a>(heartbeat: &rtps_wire::Heartbeat) -> Option<Body<
     }))
 }
 
-pub(crate) fn gap_of<'a>(gap: &rtps_wire::Gap) -> Option<Body<'a>>
-    ensures { option_map body_view result ≡ brought_by (wire.GapOf (gap_view gap.now)) }
+pub(crate) fn gap_of<'a>(gap: &rtps_wire::Gap) -> Option<EventBody<'a>>
+    ensures { option_map body_view result ≡ brought_by (wire.Gap (gap_view gap.now)) }
 {
     let start = Number::new(gap.start)?;
     if !names_changes(&gap.list) {
         return None;
     }
-    Some(Body::Gap(Gap {
+    Some(EventBody::Gap(Gap {
         start,
         list: gap.list,
     }))
@@ -90,10 +90,10 @@ fn has_only_changes(list: &SnSet) -> bool
     true
 }
 
-pub(crate) fn heartbeat_frag_of<'a>(heartbeat: &rtps_wire::HeartbeatFrag) -> Option<Body<'a>>
-    ensures { option_map body_view result ≡ brought_by (wire.HeartbeatFragOf heartbeat.now) }
+pub(crate) fn heartbeat_frag_of<'a>(heartbeat: &rtps_wire::HeartbeatFrag) -> Option<EventBody<'a>>
+    ensures { option_map body_view result ≡ brought_by (wire.HeartbeatFrag heartbeat.now) }
 {
-    Some(Body::HeartbeatFrag(HeartbeatFrag {
+    Some(EventBody::HeartbeatFrag(HeartbeatFrag {
         number: Number::new(heartbeat.number)?,
         last: heartbeat.last,
         count: heartbeat.count,

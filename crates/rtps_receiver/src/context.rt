@@ -1,4 +1,5 @@
-//! What the submessages before a submessage say of it (DDSI-RTPS 8.3.4).
+//! The state of a receiver: what the submessages before a submessage say about it (DDSI-RTPS
+//! 8.3.4).
 
 ghost use Rattle.std.specs.Prelude.{◌≡◌};
 ghost use Rattle.std.specs.Option.{option_map};
@@ -20,7 +21,7 @@ pub(crate) struct Context {
     time: Option<Timestamp>,
 }
 
-/// The destination that means whoever reads.
+/// The destination prefix that stands for every participant.
 const UNKNOWN: GuidPrefix = GuidPrefix([0; 12]);
 
 impl Context {
@@ -36,7 +37,7 @@ impl Context {
         }
     }
 
-    /// Takes in what a submessage says of those after it.
+    /// Updates the state by a submessage, for the submessages after it.
     pub(crate) fn see(&mut self, parts: &Parts<'_>)
         ensures { self.new ≡ after self.old (parts_view parts.now) }
     {
@@ -57,7 +58,8 @@ impl Context {
         }
     }
 
-    /// The event of a submessage, if it is one that is addressed to us.
+    /// Returns the event of a submessage, if its kind has one and its destination is this
+    /// participant.
     pub(crate) fn event<'a>(&self, place: Place, parts: &Parts<'a>) -> Option<Event<'a>>
         ensures { option_map view result ≡ event_in self.now place (parts_view parts.now) }
     {

@@ -1,4 +1,4 @@
-//! The events of a datagram, one after the other.
+//! The events of a datagram, in order.
 
 ghost use Rattle.std.specs.Prelude.{◌≡◌, ◌+◌, ◌≤◌, List, length};
 ghost use Rattle.std.specs.Iterator.{YieldsFirstBy, item_count};
@@ -12,19 +12,19 @@ use rtps_types::{GuidPrefix, Place};
 use rtps_wire::{Submessages, header};
 use std::marker::Model;
 
-/// How many octets the header of a message takes.
+/// The number of octets of a message header.
 const HEADER: usize = 20;
 
-/// The events of one datagram, in order (DDSI-RTPS 8.3.4): its valid submessages of the five kinds
-/// that bring something to readers, where their destination is ours and they name no number above
-/// 2^62.
+/// An iterator over the events of one datagram, in order (DDSI-RTPS 8.3.4). An event is a valid
+/// submessage of a kind that readers handle (DATA, DATA_FRAG, HEARTBEAT, GAP, HEARTBEAT_FRAG), if
+/// its destination is this participant and it names no number above 2^62.
 ///
-/// No memory is taken. Payloads stay where the datagram lies.
+/// No memory is taken: payloads are borrowed from the datagram.
 #[derive(Drop)]
 pub struct Events<'a> {
     submessages: Submessages<'a>,
     context: Context,
-    /// The place of the submessage before the next one.
+    /// The place of the last submessage that was read.
     place: Place,
 }
 
@@ -37,9 +37,9 @@ impl<'a> Model for Events<'a> {
 }
 
 impl<'a> Events<'a> {
-    /// Begins with the first event of a datagram of at most 65,507 octets, as the participant `own`
-    /// sees it. `index` is the datagram's place in the run, counted from 0. A bad header gives no
-    /// events, and so does what comes after the first invalid submessage.
+    /// Returns the events of a datagram of at most 65,507 octets, as the participant `own` receives
+    /// it. `index` is the datagram's index in the run, counted from 0. A datagram with a bad header
+    /// has no events, and what follows the first invalid submessage is ignored.
     pub fn new(own: GuidPrefix, index: u64, octets: &'a [u8]) -> Events<'a>
         requires { length octets.now ≤ 65507 }
         ensures { result ≡ events_of own index octets.now }
@@ -50,7 +50,7 @@ impl<'a> Events<'a> {
         }
     }
 
-    /// The events of the submessages in `octets`, in a datagram that comes from `source`.
+    /// Returns the events of the submessages in `octets`, in a datagram from `source`.
     fn of_rest(own: GuidPrefix, source: GuidPrefix, index: u64, octets: &'a [u8]) -> Events<'a>
         requires { length octets.now ≤ 65507 }
         ensures { result ≡ events_left (first_context own source)

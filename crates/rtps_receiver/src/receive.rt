@@ -8,13 +8,13 @@ use crate::event::Event;
 use rtps_types::GuidPrefix;
 use std::alloc::{AllocError, Allocator};
 
-/// Why the events of a datagram could not be found: the allocator refused a growth.
+/// Why the events of a datagram could not be listed: the allocator refused a growth.
 pub type ReceiverError = AllocError;
 
-/// Puts the events of one datagram, in order, after those that are there, as [`events`] finds them.
-/// A refused growth leaves those alone.
+/// Appends the events of one datagram, as [`events`] lists them. A refused growth leaves `events`
+/// as it was.
 ///
-/// Payloads stay where the datagram lies, which has at most 65,507 octets.
+/// Payloads are borrowed from the datagram, which has at most 65,507 octets.
 pub fn add_events<'a, A: Allocator>(
     events: &mut Vec<Event<'a>, A>,
     own: GuidPrefix,
@@ -36,13 +36,13 @@ pub fn add_events<'a, A: Allocator>(
     Ok(())
 }
 
-/// The events of one datagram, in order (DDSI-RTPS 8.3.4): its valid submessages of the five kinds
-/// that bring something to readers, where their destination is the participant `own` and they name
-/// no number above 2^62. `index` is the datagram's place in the run, counted from 0. A bad header
-/// gives none, and so does what comes after the first invalid submessage. An error is a refused
-/// growth.
+/// Returns the events of one datagram, in order (DDSI-RTPS 8.3.4). An event is a valid submessage
+/// of a kind that readers handle (DATA, DATA_FRAG, HEARTBEAT, GAP, HEARTBEAT_FRAG), if its
+/// destination is the participant `own` and it names no number above 2^62. `index` is the
+/// datagram's index in the run, counted from 0. A datagram with a bad header has no events, and
+/// what follows the first invalid submessage is ignored. An error is a refused growth.
 ///
-/// Payloads stay where the datagram lies, which has at most 65,507 octets.
+/// Payloads are borrowed from the datagram, which has at most 65,507 octets.
 pub fn events<A: Allocator>(
     alloc: A,
     own: GuidPrefix,

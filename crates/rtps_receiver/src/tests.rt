@@ -1,4 +1,4 @@
-//! Events against datagrams that were written down by hand.
+//! Events of datagrams written by hand.
 
 use crate::*;
 use linked_list_allocator::LocalHeap;
@@ -21,7 +21,7 @@ const DATA: [u8; 28] = [
     0xde, 0xad, 0xbe, 0xef,
 ];
 
-/// A message with these parts after its header.
+/// Returns a message with these submessages after its header.
 fn message(alloc: std::alloc::Global, parts: &[&[u8]]) -> Result<Vec<u8>, Fail> {
     let mut octets = HEADER.to_vec(alloc)?;
     for part in parts {
@@ -56,7 +56,7 @@ fn a_change_and_its_context(rt: HostRuntime) -> Result<(), Fail> {
     assert_eq!(rt; found[0].writer, EntityId([0, 0, 1, 2]));
     assert_eq!(rt; found[0].reader, EntityId([0, 0, 1, 7]));
     match found[0].body {
-        Body::Whole(whole) => {
+        EventBody::Whole(whole) => {
             assert_eq!(rt; whole.number.get(), 1);
             assert_eq!(rt; whole.info.form, Form::Value);
             assert_eq!(rt; whole.payload, [0xde, 0xad, 0xbe, 0xef].as_slice());
@@ -109,8 +109,8 @@ fn the_greatest_number_and_those_above(rt: HostRuntime) -> Result<(), Fail> {
     greatest[16..24].copy_from_slice(&[0, 0, 0, 0x40, 0, 0, 0, 0]);
     let mut above = DATA;
     above[16..24].copy_from_slice(&[0, 0, 0, 0x40, 1, 0, 0, 0]);
-    // GAP from 1 with base 2^62 - 1 and three bits, of which the middle one names 2^62, the last
-    // one the number above it.
+    // GAP from 1 with base 2^62 - 1 and three bits: the middle one names 2^62, and the last one the
+    // number above it.
     let gap = [
         0x08, 1, 32, 0, 0, 0, 1, 7, 0, 0, 1, 2, 0, 0, 0, 0, 1, 0, 0, 0, //
         0xff, 0xff, 0xff, 0x3f, 0xff, 0xff, 0xff, 0xff, 3, 0, 0, 0, 0, 0, 0, 0x40,
@@ -153,7 +153,11 @@ fn heartbeats_and_fragments(rt: HostRuntime) -> Result<(), Fail> {
     let found = events(rt.alloc(), OURS, 0, &octets)?;
     assert_eq!(rt; found.len(), 3);
     match (found[0].body, found[1].body, found[2].body) {
-        (Body::Heartbeat(heartbeat), Body::HeartbeatFrag(frag), Body::Fragment(fragment)) => {
+        (
+            EventBody::Heartbeat(heartbeat),
+            EventBody::HeartbeatFrag(frag),
+            EventBody::Fragment(fragment),
+        ) => {
             assert_eq!(rt;
                 (heartbeat.first.get(), heartbeat.last, heartbeat.count),
                 (2, 5, -1)
@@ -219,7 +223,7 @@ fn one_after_the_other(rt: HostRuntime) -> Result<(), Fail> {
     Ok(())
 }
 
-/// Where an event is in the last datagram that a run can have.
+/// Returns the submessage of an event in the last datagram of a run.
 fn submessage_of(event: Option<Event<'_>>) -> Option<u32> {
     let place = event?.place;
     (place.datagram == u64::MAX).then_some(place.submessage)
@@ -242,7 +246,7 @@ fn the_longest_datagram(rt: HostRuntime) -> Result<(), Fail> {
     Ok(())
 }
 
-/// 65,507 octets, of which a DATA of 65,483 takes all after the header and the four of its own.
+/// 65,507 octets: the header, and a DATA with a body of 65,483 octets.
 #[test]
 fn the_longest_payload(rt: HostRuntime) -> Result<(), Fail> {
     let mut octets = HEADER.to_vec(rt.alloc())?;
@@ -255,7 +259,7 @@ fn the_longest_payload(rt: HostRuntime) -> Result<(), Fail> {
     let found = events(rt.alloc(), OURS, 0, &octets)?;
     assert_eq!(rt; found.len(), 1);
     match found[0].body {
-        Body::Whole(whole) => assert_eq!(rt; whole.payload.len(), 65_463),
+        EventBody::Whole(whole) => assert_eq!(rt; whole.payload.len(), 65_463),
         _ => assert!(rt; false, "no change in one piece"),
     }
     Ok(())

@@ -1,10 +1,10 @@
--- What is said of a run that ends early.
+-- The messages of runs that end early.
 use Rattle.std.specs.Prelude.{ℕ, List, ◌++◌, codes}
 use Rattle.std.specs.Fmt.{decimal}
 use Rattle.rtps_records.specs.declared.fault.RunFault.{RunFault}
 use Rattle.rtps_records.specs.declared.fault.RunFault.TheVariants.{CannotRead, NotRecordFile, CutRecord, RecordTooLong, TooManyRecords, CannotWrite, NoMemory}
 
--- what the line of a fault says
+-- the message of a fault
 abbrev pub fault_text : RunFault → List ℕ
 fault_text CannotRead = codes "cannot read the file"
 fault_text NotRecordFile = codes "not an RDG1 file"

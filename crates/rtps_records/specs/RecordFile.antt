@@ -1,5 +1,5 @@
--- A record file: four octets of magic, and records of a 32-bit length and that many octets, to the
--- end.
+-- A record file: four octets of magic, and then records until the end, each a 32-bit length and
+-- that many octets.
 use Rattle.std.specs.Prelude.{◌≡◌, ℕ, ◌+◌, ◌<◌, ◌≤◌, List, [], ◌∷◌, ◌++◌, ◌⊎◌, length, take, Option, Some, None, IfSome}
 use Rattle.std.specs.Io.KnownBytes.{Consumes}
 use Rattle.std.specs.List.{flat_map, AllByRecursion}
@@ -19,19 +19,19 @@ frame octets = to_be_bytes w32 (length octets) ++ octets
 abbrev pub IsRecord : List ℕ → Type 0
 IsRecord octets = length octets ≤ 65507
 
--- what the first four octets say
+-- the length in the first four octets
 abbrev pub told_length : List ℕ → ℕ
 told_length octets = from_be_bytes w32 (take 4 octets)
 
--- some octets are here, and they end before the record that they begin does
+-- the rest of a file ends inside a record
 abbrev pub IsCut : List ℕ → Type 0
 IsCut octets = (0 < length octets) × ((length octets < 4) ⊎ ((told_length octets ≤ 65507) × (length octets < 4 + told_length octets)))
 
--- a length is here that is greater than any record's
+-- the rest of a file begins with a length that is too great
 abbrev pub IsTooLong : List ℕ → Type 0
 IsTooLong octets = (4 ≤ length octets) × (65507 < told_length octets)
 
--- n records were read, and the file ends here, or the first fault is here
+-- after n records the file ends, or has its first fault
 abbrev pub EndsBy : Option RunFault → ℕ → List ℕ → Type 0
 EndsBy None n rest = (n ≤ 4294967295) × (rest ≡ [])
 EndsBy (Some (CutRecord at)) n rest = (at ≡ n) × (n < 4294967295) × IsCut rest
@@ -42,7 +42,7 @@ EndsBy (Some CannotRead) n rest = ⊥
 EndsBy (Some CannotWrite) n rest = ⊥
 EndsBy (Some NoMemory) n rest = ⊥
 
--- the octets are these records, up to a rest
+-- the octets are these records, followed by a rest
 pub record Holds (octets : List ℕ) (records : List (List ℕ)) (rest : List ℕ) : Type 0 where
   pub whole : octets ≡ magic ++ (flat_map frame records ++ rest)
   pub each : AllByRecursion IsRecord records
@@ -55,8 +55,8 @@ Reads octets records fault = (rest : List ℕ) × Holds octets records rest × E
 abbrev pub IsOther : List ℕ → Type 0
 IsOther octets = (more : List ℕ) → ¬ (octets ≡ magic ++ more)
 
--- what was read after n records holds no whole record; after the greatest number of records it is
--- nothing
+-- the octets read after n records are no complete record; after the greatest number of records,
+-- there are none
 abbrev pub IsPartial : ℕ → List ℕ → Type 0
 IsPartial n octets = (octets ≡ []) ⊎ ((n < 4294967295) × IsCut octets)
 
@@ -80,7 +80,7 @@ FaultHere TooManyRecords n before after = IfSome before (EndsBy (Some TooManyRec
 FaultHere CannotWrite n before after = ⊥
 FaultHere NoMemory n before after = ⊥
 
--- octets have one reading at most
+-- octets have at most one reading
 abbrev pub OneReading : Type 0
 OneReading =
     (octets : List ℕ) (records others : List (List ℕ)) (fault other : Option RunFault)
@@ -92,6 +92,6 @@ SomeReading =
     (octets : List ℕ) → AllByRecursion (λ octet. octet < 256) octets
     → (records : List (List ℕ)) × (fault : Option RunFault) × Reads (magic ++ octets) records fault
 
--- octets that begin otherwise have none
+-- octets that don't begin with the magic have none
 abbrev pub OthersHaveNone : Type 0
 OthersHaveNone = (octets : List ℕ) (records : List (List ℕ)) (fault : Option RunFault) → IsOther octets → ¬ Reads octets records fault

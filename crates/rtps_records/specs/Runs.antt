@@ -1,5 +1,5 @@
--- What a run leaves written, by the text of records, by what the reader had left before and after
--- it, and by the writer's contents before and after it.
+-- The effect of a run over a record file, in terms of the text of records, of the remaining input
+-- before and after the run, and of the writer's contents before and after it.
 use Rattle.std.specs.Prelude.{◌≡◌, ℕ, ◌<◌, ◌≤◌, List, [], ◌++◌, ◌⊎◌, length, take, Option, Some, IfSome}
 use Rattle.std.specs.Io.KnownBytes.{Appends, Consumes, Keeps}
 use Rattle.rtps_records.specs.declared.fault.RunFault.{RunFault}
@@ -7,42 +7,42 @@ use Rattle.rtps_records.specs.declared.fault.RunFault.TheVariants.{CannotRead, N
 use Rattle.rtps_records.specs.RecordFile.{Holds, Reads, IsOther, IsPartial}
 use Rattle.rtps_records.specs.Text.{IsFront}
 
--- the whole input is these records, and then the end or this fault; their text was written, and
--- nothing else
+-- the whole input was read, up to its end or its fault, and the text of its records was written,
+-- and nothing else
 unfoldable pub WroteAll : (List (List ℕ) → List ℕ) → Option (List ℕ) → Option (List ℕ) → Option (List ℕ) → Option RunFault → Type 0
 WroteAll text before old new fault = IfSome before (λ input. (records : List (List ℕ)) × Reads input records fault × Appends old new (text records))
 
--- A part of the input was read. The text of the records in it was written, and nothing else; less
--- than the first four octets has no text.
+-- A part of the input was read, and the text of the records in it was written, and nothing else.
+-- Less than the first four octets has no text.
 unfoldable pub WroteRead : (List (List ℕ) → List ℕ) → Option (List ℕ) → Option (List ℕ) → Option (List ℕ) → Option (List ℕ) → Type 0
 WroteRead text before after old new =
     (taken : List ℕ) × Consumes before after taken
     × (((length taken < 4) × Keeps old new)
     ⊎ ((records : List (List ℕ)) × (rest : List ℕ) × Holds taken records rest × IsPartial (length records) rest × Appends old new (text records)))
 
--- Octets are a front of the text of an input: of that of its records, whatever they and its end
--- are. An input that is no record file has no text.
+-- Octets are a prefix of the text of an input, which is the text of its records, however it ends.
+-- An input that is no record file has no text.
 pub record IsFrontOf (text : List (List ℕ) → List ℕ) (put input : List ℕ)
     : Type 0 where
   pub front : (records : List (List ℕ)) (fault : Option RunFault) → Reads input records fault
       → IsFront put (text records)
   pub other : IsOther input → put ≡ []
 
--- what was written is a front of the text of the whole input; where nothing was written it is too
+-- what was written, if anything, is a prefix of the text of the whole input
 unfoldable pub WroteFront : (List (List ℕ) → List ℕ) → Option (List ℕ) → Option (List ℕ)
     → Option (List ℕ) → Type 0
 WroteFront text before old new =
     (put : List ℕ) × Appends old new put × IfSome before (IsFrontOf text put)
 
--- A part of the input was read, as a read fault leaves it. What was written is a front of the text
+-- A part of the input was read, as after a read fault, and what was written is a prefix of the text
 -- of the records in it.
 unfoldable pub WroteReadFront : (List (List ℕ) → List ℕ) → Option (List ℕ) → Option (List ℕ) → Option (List ℕ) → Option (List ℕ) → Type 0
 WroteReadFront text before after old new =
     (taken : List ℕ) × Consumes before after taken
     × ((records : List (List ℕ)) × (rest : List ℕ) × (put : List ℕ) × Holds taken records rest × IsPartial (length records) rest × IsFront put (text records) × Appends old new put)
 
--- what a run leaves that stops at a fault; a write fault may come after a read fault, in whose
--- place it is reported
+-- the effect of a run that stops at a fault; a write fault that follows a read fault is reported in
+-- its place
 unfoldable pub Stops : (List (List ℕ) → List ℕ) → RunFault → Option (List ℕ) → Option (List ℕ) → Option (List ℕ) → Option (List ℕ) → Type 0
 Stops text NotRecordFile before after old new = IfSome before IsOther × Keeps old new
 Stops text CannotRead before after old new = WroteRead text before after old new
@@ -52,31 +52,31 @@ Stops text (CutRecord n) before after old new = WroteAll text before old new (So
 Stops text (RecordTooLong n) before after old new = WroteAll text before old new (Some (RecordTooLong n))
 Stops text TooManyRecords before after old new = WroteAll text before old new (Some TooManyRecords)
 
--- a front of these octets was written
+-- a prefix of these octets was written
 abbrev pub PutsFront : Option (List ℕ) → Option (List ℕ) → List ℕ → Type 0
 PutsFront old new octets = (n : ℕ) × Appends old new (take n octets)
 
--- a front of these octets was written, and the others are left
+-- a prefix of these octets was written, and the others are left
 abbrev pub Moves : Option (List ℕ) → Option (List ℕ) → List ℕ → List ℕ → Type 0
 Moves old new octets left = (put : List ℕ) × Appends old new put × (octets ≡ put ++ left)
 
--- octets of 64 KiB or more were written and gave way to none; fewer are kept back
+-- octets were written and cleared if there were 64 KiB or more; fewer are kept
 abbrev pub Spills : Option (List ℕ) → Option (List ℕ) → List ℕ → List ℕ → Type 0
 Spills old new before after = ((65536 ≤ length before) × Appends old new before × (after ≡ [])) ⊎ ((length before < 65536) × Keeps old new × (after ≡ before))
 
--- Some octets were written. Where the text of some records was said up to those that were kept
--- back, they are these octets and the rest of that text.
+-- Some octets were written. If what was written earlier and the kept text are the text so far, then
+-- what was written earlier and these octets are the whole text of the records.
 unfoldable pub Closes : (List (List ℕ) → List ℕ → Type 0) → (List (List ℕ) → List ℕ) → Option (List ℕ) → Option (List ℕ) → List ℕ → Type 0
 Closes said text old new kept =
     (put : List ℕ) × Appends old new put
     × ((records : List (List ℕ)) (written : List ℕ) → said records (written ++ kept) → text records ≡ written ++ put)
 
--- a front of such octets was written
+-- a prefix of such octets was written
 abbrev pub ClosesFront : (List (List ℕ) → List ℕ → Type 0) → (List (List ℕ) → List ℕ) → Option (List ℕ) → Option (List ℕ) → List ℕ → Type 0
 ClosesFront said text old new kept =
     (put : List ℕ) × PutsFront old new put
     × ((records : List (List ℕ)) (written : List ℕ) → said records (written ++ kept) → text records ≡ written ++ put)
 
--- the last text was not written whole
+-- the last text was not written completely
 unfoldable pub ClosesNot : RunFault → (List (List ℕ) → List ℕ → Type 0) → (List (List ℕ) → List ℕ) → Option (List ℕ) → Option (List ℕ) → List ℕ → Type 0
 ClosesNot fault said text old new kept = ((fault ≡ NoMemory) × Keeps old new) ⊎ ((fault ≡ CannotWrite) × ClosesFront said text old new kept)

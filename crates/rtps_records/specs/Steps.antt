@@ -1,12 +1,12 @@
--- A batch of records, one record more.
+-- Adding one record to a batch.
 use Rattle.std.specs.Prelude.{◌≡◌, ℕ, ◌<◌, List, [], ◌∷◌, ◌++◌, Option}
 use Rattle.std.specs.Io.KnownBytes.{Consumes, IsAtEnd}
 use Rattle.rtps_records.specs.RecordFile.{FaultHere, IsRecord, frame}
 use Rattle.rtps_records.specs.declared.batch_end.BatchEnd.{BatchEnd}
 use Rattle.rtps_records.specs.declared.batch_end.BatchEnd.TheVariants.{End, Fault, More}
 
--- after n records the next one was read, and these are the records of the batch before and after
--- it; or the file ends, or its first fault is here
+-- after n records the next one was read and appended to the batch; or the file ends, or has its
+-- first fault, and the batch is unchanged
 unfoldable pub ReadsOne : BatchEnd → ℕ → Option (List ℕ) → Option (List ℕ) → List (List ℕ)
     → List (List ℕ) → Type 0
 ReadsOne More n before after old new =

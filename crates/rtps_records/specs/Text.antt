@@ -1,7 +1,7 @@
--- What a run says of records.
+-- The text of a run over records.
 use Rattle.std.specs.Prelude.{◌≡◌, ℕ, ◌+◌, List, [], ◌∷◌, ◌++◌, length}
 
--- a list begins with another, as a text does with what was said
+-- a list is a prefix of another
 abbrev pub IsFront : {A : Type 0} → List A → List A → Type 0
 IsFront {A} said text = (rest : List A) × (text ≡ said ++ rest)
 
@@ -14,9 +14,8 @@ text_from line n (octets ∷ records) = line n octets ++ text_from line (n + 1) 
 abbrev pub text_of : (ℕ → List ℕ → List ℕ) → List (List ℕ) → List ℕ
 text_of line records = text_from line 0 records
 
--- What is added to a text for these records, of which the first has this number. What was said of
--- which records is given by `before` and `after`: the text grows by what is said of these records
--- more.
+-- The text grows by that of these records; the first of them has this number. `before` and `after`
+-- say which text belongs to which records.
 unfoldable pub Says : (List (List ℕ) → List ℕ → Type 0) → (List (List ℕ) → List ℕ → Type 0) → ℕ
     → List (List ℕ) → List ℕ → List ℕ → Type 0
 Says before after number more old new =
@@ -24,7 +23,7 @@ Says before after number more old new =
     × ((records : List (List ℕ)) (said : List ℕ) → before records said → length records ≡ number
     → after (records ++ more) (said ++ added))
 
--- what is added after the last record: the text grows by the rest of the whole text
+-- after the last record the text grows by the rest of the whole text
 unfoldable pub Ends : (List (List ℕ) → List ℕ → Type 0) → (List (List ℕ) → List ℕ) → List ℕ → List ℕ → Type 0
 Ends before text old new =
     (added : List ℕ) × (new ≡ old ++ added) × ((records : List (List ℕ)) (said : List ℕ) → before records said → text records ≡ said ++ added)

@@ -1,21 +1,21 @@
--- What a program does at a network, call by call (DDSI-RTPS 8.3.4, 9.6.1).
+-- The calls of a program to a network (DDSI-RTPS 8.3.4, 9.6.1).
 use Rattle.std.specs.Prelude.{◌≡◌, ℕ, suc, List, [], ◌∷◌, ◌++◌, ⊤, Option, None, Some}
 use Rattle.rtps_types.specs.declared.locator.Locator.{Locator}
 use Rattle.rtps_records.specs.RecordFile.{IsRecord}
 use Rattle.rtps_records.specs.declared.receive_end.ReceiveEnd.{ReceiveEnd}
 use Rattle.rtps_records.specs.declared.receive_end.ReceiveEnd.TheVariants.{Drained, Fault, More}
 
--- what one call did
+-- the effect of one call
 pub data Traffic : Type 0 where
   -- datagrams were waited for
   Waited : Traffic
   -- a datagram of these octets was received
   Received : List ℕ → Traffic
-  -- none was there: all that came was received
+  -- there was no datagram: all that came were received
   Exhausted : Traffic
   -- the network failed
   Failed : Traffic
-  -- these octets were sent to a locator; whether they arrive isn't known
+  -- these octets were sent to a locator; nothing says whether they arrive
   Sent : Locator → List ℕ → Traffic
 
 -- the datagrams that were received
@@ -27,7 +27,7 @@ received_in (Exhausted ∷ rest) = received_in rest
 received_in (Failed ∷ rest) = received_in rest
 received_in (Sent to octets ∷ rest) = received_in rest
 
--- what was sent, and where to
+-- the octets that were sent, each with its locator
 abbrev pub sent_in : List Traffic → List (Locator × List ℕ)
 sent_in [] = []
 sent_in (Sent to octets ∷ rest) = (to, octets) ∷ sent_in rest
@@ -36,7 +36,7 @@ sent_in (Received octets ∷ rest) = sent_in rest
 sent_in (Exhausted ∷ rest) = sent_in rest
 sent_in (Failed ∷ rest) = sent_in rest
 
--- how many times datagrams were waited for
+-- the number of waits for datagrams
 abbrev pub waits_in : List Traffic → ℕ
 waits_in [] = 0
 waits_in (Waited ∷ rest) = suc (waits_in rest)
@@ -45,7 +45,7 @@ waits_in (Exhausted ∷ rest) = waits_in rest
 waits_in (Failed ∷ rest) = waits_in rest
 waits_in (Sent to octets ∷ rest) = waits_in rest
 
--- how many times the network failed
+-- the number of failures of the network
 abbrev pub failures_in : List Traffic → ℕ
 failures_in [] = 0
 failures_in (Failed ∷ rest) = suc (failures_in rest)
@@ -54,7 +54,7 @@ failures_in (Received octets ∷ rest) = failures_in rest
 failures_in (Exhausted ∷ rest) = failures_in rest
 failures_in (Sent to octets ∷ rest) = failures_in rest
 
--- where it is known what was done, it grew by this
+-- if the calls so far are known, these were added to them
 abbrev pub Grows : Option (List Traffic) → Option (List Traffic) → List Traffic → Type 0
 Grows None new more = ⊤
 Grows (Some old) None more = ⊥
@@ -65,14 +65,14 @@ abbrev pub receipts : List (List ℕ) → List Traffic
 receipts [] = []
 receipts (octets ∷ rest) = Received octets ∷ receipts rest
 
--- what the end of a batch says of the last call: after a full one there is none
+-- the call that ended a batch; none for a full batch
 abbrev pub last_call : ReceiveEnd → List Traffic
 last_call More = []
 last_call Drained = Exhausted ∷ []
 last_call Fault = Failed ∷ []
 
--- the next datagram was received, and these are the datagrams of a batch before and after it; or
--- none was there, or the network failed
+-- the next datagram was received and appended to a batch; or there was none, or the network failed,
+-- and the batch is unchanged
 unfoldable pub ReceivesNext : ReceiveEnd → Option (List Traffic) → Option (List Traffic)
     → List (List ℕ) → List (List ℕ) → Type 0
 ReceivesNext More before after old new =

@@ -13,25 +13,25 @@ use crate::records::read_record;
 use std::alloc::{AllocError, Allocator, Global};
 use std::io::Read;
 
-/// How many octets of records a batch has room for.
+/// The number of octets of records that a batch has room for.
 const ROOM: usize = 1_048_576;
 
-/// Room for the records of a batch, 1 MiB of octets, and those that were read last.
+/// A buffer of 1 MiB for the records of a batch, and the records in it.
 #[derive(Drop)]
 pub struct Batch<A: Allocator = Global> {
-    /// The records, one after the other, and then room.
+    /// The records, one after the other, followed by free room.
     pub(crate) octets: Vec<u8, A>,
     /// The length of each record.
     pub(crate) lengths: Vec<usize, A>,
-    /// How many octets the records have.
+    /// The number of octets of all records.
     pub(crate) used: usize,
     ghost room: { vec_len octets ≡ 1048576 },
     ghost counted: { used ≡ sum lengths.items },
     ghost within: { used ≤ 1048576 },
 }
 
-/// Reads the record after `number` others of a file into octets of which the first are used, and
-/// gives its length, or `None` where the file ends.
+/// Reads the record with this number, counted from 0, into `octets` after the first `used` ones,
+/// and returns its length, or `None` where the file ends.
 fn read_after<R: Read>(
     reader: &mut R,
     octets: &mut [u8],
@@ -54,7 +54,7 @@ fn read_after<R: Read>(
 }
 
 impl<A: Allocator + Copy> Batch<A> {
-    /// Room for records, and none of them. An error is a refused growth.
+    /// Returns an empty batch. An error is a refused growth.
     pub fn new(alloc: A) -> Result<Batch<A>, AllocError>
         ensures { IfOk result (λ b. cut b.lengths.items b.octets.items ≡ []) }
     {
@@ -67,7 +67,7 @@ impl<A: Allocator + Copy> Batch<A> {
 }
 
 impl<A: Allocator> Batch<A> {
-    /// Gives up the records, and keeps the room.
+    /// Removes the records, and keeps the room.
     pub fn clear(&mut self)
         ensures { cut self.new.lengths.items self.new.octets.items ≡ [] }
     {
@@ -75,21 +75,21 @@ impl<A: Allocator> Batch<A> {
         self.used = 0;
     }
 
-    /// How many records there are.
+    /// Returns the number of records.
     pub fn len(&self) -> usize
         ensures { result ≡ length (cut self.now.lengths.items self.now.octets.items) }
     {
         self.lengths.len()
     }
 
-    /// Whether there is no record.
+    /// Whether there are no records.
     pub fn is_empty(&self) -> bool
         ensures { IsTrue result ↔ (length (cut self.now.lengths.items self.now.octets.items) ≡ 0) }
     {
         self.lengths.is_empty()
     }
 
-    /// Whether there is room for a longest record after the others.
+    /// Whether there is room for one more record of the greatest length.
     pub(crate) fn has_room(&self) -> bool
         ensures yes { result ≡ true → self.now.used + 65507 ≤ 1048576 }
         ensures no { result ≡ false → 1048576 < self.now.used + 65507 }
@@ -97,9 +97,9 @@ impl<A: Allocator> Batch<A> {
         self.used + MAX_LEN <= ROOM
     }
 
-    /// Reads the next record of a file, after `number` others, and adds it: [`BatchEnd::More`]. The
-    /// end of the file or a fault there adds nothing. An error is a refused growth, and then
-    /// nothing is read.
+    /// Reads the next record of a file, with this number, and appends it: [`BatchEnd::More`]. At
+    /// the end of the file or at a fault nothing is appended. An error is a refused growth, and
+    /// then nothing is read.
     #[tactic(auto, unfolding(crate::specs::Steps::ReadsOne))]
     pub(crate) fn read<R: Read>(
         &mut self,
@@ -127,7 +127,7 @@ impl<A: Allocator> Batch<A> {
         }
     }
 
-    /// The records that were read last, in order. An error is a refused growth.
+    /// Returns the records of the batch, in order. An error is a refused growth.
     pub fn records<B: Allocator>(&self, alloc: B) -> Result<Vec<&[u8], B>, AllocError>
         ensures { IfOk result (λ records.
             map (λ octets. octets.now) records.items ≡

@@ -1,8 +1,8 @@
-//! How a batch of records ends.
+//! The reason why a batch of records ended.
 
 use crate::fault::RunFault;
 
-/// How a batch of records ends.
+/// Why the reading of a batch of records ended.
 #[derive(Clone, Copy, Debug, PartialEq, Eq)]
 pub enum BatchEnd {
     /// More records may follow.

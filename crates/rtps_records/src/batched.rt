@@ -1,4 +1,4 @@
-//! The records of a record file, many at a time.
+//! Reading a record file in batches.
 
 ghost use Rattle.std.specs.Prelude.{◌≡◌, ◌≤◌, IfErr, IfOk, OnErr, OnOk, length};
 ghost use Rattle.rtps_records.specs.Batches.{HasRead, IsFull, ReadsBatch, records_in};
@@ -13,8 +13,8 @@ use std::alloc::Allocator;
 use std::io::Read;
 
 impl<'a, R: Read> Records<'a, R, ()> {
-    /// The records that are to be read from a reader, many at a time, into the caller's batch; first
-    /// [`Records::open`] them. No memory is taken.
+    /// Makes a reader of records, many at a time, into the caller's batch; call [`Records::open`]
+    /// first. No memory is taken.
     pub fn in_batches(reader: &'a mut R) -> Records<'a, R, ()>
         ensures same_reader { result.reader.ghost_name ≡ reader.entry.ghost_name }
         ensures unread { result.reader.now ≡ reader.old }
@@ -27,13 +27,13 @@ impl<'a, R: Read> Records<'a, R, ()> {
         }
     }
 
-    /// Reads the next records into a batch, in the place of those that are there: `most` of them,
-    /// fewer where there is no room for a longest one after them, or up to the end of the
-    /// file or its first fault, which [`Records::next`] reports. Where it answers
-    /// [`BatchEnd::More`] there is one at least.
+    /// Replaces the records of a batch by the next ones of the file. It reads `most` of them; fewer
+    /// if there is no room for one more of the greatest length, or at the end of the file, or at
+    /// its first fault, which is the one that [`Records::next`] reports. With [`BatchEnd::More`]
+    /// there is at least one.
     ///
-    /// An error is always `NoMemory`. The records that were read until then are there, and no other
-    /// record was read.
+    /// An error is always `NoMemory`. The records that were read until then are in the batch, and
+    /// no other record was read.
     pub fn next_batch<A: Allocator>(
         &mut self,
         batch: &mut Batch<A>,

@@ -22,7 +22,7 @@ impl<A: Allocator> Buffer<A> {
     }
 }
 
-/// This many octets, all of them zeros.
+/// Returns `count` octets, all zero.
 pub(crate) fn zeros<A: Allocator>(alloc: A, count: usize) -> Result<Vec<u8, A>, AllocError>
     ensures { IfOk result (λ v. vec_len v ≡ count) }
 {

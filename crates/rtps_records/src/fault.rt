@@ -21,7 +21,7 @@ pub enum RunFault {
     RecordTooLong(u32),
     /// There are octets after 4,294,967,295 records.
     TooManyRecords,
-    /// A write failed, or took nothing.
+    /// A write failed, or wrote nothing.
     CannotWrite,
     /// Out of memory.
     NoMemory,

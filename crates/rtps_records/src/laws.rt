@@ -2,17 +2,17 @@
 
 ghost use Rattle.rtps_records.specs.RecordFile.{OneReading, OthersHaveNone, SomeReading};
 
-/// Octets have one reading at most: these records, and this end or this fault.
+/// Octets have at most one reading: the records, and the end or the fault after them.
 pub fn one_reading()
     ensures { OneReading }
 {}
 
-/// Octets that begin as a record file have a reading.
+/// Octets that begin with the magic of a record file have a reading.
 pub fn some_reading()
     ensures { SomeReading }
 {}
 
-/// Octets that begin otherwise have none.
+/// Octets that don't begin with the magic have none.
 pub fn others_have_none()
     ensures { OthersHaveNone }
 {}

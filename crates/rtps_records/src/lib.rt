@@ -1,4 +1,4 @@
-//! Record files, and the text that is printed from them.
+//! Reading record files, receiving datagrams in batches, and writing text.
 #![tactic(auto)]
 
 mod batch;

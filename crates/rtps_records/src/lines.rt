@@ -1,4 +1,4 @@
-//! Text on its way to a writer.
+//! A text buffer before a writer.
 
 ghost use Rattle.std.specs.Prelude.{◌≡◌, ◌≤◌, [], length, IfErr, OnErr, OnOk};
 ghost use Rattle.std.specs.Io.KnownBytes.{Appends};
@@ -10,13 +10,13 @@ use crate::transfer::{flush_all, put_all};
 use std::alloc::Allocator;
 use std::io::Write;
 
-/// Text is kept back until there is this much of it.
+/// Text is written once the buffer has this many octets, so that there are few calls of the writer.
 const KEPT_BACK: usize = 65_536;
 
-/// Text that is written when there is enough of it, and when it is closed.
+/// A text that is written when it is long enough, and when it is closed.
 pub struct Lines<'a, W, B: Drop = Vec<u8>> {
     writer: &'a mut W,
-    /// The text that was not written yet. What is added to it is written after it.
+    /// The text that isn't written yet. The caller appends to it.
     pub text: B,
 }
 
@@ -29,7 +29,7 @@ impl<W, B: Drop> Drop for Lines<'_, W, B> {
 }
 
 impl<'a, W: Write, A: Allocator> Lines<'a, W, Vec<u8, A>> {
-    /// No text yet. No memory is taken.
+    /// Returns an empty text. No memory is taken.
     pub fn new(alloc: A, writer: &'a mut W) -> Lines<'a, W, Vec<u8, A>>
         ensures same_writer { result.writer.ghost_name ≡ writer.entry.ghost_name }
         ensures unwritten { result.writer.now ≡ writer.old }
@@ -41,9 +41,9 @@ impl<'a, W: Write, A: Allocator> Lines<'a, W, Vec<u8, A>> {
         }
     }
 
-    /// Writes the text where there are 64 KiB of it or more, and empties it; a shorter one is kept
-    /// back. A fault is always `CannotWrite`; a front of the text may have been written then, and
-    /// the text stays as it is.
+    /// Writes and clears the text if it has 64 KiB or more; a shorter one is kept. A fault is
+    /// always `CannotWrite`. Then a prefix of the text may have been written, and the text is
+    /// unchanged.
     pub fn write_if_full(&mut self) -> Result<(), RunFault>
         ensures same_writer { self.new.writer.ghost_name ≡ self.old.writer.ghost_name }
         ensures ok { OnOk result (Spills (W.contents self.old.writer.now)
@@ -62,8 +62,8 @@ impl<'a, W: Write, A: Allocator> Lines<'a, W, Vec<u8, A>> {
         Ok(())
     }
 
-    /// Writes the text that was kept back, and flushes the writer. A fault is always `CannotWrite`;
-    /// a front of the text may have been written then. The text stays as it is.
+    /// Writes the text that was kept, and flushes the writer. A fault is always `CannotWrite`. Then
+    /// a prefix of the text may have been written. The text is unchanged.
     pub fn close(&mut self) -> Result<(), RunFault>
         ensures same_writer { self.new.writer.ghost_name ≡ self.old.writer.ghost_name }
         ensures ok { OnOk result (Appends (W.contents self.old.writer.now)

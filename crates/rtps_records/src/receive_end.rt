@@ -1,12 +1,12 @@
-//! How a batch of datagrams ends.
+//! The reason why a batch of datagrams ended.
 
-/// How a batch of datagrams ends.
+/// Why the receiving of a batch of datagrams ended.
 #[derive(Clone, Copy, Debug, PartialEq, Eq)]
 pub enum ReceiveEnd {
-    /// More datagrams may have come.
+    /// The batch is full; more datagrams may have come.
     More,
-    /// All that came was received.
+    /// All datagrams that came were received.
     Drained,
-    /// The source failed, so that it isn't known whether more has come.
+    /// The source failed; more datagrams may have come.
     Fault,
 }

@@ -1,4 +1,4 @@
-//! Datagrams that are received into a batch.
+//! Receiving datagrams into a batch.
 
 ghost use Rattle.std.specs.Prelude.{◌≡◌, ◌+◌, ◌≤◌, ◌∷◌, ◌++◌, [], IfOk, IfSome, List, None, OnErr, Option, drop, length, take, ℕ};
 ghost use Rattle.std.specs.List.{AllByRecursion};
@@ -13,13 +13,13 @@ use crate::receive_end::ReceiveEnd;
 use std::alloc::{AllocError, Allocator};
 use std::io;
 
-/// Where datagrams are received, one at a time.
+/// A source of datagrams, one at a time.
 pub trait Receive {
     ghost traffic: { Self → Option (List Traffic) };
 
-    /// Receives the next datagram into the front of the room, and gives its length; `None` where
-    /// all that came was received. A datagram that is longer than the room is cut. An error is the
-    /// system's, and then nothing was received.
+    /// Receives the next datagram into the front of `room`, and returns its length; `None` where
+    /// all datagrams that came were received. A datagram that is longer than the room is cut. An
+    /// error is the system's, and then nothing was received.
     fn receive(&mut self, room: &mut [u8]) -> io::Result<Option<usize>>
         ensures fits { IfOk result (λ next. IfSome next (λ n. n ≤ length room.new)) }
         ensures some { IfOk result (λ next. IfSome next (λ n.
@@ -29,7 +29,7 @@ pub trait Receive {
         ensures fault { OnErr result (Grows (traffic self.old) (traffic self.new) (Failed ∷ [])) };
 }
 
-/// Receives a datagram into octets of which the first are used.
+/// Receives a datagram into `octets` after the first `used` ones, and returns its length.
 fn receive_after<S: Receive>(
     source: &mut S,
     octets: &mut [u8],
@@ -53,9 +53,9 @@ fn receive_after<S: Receive>(
 }
 
 impl<A: Allocator> Batch<A> {
-    /// Receives the next datagram, and adds it: [`ReceiveEnd::More`]. Where all that came was
-    /// received, or at a fault, nothing is added. An error is a refused growth, and then the source
-    /// is as it was.
+    /// Receives the next datagram, and appends it: [`ReceiveEnd::More`]. If all datagrams that came
+    /// were received, or at a fault, nothing is appended. An error is a refused growth, and then
+    /// the source is unchanged.
     #[tactic(auto, unfolding(crate::specs::Traffic::ReceivesNext))]
     fn receive_next<S: Receive>(&mut self, source: &mut S) -> Result<ReceiveEnd, AllocError>
         requires room { self.old.used + 65507 ≤ 1048576 }
@@ -77,12 +77,12 @@ impl<A: Allocator> Batch<A> {
         }
     }
 
-    /// Receives datagrams in the place of the records that are there: `most` of them, fewer
-    /// where there is no room for a longest one after them, where all that came was received
-    /// ([`ReceiveEnd::Drained`]), or where the source fails ([`ReceiveEnd::Fault`]).
+    /// Replaces the records of the batch by the datagrams received. It receives `most` of them;
+    /// fewer if there is no room for one more of the greatest length, if all that came were
+    /// received ([`ReceiveEnd::Drained`]), or if the source fails ([`ReceiveEnd::Fault`]).
     ///
-    /// An error is a refused growth. The datagrams that were received until then are there, and no
-    /// other one was received.
+    /// An error is a refused growth. The datagrams that were received until then are in the batch,
+    /// and no other one was received.
     pub fn receive<S: Receive>(
         &mut self,
         source: &mut S,

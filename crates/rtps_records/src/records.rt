@@ -15,12 +15,12 @@ use crate::transfer::fill;
 use std::alloc::{AllocError, Allocator};
 use std::io::Read;
 
-/// The records of a file, in order. `B` is where one of them is kept while it is borrowed: a
+/// A reader of the records of a file, in order. `B` holds the record that is borrowed: a
 /// [`Buffer`].
 pub struct Records<'a, R, B: Drop = Buffer> {
     pub(crate) reader: &'a mut R,
     pub(crate) buffer: B,
-    /// How many records were read.
+    /// The number of records read so far.
     pub(crate) count: u32,
 }
 
@@ -39,8 +39,8 @@ impl<R, B: Drop> Drop for Records<'_, R, B> {
 impl<R: Read, B: Drop> Records<'_, R, B> {
     /// Reads the four octets that a record file begins with.
     ///
-    /// `NotRecordFile` where it begins otherwise or ends before them, `CannotRead` where a read
-    /// fails before.
+    /// `NotRecordFile` where the file begins with other octets or is shorter, `CannotRead` where a
+    /// read fails before that is known.
     pub fn open(&mut self) -> Result<(), RunFault>
         ensures same_reader { self.new.reader.ghost_name ≡ self.old.reader.ghost_name }
         ensures count { self.new.count ≡ self.old.count }
@@ -60,7 +60,7 @@ impl<R: Read, B: Drop> Records<'_, R, B> {
         Ok(())
     }
 
-    /// How many records were read.
+    /// The number of records read so far.
     pub fn count(&self) -> u32
         ensures { result ≡ self.now.count }
     {
@@ -72,8 +72,8 @@ impl<'a, R: Read, A: Allocator> Records<'a, R, Buffer<A>> {
     ghost use Rattle.rtps_records.specs.contracts.buffer.Buffer.{the_row as buffer_row};
     ghost use Rattle.rtps_records.specs.contracts.records.Records.{the_row};
 
-    /// The records that are to be read from a reader, one by one; first [`Records::open`] them. An
-    /// error is a refused growth.
+    /// Makes a reader of records, one by one, over `reader`; call [`Records::open`] first. An error
+    /// is a refused growth.
     pub fn new(alloc: A, reader: &'a mut R) -> Result<Records<'a, R, Buffer<A>>, AllocError>
         ensures same_reader { IfOk result (λ records. records.reader.ghost_name ≡
             reader.entry.ghost_name) }
@@ -87,12 +87,12 @@ impl<'a, R: Read, A: Allocator> Records<'a, R, Buffer<A>> {
         })
     }
 
-    /// Reads the next record and lends its octets, or gives `None` where the file ends.
+    /// Reads the next record and returns its octets, borrowed, or `None` where the file ends.
     ///
     /// `CutRecord` where the file ends inside the record, `RecordTooLong` for a length above 65,507
     /// octets whatever follows it, `TooManyRecords` where there are octets after 4,294,967,295
-    /// records, and `CannotRead` where a read fails before the record is whole. Neither the end nor
-    /// a fault counts as a record.
+    /// records, and `CannotRead` where a read fails before the record is complete. Neither the end
+    /// nor a fault counts as a record.
     #[tactic(auto, unfolding(crate::specs::Reading::ReadsNext))]
     pub fn next(&mut self) -> Result<Option<&[u8]>, RunFault>
         ensures* reads { sem 𝓛 (Rests
@@ -108,7 +108,7 @@ impl<'a, R: Read, A: Allocator> Records<'a, R, Buffer<A>> {
         }
     }
 
-    /// Reads the next record into the front of the buffer, and gives its length in octets, or
+    /// Reads the next record into the front of the buffer, and returns its length in octets, or
     /// `None` where the file ends.
     fn advance(&mut self) -> Result<Option<usize>, RunFault>
         ensures same_reader { self.new.reader.ghost_name ≡ self.old.reader.ghost_name }
@@ -133,8 +133,8 @@ impl<'a, R: Read, A: Allocator> Records<'a, R, Buffer<A>> {
     }
 }
 
-/// Reads the record after `number` others into the front of a buffer, and gives its length in
-/// octets, or `None` where the file ends.
+/// Reads the record with this number, counted from 0, into the front of a buffer, and returns its
+/// length in octets, or `None` where the file ends.
 pub(crate) fn read_record<R: Read>(
     reader: &mut R,
     buffer: &mut [u8],
@@ -177,7 +177,7 @@ pub(crate) fn read_record<R: Read>(
     Ok(Some(told))
 }
 
-/// The length that four octets encode; each length has one encoding.
+/// Returns the length that four octets encode in big-endian order; each length has one encoding.
 fn length_of(head: &[u8; 4]) -> u32
     ensures told { result ≡ from_be_bytes w32 head.now }
     ensures spelled { to_be_bytes w32 result ≡ head.now }

@@ -1,4 +1,4 @@
-//! Records and lines, each with readers and writers that fail, and a loop over both.
+//! Tests of records and of lines with readers and writers that fail, and of a loop over both.
 
 use crate::buffer::zeros;
 use crate::records::read_record;
@@ -11,7 +11,7 @@ use std::test::Fail;
 mod batches;
 mod receiving;
 
-/// Prints a line of each record's number and length.
+/// Prints a line with the number and the length of each record.
 fn print_lengths<A: Allocator + Copy, R: Read, W: Write>(
     alloc: A,
     reader: &mut R,
@@ -51,8 +51,8 @@ fn push_length<A: Allocator>(
     }
 }
 
-/// Gives its octets a few at a time, is interrupted before each read that succeeds, and fails
-/// before one of the octets.
+/// A reader that returns its octets a few at a time, is interrupted before each read that succeeds,
+/// and fails before one of the octets.
 #[derive(Drop)]
 struct Failing<'a> {
     octets: &'a [u8],
@@ -80,7 +80,7 @@ impl Read for Failing<'_> {
     }
 }
 
-/// Takes a few octets a call, is interrupted before each call, and fails at one.
+/// A writer that accepts a few octets a call, is interrupted before each call, and fails at one.
 #[derive(Drop)]
 struct Refusing {
     kept: Vec<u8>,
@@ -101,7 +101,7 @@ impl Refusing {
         }
     }
 
-    /// Whether this call goes through.
+    /// Counts a call, and returns its result.
     fn turn(&mut self) -> io::Result<()> {
         self.is_interrupted = !self.is_interrupted;
         if self.is_interrupted {
@@ -132,7 +132,7 @@ const FILE: &[u8; 21] = b"RDG1\0\0\0\x02hi\0\0\0\0\0\0\0\x03abc";
 
 const TEXT: &[u8; 12] = b"0 2\n1 0\n2 3\n";
 
-/// How much of the text is there once this many octets of the file were read.
+/// Returns the length of the text once this many octets of the file were read.
 fn text_len(read: usize) -> usize {
     match read {
         0..=9 => 0,
@@ -142,7 +142,7 @@ fn text_len(read: usize) -> usize {
     }
 }
 
-/// What is printed of a file, and how the run ends.
+/// Returns the result of a run over a file, and the text that it prints.
 fn printed(alloc: Global, file: &[u8]) -> (Result<(), RunFault>, Vec<u8>) {
     let mut out = Vec::new(alloc);
     let mut rest = file;
@@ -239,7 +239,7 @@ fn text_is_kept_back_until_it_is_long(rt: HostRuntime) -> Result<(), Fail> {
     Ok(())
 }
 
-/// Takes all that it is given, and counts its calls.
+/// A writer that accepts all octets, and counts its calls.
 #[derive(Drop)]
 struct Counting {
     kept: Vec<u8>,
@@ -295,7 +295,7 @@ fn stops_at_each_octet(rt: HostRuntime) -> Result<(), Fail> {
 
 #[test]
 fn writes_a_front_at_each_fault(rt: HostRuntime) -> Result<(), Fail> {
-    // Twelve calls take the octets one by one, and the thirteenth is the flush.
+    // Twelve calls write the octets one by one, and the thirteenth is the flush.
     for calls in 0..14 {
         let mut writer = Refusing::new(rt.alloc(), calls, 1);
         let mut file = FILE.as_slice();
@@ -342,7 +342,7 @@ fn stops_where_a_growth_is_refused(rt: HostRuntime) -> Result<(), Fail> {
     Ok(())
 }
 
-/// A file of 12,000 empty records, and the text that is printed of it, longer than one write.
+/// Returns a file of 12,000 empty records, and the text of its run, which is longer than one write.
 fn long_file(alloc: Global) -> Result<(Vec<u8>, String), Fail> {
     let mut file = b"RDG1".to_vec(alloc)?;
     let mut text = String::new(alloc);
@@ -374,7 +374,7 @@ fn writes_a_part_of_a_long_text_before_a_fault(rt: HostRuntime) -> Result<(), Fa
     Ok(())
 }
 
-/// Whether a long text is written whole where there is this much memory; else a part of it is.
+/// Whether a long text is written completely with this much memory; else a part of it is written.
 fn is_written_whole(alloc: Global, file: &[u8], text: &str, memory: usize) -> Result<bool, Fail> {
     let heap = LocalHeap::new(alloc, memory)?;
     let mut out = Vec::new(alloc);

@@ -1,4 +1,4 @@
-//! Octets from a reader and to a writer, with what is known of them after a fault.
+//! Reading and writing all octets, with a known result after a fault.
 
 ghost use Rattle.std.specs.Prelude.{◌≡◌, ◌<◌, ◌≤◌, true, false, length, take, IfErr, OnOk, OnErr};
 ghost use Rattle.std.specs.Io.KnownBytes.{Appends, Consumes, IsAtEnd, Keeps};
@@ -8,17 +8,17 @@ ghost use Rattle.rtps_records.specs.Runs.{PutsFront};
 use crate::fault::RunFault;
 use std::io::{ErrorKind, Read, Write};
 
-/// How far a buffer was filled.
+/// The result of filling a buffer.
 #[derive(Clone, Copy)]
 pub(crate) struct Filled {
-    /// How many octets were read.
+    /// The number of octets read.
     pub count: usize,
     /// Whether a read failed after them.
     pub failed: bool,
 }
 
-/// Reads until the buffer is full, the reader gives nothing or a read fails. An interrupted read is
-/// tried again.
+/// Reads until the buffer is full, the reader ends or a read fails. An interrupted read is tried
+/// again.
 pub(crate) fn fill<R: Read>(reader: &mut R, buffer: &mut [u8]) -> Filled
     ensures within { result.count ≤ length buffer.old }
     ensures taken { Consumes (R.remaining reader.old) (R.remaining reader.new)
@@ -55,8 +55,8 @@ pub(crate) fn fill<R: Read>(reader: &mut R, buffer: &mut [u8]) -> Filled
     Filled { count, failed }
 }
 
-/// Writes all octets, or those that the writer takes before it fails. An interrupted write is tried
-/// again; one that fails, or takes nothing, is `CannotWrite`.
+/// Writes all octets, or those that the writer accepts before it fails. An interrupted write is
+/// tried again; one that fails, or writes nothing, is `CannotWrite`.
 pub(crate) fn put_all<W: Write>(writer: &mut W, octets: &[u8]) -> Result<(), RunFault>
     ensures ok { OnOk result (Appends (W.contents writer.old) (W.contents writer.new) octets.now) }
     ensures fault { IfErr result (λ fault. fault ≡ CannotWrite) }

@@ -13,7 +13,7 @@ use Rattle.rtps_receiver.specs.Events.{EventView}
 use Rattle.rtps_discovery.specs.Addressed.{is_discovery, is_for, writer_of}
 use Rattle.rtps_discovery.specs.Announcement.{Offer}
 use Rattle.rtps_discovery.specs.Changes.{ChangeAt}
-use Rattle.rtps_discovery.specs.Kept.{IsKnown, HeldView, matched_ranks}
+use Rattle.rtps_discovery.specs.Kept.{IsKnown, RegistryView, matched_ranks}
 use Rattle.rtps_discovery.specs.Known.{Known, Wish, is_fixed, is_joined, is_matched, reader_at, standing, writer_at}
 use Rattle.rtps_discovery.specs.OneWriter.{matched_from}
 use Rattle.rtps_discovery.specs.Records.{answered, changes_by, known_by}
@@ -22,7 +22,7 @@ use Rattle.rtps_discovery.specs.declared.changes.MatchChange.{MatchChange}
 use Rattle.dds_topic.specs.Decoding.{Decoding}
 use Rattle.rtps_reader.specs.Reader.{placed}
 use Rattle.rtps_reader.specs.Standing.{ReaderView}
-use Rattle.rtps_reader.specs.Steps.{Changes, StepView, asks_of}
+use Rattle.rtps_reader.specs.Step.{Changes, StepView, asks_of}
 use Rattle.rtps_run.specs.declared.outcome.Report.{Report}
 use Rattle.rtps_run.specs.Seen.{reader_count}
 use Rattle.rtps_run.specs.Standing.{AllKnown, ReadersStand, WorldStands}
@@ -178,7 +178,7 @@ pub announced_puts : {M : Type 0} (k : Known) (e : EventView) → is_discovery e
 announced_puts k e is = rw is refl
 
 -- an announcer's event
-pub announcement_stands : {V M A : Type 0} (view : V → M) (d : Decoding M) (w : World M) (e : EventView) (earlier : List (ReportView M)) (kept : HeldView) (changes sorted : List (MatchChange A)) (states : List ReaderView) (reports : List (Report V A))
+pub announcement_stands : {V M A : Type 0} (view : V → M) (d : Decoding M) (w : World M) (e : EventView) (earlier : List (ReportView M)) (kept : RegistryView) (changes sorted : List (MatchChange A)) (states : List ReaderView) (reports : List (Report V A))
     → is_discovery e.writer ≡ true → AllKnown w → IsKnown (known_by w.known e) kept → map change_seen changes ≡ changes_by w.known e → AreByRank changes sorted
     → ReadersStand view (steps_run d e.place (discovered w e) (map change_step (map change_seen sorted))) earlier states reports → WorldStands view (world_after d w e) earlier kept states reports
 announcement_stands view d w e earlier kept changes sorted states reports is named known heard by_rank stands = record {
@@ -199,7 +199,7 @@ named_discovered w e others named =
 pub no_puts : {M : Type 0} (k : Known) (e : EventView) → is_discovery e.writer ≡ false → discovery_puts {M = M} k e ≡ []
 no_puts k e others = rw others refl
 
-pub user_stands : {V M A : Type 0} (view : V → M) (d : Decoding M) (w : World M) (e : EventView) (earlier : List (ReportView M)) (kept : HeldView) (states : List ReaderView) (reports : List (Report V A))
+pub user_stands : {V M A : Type 0} (view : V → M) (d : Decoding M) (w : World M) (e : EventView) (earlier : List (ReportView M)) (kept : RegistryView) (states : List ReaderView) (reports : List (Report V A))
     → is_discovery e.writer ≡ false → AllKnown w → IsKnown w.known kept
     → ReadersStand view (steps_run d e.place (discovered w e) (event_steps w e (matched_ranks w.known (writer_of e)))) earlier states reports → WorldStands view (world_after d w e) earlier kept states reports
 user_stands view d w e earlier kept states reports others named known stands = record {

@@ -12,7 +12,8 @@ use Rattle.rtps_receiver.specs.Events.{EventView}
 use Rattle.rtps_discovery.specs.Addressed.{is_discovery}
 use Rattle.rtps_discovery.specs.Known.{Known}
 use Rattle.rtps_discovery.specs.Records.{answered}
-use Rattle.rtps_proxy.specs.History.{MatchEvent, ChangeView}
+use Rattle.rtps_proxy.specs.Change.{ChangeView}
+use Rattle.rtps_proxy.specs.History.{MatchEvent}
 use Rattle.rtps_proxy.specs.Matches.{Match, ended, extended, match_with, same_guid}
 use Rattle.rtps_proxy.specs.Replies.{ReplyView}
 use Rattle.rtps_proxy.proofs.Matching.{same_is}
@@ -21,7 +22,7 @@ use Rattle.rtps_reader.specs.declared.notice.Notice.{Notice}
 use Rattle.rtps_reader.specs.declared.notice.NoticeKind.TheVariants.{Lost}
 use Rattle.rtps_reader.specs.Body.{body_by}
 use Rattle.rtps_reader.specs.Reader.{Reader, loses, lost_at, placed, presented, reader_after, ready_at, sends, tells, told_of}
-use Rattle.rtps_reader.specs.Steps.{StepView}
+use Rattle.rtps_reader.specs.Step.{StepView}
 use Rattle.rtps_reader.proofs.Begun.{same_self}
 use Rattle.rtps_run.specs.Presentation.{Shown, shown_in}
 use Rattle.rtps_run.specs.Seen.{notices_by, reader_count}

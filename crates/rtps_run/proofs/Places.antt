@@ -13,9 +13,9 @@ use Rattle.rtps_types.specs.declared.place.Place.{Place}
 use Rattle.rtps_types.specs.declared.time.Timestamp.{Timestamp}
 use Rattle.rtps_wire.specs.declared.message_header.Header.{Header}
 use Rattle.rtps_wire.specs.declared.message_header.HeaderFault.{HeaderFault}
-use Rattle.rtps_wire.specs.Header.{header_of}
+use Rattle.rtps_wire.specs.MessageHeader.{header_of}
 use Rattle.rtps_wire.specs.Reading.{reading}
-use Rattle.rtps_wire.specs.Submessage.{Content, Item}
+use Rattle.rtps_wire.specs.Submessage.{PartsView, Item}
 use Rattle.rtps_receiver.specs.Addressed.{AddressedBody, addressed, taken_of}
 use Rattle.rtps_receiver.specs.Context.{destination_of, source_of, time_of}
 use Rattle.rtps_receiver.specs.Events.{EventView, event_behind, events_behind, events_of, events_under, happening}
@@ -85,10 +85,10 @@ alone (Some e) = (tt, tt)
 abbrev IsBehind : ℕ → ℕ → EventView → Type 0
 IsBehind index count e = (e.place.datagram ≡ index) × (count < e.place.submessage)
 
-event_at : (own header : GuidPrefix) (place : Place) (before : List Content) (c : Content) → AllByRecursion (λ e. e.place ≡ place) (option_to_list (event_behind own header place before c))
+event_at : (own header : GuidPrefix) (place : Place) (before : List PartsView) (c : PartsView) → AllByRecursion (λ e. e.place ≡ place) (option_to_list (event_behind own header place before c))
 event_at own header place before c = at_place place (source_of header before) (time_of before) (bytes_eq (destination_of own before).0 own.0) (taken_of (addressed c))
 
-all_behind : (own header : GuidPrefix) (index count : ℕ) (before : List Content) (items : List Item) → AllByRecursion (IsBehind index count) (events_behind own header index count before items)
+all_behind : (own header : GuidPrefix) (index count : ℕ) (before : List PartsView) (items : List Item) → AllByRecursion (IsBehind index count) (events_behind own header index count before items)
 all_behind own header index count before [] = tt
 all_behind own header index count before (i ∷ left) =
     all_append (IsBehind index count) _ (events_behind own header index (count + 1) (i.content ∷ before) left)
@@ -98,7 +98,7 @@ all_behind own header index count before (i ∷ left) =
     here : (e : EventView) → e.place ≡ record { datagram = index; submessage = count + 1 } → IsBehind index count e
     here e is = rw is (refl, omega arith)
 
-behind_rise : (own header : GuidPrefix) (index count : ℕ) (before : List Content) (items : List Item) → PlacesRise (events_behind own header index count before items)
+behind_rise : (own header : GuidPrefix) (index count : ℕ) (before : List PartsView) (items : List Item) → PlacesRise (events_behind own header index count before items)
 behind_rise own header index count before [] = tt
 behind_rise own header index count before (i ∷ left) =
     rises_append (λ e. e.place ≡ record { datagram = index; submessage = count + 1 }) (IsBehind index (count + 1)) (λ d e is h. later_submessage d.place e.place index (count + 1) is h.0 h.1) _ _

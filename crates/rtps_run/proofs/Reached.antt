@@ -12,7 +12,7 @@ use Rattle.rtps_discovery.specs.Known.{Known, reader_at}
 use Rattle.dds_topic.specs.Decoding.{Decoding}
 use Rattle.rtps_reader.specs.Reader.{Reader, reader_after}
 use Rattle.rtps_reader.specs.Standing.{ReaderView}
-use Rattle.rtps_reader.specs.Steps.{StepView, Takes, Changes, asks_of}
+use Rattle.rtps_reader.specs.Step.{StepView, Takes, Changes, asks_of}
 use Rattle.rtps_run.specs.declared.outcome.Report.{Report}
 use Rattle.rtps_run.specs.Addressed.{is_named}
 use Rattle.rtps_run.specs.Seen.{reader_count}

@@ -9,7 +9,8 @@ use Rattle.std.proofs.lemmas.List.Folds.{list_any-append}
 use Rattle.rtps_types.specs.declared.identity.Guid.{Guid}
 use Rattle.rtps_types.specs.declared.place.Place.{Place}
 use Rattle.rtps_receiver.specs.Events.{EventView}
-use Rattle.rtps_proxy.specs.History.{MatchEvent, ChangeView, match_event_of}
+use Rattle.rtps_proxy.specs.Change.{ChangeView}
+use Rattle.rtps_proxy.specs.History.{MatchEvent, match_event_of}
 use Rattle.rtps_proxy.specs.Presentation.{Brings, IsGivenUp, IsPresented, RisesStrictly, presented}
 use Rattle.rtps_proxy.specs.Received.{ready}
 use Rattle.rtps_proxy.proofs.Presenting.{presented_rises, ready_brought, ready_passes_over}

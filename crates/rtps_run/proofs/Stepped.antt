@@ -9,7 +9,7 @@ use Rattle.rtps_reader.specs.declared.notice.Notice.{Notice}
 use Rattle.rtps_reader.specs.Reader.{Reader, reader_after, sends, tells}
 use Rattle.rtps_reader.specs.Standing as reader
 use Rattle.rtps_reader.specs.Standing.{ReaderView}
-use Rattle.rtps_reader.specs.Steps.{StepView}
+use Rattle.rtps_reader.specs.Step.{StepView}
 use Rattle.rtps_run.specs.declared.outcome.Report.{Report}
 use Rattle.rtps_run.specs.Outcome.{report_view}
 use Rattle.rtps_run.specs.Seen.{notices_by, reader_count}

@@ -21,13 +21,14 @@ use Rattle.rtps_discovery.specs.Changes.{ChangeAt}
 use Rattle.rtps_discovery.specs.Known.{Known, Wish, is_matched, reader_at}
 use Rattle.rtps_discovery.specs.Records.{answered, changes_by}
 use Rattle.dds_topic.specs.Decoding.{Decoding}
-use Rattle.rtps_proxy.specs.History.{MatchEvent, ChangeView}
+use Rattle.rtps_proxy.specs.Change.{ChangeView}
+use Rattle.rtps_proxy.specs.History.{MatchEvent}
 use Rattle.rtps_proxy.specs.Matches.{Match, match_with}
 use Rattle.rtps_proxy.specs.Replies.{ReplyView}
 use Rattle.rtps_reader.specs.declared.notice.Notice.{Notice}
 use Rattle.rtps_reader.specs.declared.notice.NoticeKind.TheVariants as notice
 use Rattle.rtps_reader.specs.Reader.{Reader, answer_at, loses, lost_at, placed, presented, reader_after, ready_at, sends, sent_of, tells, told_of}
-use Rattle.rtps_reader.specs.Steps.{StepView, Takes, Changes, asks_of}
+use Rattle.rtps_reader.specs.Step.{StepView, Takes, Changes, asks_of}
 use Rattle.rtps_run.specs.declared.outcome.Report.{Report}
 use Rattle.rtps_run.specs.declared.outcome.Report.TheVariants as report
 use Rattle.rtps_run.specs.declared.turn.ReportKind.{ReportKind}

@@ -1,4 +1,4 @@
--- What an engine gives, by what its values mean.
+-- The results of an engine, as contracts see them.
 use Rattle.std.specs.Prelude.{◌≡◌, ℕ, ◌+◌, ◌<◌, List, [], ◌∷◌, ◌++◌, Option, None, Some, length, map, slice_index_or}
 use Rattle.std.specs.List.Sorted.{IsPermutation, IsSortedByKey, IsStableByKey}
 use Rattle.std.specs.declared.vec.Vec.{Vec}
@@ -6,7 +6,7 @@ use Rattle.rtps_types.specs.declared.place.Place.{Place}
 use Rattle.rtps_types.specs.declared.traffic.Reply.{Reply}
 use Rattle.rtps_reader.specs.declared.notice.Notice.{Notice}
 use Rattle.rtps_reader.specs.declared.notice.Output.{Output}
-use Rattle.rtps_reader.specs.Notices.{notice_view}
+use Rattle.rtps_reader.specs.Notice.{notice_view}
 use Rattle.rtps_run.specs.declared.outcome.Answer.{Answer}
 use Rattle.rtps_run.specs.declared.outcome.Outcome.{Outcome}
 use Rattle.rtps_run.specs.declared.outcome.Report.{Report}
@@ -15,11 +15,11 @@ use Rattle.rtps_run.specs.Seen.{answers_in, notices_by, reader_count}
 use Rattle.rtps_run.specs.Turn.{answer_turn, turn_order}
 use Rattle.rtps_run.specs.World.{ReportView, NoticeOf, AnswerOf, AnswerView, World}
 
--- what contracts see of an answer
+-- the view of an answer
 abbrev pub answer_view : {A : Type 0} → Answer A → AnswerView
 answer_view a = record { place = a.place; rank = a.rank; to = a.to; octets = a.octets }
 
--- what contracts see of a notice of a reader, or an answer
+-- the view of a report: a notice of a reader, or an answer
 abbrev pub report_view : {V M A : Type 0} → (V → M) → Report V A → ReportView M
 report_view f (report.Notice rank notice) = NoticeOf rank (notice_view f notice)
 report_view f (report.Answer answer) = AnswerOf (answer_view answer)
@@ -28,7 +28,7 @@ report_view f (report.Answer answer) = AnswerOf (answer_view answer)
 abbrev pub notices_in : {V M A : Type 0} → (V → M) → Vec (Notice V) A → List (Notice M)
 notices_in f notices = map (notice_view f) notices.items
 
--- an outcome has what was put out: a list of notices for each reader, and the answers
+-- an outcome has these reports: a list of notices for each reader, and the answers
 pub record Deals {V M A : Type 0} (f : V → M) (count : ℕ) (put : List (ReportView M))
     (outcome : Outcome V A) : Type 0 where
   pub readers : length outcome.notices.items ≡ count
@@ -36,7 +36,7 @@ pub record Deals {V M A : Type 0} (f : V → M) (count : ℕ) (put : List (Repor
       → notices_in f (slice_index_or outcome.notices.items rank other) ≡ notices_by rank put
   pub answers : map answer_view outcome.answers.items ≡ answers_in put
 
--- an outcome has what is seen of one world more than of another
+-- an outcome has the reports that were put out between two worlds
 pub record Adds {V M A : Type 0} (f : V → M) (before after : World M) (outcome : Outcome V A)
     : Type 0 where
   pub readers : length outcome.notices.items ≡ reader_count after
@@ -46,12 +46,12 @@ pub record Adds {V M A : Type 0} (f : V → M) (before after : World M) (outcome
   pub answers : answers_in after.put
       ≡ answers_in before.put ++ map answer_view outcome.answers.items
 
--- an answer with the place of the event that it answers, as that of the reader of a rank, or of
--- discovery where there is no rank
+-- an answer to the event at a place, from the reader of a rank, or from discovery if there is no
+-- rank
 abbrev pub answer_of : {A : Type 0} → Option ℕ → Place × Reply A → Answer A
 answer_of rank s = record { place = s.0; rank = rank; to = s.1.to; octets = s.1.octets }
 
--- the answers of readers, of which the first has this rank
+-- the answers of readers; the first reader has this rank
 abbrev pub answers_from : {V A : Type 0} → ℕ → List (Output V A) → List (Answer A)
 answers_from rank [] = []
 answers_from rank (o ∷ os) =
@@ -62,9 +62,9 @@ abbrev pub all_answers : {V A : Type 0} → List (Place × Reply A) → List (Ou
     → List (Answer A)
 all_answers answers outputs = map (answer_of None) answers ++ answers_from 0 outputs
 
--- An outcome is that of what discovery answers and of what each reader gives, by rank: the lists of
--- notices are those of the readers, and it has each answer once, in order: by turn, and what has
--- one turn comes as it did.
+-- An outcome is that of discovery's answers and of the outputs of the readers, by rank. Its lists
+-- of notices are those of the readers. It has each answer once, sorted by turn; those of one turn
+-- keep their order.
 pub record IsOutcomeOf {V A : Type 0} (answers : List (Place × Reply A))
     (outputs : List (Output V A)) (outcome : Outcome V A) : Type 0 where
   pub notices : outcome.notices.items ≡ map (λ o. o.notices) outputs

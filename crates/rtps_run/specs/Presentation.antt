@@ -1,5 +1,5 @@
 -- Presentation in a run (DDSI-RTPS 8.4.12.3, 8.3.7): the samples of a writer that a reliable reader
--- presents, against the submessages alone that came for their match.
+-- presents, compared with nothing but the submessages that came for their match.
 use Rattle.std.specs.Prelude.{◌≡◌, ℕ, ◌<◌, ◌==◌, ◌&&◌, ◌||◌, nat_lt, nat_le, Bool, not, List, [], ◌∷◌, ◌++◌, map, filter, reverse, Option, if◌then◌else◌}
 use Rattle.std.specs.List.{AllByRecursion, list_any}
 use Rattle.rtps_types.specs.declared.identity.EntityId.{EntityId}
@@ -9,7 +9,8 @@ use Rattle.rtps_types.specs.declared.time.Timestamp.{Timestamp}
 use Rattle.rtps_receiver.specs.Events.{EventView}
 use Rattle.rtps_discovery.specs.Addressed.{is_addressed}
 use Rattle.rtps_discovery.specs.declared.config.Config.{Config}
-use Rattle.rtps_proxy.specs.History.{MatchEvent, ChangeView, match_event_of}
+use Rattle.rtps_proxy.specs.Change.{ChangeView}
+use Rattle.rtps_proxy.specs.History.{MatchEvent, match_event_of}
 use Rattle.rtps_proxy.specs.Presentation.{Brings, IsGivenUp, RisesStrictly}
 use Rattle.rtps_reader.specs.declared.body.Body.{Body}
 use Rattle.dds_topic.specs.Decoding.{Decoding}
@@ -29,7 +30,7 @@ pub record Shown (M : Type 0) : Type 0 where
   pub time : Option Timestamp
   pub body : Body M
 
--- the sample that a notice presents, where it presents one
+-- the sample that a notice presents, if it presents one
 abbrev pub shown_in : {M : Type 0} → Place → NoticeKind M → List (Shown M)
 shown_in place (ASample number time body) =
     record { place = place; number = value_of number; time = time; body = body } ∷ []
@@ -46,12 +47,12 @@ not_after a b =
 abbrev pub events_for : Guid → EntityId → List EventView → List EventView
 events_for writer reader events = reverse (filter (is_addressed (same_guid writer) reader) events)
 
--- what came of these submessages by a place, the newest first
+-- the submessages that came no later than a place, as the match sees them, the newest first
 abbrev pub match_events_by : Place → List EventView → List MatchEvent
 match_events_by place events = map match_event_of (filter (λ e. not_after e.place place) events)
 
--- a DATA or DATA_FRAGs brought the sample: its sequence number, its time, and the body that the
--- catalog makes of what they carry
+-- A DATA or DATA_FRAGs brought the sample: its sequence number, its time, and its body, which is
+-- the payload as the catalog decodes it.
 pub record IsBrought {M : Type 0} (decoding : Decoding M) (past : List MatchEvent) (s : Shown M)
     : Type 0 where
   pub change : ChangeView
@@ -60,53 +61,53 @@ pub record IsBrought {M : Type 0} (decoding : Decoding M) (past : List MatchEven
   pub time : s.time ≡ change.time
   pub body : s.body ≡ body_by decoding change.info change.payload
 
--- each sequence number between that of a sample and that of the sample before it was given up by
--- then
+-- each sequence number between two consecutive samples was given up by the place of the later one
 abbrev pub PassesOverOnly : {M : Type 0} → List EventView → ℕ → List (Shown M) → Type 0
 PassesOverOnly events last [] = Unit {0}
 PassesOverOnly events last (s ∷ ss) =
     ((k : ℕ) → last < k → k < s.number → IsGivenUp (match_events_by s.place events) k)
     × PassesOverOnly events s.number ss
 
--- the samples of a match, against its submessages, the newest first
+-- the samples of a match follow from its submessages; the list of these has the newest first
 pub record ArePresented {M : Type 0} (decoding : Decoding M) (events : List EventView)
     (samples : List (Shown M)) : Type 0 where
-  -- each sequence number is above all before it
+  -- the sequence numbers rise strictly
   pub rising : RisesStrictly (map (λ s. s.number) samples)
-  -- a DATA or DATA_FRAGs that aren't after the sample's place brought it
+  -- each sample was brought by a DATA or DATA_FRAGs that came no later than its place
   pub received : AllByRecursion (λ s. IsBrought decoding (match_events_by s.place events) s) samples
-  -- from 1 on, each sequence number that no sample has was given up by the place of the next sample
+  -- each sequence number from 1 on without a sample was given up by the place of the next sample
   pub passed_over : PassesOverOnly events 0 samples
 
--- since when a reader is matched with a writer: from the start, since a place, or not at all
+-- when the match of a reader with a writer began: at the start, at a place, or not at all
 pub data Since : Type 0 where
   TheStart : Since
   ThePlace : Place → Since
   Never : Since
 
--- what a reader presents of a writer from one beginning or end of their match to the next
+-- the samples of a writer that a reader presents between two consecutive beginnings or ends of
+-- their match
 pub record Stretch (M : Type 0) : Type 0 where
   pub since : Since
   pub samples : List (Shown M)
 
--- the stretch of these samples, since then
+-- the stretch of these samples
 abbrev pub stretch : {M : Type 0} → Since → List (Shown M) → Stretch M
 stretch since samples = record { since = since; samples = samples }
 
--- a stretch begins with these samples
+-- these samples are put at the beginning of the first stretch
 abbrev pub shown_first : {M : Type 0} → List (Shown M) → List (Stretch M) → List (Stretch M)
 shown_first shown [] = []
 shown_first shown (s ∷ ss) = stretch s.since (shown ++ s.samples) ∷ ss
 
--- what a notice of the writer does to the stretch in which it is: a match that begins or ends
--- begins another
+-- the effect of a notice on the stretches: a match that begins or ends starts another stretch
 abbrev pub stretches_by : {M : Type 0} → Since → Place → NoticeKind M → (Since → List (Stretch M))
     → List (Stretch M)
 stretches_by since place Matched rest = stretch since [] ∷ rest (ThePlace place)
 stretches_by since place Unmatched rest = stretch since [] ∷ rest Never
 stretches_by since place kind rest = shown_first (shown_in place kind) (rest since)
 
--- the samples of a writer among these notices, cut where a match with it begins or ends
+-- the samples of a writer among these notices, cut into stretches where a match with it begins or
+-- ends
 abbrev pub stretches : {M : Type 0} → Guid → Since → List (Notice M) → List (Stretch M)
 stretches writer since [] = stretch since [] ∷ []
 stretches writer since (n ∷ ns) =
@@ -118,7 +119,7 @@ stretches writer since (n ∷ ns) =
 abbrev pub events_after : Place → List EventView → List EventView
 events_after place events = filter (λ e. not (not_after e.place place)) events
 
--- these samples are presented against the submessages since a match began, none where there is none
+-- these samples follow from the submessages since the match began; there are none without a match
 abbrev pub PresentedSince : {M : Type 0} → Decoding M → List EventView → List (Shown M) → Since
     → Type 0
 PresentedSince decoding events samples TheStart = ArePresented decoding events samples
@@ -126,12 +127,12 @@ PresentedSince decoding events samples (ThePlace place) =
     ArePresented decoding (events_after place events) samples
 PresentedSince decoding events samples Never = samples ≡ []
 
--- the samples of a stretch are presented against the submessages since its match began; where
--- nothing is matched there are none
+-- the samples of a stretch follow from the submessages since its match began; there are none
+-- without a match
 abbrev pub IsPresented : {M : Type 0} → Decoding M → List EventView → Stretch M → Type 0
 IsPresented decoding events s = PresentedSince decoding events s.samples s.since
 
--- the reader of a rank is matched with a writer from the start
+-- the reader of a rank has a fixed match with a writer
 abbrev pub is_fixed : Config → ℕ → Guid → Bool
 is_fixed config rank writer =
     list_any (λ m. m.rank == rank && same_guid m.writer writer) config.fixed.items
@@ -141,11 +142,11 @@ abbrev pub events_in : Config → List (List ℕ) → ℕ → Guid → List Even
 events_in config datagrams rank writer =
     events_for writer (entity_of config.readers.items rank) (events_from config.own 0 datagrams)
 
--- since when they are matched at the start of a run
+-- when their match began, as seen at the start of a run
 abbrev pub first_since : Config → ℕ → Guid → Since
 first_since config rank writer = if is_fixed config rank writer then TheStart else Never
 
--- what the reader of a rank presented of a writer in a run, match by match
+-- the samples of a writer that the reader of a rank presented in a run, stretch by stretch
 abbrev pub stretches_in : {M : Type 0} → Decoding M → Config → List (List ℕ) → ℕ → Guid
     → List (Stretch M)
 stretches_in decoding config datagrams rank writer =

@@ -1,4 +1,4 @@
--- The run of one thread, which takes the submessages of all datagrams one by one.
+-- The run of one thread, which processes the submessages of all datagrams one by one.
 use Rattle.std.specs.Prelude.{ℕ, ◌+◌, Bool, false, true, List, [], ◌∷◌, ◌++◌, map, filter, slice_index_or, ◌==◌}
 use Rattle.rtps_types.specs.declared.identity.EntityId.{EntityId}
 use Rattle.rtps_types.specs.declared.identity.GuidPrefix.{GuidPrefix}
@@ -18,27 +18,27 @@ use Rattle.rtps_run.specs.World.{World, world_after}
 abbrev pub entity_of : List ReaderConfig → ℕ → EntityId
 entity_of readers rank = slice_index_or (map (λ r. r.entity) readers) rank unknown_entity
 
--- a reliability asks for what is missing (DDS 1.4, 2.2.3.14)
+-- a reliability is RELIABLE, which asks for missing changes (DDS 1.4, 2.2.3.14)
 abbrev pub is_reliable : Reliability → Bool
 is_reliable BestEffort = false
 is_reliable Reliable = true
 
--- whether the reader of a rank asks for what is missing
+-- the reader of a rank is reliable
 abbrev pub is_reliable_at : List ReaderConfig → ℕ → Bool
 is_reliable_at readers rank =
     slice_index_or (map (λ r. is_reliable r.requested.policies.reliability) readers) rank false
 
--- the writers that the reader of a rank is matched with from the start
+-- the writers that the reader of a rank has fixed matches with
 abbrev pub fixed_of : List FixedMatch → ℕ → List Facts
 fixed_of fixed rank = map (λ m. (m.writer, m.locators)) (filter (λ m. m.rank == rank) fixed)
 
--- the reader of a rank at the start, where these are its fixed matches
+-- the reader of a rank at the start, with these fixed matches
 abbrev pub reader_first : GuidPrefix → List ReaderConfig → ℕ → List Facts → Reader
 reader_first own readers rank fixed =
     first_reader own (entity_of readers rank) (is_reliable_at readers rank) fixed
 
--- the world at the start: nothing came, nobody is known but our readers, and there are the fixed
--- matches
+-- the world at the start: only our readers and the fixed matches are known, and there were no
+-- events
 abbrev pub first_world : {M : Type 0} → Config → World M
 first_world config = record {
   known = first_known config;
@@ -47,13 +47,13 @@ first_world config = record {
   put = [];
 }
 
--- the events of a list of datagrams, of which the first has this index in the run
+-- the events of a list of datagrams; the first datagram has this index in the run
 abbrev pub events_from : GuidPrefix → ℕ → List (List ℕ) → List EventView
 events_from own index [] = []
 events_from own index (datagram ∷ datagrams) =
     events_of own index datagram ++ events_from own (index + 1) datagrams
 
--- the events one by one
+-- the world after these events, one by one
 abbrev pub world_run : {M : Type 0} → Decoding M → World M → List EventView → World M
 world_run decoding w [] = w
 world_run decoding w (e ∷ es) = world_run decoding (world_after decoding w e) es

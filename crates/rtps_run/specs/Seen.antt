@@ -1,4 +1,4 @@
--- What is seen of a run: each reader's notices, the answers, the statuses and the matches
+-- The results of a run: the notices of each reader, the answers, the statuses and the matches
 -- (DDS 1.4, 2.2.4.1).
 use Rattle.std.specs.Prelude.{◌≡◌, ◌<◌, ℕ, zero, suc, List, [], ◌∷◌, map, Bool, ◌&&◌, Option, Some, None, nat_lt, ◌==◌, if◌then◌else◌, is_some, length}
 use Rattle.std.specs.List.{list_any}
@@ -19,7 +19,7 @@ notices_by rank (NoticeOf by notice ∷ put) =
     if by == rank then notice ∷ notices_by rank put else notices_by rank put
 notices_by rank (AnswerOf answer ∷ put) = notices_by rank put
 
--- how many readers there are: the ranks are the numbers below it
+-- the number of readers; their ranks are the numbers below it
 abbrev pub reader_count : {M : Type 0} → World M → ℕ
 reader_count w = length w.known.readers
 
@@ -29,11 +29,11 @@ answers_in [] = []
 answers_in (NoticeOf by notice ∷ put) = answers_in put
 answers_in (AnswerOf answer ∷ put) = answer ∷ answers_in put
 
--- the status of the reader of a rank: its matches and its notices, counted
+-- the status of the reader of a rank: the counts of its matches and of its notices
 abbrev pub status_at : {M : Type 0} → World M → ℕ → Status
 status_at w rank = status_of (w.readers rank) (notices_by rank w.put)
 
--- the same, where there is such a reader
+-- the same, if there is such a reader
 abbrev pub status_seen : {M : Type 0} → World M → ℕ → Option Status
 status_seen w rank = if nat_lt rank (reader_count w) then Some (status_at w rank) else None
 
@@ -47,7 +47,7 @@ matches_below readers (suc rank) =
 abbrev pub matches_seen : {M : Type 0} → World M → List (ℕ × Guid)
 matches_seen w = matches_below w.readers (reader_count w)
 
--- a list of matches has the one of a rank and a writer
+-- a list of matches has that of a rank and a writer
 abbrev pub is_listed : List (ℕ × Guid) → ℕ → Guid → Bool
 is_listed listed rank writer = list_any (λ m. m.0 == rank && same_guid m.1 writer) listed
 
@@ -56,7 +56,7 @@ abbrev pub is_matched_at : {M : Type 0} → World M → ℕ → Guid → Bool
 is_matched_at w rank writer =
     nat_lt rank (reader_count w) && is_some (match_with writer (w.readers rank).matches)
 
--- each reader is matched with just the writers that it matches by what is known
+-- each reader is matched with exactly the writers that discovery says it is matched with
 abbrev pub Agrees : {M : Type 0} → World M → Type 0
 Agrees w = (rank : ℕ) (writer : Guid) → rank < reader_count w
     → is_some (match_with writer (w.readers rank).matches) ≡ is_matched w.known rank writer

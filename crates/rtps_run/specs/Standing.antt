@@ -1,10 +1,10 @@
--- What an engine keeps, and when that is what follows from a list of datagrams.
+-- The state of an engine, and its relation to the list of datagrams processed so far.
 use Rattle.std.specs.Prelude.{◌≡◌, ◌+◌, ◌++◌, ◌^◌, ◌<◌, ◌≤◌, false, Bool, true, ℕ, List, [], length, map, slice_index_or, Some, Result, Ok, Err}
 use Rattle.std.specs.Option.{option_map}
 use Rattle.dds_topic.specs.Decoding.{Decoding}
 use Rattle.rtps_discovery.specs.declared.config.Config.{Config}
 use Rattle.rtps_discovery.specs.declared.faults.ConfigFault.{ConfigFault}
-use Rattle.rtps_discovery.specs.Kept.{DiscoveryView, IsKnown, HeldView}
+use Rattle.rtps_discovery.specs.Kept.{DiscoveryView, IsKnown, RegistryView}
 use Rattle.rtps_discovery.specs.Known.{reader_at}
 use Rattle.rtps_reader.specs.declared.notice.Notice.{Notice}
 use Rattle.rtps_reader.specs.declared.status.Status.{Status}
@@ -21,41 +21,41 @@ use Rattle.rtps_run.specs.Run.{run}
 use Rattle.rtps_run.specs.Seen.{notices_by, reader_count, status_at}
 use Rattle.rtps_run.specs.World.{ReportView, World}
 
--- what an engine keeps, without where it lies in memory
+-- the state of an engine, as contracts see it
 pub record EngineView (C : Type 0) : Type 0 where
   pub catalog : C
   pub config : Config
-  -- how many datagrams were taken
+  -- the number of datagrams processed
   pub index : ℕ
   pub failed : Bool
   pub discovery : DiscoveryView
-  -- by rank, and the statuses after the last datagram that was taken
+  -- by rank, and the statuses after the last datagram that was processed
   pub readers : List ReaderView
   pub statuses : List Status
 
--- the state of a rank keeps the reader of that rank, which gave out these notices
+-- the state of a rank represents the reader of that rank, which reported these notices
 pub record StandsFor {M : Type 0} (r : Reader) (given : List (Notice M)) (rank : ℕ)
     (state : ReaderView) : Type 0 where
   pub stands : reader.StandsAt r given state
   pub ranked : state.rank ≡ rank
 
--- each state keeps the reader of its rank, which gave out the notices of that rank
+-- each state represents the reader of its rank, which reported the notices of that rank
 abbrev pub AllStandBy : {M : Type 0} → (ℕ → Reader) → (ℕ → List (Notice M)) → List ReaderView
     → Type 0
 AllStandBy readers given states =
     (rank : ℕ) (other : ReaderView) → rank < length states
     → StandsFor (readers rank) (given rank) rank (slice_index_or states rank other)
 
--- each state keeps the reader of its rank in the world, with the notices that it put out
+-- each state represents the reader of its rank in the world, with the notices that it reported
 abbrev pub AllStand : {M : Type 0} → World M → List ReaderView → Type 0
 AllStand w states = AllStandBy w.readers (λ rank. notices_by rank w.put) states
 
--- each state keeps the reader of its rank, which gave out no notice yet
+-- each state represents the reader of its rank, which reported no notice yet
 abbrev pub AllStart : (ℕ → Reader) → List ReaderView → Type 0
 AllStart readers states = AllStandBy {M = Unit {0}} readers (λ rank. []) states
 
--- there is a state for each reader of the world, and it keeps that reader; and all that the world
--- put out are these reports, after what was put out earlier
+-- there is a state for each reader of the world, which represents that reader; and the world has
+-- put out these reports after the earlier ones
 pub record ReadersStand {V M A : Type 0} (view : V → M) (w : World M)
     (earlier : List (ReportView M)) (states : List ReaderView) (reports : List (Report V A))
     : Type 0 where
@@ -63,15 +63,15 @@ pub record ReadersStand {V M A : Type 0} (view : V → M) (w : World M)
   pub readers : AllStand w states
   pub put : w.put ≡ earlier ++ map (report_view view) reports
 
--- each reader is known, and by its own entity
+-- discovery knows each reader, with its own entity
 abbrev pub AllKnown : {M : Type 0} → World M → Type 0
 AllKnown w =
     (rank : ℕ) → rank < reader_count w
     → option_map (λ r. r.entity) (reader_at w.known.readers rank) ≡ Some (w.readers rank).entity
 
--- the same with what discovery keeps, which is what the world knows
+-- the same, with the data of discovery, which represents what the world knows
 pub record WorldStands {V M A : Type 0} (view : V → M) (w : World M) (earlier : List (ReportView M))
-    (discovery : HeldView) (states : List ReaderView) (reports : List (Report V A)) : Type 0 where
+    (discovery : RegistryView) (states : List ReaderView) (reports : List (Report V A)) : Type 0 where
   pub known : IsKnown w.known discovery
   pub named : AllKnown w
   pub readers : ReadersStand view w earlier states reports
@@ -88,7 +88,7 @@ pub record ShowsAt {C M : Type 0} (decoding : C → Decoding M) (datagrams : Lis
       → slice_index_or engine.statuses rank other
       ≡ status_at (run_by decoding engine datagrams) rank
 
--- the engine keeps what follows from these datagrams
+-- the state of the engine is that after these datagrams
 pub record StandsAt {C M : Type 0} (decoding : C → Decoding M) (datagrams : List (List ℕ))
     (engine : EngineView C) : Type 0 where
   pub sound : engine.failed ≡ false
@@ -103,9 +103,9 @@ pub record StandsAt {C M : Type 0} (decoding : C → Decoding M) (datagrams : Li
 abbrev pub datagram_limit : ℕ
 datagram_limit = 2 ^ 48
 
--- How a datagram is taken, and when each refusal comes: Failed exactly where an earlier datagram
--- was out of memory, which leaves the engine failed, Spent exactly where one datagram more would
--- pass the limit. Either leaves the engine as it was.
+-- How a datagram is processed, and when each refusal comes: Failed exactly where an earlier
+-- datagram ran out of memory, which leaves the engine failed; Spent exactly where one more datagram
+-- would pass the limit. Either leaves the engine as it was.
 unfoldable pub Takes : {C X : Type 0} → Result X EngineError → EngineView C → EngineView C → Type 0
 Takes (Ok x) old new =
     (old.failed ≡ false) × (old.index < datagram_limit)
@@ -130,7 +130,7 @@ pub record IsSteppedFrom {C : Type 0} (old new : EngineView C) : Type 0 where
   pub statuses : new.statuses ≡ old.statuses
   pub count : length new.readers ≡ length old.readers
 
--- one datagram more is taken, and the statuses are those of the readers
+-- one more datagram is processed, and the statuses are those of the readers
 pub record IsFinishedFrom {C : Type 0} (old new : EngineView C) : Type 0 where
   pub catalog : new.catalog ≡ old.catalog
   pub config : new.config ≡ old.config
@@ -150,14 +150,14 @@ Leaves (Err Failed) old new = new ≡ old
 Leaves (Err Spent) old new = new ≡ old
 Leaves (Err NoMemory) old new = new ≡ []
 
--- when a question to the engine is refused: Failed exactly where it has failed
+-- when a query is refused: Failed exactly where the engine has failed
 unfoldable pub Answers : {C X : Type 0} → Result X EngineError → EngineView C → Type 0
 Answers (Ok x) engine = engine.failed ≡ false
 Answers (Err Failed) engine = engine.failed ≡ true
 Answers (Err Spent) engine = ⊥
 Answers (Err NoMemory) engine = engine.failed ≡ false
 
--- when an engine is refused, by what the check of its configuration says
+-- when an engine is refused, by the check of its configuration
 unfoldable pub Starts : {X : Type 0} → Result (Unit {0}) ConfigFault → Result X StartError → Type 0
 Starts (Ok u) (Ok x) = Unit {0}
 Starts (Ok u) (Err start.NoMemory) = Unit {0}

@@ -1,4 +1,4 @@
-//! Which of our readers an event names.
+//! The readers that an event names.
 
 ghost use Rattle.std.specs.Prelude.{◌≡◌};
 ghost use Rattle.rtps_discovery.specs.Known.{reader_at};
@@ -8,8 +8,8 @@ use rtps_discovery::{Reader, is_for};
 use rtps_types::EntityId;
 use std::alloc::Allocator;
 
-/// Whether there is a reader of the rank, and a reader id is for it. Whether it is matched with the
-/// writer of an event is for the caller to look up.
+/// Whether a reader has this rank, and a reader id is for it. The caller has to look up whether it
+/// is matched with the writer of an event.
 pub fn is_named<A: Allocator>(readers: &[Option<Reader<A>>], rank: u32, reader: EntityId) -> bool
     ensures { result ≡ is_named reader (reader_at readers.now rank) }
 {

@@ -1,4 +1,4 @@
-//! The answers of an outcome, and an outcome of what was given apart.
+//! Making an outcome, and its answers, of discovery's answers and the readers' outputs.
 
 ghost use Rattle.std.specs.Prelude.{◌≡◌, ◌^◌, ◌≤◌, ◌++◌, IfOk, OnOk, length, map};
 ghost use Rattle.std.specs.List.Sorted.{IsPermutation, IsSortedByKey, IsStableByKey};
@@ -11,8 +11,8 @@ use rtps_types::{Place, Reply};
 use std::alloc::{AllocError, Allocator};
 
 impl<A: Allocator> Answer<A> {
-    /// The answer to the event at a place that the reader of a rank sends, or discovery where there
-    /// is no rank.
+    /// Returns the answer to the event at a place. The reader of `rank` sends it, or discovery if
+    /// `rank` is `None`.
     pub fn new(rank: Option<u32>, place: Place, reply: Reply<A>) -> Answer<A>
         ensures { result ≡ answer_of rank (place, reply) }
     {
@@ -26,8 +26,9 @@ impl<A: Allocator> Answer<A> {
 }
 
 impl<V: Drop, A: Allocator + Copy> Outcome<V, A> {
-    /// The outcome of what discovery answers and of what each reader gives, by rank. The lists of
-    /// notices are moved as they are. An error is a refused growth, after which all of it is gone.
+    /// Makes an outcome of discovery's answers and of the output of each reader, by rank. There may
+    /// be at most 2^32 outputs, since a rank has 32 bits. The lists of notices are moved, not
+    /// copied. An error is a refused growth, after which answers and outputs are dropped.
     pub fn new(
         alloc: A,
         answers: Vec<(Place, Reply<A>), A>,
@@ -47,7 +48,7 @@ impl<V: Drop, A: Allocator + Copy> Outcome<V, A> {
     }
 }
 
-/// Moves the answers of the reader of a rank, or of discovery, after the others.
+/// Moves the answers of the reader of a rank, or of discovery, to the end of the list.
 fn push_answers<A: Allocator>(
     all: &mut Vec<Answer<A>, A>,
     rank: Option<u32>,
@@ -61,7 +62,8 @@ fn push_answers<A: Allocator>(
     Ok(())
 }
 
-/// The lists of notices of outputs by rank, whose answers are moved after the others.
+/// Returns the lists of notices of outputs, by rank. Their answers are moved to the end of the list
+/// of answers.
 fn take_notices<V: Drop, A: Allocator + Copy>(
     alloc: A,
     outputs: Vec<Output<V, A>, A>,
@@ -80,7 +82,7 @@ fn take_notices<V: Drop, A: Allocator + Copy>(
     Ok(lists)
 }
 
-/// Puts answers in the order of their turns.
+/// Sorts answers by turn.
 fn sort<A: Allocator>(answers: &mut Vec<Answer<A>, A>) -> Result<(), AllocError>
     ensures all { OnOk result (IsPermutation answers.old.items answers.new.items) }
     ensures sorted { OnOk result (IsSortedByKey answer_turn turn_order answers.new.items) }

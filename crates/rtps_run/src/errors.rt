@@ -1,4 +1,4 @@
-//! Why an engine doesn't start or go on.
+//! The errors of engines.
 
 ghost use Rattle.std.specs.Prelude.{◌≡◌};
 ghost use Rattle.rtps_run.specs.declared.errors.EngineError.TheVariants as engine;
@@ -8,7 +8,7 @@ use rtps_discovery::ConfigFault;
 use std::alloc::AllocError;
 use thiserror::Error;
 
-/// A run has at most 2^48 datagrams.
+/// The greatest number of datagrams of a run: 2^48.
 pub const DATAGRAM_LIMIT: u64 = 281_474_976_710_656;
 
 /// Why an engine could not be made.
@@ -30,16 +30,16 @@ impl From<AllocError> for StartError {
     }
 }
 
-/// Why an engine refuses a datagram or a question. Failed comes before Spent.
+/// Why an engine refuses a datagram or a query. Failed comes before Spent.
 #[derive(Clone, Copy, Debug, PartialEq, Eq, Error)]
 pub enum EngineError {
-    /// The allocator refused a growth: where it was for a datagram, the engine has failed.
+    /// The allocator refused memory. If it was for a datagram, the engine has failed.
     #[error("out of memory")]
     NoMemory,
-    /// An earlier datagram was out of memory.
+    /// An earlier datagram ran out of memory.
     #[error("the engine has failed")]
     Failed,
-    /// The run would pass [`DATAGRAM_LIMIT`].
+    /// The run would have more than [`DATAGRAM_LIMIT`] datagrams.
     #[error("too many datagrams")]
     Spent,
 }

@@ -1,5 +1,5 @@
-//! The run of one thread, in definitions, and what every engine that gives it uses
-//! (DDSI-RTPS 8.3.4, 8.4.10): what an engine starts with, keeps, gives, and refuses.
+//! The definition of a run of one thread, which every engine has to reproduce
+//! (DDSI-RTPS 8.3.4, 8.4.10), and what engines share: their start, state, results and errors.
 #![tactic(auto)]
 
 mod addressed;

@@ -4,7 +4,7 @@ ghost use Rattle.std.specs.Prelude.{◌≡◌, ℕ, ◌<◌, ◌==◌, ◌++◌,
 
 use std::alloc::{AllocError, Allocator};
 
-/// As many empty lists as `count` says. An error is a refused growth.
+/// Returns `count` empty lists. An error is a refused growth.
 pub fn empty_lists<T: Drop, A: Allocator + Copy>(
     alloc: A,
     count: usize,
@@ -20,8 +20,8 @@ pub fn empty_lists<T: Drop, A: Allocator + Copy>(
     Ok(lists)
 }
 
-/// Adds an item to the list of its rank, where there is one: a rank past the last changes nothing.
-/// An error is a refused growth, after which the lists are as they were.
+/// Appends an item to the list of its rank. A rank that has no list changes nothing. An error is a
+/// refused growth, after which the lists are unchanged.
 pub fn push_by<T: Drop, A: Allocator>(
     lists: &mut Vec<Vec<T, A>, A>,
     rank: u32,

@@ -1,4 +1,4 @@
-//! What an engine gives.
+//! The results of an engine.
 
 ghost use Rattle.std.specs.Prelude.{◌^◌, ◌≤◌, vec_len};
 
@@ -6,20 +6,20 @@ use rtps_reader::Notice;
 use rtps_types::{Locators, Octets, Place};
 use std::alloc::{Allocator, Global};
 
-/// An answering datagram, for the one who owns the sockets to send.
+/// An answer: a datagram that the owner of the sockets has to send.
 #[derive(Debug, Drop)]
 pub struct Answer<A: Allocator = Global> {
     /// The place of the event that it answers.
     pub place: Place,
     /// The rank of the reader that sends it, or `None` where discovery does.
     pub rank: Option<u32>,
-    /// Where it goes.
+    /// The locators that it is sent to.
     pub to: Locators<A>,
     /// The whole datagram, from `RTPS` on.
     pub octets: Octets<A>,
 }
 
-/// What a datagram or a batch of them gives.
+/// The result of a datagram or of a batch.
 #[derive(Debug, Drop)]
 pub struct Outcome<V, A: Allocator = Global> {
     /// The notices of each reader, by its rank, in the order of their causes.
@@ -30,12 +30,12 @@ pub struct Outcome<V, A: Allocator = Global> {
     ghost ranked: { vec_len notices ≤ 2 ^ 32 },
 }
 
-/// One thing that a datagram or a batch gives, for those who want all in the order in which it
-/// came: by place, then by rank, and of one reader its notices before its answer.
+/// One item of the result of a datagram or a batch, for callers that want all items in one order:
+/// by place, then by rank, and for one reader its notices before its answer.
 #[derive(Debug, Drop)]
 pub enum Report<V, A: Allocator = Global> {
-    /// The reader of this rank reports something.
+    /// A notice of the reader of this rank.
     Notice { rank: u32, notice: Notice<V> },
-    /// A datagram is to be sent.
+    /// An answer to send.
     Answer(Answer<A>),
 }

@@ -1,4 +1,4 @@
-//! What an engine shows of its readers.
+//! The matches and statuses that an engine shows of its readers.
 
 ghost use Rattle.std.specs.Prelude.{◌≡◌, ℕ, ◌<◌, IfOk, length, slice_index_or};
 ghost use Rattle.rtps_reader.specs.declared.status.Status as status;
@@ -13,8 +13,8 @@ use rtps_types::Guid;
 use std::alloc::{AllocError, Allocator};
 use std::collections::BTreeSet;
 
-/// The matches of all readers, which are by rank: a rank and a writer each. An error is a refused
-/// growth.
+/// Returns the matches of all readers, a rank and a writer each; `readers` is in the order of
+/// ranks. An error is a refused growth.
 pub fn all_matches<C: Catalog, A: Allocator + Copy>(
     alloc: A,
     readers: &[ReaderState<A>],
@@ -29,7 +29,7 @@ pub fn all_matches<C: Catalog, A: Allocator + Copy>(
     Ok(matches)
 }
 
-/// Writes down the status of each reader, by its rank.
+/// Replaces `statuses` by the status of each reader, by rank.
 pub fn show_all<A: Allocator + Copy>(readers: &[ReaderState<A>], statuses: &mut [Status])
     requires { length statuses.old ≡ length readers.now }
     ensures { (rank : ℕ) (s : status.Status) (r : ReaderView) → rank < length readers.now

@@ -1,4 +1,4 @@
-//! The readers of a configuration, at the start.
+//! The readers of a configuration at the start of a run.
 
 ghost use Rattle.std.specs.Prelude.{◌≡◌, List, ℕ, ◌<◌, ◌≤◌, IfOk, length, map, slice_index_or};
 ghost use Rattle.rtps_reader.specs.Reader.{Facts};
@@ -13,8 +13,8 @@ use rtps_reader::{ReaderState, Status};
 use rtps_types::{GuidPrefix, Locators, WriterFacts};
 use std::alloc::{AllocError, Allocator};
 
-/// The writers that each of these readers is matched with from the start, by rank. An error is a
-/// refused growth.
+/// Returns for each rank the writers that its reader has fixed matches with. An error is a refused
+/// growth.
 pub fn fixed_by_rank<A: Allocator + Copy>(
     alloc: A,
     readers: usize,
@@ -36,16 +36,16 @@ pub fn fixed_by_rank<A: Allocator + Copy>(
     Ok(lists)
 }
 
-/// Whether a reader asks for what is missing.
+/// Whether a reader is reliable, so that it asks for missing changes.
 fn is_reliable(reader: &ReaderConfig) -> bool
     ensures { result ≡ is_reliable reader.now.requested.policies.reliability }
 {
     matches!(reader.requested.policies.reliability, Reliability::Reliable)
 }
 
-/// The readers of a participant, to which nothing came yet, by rank: `own` is its prefix, and
-/// `fixed` has the writers that each is matched with from the start, by rank too. An error is a
-/// refused growth.
+/// Returns the readers of a participant by rank, before any event. `own` is the participant's
+/// prefix; `fixed` has for each rank the writers that its reader has fixed matches with. An error
+/// is a refused growth.
 pub fn first_readers<A: Allocator + Copy>(
     alloc: A,
     own: GuidPrefix,
@@ -70,7 +70,7 @@ pub fn first_readers<A: Allocator + Copy>(
     Ok(states)
 }
 
-/// The statuses of these readers. An error is a refused growth.
+/// Returns the statuses of these readers. An error is a refused growth.
 pub fn first_statuses<A: Allocator + Copy>(
     alloc: A,
     readers: &[ReaderState<A>],

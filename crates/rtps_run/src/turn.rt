@@ -1,4 +1,4 @@
-//! The order in which a run puts things out.
+//! The order of the reports of a run.
 
 ghost use Rattle.std.specs.Prelude.{◌≡◌, ◌^◌, ◌≤◌, ◌++◌, IfOk, OnOk, map, vec_len};
 ghost use Rattle.rtps_run.specs.declared.outcome.Report.TheVariants as report;
@@ -9,15 +9,15 @@ use rtps_reader::Notice;
 use rtps_types::Place;
 use std::alloc::{AllocError, Allocator};
 
-/// Which kind of report it is; of one reader at one place notices come first.
+/// The kind of a report. For one reader at one place, notices come first.
 #[derive(Clone, Copy, Debug, PartialEq, Eq, PartialOrd, Ord)]
 pub enum ReportKind {
     Notice,
     Answer,
 }
 
-/// When a report comes: by place; at one place what discovery reports before what readers do, and
-/// these by rank; of one reader its notices before its answer.
+/// The position of a report in a run: by place; at one place discovery's reports before those of
+/// readers, and these by rank; for one reader its notices before its answer.
 #[derive(Clone, Copy, Debug, PartialEq, Eq, PartialOrd, Ord)]
 pub struct Turn {
     /// The event that caused the report.
@@ -28,7 +28,7 @@ pub struct Turn {
 }
 
 impl<A: Allocator> Answer<A> {
-    /// When it comes.
+    /// Returns its position in the run.
     pub fn turn(&self) -> Turn
         ensures { result ≡ answer_turn self.now }
     {
@@ -41,7 +41,7 @@ impl<A: Allocator> Answer<A> {
 }
 
 impl<V, A: Allocator> Report<V, A> {
-    /// When it comes.
+    /// Returns its position in the run.
     pub fn turn(&self) -> Turn
         ensures { result ≡ turn_of self.now }
     {
@@ -57,10 +57,10 @@ impl<V, A: Allocator> Report<V, A> {
 }
 
 impl<V: Drop, A: Allocator + Copy> Outcome<V, A> {
-    /// All that it has, in the order in which a run of one thread puts it out: by place, then by
-    /// rank, and of one reader its notices before its answer. What comes at one turn, as the
-    /// notices of one reader at one place, keeps its order. An error is a refused growth, and the
-    /// outcome is gone.
+    /// Returns all reports, in the order of a run of one thread: by place, then by rank, and for
+    /// one reader its notices before its answer. Reports of the same turn, such as the notices of
+    /// one reader at one place, keep their order. An error is a refused growth, after which the
+    /// outcome is dropped.
     pub fn in_order(self, alloc: A) -> Result<Vec<Report<V, A>, A>, AllocError>
         ensures { IfOk result (λ reports. AreInOrder self reports.items) }
     {
@@ -74,7 +74,7 @@ impl<V: Drop, A: Allocator + Copy> Outcome<V, A> {
     }
 }
 
-/// Moves the notices of a rank after the reports.
+/// Moves the notices of a rank to the end of the reports.
 fn push_notices<V: Drop, A: Allocator>(
     reports: &mut Vec<Report<V, A>, A>,
     rank: u32,
@@ -89,7 +89,7 @@ fn push_notices<V: Drop, A: Allocator>(
     Ok(())
 }
 
-/// Moves the notices of all ranks after the reports.
+/// Moves the notices of all ranks to the end of the reports.
 fn push_lists<V: Drop, A: Allocator>(
     reports: &mut Vec<Report<V, A>, A>,
     lists: Vec<Vec<Notice<V>, A>, A>,

@@ -25,7 +25,7 @@ use Rattle.rtps_proxy.specs.Matches.{Match, begun, extended, fresh, match_with, 
 use Rattle.rtps_proxy.proofs.Matching.{same_is}
 use Rattle.dds_topic.specs.Decoding.{Decoding}
 use Rattle.rtps_reader.specs.Reader.{Reader, all_begun, first_matches, fresh_with, reader_after, reader_run, pairing_of}
-use Rattle.rtps_reader.specs.Steps.{StepView, Takes, Changes, asks_of}
+use Rattle.rtps_reader.specs.Step.{StepView, Takes, Changes, asks_of}
 use Rattle.rtps_reader.proofs.Begun.{match_begun, same_self}
 use Rattle.rtps_run.specs.Presentation as start
 use Rattle.rtps_run.specs.Run.{entity_of, first_world, fixed_of, is_reliable_at, run, events_from, world_run}

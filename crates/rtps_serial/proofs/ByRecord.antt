@@ -16,7 +16,7 @@ use Rattle.rtps_discovery.specs.Records.{announcements, answered, changes_by, no
 use Rattle.rtps_proxy.specs.Replies.{ReplyView}
 use Rattle.dds_topic.specs.Decoding.{Decoding}
 use Rattle.rtps_reader.specs.Reader.{Reader, placed, reader_after, reader_run, tells}
-use Rattle.rtps_reader.specs.Steps.{Changes, StepView}
+use Rattle.rtps_reader.specs.Step.{Changes, StepView}
 use Rattle.rtps_serial.specs.ByRecord.{AreAlike, knowing, record_taken, records_run, records_taken, run_by_record, world_answered, world_by_record}
 use Rattle.rtps_run.specs.Run.{events_from, first_world, run, world_run}
 use Rattle.rtps_run.specs.Seen.{answers_in, notices_by, reader_count}

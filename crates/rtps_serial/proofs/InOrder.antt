@@ -12,7 +12,7 @@ use Rattle.rtps_receiver.specs.Events.{EventView}
 use Rattle.rtps_discovery.specs.declared.config.Config.{Config}
 use Rattle.dds_topic.specs.Decoding.{Decoding}
 use Rattle.rtps_reader.specs.declared.notice.Notice.{Notice}
-use Rattle.rtps_reader.specs.Notices.{notice_view}
+use Rattle.rtps_reader.specs.Notice.{notice_view}
 use Rattle.rtps_run.specs.declared.outcome.Answer.{Answer}
 use Rattle.rtps_run.specs.declared.outcome.Outcome.{Outcome}
 use Rattle.rtps_run.specs.declared.outcome.Report.{Report}

@@ -23,7 +23,7 @@ use Rattle.rtps_proxy.proofs.Matching.{same_is}
 use Rattle.dds_topic.specs.Decoding.{Decoding}
 use Rattle.rtps_reader.specs.declared.notice.Notice.{Notice}
 use Rattle.rtps_reader.specs.Reader.{Reader, reader_after, tells}
-use Rattle.rtps_reader.specs.Steps.{Changes, asks_of}
+use Rattle.rtps_reader.specs.Step.{Changes, asks_of}
 use Rattle.rtps_run.specs.Presentation.{Since, Stretch, first_since, is_fixed, stretches, stretches_in}
 use Rattle.rtps_proxy.specs.History.{match_event_of}
 use Rattle.rtps_run.specs.Run.{events_from, first_world, run, world_run}

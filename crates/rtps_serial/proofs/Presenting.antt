@@ -19,7 +19,7 @@ use Rattle.rtps_proxy.proofs.Matching.{same_is}
 use Rattle.dds_topic.specs.Decoding.{Decoding}
 use Rattle.rtps_reader.specs.declared.notice.Notice.{Notice}
 use Rattle.rtps_reader.specs.Reader.{Facts, Reader, all_begun, first_matches, reader_after, reader_run, tells, pairing_of}
-use Rattle.rtps_reader.specs.Steps.{StepView, asks_of}
+use Rattle.rtps_reader.specs.Step.{StepView, asks_of}
 use Rattle.rtps_reader.proofs.Begun.{match_begun}
 use Rattle.rtps_run.specs.Presentation.{IsPresented, Since, TheStart, Never, Stretch, events_after, events_for, events_in, first_since, is_fixed, stretch, stretches, stretches_in}
 use Rattle.rtps_run.specs.Run.{entity_of, events_from, first_world, fixed_of, is_reliable_at, run, world_run}

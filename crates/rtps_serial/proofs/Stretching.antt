@@ -12,7 +12,8 @@ use Rattle.rtps_discovery.specs.Addressed.{writer_of}
 use Rattle.rtps_types.specs.MatchChange.{MatchChange, Matches, Unmatches, Refuses}
 use Rattle.rtps_discovery.specs.Changes.{ChangeAt}
 use Rattle.rtps_proxy.specs.Effects.{ready_of}
-use Rattle.rtps_proxy.specs.History.{MatchEvent, ChangeView, match_event_of}
+use Rattle.rtps_proxy.specs.Change.{ChangeView}
+use Rattle.rtps_proxy.specs.History.{MatchEvent, match_event_of}
 use Rattle.rtps_proxy.specs.Matches.{Match, match_with, same_guid}
 use Rattle.rtps_proxy.specs.Presentation.{Brings}
 use Rattle.rtps_proxy.specs.Received.{ready}
@@ -23,7 +24,7 @@ use Rattle.rtps_reader.specs.declared.notice.Notice.{Notice}
 use Rattle.rtps_reader.specs.declared.notice.NoticeKind.{NoticeKind}
 use Rattle.rtps_reader.specs.declared.notice.NoticeKind.TheVariants.{Sample as ASample, Matched, Unmatched, Incompatible, Lost}
 use Rattle.rtps_reader.specs.Reader.{Reader, fresh_with, loses, lost_at, presented, reader_after, reader_run, ready_at, tells, told_of}
-use Rattle.rtps_reader.specs.Steps.{Takes, Changes, asks_of}
+use Rattle.rtps_reader.specs.Step.{Takes, Changes, asks_of}
 use Rattle.rtps_reader.proofs.Begun.{match_begun, same_self}
 use Rattle.rtps_run.specs.Presentation.{ArePresented, IsPresented, PresentedSince, Shown, Since, TheStart, ThePlace, Never, Stretch, events_after, shown_first, shown_in, stretch, stretches, stretches_by}
 use Rattle.rtps_run.proofs.Matched.{either_way, ended_match, extend, extended_match, other_way, samples_told, told_by_other, told_run}

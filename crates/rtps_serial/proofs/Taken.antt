@@ -1,6 +1,6 @@
 -- The numbers of the changes that the events of a run bring.
 use Rattle.std.proofs.Common.{◌≡◌, ℕ, ◌+◌, ◌^◌, ◌&&◌, Bool, true, false, List, [], ◌∷◌, map, Option, Some, None, if◌then◌else◌, nat_le, refl, subst, arith, inl, inr}
-use Rattle.std.specs.Prelude.{drop, option_to_list}
+use Rattle.std.specs.Prelude.{drop, option_to_list, Result, Ok, Err}
 use Rattle.std.specs.List.{AllByRecursion, list_all}
 use Rattle.std.specs.Str.{bytes_eq}
 use Rattle.std.proofs.lemmas.Bool.{and_parts}
@@ -11,22 +11,22 @@ use Rattle.rtps_types.specs.declared.place.Place.{Place}
 use Rattle.rtps_types.specs.declared.time.Timestamp.{Timestamp}
 use Rattle.rtps_wire.specs.declared.message_header.Header.{Header}
 use Rattle.rtps_wire.specs.declared.message_header.HeaderFault.{HeaderFault}
-use Rattle.std.specs.Prelude.{Result, Ok, Err}
-use Rattle.rtps_wire.specs.Header.{header_of}
+use Rattle.rtps_wire.specs.MessageHeader.{header_of}
 use Rattle.rtps_wire.specs.Reading.{reading}
-use Rattle.rtps_wire.specs.Submessage.{Content, Item}
+use Rattle.rtps_wire.specs.Submessage.{PartsView, Item}
 use Rattle.rtps_receiver.specs.Addressed.{AddressedBody, addressed, first_of, numbers_of, taken, taken_of}
-use Rattle.rtps_receiver.specs.EventBody.{EventBody, Whole, Fragment, Heartbeat, Gap, HeartbeatFrag, is_taken}
+use Rattle.rtps_receiver.specs.EventBody.{EventBodyView, Whole, Fragment, Heartbeat, Gap, HeartbeatFrag, is_taken}
 use Rattle.rtps_receiver.specs.Context.{destination_of, source_of, time_of}
 use Rattle.rtps_receiver.specs.Events.{EventView, event_behind, events_behind, events_of, events_under, happening}
-use Rattle.rtps_proxy.specs.History.{ChangeView, match_event_of}
+use Rattle.rtps_proxy.specs.Change.{ChangeView}
+use Rattle.rtps_proxy.specs.History.{match_event_of}
 use Rattle.rtps_proxy.specs.Presentation.{Brings, CameWhole, IsSample, IsTold, IsToldBy}
 use Rattle.rtps_frags.specs.declared.sizes.Sizes.{Sizes}
 use Rattle.rtps_run.specs.Run.{events_from}
 use Rattle.rtps_run.proofs.Places.{all_append}
 
 -- a change in one piece has a number that a change may have
-abbrev pub HasNumber : EventBody → Type 0
+abbrev pub HasNumber : EventBodyView → Type 0
 HasNumber (Whole c) = IsNumber c.number
 HasNumber (Fragment f) = IsNumber f.number
 HasNumber (Heartbeat h) = Unit {0}
@@ -36,7 +36,7 @@ HasNumber (HeartbeatFrag h) = Unit {0}
 within : (n : ℕ) → nat_le 1 n ≡ true → nat_le n (2 ^ 62) ≡ true → IsNumber n
 within n low high = (grind (arith, nat_tests), grind (arith, nat_tests))
 
-by_body : (b : EventBody) → (nat_le 1 (first_of b) && list_all is_taken (numbers_of b)) ≡ true → HasNumber b
+by_body : (b : EventBodyView) → (nat_le 1 (first_of b) && list_all is_taken (numbers_of b)) ≡ true → HasNumber b
 by_body (Whole c) h = let both = and_parts _ _ h in within c.number both.0 (and_parts _ true both.1).0
 by_body (Fragment f) h = let both = and_parts _ _ h in within f.number both.0 (and_parts _ true both.1).0
 by_body (Heartbeat h) k = tt
@@ -55,7 +55,7 @@ of_some place source time true None = tt
 of_some place source time true (Some a) = of_taken place source time a
 of_some place source time false o = tt
 
-of_items : (own header : GuidPrefix) (index count : ℕ) (before : List Content) (items : List Item) → AllByRecursion (λ (e : EventView). HasNumber e.body) (events_behind own header index count before items)
+of_items : (own header : GuidPrefix) (index count : ℕ) (before : List PartsView) (items : List Item) → AllByRecursion (λ (e : EventView). HasNumber e.body) (events_behind own header index count before items)
 of_items own header index count before [] = tt
 of_items own header index count before (i ∷ left) =
     all_append (λ (e : EventView). HasNumber e.body) (option_to_list (event_behind own header (record { datagram = index; submessage = count + 1 }) before i.content)) (events_behind own header index (count + 1) (i.content ∷ before) left)
@@ -75,7 +75,7 @@ all_have_numbers own index (octets ∷ datagrams) =
     all_append (λ (e : EventView). HasNumber e.body) (events_of own index octets) (events_from own (index + 1) datagrams) (of_datagram own index octets) (all_have_numbers own (index + 1) datagrams)
 
 -- a sample that such events brought has such a number
-is_sample_of : (time : Option Timestamp) (b : EventBody) (s : ChangeView) → HasNumber b → IsSample time b s → IsNumber s.number
+is_sample_of : (time : Option Timestamp) (b : EventBodyView) (s : ChangeView) → HasNumber b → IsSample time b s → IsNumber s.number
 is_sample_of time (Whole c) s has is = subst (λ (t : ChangeView). IsNumber t.number) is has
 is_sample_of time (Fragment f) s has is = absurd is
 is_sample_of time (Heartbeat h) s has is = absurd is
@@ -88,7 +88,7 @@ came_number (e ∷ es) s all (inl is) = is_sample_of e.time e.body s all.0 is
 came_number (e ∷ es) s all (inr rest) = came_number es s all.1 rest
 
 -- and so has one that they heard of
-is_told_by : (z : Sizes) (time : Option Timestamp) (b : EventBody) (s : ChangeView) → HasNumber b → IsToldBy z s time b → IsNumber s.number
+is_told_by : (z : Sizes) (time : Option Timestamp) (b : EventBodyView) (s : ChangeView) → HasNumber b → IsToldBy z s time b → IsNumber s.number
 is_told_by z time (Whole c) s has is = absurd is
 is_told_by z time (Fragment f) s has is = subst IsNumber is.0 has
 is_told_by z time (Heartbeat h) s has is = absurd is

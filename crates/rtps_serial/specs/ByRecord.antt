@@ -1,5 +1,5 @@
--- An event record by record (DDSI-RTPS 8.5.3, 8.5.4): what a record changes is heard by the readers
--- before the next record is applied.
+-- An event processed record by record (DDSI-RTPS 8.5.3, 8.5.4): the readers process the changes of
+-- a record before the next record is applied.
 use Rattle.std.specs.Prelude.{◌≡◌, ◌<◌, ℕ, List, [], ◌∷◌, ◌++◌, None, map, if◌then◌else◌}
 use Rattle.rtps_types.specs.declared.place.Place.{Place}
 use Rattle.rtps_receiver.specs.Events.{EventView}
@@ -16,11 +16,11 @@ use Rattle.rtps_run.specs.Seen.{answers_in, notices_by, reader_count}
 use Rattle.rtps_run.specs.Steps.{change_step, steps_run}
 use Rattle.rtps_run.specs.World.{World, sent_by, world_after}
 
--- the world in which this is known, and all else is the same
+-- the world with another state of discovery, and otherwise the same
 abbrev pub knowing : {M : Type 0} → Known → World M → World M
 knowing k w = record { known = k; readers = w.readers; put = w.put }
 
--- an event of an announcer has come, and discovery has answered it; no record is applied yet
+-- the world after discovery has answered an event of an announcer, before any record is applied
 abbrev pub world_answered : {M : Type 0} → World M → EventView → World M
 world_answered w e = record {
   known = noted w.known e;
@@ -28,27 +28,27 @@ world_answered w e = record {
   put = w.put ++ map (sent_by None) (placed e.place (answered w.known e));
 }
 
--- one record: it is made known, and then each change that it brings is a step of one reader
+-- the world after one record: it is applied, and then each of its changes is a step of one reader
 abbrev pub record_taken : {M : Type 0} → Decoding M → Place → World M → Announcement → World M
 record_taken decoding place w a =
     let k = known_after w.known a in
     steps_run decoding place (knowing k w) (map change_step (changes w.known k))
 
--- one record after the other
+-- the world after these records, one by one
 abbrev pub records_taken : {M : Type 0} → Decoding M → Place → World M → List Announcement
     → World M
 records_taken decoding place w [] = w
 records_taken decoding place w (a ∷ more) =
     records_taken decoding place (record_taken decoding place w a) more
 
--- an event, record by record; one of a user's writer has no records
+-- the world after an event, record by record; an event of a user's writer has no records
 abbrev pub world_by_record : {M : Type 0} → Decoding M → World M → EventView → World M
 world_by_record decoding w e =
     if is_discovery e.writer
     then records_taken decoding e.place (world_answered w e) (announcements w.known e)
     else world_after decoding w e
 
--- events one after the other, each record by record
+-- the world after these events, each record by record
 abbrev pub records_run : {M : Type 0} → Decoding M → World M → List EventView → World M
 records_run decoding w [] = w
 records_run decoding w (e ∷ es) = records_run decoding (world_by_record decoding w e) es
@@ -58,8 +58,8 @@ abbrev pub run_by_record : {M : Type 0} → Decoding M → Config → List (List
 run_by_record decoding config datagrams =
     records_run decoding (first_world config) (events_from config.own 0 datagrams)
 
--- In two worlds the same is known, each rank has the same reader, which gave out the same notices
--- in the same order, and the same answers were sent in the same order.
+-- Two worlds have the same state of discovery, and the same reader at each rank, which reported the
+-- same notices in the same order; and the same answers were sent in the same order.
 pub record AreAlike {M : Type 0} (one other : World M) : Type 0 where
   pub known : one.known ≡ other.known
   pub readers : (rank : ℕ) → one.readers rank ≡ other.readers rank

@@ -1,4 +1,4 @@
-//! What was put out in order, dealt out by rank.
+//! Sorting reports into an outcome, by rank.
 
 ghost use Rattle.std.specs.Prelude.{◌≡◌, ℕ, ◌^◌, ◌≤◌, ◌++◌, [], ◌∷◌, IfOk, OnOk, List, map, vec_len};
 ghost use Rattle.rtps_run.specs.Outcome.{Deals, report_view};
@@ -8,7 +8,7 @@ use dds_topic::Catalog;
 use rtps_run::{Answer, Outcome, Report, empty_lists, push_by};
 use std::alloc::{AllocError, Allocator};
 
-/// Deals out what came in order: each reader's notices to its own list, and the answers.
+/// Makes an outcome of reports: the notices of each reader in its own list, and the answers.
 pub(crate) fn dealt<C: Catalog, A: Allocator + Copy>(
     alloc: A,
     count: usize,
@@ -27,7 +27,7 @@ pub(crate) fn dealt<C: Catalog, A: Allocator + Copy>(
     Ok(outcome)
 }
 
-/// Adds one thing where it belongs.
+/// Appends one report to the list that it belongs to.
 fn add<C: Catalog, A: Allocator>(
     outcome: &mut Outcome<C::Value, A>,
     report: Report<C::Value, A>,
@@ -41,7 +41,7 @@ fn add<C: Catalog, A: Allocator>(
     }
 }
 
-/// Adds an answer after the others.
+/// Appends an answer.
 fn push_answer<A: Allocator>(
     answers: &mut Vec<Answer<A>, A>,
     answer: Answer<A>,

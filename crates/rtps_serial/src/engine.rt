@@ -1,4 +1,4 @@
-//! An engine that takes datagrams one by one.
+//! An engine that processes datagrams one by one.
 
 ghost use Rattle.std.specs.Prelude.{◌≡◌, ◌^◌, ◌≤◌, ◌<◌, ◌++◌, ◌∷◌, [], IfErr, IfOk, OnErr, OnOk, List, ℕ, false, length, map, true};
 ghost use Rattle.rtps_discovery.specs.Config.{check_of};
@@ -26,18 +26,18 @@ use std::alloc::{AllocError, Allocator, Global};
 use std::collections::BTreeSet;
 use std::marker::Model;
 
-/// What a participant knows of the others, and its readers: one thread gives them the events of
-/// datagrams.
+/// The discovery and the readers of a participant, which process the events of datagrams on one
+/// thread.
 #[derive(Drop)]
 pub struct SerialEngine<C: Catalog, A: Allocator = Global> {
     config: Config,
-    /// How many datagrams were taken.
+    /// The number of datagrams processed.
     index: u64,
-    /// Whether a datagram was out of memory.
+    /// Whether a datagram ran out of memory.
     failed: bool,
     discovery: Discovery<A>,
     readers: Readers<C, A>,
-    /// By rank, as they were after the last datagram that was taken.
+    /// The statuses by rank, after the last datagram that was processed.
     statuses: Vec<Status, A>,
 }
 
@@ -62,8 +62,8 @@ impl<C: Catalog, A: Allocator> Model for SerialEngine<C, A> {
 }
 
 impl<C: Catalog> SerialEngine<C> {
-    /// An engine for this configuration: its readers with their fixed matches, to which nothing
-    /// came yet. Values come from `alloc`. [`StartError::Config`] exactly where
+    /// Returns an engine for this configuration, with its readers and their fixed matches, before
+    /// any datagram. Memory for values comes from `alloc`. [`StartError::Config`] exactly where
     /// [`check`](rtps_discovery::check) refuses the configuration, else an error is a refused
     /// growth.
     pub fn new(alloc: Global, config: Config, catalog: C) -> Result<SerialEngine<C>, StartError>
@@ -73,31 +73,10 @@ impl<C: Catalog> SerialEngine<C> {
     {
         SerialEngine::new_in(alloc, alloc, config, catalog)
     }
-
-    /// Takes the next datagram, at most 65,507 octets, and gives the notices of each reader and
-    /// what is to be sent.
-    ///
-    /// When a datagram is out of memory the engine has failed: from then on it answers
-    /// [`EngineError::Failed`], and its statuses are those before that datagram. A datagram that
-    /// would pass 2^48 of them is refused with [`EngineError::Spent`] and changes nothing.
-    pub fn take(&mut self, alloc: Global, octets: &[u8]) -> Result<Outcome<C::Value>, EngineError>
-        requires { length octets.now ≤ 65507 }
-        ensures takes { Takes result self.old self.new }
-        ensures same { (self.new.catalog ≡ self.old.catalog) × (self.new.config ≡ self.old.config) }
-        ensures stands { (datagrams : List (List ℕ)) → StandsAt C.decoding datagrams self.old
-            → OnOk result (StandsAt C.decoding (datagrams ++ octets.now ∷ []) self.new) }
-        ensures adds { (datagrams : List (List ℕ)) → StandsAt C.decoding datagrams self.old
-            → IfOk result (Adds C.view (run_by C.decoding self.old datagrams)
-            (run_by C.decoding self.old (datagrams ++ octets.now ∷ []))) }
-        ensures shows { (datagrams : List (List ℕ)) → ShowsAt C.decoding datagrams self.old
-            → OnErr result (ShowsAt C.decoding datagrams self.new) }
-    {
-        self.take_in(alloc, octets)
-    }
 }
 
 impl<C: Catalog, A: Allocator + Copy> SerialEngine<C, A> {
-    /// The same as [`SerialEngine::new`] over any allocator. Values come from `values`.
+    /// Like [`SerialEngine::new`], for any allocator. Memory for values comes from `values`.
     #[tactic(auto, unfolding(rtps_run::specs::Standing::Starts))]
     pub fn new_in(
         alloc: A,
@@ -127,10 +106,9 @@ impl<C: Catalog, A: Allocator + Copy> SerialEngine<C, A> {
         })
     }
 
-    /// Takes the next datagram, at most 65,507 octets, and puts all that follows from it in
-    /// `reports`, in place of what is there, in the order in which it comes: by place, then by
-    /// rank, and of one reader its notices before its answer. [`Outcome::in_order`] of what
-    /// [`SerialEngine::take`] gives is the same.
+    /// Processes the next datagram, at most 65,507 octets, and replaces the contents of `reports`
+    /// by its results, in order: by place, then by rank, and for one reader its notices before its
+    /// answer. [`Outcome::in_order`] of the result of [`SerialEngine::take`] is the same.
     ///
     /// [`EngineError::Failed`] and [`EngineError::Spent`] leave `reports` as it was,
     /// [`EngineError::NoMemory`] leaves it empty.
@@ -163,13 +141,14 @@ impl<C: Catalog, A: Allocator + Copy> SerialEngine<C, A> {
         Ok(())
     }
 
-    /// Takes the next datagram, at most 65,507 octets, and gives the notices of each reader and
-    /// what is to be sent.
+    /// Processes the next datagram, at most 65,507 octets, and returns the notices of each reader
+    /// and the answers to send.
     ///
-    /// When a datagram is out of memory the engine has failed: from then on it answers
-    /// [`EngineError::Failed`], and its statuses are those before that datagram.
+    /// When a datagram runs out of memory the engine has failed: from then on it returns
+    /// [`EngineError::Failed`], and its statuses are those before that datagram. A datagram that
+    /// would take the count past 2^48 is refused with [`EngineError::Spent`] and changes nothing.
     #[tactic(auto, unfolding(rtps_run::specs::Standing::Takes, rtps_run::specs::Standing::Refuses))]
-    pub fn take_in(&mut self, alloc: A, octets: &[u8]) -> Result<Outcome<C::Value, A>, EngineError>
+    pub fn take(&mut self, alloc: A, octets: &[u8]) -> Result<Outcome<C::Value, A>, EngineError>
         requires { length octets.now ≤ 65507 }
         ensures takes { Takes result self.old self.new }
         ensures same { (self.new.catalog ≡ self.old.catalog) × (self.new.config ≡ self.old.config) }
@@ -189,7 +168,8 @@ impl<C: Catalog, A: Allocator + Copy> SerialEngine<C, A> {
         Ok(outcome)
     }
 
-    /// Refuses a datagram before it is looked at, or has the engine failed until it is taken.
+    /// Refuses a datagram before it is looked at, or else marks the engine as failed until the
+    /// datagram is processed.
     #[tactic(auto, unfolding(rtps_run::specs::Standing::Refuses))]
     fn admit(&mut self) -> Result<(), EngineError>
         ensures ok { OnOk result ((self.old.failed ≡ false) × (self.old.index < datagram_limit)
@@ -207,8 +187,8 @@ impl<C: Catalog, A: Allocator + Copy> SerialEngine<C, A> {
         Ok(())
     }
 
-    /// Gives the events of a datagram to discovery and to the readers. What follows from it takes
-    /// the place of what is in `reports`.
+    /// Has discovery and the readers process the events of a datagram. The results replace the
+    /// contents of `reports`.
     fn report(
         &mut self,
         alloc: A,
@@ -237,7 +217,7 @@ impl<C: Catalog, A: Allocator + Copy> SerialEngine<C, A> {
         )
     }
 
-    /// Counts the datagram as taken, and shows the statuses of the readers.
+    /// Counts the datagram as processed, and updates the statuses from the readers.
     fn finish(&mut self)
         requires { self.old.index < 2 ^ 48 }
         ensures { IsFinishedFrom self.old self.new }
@@ -247,15 +227,15 @@ impl<C: Catalog, A: Allocator + Copy> SerialEngine<C, A> {
         self.failed = false;
     }
 
-    /// How many readers there are, 1 to 256. Their ranks are the numbers below it.
+    /// The number of readers, 1 to 256. Their ranks are the numbers below it.
     pub fn readers(&self) -> u32
         ensures { result ≡ length self.now.readers }
     {
         self.readers.states.len() as u32
     }
 
-    /// The status of the reader of a rank, after the last datagram that was taken, or `None` where
-    /// no reader has the rank. No memory is taken.
+    /// Returns the status of the reader of a rank, after the last datagram that was processed, or
+    /// `None` where no reader has the rank. No memory is taken.
     pub fn status(&self, rank: u32) -> Option<Status>
         ensures { (datagrams : List (List ℕ)) → ShowsAt C.decoding datagrams self.now
             → result ≡ status_seen (run_by C.decoding self.now datagrams) rank }
@@ -263,7 +243,7 @@ impl<C: Catalog, A: Allocator + Copy> SerialEngine<C, A> {
         self.statuses.get(rank as usize).copied()
     }
 
-    /// The matches that there are now, a rank and a writer each. A refusal changes nothing:
+    /// Returns the present matches, a rank and a writer each. An error changes nothing:
     /// [`EngineError::Failed`] where the engine has failed, and else [`EngineError::NoMemory`].
     #[tactic(auto, unfolding(rtps_run::specs::Standing::Answers))]
     pub fn matches(&self, alloc: A) -> Result<BTreeSet<(u32, Guid), A>, EngineError>
@@ -279,8 +259,8 @@ impl<C: Catalog, A: Allocator + Copy> SerialEngine<C, A> {
         }
     }
 
-    /// What is known of the others, as the run knows it after the last datagram that was taken;
-    /// once a datagram has been out of memory, it may know more.
+    /// The discovery of the engine, as it is after the last datagram that was processed. If a
+    /// datagram ran out of memory, parts of that datagram may be included.
     pub fn discovery(&self) -> &Discovery<A>
         ensures known { (datagrams : List (List ℕ)) → StandsAt C.decoding datagrams self.now
             → IsKnown (run_by C.decoding self.now datagrams).known result.now.kept }

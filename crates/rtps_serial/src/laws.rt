@@ -1,4 +1,4 @@
-//! Laws of the definitions. Each is a function that does nothing, whose contract is the law.
+//! Laws of the definitions. Each is an empty function whose contract is the law.
 
 ghost use Rattle.std.specs.Prelude.{◌≡◌, ◌++◌, ℕ, List, [], length, map, true};
 ghost use Rattle.std.specs.List.{AllByRecursion};
@@ -20,13 +20,12 @@ ghost use Rattle.rtps_types.specs.declared.identity.Guid.{Guid};
 
 use std::alloc::Allocator;
 
-/// Whatever datagrams come, and whatever the catalog makes of them: what a reliable reader presents
-/// of a writer falls into stretches, cut where their match begins or ends. In each stretch the
-/// sequence numbers of the samples rise strictly; a DATA since the match began, or DATA_FRAGs with
-/// all its fragments, brought each sample, not after its place; and each number that is passed over
-/// was given up by then, by a GAP or an accepted HEARTBEAT since the match began. Where nothing is
-/// matched no sample is presented, by any reader; and a match from the start never ends, so that
-/// there is one stretch.
+/// For any datagrams and any catalog: the samples of a writer that a reliable reader presents are
+/// cut into stretches where their match begins or ends. In each stretch the sequence numbers of the
+/// samples rise strictly. Each sample was brought, no later than its place, by a DATA since the
+/// match began, or by DATA_FRAGs with all its fragments. Each number that is passed over was given
+/// up by then, by a GAP or an accepted HEARTBEAT since the match began. While a writer isn't
+/// matched, no reader presents a sample of it. A fixed match never ends, so it has one stretch.
 pub fn presented<M>()
     ensures matched { (decoding : Decoding M) (config : Config) (datagrams : List (List ℕ))
         (rank : ℕ) (writer : Guid)
@@ -43,16 +42,16 @@ pub fn presented<M>()
         → length (stretches_in decoding config datagrams rank writer) ≡ 1 }
 {}
 
-/// Whatever datagrams come: a reader is matched with just the writers that it matches by what is
-/// known.
+/// For any datagrams: a reader is matched with exactly the writers that discovery says it is
+/// matched with.
 pub fn matches_agree<M>()
     ensures { (decoding : Decoding M) (config : Config) (datagrams : List (List ℕ))
         → Agrees (run decoding config datagrams) }
 {}
 
-/// Whatever datagrams come in a batch after others: an outcome that has what the run puts out more
-/// has it, in order, as the run does. So [`crate::Outcome::in_order`] gives of any engine's outcome
-/// what [`crate::SerialEngine::take_in_order`] reports.
+/// For any datagrams and any batch after them: an outcome that has the reports of the batch yields
+/// them in the order of the run. So [`crate::Outcome::in_order`] of any engine's outcome is what
+/// [`crate::SerialEngine::take_in_order`] reports.
 pub fn in_order<V, M, A: Allocator>()
     ensures { (view : V → M) (decoding : Decoding M) (config : Config)
         (datagrams batch : List (List ℕ)) (outcome : Outcome V A) (reports : List (Report V A))
@@ -62,8 +61,9 @@ pub fn in_order<V, M, A: Allocator>()
         ≡ (run decoding config datagrams).put ++ map (report_view view) reports }
 {}
 
-/// Whatever datagrams come: the matches are listed by rank, those of one rank by the writer's
-/// octets, none twice; and just the pairs of a reader and a writer that are matched are listed.
+/// For any datagrams: the matches are listed by rank, those of one rank by the octets of the
+/// writer's guid, none twice; and exactly the pairs of a reader and a writer that are matched are
+/// listed.
 pub fn matches_listed<M>()
     ensures ordered { (decoding : Decoding M) (config : Config) (datagrams : List (List ℕ))
         → IsStrictlySortedBy match_order (matches_seen (run decoding config datagrams)) }
@@ -73,10 +73,11 @@ pub fn matches_listed<M>()
         ≡ is_matched_at (run decoding config datagrams) rank writer }
 {}
 
-/// Whatever events come: where the records of an event are applied one by one, and readers hear
-/// what one record changes before the next is applied, each rank has the same reader as in the
-/// world's step, which takes the event rank by rank; it gives out the same notices in the same
-/// order, and the same answers are sent in the same order. And so it is after any datagrams.
+/// For any events: the world's step processes an event rank by rank. If instead the records of an
+/// event are applied one by one, and the readers process the changes of one record before the next
+/// is applied, the result is the same: each rank has the same reader, which reports the same
+/// notices in the same order, and the same answers are sent in the same order. So it is after any
+/// datagrams.
 pub fn by_record<M>()
     ensures event { (decoding : Decoding M) (w : World M) (e : EventView)
         → AreAlike (world_by_record decoding w e) (world_after decoding w e) }

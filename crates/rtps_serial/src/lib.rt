@@ -1,7 +1,8 @@
 //! The engine of one thread: from datagrams to notices, statuses, matches and answers
 //! (DDSI-RTPS 8.3.4, 8.4.10).
 //!
-//! What it gives is the run of `rtps_run`, which every engine of more threads has to give too.
+//! Its results are the run that `rtps_run` defines, which every engine of several threads has to
+//! reproduce.
 #![tactic(auto)]
 
 mod deal;

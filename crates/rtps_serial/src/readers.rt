@@ -1,9 +1,9 @@
-//! The readers of a participant, each by its rank.
+//! The readers of a participant, by rank.
 
 ghost use Rattle.std.specs.Prelude.{◌≡◌, ◌++◌, [], ◌∷◌, List, OnOk, Some, length, map};
 ghost use Rattle.rtps_proxy.specs.Replies.{reply_view};
-ghost use Rattle.rtps_reader.specs.Notices.{answer_view, notice_view};
-ghost use Rattle.rtps_reader.specs.Steps.{asked};
+ghost use Rattle.rtps_reader.specs.Notice.{answer_view, notice_view};
+ghost use Rattle.rtps_reader.specs.Step.{asked};
 ghost use Rattle.rtps_run.specs.Outcome.{report_view};
 ghost use Rattle.rtps_run.specs.Standing.{ReadersStand};
 ghost use Rattle.rtps_run.specs.Steps.{step_by, world_stepped};
@@ -15,19 +15,19 @@ use rtps_run::{Answer, Report};
 use rtps_types::{Place, Reply};
 use std::alloc::{AllocError, Allocator};
 
-/// The readers of a participant, and what their steps need.
+/// The readers of a participant, and the data that their steps need.
 #[derive(Drop)]
 pub(crate) struct Readers<C: Catalog, A: Allocator> {
     pub decoder: Decoder<C>,
-    /// By rank.
+    /// The states of the readers, by rank.
     pub states: Vec<ReaderState<A>, A>,
-    /// What a step gives before it is reported: kept from step to step, so that its memory is used
-    /// again.
+    /// The output of a step, until it is reported. It is kept between steps so that its memory is
+    /// reused.
     output: Output<C::Value, A>,
 }
 
 impl<C: Catalog, A: Allocator + Copy> Readers<C, A> {
-    /// These readers, whose samples are decoded so.
+    /// Returns readers of these states, whose samples are decoded by `decoder`.
     pub fn new(alloc: A, decoder: Decoder<C>, states: Vec<ReaderState<A>, A>) -> Readers<C, A>
         ensures decoder { result.decoder ≡ decoder }
         ensures states { result.states ≡ states }
@@ -42,8 +42,8 @@ impl<C: Catalog, A: Allocator + Copy> Readers<C, A> {
         }
     }
 
-    /// Takes one step of the reader of a rank, and puts what the reader gives after the reports:
-    /// its notices, and then its answers. There is no reader past the last rank.
+    /// Runs one step of the reader of a rank, and appends its output to the reports: its notices,
+    /// and then its answers. A rank without a reader changes nothing.
     pub fn step(
         &mut self,
         alloc: A,
@@ -70,7 +70,8 @@ impl<C: Catalog, A: Allocator + Copy> Readers<C, A> {
     }
 }
 
-/// Moves what the reader of a rank gave after the reports: its notices, and then its answers.
+/// Moves the output of the reader of a rank to the end of the reports: its notices, and then its
+/// answers.
 fn report_all<C: Catalog, A: Allocator>(
     rank: u32,
     output: &mut Output<C::Value, A>,
@@ -85,7 +86,7 @@ fn report_all<C: Catalog, A: Allocator>(
     report_answers::<C, A>(rank, &mut output.answers, reports)
 }
 
-/// Moves the notices of the reader of a rank after the reports. Most steps give none.
+/// Moves the notices of the reader of a rank to the end of the reports. Most steps have none.
 fn report_notices<C: Catalog, A: Allocator>(
     rank: u32,
     notices: &mut Vec<Notice<C::Value>, A>,
@@ -104,7 +105,7 @@ fn report_notices<C: Catalog, A: Allocator>(
     Ok(())
 }
 
-/// Moves the answers of the reader of a rank after the reports. Most steps give none.
+/// Moves the answers of the reader of a rank to the end of the reports. Most steps have none.
 fn report_answers<C: Catalog, A: Allocator>(
     rank: u32,
     answers: &mut Vec<(Place, Reply<A>), A>,
@@ -123,8 +124,7 @@ fn report_answers<C: Catalog, A: Allocator>(
     Ok(())
 }
 
-/// Puts an answer after the reports: that of the reader of a rank, or of discovery where there is
-/// no rank.
+/// Appends an answer to the reports: of the reader of a rank, or of discovery if there is no rank.
 pub(crate) fn report_answer<C: Catalog, A: Allocator>(
     rank: Option<u32>,
     place: Place,

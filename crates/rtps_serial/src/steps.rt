@@ -1,4 +1,4 @@
-//! The steps of discovery and of the readers, one event after another.
+//! Processing events in discovery and the readers, one event after another.
 
 ghost use Rattle.std.specs.Prelude.{◌≡◌, ◌++◌, [], IfOk, List, None, OnOk, false, length, map, true};
 ghost use Rattle.std.specs.Option.{option_map};
@@ -24,8 +24,8 @@ use rtps_run::{Report, is_named};
 use rtps_types::{Guid, Place, Reply};
 use std::alloc::{AllocError, Allocator};
 
-/// Gives an event of a user's writer to the readers that are matched with the writer, where it
-/// names them.
+/// Passes an event of a user's writer to the readers that are matched with the writer and that the
+/// event names.
 fn take_by_ranks<C: Catalog, A: Allocator + Copy>(
     discovery: &Discovery<A>,
     readers: &mut Readers<C, A>,
@@ -56,7 +56,7 @@ fn take_by_ranks<C: Catalog, A: Allocator + Copy>(
     Ok(())
 }
 
-/// Gives each change of a match to its reader, one after the other.
+/// Passes each change of a match to its reader, one after the other.
 fn take_changes<C: Catalog, A: Allocator + Copy>(
     readers: &mut Readers<C, A>,
     alloc: A,
@@ -82,8 +82,7 @@ fn take_changes<C: Catalog, A: Allocator + Copy>(
     Ok(())
 }
 
-/// The changes by the rank of their readers, and those of one rank in the order in
-/// which they came.
+/// Returns the changes sorted by the rank of their readers; those of one rank keep their order.
 fn by_rank<A: Allocator + Copy>(
     mut changes: Vec<MatchChange<A>, A>,
 ) -> Result<Vec<MatchChange<A>, A>, AllocError>
@@ -93,7 +92,7 @@ fn by_rank<A: Allocator + Copy>(
     Ok(changes)
 }
 
-/// Puts discovery's answer to the event at this place, if there is one, after the reports.
+/// Appends discovery's answer to the event at this place, if there is one, to the reports.
 fn report_discovery<C: Catalog, A: Allocator>(
     place: Place,
     answer: Option<Reply<A>>,
@@ -109,8 +108,8 @@ fn report_discovery<C: Catalog, A: Allocator>(
     }
 }
 
-/// Gives an event of an announcer to discovery: reports what discovery answers, and then gives
-/// each reader its changes, by rank.
+/// Passes an event of an announcer to discovery, reports discovery's answer, and then passes each
+/// reader its changes, by rank.
 fn take_announcement<C: Catalog, A: Allocator + Copy>(
     discovery: &mut Discovery<A>,
     readers: &mut Readers<C, A>,
@@ -134,8 +133,8 @@ fn take_announcement<C: Catalog, A: Allocator + Copy>(
     take_changes(readers, alloc, event.place, &changes, reports)
 }
 
-/// Takes one event in. An event of an announcer is discovery's; any other event is for the readers
-/// that are matched with its writer, where it names them.
+/// Processes one event. An event of an announcer is for discovery; any other event is for the
+/// readers that are matched with its writer and that it names.
 fn take_event<C: Catalog, A: Allocator + Copy>(
     discovery: &mut Discovery<A>,
     readers: &mut Readers<C, A>,
@@ -158,7 +157,7 @@ fn take_event<C: Catalog, A: Allocator + Copy>(
     take_by_ranks(discovery, readers, alloc, event, reports)
 }
 
-/// Takes events in, one by one. What follows from them takes the place of what is in `reports`.
+/// Processes events one by one. The results replace the contents of `reports`.
 pub(crate) fn take_events<C: Catalog, A: Allocator + Copy>(
     discovery: &mut Discovery<A>,
     readers: &mut Readers<C, A>,

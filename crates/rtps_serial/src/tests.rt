@@ -1,4 +1,4 @@
-//! Engines against datagrams that were written down by hand.
+//! Tests of engines with datagrams written by hand.
 
 ghost use Rattle.std.specs.Prelude.{◌≤◌, IfOk, length};
 
@@ -30,7 +30,7 @@ const HEADER: &[u8] = b"RTPS\x02\x05\x00\x00\
 const BLUE: &[u8] = b"\x00\x01\x00\x00\x05\x00\x00\x00BLUE\x00\x00\x00\x00\
     \x0a\x00\x00\x00\x14\x00\x00\x00\x1e\x00\x00\x00";
 
-/// What the writer sends.
+/// A submessage of the writer.
 #[derive(Clone, Copy)]
 enum Sent {
     /// DATA with this number and BLUE, for every reader.
@@ -39,31 +39,32 @@ enum Sent {
     ForSecond(u8),
     /// HEARTBEAT of the numbers from the first to the last, with this count, for every reader.
     Heartbeat(u8, u8, u8),
-    /// DATA_FRAG of BLUE in two fragments, with number 1: for the readers whose entity ends so,
-    /// this fragment.
+    /// DATA_FRAG with this fragment of BLUE, which is number 1 in two fragments, for the readers
+    /// whose entity ends in these octets.
     Fragment([u8; 2], u8),
 }
 
-/// What a report says.
+/// The content of a report.
 #[derive(Clone, Copy, PartialEq, Eq)]
 enum Said {
     /// A sample of this number, which is BLUE.
     Blue(u64),
-    /// So many numbers are lost.
+    /// This number of changes is lost.
     Lost(u64),
     /// A match with the writer whose entity has this third octet begins.
     Matched(u8),
-    /// It ends.
+    /// A match with the writer whose entity has this third octet ends.
     Unmatched(u8),
     /// An answer is sent.
     Answer,
     Other,
 }
 
-/// The rank of a report, the datagram and the submessage that caused it, and what it says.
+/// The rank of a report, the datagram and the submessage that caused it, and its content.
 type Line = (Option<u32>, u64, u32, Said);
 
-/// DATA of 48 octets up to its payload, for a reader by the last octets of its entity.
+/// Appends DATA of 48 octets, with BLUE as its payload, for a reader given by the last octets of
+/// its entity.
 fn push_data(octets: &mut Vec<u8>, reader: [u8; 2], number: u8) -> Result<(), AllocError> {
     octets.extend_from_slice(b"\x15\x05\x30\x00\x00\x00\x10\x00\x00\x00")?;
     octets.extend_from_slice(&reader)?;
@@ -80,7 +81,7 @@ fn push_heartbeat(octets: &mut Vec<u8>, numbers: [u8; 3]) -> Result<(), AllocErr
     octets.extend_from_slice(&[count, 0, 0, 0])
 }
 
-/// DATA_FRAG of number 1, up to the end of its octets.
+/// Appends DATA_FRAG of number 1 with one fragment of BLUE, 1 or 2.
 fn push_fragment(octets: &mut Vec<u8>, reader: [u8; 2], start: u8) -> Result<(), AllocError> {
     let (front, back) = BLUE.split_at(16);
     let (length, payload) = if start == 1 {
@@ -95,7 +96,7 @@ fn push_fragment(octets: &mut Vec<u8>, reader: [u8; 2], start: u8) -> Result<(),
     octets.extend_from_slice(payload)
 }
 
-/// A datagram of these submessages.
+/// Returns a datagram of these submessages.
 fn datagram(alloc: Global, parts: &[Sent]) -> Result<Vec<u8>, Fail>
     ensures { IfOk result (λ octets. length octets.items ≤ 65507) }
 {
@@ -127,7 +128,7 @@ fn reader_config(
     Ok(reader)
 }
 
-/// The writer of a participant, by each octet of the participant.
+/// Returns the writer of the participant whose prefix consists of this octet.
 fn writer(participant: u8) -> Guid {
     Guid {
         prefix: GuidPrefix([participant; 12]),
@@ -135,7 +136,8 @@ fn writer(participant: u8) -> Guid {
     }
 }
 
-/// Readers of these ranks, and fixed matches, each by the rank and by its writer's participant.
+/// Returns a configuration of readers, and of fixed matches, each with the rank and the writer's
+/// participant.
 fn config(
     alloc: Global,
     reliability: Reliability,
@@ -183,7 +185,7 @@ fn line<A: Allocator>(report: &Report<Shape, A>) -> Line {
     (turn.rank, turn.place.datagram, turn.place.submessage, said)
 }
 
-/// Whether these are the lines of the reports.
+/// Whether the reports are these lines.
 fn are_lines<A: Allocator>(reports: &[Report<Shape, A>], lines: &[Line]) -> bool {
     reports.len() == lines.len()
         && reports

@@ -6,10 +6,10 @@ use Rattle.dds_topic.specs.Decoding.{Decoding}
 use Rattle.std.specs.declared.alloc.Global.{Global}
 use Rattle.rtps_reader.specs.declared.notice.Notice.{Notice}
 use Rattle.rtps_reader.specs.declared.notice.Output.{Output}
-use Rattle.rtps_reader.specs.Notices.{answer_view, notice_view}
+use Rattle.rtps_reader.specs.Notice.{answer_view, notice_view}
 use Rattle.rtps_reader.specs.Reader.{Reader, reader_after, sends, tells}
 use Rattle.rtps_reader.specs.Standing.{ReaderView, StandsAt}
-use Rattle.rtps_reader.specs.Steps.{StepView}
+use Rattle.rtps_reader.specs.Step.{StepView}
 use Rattle.rtps_planner.specs.Job.{Job, job_run, job_sent, job_told}
 use Rattle.rtps_shards.specs.Results.{HasTaken, IsOutput, Share, given_done, reader_done, share}
 

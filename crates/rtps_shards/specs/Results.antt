@@ -5,7 +5,7 @@ use Rattle.dds_topic.specs.Decoding.{Decoding}
 use Rattle.std.specs.declared.alloc.Global.{Global}
 use Rattle.rtps_reader.specs.declared.notice.Notice.{Notice}
 use Rattle.rtps_reader.specs.declared.notice.Output.{Output}
-use Rattle.rtps_reader.specs.Notices.{answer_view, notice_view}
+use Rattle.rtps_reader.specs.Notice.{answer_view, notice_view}
 use Rattle.rtps_reader.specs.Reader.{Reader}
 use Rattle.rtps_reader.specs.Standing.{ReaderView, StandsAt}
 use Rattle.rtps_run.specs.Standing.{StandsFor}

@@ -11,7 +11,7 @@ use std::marker::Model;
 
 /// What all workers of a batch share.
 #[derive(Drop)]
-pub struct Batch<'a, C, G> {
+pub struct SharedBatch<'a, C, G> {
     pub catalog: &'a C,
     /// Called as each job begins and ends.
     pub gate: &'a G,

@@ -17,6 +17,6 @@ mod workers;
 pub use apart::map_apart;
 pub use board::{Board, Stolen, Thief};
 pub use gate::{Gate, NoGate};
-pub use jobs::{Batch, JobResult, Posted, Worker};
+pub use jobs::{JobResult, Posted, SharedBatch, Worker};
 pub use piles::joined;
 pub use workers::{run_job, run_jobs};

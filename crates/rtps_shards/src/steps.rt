@@ -1,13 +1,13 @@
 //! The steps of a job.
 
-ghost use Rattle.std.specs.Prelude.{◌≡◌, List, OnOk, drop, map, option_to_list, take, ◌+◌};
+ghost use Rattle.std.specs.Prelude.{◌≡◌, List, OnErr, OnOk, drop, map, option_to_list, take, true, ◌+◌};
 ghost use Rattle.rtps_types.specs.MatchChange.{match_change_view};
 ghost use Rattle.rtps_receiver.specs.Events.{view};
 ghost use Rattle.rtps_proxy.specs.Effects.{GivesNothing};
 ghost use Rattle.rtps_reader.specs.declared.notice.Notice.{Notice};
 ghost use Rattle.rtps_reader.specs.Reader.{Reader};
 ghost use Rattle.rtps_reader.specs.Standing.{StandsAt};
-ghost use Rattle.rtps_reader.specs.Steps.{asked};
+ghost use Rattle.rtps_reader.specs.Step.{asked};
 ghost use Rattle.rtps_planner.specs.Plan.{heard_at, steps_seen, taken_in};
 ghost use Rattle.rtps_shards.specs.Results.{HasTaken, share};
 
@@ -45,7 +45,8 @@ fn change_at<'a>(
     })
 }
 
-/// Runs a step of a reader, if there is one, and appends its notices and answers to the output.
+/// Runs a step of a reader, if there is one, and appends its notices and answers to the output. On
+/// an error, a refused growth, the reader is spent.
 fn take_step<'a, C: Catalog>(
     worker: &mut Worker<C>,
     step: Option<Step<'a>>,
@@ -60,6 +61,7 @@ fn take_step<'a, C: Catalog>(
         state.new output.old output.new) }
     ensures rank { state.new.rank ≡ state.old.rank }
     ensures same { worker.new ≡ worker.old }
+    ensures err { OnErr result (state.new.spent ≡ true) }
     ensures nothing { OnOk result (GivesNothing effects.new) }
 {
     if let Some(step) = step {
@@ -69,7 +71,8 @@ fn take_step<'a, C: Catalog>(
     Ok(())
 }
 
-/// Has a reader process events, in order, and appends its notices and answers to the output.
+/// Has a reader process events, in order, and appends its notices and answers to the output. On an
+/// error, a refused growth, the reader is spent.
 fn take_events<'a, C: Catalog>(
     worker: &mut Worker<C>,
     events: &'a [Event<'a>],
@@ -83,6 +86,7 @@ fn take_events<'a, C: Catalog>(
         (share r given (map taken_in (map view events.now))) state.new output.old output.new) }
     ensures rank { state.new.rank ≡ state.old.rank }
     ensures same { worker.new ≡ worker.old }
+    ensures err { OnErr result (state.new.spent ≡ true) }
     ensures nothing { OnOk result (GivesNothing effects.new) }
 {
     for event in events {
@@ -93,6 +97,7 @@ fn take_events<'a, C: Catalog>(
 }
 
 /// Runs the steps of a reader's job, in order, and appends its notices and answers to the output.
+/// On an error, a refused growth, the reader is spent.
 pub(crate) fn take_steps<'a, C: Catalog>(
     worker: &mut Worker<C>,
     events: &'a [Event<'a>],
@@ -106,6 +111,7 @@ pub(crate) fn take_steps<'a, C: Catalog>(
         output.new) }
     ensures rank { state.new.rank ≡ state.old.rank }
     ensures same { worker.new ≡ worker.old }
+    ensures err { OnErr result (state.new.spent ≡ true) }
 {
     let mut effects = Effects::none(worker.alloc);
     for planned in steps {

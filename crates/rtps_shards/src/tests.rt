@@ -11,7 +11,7 @@ use crate::*;
 use dds_topic::{Catalog, Shape, Shapes};
 use rtps_planner::{Job, PlannedStep};
 use rtps_reader::{Notice, NoticeKind, ReaderState};
-use rtps_receiver::{Body, Event, Whole};
+use rtps_receiver::{Event, EventBody, Whole};
 use rtps_types::{EntityId, Guid, GuidPrefix, Locators, Number, Place, WriterFacts};
 use rtps_wire::{ChangeInfo, Form};
 use std::alloc::{AllocError, Global};
@@ -52,7 +52,7 @@ fn event(number: Number) -> Event<'static> {
         time: None,
         writer: WRITER,
         reader: EntityId([0; 4]),
-        body: Body::Whole(Whole {
+        body: EventBody::Whole(Whole {
             number,
             info: ChangeInfo {
                 form: Form::Value,
@@ -115,7 +115,7 @@ fn run<C: Catalog, G: Gate, R: Threads + Sync>(
 {
     let (ranks, workers) = sizes;
     let events = three(alloc)?;
-    let batch = Batch {
+    let batch = SharedBatch {
         catalog,
         gate,
         events: &events,

@@ -10,7 +10,7 @@ ghost use Rattle.rtps_shards.specs.Work.{AreDone, HasWorked, HaveAllDone, TakesS
 use crate::apart::map_beside;
 use crate::board::{Board, Stolen, Thief};
 use crate::gate::Gate;
-use crate::jobs::{Batch, JobResult, Posted, Worker};
+use crate::jobs::{JobResult, Posted, SharedBatch, Worker};
 use crate::workers::run_posted;
 use dds_topic::Catalog;
 use std::alloc::{AllocError, Global};
@@ -27,7 +27,7 @@ pub(crate) struct Worked<V> {
 /// Runs a job and appends its result.
 fn run_more<C: Catalog, G: Gate>(
     worker: &mut Worker<&C>,
-    batch: &Batch<'_, C, G>,
+    batch: &SharedBatch<'_, C, G>,
     results: &mut Vec<JobResult<C::Value>>,
     work: Posted<C::Value>,
 ) -> Result<(), AllocError>
@@ -47,7 +47,7 @@ fn run_more<C: Catalog, G: Gate>(
 #[tactic(auto, using(crate::proofs::Crews::works_none, crate::proofs::Crews::works_more))]
 fn run_own<C: Catalog, G: Gate>(
     alloc: Global,
-    batch: &Batch<'_, C, G>,
+    batch: &SharedBatch<'_, C, G>,
     board: &mut Board<Posted<C::Value>>,
 ) -> Result<Vec<JobResult<C::Value>>, AllocError>
     ensures board { IsSameBoard board.old board.new }
@@ -69,7 +69,7 @@ fn run_own<C: Catalog, G: Gate>(
 /// pushed were taken.
 pub(crate) fn run_rest<C: Catalog, G: Gate>(
     alloc: Global,
-    batch: &Batch<'_, C, G>,
+    batch: &SharedBatch<'_, C, G>,
     board: &mut Board<Posted<C::Value>>,
 ) -> Result<Vec<JobResult<C::Value>>, AllocError>
     requires { (owner_hand board.old).parts ≡ 1024 }
@@ -96,7 +96,7 @@ impl<V: Drop> Thief<Posted<V>> {
     pub fn work<C: Catalog<Value = V>, G: Gate>(
         &mut self,
         alloc: Global,
-        batch: &Batch<'_, C, G>,
+        batch: &SharedBatch<'_, C, G>,
     ) -> Result<Vec<JobResult<V>>, AllocError>
         ensures board { IsSameThief self.old self.new }
         ensures works { IfOk result (λ rs. Works C.view (C.decoding batch.now.catalog.now)
@@ -119,7 +119,7 @@ impl<V: Drop> Thief<Posted<V>> {
 /// Has a thief work, and returns it with its results.
 fn one_works<C: Catalog, G: Gate>(
     alloc: Global,
-    batch: &Batch<'_, C, G>,
+    batch: &SharedBatch<'_, C, G>,
     thief: Thief<Posted<C::Value>>,
 ) -> Worked<C::Value>
     ensures { HasWorked C.view (C.decoding batch.now.catalog.now) (map view batch.now.events.now)
@@ -133,7 +133,7 @@ fn one_works<C: Catalog, G: Gate>(
 /// Has the owner work, and returns its board with the results.
 fn own_works<C: Catalog, G: Gate>(
     alloc: Global,
-    batch: &Batch<'_, C, G>,
+    batch: &SharedBatch<'_, C, G>,
     board: Board<Posted<C::Value>>,
 ) -> (
     Board<Posted<C::Value>>,
@@ -152,7 +152,7 @@ fn own_works<C: Catalog, G: Gate>(
 fn all_work<C: Catalog, G: Gate, R: Threads + Sync>(
     rt: &R,
     alloc: Global,
-    batch: &Batch<'_, C, G>,
+    batch: &SharedBatch<'_, C, G>,
     thieves: Vec<Thief<Posted<C::Value>>>,
 ) -> Result<Vec<Worked<C::Value>>, AllocError>
     ensures { IfOk result (λ crew. HaveAllDone C.view (C.decoding batch.now.catalog.now)
@@ -169,7 +169,7 @@ fn all_work<C: Catalog, G: Gate, R: Threads + Sync>(
 pub(crate) fn both_work<C: Catalog, G: Gate, R: Threads + Sync>(
     rt: &R,
     alloc: Global,
-    batch: &Batch<'_, C, G>,
+    batch: &SharedBatch<'_, C, G>,
     board: Board<Posted<C::Value>>,
     thieves: Vec<Thief<Posted<C::Value>>>,
 ) -> (

@@ -1,21 +1,20 @@
 //! Running jobs on workers.
 
-ghost use Rattle.std.specs.Prelude.{◌≡◌, ℕ, ◌≤◌, ◌++◌, All, IfOk, List, OnOk, length, map};
+ghost use Rattle.std.specs.Prelude.{◌≡◌, ℕ, ◌≤◌, ◌++◌, All, IfOk, List, OnErr, OnOk, length, map, true};
 ghost use Rattle.std.specs.List.Sorted.{IsPermutation};
-ghost use Rattle.rtps_receiver.specs.Events.{view};
+ghost use Rattle.rtps_receiver.specs.Events.{view, EventView};
 ghost use Rattle.rtps_planner.specs.Plan.{steps_seen};
 ghost use Rattle.rtps_reader.specs.Standing.{StandsAt};
 ghost use Rattle.rtps_shards.specs.Results.{IsDone, IsOutput, IsReady, Share, given_done, rank_of, rank_in, reader_done};
 ghost use Rattle.rtps_shards.specs.Piles.{IsJobDone, IsPileDone};
 ghost use Rattle.dds_topic.specs.Decoding.{Decoding};
-ghost use Rattle.rtps_receiver.specs.Events.{EventView};
 ghost use Rattle.rtps_shards.specs.Board.{hand};
 ghost use Rattle.rtps_shards.specs.Ends.{IsSameBoard, IsThiefOf, owner_hand, room};
 ghost use Rattle.rtps_shards.specs.Work.{AreDone, HasDone, IsBack};
 
 use crate::board::Board;
 use crate::gate::Gate;
-use crate::jobs::{Batch, JobResult, Posted, Worker, events_of};
+use crate::jobs::{JobResult, Posted, SharedBatch, Worker, events_of};
 use crate::steps::take_steps;
 use crate::work::{Worked, both_work, run_rest};
 use dds_topic::Catalog;
@@ -26,10 +25,11 @@ use std::thread::Threads;
 
 /// Runs the job of one reader in place. Its notices and answers replace the contents of `output`.
 ///
-/// An error is a refused growth.
+/// An error is a refused growth. The reader is spent then: it answers each later step with the same
+/// error. `output` has the notices and answers that came before the refusal.
 pub fn run_job<C: Catalog, G: Gate>(
     worker: &mut Worker<&C>,
-    batch: &Batch<'_, C, G>,
+    batch: &SharedBatch<'_, C, G>,
     job: &Job,
     state: &mut ReaderState,
     output: &mut Output<C::Value>,
@@ -44,6 +44,7 @@ pub fn run_job<C: Catalog, G: Gate>(
         → OnOk result (IsOutput C.view (C.decoding batch.now.catalog.now) s output.new) }
     ensures rank { state.new.rank ≡ state.old.rank }
     ensures same { worker.new ≡ worker.old }
+    ensures err { OnErr result (state.new.spent ≡ true) }
 {
     output.notices.clear();
     output.answers.clear();
@@ -57,7 +58,7 @@ pub fn run_job<C: Catalog, G: Gate>(
 #[tactic(auto, unfolding(crate::specs::Piles::IsJobDone))]
 pub(crate) fn run_posted<C: Catalog, G: Gate>(
     worker: &mut Worker<&C>,
-    batch: &Batch<'_, C, G>,
+    batch: &SharedBatch<'_, C, G>,
     work: Posted<C::Value>,
 ) -> Result<JobResult<C::Value>, AllocError>
     ensures done { worker.old.now ≡ batch.now.catalog.now
@@ -82,7 +83,7 @@ pub(crate) fn run_posted<C: Catalog, G: Gate>(
 #[tactic(auto, unfolding(crate::specs::Piles::IsPileDone))]
 fn run_pile<C: Catalog, G: Gate>(
     alloc: Global,
-    batch: &Batch<'_, C, G>,
+    batch: &SharedBatch<'_, C, G>,
     pile: Vec<Posted<C::Value>>,
 ) -> Result<Vec<JobResult<C::Value>>, AllocError>
     ensures { IsPileDone C.view (C.decoding batch.now.catalog.now) (map view batch.now.events.now)
@@ -155,7 +156,7 @@ fn take_back<C: Catalog>(
 pub fn run_jobs<C: Catalog, G: Gate, R: Threads + Sync>(
     rt: &R,
     alloc: Global,
-    batch: &Batch<'_, C, G>,
+    batch: &SharedBatch<'_, C, G>,
     jobs: Vec<Posted<C::Value>>,
     workers: usize,
 ) -> Result<Vec<JobResult<C::Value>>, AllocError>

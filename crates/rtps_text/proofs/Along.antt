@@ -10,8 +10,8 @@ use Rattle.rtps_types.specs.declared.place.Place.{Place}
 use Rattle.rtps_proxy.specs.Replies.{ReplyView}
 use Rattle.rtps_run.specs.Presentation.{not_after}
 use Rattle.rtps_run.specs.World.{ReportView, NoticeOf, AnswerOf, sent_by}
-use Rattle.rtps_planner.specs.Commuting.{Parts, answers_at, merged, merged_below, notices_at, same_place}
-use Rattle.rtps_planner.specs.Gather.{AreRising}
+use Rattle.rtps_planner.specs.Commuting.{PartsByRank, answers_at, merged, merged_below, notices_at, same_place}
+use Rattle.rtps_planner.specs.Outputs.{AreRising}
 use Rattle.rtps_text.specs.Replayed.{put_line, put_lines}
 use Rattle.rtps_text.specs.Slices.{AreLeft, IsLeft, answer_lines, cursor_after, first_answers, front_at, next_said, part_lines, parts_lines, places_lines, ranks_below, starts}
 use Rattle.rtps_lines.specs.Answer.{answer_line}
@@ -70,10 +70,10 @@ answers_put text put line [] = refl
 answers_put text put line (s ∷ ss) = ap (λ l. l ++ put_lines text (map put ss)) (line s) ∙ ap (λ l. answer_line s.0 s.1.to s.1.octets ++ l) (answers_put text put line ss)
 
 -- the lines of the reader of a rank at a place
-abbrev rank_lines : {M : Type 0} → (M → List ℕ) → Parts M → Place → ℕ → List ℕ
+abbrev rank_lines : {M : Type 0} → (M → List ℕ) → PartsByRank M → Place → ℕ → List ℕ
 rank_lines text parts p rank = put_lines text (map (NoticeOf rank) (notices_at p (parts.told rank)) ++ map (sent_by (Some rank)) (answers_at p (parts.sent rank)))
 
-part_is : {M : Type 0} (text : M → List ℕ) (parts : Parts M) (p : Place) (ps : List Place) (c : Cursor) → AllByRecursion (λ q. not_after q p ≡ false) ps
+part_is : {M : Type 0} (text : M → List ℕ) (parts : PartsByRank M) (p : Place) (ps : List Place) (c : Cursor) → AllByRecursion (λ q. not_after q p ≡ false) ps
     → IsLeft parts (p ∷ ps) c → (part_lines text parts p c ≡ rank_lines text parts p c.rank) × IsLeft parts ps (cursor_after parts p c)
 part_is text parts p ps c later left =
     let told = front_next (λ n. n.place) p ps (parts.told c.rank) c.notices later left.told in
@@ -87,7 +87,7 @@ part_is text parts p ps c later left =
       },
     )
 
-parts_are : {M : Type 0} (text : M → List ℕ) (parts : Parts M) (p : Place) (ps : List Place) (cs : List Cursor) → AllByRecursion (λ q. not_after q p ≡ false) ps
+parts_are : {M : Type 0} (text : M → List ℕ) (parts : PartsByRank M) (p : Place) (ps : List Place) (cs : List Cursor) → AllByRecursion (λ q. not_after q p ≡ false) ps
     → AllByRecursion (IsLeft parts (p ∷ ps)) cs
     → (parts_lines text parts p cs ≡ flat_map (rank_lines text parts p) (map (λ (c : Cursor). c.rank) cs)) × AllByRecursion (IsLeft parts ps) (map (cursor_after parts p) cs)
     × (map (λ (c : Cursor). c.rank) (map (cursor_after parts p) cs) ≡ map (λ (c : Cursor). c.rank) cs)
@@ -100,7 +100,7 @@ parts_are text parts p ps (c ∷ cs) later left =
       ap (λ l. c.rank ∷ l) rest.2,
     )
 
-merged_lines : {M : Type 0} (text : M → List ℕ) (parts : Parts M) (p : Place) (count : ℕ) → flat_map (rank_lines text parts p) (ranks_below count) ≡ put_lines text (merged_below p parts count)
+merged_lines : {M : Type 0} (text : M → List ℕ) (parts : PartsByRank M) (p : Place) (count : ℕ) → flat_map (rank_lines text parts p) (ranks_below count) ≡ put_lines text (merged_below p parts count)
 merged_lines text parts p zero = refl
 merged_lines text parts p (suc rank) =
     flat_map-append (rank_lines text parts p) (ranks_below rank) (rank ∷ [])
@@ -109,7 +109,7 @@ merged_lines text parts p (suc rank) =
     ∙ sym (flat_map-append (put_line text) (merged_below p parts rank) (map (NoticeOf rank) (notices_at p (parts.told rank)) ++ map (sent_by (Some rank)) (answers_at p (parts.sent rank))))
 
 -- what is printed place by place are the parts, merged, also where it ends before other places
-pub places_merged : {M : Type 0} (text : M → List ℕ) (parts : Parts M) (count : ℕ) (places more : List Place) (said : ℕ) (readers : List Cursor) → AreRising (places ++ more)
+pub places_merged : {M : Type 0} (text : M → List ℕ) (parts : PartsByRank M) (count : ℕ) (places more : List Place) (said : ℕ) (readers : List Cursor) → AreRising (places ++ more)
     → AreLeft parts count (places ++ more) said readers → places_lines text parts places said readers ≡ put_lines text (merged parts count places)
 places_merged text parts count [] more said readers rising left = refl
 places_merged text parts count (p ∷ ps) more said readers (later, rising) left =
@@ -131,7 +131,7 @@ places_merged text parts count (p ∷ ps) more said readers (later, rising) left
     ∙ sym (flat_map-append (put_line text) (discovered ++ merged_below p parts count) (merged parts count ps))
 
 -- at first all is left
-pub start_left : {M : Type 0} (parts : Parts M) (count : ℕ) (places : List Place) → flat_map (λ p. answers_at p parts.answers) places ≡ parts.answers
+pub start_left : {M : Type 0} (parts : PartsByRank M) (count : ℕ) (places : List Place) → flat_map (λ p. answers_at p parts.answers) places ≡ parts.answers
     → ((rank : ℕ) → flat_map (λ p. notices_at p (parts.told rank)) places ≡ parts.told rank)
     → ((rank : ℕ) → flat_map (λ p. answers_at p (parts.sent rank)) places ≡ parts.sent rank)
     → AreLeft parts count places 0 (starts count)

@@ -1,7 +1,7 @@
 -- A run and its text, one batch more.
 use Rattle.std.proofs.Common.{◌≡◌, ℕ, ◌<◌, ◌≤◌, ◌-◌, List, [], ◌∷◌, ◌++◌, ◌≢◌, Option, Some, None, Result, Ok, Err, OnOk, arith, refl, subst, sym, ap, ◌∙◌, map, length, append-nil, take}
 use Rattle.std.proofs.lemmas.Grind.{flat_map-append}
-use Rattle.std.specs.Io.KnownBytes.{IsAtEnd}
+use Rattle.std.specs.Io.KnownBytes.{IsAtEnd, Appends}
 use Rattle.rtps_records.specs.Batches.{EndsBatch, ReadsBatch}
 use Rattle.std.specs.Borrow.{Bor}
 use Rattle.std.specs.List.{All, AllByRecursion}
@@ -11,7 +11,6 @@ use Rattle.rtps_records.specs.Text.{Says}
 use Rattle.rtps_records.specs.declared.batch_end.BatchEnd.{BatchEnd}
 use Rattle.rtps_records.specs.declared.batch_end.BatchEnd.TheVariants.{End, Fault, More}
 use Rattle.rtps_records.specs.declared.fault.RunFault.{RunFault}
-use Rattle.std.specs.Io.KnownBytes.{Appends}
 use Rattle.std.proofs.Math.Seq.{take-append_seam}
 use Rattle.std.specs.declared.alloc.AllocError.{AllocError}
 use Rattle.std.specs.declared.alloc.Global.{Global}
@@ -20,23 +19,23 @@ use Rattle.rtps_records.specs.Runs.{Moves, PutsFront}
 use Rattle.rtps_records.proofs.Progress.{EndsHere, Progress, many_more, moved}
 use Rattle.dds_topic.specs.Decoding.{Decoding}
 use Rattle.rtps_discovery.specs.declared.config.Config.{Config}
-use Rattle.rtps_reader.specs.Notices.{answer_view}
+use Rattle.rtps_reader.specs.Notice.{answer_view}
 use Rattle.rtps_run.specs.Run.{run}
 use Rattle.rtps_run.specs.Standing.{EngineView, StandsAt, run_by}
 use Rattle.rtps_run.proofs.Running.{run_count}
 use Rattle.rtps_planner.specs.Commuting.{merged}
 use Rattle.rtps_text.specs.Batched.{MovesBefore, RunsBatch, TakesRecords}
-use Rattle.rtps_planner.specs.Gather.{AreRising, sent_in}
+use Rattle.rtps_planner.specs.Outputs.{AreRising, sent_in}
 use Rattle.rtps_run.specs.World.{World}
-use Rattle.dds_participant.specs.Given.{AreAnswersAlong, AreNoticesAlong, IsGiven, parts_given, told_in}
+use Rattle.dds_participant.specs.BatchOutput.{AreAnswersAlong, AreNoticesAlong, IsGiven, parts_given, told_in}
 use Rattle.rtps_text.specs.Replayed.{HasSaid, put_line, put_lines}
 use Rattle.rtps_text.specs.Slices.{AreByPlace, AreLeft, AreTexts, all_lines, merged_lines, places_lines, starts}
-use Rattle.dds_participant.specs.declared.given.Given.{Given}
+use Rattle.dds_participant.specs.declared.batch_output.BatchOutput.{BatchOutput}
 use Rattle.rtps_text.specs.declared.slices.Cursor.{Cursor}
 use Rattle.rtps_text.proofs.Along.{places_merged, start_left}
 
 -- printed from the start on
-pub start_lines : {C V M : Type 0} (text : C → M → List ℕ) (f : V → M) (given : Given V) (k catalog : C) (said : ℕ) (readers : List Cursor) (count all : ℕ)
+pub start_lines : {C V M : Type 0} (text : C → M → List ℕ) (f : V → M) (given : BatchOutput V) (k catalog : C) (said : ℕ) (readers : List Cursor) (count all : ℕ)
     → k ≡ catalog → said ≡ 0 → readers ≡ starts count → count ≡ all
     → places_lines (text k) (parts_given f given) given.places.items said readers ≡ all_lines (text catalog) f given all
 start_lines text f given k catalog said readers count all same none start counted =
@@ -45,7 +44,7 @@ start_lines text f given k catalog said readers count all same none start counte
     ∙ ap (places_lines (text catalog) (parts_given f given) given.places.items 0) (start ∙ ap starts counted)
 
 -- the lines of a batch are its parts, merged
-pub all_merged : {V M : Type 0} (text : M → List ℕ) (f : V → M) (given : Given V) (count : ℕ) → AreRising given.places.items
+pub all_merged : {V M : Type 0} (text : M → List ℕ) (f : V → M) (given : BatchOutput V) (count : ℕ) → AreRising given.places.items
     → AreAnswersAlong given.places.items (map answer_view given.answers.items)
     → ((rank : ℕ) → AreNoticesAlong given.places.items (told_in f given.outputs.items rank))
     → ((rank : ℕ) → AreAnswersAlong given.places.items (sent_in given.outputs.items rank))
@@ -58,7 +57,7 @@ all_merged text f given count rising said notices answers =
     (subst (λ ps. AreLeft parts count ps 0 (starts count)) whole left)
 
 -- what workers formatted are the lines of a batch
-pub shared_lines : {C V M : Type 0} (text : C → M → List ℕ) (f : V → M) (given : Given V) (k catalog : C) (readers count : ℕ) → k ≡ catalog → readers ≡ count → AreByPlace f given
+pub shared_lines : {C V M : Type 0} (text : C → M → List ℕ) (f : V → M) (given : BatchOutput V) (k catalog : C) (readers count : ℕ) → k ≡ catalog → readers ≡ count → AreByPlace f given
     → merged_lines (text k) f given readers given.places.items ≡ all_lines (text catalog) f given count
 shared_lines text f given k catalog readers count same counted by =
     ap (λ k. merged_lines (text k) f given readers given.places.items) same
@@ -66,11 +65,11 @@ shared_lines text f given k catalog readers count same counted by =
     ∙ sym (all_merged (text catalog) f given count by.places by.said by.notices by.answers)
 
 -- what a batch gave is by place
-pub by_place : {V M : Type 0} (f : V → M) (before after : World M) (given : Given V) → IsGiven f before after given → AreByPlace f given
+pub by_place : {V M : Type 0} (f : V → M) (before after : World M) (given : BatchOutput V) → IsGiven f before after given → AreByPlace f given
 by_place f before after given is = record { places = is.places; said = is.said; notices = is.notices; answers = is.answers }
 
 -- what a batch gave is what the run puts out more, so these are its lines
-given_lines : {V M : Type 0} (text : M → List ℕ) (f : V → M) (decoding : Decoding M) (config : Config) (records batch : List (List ℕ)) (given : Given V) (count : ℕ)
+given_lines : {V M : Type 0} (text : M → List ℕ) (f : V → M) (decoding : Decoding M) (config : Config) (records batch : List (List ℕ)) (given : BatchOutput V) (count : ℕ)
     → count ≡ length config.readers.items → IsGiven f (run decoding config records) (run decoding config (records ++ batch)) given
     → put_lines text (run decoding config records).put ++ all_lines text f given count ≡ put_lines text (run decoding config (records ++ batch)).put
 given_lines text f decoding config records batch given count counted is =
@@ -83,7 +82,7 @@ given_lines text f decoding config records batch given count counted is =
     ∙ ap (put_lines text) (sym is.put)
 
 -- the lines of a batch are said after what was said before
-pub says_given : {C V M : Type 0} (text : C → M → List ℕ) (f : V → M) (decoding : C → Decoding M) (before after : EngineView C) (batch : List (List ℕ)) (given : Given V) (number : ℕ) (kept : List ℕ)
+pub says_given : {C V M : Type 0} (text : C → M → List ℕ) (f : V → M) (decoding : C → Decoding M) (before after : EngineView C) (batch : List (List ℕ)) (given : BatchOutput V) (number : ℕ) (kept : List ℕ)
     → (after.catalog ≡ before.catalog) × (after.config ≡ before.config)
     → ((records : List (List ℕ)) → StandsAt decoding records before → StandsAt decoding (records ++ batch) after)
     → ((records : List (List ℕ)) → StandsAt decoding records before → IsGiven f (run_by decoding before records) (run_by decoding before (records ++ batch)) given)
@@ -108,7 +107,7 @@ says_given {C} text f decoding before after batch given number kept same stands 
 )
 
 -- a batch more was read, and its lines are added
-pub batch_more : {C V M : Type 0} (text : C → M → List ℕ) (f : V → M) (decoding : C → Decoding M) (first now after old new : Option (List ℕ)) (n m : ℕ) (end : BatchEnd) (before next : EngineView C) (given : Given V) (kept : List ℕ)
+pub batch_more : {C V M : Type 0} (text : C → M → List ℕ) (f : V → M) (decoding : C → Decoding M) (first now after old new : Option (List ℕ)) (n m : ℕ) (end : BatchEnd) (before next : EngineView C) (given : BatchOutput V) (kept : List ℕ)
     → (next.catalog ≡ before.catalog) × (next.config ≡ before.config)
     → Progress (λ records said. HasSaid text decoding records said before) first now old new n kept → (r : RunsBatch f decoding now after n m end before next given)
     → Progress (λ records said. HasSaid text decoding records said next) first r.reads.here old new m (kept ++ all_lines (text next.catalog) f given (length next.statuses))
@@ -119,13 +118,13 @@ batch_more text f decoding first now after old new n m end before next given kep
     subst (λ k. Progress then_said first r.reads.here old new k out) (sym r.reads.count) more
 
 -- what the batch gave is by place
-pub batch_by_place : {C V M : Type 0} (text : C → M → List ℕ) (f : V → M) (decoding : C → Decoding M) (first now after old new : Option (List ℕ)) (n m : ℕ) (end : BatchEnd) (before next : EngineView C) (given : Given V) (kept : List ℕ)
+pub batch_by_place : {C V M : Type 0} (text : C → M → List ℕ) (f : V → M) (decoding : C → Decoding M) (first now after old new : Option (List ℕ)) (n m : ℕ) (end : BatchEnd) (before next : EngineView C) (given : BatchOutput V) (kept : List ℕ)
     → Progress (λ records said. HasSaid text decoding records said before) first now old new n kept → RunsBatch f decoding now after n m end before next given → AreByPlace f given
 batch_by_place text f decoding first now after old new n m end before next given kept p r =
     by_place f (run_by decoding before p.records) (run_by decoding before (p.records ++ r.batch)) given (r.takes.gives p.records p.says.stands)
 
 -- where a batch was taken, it was taken after whatever came before
-pub takes_records : {C V M U E : Type 0} (f : V → M) (decoding : C → Decoding M) (batch : List (List ℕ)) (old new : EngineView C) (given : Given V) (r : Result U E)
+pub takes_records : {C V M U E : Type 0} (f : V → M) (decoding : C → Decoding M) (batch : List (List ℕ)) (old new : EngineView C) (given : BatchOutput V) (r : Result U E)
     → ((records : List (List ℕ)) → StandsAt decoding records old → OnOk r (StandsAt decoding (records ++ batch) new))
     → ((records : List (List ℕ)) → StandsAt decoding records old → OnOk r (IsGiven f (run_by decoding old records) (run_by decoding old (records ++ batch)) given))
     → OnOk r (TakesRecords f decoding batch old new given)

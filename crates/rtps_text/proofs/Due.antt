@@ -10,16 +10,16 @@ use Rattle.std.specs.declared.vec.Vec.{Vec}
 use Rattle.rtps_records.specs.Runs.{Moves, PutsFront}
 use Rattle.rtps_records.proofs.Progress.{Progress}
 use Rattle.dds_topic.specs.Decoding.{Decoding}
-use Rattle.rtps_reader.specs.Notices.{answer_view}
+use Rattle.rtps_reader.specs.Notice.{answer_view}
 use Rattle.rtps_run.specs.Standing.{EngineView}
 use Rattle.rtps_text.specs.Replayed.{HasSaid}
 use Rattle.rtps_text.proofs.Batches.{shared_lines}
 use Rattle.rtps_types.specs.declared.place.Place.{Place}
 use Rattle.rtps_planner.specs.Commuting.{answers_at, notices_at}
-use Rattle.rtps_planner.specs.Gather.{AreRising, sent_in}
+use Rattle.rtps_planner.specs.Outputs.{AreRising, sent_in}
 use Rattle.rtps_reader.specs.declared.notice.Output.{Output}
-use Rattle.dds_participant.specs.Given.{HoldsNothing, parts_given, told_in}
-use Rattle.dds_participant.specs.declared.given.Given.{Given}
+use Rattle.dds_participant.specs.BatchOutput.{HoldsNothing, parts_given, told_in}
+use Rattle.dds_participant.specs.declared.batch_output.BatchOutput.{BatchOutput}
 use Rattle.rtps_text.specs.Batched.{IsDue, MovesBefore}
 use Rattle.rtps_text.specs.Slices.{AreByPlace, AreTexts, all_lines, merged_lines, places_lines, starts}
 
@@ -54,37 +54,37 @@ front_longer old new octets lines p =
     )
 
 -- all that is due, where the texts were written
-pub due_next : {V M : Type 0} (text : M → List ℕ) (f : V → M) (texts : List (Result (Vec ℕ Global) AllocError)) (given : Given V) (readers : ℕ) (due : List ℕ) (d : IsDue text f texts given readers due) (old new : Option (List ℕ)) (kept here : List ℕ)
+pub due_next : {V M : Type 0} (text : M → List ℕ) (f : V → M) (texts : List (Result (Vec ℕ Global) AllocError)) (given : BatchOutput V) (readers : ℕ) (due : List ℕ) (d : IsDue text f texts given readers due) (old new : Option (List ℕ)) (kept here : List ℕ)
     → Moves old new (kept ++ d.made) here → Moves old new (kept ++ due) (here ++ all_lines text f given readers)
 due_next text f texts given readers due d old new kept here m =
     subst (λ l. Moves old new (kept ++ l) (here ++ all_lines text f given readers)) (sym d.is) (moves_more old new kept d.made here (all_lines text f given readers) m)
 
 -- and the lines were formatted
-pub due_spelled : {V M : Type 0} (text : M → List ℕ) (f : V → M) (texts : List (Result (Vec ℕ Global) AllocError)) (given : Given V) (readers : ℕ) (due : List ℕ) (d : IsDue text f texts given readers due) (old new : Option (List ℕ)) (kept here : List ℕ)
+pub due_spelled : {V M : Type 0} (text : M → List ℕ) (f : V → M) (texts : List (Result (Vec ℕ Global) AllocError)) (given : BatchOutput V) (readers : ℕ) (due : List ℕ) (d : IsDue text f texts given readers due) (old new : Option (List ℕ)) (kept here : List ℕ)
     → (made : List (Result (Vec ℕ Global) AllocError)) → Moves old new (kept ++ d.made) here → AreTexts made (all_lines text f given readers) → MovesBefore old new (kept ++ due) here made
 due_spelled text f texts given readers due d old new kept here made m are =
     (all_lines text f given readers, are, due_next text f texts given readers due d old new kept here m)
 
 -- a front of the texts was written
-pub due_begun : {V M : Type 0} (text : M → List ℕ) (f : V → M) (texts : List (Result (Vec ℕ Global) AllocError)) (given : Given V) (readers : ℕ) (due : List ℕ) (d : IsDue text f texts given readers due) (old new : Option (List ℕ)) (kept : List ℕ)
+pub due_begun : {V M : Type 0} (text : M → List ℕ) (f : V → M) (texts : List (Result (Vec ℕ Global) AllocError)) (given : BatchOutput V) (readers : ℕ) (due : List ℕ) (d : IsDue text f texts given readers due) (old new : Option (List ℕ)) (kept : List ℕ)
     → PutsFront old new (kept ++ d.made) → PutsFront old new (kept ++ due)
 due_begun text f texts given readers due d old new kept p =
     subst (PutsFront old new) (append_assoc kept d.made (all_lines text f given readers) ∙ ap (λ l. kept ++ l) (sym d.is)) (front_longer old new (kept ++ d.made) (all_lines text f given readers) p)
 
 -- what workers formatted of lists that a batch gave are its lines
-pub spelled_lines : {C V M : Type 0} (text : C → M → List ℕ) (f : V → M) (texts : List (Result (Vec ℕ Global) AllocError)) (given here : Given V) (k catalog : C) (readers count : ℕ) → k ≡ catalog → here ≡ given → readers ≡ count → AreByPlace f given
+pub spelled_lines : {C V M : Type 0} (text : C → M → List ℕ) (f : V → M) (texts : List (Result (Vec ℕ Global) AllocError)) (given here : BatchOutput V) (k catalog : C) (readers count : ℕ) → k ≡ catalog → here ≡ given → readers ≡ count → AreByPlace f given
     → (AreByPlace f here → AreTexts texts (merged_lines (text k) f here readers here.places.items)) → AreTexts texts (all_lines (text catalog) f given count)
 spelled_lines {V = V} text f texts given here k catalog readers count same is counted by are =
     let by_here : AreByPlace f here = subst (AreByPlace f) (sym is) by in
-    subst (AreTexts texts) (shared_lines text f here k catalog readers count same counted by_here ∙ ap (λ (x : Given V). all_lines (text catalog) f x count) is) (are by_here)
+    subst (AreTexts texts) (shared_lines text f here k catalog readers count same counted by_here ∙ ap (λ (x : BatchOutput V). all_lines (text catalog) f x count) is) (are by_here)
 
 -- the same is due where its parts are the same
-pub due_same : {V M : Type 0} (text : M → List ℕ) (f : V → M) (texts those : List (Result (Vec ℕ Global) AllocError)) (given these : Given V) (readers : ℕ) (due : List ℕ) → those ≡ texts → these ≡ given → IsDue text f texts given readers due → IsDue text f those these readers due
+pub due_same : {V M : Type 0} (text : M → List ℕ) (f : V → M) (texts those : List (Result (Vec ℕ Global) AllocError)) (given these : BatchOutput V) (readers : ℕ) (due : List ℕ) → those ≡ texts → these ≡ given → IsDue text f texts given readers due → IsDue text f those these readers due
 due_same {V} text f texts those given these readers due same is d =
-    subst (λ (x : Given V). IsDue text f those x readers due) (sym is) (subst (λ (ts : List (Result (Vec ℕ Global) AllocError)). IsDue text f ts given readers due) (sym same) d)
+    subst (λ (x : BatchOutput V). IsDue text f those x readers due) (sym is) (subst (λ (ts : List (Result (Vec ℕ Global) AllocError)). IsDue text f ts given readers due) (sym same) d)
 
 -- what a batch gave is due after what was formatted, by whichever catalog and number of readers are the run's own
-pub due_more : {C V M : Type 0} (text : C → M → List ℕ) (f : V → M) (decoding : C → Decoding M) (first here old new : Option (List ℕ)) (n : ℕ) (next : EngineView C) (given : Given V) (left made : List ℕ) (k : C) (readers : ℕ)
+pub due_more : {C V M : Type 0} (text : C → M → List ℕ) (f : V → M) (decoding : C → Decoding M) (first here old new : Option (List ℕ)) (n : ℕ) (next : EngineView C) (given : BatchOutput V) (left made : List ℕ) (k : C) (readers : ℕ)
     → Progress (λ records said. HasSaid text decoding records said next) first here old new n ((left ++ made) ++ all_lines (text next.catalog) f given (length next.statuses))
     → next.catalog ≡ k → length next.config.readers.items ≡ readers
     → Progress (λ records said. HasSaid text decoding records said next) first here old new n (left ++ (made ++ all_lines (text k) f given readers))
@@ -95,7 +95,7 @@ due_more text f decoding first here old new n next given left made k readers p s
     p
 
 -- lists in which nothing is are by place, and have no line
-pub nothing_by_place : {V M : Type 0} (f : V → M) (given : Given V) → HoldsNothing given → AreByPlace f given
+pub nothing_by_place : {V M : Type 0} (f : V → M) (given : BatchOutput V) → HoldsNothing given → AreByPlace f given
 nothing_by_place {V} f given h = record {
   places = subst AreRising (sym h.places) tt;
   said = subst (λ (ps : List Place). flat_map (λ p. answers_at p (map answer_view given.answers.items)) ps ≡ map answer_view given.answers.items) (sym h.places) (sym (ap (map answer_view) h.answers));
@@ -103,5 +103,5 @@ nothing_by_place {V} f given h = record {
   answers = λ rank. subst (λ (ps : List Place). flat_map (λ p. answers_at p (sent_in given.outputs.items rank)) ps ≡ sent_in given.outputs.items rank) (sym h.places) (sym (ap (λ (os : List (Output V Global)). sent_in os rank) h.outputs));
 }
 
-pub nothing_lines : {V M : Type 0} (text : M → List ℕ) (f : V → M) (given : Given V) (readers : ℕ) → HoldsNothing given → all_lines text f given readers ≡ []
+pub nothing_lines : {V M : Type 0} (text : M → List ℕ) (f : V → M) (given : BatchOutput V) (readers : ℕ) → HoldsNothing given → all_lines text f given readers ≡ []
 nothing_lines text f given readers h = ap (λ (ps : List Place). places_lines text (parts_given f given) ps 0 (starts readers)) h.places

@@ -7,15 +7,15 @@ use Rattle.rtps_types.specs.declared.place.Place.{Place}
 use Rattle.rtps_reader.specs.declared.notice.Notice.{Notice}
 use Rattle.std.specs.declared.alloc.Global.{Global}
 use Rattle.rtps_reader.specs.declared.notice.Output.{Output}
-use Rattle.rtps_reader.specs.Notices.{answer_view, notice_view}
+use Rattle.rtps_reader.specs.Notice.{answer_view, notice_view}
 use Rattle.rtps_run.specs.World.{NoticeOf}
-use Rattle.rtps_planner.specs.Commuting.{Parts, same_place}
+use Rattle.rtps_planner.specs.Commuting.{PartsByRank, same_place}
 use Rattle.rtps_text.specs.Replayed.{put_lines}
 use Rattle.rtps_proxy.specs.Replies.{ReplyView}
 use Rattle.rtps_types.specs.declared.traffic.Reply.{Reply}
-use Rattle.rtps_planner.specs.Gather.{sent_in}
-use Rattle.dds_participant.specs.Given.{parts_given, told_in}
-use Rattle.dds_participant.specs.declared.given.Given.{Given}
+use Rattle.rtps_planner.specs.Outputs.{sent_in}
+use Rattle.dds_participant.specs.BatchOutput.{parts_given, told_in}
+use Rattle.dds_participant.specs.declared.batch_output.BatchOutput.{BatchOutput}
 use Rattle.rtps_text.specs.Slices.{answer_lines, cursor_after, first_answers, first_notices, lists_after, lists_lines, next_said, part_lines, parts_lines, places_lines}
 use Rattle.rtps_text.specs.declared.slices.Cursor.{Cursor}
 use Rattle.rtps_lines.specs.Notice.{heard_line}
@@ -137,7 +137,7 @@ sent_none (x ∷ outputs) zero past = absurd (omega (arith, past))
 sent_none (x ∷ outputs) (suc rank) past = sent_none outputs rank (omega (arith, past))
 
 -- its lines are those of its output
-pub part_some : {V M : Type 0} (f : V → M) (text : M → List ℕ) (given : Given V) (place : Place) (c : Cursor) (outputs : List (Output V Global)) (o : Output V Global)
+pub part_some : {V M : Type 0} (f : V → M) (text : M → List ℕ) (given : BatchOutput V) (place : Place) (c : Cursor) (outputs : List (Output V Global)) (o : Output V Global)
     → outputs ≡ given.outputs.items → true ≡ nat_lt c.rank (length outputs) → o ≡ get_or outputs c.rank o
     → (lists_lines text (map (notice_view f) o.notices.items) (map answer_view o.answers.items) place c ≡ part_lines text (parts_given f given) place c)
     × (lists_after (map (notice_view f) o.notices.items) (map answer_view o.answers.items) place c ≡ cursor_after (parts_given f given) place c)
@@ -168,7 +168,7 @@ nothing_left {M} text place c =
     after c e h = rw e (rw h refl)
 
 -- where there is no such reader, nothing is printed
-pub part_none : {V M : Type 0} (f : V → M) (text : M → List ℕ) (given : Given V) (place : Place) (c : Cursor) (outputs : List (Output V Global)) (out : List ℕ)
+pub part_none : {V M : Type 0} (f : V → M) (text : M → List ℕ) (given : BatchOutput V) (place : Place) (c : Cursor) (outputs : List (Output V Global)) (out : List ℕ)
     → outputs ≡ given.outputs.items → false ≡ nat_lt c.rank (length outputs)
     → (out ≡ out ++ part_lines text (parts_given f given) place c) × (c ≡ cursor_after (parts_given f given) place c)
 part_none {V} {M} f text given place c outputs out same test =
@@ -183,7 +183,7 @@ part_none {V} {M} f text given place c outputs out same test =
 -- ---- all readers
 
 -- the first n cursors were moved, and the others are as they were
-pub record AreMoved {M : Type 0} (parts : Parts M) (place : Place) (whole cursors : List Cursor) (i : ℕ) : Type 0 where
+pub record AreMoved {M : Type 0} (parts : PartsByRank M) (place : Place) (whole cursors : List Cursor) (i : ℕ) : Type 0 where
   pub count : length cursors ≡ length whole
   pub front : take i cursors ≡ map (cursor_after parts place) (take i whole)
   pub back : drop i cursors ≡ drop i whole
@@ -192,7 +192,7 @@ same_head : {X : Type 0} {x y : X} {xs ys : List X} → x ∷ xs ≡ y ∷ ys �
 same_head {x = x} e = ap (λ l. get_or l 0 x) e
 
 -- one more is moved
-pub moved_more : {M : Type 0} (parts : Parts M) (place : Place) (whole cursors : List Cursor) (i : ℕ) (c after : Cursor)
+pub moved_more : {M : Type 0} (parts : PartsByRank M) (place : Place) (whole cursors : List Cursor) (i : ℕ) (c after : Cursor)
     → i < length cursors → c ≡ get_or cursors i c → after ≡ cursor_after parts place c → AreMoved parts place whole cursors i
     → AreMoved parts place whole (set cursors i after) (i + 1)
 moved_more parts place whole cursors i c after below here moved so_far =
@@ -210,7 +210,7 @@ moved_more parts place whole cursors i c after below here moved so_far =
     }
 
 -- and its lines were added
-pub parts_more : {M : Type 0} (text : M → List ℕ) (parts : Parts M) (place : Place) (whole cursors : List Cursor) (i : ℕ) (c : Cursor) (old said now out : List ℕ)
+pub parts_more : {M : Type 0} (text : M → List ℕ) (parts : PartsByRank M) (place : Place) (whole cursors : List Cursor) (i : ℕ) (c : Cursor) (old said now out : List ℕ)
     → i < length cursors → c ≡ get_or cursors i c → AreMoved parts place whole cursors i
     → now ≡ old ++ (said ++ parts_lines text parts place (take i whole)) → out ≡ now ++ part_lines text parts place c
     → out ≡ old ++ (said ++ parts_lines text parts place (take (i + 1) whole))
@@ -226,7 +226,7 @@ parts_more text parts place whole cursors i c old said now out below here so_far
     ∙ ap (λ l. old ++ (said ++ parts_lines text parts place l)) (sym (take_more whole i c within))
 
 -- discovery's answer comes first
-pub said_first : {M : Type 0} (text : M → List ℕ) (parts : Parts M) (place : Place) (said n : ℕ) (answers left : List (Place × Reply Global)) (readers : List Cursor) (old out : List ℕ)
+pub said_first : {M : Type 0} (text : M → List ℕ) (parts : PartsByRank M) (place : Place) (said n : ℕ) (answers left : List (Place × Reply Global)) (readers : List Cursor) (old out : List ℕ)
     → map answer_view answers ≡ parts.answers → left ≡ drop said answers → n ≡ length (first_answers place (map answer_view left))
     → out ≡ old ++ answer_lines (first_answers place (map answer_view left))
     → (said + n ≡ said + length (next_said parts place said)) × AreMoved parts place readers readers 0
@@ -239,7 +239,7 @@ said_first text parts place said n answers left readers old out whole front coun
     )
 
 -- the lines of one place more
-pub place_more : {M : Type 0} (text : M → List ℕ) (parts : Parts M) (places : List Place) (i : ℕ) (p : Place) (said said' : ℕ) (readers readers' : List Cursor)
+pub place_more : {M : Type 0} (text : M → List ℕ) (parts : PartsByRank M) (places : List Place) (i : ℕ) (p : Place) (said said' : ℕ) (readers readers' : List Cursor)
     → i < length places → p ≡ get_or places i p → said' ≡ said + length (next_said parts p said) → readers' ≡ map (cursor_after parts p) readers
     → places_lines text parts (drop i places) said readers
     ≡ (answer_lines (next_said parts p said) ++ parts_lines text parts p readers) ++ places_lines text parts (drop (i + 1) places) said' readers'

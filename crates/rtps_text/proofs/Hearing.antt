@@ -18,8 +18,8 @@ use Rattle.rtps_records.specs.declared.receive_end.ReceiveEnd.{ReceiveEnd}
 use Rattle.rtps_records.specs.declared.receive_end.ReceiveEnd.TheVariants.{Drained, Fault, More}
 use Rattle.rtps_records.proofs.Received.{Grows-nil, Grows-trans}
 use Rattle.dds_topic.specs.Decoding.{Decoding}
-use Rattle.dds_participant.specs.Given.{IsGiven}
-use Rattle.dds_participant.specs.declared.given.Given.{Given}
+use Rattle.dds_participant.specs.BatchOutput.{IsGiven}
+use Rattle.dds_participant.specs.declared.batch_output.BatchOutput.{BatchOutput}
 use Rattle.rtps_discovery.specs.declared.config.Config.{Config}
 use Rattle.rtps_planner.specs.Commuting.{merged}
 use Rattle.rtps_run.specs.Run.{run}
@@ -160,7 +160,7 @@ listens_failed text decoding first then now origin old most left waits end engin
     }
 
 -- all that is to be printed of a batch are its lines
-pub batch_due : {C V M : Type 0} (text : C → M → List ℕ) (f : V → M) (decoding : C → Decoding M) (datagrams batch : List (List ℕ)) (before next : EngineView C) (given : Given V) (texts : List (Result (Vec ℕ Global) AllocError)) (k : C) (readers : ℕ)
+pub batch_due : {C V M : Type 0} (text : C → M → List ℕ) (f : V → M) (decoding : C → Decoding M) (datagrams batch : List (List ℕ)) (before next : EngineView C) (given : BatchOutput V) (texts : List (Result (Vec ℕ Global) AllocError)) (k : C) (readers : ℕ)
     → texts ≡ [] → StandsAt decoding datagrams before → TakesRecords f decoding batch before next given → IsDue (text k) f texts given readers (all_lines (text k) f given readers)
 batch_due text f decoding datagrams batch before next given texts k readers none stands takes = record {
   by_place = by_place f (run_by decoding before datagrams) (run_by decoding before (datagrams ++ batch)) given (takes.gives datagrams stands);
@@ -170,7 +170,7 @@ batch_due text f decoding datagrams batch before next given texts k readers none
 }
 
 -- and they are what is said of it
-said_more : {C V M : Type 0} (text : C → M → List ℕ) (f : V → M) (decoding : C → Decoding M) (datagrams batch : List (List ℕ)) (written : List ℕ) (before next : EngineView C) (given : Given V) (k : C) (readers : ℕ)
+said_more : {C V M : Type 0} (text : C → M → List ℕ) (f : V → M) (decoding : C → Decoding M) (datagrams batch : List (List ℕ)) (written : List ℕ) (before next : EngineView C) (given : BatchOutput V) (k : C) (readers : ℕ)
     → (next.catalog ≡ before.catalog) × (next.config ≡ before.config) → TakesRecords f decoding batch before next given → next.catalog ≡ k → length next.config.readers.items ≡ readers
     → HasSaid text decoding datagrams written before → HasSaid text decoding (datagrams ++ batch) (written ++ all_lines (text k) f given readers) next
 unfolding Says
@@ -183,7 +183,7 @@ said_more text f decoding datagrams batch written before next given k readers sa
 
 -- what was sent before a batch, and what it sends, is what the run sends with it
 batch_sends : {C V M : Type 0} (f : V → M) (decoding : C → Decoding M)
-    (datagrams batch : List (List ℕ)) (before : EngineView C) (given : Given V)
+    (datagrams batch : List (List ℕ)) (before : EngineView C) (given : BatchOutput V)
     (mid now : Option (List Traffic))
     → IsGiven f (run_by decoding before datagrams) (run_by decoding before (datagrams ++ batch)) given
     → (s : Sends (AreAnswersByPlace given) mid now (given_sends given))
@@ -198,7 +198,7 @@ batch_sends f decoding datagrams batch before given mid now g s =
 -- a batch more was received and taken, its answers were sent, and its lines were written
 pub listens_more : {C V M : Type 0} (text : C → M → List ℕ) (f : V → M) (decoding : C → Decoding M)
     (first then mid now : Option (List Traffic)) (origin old new : Option (List ℕ))
-    (most left less waits : ℕ) (before next : EngineView C) (given : Given V)
+    (most left less waits : ℕ) (before next : EngineView C) (given : BatchOutput V)
     (batch : List (List ℕ)) (end : ReceiveEnd) (k : C) (readers : ℕ)
     → (next.catalog ≡ before.catalog) × (next.config ≡ before.config)
     → TakesRecords f decoding batch before next given → next.catalog ≡ k
@@ -296,7 +296,7 @@ stops_untaken text decoding first then now origin old most left waits failed eng
 -- a batch more was taken and its answers were sent, and a front of its lines was written
 pub stops_writing : {C V M : Type 0} (text : C → M → List ℕ) (f : V → M) (decoding : C → Decoding M)
     (first then mid now : Option (List Traffic)) (origin old new : Option (List ℕ))
-    (most left less waits : ℕ) (before next : EngineView C) (summary : Bool) (given : Given V)
+    (most left less waits : ℕ) (before next : EngineView C) (summary : Bool) (given : BatchOutput V)
     (batch : List (List ℕ)) (end : ReceiveEnd) (k : C) (readers : ℕ) (fault : RunFault)
     → (next.catalog ≡ before.catalog) × (next.config ≡ before.config)
     → TakesRecords f decoding batch before next given → next.catalog ≡ k

@@ -16,7 +16,7 @@ use Rattle.dds_cache.specs.Standing.{CacheView}
 use Rattle.dds_cache.specs.Calls.{Done, accepted_after}
 use Rattle.dds_cache.specs.declared.history.History.{History}
 use Rattle.rtps_discovery.specs.declared.config.Config.{Config}
-use Rattle.rtps_reader.specs.Notices.{notice_view}
+use Rattle.rtps_reader.specs.Notice.{notice_view}
 use Rattle.rtps_reader.specs.declared.notice.Notice.{Notice}
 use Rattle.rtps_reader.specs.declared.notice.Output.{Output}
 use Rattle.rtps_run.specs.Run.{run}
@@ -24,8 +24,8 @@ use Rattle.rtps_run.specs.Seen.{notices_by}
 use Rattle.rtps_run.specs.Standing.{EngineView, StandsAt, run_by}
 use Rattle.rtps_run.specs.World.{World}
 use Rattle.rtps_run.proofs.Running.{run_count}
-use Rattle.dds_participant.specs.Given.{IsGiven, told_in}
-use Rattle.dds_participant.specs.declared.given.Given.{Given}
+use Rattle.dds_participant.specs.BatchOutput.{IsGiven, told_in}
+use Rattle.dds_participant.specs.declared.batch_output.BatchOutput.{BatchOutput}
 use Rattle.rtps_text.specs.Batched.{RunsBatch}
 use Rattle.rtps_text.specs.Caches.{AllAccept, AreKept, HasHeard, IsEmpty, StopsLate}
 use Rattle.rtps_text.specs.Entries.{entry_lines, samples_by, samples_text}
@@ -62,14 +62,14 @@ same_run {C} decoding a b same records =
     ap (λ (k : C). run (decoding k) a.config records) (sym same.0) ∙ ap (λ (config : Config). run (decoding b.catalog) config records) (sym same.1)
 
 -- there is a cache for each reader that gave something out
-pub outputs_many : {C V M : Type 0} (f : V → M) (decoding : C → Decoding M) (history : History) (records batch : List (List ℕ)) (engine : EngineView C) (caches : List (CacheView V)) (given : Given V)
+pub outputs_many : {C V M : Type 0} (f : V → M) (decoding : C → Decoding M) (history : History) (records batch : List (List ℕ)) (engine : EngineView C) (caches : List (CacheView V)) (given : BatchOutput V)
     → AreKept f decoding history records engine caches → IsGiven f (run_by decoding engine records) (run_by decoding engine (records ++ batch)) given
     → length given.outputs.items ≡ length caches
 outputs_many f decoding history records batch engine caches given k is =
     is.readers ∙ run_count (decoding engine.catalog) engine.config (records ++ batch) ∙ sym k.count
 
 -- what the readers gave out in a batch was accepted
-pub kept_more : {C V M : Type 0} (f : V → M) (decoding : C → Decoding M) (history : History) (records batch : List (List ℕ)) (before after : EngineView C) (given : Given V) (caches next : List (CacheView V))
+pub kept_more : {C V M : Type 0} (f : V → M) (decoding : C → Decoding M) (history : History) (records batch : List (List ℕ)) (before after : EngineView C) (given : BatchOutput V) (caches next : List (CacheView V))
     → (after.catalog ≡ before.catalog) × (after.config ≡ before.config) → AreKept f decoding history records before caches → StandsAt decoding (records ++ batch) after
     → IsGiven f (run_by decoding before records) (run_by decoding before (records ++ batch)) given → AllAccept given.outputs.items caches next
     → AreKept f decoding history (records ++ batch) after next
@@ -111,7 +111,7 @@ silent_more f decoding history before after caches next number batch more =
     ([], refl, λ records said h count. (append-nil said ∙ h.0, more records h.1))
 
 -- a batch more was read and accepted
-pub sampled_more : {C V M : Type 0} (f : V → M) (decoding : C → Decoding M) (history : History) (first now after old mid : Option (List ℕ)) (n m : ℕ) (end : BatchEnd) (before next final : EngineView C) (given : Given V) (caches later : List (CacheView V)) (again : History)
+pub sampled_more : {C V M : Type 0} (f : V → M) (decoding : C → Decoding M) (history : History) (first now after old mid : Option (List ℕ)) (n m : ℕ) (end : BatchEnd) (before next final : EngineView C) (given : BatchOutput V) (caches later : List (CacheView V)) (again : History)
     → (next.catalog ≡ before.catalog) × (next.config ≡ before.config) → final ≡ next → again ≡ history
     → Progress (IsSilent f decoding history before caches) first now old mid n [] → (r : RunsBatch f decoding now after n m end before next given) → AllAccept given.outputs.items caches later
     → Progress (IsSilent f decoding again final later) first r.reads.here old mid m []
@@ -123,7 +123,7 @@ sampled_more f decoding history first now after old mid n m end before next fina
     (subst (λ k. Progress (IsSilent f decoding history next later) first r.reads.here old mid k []) (sym r.reads.count) more))
 
 -- there is an output for each cache
-pub sampled_many : {C V M : Type 0} (f : V → M) (decoding : C → Decoding M) (history : History) (first now after old mid : Option (List ℕ)) (n m : ℕ) (end : BatchEnd) (before next : EngineView C) (given : Given V) (caches : List (CacheView V))
+pub sampled_many : {C V M : Type 0} (f : V → M) (decoding : C → Decoding M) (history : History) (first now after old mid : Option (List ℕ)) (n m : ℕ) (end : BatchEnd) (before next : EngineView C) (given : BatchOutput V) (caches : List (CacheView V))
     → Progress (IsSilent f decoding history before caches) first now old mid n [] → RunsBatch f decoding now after n m end before next given
     → length given.outputs.items ≡ length caches
 sampled_many f decoding history first now after old mid n m end before next given caches p r =

@@ -17,12 +17,12 @@ use Rattle.rtps_records.proofs.Received.{Grows-nil, Grows-trans}
 use Rattle.rtps_proxy.specs.Replies.{ReplyView}
 use Rattle.rtps_reader.specs.declared.notice.Notice.{Notice}
 use Rattle.rtps_reader.specs.declared.notice.Output.{Output}
-use Rattle.rtps_reader.specs.Notices.{answer_view}
+use Rattle.rtps_reader.specs.Notice.{answer_view}
 use Rattle.rtps_run.specs.World.{ReportView, NoticeOf, World, sent_by}
-use Rattle.rtps_planner.specs.Commuting.{Parts, answers_at, merged, merged_below, notices_at, same_place}
-use Rattle.rtps_planner.specs.Gather.{AreRising, sent_in}
-use Rattle.dds_participant.specs.Given.{AreAnswersAlong, IsGiven, parts_given}
-use Rattle.dds_participant.specs.declared.given.Given.{Given}
+use Rattle.rtps_planner.specs.Commuting.{PartsByRank, answers_at, merged, merged_below, notices_at, same_place}
+use Rattle.rtps_planner.specs.Outputs.{AreRising, sent_in}
+use Rattle.dds_participant.specs.BatchOutput.{AreAnswersAlong, IsGiven, parts_given}
+use Rattle.dds_participant.specs.declared.batch_output.BatchOutput.{BatchOutput}
 use Rattle.rtps_text.specs.Sending.{AreAnswersByPlace, AreBy, HasNoAnswer, IsPlaceOf, Sends, given_sends, goes_out, place_sends, ranks_send, replies_sends, sendings, sends_of, to_each}
 use Rattle.rtps_text.specs.Slices.{first_answers, is_before}
 use Rattle.rtps_text.proofs.Along.{front_next}
@@ -44,7 +44,7 @@ notices_send : {M : Type 0} (rank : ℕ) (ns : List (Notice M)) → sends_of (ma
 notices_send rank [] = refl
 notices_send rank (n ∷ ns) = notices_send rank ns
 
-below_send : {M : Type 0} (parts : Parts M) (place : Place) (count : ℕ)
+below_send : {M : Type 0} (parts : PartsByRank M) (place : Place) (count : ℕ)
     → sends_of (merged_below place parts count) ≡ ranks_send parts.sent place count
 below_send parts place zero = refl
 below_send {M} parts place (suc rank) =
@@ -59,11 +59,11 @@ below_send {M} parts place (suc rank) =
     ∙ answers_send (sent_by (Some rank)) (λ s. refl) (answers_at place (parts.sent rank)))
 
 -- what is sent of parts at a place
-abbrev part_sends : {M : Type 0} → Parts M → ℕ → Place → List (Locator × List ℕ)
+abbrev part_sends : {M : Type 0} → PartsByRank M → ℕ → Place → List (Locator × List ℕ)
 part_sends parts count place =
     replies_sends (answers_at place parts.answers) ++ ranks_send parts.sent place count
 
-parts_send : {M : Type 0} (parts : Parts M) (count : ℕ) (places : List Place)
+parts_send : {M : Type 0} (parts : PartsByRank M) (count : ℕ) (places : List Place)
     → sends_of (merged parts count places) ≡ flat_map (part_sends parts count) places
 parts_send parts count [] = refl
 parts_send {M} parts count (p ∷ ps) =
@@ -77,7 +77,7 @@ parts_send {M} parts count (p ∷ ps) =
     ∙ ap (λ l. part_sends parts count p ++ l) (parts_send parts count ps)
 
 -- whatever values mean, the same is sent
-pub given_send : {V M : Type 0} (f : V → M) (given : Given V)
+pub given_send : {V M : Type 0} (f : V → M) (given : BatchOutput V)
     → sends_of (merged (parts_given f given) (length given.outputs.items) given.places.items)
     ≡ given_sends given
 given_send {V} f given =
@@ -86,7 +86,7 @@ given_send {V} f given =
     ∙ sym (parts_send (parts_given (λ (v : V). v) given) count given.places.items)
 
 -- what a batch gave is by place
-pub given_by_place : {V M : Type 0} (f : V → M) (before after : World M) (given : Given V)
+pub given_by_place : {V M : Type 0} (f : V → M) (before after : World M) (given : BatchOutput V)
     → IsGiven f before after given → AreAnswersByPlace given
 given_by_place f before after given g =
     record { places = g.places; said = g.said; sent = g.answers }
@@ -186,7 +186,7 @@ front_here view place xs left n is cut by =
 
 -- ---- the lists of a batch
 
-rank_by : {V : Type 0} (given : Given V) (place : Place) (rank : ℕ) → IsPlaceOf given place
+rank_by : {V : Type 0} (given : BatchOutput V) (place : Place) (rank : ℕ) → IsPlaceOf given place
     → AreBy place (sent_in given.outputs.items rank)
 rank_by given place rank h = record {
   before = h.before;
@@ -197,7 +197,7 @@ rank_by given place rank h = record {
 }
 
 -- those of one rank more
-pub rank_sent : {V : Type 0} (given : Given V) (place : Place) (first now after : Option (List Traffic))
+pub rank_sent : {V : Type 0} (given : BatchOutput V) (place : Place) (first now after : Option (List Traffic))
     (said : List (Locator × List ℕ)) (outputs : List (Output V Global)) (rank : ℕ)
     (o : Output V Global) (replies : List (Place × Reply Global)) → outputs ≡ given.outputs.items
     → rank < length outputs → o ≡ get_or outputs rank o → replies ≡ o.answers.items
@@ -227,7 +227,7 @@ same_at (x ∷ xs) zero d e below = refl
 same_at (x ∷ xs) (suc i) d e below = same_at xs i d e (omega (arith, below))
 
 -- those at one place more
-pub place_sent : {V : Type 0} (given : Given V) (those : List Place)
+pub place_sent : {V : Type 0} (given : BatchOutput V) (those : List Place)
     (first now after : Option (List Traffic)) (i : ℕ) (other : Place)
     → those ≡ given.places.items → i < length those
     → Sends (IsPlaceOf given (get_or those i other)) now after
@@ -262,7 +262,7 @@ take_past (x ∷ xs) zero past = absurd (omega (arith, past))
 take_past (x ∷ xs) (suc n) past = ap (λ l. x ∷ l) (take_past xs n (omega (arith, past)))
 
 -- those at all places
-pub places_sent : {V : Type 0} (given : Given V) (those : List Place)
+pub places_sent : {V : Type 0} (given : BatchOutput V) (those : List Place)
     (first now : Option (List Traffic)) (i : ℕ) → those ≡ given.places.items → length those ≤ i
     → Sends (AreAnswersByPlace given) first now
     (flat_map (place_sends given) (take i given.places.items))
@@ -286,7 +286,7 @@ no_rank_sends sent place (suc rank) none =
     ap (λ l. l ++ replies_sends (answers_at place (sent rank))) (no_rank_sends sent place rank none)
     ∙ ap (λ l. replies_sends (answers_at place l)) (none rank)
 
-no_place_sends : {V : Type 0} (given : Given V) (places : List Place) → HasNoAnswer given
+no_place_sends : {V : Type 0} (given : BatchOutput V) (places : List Place) → HasNoAnswer given
     → [] ≡ flat_map (place_sends given) places
 no_place_sends given [] h = refl
 no_place_sends given (p ∷ ps) h =
@@ -297,7 +297,7 @@ no_place_sends given (p ∷ ps) h =
     ++ ranks_send (sent_in given.outputs.items) p (length given.outputs.items)) (sym h.said))
 
 -- where there is no answer, nothing is sent
-pub nothing_sends : {V : Type 0} (given : Given V) → HasNoAnswer given → [] ≡ given_sends given
+pub nothing_sends : {V : Type 0} (given : BatchOutput V) → HasNoAnswer given → [] ≡ given_sends given
 nothing_sends {V} given h =
     no_place_sends given given.places.items h
     ∙ sym (parts_send (parts_given (λ (v : V). v) given) (length given.outputs.items)

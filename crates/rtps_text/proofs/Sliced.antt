@@ -16,17 +16,17 @@ use Rattle.rtps_types.specs.declared.traffic.Reply.{Reply}
 use Rattle.rtps_proxy.specs.Replies.{ReplyView}
 use Rattle.rtps_reader.specs.declared.notice.Notice.{Notice}
 use Rattle.rtps_reader.specs.declared.notice.Output.{Output}
-use Rattle.rtps_reader.specs.Notices.{answer_view, notice_view}
+use Rattle.rtps_reader.specs.Notice.{answer_view, notice_view}
 use Rattle.rtps_run.specs.Presentation.{not_after}
 use Rattle.rtps_run.specs.World.{sent_by}
-use Rattle.rtps_planner.specs.Commuting.{Parts, answers_at, merged, merged_below, same_place}
-use Rattle.rtps_planner.specs.Gather.{AreRising, sent_in}
-use Rattle.dds_participant.specs.Given.{parts_given, told_in}
-use Rattle.dds_participant.specs.declared.given.Given.{Given}
+use Rattle.rtps_planner.specs.Commuting.{PartsByRank, answers_at, merged, merged_below, same_place}
+use Rattle.rtps_planner.specs.Outputs.{AreRising, sent_in}
+use Rattle.dds_participant.specs.BatchOutput.{parts_given, told_in}
+use Rattle.dds_participant.specs.declared.batch_output.BatchOutput.{BatchOutput}
 use Rattle.rtps_text.specs.Replayed.{put_line, put_lines}
 use Rattle.rtps_text.specs.Slices.{AreByPlace, AreLeft, AreTexts, IsLeft, IsSliceOf, is_before, merged_lines, places_lines, ranks_below}
 use Rattle.rtps_text.specs.declared.slices.Cursor.{Cursor}
-use Rattle.rtps_text.specs.declared.spelling.Slice.{Slice}
+use Rattle.rtps_text.specs.declared.line_formatter.Slice.{Slice}
 use Rattle.rtps_text.proofs.Along.{places_merged}
 use Rattle.rtps_text.proofs.Fronts.{sent_none, sent_some, told_none, told_some}
 
@@ -199,7 +199,7 @@ list_left view place before p after places xs ys n cut rising is seen left =
     ∙ ap (filter (λ y. not (is_before (place y) p))) (sym seen) ∙ along_left place before p after ys up all
 
 -- the lists of the reader of a rank
-pub left_some : {V M : Type 0} (f : V → M) (given : Given V) (before : List Place) (p : Place) (after : List Place) (rank : ℕ) (outputs : List (Output V Global)) (o : Output V Global)
+pub left_some : {V M : Type 0} (f : V → M) (given : BatchOutput V) (before : List Place) (p : Place) (after : List Place) (rank : ℕ) (outputs : List (Output V Global)) (o : Output V Global)
     (ns : List (Notice V)) (rs : List (Place × Reply Global)) (n m : ℕ)
     → outputs ≡ given.outputs.items → true ≡ nat_lt rank (length outputs) → o ≡ get_or outputs rank o → given.places.items ≡ before ++ p ∷ after → AreByPlace f given
     → ns ≡ o.notices.items → (IsPartitionedBy (λ n. is_before n.place p) ns → drop n ns ≡ filter (λ n. not (is_before n.place p)) ns)
@@ -215,7 +215,7 @@ left_some {V} {M} f given before p after rank outputs o ns rs n m same test e cu
     }
 
 -- where there is no such reader
-pub left_none : {V M : Type 0} (f : V → M) (given : Given V) (p : Place) (after : List Place) (rank : ℕ) (outputs : List (Output V Global))
+pub left_none : {V M : Type 0} (f : V → M) (given : BatchOutput V) (p : Place) (after : List Place) (rank : ℕ) (outputs : List (Output V Global))
     → outputs ≡ given.outputs.items → false ≡ nat_lt rank (length outputs)
     → IsLeft (parts_given f given) (p ∷ after) (record { rank = rank; notices = 0; answers = 0 })
 left_none {V} {M} f given p after rank outputs same test =
@@ -228,7 +228,7 @@ left_none {V} {M} f given p after rank outputs same test =
     }
 
 -- discovery's answers
-pub left_said : {V M : Type 0} (f : V → M) (given : Given V) (before : List Place) (p : Place) (after : List Place) (items : List (Place × Reply Global)) (n : ℕ)
+pub left_said : {V M : Type 0} (f : V → M) (given : BatchOutput V) (before : List Place) (p : Place) (after : List Place) (items : List (Place × Reply Global)) (n : ℕ)
     → items ≡ given.answers.items → given.places.items ≡ before ++ p ∷ after → AreByPlace f given
     → (IsPartitionedBy (λ a. is_before a.0 p) items → drop n items ≡ filter (λ a. not (is_before a.0 p)) items)
     → drop n (map answer_view given.answers.items) ≡ along (λ (s : Place × ReplyView). s.0) (p ∷ after) (map answer_view given.answers.items)
@@ -236,7 +236,7 @@ left_said f given before p after items n same cut by left =
     list_left answer_view (λ (s : Place × ReplyView). s.0) before p after given.places.items items (map answer_view given.answers.items) n cut by.places by.said (ap (map answer_view) (sym same)) left
 
 -- one reader more
-pub left_more : {M : Type 0} (parts : Parts M) (places : List Place) (cs : List Cursor) (c : Cursor) → AllByRecursion (IsLeft parts places) cs → IsLeft parts places c → AllByRecursion (IsLeft parts places) (cs ++ c ∷ [])
+pub left_more : {M : Type 0} (parts : PartsByRank M) (places : List Place) (cs : List Cursor) (c : Cursor) → AllByRecursion (IsLeft parts places) cs → IsLeft parts places c → AllByRecursion (IsLeft parts places) (cs ++ c ∷ [])
 left_more parts places cs c all one = all_both (IsLeft parts places) cs (c ∷ []) all (one, tt)
 
 pub ranks_more : (cs : List Cursor) (c : Cursor) (n : ℕ) → map (λ (c : Cursor). c.rank) cs ≡ ranks_below n → c.rank ≡ n → map (λ (c : Cursor). c.rank) (cs ++ c ∷ []) ≡ ranks_below (n + 1)
@@ -258,7 +258,7 @@ slice_first [] p e = absurd (let bad : ◌≡◌ {A = Option Place} (Some p) Non
 slice_first (x ∷ ps) p e = let same : ◌≡◌ {A = Option Place} (Some p) (Some x) = e in cc
 
 -- what is printed of a slice from there on are its parts, merged
-pub spelled : {V M : Type 0} (text : M → List ℕ) (f : V → M) (given : Given V) (count : ℕ) (slice : List Place) (p : Place) (ps before after : List Place) (said : ℕ) (readers : List Cursor)
+pub spelled : {V M : Type 0} (text : M → List ℕ) (f : V → M) (given : BatchOutput V) (count : ℕ) (slice : List Place) (p : Place) (ps before after : List Place) (said : ℕ) (readers : List Cursor)
     → given.places.items ≡ before ++ (slice ++ after) → slice ≡ p ∷ ps → AreByPlace f given → AreLeft (parts_given f given) count (p ∷ (ps ++ after)) said readers
     → places_lines text (parts_given f given) slice said readers ≡ merged_lines text f given count slice
 spelled text f given count slice p ps before after said readers cut is by left =
@@ -268,7 +268,7 @@ spelled text f given count slice p ps before after said readers cut is by left =
 
 -- ---- texts, one after the other
 
-pub merged-append : {M : Type 0} (parts : Parts M) (count : ℕ) (ps qs : List Place) → merged parts count (ps ++ qs) ≡ merged parts count ps ++ merged parts count qs
+pub merged-append : {M : Type 0} (parts : PartsByRank M) (count : ℕ) (ps qs : List Place) → merged parts count (ps ++ qs) ≡ merged parts count ps ++ merged parts count qs
 merged-append parts count [] qs = refl
 merged-append parts count (p ∷ ps) qs =
     let here = map (sent_by None) (answers_at p parts.answers) ++ merged_below p parts count in
@@ -302,7 +302,7 @@ among (s ∷ slices) (suc n) d l =
     (s.places.now ++ rest.0, rest.1, ap (λ ps. s.places.now ++ ps) rest.2 ∙ sym (append_assoc s.places.now rest.0 (slice ++ rest.1)))
 
 -- each text has the lines of its slice
-pub pieces : {M : Type 0} (text : M → List ℕ) (parts : Parts M) (count : ℕ) (texts : List (Result (Vec ℕ Global) AllocError)) (slices : List Slice) → length texts ≡ length slices
+pub pieces : {M : Type 0} (text : M → List ℕ) (parts : PartsByRank M) (count : ℕ) (texts : List (Result (Vec ℕ Global) AllocError)) (slices : List Slice) → length texts ≡ length slices
     → ((n : ℕ) (d : Result (Vec ℕ Global) AllocError) (s : Slice) → n < length slices → IfOk (slice_index_or texts n d) (λ t. t.items ≡ put_lines text (merged parts count (slice_index_or slices n s).places.now)))
     → AreTexts texts (put_lines text (merged parts count (flat_map (λ (s : Slice). s.places.now) slices)))
 unfolding AreTexts

@@ -10,7 +10,7 @@ use Rattle.rtps_reader.specs.declared.body.Body.TheVariants as body
 use Rattle.rtps_reader.specs.declared.notice.Notice.{Notice}
 use Rattle.rtps_reader.specs.declared.notice.NoticeKind.{NoticeKind}
 use Rattle.rtps_reader.specs.declared.notice.NoticeKind.TheVariants as kind
-use Rattle.rtps_reader.specs.Notices.{kind_view, notice_view}
+use Rattle.rtps_reader.specs.Notice.{kind_view, notice_view}
 use Rattle.dds_cache.specs.Answered.{shown_by}
 use Rattle.dds_cache.specs.Cache.{cached, entry_by, first_by, is_of, kept_by, with_entry, without_oldest}
 use Rattle.dds_cache.specs.Calls.{Done, Accepted, accepted_after}

@@ -8,9 +8,9 @@ use Rattle.rtps_records.specs.Batches.{ReadsBatch}
 use Rattle.rtps_records.specs.declared.batch_end.BatchEnd.{BatchEnd}
 use Rattle.dds_topic.specs.Decoding.{Decoding}
 use Rattle.rtps_run.specs.Standing.{EngineView, StandsAt, run_by}
-use Rattle.dds_participant.specs.Given.{IsGiven}
+use Rattle.dds_participant.specs.BatchOutput.{IsGiven}
 use Rattle.dds_participant.specs.Ports.{NoneAttached}
-use Rattle.dds_participant.specs.declared.given.Given.{Given}
+use Rattle.dds_participant.specs.declared.batch_output.BatchOutput.{BatchOutput}
 use Rattle.rtps_text.specs.Slices.{AreByPlace, AreTexts, all_lines}
 use Rattle.rtps_text.specs.declared.running.RunLines.{RunLines}
 
@@ -25,7 +25,7 @@ pub record IsSameRun {C V U : Type 0} (old new : RunLines C V U) : Type 0 where
 
 -- an engine took these records, and this is what it gave
 pub record TakesRecords {C V M : Type 0} (f : V → M) (decoding : C → Decoding M)
-    (records : List (List ℕ)) (old new : EngineView C) (given : Given V) : Type 0 where
+    (records : List (List ℕ)) (old new : EngineView C) (given : BatchOutput V) : Type 0 where
   pub stands : (earlier : List (List ℕ)) → StandsAt decoding earlier old
       → StandsAt decoding (earlier ++ records) new
   pub gives : (earlier : List (List ℕ)) → StandsAt decoding earlier old
@@ -35,7 +35,7 @@ pub record TakesRecords {C V M : Type 0} (f : V → M) (decoding : C → Decodin
 -- it
 pub record RunsBatch {C V M : Type 0} (f : V → M) (decoding : C → Decoding M)
     (before after : Option (List ℕ)) (n m : ℕ) (end : BatchEnd) (old new : EngineView C)
-    (given : Given V) : Type 0 where
+    (given : BatchOutput V) : Type 0 where
   pub batch : List (List ℕ)
   pub reads : ReadsBatch before after n m batch end
   pub takes : TakesRecords f decoding batch old new given
@@ -48,7 +48,7 @@ MovesBefore old new octets left texts =
 
 -- what is still to be printed: texts that were made, and after them the lines of what a batch gave
 pub record IsDue {V M : Type 0} (text : M → List ℕ) (f : V → M)
-    (texts : List (Result (Vec ℕ Global) AllocError)) (given : Given V) (readers : ℕ)
+    (texts : List (Result (Vec ℕ Global) AllocError)) (given : BatchOutput V) (readers : ℕ)
     (due : List ℕ) : Type 0 where
   pub by_place : AreByPlace f given
   pub made : List ℕ

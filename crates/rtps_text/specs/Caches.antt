@@ -9,7 +9,7 @@ use Rattle.dds_cache.specs.Calls.{Done, accepted_after}
 use Rattle.dds_cache.specs.Standing as shelf
 use Rattle.dds_cache.specs.Standing.{CacheView}
 use Rattle.dds_cache.specs.declared.history.History.{History}
-use Rattle.rtps_reader.specs.Notices.{notice_view}
+use Rattle.rtps_reader.specs.Notice.{notice_view}
 use Rattle.rtps_reader.specs.declared.notice.Notice.{Notice}
 use Rattle.rtps_reader.specs.declared.notice.Output.{Output}
 use Rattle.rtps_run.specs.Seen.{notices_by}

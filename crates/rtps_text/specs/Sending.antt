@@ -5,12 +5,12 @@ use Rattle.rtps_types.specs.declared.locator.Locator.{Locator}
 use Rattle.rtps_types.specs.declared.place.Place.{Place}
 use Rattle.rtps_records.specs.Traffic.{Grows, Sent, Traffic}
 use Rattle.rtps_proxy.specs.Replies.{ReplyView}
-use Rattle.rtps_reader.specs.Notices.{answer_view}
+use Rattle.rtps_reader.specs.Notice.{answer_view}
 use Rattle.rtps_run.specs.World.{ReportView, NoticeOf, AnswerOf}
 use Rattle.rtps_planner.specs.Commuting.{answers_at, merged}
-use Rattle.rtps_planner.specs.Gather.{AreRising, sent_in}
-use Rattle.dds_participant.specs.Given.{AreAnswersAlong, parts_given}
-use Rattle.dds_participant.specs.declared.given.Given.{Given}
+use Rattle.rtps_planner.specs.Outputs.{AreRising, sent_in}
+use Rattle.dds_participant.specs.BatchOutput.{AreAnswersAlong, parts_given}
+use Rattle.dds_participant.specs.declared.batch_output.BatchOutput.{BatchOutput}
 
 -- ---- what a run sends
 
@@ -51,25 +51,25 @@ ranks_send sent place (suc rank) =
     ranks_send sent place rank ++ replies_sends (answers_at place (sent rank))
 
 -- what a batch sends at a place: discovery's answers, and then those of each reader, by rank
-abbrev pub place_sends : {V : Type 0} → Given V → Place → List (Locator × List ℕ)
+abbrev pub place_sends : {V : Type 0} → BatchOutput V → Place → List (Locator × List ℕ)
 place_sends given place =
     replies_sends (answers_at place (map answer_view given.answers.items))
     ++ ranks_send (sent_in given.outputs.items) place (length given.outputs.items)
 
 -- what a batch sends: what the run sends of its parts, merged by place
-abbrev pub given_sends : {V : Type 0} → Given V → List (Locator × List ℕ)
+abbrev pub given_sends : {V : Type 0} → BatchOutput V → List (Locator × List ℕ)
 given_sends {V} given =
     sends_of (merged (parts_given (λ (v : V). v) given) (length given.outputs.items)
     given.places.items)
 
 -- the answers of a batch are by place, and its places rise
-pub record AreAnswersByPlace {V : Type 0} (given : Given V) : Type 0 where
+pub record AreAnswersByPlace {V : Type 0} (given : BatchOutput V) : Type 0 where
   pub places : AreRising given.places.items
   pub said : AreAnswersAlong given.places.items (map answer_view given.answers.items)
   pub sent : (rank : ℕ) → AreAnswersAlong given.places.items (sent_in given.outputs.items rank)
 
 -- so they are, and this is one of the places
-pub record IsPlaceOf {V : Type 0} (given : Given V) (place : Place) : Type 0 where
+pub record IsPlaceOf {V : Type 0} (given : BatchOutput V) (place : Place) : Type 0 where
   pub before : List Place
   pub after : List Place
   pub cut : given.places.items ≡ before ++ place ∷ after
@@ -83,6 +83,6 @@ pub record AreBy (place : Place) (answers : List (Place × ReplyView)) : Type 0 
   pub along : AreAnswersAlong (before ++ place ∷ after) answers
 
 -- a batch has no answer
-pub record HasNoAnswer {V : Type 0} (given : Given V) : Type 0 where
+pub record HasNoAnswer {V : Type 0} (given : BatchOutput V) : Type 0 where
   pub said : given.answers.items ≡ []
   pub sent : (rank : ℕ) → sent_in given.outputs.items rank ≡ []

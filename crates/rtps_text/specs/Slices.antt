@@ -7,12 +7,12 @@ use Rattle.std.specs.declared.vec.Vec.{Vec}
 use Rattle.rtps_types.specs.declared.place.Place.{Place}
 use Rattle.rtps_proxy.specs.Replies.{ReplyView}
 use Rattle.rtps_reader.specs.declared.notice.Notice.{Notice}
-use Rattle.rtps_reader.specs.Notices.{answer_view}
+use Rattle.rtps_reader.specs.Notice.{answer_view}
 use Rattle.rtps_run.specs.World.{NoticeOf}
-use Rattle.rtps_planner.specs.Commuting.{Parts, answers_at, merged, notices_at, same_place}
-use Rattle.rtps_planner.specs.Gather.{AreRising, sent_in}
-use Rattle.dds_participant.specs.Given.{AreAnswersAlong, AreNoticesAlong, parts_given, told_in}
-use Rattle.dds_participant.specs.declared.given.Given.{Given}
+use Rattle.rtps_planner.specs.Commuting.{PartsByRank, answers_at, merged, notices_at, same_place}
+use Rattle.rtps_planner.specs.Outputs.{AreRising, sent_in}
+use Rattle.dds_participant.specs.BatchOutput.{AreAnswersAlong, AreNoticesAlong, parts_given, told_in}
+use Rattle.dds_participant.specs.declared.batch_output.BatchOutput.{BatchOutput}
 use Rattle.rtps_text.specs.declared.slices.Cursor.{Cursor}
 use Rattle.rtps_text.specs.Replayed.{put_lines}
 use Rattle.rtps_lines.specs.Answer.{answer_line}
@@ -51,19 +51,19 @@ lists_after told sent place c = record {
 }
 
 -- the same by the parts of a batch
-abbrev pub part_lines : {M : Type 0} → (M → List ℕ) → Parts M → Place → Cursor → List ℕ
+abbrev pub part_lines : {M : Type 0} → (M → List ℕ) → PartsByRank M → Place → Cursor → List ℕ
 part_lines text parts place c = lists_lines text (parts.told c.rank) (parts.sent c.rank) place c
 
 -- how much of a reader's lists is printed once its lines at a place are
-abbrev pub cursor_after : {M : Type 0} → Parts M → Place → Cursor → Cursor
+abbrev pub cursor_after : {M : Type 0} → PartsByRank M → Place → Cursor → Cursor
 cursor_after parts place c = lists_after (parts.told c.rank) (parts.sent c.rank) place c
 
 -- the lines of all readers at a place
-abbrev pub parts_lines : {M : Type 0} → (M → List ℕ) → Parts M → Place → List Cursor → List ℕ
+abbrev pub parts_lines : {M : Type 0} → (M → List ℕ) → PartsByRank M → Place → List Cursor → List ℕ
 parts_lines text parts place cursors = flat_map (part_lines text parts place) cursors
 
 -- what discovery answers next
-abbrev pub next_said : {M : Type 0} → Parts M → Place → ℕ → List (Place × ReplyView)
+abbrev pub next_said : {M : Type 0} → PartsByRank M → Place → ℕ → List (Place × ReplyView)
 next_said parts place said = first_answers place (drop said parts.answers)
 
 -- nothing of the readers below a count was printed
@@ -72,7 +72,7 @@ starts zero = []
 starts (suc rank) = starts rank ++ record { rank = rank; notices = 0; answers = 0 } ∷ []
 
 -- the lines at these places, one place after the other, where so much was printed before
-abbrev pub places_lines : {M : Type 0} → (M → List ℕ) → Parts M → List Place → ℕ → List Cursor
+abbrev pub places_lines : {M : Type 0} → (M → List ℕ) → PartsByRank M → List Place → ℕ → List Cursor
     → List ℕ
 places_lines text parts [] said readers = []
 places_lines text parts (place ∷ places) said readers =
@@ -81,21 +81,21 @@ places_lines text parts (place ∷ places) said readers =
     (map (cursor_after parts place) readers)
 
 -- the lines of all that a batch gave, of the readers below a count
-abbrev pub all_lines : {V M : Type 0} → (M → List ℕ) → (V → M) → Given V → ℕ → List ℕ
+abbrev pub all_lines : {V M : Type 0} → (M → List ℕ) → (V → M) → BatchOutput V → ℕ → List ℕ
 all_lines text f given count =
     places_lines text (parts_given f given) given.places.items 0 (starts count)
 
 -- ---- slices: neighbouring places, whose lines are made apart
 
 -- the lists of a batch are by place, and its places rise
-pub record AreByPlace {V M : Type 0} (f : V → M) (given : Given V) : Type 0 where
+pub record AreByPlace {V M : Type 0} (f : V → M) (given : BatchOutput V) : Type 0 where
   pub places : AreRising given.places.items
   pub said : AreAnswersAlong given.places.items (map answer_view given.answers.items)
   pub notices : (rank : ℕ) → AreNoticesAlong given.places.items (told_in f given.outputs.items rank)
   pub answers : (rank : ℕ) → AreAnswersAlong given.places.items (sent_in given.outputs.items rank)
 
 -- the lines at these places: the parts of a batch, merged
-abbrev pub merged_lines : {V M : Type 0} → (M → List ℕ) → (V → M) → Given V → ℕ → List Place → List ℕ
+abbrev pub merged_lines : {V M : Type 0} → (M → List ℕ) → (V → M) → BatchOutput V → ℕ → List Place → List ℕ
 merged_lines text f given count places = put_lines text (merged (parts_given f given) count places)
 
 -- these places are neighbours among those
@@ -107,7 +107,7 @@ abbrev pub is_before : Place → Place → Bool
 is_before a b = nat_lt a.datagram b.datagram || (a.datagram == b.datagram && nat_lt a.submessage b.submessage)
 
 -- what is left to be printed of a reader's lists is at these places
-pub record IsLeft {M : Type 0} (parts : Parts M) (places : List Place) (c : Cursor) : Type 0 where
+pub record IsLeft {M : Type 0} (parts : PartsByRank M) (places : List Place) (c : Cursor) : Type 0 where
   pub told : drop c.notices (parts.told c.rank) ≡ flat_map (λ p. notices_at p (parts.told c.rank)) places
   pub sent : drop c.answers (parts.sent c.rank) ≡ flat_map (λ p. answers_at p (parts.sent c.rank)) places
 
@@ -117,7 +117,7 @@ ranks_below zero = []
 ranks_below (suc rank) = ranks_below rank ++ rank ∷ []
 
 -- what is left of all lists is at these places
-pub record AreLeft {M : Type 0} (parts : Parts M) (count : ℕ) (places : List Place) (said : ℕ)
+pub record AreLeft {M : Type 0} (parts : PartsByRank M) (count : ℕ) (places : List Place) (said : ℕ)
     (readers : List Cursor) : Type 0 where
   pub answers : drop said parts.answers ≡ flat_map (λ p. answers_at p parts.answers) places
   pub ranks : map (λ (c : Cursor). c.rank) readers ≡ ranks_below count

@@ -8,18 +8,18 @@ ghost use Rattle.rtps_records.specs.declared.fault.RunFault.TheVariants.{CannotW
 ghost use Rattle.rtps_text.specs.Ahead.{ReadsAhead};
 ghost use Rattle.rtps_text.specs.Slices.{AreTexts};
 
-use crate::held::Held;
+use crate::pipeline::ReadAhead;
 use rtps_records::{Lines, Records, RunFault};
 use std::io::{Read, Write};
 use std::thread;
 use std::thread::Threads;
 
-/// Writes texts and reads the next batch on a thread of its own, as [`Held::write_and_read`] does,
+/// Writes texts and reads the next batch on a thread of its own, as [`ReadAhead::write_and_read`] does,
 /// while the first call is made on another thread and the second one on this; gives what came of
 /// the writing and the reading, and what each call gave.
 pub(crate) fn write_and_read_beside<R, W, T, F, G, X, Y>(
     rt: &T,
-    held: &mut Held,
+    held: &mut ReadAhead,
     records: &mut Records<'_, R, ()>,
     lines: &mut Lines<'_, W>,
     calls: (F, G),

@@ -1,31 +1,31 @@
 //! Runs over record files and over the datagrams of a network, and the text that is printed of them.
 #![tactic(auto)]
 
-mod answering;
 mod beside;
 mod caches;
 mod closing;
 mod dumping;
-mod held;
+mod line_formatter;
 mod listening;
 mod live;
 mod live_fault;
+mod pipeline;
 mod printer;
 mod printing;
 mod replaying;
 mod running;
 mod sampling;
+mod sending;
 mod setup;
 mod slices;
-mod spelling;
 mod texts;
 
-pub use answering::send_answers;
 pub use dumping::{dump, dump_in};
 pub use listening::listen;
 pub use live_fault::LiveFault;
 pub use replaying::replay;
 pub use sampling::samples;
+pub use sending::send_answers;
 pub use setup::{CacheSetup, LiveSetup, Pace, Setup};
 
 #[cfg(test)]

@@ -7,9 +7,9 @@ ghost use Rattle.rtps_text.specs.Live.{GoesOn, IsLive, StopsShort, TakesTurns, T
 ghost use Rattle.rtps_text.specs.Batched.{IsSameRun};
 ghost use Rattle.rtps_text.specs.Replayed.{HasSaid};
 
-use crate::answering::send_answers;
 use crate::printer::Printer;
 use crate::running::RunLines;
+use crate::sending::send_answers;
 use crate::texts::Texts;
 use dds_topic::TextCatalog;
 use rtps_records::{Batch, Exchange, Lines, ReceiveEnd, RunFault};

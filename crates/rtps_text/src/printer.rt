@@ -13,14 +13,14 @@ ghost use Rattle.rtps_text.specs.Batched.{IsDue, IsSameRun, MovesBefore, TakesRe
 ghost use Rattle.rtps_text.specs.Slices.{AreByPlace, AreTexts, all_lines, merged_lines};
 
 use crate::beside::write_and_read_beside;
-use crate::held::Turn;
+use crate::line_formatter::LineFormatter;
+use crate::pipeline::Pipeline;
 use crate::printing::print_places;
 use crate::running::RunLines;
 use crate::setup::Pace;
 use crate::slices::Cursors;
-use crate::spelling::Spelling;
 use crate::texts::Texts;
-use dds_participant::Given;
+use dds_participant::BatchOutput;
 use dds_topic::TextCatalog;
 use rtps_lines::LastLine;
 use rtps_records::{Lines, Records, RunFault};
@@ -39,7 +39,7 @@ pub(crate) struct Printer<'c, C: TextCatalog> {
     /// How many readers there are.
     pub readers: u32,
     /// What workers format while the next batch is run. Its lists serve for the batch after that.
-    given: Given<C::Value>,
+    given: BatchOutput<C::Value>,
     /// What the last line began with that was formatted on this thread.
     last: LastLine,
     /// How many workers format what a batch gave.
@@ -60,7 +60,7 @@ where
         Printer {
             catalog,
             readers: run.participant.readers(),
-            given: Given::new(run.alloc),
+            given: BatchOutput::new(run.alloc),
             last: LastLine::none(run.alloc),
             pace: run.pace,
             alloc: run.alloc,
@@ -77,7 +77,7 @@ where
         &mut self,
         rt: &T,
         mut run: RunLines<C>,
-        turn: &mut Turn,
+        turn: &mut Pipeline,
         records: &mut Records<'_, R, ()>,
         lines: &mut Lines<'_, W>,
     ) -> Result<RunLines<C>, RunFault>
@@ -127,7 +127,7 @@ where
     pub(crate) fn print_last<W: Write, T: Threads + Sync>(
         &mut self,
         rt: &T,
-        given: &Given<C::Value>,
+        given: &BatchOutput<C::Value>,
         texts: &mut Texts,
         lines: &mut Lines<'_, W>,
     ) -> Result<(), RunFault>
@@ -156,7 +156,7 @@ where
     }
 
     /// How many workers format what a batch gave.
-    fn workers(&self, given: &Given<C::Value>) -> usize
+    fn workers(&self, given: &BatchOutput<C::Value>) -> usize
         ensures { 1 ≤ result }
     {
         self.pace.workers_for(given.places.len(), self.readers)
@@ -168,7 +168,7 @@ where
         &mut self,
         rt: &T,
         mut run: RunLines<C>,
-        turn: &mut Turn,
+        turn: &mut Pipeline,
         records: &mut Records<'_, R, ()>,
         lines: &mut Lines<'_, W>,
     ) -> Result<RunLines<C>, RunFault>
@@ -199,7 +199,7 @@ where
             (W.contents lines.old.writer.now) (W.contents lines.new.writer.now)
             (lines.old.text.items ++ due)) }
     {
-        let Turn { batch, held } = turn;
+        let Pipeline { batch, held } = turn;
         mem::swap(batch, &mut held.next);
         mem::swap(&mut run.given, &mut self.given);
         let spare = mem::replace(&mut held.texts.spare, Vec::new(self.alloc));
@@ -237,13 +237,13 @@ where
     }
 
     /// How lists that a batch gave are formatted.
-    fn spelling<'g>(&self, given: &'g Given<C::Value>) -> Spelling<'g, C>
+    fn spelling<'g>(&self, given: &'g BatchOutput<C::Value>) -> LineFormatter<'g, C>
     where
         'c: 'g,
         ensures { (result.catalog.now ≡ self.now.catalog.now)
             × (result.given.now ≡ given.now) × (result.readers ≡ self.now.readers) }
     {
-        Spelling {
+        LineFormatter {
             alloc: self.alloc,
             catalog: self.catalog,
             given,
@@ -254,7 +254,7 @@ where
     /// Spells what a batch gave on this thread, and writes it as it fills.
     fn print_alone<W: Write>(
         &mut self,
-        given: &Given<C::Value>,
+        given: &BatchOutput<C::Value>,
         lines: &mut Lines<'_, W>,
     ) -> Result<(), RunFault>
         ensures catalog { self.new.catalog.now ≡ self.old.catalog.now }

@@ -3,11 +3,11 @@
 ghost use Rattle.std.specs.Prelude.{◌≡◌, ◌⊎◌, ◌++◌, IfErr, List, OnErr, OnOk, ℕ};
 ghost use Rattle.rtps_records.specs.Runs.{Moves, PutsFront};
 ghost use Rattle.rtps_records.specs.declared.fault.RunFault.TheVariants.{CannotWrite, NoMemory};
-ghost use Rattle.dds_participant.specs.Given.{parts_given};
+ghost use Rattle.dds_participant.specs.BatchOutput.{parts_given};
 ghost use Rattle.rtps_text.specs.Slices.{AreTexts, places_lines};
 
 use crate::slices::Cursors;
-use dds_participant::Given;
+use dds_participant::BatchOutput;
 use dds_topic::TextCatalog;
 use rtps_lines::LastLine;
 use rtps_records::{Lines, RunFault};
@@ -24,7 +24,7 @@ pub(crate) fn print_places<C: TextCatalog, W: Write, B: Allocator + Copy>(
     lines: &mut Lines<'_, W>,
     last: &mut LastLine<B>,
     catalog: &C,
-    given: &Given<C::Value>,
+    given: &BatchOutput<C::Value>,
     cursors: &mut Cursors,
 ) -> Result<(), RunFault>
     ensures same_writer { lines.new.writer.ghost_name ≡ lines.old.writer.ghost_name }

@@ -6,10 +6,10 @@ ghost use Rattle.rtps_records.specs.Runs.{Stops, WroteAll};
 ghost use Rattle.dds_participant.specs.Ports.{NoneAttached};
 ghost use Rattle.rtps_text.specs.Replayed.{HasSaid, replay_text, text_by};
 ghost use Rattle.rtps_records.specs.declared.fault.RunFault.TheVariants.{NoMemory};
-ghost use Rattle.dds_participant.specs.Given.{HoldsNothing};
+ghost use Rattle.dds_participant.specs.BatchOutput.{HoldsNothing};
 ghost use Rattle.rtps_text.specs.Batched.{IsSameRun, RunsBatch};
 
-use crate::held::Turn;
+use crate::pipeline::Pipeline;
 use crate::printer::Printer;
 use crate::running::RunLines;
 use crate::setup::Setup;
@@ -148,7 +148,7 @@ where
         fault (R.remaining records.old.reader.now) (R.remaining records.new.reader.now)
         (W.contents lines.old.writer.now) (W.contents lines.new.writer.now)) }
 {
-    let mut turn = Turn::new(run.alloc, run.pace)?;
+    let mut turn = Pipeline::new(run.alloc, run.pace)?;
     records.open()?;
     turn.held.read(records)?;
     while turn.held.end == BatchEnd::More {

@@ -8,14 +8,14 @@ ghost use Rattle.rtps_records.specs.RecordFile.{IsRecord};
 ghost use Rattle.rtps_records.specs.Runs.{Closes, ClosesNot};
 ghost use Rattle.rtps_records.specs.Text.{Ends};
 ghost use Rattle.rtps_run.specs.Standing.{StandsAt, run_by};
-ghost use Rattle.dds_participant.specs.Given.{HoldsNothing, IsGiven};
+ghost use Rattle.dds_participant.specs.BatchOutput.{HoldsNothing, IsGiven};
 ghost use Rattle.dds_participant.specs.Ports.{NoneAttached};
 ghost use Rattle.rtps_text.specs.Replayed.{HasSaid, text_by};
 ghost use Rattle.rtps_text.specs.Batched.{IsSameRun, TakesRecords};
 
 use crate::closing::push_summary;
 use crate::setup::{Pace, Setup};
-use dds_participant::{Given, Participant, Workers};
+use dds_participant::{BatchOutput, Participant, Workers};
 use dds_topic::TextCatalog;
 use rtps_records::{Batch, Lines, RunFault};
 use rtps_shards::NoGate;
@@ -29,7 +29,7 @@ use std::thread::Threads;
 pub(crate) struct RunLines<C: TextCatalog> {
     pub participant: Participant<C>,
     /// What the last batch gave.
-    pub given: Given<C::Value>,
+    pub given: BatchOutput<C::Value>,
     /// Where what a batch gives is kept.
     pub alloc: Global,
     /// How the run is cut, and shared among workers.
@@ -63,7 +63,7 @@ where
         };
         Ok(RunLines {
             participant,
-            given: Given::new(alloc),
+            given: BatchOutput::new(alloc),
             alloc,
             pace,
             summary,

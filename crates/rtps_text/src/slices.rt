@@ -3,13 +3,13 @@
 ghost use Rattle.std.specs.Prelude.{◌≡◌, ◌+◌, ◌≤◌, ◌++◌, ◌∷◌, [], IfOk, List, OnOk, drop, false, filter, length, map, not};
 ghost use Rattle.std.specs.Io.{StartsWith};
 ghost use Rattle.std.specs.List.Sorted.{IsPartitionedBy};
-ghost use Rattle.rtps_reader.specs.Notices.{answer_view, notice_view};
+ghost use Rattle.rtps_reader.specs.Notice.{answer_view, notice_view};
 ghost use Rattle.rtps_run.specs.World.{NoticeOf};
-ghost use Rattle.dds_participant.specs.Given.{parts_given};
+ghost use Rattle.dds_participant.specs.BatchOutput.{parts_given};
 ghost use Rattle.rtps_text.specs.Replayed.{put_lines};
 ghost use Rattle.rtps_text.specs.Slices.{AreByPlace, AreLeft, IsLeft, is_before, answer_lines, cursor_after, first_answers, first_notices, lists_after, lists_lines, next_said, part_lines, parts_lines, starts};
 
-use dds_participant::Given;
+use dds_participant::BatchOutput;
 use dds_topic::TextCatalog;
 use rtps_lines::{LastLine, push_answer, push_notice};
 use rtps_reader::{Notice, Output};
@@ -142,7 +142,7 @@ fn is_answered(answers: &[(Place, Reply)], place: Place) -> bool
 
 impl Cursor {
     /// All that the reader of a rank gave before a place is printed.
-    fn at<C: TextCatalog>(rank: u32, given: &Given<C::Value>, place: Place) -> Cursor
+    fn at<C: TextCatalog>(rank: u32, given: &BatchOutput<C::Value>, place: Place) -> Cursor
         ensures rank { result.rank ≡ rank }
         ensures left { (before after : List Place) → given.now.places.items ≡ before ++ place ∷ after
             → AreByPlace C.view given.now
@@ -200,7 +200,7 @@ impl Cursor {
         out: &mut Vec<u8, A>,
         last: &mut LastLine<B>,
         catalog: &C,
-        given: &Given<C::Value>,
+        given: &BatchOutput<C::Value>,
         place: Place,
     ) -> Result<Cursor, AllocError>
         ensures lines { OnOk result (out.new.items ≡ out.old.items ++
@@ -238,7 +238,7 @@ impl Cursors {
     /// All that a batch gave before a place is printed.
     pub(crate) fn at<C: TextCatalog>(
         alloc: Global,
-        given: &Given<C::Value>,
+        given: &BatchOutput<C::Value>,
         readers: u32,
         place: Place,
     ) -> Result<Cursors, AllocError>
@@ -262,7 +262,7 @@ impl Cursors {
         out: &mut Vec<u8, A>,
         last: &mut LastLine<B>,
         catalog: &C,
-        given: &Given<C::Value>,
+        given: &BatchOutput<C::Value>,
         place: Place,
     ) -> Result<(), AllocError>
         ensures said { OnOk result (self.new.said ≡ self.old.said

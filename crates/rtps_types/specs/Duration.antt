@@ -1,4 +1,4 @@
--- Lengths of time are ordered by what they last (DDSI-RTPS 9.3.2.3).
+-- Durations are ordered by their lengths (DDSI-RTPS 9.3.2.3).
 use Rattle.std.specs.declared.cmp.Ordering.{Ordering}
 use Rattle.std.specs.Ordering.{int_cmp, nat_cmp, ordering_then}
 use Rattle.rtps_types.specs.declared.time.Duration.{Duration}

@@ -1,9 +1,9 @@
--- The number that is nearest to a value: the value itself, wherever a change may have it.
+-- The number that is nearest to a value: the value itself, if a change may have it.
 use Rattle.std.specs.Prelude.{ℕ, max, min, ◌-◌, ◌^◌}
 use Rattle.std.proofs.Math.Nat.{le-add_right, le-max_left, max-le, min-le_right}
 use Rattle.rtps_types.specs.declared.number.Number.{Number}
 
--- the value itself where a change may have that number, else the nearest one that it may have
+-- the value itself if a change may have that number, else the nearest number that it may have
 abbrev pub nearest : ℕ → Number
 nearest n = record {
   value = max 1 (min n (2 ^ 62));

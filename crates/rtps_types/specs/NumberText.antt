@@ -10,14 +10,13 @@ use Rattle.rtps_types.specs.declared.text.TextFault.TheVariants.{Number, Separat
 use Rattle.rtps_types.specs.SequenceNumber.{IsNumber}
 use Rattle.rtps_types.specs.Text.{before, behind, has}
 
--- the number that digits write, where there are some, nothing else is there, and the number is in
--- its range
+-- the number that a text of digits stands for, if it has digits only and the number is in range
 abbrev pub decimal_in : ℕ → ℕ → List ℕ → Result ℕ TextFault
 decimal_in least greatest text =
     if list_all is_ascii_digit text && (nat_lt 0 (length text) && (nat_le least (digits_value 10 text) && nat_le (digits_value 10 text) greatest))
     then Ok (digits_value 10 text) else Err Number
 
--- the datagram and the submessage with a colon between
+-- the datagram and the submessage with a colon between them
 abbrev pub place_text : Place → List ℕ
 place_text p = decimal p.datagram ++ (codes ":" ++ decimal p.submessage)
 
@@ -25,19 +24,19 @@ place_text p = decimal p.datagram ++ (codes ":" ++ decimal p.submessage)
 abbrev pub number_in : List ℕ → Result ℕ TextFault
 number_in text = decimal_in 1 (2 ^ 62) text
 
--- a place of two numbers, of which a fault of the first one counts first
+-- a place, from its two numbers; a fault of the first number is reported first
 abbrev pub place_of : Result ℕ TextFault → Result ℕ TextFault → Result Place TextFault
 place_of (Ok datagram) (Ok submessage) = Ok record { datagram = datagram; submessage = submessage }
 place_of (Ok datagram) (Err e) = Err e
 place_of (Err e) submessage = Err e
 
--- 64 bits, the first colon, and 32 bits
+-- a number of 64 bits, the first colon, and a number of 32 bits
 abbrev pub place_in : List ℕ → Result Place TextFault
 place_in text =
     if has 58 text then place_of (decimal_in 0 (2 ^ 64 - 1) (before 58 text)) (decimal_in 0 (2 ^ 32 - 1) (behind 58 text))
     else Err Separator
 
--- what is shown of a number and of a place is read as the same one
+-- the text of a number and of a place is parsed as the same one
 abbrev pub ShownNumbersAreRead : Type 0
 ShownNumbersAreRead = (n : ℕ) → IsNumber n → number_in (decimal n) ≡ Ok n
 

@@ -1,4 +1,4 @@
--- Identities are ordered as their octets, the first of them first (DDSI-RTPS 9.3.1 maps them to
+-- Identities are ordered as their octets, the first one first (DDSI-RTPS 9.3.1 maps them to
 -- octets).
 use Rattle.std.specs.Prelude.{ℕ, List, ◌++◌}
 use Rattle.std.specs.declared.cmp.Ordering.{Ordering}
@@ -14,6 +14,6 @@ octet_order = slice_cmp nat_cmp
 abbrev pub guid_octets : Guid → List ℕ
 guid_octets g = g.prefix.0 ++ g.entity.0
 
--- the same of two endpoints: by their participants, and in one participant by their own
+-- the order of two endpoints: by their participants' prefixes, and then by their entity ids
 abbrev pub guid_order : Guid → Guid → Ordering
 guid_order a b = ordering_then (octet_order a.prefix.0 b.prefix.0) (octet_order a.entity.0 b.entity.0)

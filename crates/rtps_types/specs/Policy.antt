@@ -1,4 +1,5 @@
--- The policies that readers and writers are compared by (DDS 1.4, 2.2.3, and the ids of 2.3.3).
+-- The policies that are compared between readers and writers (DDS 1.4, 2.2.3, and the ids of
+-- 2.3.3).
 use Rattle.std.specs.Prelude.{ℕ, ◌==◌, Bool, List, codes}
 use Rattle.rtps_types.specs.declared.policy.PolicyId.{PolicyId}
 use Rattle.rtps_types.specs.declared.policy.PolicyId.TheVariants as policy
@@ -14,7 +15,7 @@ policy_id policy.Liveliness = 8
 policy_id policy.Reliability = 11
 policy_id policy.DestinationOrder = 12
 
--- two policies are the same one
+-- two policies are the same
 abbrev pub same_policy : PolicyId → PolicyId → Bool
 same_policy p q = policy_id p == policy_id q
 

@@ -1,5 +1,5 @@
--- Moments as text (DDSI-RTPS 9.3.2.1), two words of 32 bits in hex with a dot between; and lengths
--- of time in decimal.
+-- Timestamps as text (DDSI-RTPS 9.3.2.1): two words of 32 bits in hex with a dot between them; and
+-- durations in decimal.
 use Rattle.std.specs.Prelude.{◌≡◌, ◌<◌, ℕ, suc, ◌+◌, ◌-◌, ◌*◌, ◌/◌, ◌%◌, ◌^◌, ◌==◌, ◌&&◌, false, ℤ, pos, negsuc, List, [], ◌++◌, codes, Result, Ok, Err, if◌then◌else◌}
 use Rattle.std.specs.Ordering.{int_eq}
 use Rattle.std.specs.Fmt.{decimal, format_spec, padded_integral}
@@ -11,19 +11,19 @@ use Rattle.rtps_types.specs.declared.text.TextFault.{TextFault}
 use Rattle.rtps_types.specs.declared.text.TextFault.TheVariants.{Separator}
 use Rattle.rtps_types.specs.Text.{before, behind, has, made_of, octets_in}
 
--- the eight digits of a word, the highest first
+-- the eight hex digits of a word, the highest first
 abbrev pub word_text : ℕ → List ℕ
 word_text n = encode_lower (to_be_bytes w32 n)
 
--- the seconds and the fraction with a dot between
+-- the seconds and the fraction with a dot between them
 abbrev pub moment_text : Timestamp → List ℕ
 moment_text t = word_text t.seconds ++ (codes "." ++ word_text t.fraction)
 
--- the word that eight digits of either case write
+-- the word that eight hex digits in either case stand for
 abbrev pub word_in : List ℕ → Result ℕ TextFault
 word_in text = made_of (from_be_bytes w32) (octets_in 4 text)
 
--- a moment of two words, of which a fault of the first one counts first
+-- a timestamp, from its two words; a fault of the first word is reported first
 abbrev pub moment_of : Result ℕ TextFault → Result ℕ TextFault → Result Timestamp TextFault
 moment_of (Ok seconds) (Ok fraction) = Ok record { seconds = seconds; fraction = fraction }
 moment_of (Ok seconds) (Err e) = Err e
@@ -33,7 +33,7 @@ moment_of (Err e) fraction = Err e
 abbrev pub moment_in : List ℕ → Result Timestamp TextFault
 moment_in text = if has 46 text then moment_of (word_in (before 46 text)) (word_in (behind 46 text)) else Err Separator
 
--- what is shown of a moment is read as the same one
+-- the text of a timestamp is parsed as the same timestamp
 abbrev pub ShownMomentsAreRead : Type 0
 ShownMomentsAreRead = (t : Timestamp) → t.seconds < 2 ^ 32 → t.fraction < 2 ^ 32 → moment_in (moment_text t) ≡ Ok t
 
@@ -45,12 +45,12 @@ seconds_text n = decimal (n / 10 ^ 9) ++ codes "." ++ padded_integral (format_sp
 abbrev pub nanoseconds : ℕ → ℕ
 nanoseconds fraction = fraction * 10 ^ 9 / 2 ^ 32
 
--- seconds and what is added to them
+-- seconds, with nanoseconds added to them
 abbrev pub sum_text : ℤ → ℕ → List ℕ
 sum_text (pos n) added = seconds_text (n * 10 ^ 9 + added)
 sum_text (negsuc n) added = codes "-" ++ seconds_text (suc n * 10 ^ 9 - added)
 
--- a length of time in seconds; the greatest one is infinite (DDSI-RTPS 9.3.2.3)
+-- a duration in seconds; the greatest one is infinite (DDSI-RTPS 9.3.2.3)
 abbrev pub duration_text : Duration → List ℕ
 duration_text d =
     if int_eq d.seconds (pos (2 ^ 31 - 1)) && d.fraction == 2 ^ 32 - 1 then codes "infinite"

@@ -1,11 +1,11 @@
-//! Numbers in octets, in either byte order (DDSI-RTPS 9.3.2, 9.4.2.5).
+//! Numbers and octets at a place in a slice, in either byte order (DDSI-RTPS 9.3.2, 9.4.2.5).
 
 ghost use Rattle.std.specs.Prelude.{◌≡◌, ◌+◌, ◌≤◌, length, Some};
 ghost use Rattle.rtps_types.specs.Field.{number_at, octets_at, put_at, sequence_number_at, spelled, spelled_sn, StaysOutside};
 
 use byteorder::{BigEndian, ByteOrder, LittleEndian};
 
-/// The order of a number's octets, which flag E of a submessage says (DDSI-RTPS 9.4.5.1.2).
+/// The byte order of numbers, which flag E of a submessage states (DDSI-RTPS 9.4.5.1.2).
 #[derive(Clone, Copy, Debug, PartialEq, Eq)]
 pub enum Endian {
     /// The highest octet first.
@@ -14,8 +14,8 @@ pub enum Endian {
     Little,
 }
 
-/// The 16-bit number in the two octets at `at`, counted from 0, or `None` where they are not all
-/// there (DDSI-RTPS 9.3.2).
+/// Returns the 16-bit number in the two octets at `at`, counted from 0, or `None` if not all of
+/// them are there (DDSI-RTPS 9.3.2).
 pub fn get_u16(octets: &[u8], at: usize, endian: Endian) -> Option<u16>
     ensures { result ≡ number_at endian 2 octets.now at }
 {
@@ -29,8 +29,8 @@ pub fn get_u16(octets: &[u8], at: usize, endian: Endian) -> Option<u16>
     })
 }
 
-/// The 32-bit number in the four octets at `at`, or `None` where they are not all there (DDSI-RTPS
-/// 9.3.2).
+/// Returns the 32-bit number in the four octets at `at`, or `None` if not all of them are there
+/// (DDSI-RTPS 9.3.2).
 pub fn get_u32(octets: &[u8], at: usize, endian: Endian) -> Option<u32>
     ensures { result ≡ number_at endian 4 octets.now at }
 {
@@ -44,9 +44,9 @@ pub fn get_u32(octets: &[u8], at: usize, endian: Endian) -> Option<u32>
     })
 }
 
-/// The 64-bit number in the eight octets at `at`, or `None` where they are not all there.
+/// Returns the 64-bit number in the eight octets at `at`, or `None` if not all of them are there.
 ///
-/// A sequence number is not one of these in little-endian order: see [`get_sn`].
+/// A little-endian sequence number isn't encoded like this: see [`get_sn`].
 pub fn get_u64(octets: &[u8], at: usize, endian: Endian) -> Option<u64>
     ensures { result ≡ number_at endian 8 octets.now at }
 {
@@ -60,8 +60,9 @@ pub fn get_u64(octets: &[u8], at: usize, endian: Endian) -> Option<u64>
     })
 }
 
-/// The sequence number in the eight octets at `at`, or `None` where they are not all there: a
-/// signed high half and then an unsigned low half, in either byte order (DDSI-RTPS 9.4.2.5).
+/// Returns the sequence number in the eight octets at `at`, or `None` if not all of them are there.
+/// It is a signed high half and then an unsigned low half, each in the byte order `endian`
+/// (DDSI-RTPS 9.4.2.5).
 pub fn get_sn(octets: &[u8], at: usize, endian: Endian) -> Option<i64>
     ensures { result ≡ sequence_number_at endian octets.now at }
 {
@@ -70,7 +71,7 @@ pub fn get_sn(octets: &[u8], at: usize, endian: Endian) -> Option<i64>
     Some((u64::from(high) * (1 << 32) + u64::from(low)).cast_signed())
 }
 
-/// The `N` octets at `at`, or `None` where they are not all there.
+/// Returns the `N` octets at `at`, or `None` if not all of them are there.
 pub fn get_octets<const N: usize>(octets: &[u8], at: usize) -> Option<[u8; N]>
     ensures { result ≡ octets_at N octets.now at }
 {
@@ -87,7 +88,7 @@ pub fn put_octets(octets: &mut [u8], at: usize, field: &[u8])
     octets[at..at + field.len()].copy_from_slice(field);
 }
 
-/// Puts a 16-bit number into the two octets at `at`, which have to be there (DDSI-RTPS 9.3.2).
+/// Writes a 16-bit number into the two octets at `at`, which have to be there (DDSI-RTPS 9.3.2).
 pub fn put_u16(octets: &mut [u8], at: usize, endian: Endian, value: u16)
     requires { at + 2 ≤ length octets.old }
     ensures octets { octets.new ≡ put_at at (spelled endian 2 value) octets.old }
@@ -102,7 +103,7 @@ pub fn put_u16(octets: &mut [u8], at: usize, endian: Endian, value: u16)
     put_octets(octets, at, &field);
 }
 
-/// Puts a 32-bit number into the four octets at `at`, which have to be there (DDSI-RTPS 9.3.2).
+/// Writes a 32-bit number into the four octets at `at`, which have to be there (DDSI-RTPS 9.3.2).
 pub fn put_u32(octets: &mut [u8], at: usize, endian: Endian, value: u32)
     requires { at + 4 ≤ length octets.old }
     ensures octets { octets.new ≡ put_at at (spelled endian 4 value) octets.old }
@@ -117,7 +118,7 @@ pub fn put_u32(octets: &mut [u8], at: usize, endian: Endian, value: u32)
     put_octets(octets, at, &field);
 }
 
-/// Puts a 64-bit number into the eight octets at `at`, which have to be there (DDSI-RTPS 9.3.2).
+/// Writes a 64-bit number into the eight octets at `at`, which have to be there (DDSI-RTPS 9.3.2).
 pub fn put_u64(octets: &mut [u8], at: usize, endian: Endian, value: u64)
     requires { at + 8 ≤ length octets.old }
     ensures octets { octets.new ≡ put_at at (spelled endian 8 value) octets.old }
@@ -132,8 +133,8 @@ pub fn put_u64(octets: &mut [u8], at: usize, endian: Endian, value: u64)
     put_octets(octets, at, &field);
 }
 
-/// Puts a sequence number into the eight octets at `at`, which have to be there: its high half
-/// first in either order (DDSI-RTPS 9.4.2.5).
+/// Writes a sequence number into the eight octets at `at`, which have to be there. Its high half is
+/// the first in either byte order (DDSI-RTPS 9.4.2.5).
 pub fn put_sn(octets: &mut [u8], at: usize, endian: Endian, value: i64)
     requires { at + 8 ≤ length octets.old }
     ensures octets { octets.new ≡ put_at at (spelled_sn endian value) octets.old }

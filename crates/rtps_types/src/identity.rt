@@ -1,5 +1,5 @@
-//! Who speaks: participants, endpoints and instances. All of these are octets that no byte order
-//! touches, and they are ordered as their octets are, the first one first.
+//! Identities of participants, endpoints and instances. They don't depend on the byte order, and
+//! are ordered as their octets, the first one first.
 
 ghost use Rattle.std.proofs.Common.{rules};
 ghost use Rattle.std.specs.Cmp.{partial_order_from_own_ties};
@@ -10,7 +10,7 @@ ghost use Rattle.rtps_types.specs.Order.{guid_order, octet_order};
 use crate::order::{order_of_four, order_of_sixteen, order_of_twelve};
 use std::cmp::Ordering;
 
-/// The participant's part of a [`Guid`] (DDSI-RTPS 8.2.4.2, 9.3.1.1).
+/// The prefix of a [`Guid`], which is its participant's (DDSI-RTPS 8.2.4.2, 9.3.1.1).
 #[derive(Clone, Copy, PartialEq, Eq, Hash)]
 pub struct GuidPrefix(pub [u8; 12]);
 

@@ -1,5 +1,5 @@
-//! Laws of the values. What is said of an order is what `Ord` itself answers, so it holds of every
-//! sort, map and set.
+//! Laws about the values. The orders here are those of `Ord`, so they hold for every sort, map and
+//! set.
 
 ghost use Rattle.std.specs.Prelude.{◌≡◌};
 ghost use Rattle.rtps_types.specs.Duration.{duration_order};
@@ -40,7 +40,7 @@ pub fn order_of_hashes(left: &KeyHash, right: &KeyHash) -> Ordering
     left.cmp(right)
 }
 
-/// Endpoints are ordered as their sixteen octets: those of the participant, then their own.
+/// Endpoints are ordered as their sixteen octets: the participant's prefix, then the entity id.
 #[tactic(auto, using(crate::proofs::Orders::octet_order_append))]
 pub fn order_of_guids(left: &Guid, right: &Guid) -> Ordering
     ensures derived { ⟦<Guid as Ord>⟧.cmp left.now right.now
@@ -58,7 +58,7 @@ pub fn order_of_places(left: &Place, right: &Place) -> Ordering
     left.cmp(right)
 }
 
-/// Lengths of time are ordered by seconds, and then by fraction.
+/// Durations are ordered by seconds, and then by fraction.
 pub fn order_of_durations(left: &Duration, right: &Duration) -> Ordering
     ensures derived { ⟦<Duration as Ord>⟧.cmp left.now right.now
         ≡ duration_order left.now right.now }
@@ -67,31 +67,32 @@ pub fn order_of_durations(left: &Duration, right: &Duration) -> Ordering
     left.cmp(right)
 }
 
-/// The set that is made of numbers names just these, where they are among the 256 from its base on.
+/// A set that is made from numbers has exactly these members, if they are among the 256 numbers
+/// that begin at its base.
 #[tactic(auto, using(crate::proofs::Naming::members_are))]
 pub fn a_set_names_its_members()
     ensures { NamesItsMembers }
 {}
 
-/// What is shown of an identity is read as the same one.
+/// The text of an identity is parsed as the same identity.
 #[tactic(auto, using(crate::proofs::Texts::identities_shown))]
 pub fn identities_are_read_again()
     ensures { ShownIdentitiesAreRead }
 {}
 
-/// What is shown of a sequence number is read as the same one.
+/// The text of a sequence number is parsed as the same number.
 #[tactic(auto, using(crate::proofs::Decimals::number_shown))]
 pub fn numbers_are_read_again()
     ensures { ShownNumbersAreRead }
 {}
 
-/// What is shown of a place is read as the same one.
+/// The text of a place is parsed as the same place.
 #[tactic(auto, using(crate::proofs::Decimals::place_shown))]
 pub fn places_are_read_again()
     ensures { ShownPlacesAreRead }
 {}
 
-/// What is shown of a moment is read as the same one.
+/// The text of a timestamp is parsed as the same timestamp.
 #[tactic(auto, using(crate::proofs::Moments::moment_shown))]
 pub fn moments_are_read_again()
     ensures { ShownMomentsAreRead }

@@ -1,7 +1,7 @@
-//! The values that RTPS messages carry, and the numbers that octets encode.
+//! The values in RTPS messages, and how numbers are encoded in octets.
 //!
-//! Names and layouts are those of DDSI-RTPS 2.5, sections 8.2, 9.3 and 9.4.2. Nothing here takes
-//! memory.
+//! Names and layouts are those of DDSI-RTPS 2.5, sections 8.2, 9.3 and 9.4.2. Only
+//! [`Locators::copied`] takes memory.
 #![tactic(auto)]
 
 mod field;

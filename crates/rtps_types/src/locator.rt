@@ -1,4 +1,4 @@
-//! Where a peer can be reached.
+//! Locators: the addresses of a peer.
 
 ghost use Rattle.std.specs.Prelude.{◌≡◌, ◌∷◌, [], IfOk, is_ok, length, true};
 
@@ -9,16 +9,16 @@ use std::marker::Model;
 #[derive(Clone, Copy, PartialEq, Eq, Hash)]
 pub struct Locator {
     pub port: u16,
-    /// The four octets of the address, as they are written with dots.
+    /// The four octets of the address, in the order of the dotted notation.
     pub address: [u8; 4],
 }
 
-/// The locators of a peer, in the order in which it named them. Contracts see the list alone,
-/// whatever room its memory has. Most peers name one, which needs no memory.
+/// The locators of a peer, in the order in which it listed them. Contracts see only the list. Most
+/// peers have one locator, which needs no memory.
 #[derive(Debug, Drop)]
 pub struct Locators<A: Allocator = Global> {
-    /// The locator of a list of one. It isn't a variant of an enum, whose copies cost more than
-    /// they save: each answer has locators.
+    /// The locator of a list of one. It isn't a variant of an enum, since each answer has locators
+    /// and copying an enum costs more than it saves.
     single: [Locator; 1],
     is_single: bool,
     /// The locators of any other list.
@@ -34,14 +34,14 @@ impl<A: Allocator> Model for Locators<A> {
     ghost view = { λ l. if l.is_single then l.single else l.items.items };
 }
 
-/// What is there where no locator is kept apart.
+/// The value of `single` when it isn't used.
 const NO_LOCATOR: Locator = Locator {
     port: 0,
     address: [0; 4],
 };
 
 impl<A: Allocator> Locators<A> {
-    /// The locators of this list, which isn't copied.
+    /// Returns the locators of a list, without a copy.
     pub fn new(items: Vec<Locator, A>) -> Locators<A>
         ensures { result ≡ items.items }
     {
@@ -52,7 +52,7 @@ impl<A: Allocator> Locators<A> {
         }
     }
 
-    /// This locator alone. No memory is taken.
+    /// Returns a list of this locator. No memory is taken.
     pub fn one(alloc: A, locator: Locator) -> Locators<A>
         ensures { result ≡ locator ∷ [] }
     {
@@ -63,8 +63,8 @@ impl<A: Allocator> Locators<A> {
         }
     }
 
-    /// A copy of locators. `AllocError` where memory is refused, which a single locator doesn't
-    /// need.
+    /// Returns a copy of locators, or `AllocError` if memory is refused. A single locator needs no
+    /// memory.
     pub fn copied(alloc: A, locators: &[Locator]) -> Result<Locators<A>, AllocError>
         ensures copy { IfOk result (λ copy. copy ≡ locators.now) }
         ensures one { length locators.now ≡ 1 → is_ok result ≡ true }
@@ -75,7 +75,7 @@ impl<A: Allocator> Locators<A> {
         }
     }
 
-    /// The locators, in their order.
+    /// Returns the locators, in order.
     pub fn as_slice(&self) -> &[Locator]
         ensures { result.now ≡ self.now }
     {

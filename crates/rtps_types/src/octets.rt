@@ -1,12 +1,12 @@
-//! Octets that are owned.
+//! Owned octets.
 
 ghost use Rattle.std.specs.Prelude.{◌≡◌, List, ℕ};
 
 use std::alloc::{Allocator, Global};
 use std::marker::Model;
 
-/// Octets that are owned, as those of a datagram to be sent. Contracts see the list alone, whatever
-/// room its memory has.
+/// Owned octets, for example of a datagram to be sent. Contracts see only the list, and not its
+/// capacity.
 #[derive(Debug, Drop)]
 pub struct Octets<A: Allocator = Global> {
     items: Vec<u8, A>,
@@ -19,14 +19,14 @@ impl<A: Allocator> Model for Octets<A> {
 }
 
 impl<A: Allocator> Octets<A> {
-    /// These octets, which aren't copied.
+    /// Returns the octets of a list, without a copy.
     pub fn new(items: Vec<u8, A>) -> Octets<A>
         ensures { result ≡ items.items }
     {
         Octets { items }
     }
 
-    /// The octets, from the first one on.
+    /// Returns the octets.
     pub fn as_slice(&self) -> &[u8]
         ensures { result.now ≡ self.now }
     {

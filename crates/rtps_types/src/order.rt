@@ -1,4 +1,4 @@
-//! The order of octets, by the numbers that they encode: up to eight of them are compared at once.
+//! The order of octets. They are compared as big-endian numbers, of up to eight octets at once.
 
 ghost use Rattle.std.specs.Prelude.{◌≡◌, ◌+◌, ◌*◌, ◌^◌, drop};
 ghost use Rattle.std.specs.Ordering.{ordering_then};
@@ -8,14 +8,14 @@ ghost use Rattle.rtps_types.specs.Order.{octet_order};
 use byteorder::{BigEndian, ByteOrder};
 use std::cmp::Ordering;
 
-/// The order of four octets.
+/// Compares four octets.
 pub(crate) fn order_of_four(left: &[u8; 4], right: &[u8; 4]) -> Ordering
     ensures { result ≡ octet_order left.now right.now }
 {
     BigEndian::read_u32(left).cmp(&BigEndian::read_u32(right))
 }
 
-/// The order of twelve octets: of the first eight, and where these are the same of the last four.
+/// Compares twelve octets: the first eight, and if these are equal the last four.
 pub(crate) fn order_of_twelve(left: &[u8; 12], right: &[u8; 12]) -> Ordering
     ensures { result ≡ octet_order left.now right.now }
 {
@@ -27,7 +27,7 @@ pub(crate) fn order_of_twelve(left: &[u8; 12], right: &[u8; 12]) -> Ordering
     BigEndian::read_u32(&left[8..]).cmp(&BigEndian::read_u32(&right[8..]))
 }
 
-/// The number that the last four of twelve octets and four more encode.
+/// Returns the big-endian number in the last four of twelve octets and four more.
 fn last_eight(octets: &[u8; 12], end: &[u8; 4]) -> u64
     ensures { result ≡ big_number 4 (drop 8 octets.now) * 2 ^ 32 + big_number 4 end.now }
 {
@@ -36,8 +36,7 @@ fn last_eight(octets: &[u8; 12], end: &[u8; 4]) -> u64
     u64::from(high) * (1 << 32) + u64::from(low)
 }
 
-/// The order of twelve octets and four more: of the first eight, and where these are the same of
-/// the last eight.
+/// Compares twelve octets and four more: the first eight, and if these are equal the last eight.
 pub(crate) fn order_of_sixteen(
     left: &[u8; 12],
     left_end: &[u8; 4],

@@ -1,11 +1,11 @@
-//! Where a submessage is in the run.
+//! Places of submessages in a run.
 
-/// The place of a submessage in the run, ordered by datagram and then by submessage. No standard
-/// has it.
+/// The place of a submessage in a run, ordered by datagram and then by submessage. It is not part
+/// of the standard.
 #[derive(Clone, Copy, PartialEq, Eq, PartialOrd, Ord, Hash)]
 pub struct Place {
-    /// The datagram, counted over the whole run from 0.
+    /// The index of the datagram in the whole run, counted from 0.
     pub datagram: u64,
-    /// The submessage in its datagram, counted from 1; skipped ones count too.
+    /// The number of the submessage in its datagram, counted from 1; skipped ones count too.
     pub submessage: u32,
 }

@@ -3,7 +3,8 @@
 ghost use Rattle.std.specs.Prelude.{◌≡◌};
 ghost use Rattle.rtps_types.specs.Policy.{policy_id, policy_name};
 
-/// A policy of which a writer may offer less than a reader asks for (DDS 1.4, 2.2.3).
+/// A policy that can make a writer and a reader incompatible: the writer offers less of it than the
+/// reader requests (DDS 1.4, 2.2.3).
 #[derive(Clone, Copy, Debug, PartialEq, Eq)]
 pub enum PolicyId {
     Durability,
@@ -17,7 +18,7 @@ pub enum PolicyId {
 }
 
 impl PolicyId {
-    /// Its number in the standard's table (DDS 1.4, 2.3.3, `QosPolicyId_t`).
+    /// Returns the number in the standard's table (DDS 1.4, 2.3.3, `QosPolicyId_t`).
     pub fn id(self) -> u32
         ensures { result ≡ policy_id self }
     {
@@ -33,7 +34,7 @@ impl PolicyId {
         }
     }
 
-    /// Its name in the standard, without the suffix `QosPolicy`.
+    /// Returns the name in the standard, without the suffix `QosPolicy`.
     pub fn name(self) -> &'static str
         ensures { result.now ≡ policy_name self }
     {

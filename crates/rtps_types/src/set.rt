@@ -1,4 +1,4 @@
-//! Sets of up to 256 numbers from a base on (DDSI-RTPS 9.4.2.6, 9.4.2.8).
+//! Sets of numbers, within 256 numbers from a base (DDSI-RTPS 9.4.2.6, 9.4.2.8).
 
 ghost use Rattle.std.specs.Prelude.{◌≡◌, ◌+◌, ◌-◌, ◌^◌, ◌<◌, ◌≤◌, ℕ, List};
 ghost use Rattle.std.specs.Iterator.{YieldsFirst, item_count};
@@ -7,13 +7,13 @@ ghost use Rattle.rtps_types.specs.NumberSet.{members, members_from, names};
 
 use std::marker::Model;
 
-/// Sequence numbers near one another: offset k is named where bit `31 - k % 32` of word `k / 32`
-/// is set, for each k below `bits`. Other bits name nothing.
+/// A set of sequence numbers. `base + k` is a member if k is below `bits` and bit `31 - k % 32` of
+/// word `k / 32` is set. Bits from offset `bits` on are ignored.
 #[derive(Clone, Copy, Debug, PartialEq, Eq)]
 pub struct SnSet {
-    /// The number of offset 0, from 1 to 2^63 - 1: it may pass the greatest number of a change.
+    /// The number of offset 0, from 1 to 2^63 - 1. It may be above the greatest number of a change.
     pub base: u64,
-    /// How many offsets there are, at most 256.
+    /// The number of offsets, at most 256.
     pub bits: u32,
     pub words: [u32; 8],
     ghost from_one: { 1 ≤ base },
@@ -21,28 +21,28 @@ pub struct SnSet {
     ghost few: { bits ≤ 256 },
 }
 
-/// Fragment numbers near one another, named as in [`SnSet`].
+/// A set of fragment numbers, with bits as in [`SnSet`].
 #[derive(Clone, Copy, Debug, PartialEq, Eq)]
 pub struct FragSet {
-    /// The fragment of offset 0, at least 1.
+    /// The fragment number of offset 0, at least 1.
     pub base: u32,
-    /// How many offsets there are, at most 256.
+    /// The number of offsets, at most 256.
     pub bits: u32,
     pub words: [u32; 8],
     ghost from_one: { 1 ≤ base },
     ghost few: { bits ≤ 256 },
 }
 
-/// What the standard calls them (DDSI-RTPS 9.4.2.6).
+/// The standard's name for [`SnSet`] (DDSI-RTPS 9.4.2.6).
 pub type SequenceNumberSet = SnSet;
 
-/// What the standard calls them (DDSI-RTPS 9.4.2.8).
+/// The standard's name for [`FragSet`] (DDSI-RTPS 9.4.2.8).
 pub type FragmentNumberSet = FragSet;
 
 impl SnSet {
     ghost use Rattle.rtps_types.specs.Sets.{sn_view};
 
-    /// The numbers that the set names, from the least on.
+    /// Returns the members, in rising order.
     pub fn members(&self) -> Members
         ensures { result ≡ members (sn_view self.now) }
     {
@@ -58,7 +58,7 @@ impl SnSet {
 impl FragSet {
     ghost use Rattle.rtps_types.specs.Sets.{frag_view};
 
-    /// The fragments that the set names, from the least on.
+    /// Returns the members, in rising order.
     pub fn members(&self) -> Members
         ensures { result ≡ members (frag_view self.now) }
     {
@@ -71,7 +71,7 @@ impl FragSet {
     }
 }
 
-/// Whether a set of these words names an offset.
+/// Whether the bit of an offset is set in these words.
 fn names_offset(words: &[u32; 8], offset: u32) -> bool
     requires { offset < 256 }
     ensures { result ≡ names words.now offset }
@@ -87,12 +87,12 @@ pub fn set_bit(words: &mut [u32; 8], offset: u32)
     words[(offset / 32) as usize] |= 1 << (31 - offset % 32);
 }
 
-/// The numbers that a set names, from the least on, one by one. No memory is taken.
+/// An iterator over the members of a set, in rising order. No memory is taken.
 #[derive(Drop)]
 pub struct Members {
     base: u64,
     words: [u32; 8],
-    /// The next offset to look at.
+    /// The next offset to be tested.
     offset: u32,
     bits: u32,
 }

@@ -1,11 +1,11 @@
-//! Values against octets that were written down by hand.
+//! Values, with octets written by hand.
 
 use crate::laws::*;
 use crate::*;
 use std::cmp::Ordering;
 use std::test::Fail;
 
-/// Octets, a place, and what each order reads there.
+/// Reads at a place in octets, in each byte order.
 #[test]
 fn fields_are_read_in_either_order(rt: HostRuntime) {
     let octets = [0x01, 0x02, 0x03, 0x04, 0x05, 0x06, 0x07, 0x08];
@@ -30,7 +30,7 @@ fn fields_are_read_in_either_order(rt: HostRuntime) {
     assert_eq!(rt; behind, None);
 }
 
-/// A sequence number, as messages carry it in big-endian and in little-endian order.
+/// A sequence number with its octets in big-endian and in little-endian order.
 #[derive(Clone, Copy)]
 struct Spelled {
     number: i64,
@@ -177,7 +177,7 @@ fn sets_name_their_members_in_order(rt: HostRuntime) -> Result<(), Fail> {
     };
     let found: Vec<u64> = set.members().collect(rt.alloc())?;
     assert_eq!(rt; found.as_slice(), [10, 41, 43, 265].as_slice());
-    // Bits after the count name nothing.
+    // Bits after the bit count are ignored.
     let cut: Vec<u64> = SnSet {
         base: 10,
         bits: 33,
@@ -197,7 +197,7 @@ fn sets_name_their_members_in_order(rt: HostRuntime) -> Result<(), Fail> {
     Ok(())
 }
 
-/// Offset k is bit 31 - k % 32 of word k / 32, and a bit that is set stays.
+/// Offset k is bit 31 - k % 32 of word k / 32, and a bit that is set already stays set.
 #[test]
 fn bits_are_set_by_their_offsets(rt: HostRuntime) {
     let mut words = [0; 8];

@@ -1,5 +1,4 @@
-//! Values as text, as logs and command lines write them: what is shown of each, and which text is
-//! read as which.
+//! Values as text, for logs and command lines: formatting and parsing.
 
 ghost use Rattle.std.specs.Prelude.{◌≡◌, ◌<◌, ◌≤◌, IfErr, IfOk, is_ok, length};
 ghost use Rattle.std.specs.Fmt.{WritesOnOk};
@@ -18,25 +17,25 @@ mod numbers;
 mod tests;
 mod times;
 
-/// Why a text isn't read as an identity, a number, a place or a moment. Of two parts the first one
-/// is read first.
+/// Why a text can't be parsed as an identity, a number, a place or a timestamp. If both parts of a
+/// text have a fault, that of the first part is reported.
 #[derive(Clone, Copy, Debug, PartialEq, Eq, Error)]
 pub enum TextFault {
-    /// The character between two parts isn't there.
+    /// The separator between two parts is missing.
     #[error("the separator is missing")]
     Separator,
-    /// An identity or a part of a moment hasn't two digits for each of its octets.
+    /// An identity or a part of a timestamp doesn't have two digits for each of its octets.
     #[error("the number of hex digits is wrong")]
     Length,
-    /// The number of characters is right, and one of them isn't a hex digit.
+    /// The number of characters is right, but one of them isn't a hex digit.
     #[error("a character isn't a hex digit")]
     Digit,
-    /// There is no number in decimal digits alone, or it is out of its range.
+    /// It isn't a number in decimal digits only, or the number is out of range.
     #[error("not a decimal number of its range")]
     Number,
 }
 
-/// The octets of two hex digits each, in either case.
+/// Parses octets of two hex digits each, in either case.
 #[tactic(auto, using(crate::proofs::Texts::octets_read))]
 fn read_octets<const N: usize>(text: &str) -> Result<[u8; N], TextFault>
     ensures { result ≡ octets_in N text.now }
@@ -47,7 +46,7 @@ fn read_octets<const N: usize>(text: &str) -> Result<[u8; N], TextFault>
     <[u8; N] as FromHex>::from_hex(text).map_err(|_| TextFault::Digit)
 }
 
-/// What is before and after the first separator of a text.
+/// Returns the parts before and after the first separator in a text.
 #[tactic(auto, using(crate::proofs::Texts::halves_of))]
 fn halves(text: &str, separator: u8) -> Result<(&str, &str), TextFault>
     requires { separator < 128 }
@@ -62,7 +61,7 @@ fn halves(text: &str, separator: u8) -> Result<(&str, &str), TextFault>
     }
 }
 
-/// Shows up to 16 octets, two hex digits in lower case each.
+/// Writes up to 16 octets as two lower-case hex digits each.
 fn show_octets<W: fmt::Write>(octets: &[u8], f: &mut fmt::Formatter<W>) -> fmt::Result
     requires { length octets.now ≤ 16 }
     ensures { WritesOnOk W.write_str_gives f.old result (encode_lower octets.now) f.new }

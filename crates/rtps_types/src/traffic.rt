@@ -1,4 +1,4 @@
-//! What a reader knows of a writer, and what it sends back.
+//! What a reader knows about a writer, and its replies.
 
 use crate::{Guid, Locators, Octets};
 use std::alloc::{Allocator, Global};
@@ -7,15 +7,15 @@ use std::alloc::{Allocator, Global};
 #[derive(Debug, Drop)]
 pub struct WriterFacts<A: Allocator = Global> {
     pub writer: Guid,
-    /// Where its answers go.
+    /// Where answers to it are sent.
     pub locators: Locators<A>,
 }
 
-/// An answering datagram: an ACKNACK or a NACK_FRAG (DDSI-RTPS 8.3.7.1, 8.3.7.11).
+/// A reply: a datagram with an ACKNACK or a NACK_FRAG (DDSI-RTPS 8.3.7.1, 8.3.7.11).
 #[derive(Debug, Drop)]
 pub struct Reply<A: Allocator = Global> {
-    /// Where it goes.
+    /// Where it is sent.
     pub to: Locators<A>,
-    /// The whole datagram, from `RTPS` on.
+    /// The octets of the datagram.
     pub octets: Octets<A>,
 }

@@ -9,13 +9,13 @@ use Rattle.rtps_udp.specs.declared.addresses.Purpose.TheVariants.{Metatraffic, U
 abbrev pub localhost : Ipv4Addr
 localhost = record { octets = 127 ∷ 0 ∷ 0 ∷ 1 ∷ [] }
 
--- the default ports of a domain's first participant (DDSI-RTPS 9.6.1.1): the base port, the gain of
--- the domain, and the offset of what is received
+-- the default ports of a domain's first participant (DDSI-RTPS 9.6.1.1): the port base PB, the
+-- domain gain DG times the domain, and the offset of the purpose
 abbrev pub port_of : ℕ → Purpose → ℕ
 port_of domain Metatraffic = 7400 + 250 * domain + 10
 port_of domain UserData = 7400 + 250 * domain + 11
 
--- a locator whose first octet is this one is of the loopback interface
+-- the first octet of an address is this one
 abbrev pub begins_with : ℕ → List ℕ → Bool
 begins_with octet [] = false
 begins_with octet (first ∷ rest) = first == octet

@@ -5,21 +5,22 @@ use Rattle.std.specs.declared.io.Error.{Error}
 use Rattle.std.specs.declared.io.ErrorKind.TheVariants.{WouldBlock}
 use Rattle.rtps_records.specs.Traffic.{Traffic, Exhausted, Failed, Grows, Received}
 
--- a datagram of this length came; none did, where the socket would wait; or the socket's own error
+-- the result of a receive call: the length of a datagram; none if the call would have to wait; or
+-- the socket's error
 unfoldable pub Comes : Result ℕ Error → Result (Option ℕ) Error → Type 0
 Comes (Ok length) outcome = outcome ≡ Ok (Some length)
 Comes (Err e) (Ok next) = (error_kind e ≡ WouldBlock) × (next ≡ None)
 Comes (Err e) (Err other) = ¬ (error_kind e ≡ WouldBlock) × (other ≡ e)
 
--- the first source gave this, and the second was not asked; or nothing was left of the first, and
--- the second gave it
+-- the result is that of the first source, and the second was not tried; or the first had none left,
+-- and the result is that of the second
 abbrev pub GivesFirst : Traffic → Option (List Traffic) → Option (List Traffic)
     → Option (List Traffic) → Option (List Traffic) → Type 0
 GivesFirst call first first_then second second_then =
     (Grows first first_then (call ∷ []) × (second_then ≡ second))
     ⊎ (Grows first first_then (Exhausted ∷ []) × Grows second second_then (call ∷ []))
 
--- what two sources give of which the first comes first; nothing is left where neither has any
+-- the result of receiving from two sources, the first one first; none if neither has a datagram
 unfoldable pub ReceivesFirst : Result (Option ℕ) Error → List ℕ → Option (List Traffic)
     → Option (List Traffic) → Option (List Traffic) → Option (List Traffic) → Type 0
 ReceivesFirst (Ok (Some n)) room first first_then second second_then =

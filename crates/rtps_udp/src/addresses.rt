@@ -1,4 +1,5 @@
-//! Where the sockets of a participant are bound, and where its answers may go.
+//! The addresses that the sockets of a participant are bound to, and those that answers may be sent
+//! to.
 
 ghost use Rattle.std.specs.Prelude.{◌≡◌, ◌≤◌};
 ghost use Rattle.std.specs.Net.Socket.{v4_ip, v4_port};
@@ -7,17 +8,17 @@ ghost use Rattle.rtps_udp.specs.Addresses.{is_loopback, localhost, port_of};
 use rtps_types::Locator;
 use std::net::{Ipv4Addr, SocketAddrV4};
 
-/// What a socket of a participant receives.
+/// The purpose of a socket: what it receives.
 #[derive(Clone, Copy, Debug, PartialEq, Eq)]
 pub(crate) enum Purpose {
-    /// What discovery exchanges.
+    /// The datagrams of discovery.
     Metatraffic,
-    /// Samples, and what goes with them.
+    /// Samples, with the heartbeats and gaps of their writers.
     UserData,
 }
 
-/// The address of a socket of a domain's first participant: the default port of the UDP mapping
-/// (DDSI-RTPS 9.6.1.1), on this machine alone, so that no other one reaches it.
+/// Returns the address of a socket of a domain's first participant: the default port of the UDP
+/// mapping (DDSI-RTPS 9.6.1.1), on the loopback interface, so that no other machine reaches it.
 pub(crate) fn address_of(domain: u16, purpose: Purpose) -> SocketAddrV4
     requires { domain ≤ 232 }
     ensures host { v4_ip result ≡ localhost }
@@ -30,7 +31,7 @@ pub(crate) fn address_of(domain: u16, purpose: Purpose) -> SocketAddrV4
     SocketAddrV4::new(Ipv4Addr::LOCALHOST, 7400 + 250 * domain + offset)
 }
 
-/// Whether an answer may go to a locator: to one of this machine alone, whatever a peer claims.
+/// Whether an answer may be sent to a locator: only to one of this machine, whatever a peer claims.
 pub(crate) fn is_answered(to: Locator) -> bool
     ensures { result ≡ is_loopback to }
 {

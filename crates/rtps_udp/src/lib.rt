@@ -1,4 +1,4 @@
-//! The sockets of a participant: where datagrams are received, and where answers go from.
+//! The UDP sockets of a participant: they receive datagrams and send answers.
 #![tactic(auto)]
 
 mod addresses;

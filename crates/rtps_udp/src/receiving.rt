@@ -6,8 +6,9 @@ ghost use Rattle.rtps_udp.specs.Receiving.{Comes, ReceivesFirst};
 use rtps_records::Receive;
 use std::io::{self, ErrorKind};
 
-/// What came of a call that would receive a datagram of some length: where it would have to wait
-/// for one, all that came was received. Any other error is a fault of the socket.
+/// Converts the result of a receive call: the length of a datagram, or `None` if the call would
+/// have to wait, because all datagrams that came were received. Any other error is a fault of the
+/// socket.
 #[tactic(auto, unfolding(crate::specs::Receiving::Comes))]
 pub(crate) fn outcome_of(received: io::Result<usize>) -> io::Result<Option<usize>>
     ensures { Comes received result }
@@ -19,8 +20,8 @@ pub(crate) fn outcome_of(received: io::Result<usize>) -> io::Result<Option<usize
     }
 }
 
-/// Receives from the first of two sources that has a datagram: the second one is asked only where
-/// all that came to the first was received.
+/// Receives from the first of two sources that has a datagram. The second one is tried only if the
+/// first has none left.
 #[tactic(auto, unfolding(crate::specs::Receiving::ReceivesFirst))]
 pub(crate) fn receive_first<A: Receive, B: Receive>(
     first: &mut A,

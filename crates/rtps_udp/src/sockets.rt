@@ -14,7 +14,7 @@ use std::io;
 use std::net::{Net, SocketAddr, SocketAddrV4};
 use std::time::Duration;
 
-/// How long a turn of waiting is at the most: long enough to cost nothing while nobody sends.
+/// The longest time of one wait: long enough that waiting costs next to nothing while nobody sends.
 fn turn() -> Duration
     ensures { as_nanos result ≡ 100 * 1000000 }
 {
@@ -26,7 +26,7 @@ fn turn() -> Duration
 struct Port(UdpSocket);
 
 impl Port {
-    /// The socket of a domain's first participant that has this purpose.
+    /// Binds the socket of a domain's first participant that has this purpose.
     fn bind(net: &impl Net, domain: u16, purpose: Purpose) -> io::Result<Port>
         requires { domain ≤ 232 }
     {
@@ -52,14 +52,14 @@ impl Receive for Port {
 pub struct Sockets {
     poll: Poll,
     events: Events<Global>,
-    /// Where discovery's datagrams come to, and where answers go from.
+    /// Receives the datagrams of discovery, and sends all answers.
     metatraffic: Port,
-    /// Where user data come to.
+    /// Receives user data.
     user: Port,
 }
 
 impl Sockets {
-    /// Those of a domain's first participant. An error is the system's, and also comes where
+    /// Binds the sockets of a domain's first participant. An error is the system's, for example if
     /// another program has one of the ports.
     pub fn bind(net: &impl Net, alloc: Global, domain: u16) -> io::Result<Sockets>
         requires { domain ≤ 232 }

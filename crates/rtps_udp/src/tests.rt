@@ -1,4 +1,4 @@
-//! The sockets of a domain, and a peer on loopback.
+//! Tests of the sockets of a domain, with a peer on loopback.
 
 ghost use Rattle.std.specs.Prelude.{◌≤◌, IfOk};
 
@@ -10,12 +10,13 @@ use std::net::{Ipv4Addr, SocketAddr, UdpSocket};
 use std::test::Fail;
 use std::time::Duration;
 
-/// Domains that nothing else here uses, and the port of discovery's datagrams in each, 7410 and
-/// 250 for each domain before it. User data come to the next port. There are several, so that two
-/// runs of this test find sockets at once.
+/// Domains that nothing else here uses, and the port for datagrams of discovery in each, which is
+/// 7410 + 250 times the domain. The next port is for user data. There are several domains, so that
+/// several runs of this test find free sockets at the same time.
 const DOMAINS: [(u16, u16); 4] = [(100, 32_410), (99, 32_160), (98, 31_910), (97, 31_660)];
 
-/// The sockets of the first of these domains whose ports are free, the domain, and its first port.
+/// Returns the sockets of the first of these domains whose ports are free, the domain, and its
+/// first port.
 fn free_sockets(rt: &HostRuntime) -> Result<(Sockets, u16, u16), Fail>
     ensures { IfOk result (λ free. free.1 ≤ 232) }
 {

@@ -19,8 +19,8 @@ use Rattle.rtps_wire.specs.Gap.{gap_of}
 use Rattle.rtps_wire.specs.Heartbeat.{heartbeat_of}
 use Rattle.rtps_wire.specs.HeartbeatFrag.{heartbeat_frag_of}
 use Rattle.rtps_wire.specs.Info.{source_of, time_of}
-use Rattle.rtps_wire.specs.NumberSets.{sn_set_at, words_at}
-use Rattle.rtps_wire.specs.Submessage.{Content, Pad, HeartbeatOf, GapOf, Time, Source, Destination, HeartbeatFragOf, Whole, Frag, Skipped, parts_of}
+use Rattle.rtps_wire.specs.NumberSet.{sn_set_at, words_at}
+use Rattle.rtps_wire.specs.Submessage.{PartsView, Pad, Heartbeat, Gap, InfoTimestamp, InfoSource, InfoDestination, HeartbeatFrag, Data, DataFrag, Skipped, parts_of}
 
 -- ---- steps that may find nothing
 
@@ -82,34 +82,34 @@ set_bounds e octets at =
 
 -- ---- kinds
 
-heartbeat_bounds : (flags : ℕ) (e : Endian) (body : List ℕ) → IfSome (heartbeat_of flags e body) (λ h. HasBounds (HeartbeatOf h))
+heartbeat_bounds : (flags : ℕ) (e : Endian) (body : List ℕ) → IfSome (heartbeat_of flags e body) (λ h. HasBounds (Heartbeat h))
 unfolding heartbeat_of
 heartbeat_bounds flags e body =
     if_then (entity_at body 0) _ _ (λ reader _. if_then (entity_at body 4) _ _ (λ writer _. if_then (positive_at e body 8) _ _ (λ first f. if_then (natural_at e body 16) _ _ (λ last _. if_then (count_at e body 24) _ _ (λ count _. if_not (nat_lt last (first - 1)) _ _ (λ above. let least = positive_at_bound e body 8 first f in let so = ltb-false last (first - 1) above in (omega arith, omega arith)))))))
 
-gap_bounds : (e : Endian) (body : List ℕ) → IfSome (gap_of e body) (λ g. HasBounds (GapOf g))
+gap_bounds : (e : Endian) (body : List ℕ) → IfSome (gap_of e body) (λ g. HasBounds (Gap g))
 unfolding gap_of
 gap_bounds e body =
     if_then (entity_at body 0) _ _ (λ reader _. if_then (entity_at body 4) _ _ (λ writer _. if_then (positive_at e body 8) _ _ (λ start s. mapped_set e body start (positive_at_bound e body 8 start s) reader writer)))
   where
-    mapped_set : (e : Endian) (body : List ℕ) (start : ℕ) → 1 ≤ start → (reader writer : EntityId) → IfSome (sn_set_at e body 16 >>= (λ list. Some (record { reader = reader; writer = writer; start = start; list = list }))) (λ g. HasBounds (GapOf g))
+    mapped_set : (e : Endian) (body : List ℕ) (start : ℕ) → 1 ≤ start → (reader writer : EntityId) → IfSome (sn_set_at e body 16 >>= (λ list. Some (record { reader = reader; writer = writer; start = start; list = list }))) (λ g. HasBounds (Gap g))
     mapped_set e body start s reader writer = by (sn_set_at e body 16) (set_bounds e body 16)
       where
-        by : (o : Option NumberSet) → IfSome o IsSet → IfSome (o >>= (λ list. Some (record { reader = reader; writer = writer; start = start; list = list }))) (λ g. HasBounds (GapOf g))
+        by : (o : Option NumberSet) → IfSome o IsSet → IfSome (o >>= (λ list. Some (record { reader = reader; writer = writer; start = start; list = list }))) (λ g. HasBounds (Gap g))
         by None h = tt
         by (Some list) h = (s, h)
 
-heartbeat_frag_bounds : (e : Endian) (body : List ℕ) → IfSome (heartbeat_frag_of e body) (λ h. HasBounds (HeartbeatFragOf h))
+heartbeat_frag_bounds : (e : Endian) (body : List ℕ) → IfSome (heartbeat_frag_of e body) (λ h. HasBounds (HeartbeatFrag h))
 unfolding heartbeat_frag_of
 heartbeat_frag_bounds e body =
     if_then (entity_at body 0) _ _ (λ reader _. if_then (entity_at body 4) _ _ (λ writer _. if_then (positive_at e body 8) _ _ (λ number n. if_then (number_at e 4 body 16) _ _ (λ last _. if_then (count_at e body 20) _ _ (λ count _. if_not (last == 0) _ _ (λ some. (positive_at_bound e body 8 number n, grind (arith, common_steps))))))))
 
-data_bounds : (flags : ℕ) (e : Endian) (body : List ℕ) → IfSome (data_of flags e body) (λ c. HasBounds (Whole c))
+data_bounds : (flags : ℕ) (e : Endian) (body : List ℕ) → IfSome (data_of flags e body) (λ c. HasBounds (Data c))
 unfolding data_of
 data_bounds flags e body =
     if_then (number_at e 2 body 2) _ _ (λ offset _. if_then (entity_at body 4) _ _ (λ reader _. if_then (entity_at body 8) _ _ (λ writer _. if_then (positive_at e body 12) _ _ (λ number n. if_then (if nat_lt offset 16 then None else from body (4 + offset)) _ _ (λ rest _. if_then (qos_of flags e rest) _ _ (λ qos _. if_then (form_of flags) _ _ (λ form _. if_then (payload_of flags rest qos.used) _ _ (λ payload _. positive_at_bound e body 12 number n))))))))
 
-data_frag_bounds : (flags : ℕ) (e : Endian) (body : List ℕ) → IfSome (data_frag_of flags e body) (λ f. HasBounds (Frag f))
+data_frag_bounds : (flags : ℕ) (e : Endian) (body : List ℕ) → IfSome (data_frag_of flags e body) (λ f. HasBounds (DataFrag f))
 unfolding data_frag_of
 data_frag_bounds flags e body =
     if_then (number_at e 2 body 2) _ _ (λ offset _. if_then (entity_at body 4) _ _ (λ reader _. if_then (entity_at body 8) _ _ (λ writer _. if_then (positive_at e body 12) _ _ (λ number n. if_then (number_at e 4 body 20) _ _ (λ start _. if_then (number_at e 2 body 24) _ _ (λ count _. if_then (number_at e 2 body 26) _ _ (λ size _. if_then (number_at e 4 body 28) _ _ (λ sample _. if_then (if start == 0 then None else if nat_lt offset 28 then None else from body (4 + offset)) _ _ (λ rest r. if_then (qos_of flags e rest) _ _ (λ qos _. if_then (from rest qos.used) _ _ (λ payload _. (positive_at_bound e body 12 number n, is_there start _ rest r))))))))))))
@@ -125,17 +125,17 @@ unfolding parts_of
 parts_bounds id flags body =
     let e = endian_of flags in
     either (id == 0x01) (Some Pad) _ HasBounds tt
-    (either (id == 0x07) (option_map HeartbeatOf (heartbeat_of flags e body)) _ HasBounds (mapped (heartbeat_of flags e body) HeartbeatOf HasBounds (heartbeat_bounds flags e body))
-    (either (id == 0x08) (option_map GapOf (gap_of e body)) _ HasBounds (mapped (gap_of e body) GapOf HasBounds (gap_bounds e body))
-    (either (id == 0x09) (option_map Time (time_of flags e body)) _ HasBounds (any (time_of flags e body) Time HasBounds (λ t. tt))
-    (either (id == 0x0c) (option_map Source (source_of body)) _ HasBounds (any (source_of body) Source HasBounds (λ s. tt))
-    (either (id == 0x0e) (option_map Destination (prefix_at body 0)) _ HasBounds (any (prefix_at body 0) Destination HasBounds (λ p. tt))
-    (either (id == 0x13) (option_map HeartbeatFragOf (heartbeat_frag_of e body)) _ HasBounds (mapped (heartbeat_frag_of e body) HeartbeatFragOf HasBounds (heartbeat_frag_bounds e body))
-    (either (id == 0x15) (option_map Whole (data_of flags e body)) _ HasBounds (mapped (data_of flags e body) Whole HasBounds (data_bounds flags e body))
-    (either (id == 0x16) (option_map Frag (data_frag_of flags e body)) (Some Skipped) HasBounds (mapped (data_frag_of flags e body) Frag HasBounds (data_frag_bounds flags e body)) tt))))))))
+    (either (id == 0x07) (option_map Heartbeat (heartbeat_of flags e body)) _ HasBounds (mapped (heartbeat_of flags e body) Heartbeat HasBounds (heartbeat_bounds flags e body))
+    (either (id == 0x08) (option_map Gap (gap_of e body)) _ HasBounds (mapped (gap_of e body) Gap HasBounds (gap_bounds e body))
+    (either (id == 0x09) (option_map InfoTimestamp (time_of flags e body)) _ HasBounds (any (time_of flags e body) InfoTimestamp HasBounds (λ t. tt))
+    (either (id == 0x0c) (option_map InfoSource (source_of body)) _ HasBounds (any (source_of body) InfoSource HasBounds (λ s. tt))
+    (either (id == 0x0e) (option_map InfoDestination (prefix_at body 0)) _ HasBounds (any (prefix_at body 0) InfoDestination HasBounds (λ p. tt))
+    (either (id == 0x13) (option_map HeartbeatFrag (heartbeat_frag_of e body)) _ HasBounds (mapped (heartbeat_frag_of e body) HeartbeatFrag HasBounds (heartbeat_frag_bounds e body))
+    (either (id == 0x15) (option_map Data (data_of flags e body)) _ HasBounds (mapped (data_of flags e body) Data HasBounds (data_bounds flags e body))
+    (either (id == 0x16) (option_map DataFrag (data_frag_of flags e body)) (Some Skipped) HasBounds (mapped (data_frag_of flags e body) DataFrag HasBounds (data_frag_bounds flags e body)) tt))))))))
 
 -- whatever a body is read as has the bounds of its kind
-pub content_bounds : (id flags : ℕ) (body : List ℕ) (content : Content) → parts_of id flags body ≡ Some content → HasBounds content
+pub content_bounds : (id flags : ℕ) (body : List ℕ) (content : PartsView) → parts_of id flags body ≡ Some content → HasBounds content
 content_bounds id flags body content h =
-    let P : Option Content → Type 0 = λ o. IfSome o HasBounds in
+    let P : Option PartsView → Type 0 = λ o. IfSome o HasBounds in
     subst P h (parts_bounds id flags body)

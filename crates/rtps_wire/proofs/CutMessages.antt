@@ -10,7 +10,7 @@ use Rattle.rtps_wire.specs.declared.message_header.Header.{Header}
 use Rattle.rtps_wire.specs.declared.message_header.HeaderFault.TheVariants.{Short}
 use Rattle.rtps_wire.specs.declared.submessage.SubmessageFault.{SubmessageFault}
 use Rattle.rtps_wire.specs.Cuts.{AreFirst, BeginWith, CutsReadFirst, KeepsWhatEnds, ReadsFirst}
-use Rattle.rtps_wire.specs.Header.{header_of, protocol}
+use Rattle.rtps_wire.specs.MessageHeader.{header_of, protocol}
 use Rattle.rtps_wire.specs.Message.{IsBefore, IsMessage, IsReading}
 use Rattle.rtps_wire.specs.Reading.{Reading, reading}
 use Rattle.rtps_wire.specs.Submessage.{Item}

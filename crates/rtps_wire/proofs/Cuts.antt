@@ -9,7 +9,7 @@ use Rattle.rtps_wire.specs.Cuts.{AreFirst, IsLast}
 use Rattle.rtps_wire.specs.Fields.{endian_of}
 use Rattle.rtps_wire.specs.Message.{IsReading}
 use Rattle.rtps_wire.specs.Reading.{Reading, front_of, item_of, reading, runs_to_end}
-use Rattle.rtps_wire.specs.Submessage.{Content, Item, parts_of}
+use Rattle.rtps_wire.specs.Submessage.{PartsView, Item, parts_of}
 use Rattle.rtps_wire.proofs.Grammar.{one_reading}
 use Rattle.rtps_wire.proofs.Steps.{reading_end, reading_fault, reading_item}
 
@@ -55,7 +55,7 @@ last_behind (i ∷ j ∷ is) front octets h = absurd h
 
 -- ---- a submessage that runs to the end
 
-to_end : (id flags a b : ℕ) (body : List ℕ) (whole : List Item) (o : Option Content) → runs_to_end id (number (endian_of flags) 2 (a ∷ b ∷ [])) ≡ true → front_of (id ∷ flags ∷ a ∷ b ∷ body) ≡ item_of id flags o [] → AreFirst (items_of (id ∷ flags ∷ a ∷ b ∷ body)) whole (id ∷ flags ∷ a ∷ b ∷ body)
+to_end : (id flags a b : ℕ) (body : List ℕ) (whole : List Item) (o : Option PartsView) → runs_to_end id (number (endian_of flags) 2 (a ∷ b ∷ [])) ≡ true → front_of (id ∷ flags ∷ a ∷ b ∷ body) ≡ item_of id flags o [] → AreFirst (items_of (id ∷ flags ∷ a ∷ b ∷ body)) whole (id ∷ flags ∷ a ∷ b ∷ body)
 to_end id flags a b body whole None r h = none_first _ whole _ (fault_items (id ∷ flags ∷ a ∷ b ∷ body) Invalid h)
 to_end id flags a b body whole (Some c) r h =
     let i : Item = record { id = id; flags = flags; content = c } in
@@ -89,7 +89,7 @@ front_stated id flags a b more r h =
     rw (r, test) refl
 
 -- both begin with the same submessage, and after it comes a cut of what comes after it in the whole
-same_front : (id flags : ℕ) (cut whole front rest rest' : List ℕ) (o : Option Content) → front_of cut ≡ item_of id flags o rest' → front_of whole ≡ item_of id flags o rest → cut ≡ front ++ rest' → AreFirst (items_of rest') (items_of rest) rest' → AreFirst (items_of cut) (items_of whole) cut
+same_front : (id flags : ℕ) (cut whole front rest rest' : List ℕ) (o : Option PartsView) → front_of cut ≡ item_of id flags o rest' → front_of whole ≡ item_of id flags o rest → cut ≡ front ++ rest' → AreFirst (items_of rest') (items_of rest) rest' → AreFirst (items_of cut) (items_of whole) cut
 same_front id flags cut whole front rest rest' None h w text f = none_first _ _ _ (fault_items cut Invalid h)
 same_front id flags cut whole front rest rest' (Some c) h w text f =
     let i : Item = record { id = id; flags = flags; content = c } in

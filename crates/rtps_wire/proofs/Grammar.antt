@@ -8,7 +8,7 @@ use Rattle.rtps_types.specs.Field.{number}
 use Rattle.rtps_wire.specs.declared.submessage.SubmessageFault.{SubmessageFault}
 use Rattle.rtps_wire.specs.declared.submessage.SubmessageFault.TheVariants.{Rest, Length, Invalid}
 use Rattle.rtps_wire.specs.Fields.{endian_of}
-use Rattle.rtps_wire.specs.Submessage.{Content, Item, parts_of}
+use Rattle.rtps_wire.specs.Submessage.{PartsView, Item, parts_of}
 use Rattle.rtps_wire.specs.Reading.{Read, Reading, body_length, body_of, front_of, item_of, reading, runs_to_end}
 use Rattle.rtps_wire.specs.Message.{IsFramed, IsBefore, IsTooLong, EndsWith, IsReading}
 use Rattle.rtps_wire.proofs.Steps.{by_rest, reading_goes_on, reading_item, reading_end, reading_fault, front_shortens}
@@ -90,7 +90,7 @@ too_long : (n : ℕ) (more : List ℕ) (b : Bool) → length more < cond b (leng
 too_long n more true h = absurd (omega arith)
 too_long n more false h = h
 
-item_shows : (id flags : ℕ) (octets body rest : List ℕ) (o : Option Content) → IsFramed id flags octets body rest → parts_of id flags body ≡ o → Shows octets (item_of id flags o rest)
+item_shows : (id flags : ℕ) (octets body rest : List ℕ) (o : Option PartsView) → IsFramed id flags octets body rest → parts_of id flags body ≡ o → Shows octets (item_of id flags o rest)
 item_shows id flags octets body rest None f e = record { id = id; flags = flags; body = body; rest = rest; framed = f; invalid = e }
 item_shows id flags octets body rest (Some c) f e = record { body = body; framed = f; valid = e }
 

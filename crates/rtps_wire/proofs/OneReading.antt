@@ -4,7 +4,7 @@ use Rattle.std.specs.Prelude.{MatchResult}
 use Rattle.rtps_wire.specs.declared.message_header.Header.{Header}
 use Rattle.rtps_wire.specs.declared.message_header.HeaderFault.{HeaderFault}
 use Rattle.rtps_wire.specs.declared.submessage.SubmessageFault.{SubmessageFault}
-use Rattle.rtps_wire.specs.Header.{header_of}
+use Rattle.rtps_wire.specs.MessageHeader.{header_of}
 use Rattle.rtps_wire.specs.Message.{IsMessage}
 use Rattle.rtps_wire.specs.OneReading.{IsOnly}
 use Rattle.rtps_wire.specs.Reading.{Reading, reading}

@@ -14,16 +14,18 @@ use Rattle.rtps_types.specs.Field.{number, number_at, octets_at, put_at, sequenc
 use Rattle.rtps_types.specs.NumberSet.{NumberSet, members, names}
 use Rattle.rtps_types.specs.Sets.{frag_view, sn_view}
 use Rattle.rtps_types.proofs.Puts.{length-spelled, number-spelled, put_number, put_sn_reads}
-use Rattle.rtps_wire.specs.Answering.{TellsAckNack, TellsNackFrag, acknack_body, acknack_flags, acknack_octets, answer_items, answering, nack_frag_body, nack_frag_octets, opened, our_header, read_set, read_words, sent_words, spelled_words, word_count}
+use Rattle.rtps_wire.specs.AckNack.{TellsAckNack, acknack_body, acknack_flags, acknack_octets}
+use Rattle.rtps_wire.specs.Answering.{answer_items, answering, opened, our_header, read_set, read_words, sent_words, spelled_words, word_count}
+use Rattle.rtps_wire.specs.NackFrag.{TellsNackFrag, nack_frag_body, nack_frag_octets}
 use Rattle.rtps_wire.specs.declared.acknack.AckNack.{AckNack}
 use Rattle.rtps_wire.specs.declared.nack_frag.NackFrag.{NackFrag}
 use Rattle.rtps_wire.specs.Fields.{endian_of, entity_at, positive}
-use Rattle.rtps_wire.specs.Header.{header_of}
+use Rattle.rtps_wire.specs.MessageHeader.{header_of}
 use Rattle.rtps_wire.specs.Message.{IsFramed, IsMessage, IsReading}
-use Rattle.rtps_wire.specs.NumberSets.{sn_set_at, words_at, words_in}
+use Rattle.rtps_wire.specs.NumberSet.{sn_set_at, words_at, words_in}
 use Rattle.rtps_wire.specs.OneReading.{IsOnly}
 use Rattle.rtps_wire.specs.Reading.{runs_to_end}
-use Rattle.rtps_wire.specs.Submessage.{Destination, Skipped, parts_of}
+use Rattle.rtps_wire.specs.Submessage.{InfoDestination, Skipped, parts_of}
 use Rattle.rtps_wire.proofs.OneReading.{message_is_only}
 
 -- ---- words
@@ -138,7 +140,7 @@ framed_behind own to id flags body o t e small =
     let is : drop 36 (answering own to id flags body) ≡ submessage id flags body = ap (drop 36) (answering_is own to id flags body) ∙ drop_at (opened own to) (submessage id flags body) 36 (length-opened own to o t) in
     rw is (framed_alone id flags body e small)
 
-to_is : (to : GuidPrefix) → length to.0 ≡ 12 → parts_of 0x0e 1 to.0 ≡ Some (Destination to)
+to_is : (to : GuidPrefix) → length to.0 ≡ 12 → parts_of 0x0e 1 to.0 ≡ Some (InfoDestination to)
 unfolding parts_of
 to_is to t =
     let test : leb 12 (length to.0) ≡ true = le-leb _ _ (omega arith) in

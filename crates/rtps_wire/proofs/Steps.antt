@@ -7,9 +7,9 @@ use Rattle.rtps_wire.specs.declared.submessage.SubmessageFault.{SubmessageFault}
 use Rattle.rtps_wire.specs.declared.submessage.SubmessageFault.TheVariants.{Length}
 use Rattle.rtps_wire.specs.Fields.{endian_of}
 use Rattle.rtps_wire.specs.Reading.{Read, Reading, body_length, body_of, front_of, go_on, item_of, reading, reading_behind}
-use Rattle.rtps_wire.specs.Submessage.{Content, Item, parts_of}
+use Rattle.rtps_wire.specs.Submessage.{PartsView, Item, parts_of}
 
-item_leaves : (id flags : ℕ) (o : Option Content) (after : List ℕ) (i : Item) (rest : List ℕ) → item_of id flags o after ≡ Ok (Some (i, rest)) → after ≡ rest
+item_leaves : (id flags : ℕ) (o : Option PartsView) (after : List ℕ) (i : Item) (rest : List ℕ) → item_of id flags o after ≡ Ok (Some (i, rest)) → after ≡ rest
 item_leaves id flags None after i rest h = absurd cc
 item_leaves id flags (Some x) after i rest h =
     let same : (record { id = id; flags = flags; content = x }, after) ≡ (i, rest) = cc in
@@ -42,11 +42,11 @@ by_rest (Err f) others = record { items = []; fault = Some f }
 by_rest (Ok None) others = record { items = []; fault = None }
 by_rest (Ok (Some x)) others = record { items = x.0 ∷ (others x.1).items; fault = (others x.1).fault }
 
-item_rest : (id flags : ℕ) (o : Option Content) (after : List ℕ) (others : List ℕ → Reading) → go_on (item_of id flags o after) (others after) ≡ by_rest (item_of id flags o after) others
+item_rest : (id flags : ℕ) (o : Option PartsView) (after : List ℕ) (others : List ℕ → Reading) → go_on (item_of id flags o after) (others after) ≡ by_rest (item_of id flags o after) others
 item_rest id flags None after others = refl
 item_rest id flags (Some c) after others = refl
 
-long_or_not : (b : Bool) (id flags : ℕ) (o : Option Content) (after : List ℕ) (others : List ℕ → Reading) → go_on (cond b (Err Length) (item_of id flags o after)) (others after) ≡ by_rest (cond b (Err Length) (item_of id flags o after)) others
+long_or_not : (b : Bool) (id flags : ℕ) (o : Option PartsView) (after : List ℕ) (others : List ℕ → Reading) → go_on (cond b (Err Length) (item_of id flags o after)) (others after) ≡ by_rest (cond b (Err Length) (item_of id flags o after)) others
 long_or_not true id flags o after others = refl
 long_or_not false id flags o after others = item_rest id flags o after others
 

@@ -6,7 +6,7 @@ use Rattle.std.proofs.lemmas.List.{append_assoc, drop-drop}
 use Rattle.std.proofs.Math.Seq.{set-append_seam}
 use Rattle.rtps_types.specs.declared.field.Endian.{Endian}
 use Rattle.rtps_types.specs.Field.{number, number_at}
-use Rattle.rtps_wire.specs.NumberSets.{words_at, words_in}
+use Rattle.rtps_wire.specs.NumberSet.{words_at, words_in}
 
 words_more : (n : ℕ) (e : Endian) (octets : List ℕ) → words_in e (n + 1) octets ≡ words_in e n octets ++ number e 4 (drop (4 * n) octets) ∷ []
 words_more zero e octets = refl

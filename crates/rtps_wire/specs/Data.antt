@@ -1,4 +1,4 @@
--- DATA: a change, whole (DDSI-RTPS 8.3.7.2, 9.4.5.3).
+-- DATA: a change in one piece (DDSI-RTPS 8.3.7.2, 9.4.5.3).
 use Rattle.std.specs.Prelude.{ℕ, List, [], ◌+◌, Option, Some, None, ◌&&◌, nat_lt, if◌then◌else◌}
 use Rattle.rtps_types.specs.declared.field.Endian.{Endian}
 use Rattle.rtps_types.specs.declared.identity.EntityId.{EntityId}
@@ -11,7 +11,7 @@ use Rattle.rtps_wire.specs.declared.inline_qos.InlineQos.{InlineQos}
 use Rattle.rtps_wire.specs.Fields.{◌>>=◌, entity_at, from, has, positive_at}
 use Rattle.rtps_wire.specs.InlineQos.{inline_of, no_inline}
 
--- a change, without where its payload lies in memory
+-- the fields of a DATA, without their places in memory
 pub record DataView : Type 0 where
   pub reader : EntityId
   pub writer : EntityId
@@ -23,11 +23,12 @@ pub record DataView : Type 0 where
 abbrev pub data_view : Data → DataView
 data_view d = record { reader = d.reader; writer = d.writer; number = d.number; info = d.info; payload = d.payload.now }
 
--- flag Q, 2, says that inline QoS follows
+-- flag Q (2) means that inline QoS follows
 abbrev pub qos_of : ℕ → Endian → List ℕ → Option InlineQos
 qos_of flags e rest = if has 2 flags then inline_of e rest else Some no_inline
 
--- flag D, 4, says value, K, 8, key; both at once is no form; N, 16, wins over either
+-- flag D (4) means a value, K (8) a key, and both at once are invalid; N (16), a non-standard
+-- payload, wins over either
 abbrev pub form_of : ℕ → Option Form
 form_of flags =
     if has 4 flags && has 8 flags then None else
@@ -35,11 +36,11 @@ form_of flags =
     if has 4 flags then Some Value else
     if has 8 flags then Some Key else Some Nothing
 
--- the payload runs from after the inline QoS to the end, where D or K says that there is one
+-- the payload is all after the inline QoS, if flag D or K says that there is one
 abbrev pub payload_of : ℕ → List ℕ → ℕ → Option (List ℕ)
 payload_of flags rest used = if has 12 flags then from rest used else Some []
 
--- octetsToInlineQos counts from just after itself; invalid below 16 and past the end
+-- octetsToInlineQos counts from just after itself; it is invalid below 16 or past the end
 unfoldable pub data_of : ℕ → Endian → List ℕ → Option DataView
 data_of flags e body = do
   offset ← number_at e 2 body 2

@@ -10,7 +10,7 @@ use Rattle.rtps_wire.specs.declared.data_frag.DataFrag.{DataFrag}
 use Rattle.rtps_wire.specs.Data.{qos_of}
 use Rattle.rtps_wire.specs.Fields.{◌>>=◌, entity_at, from, has, positive_at}
 
--- fragments, without where their octets lie in memory
+-- the fields of a DATA_FRAG, without their places in memory
 pub record DataFragView : Type 0 where
   pub reader : EntityId
   pub writer : EntityId
@@ -26,12 +26,12 @@ pub record DataFragView : Type 0 where
 abbrev pub frag_view : DataFrag → DataFragView
 frag_view d = record { reader = d.reader; writer = d.writer; number = d.number; start = d.start; count = d.count; size = d.size; sample = d.sample; info = d.info; payload = d.payload.now }
 
--- flag N, 8, says no standard form, K, 4, a key; else it is a value
+-- flag N (8) means a non-standard payload, K (4) a key; otherwise it is a value
 abbrev pub frag_form_of : ℕ → Form
 frag_form_of flags = if has 8 flags then Other else if has 4 flags then Key else Value
 
--- octetsToInlineQos counts from just after itself; invalid below 28 and past the end, and where the
--- fragments begin with number 0
+-- octetsToInlineQos counts from just after itself; it is invalid below 28 or past the end, and so
+-- is a first fragment 0
 unfoldable pub data_frag_of : ℕ → Endian → List ℕ → Option DataFragView
 data_frag_of flags e body = do
   offset ← number_at e 2 body 2

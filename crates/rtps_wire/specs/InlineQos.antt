@@ -1,4 +1,4 @@
--- What inline QoS says of a change: its key hash and its status (DDSI-RTPS 8.7, 9.6.4.8, 9.6.4.9).
+-- The key hash and the status info in inline QoS (DDSI-RTPS 8.7, 9.6.4.8, 9.6.4.9).
 use Rattle.std.specs.Prelude.{ℕ, List, [], ◌∷◌, length, take, Option, Some, None, Result, Ok, Err, Bool, true, nat_le, ◌==◌, if◌then◌else◌, slice_index}
 use Rattle.std.specs.Option.{option_map, option_map_or}
 use Rattle.std.specs.List.{list_all}
@@ -8,11 +8,11 @@ use Rattle.rtps_params.specs.declared.front.ParamFault.{ParamFault}
 use Rattle.rtps_params.specs.Reading.{Parameter, Contents, contents}
 use Rattle.rtps_wire.specs.declared.inline_qos.InlineQos.{InlineQos}
 
--- a key hash, id 0070, has 16 octets at least, a status info, id 0071, four
+-- a key hash (id 0070) has at least 16 octets, and a status info (id 0071) at least four
 abbrev pub is_sound : Parameter → Bool
 is_sound p = if p.id == 0x70 then nat_le 16 (length p.value) else if p.id == 0x71 then nat_le 4 (length p.value) else true
 
--- the first of the two that there is
+-- the first of two, if there is one, else the second
 abbrev pub or_else : {A : Type 0} → Option A → Option A → Option A
 or_else (Some x) o = Some x
 or_else None o = o
@@ -26,7 +26,7 @@ last_value id (p ∷ ps) = or_else (last_value id ps) (if p.id == id then Some p
 abbrev pub key_hash : List ℕ → KeyHash
 key_hash value = record { 0 = take 16 value }
 
--- of several key hashes and status infos the last counts, and one that is bad makes all of it bad
+-- the last key hash and the last status info count; one of bad length makes the list invalid
 abbrev pub inline_from : Result Contents ParamFault → Option InlineQos
 inline_from (Err f) = None
 inline_from (Ok c) =
@@ -38,7 +38,7 @@ inline_from (Ok c) =
     })
     else None
 
--- what the list at the front of octets says
+-- the inline QoS at the start of octets
 unfoldable pub inline_of : Endian → List ℕ → Option InlineQos
 inline_of e octets = inline_from (contents e octets)
 

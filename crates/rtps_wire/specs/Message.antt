@@ -5,25 +5,26 @@ use Rattle.rtps_wire.specs.declared.submessage.SubmessageFault.{SubmessageFault}
 use Rattle.rtps_wire.specs.declared.submessage.SubmessageFault.TheVariants.{Rest, Length, Invalid}
 use Rattle.rtps_wire.specs.declared.message_header.Header.{Header}
 use Rattle.rtps_wire.specs.Fields.{endian_of}
-use Rattle.rtps_wire.specs.Header.{header_of}
+use Rattle.rtps_wire.specs.MessageHeader.{header_of}
 use Rattle.rtps_wire.specs.Reading.{runs_to_end}
 use Rattle.rtps_wire.specs.Submessage.{Item, parts_of}
 
--- four octets of header, the last two of which encode a length, and then a body before a rest
+-- octets begin with a submessage: four octets of header, whose last two are a length, and a body;
+-- then comes a rest
 pub record IsFramed (id flags : ℕ) (octets body rest : List ℕ) : Type 0 where
   pub third : ℕ
   pub fourth : ℕ
   pub text : octets ≡ id ∷ flags ∷ third ∷ fourth ∷ (body ++ rest)
-  -- a length of 0 means all that follows, but in PAD and INFO_TS
+  -- a length of 0 means all octets that follow, except in PAD and INFO_TS
   pub size : MatchBool (runs_to_end id (number (endian_of flags) 2 (third ∷ fourth ∷ []))) (rest ≡ []) (length body ≡ number (endian_of flags) 2 (third ∷ fourth ∷ []))
 
--- a submessage comes before a rest: it is framed, and its body has the form of its kind
+-- octets begin with a valid submessage, and then comes a rest
 pub record IsBefore (i : Item) (octets rest : List ℕ) : Type 0 where
   pub body : List ℕ
   pub framed : IsFramed i.id i.flags octets body rest
   pub valid : parts_of i.id i.flags body ≡ Some i.content
 
--- a stated length passes the end
+-- a stated length is greater than the number of octets left
 pub record IsTooLong (octets : List ℕ) : Type 0 where
   pub id : ℕ
   pub flags : ℕ
@@ -33,7 +34,7 @@ pub record IsTooLong (octets : List ℕ) : Type 0 where
   pub text : octets ≡ id ∷ flags ∷ third ∷ fourth ∷ more
   pub size : length more < number (endian_of flags) 2 (third ∷ fourth ∷ [])
 
--- what is framed hasn't the form of its kind
+-- the body is invalid for its kind
 pub record IsInvalid (octets : List ℕ) : Type 0 where
   pub id : ℕ
   pub flags : ℕ
@@ -42,7 +43,7 @@ pub record IsInvalid (octets : List ℕ) : Type 0 where
   pub framed : IsFramed id flags octets body rest
   pub invalid : parts_of id flags body ≡ None
 
--- nothing is left, or what is left is no submessage before a rest
+-- no octets are left, or what is left begins with no valid submessage
 abbrev pub EndsWith : List ℕ → Option SubmessageFault → Type 0
 EndsWith octets None = octets ≡ []
 EndsWith octets (Some Rest) = (0 < length octets) × (length octets < 4)
@@ -54,7 +55,7 @@ abbrev pub IsReading : List ℕ → List Item → Option SubmessageFault → Typ
 IsReading octets [] fault = EndsWith octets fault
 IsReading octets (i ∷ is) fault = (rest : List ℕ) × IsBefore i octets rest × IsReading rest is fault
 
--- a message: a good header, and after its 20 octets the submessages
+-- a message: a valid header, and the submessages after its 20 octets
 pub record IsMessage (octets : List ℕ) (header : Header) (items : List Item) (fault : Option SubmessageFault) : Type 0 where
   pub opening : header_of octets ≡ Ok header
   pub behind : IsReading (drop 20 octets) items fault

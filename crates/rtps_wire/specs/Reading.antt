@@ -9,30 +9,30 @@ use Rattle.rtps_wire.specs.declared.submessage.SubmessageFault.TheVariants.{Rest
 use Rattle.rtps_wire.specs.declared.submessages.Front.{Front}
 use Rattle.rtps_wire.specs.declared.submessages.Front.TheVariants as code
 use Rattle.rtps_wire.specs.Fields.{endian_of}
-use Rattle.rtps_wire.specs.Submessage.{Content, Item, parts_of, view}
+use Rattle.rtps_wire.specs.Submessage.{PartsView, Item, parts_of, view}
 
--- a length of 0 means all that follows, but in PAD and INFO_TS, where it is empty
+-- a length of 0 means all octets that follow, except in PAD and INFO_TS, whose body is empty then
 abbrev pub runs_to_end : ℕ → ℕ → Bool
 runs_to_end id stated = stated == 0 && not (id == 0x01 || id == 0x09)
 
--- how long a body is where `left` octets are left
+-- the length of a body, if `left` octets are left
 abbrev pub body_length : ℕ → ℕ → ℕ → ℕ
 body_length id stated left = if runs_to_end id stated then left else stated
 
--- what octets begin with, and the octets after it, or that nothing is left
+-- the first submessage and the octets after it, or the end
 abbrev pub Read : Type 0
 Read = Result (Option (Item × List ℕ)) SubmessageFault
 
--- a body that has the form of its kind is a submessage
-abbrev pub item_of : ℕ → ℕ → Option Content → List ℕ → Read
+-- a body is a submessage if it is valid for its kind
+abbrev pub item_of : ℕ → ℕ → Option PartsView → List ℕ → Read
 item_of id flags None after = Err Invalid
 item_of id flags (Some c) after = Ok (Some (record { id = id; flags = flags; content = c }, after))
 
--- a body of this length, where so much is left
+-- a submessage with a body of this length, if there are enough octets
 abbrev pub body_of : ℕ → ℕ → ℕ → List ℕ → Read
 body_of id flags len rest = if nat_lt (length rest) len then Err Length else item_of id flags (parts_of id flags (take len rest)) (drop len rest)
 
--- what octets begin with, by its four octets of header and its body
+-- the first submessage, by the four octets of its header and its body
 unfoldable pub front_of : List ℕ → Read
 front_of [] = Ok None
 front_of (id ∷ []) = Err Rest
@@ -40,7 +40,7 @@ front_of (id ∷ flags ∷ []) = Err Rest
 front_of (id ∷ flags ∷ a ∷ []) = Err Rest
 front_of (id ∷ flags ∷ a ∷ b ∷ rest) = body_of id flags (body_length id (number (endian_of flags) 2 (a ∷ b ∷ [])) (length rest)) rest
 
--- what contracts see of what the code read at the front
+-- what contracts see of the result of the code
 abbrev pub seen : Front → Read
 seen (code.Submessage s after) = Ok (Some (view s, after.now))
 seen code.End = Ok None
@@ -51,13 +51,13 @@ pub record Reading : Type 0 where
   pub items : List Item
   pub fault : Option SubmessageFault
 
--- what was read at the front, and then the others after it
+-- the first submessage, and then the others
 abbrev pub go_on : Read → Reading → Reading
 go_on (Err f) others = record { items = []; fault = Some f }
 go_on (Ok None) others = record { items = []; fault = None }
 go_on (Ok (Some x)) others = record { items = x.0 ∷ others.items; fault = others.fault }
 
--- the reading of what comes after the first n octets
+-- the reading of the octets after the first n
 unfoldable pub reading_behind : ℕ → List ℕ → Reading
 reading_behind (suc n) [] = record { items = []; fault = None }
 reading_behind (suc n) (a ∷ more) = reading_behind n more
@@ -68,11 +68,11 @@ reading_behind zero (id ∷ flags ∷ a ∷ []) = record { items = []; fault = S
 reading_behind zero (id ∷ flags ∷ a ∷ b ∷ rest) =
     go_on (body_of id flags (body_length id (number (endian_of flags) 2 (a ∷ b ∷ [])) (length rest)) rest) (reading_behind (body_length id (number (endian_of flags) 2 (a ∷ b ∷ [])) (length rest)) rest)
 
--- the one reading of the octets after a message's header
+-- the reading of the octets after a message's header
 abbrev pub reading : List ℕ → Reading
 reading octets = reading_behind 0 octets
 
--- one call of next: it takes the first item, and never changes what ends the submessages
+-- one call of `next`: it returns the first submessage, and doesn't change the fault at the end
 pub record Takes (old : Reading) (taken : Option Submessage) (new : Reading) : Type 0 where
   pub first : YieldsFirstBy view (λ (r : Reading). r.items) old taken new
   pub fault : new.fault ≡ old.fault

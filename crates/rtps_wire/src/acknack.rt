@@ -1,8 +1,9 @@
-//! ACKNACK: which changes a reader has, and which it misses (DDSI-RTPS 8.3.7.1, 9.4.5.2).
+//! ACKNACK: the changes that a reader has and misses (DDSI-RTPS 8.3.7.1, 9.4.5.2).
 
 ghost use Rattle.std.specs.Prelude.{◌≡◌, None, IfOk};
 ghost use Rattle.rtps_types.specs.Sets.{sn_view};
-ghost use Rattle.rtps_wire.specs.Answering.{TellsAckNack, acknack_flags, acknack_octets, answer_items, our_header};
+ghost use Rattle.rtps_wire.specs.AckNack.{TellsAckNack, acknack_flags, acknack_octets};
+ghost use Rattle.rtps_wire.specs.Answering.{answer_items, our_header};
 ghost use Rattle.rtps_wire.specs.OneReading.{IsOnly};
 
 use crate::answering::{begin, push_octets, push_sn, push_u32, push_words};
@@ -10,22 +11,23 @@ use crate::kinds::{ACKNACK, ACKNACK_FINAL, LITTLE};
 use rtps_types::{Guid, Octets, SnSet};
 use std::alloc::{AllocError, Allocator};
 
-/// What an ACKNACK says to a writer (DDSI-RTPS 8.3.7.1).
+/// The contents of an ACKNACK (DDSI-RTPS 8.3.7.1).
 #[derive(Clone, Copy, Debug)]
 pub struct AckNack {
     /// The reader that answers.
     pub reader: Guid,
     /// The writer that is answered.
     pub writer: Guid,
-    /// The changes that are missing; those below its base are not. Without an offset none is.
+    /// The missing changes. No change below the base is missing, and with a bit count of 0 none is
+    /// missing at all.
     pub missing: SnSet,
-    /// Rises from one answer to the next.
+    /// Rises from one ACKNACK to the next.
     pub count: u32,
 }
 
-/// The datagram with which a reader answers a writer's heartbeat (DDSI-RTPS 8.3.7.1, 9.4.5.2):
-/// header, INFO_DST and ACKNACK, all little-endian. Flag F is set where `missing` has no offset. An
-/// error is a refused growth.
+/// Returns the datagram with which a reader answers a writer's HEARTBEAT (DDSI-RTPS 8.3.7.1,
+/// 9.4.5.2): header, INFO_DST and ACKNACK, all little-endian. Flag F is set if `missing` has a bit
+/// count of 0. An error is a refused growth.
 pub fn write_acknack<A: Allocator>(alloc: A, answer: AckNack) -> Result<Octets<A>, AllocError>
     ensures octets { IfOk result (λ octets. octets ≡ acknack_octets answer) }
     ensures message { IfOk result (λ octets. IsOnly octets
@@ -53,8 +55,8 @@ pub fn write_acknack<A: Allocator>(alloc: A, answer: AckNack) -> Result<Octets<A
     Ok(Octets::new(octets))
 }
 
-/// Flag F is set where the set has no offset, so that nothing is missing: no answer is asked for
-/// then.
+/// Returns the flags. Flag F is set if the set has a bit count of 0: nothing is missing, and the
+/// reader asks for no answer.
 fn flags_of(missing: &SnSet) -> u8
     ensures { result ≡ acknack_flags (sn_view missing.now) }
 {

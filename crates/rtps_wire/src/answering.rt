@@ -1,19 +1,20 @@
-//! What the answers to a writer have in common: each is a message of ours with one submessage
-//! after an INFO_DST, all of it little-endian. Memory is reserved once, for all of its octets.
+//! The common part of the answers to a writer: each is a message of this participant with INFO_DST
+//! and one other submessage, all little-endian. Memory is reserved once, for all of its octets.
 
 ghost use Rattle.std.specs.Prelude.{◌≡◌, ℕ, pos, ◌+◌, ◌*◌, ◌^◌, ◌<◌, ◌≤◌, List, [], ◌∷◌, ◌++◌, length, IfOk, vec_len, vec_capacity};
 ghost use Rattle.rtps_types.specs.Field.{spelled, spelled_sn};
 ghost use Rattle.rtps_wire.specs.Answering.{opened, spelled_words};
-ghost use Rattle.rtps_wire.specs.NumberSets.{words_in};
+ghost use Rattle.rtps_wire.specs.NumberSet.{words_in};
 
 use crate::kinds::{INFO_DST, LITTLE};
 use rtps_types::{Endian, GuidPrefix, put_sn, put_u16, put_u32};
 use std::alloc::{AllocError, Allocator};
 
-/// How many octets come before the submessage's body.
+/// The number of octets before the body of the submessage.
 const FRONT: usize = 40;
 
-/// Begins an answer, up to the header of its submessage, with room for a body of this length.
+/// Returns the octets of an answer up to the header of its submessage, with capacity for a body of
+/// this length.
 pub(crate) fn begin<A: Allocator>(
     alloc: A,
     own: GuidPrefix,
@@ -36,7 +37,7 @@ pub(crate) fn begin<A: Allocator>(
     Ok(octets)
 }
 
-/// Adds octets, for which there is room.
+/// Appends octets; the capacity has to be there.
 pub(crate) fn push_octets<A: Allocator>(octets: &mut Vec<u8, A>, more: &[u8])
     requires room { vec_len octets.old + length more.now ≤ vec_capacity octets.old }
     ensures items { octets.new.items ≡ octets.old.items ++ more.now }
@@ -46,7 +47,7 @@ pub(crate) fn push_octets<A: Allocator>(octets: &mut Vec<u8, A>, more: &[u8])
     octets.extend_from_slice(more).unwrap();
 }
 
-/// Adds a 16-bit number, for which there is room.
+/// Appends a 16-bit number; the capacity has to be there.
 pub(crate) fn push_u16<A: Allocator>(octets: &mut Vec<u8, A>, value: u16)
     requires room { vec_len octets.old + 2 ≤ vec_capacity octets.old }
     ensures items { octets.new.items ≡ octets.old.items ++ spelled Endian.Little 2 value }
@@ -58,7 +59,7 @@ pub(crate) fn push_u16<A: Allocator>(octets: &mut Vec<u8, A>, value: u16)
     push_octets(octets, &field);
 }
 
-/// Adds a 32-bit number, for which there is room.
+/// Appends a 32-bit number; the capacity has to be there.
 pub(crate) fn push_u32<A: Allocator>(octets: &mut Vec<u8, A>, value: u32)
     requires room { vec_len octets.old + 4 ≤ vec_capacity octets.old }
     ensures items { octets.new.items ≡ octets.old.items ++ spelled Endian.Little 4 value }
@@ -70,7 +71,7 @@ pub(crate) fn push_u32<A: Allocator>(octets: &mut Vec<u8, A>, value: u32)
     push_octets(octets, &field);
 }
 
-/// Adds a sequence number, for which there is room.
+/// Appends a sequence number; the capacity has to be there.
 pub(crate) fn push_sn<A: Allocator>(octets: &mut Vec<u8, A>, value: u64)
     requires number { value < 2 ^ 63 }
     requires room { vec_len octets.old + 8 ≤ vec_capacity octets.old }
@@ -83,7 +84,7 @@ pub(crate) fn push_sn<A: Allocator>(octets: &mut Vec<u8, A>, value: u64)
     push_octets(octets, &field);
 }
 
-/// Adds the words of a set, for which there is room.
+/// Appends the words of a set; the capacity has to be there.
 pub(crate) fn push_words<A: Allocator>(octets: &mut Vec<u8, A>, words: &[u32])
     requires room { vec_len octets.old + 4 * length words.now ≤ vec_capacity octets.old }
     ensures items { octets.new.items ≡ octets.old.items ++ spelled_words words.now }

@@ -1,4 +1,4 @@
-//! DATA: a change, whole (DDSI-RTPS 8.3.7.2, 9.4.5.3).
+//! DATA: a change in one piece (DDSI-RTPS 8.3.7.2, 9.4.5.3).
 
 ghost use Rattle.std.specs.Prelude.{◌≡◌};
 ghost use Rattle.std.specs.Option.{option_map};
@@ -9,7 +9,7 @@ use crate::inline_qos::{InlineQos, read_inline_qos};
 use crate::kinds::{DATA_KEY, DATA_NON_STANDARD, DATA_VALUE, INLINE_QOS};
 use rtps_types::{Endian, EntityId, KeyHash, get_u16};
 
-/// What a change carries, by the flags D, K and N of its DATA (DDSI-RTPS 9.4.5.3).
+/// The form of a change's payload, by the flags D, K and N of its DATA (DDSI-RTPS 9.4.5.3).
 #[derive(Clone, Copy, Debug, PartialEq, Eq)]
 pub enum Form {
     /// A serialized value.
@@ -22,12 +22,12 @@ pub enum Form {
     Nothing,
 }
 
-/// What comes with a change besides its number and its payload: its flags, and what its inline QoS
-/// says of the instance (DDSI-RTPS 9.6.4.8, 9.6.4.9).
+/// The properties of a change besides its number and its payload: the form, and what the inline QoS
+/// says about the instance (DDSI-RTPS 9.6.4.8, 9.6.4.9).
 #[derive(Clone, Copy, Debug, PartialEq, Eq)]
 pub struct ChangeInfo {
     pub form: Form,
-    /// The last octet of the status info in the inline QoS, 0 where there is none.
+    /// The last octet of the status info in the inline QoS; 0 if there is none.
     pub status: u8,
     /// The key hash in the inline QoS.
     pub hash: Option<KeyHash>,
@@ -36,9 +36,8 @@ pub struct ChangeInfo {
 impl ChangeInfo {
     ghost use Rattle.rtps_wire.specs.StatusNames.{status_name};
 
-    /// What the status info says of the instance, by its bits for disposed and unregistered
-    /// (DDSI-RTPS 9.6.4.9): `alive` where neither is set. The other bits say nothing. No memory is
-    /// taken.
+    /// Returns the name of the instance's state, by the status bits for disposed and unregistered
+    /// (DDSI-RTPS 9.6.4.9): `alive` if neither is set. Other bits are ignored. No memory is taken.
     pub fn status_name(&self) -> &'static str
         ensures { result.now ≡ status_name self.now.status }
     {
@@ -59,15 +58,15 @@ pub struct Data<'a> {
     /// The number of the change, at least 1.
     pub number: u64,
     pub info: ChangeInfo,
-    /// What follows the inline QoS, the encapsulation first; empty where the flags announce no
+    /// The octets after the inline QoS, encapsulation header first; empty if the flags announce no
     /// payload.
     pub payload: &'a [u8],
 }
 
-/// How many octets lie at least between octetsToInlineQos and the inline QoS.
+/// The least distance in octets between octetsToInlineQos and the inline QoS.
 const LEAST_OFFSET: usize = 16;
 
-/// The fields of a DATA with these flags, if its body has their form.
+/// Returns the fields of a DATA with these flags, or `None` if the body is invalid.
 #[tactic(auto, unfolding(crate::specs::Data::data_of))]
 pub(crate) fn read_data(flags: u8, endian: Endian, body: &[u8]) -> Option<Data<'_>>
     ensures { option_map data_view result ≡ data_of flags endian body.now }
@@ -100,7 +99,7 @@ pub(crate) fn read_data(flags: u8, endian: Endian, body: &[u8]) -> Option<Data<'
     })
 }
 
-/// The inline QoS where the flags say that it follows.
+/// Returns the inline QoS, which is present if the flags say so.
 pub(crate) fn qos_at(flags: u8, endian: Endian, rest: &[u8]) -> Option<InlineQos>
     ensures { result ≡ qos_of flags endian rest.now }
 {
@@ -114,7 +113,7 @@ pub(crate) fn qos_at(flags: u8, endian: Endian, rest: &[u8]) -> Option<InlineQos
     })
 }
 
-/// What the flags say that a change carries; a value and a key at once is no form.
+/// Returns the form of the payload by the flags; value and key at once are invalid.
 fn form_at(flags: u8) -> Option<Form>
     ensures { result ≡ form_of flags }
 {

@@ -9,31 +9,32 @@ use crate::fields::{get_entity, get_positive, get_rest};
 use crate::kinds::{DATA_FRAG_KEY, DATA_FRAG_NON_STANDARD};
 use rtps_types::{Endian, EntityId, get_u16, get_u32};
 
-/// The fields of a DATA_FRAG (DDSI-RTPS 8.3.7.3, 9.4.5.4). Whether its sizes and fragments fit
-/// together isn't judged here.
+/// The fields of a DATA_FRAG (DDSI-RTPS 8.3.7.3, 9.4.5.4). Whether its sizes and fragments are
+/// consistent isn't checked here.
 #[derive(Clone, Copy, Debug)]
 pub struct DataFrag<'a> {
     pub reader: EntityId,
     pub writer: EntityId,
     /// The number of the change, at least 1.
     pub number: u64,
-    /// The first fragment, at least 1; it may pass the last one of the change.
+    /// The number of the first fragment, at least 1; it may be greater than that of the change's
+    /// last fragment.
     pub start: u32,
-    /// How many fragments follow one another; none where it is 0.
+    /// The number of consecutive fragments; it may be 0.
     pub count: u16,
-    /// The octets of each fragment but the last.
+    /// The size in octets of each fragment but the last.
     pub size: u16,
-    /// The octets of the whole payload.
+    /// The size in octets of the complete payload.
     pub sample: u32,
     pub info: ChangeInfo,
-    /// What follows the inline QoS: the octets of the fragments, and maybe more.
+    /// The octets after the inline QoS: those of the fragments; more octets may follow.
     pub payload: &'a [u8],
 }
 
-/// How many octets lie at least between octetsToInlineQos and the inline QoS.
+/// The least distance in octets between octetsToInlineQos and the inline QoS.
 const LEAST_OFFSET: usize = 28;
 
-/// The fields of a DATA_FRAG with these flags, if its body has their form.
+/// Returns the fields of a DATA_FRAG with these flags, or `None` if the body is invalid.
 #[tactic(auto, unfolding(crate::specs::DataFrag::data_frag_of))]
 pub(crate) fn read_data_frag(flags: u8, endian: Endian, body: &[u8]) -> Option<DataFrag<'_>>
     ensures { option_map frag_view result ≡ data_frag_of flags endian body.now }
@@ -69,7 +70,7 @@ pub(crate) fn read_data_frag(flags: u8, endian: Endian, body: &[u8]) -> Option<D
     })
 }
 
-/// What the flags say that the fragments are of.
+/// Returns the form of the payload by the flags.
 fn form_at(flags: u8) -> Form
     ensures { result ≡ frag_form_of flags }
 {

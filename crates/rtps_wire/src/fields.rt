@@ -1,4 +1,4 @@
-//! The fields that bodies of several kinds have.
+//! Fields that several kinds of submessages have.
 
 ghost use Rattle.std.specs.Prelude.{◌≡◌, ◌^◌, ◌<◌, ◌≤◌, IfSome};
 ghost use Rattle.std.specs.Option.{option_map};
@@ -7,7 +7,7 @@ ghost use Rattle.rtps_wire.specs.Fields.{count_at, endian_of, entity_at, from, n
 use crate::kinds::LITTLE;
 use rtps_types::{Endian, EntityId, GuidPrefix, get_octets, get_sn, get_u32};
 
-/// The byte order of a submessage with these flags.
+/// Returns the byte order of a submessage with these flags.
 pub(crate) fn endian_at(flags: u8) -> Endian
     ensures { result ≡ endian_of flags }
 {
@@ -18,7 +18,7 @@ pub(crate) fn endian_at(flags: u8) -> Endian
     }
 }
 
-/// The octets from `at` on, which may be the end.
+/// Returns the octets from `at` on, or `None` if `at` is past the end.
 pub(crate) fn get_rest(octets: &[u8], at: usize) -> Option<&[u8]>
     ensures { option_map (λ rest. rest.now) result ≡ from octets.now at }
 {
@@ -43,7 +43,7 @@ pub(crate) fn get_count(octets: &[u8], at: usize, endian: Endian) -> Option<i32>
     Some(get_u32(octets, at, endian)?.cast_signed())
 }
 
-/// The sequence number at `at`, if it is there and is at least 1.
+/// Returns the sequence number at `at`, if there is one and it is at least 1.
 pub(crate) fn get_positive(octets: &[u8], at: usize, endian: Endian) -> Option<u64>
     ensures value { result ≡ positive_at endian octets.now at }
     ensures bounds { IfSome result (λ n. (1 ≤ n) × (n < 2 ^ 63)) }
@@ -55,7 +55,7 @@ pub(crate) fn get_positive(octets: &[u8], at: usize, endian: Endian) -> Option<u
     Some(number.cast_unsigned())
 }
 
-/// The sequence number at `at`, if it is there and is at least 0.
+/// Returns the sequence number at `at`, if there is one and it is at least 0.
 pub(crate) fn get_natural(octets: &[u8], at: usize, endian: Endian) -> Option<u64>
     ensures value { result ≡ natural_at endian octets.now at }
     ensures bounds { IfSome result (λ n. n < 2 ^ 63) }

@@ -1,4 +1,4 @@
-//! GAP: numbers that will not come (DDSI-RTPS 8.3.7.4, 9.4.5.5).
+//! GAP: irrelevant sequence numbers (DDSI-RTPS 8.3.7.4, 9.4.5.5).
 
 ghost use Rattle.std.specs.Prelude.{◌≡◌};
 ghost use Rattle.std.specs.Option.{option_map};
@@ -8,9 +8,9 @@ use crate::fields::{get_entity, get_positive};
 use crate::number_set::get_sn_set;
 use rtps_types::{Endian, EntityId, SnSet};
 
-/// The fields of a GAP (DDSI-RTPS 8.3.7.4, 9.4.5.5): it names the numbers from `start` up to below
-/// the base of `list`, and the members of `list`. Where `start` isn't below that base, the members
-/// alone.
+/// The fields of a GAP (DDSI-RTPS 8.3.7.4, 9.4.5.5). It names the numbers from `start` to the base
+/// of `list`, without the base, and the members of `list`. If `start` isn't below the base, it
+/// names the members only.
 #[derive(Clone, Copy, Debug, PartialEq, Eq)]
 pub struct Gap {
     pub reader: EntityId,
@@ -20,7 +20,7 @@ pub struct Gap {
     pub list: SnSet,
 }
 
-/// The fields of a GAP, if its body has their form.
+/// Returns the fields of a GAP, or `None` if the body is invalid.
 #[tactic(auto, unfolding(crate::specs::Gap::gap_of))]
 pub(crate) fn read_gap(endian: Endian, body: &[u8]) -> Option<Gap>
     ensures { option_map gap_view result ≡ gap_of endian body.now }

@@ -1,4 +1,4 @@
-//! HEARTBEAT: which numbers a writer has (DDSI-RTPS 8.3.7.5, 9.4.5.6).
+//! HEARTBEAT: the numbers that a writer has (DDSI-RTPS 8.3.7.5, 9.4.5.6).
 
 ghost use Rattle.std.specs.Prelude.{◌≡◌};
 ghost use Rattle.rtps_wire.specs.Heartbeat.{heartbeat_of};
@@ -18,13 +18,13 @@ pub struct Heartbeat {
     pub last: u64,
     /// Rises from one heartbeat to the next.
     pub count: i32,
-    /// Flag F: an answer is not asked for.
+    /// Flag F: the writer asks for no answer.
     pub final_flag: bool,
-    /// Flag L: the writer only says that it is alive.
+    /// Flag L: the heartbeat is sent only to show that the writer is alive.
     pub liveliness: bool,
 }
 
-/// The fields of a HEARTBEAT with these flags, if its body has their form.
+/// Returns the fields of a HEARTBEAT with these flags, or `None` if the body is invalid.
 #[tactic(auto, unfolding(crate::specs::Heartbeat::heartbeat_of))]
 pub(crate) fn read_heartbeat(flags: u8, endian: Endian, body: &[u8]) -> Option<Heartbeat>
     ensures { result ≡ heartbeat_of flags endian body.now }

@@ -1,4 +1,4 @@
-//! HEARTBEAT_FRAG: which fragments of a change a writer has (DDSI-RTPS 8.3.7.6, 9.4.5.7).
+//! HEARTBEAT_FRAG: the fragments of a change that a writer has (DDSI-RTPS 8.3.7.6, 9.4.5.7).
 
 ghost use Rattle.std.specs.Prelude.{◌≡◌};
 ghost use Rattle.rtps_wire.specs.HeartbeatFrag.{heartbeat_frag_of};
@@ -11,15 +11,15 @@ use rtps_types::{Endian, EntityId, get_u32};
 pub struct HeartbeatFrag {
     pub reader: EntityId,
     pub writer: EntityId,
-    /// The change, at least 1.
+    /// The number of the change, at least 1.
     pub number: u64,
-    /// Its last fragment that the writer has, at least 1.
+    /// The number of the last fragment that the writer has, at least 1.
     pub last: u32,
-    /// Rises from one of these to the next.
+    /// Rises from one HEARTBEAT_FRAG to the next.
     pub count: i32,
 }
 
-/// The fields of a HEARTBEAT_FRAG, if its body has their form.
+/// Returns the fields of a HEARTBEAT_FRAG, or `None` if the body is invalid.
 #[tactic(auto, unfolding(crate::specs::HeartbeatFrag::heartbeat_frag_of))]
 pub(crate) fn read_heartbeat_frag(endian: Endian, body: &[u8]) -> Option<HeartbeatFrag>
     ensures { result ≡ heartbeat_frag_of endian body.now }

@@ -1,4 +1,4 @@
-//! INFO_SRC: the source of what follows (DDSI-RTPS 8.3.7.9, 9.4.5.10).
+//! INFO_SRC: the source of the submessages after it (DDSI-RTPS 8.3.7.9, 9.4.5.10).
 
 ghost use Rattle.std.specs.Prelude.{◌≡◌};
 ghost use Rattle.rtps_wire.specs.Info.{source_of};
@@ -6,7 +6,7 @@ ghost use Rattle.rtps_wire.specs.Info.{source_of};
 use crate::fields::get_prefix;
 use rtps_types::{GuidPrefix, get_octets};
 
-/// The fields of an INFO_SRC (DDSI-RTPS 8.3.7.9, 9.4.5.10); its version and vendor aren't judged.
+/// The fields of an INFO_SRC (DDSI-RTPS 8.3.7.9, 9.4.5.10). Its version and vendor aren't checked.
 #[derive(Clone, Copy, Debug, PartialEq, Eq)]
 pub struct InfoSource {
     pub version: [u8; 2],
@@ -14,7 +14,7 @@ pub struct InfoSource {
     pub prefix: GuidPrefix,
 }
 
-/// The fields of an INFO_SRC, if its body has their form.
+/// Returns the fields of an INFO_SRC, or `None` if the body is invalid.
 pub(crate) fn read_info_src(body: &[u8]) -> Option<InfoSource>
     ensures { result ≡ source_of body.now }
 {

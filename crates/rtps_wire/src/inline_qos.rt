@@ -1,4 +1,4 @@
-//! Inline QoS: what is said of one change (DDSI-RTPS 8.7, 9.6.4).
+//! Inline QoS: parameters of one change (DDSI-RTPS 8.7, 9.6.4).
 
 ghost use Rattle.std.specs.Prelude.{◌≡◌};
 ghost use Rattle.rtps_wire.specs.InlineQos.{inline_of};
@@ -7,18 +7,18 @@ use rtps_params::ids::{KEY_HASH, STATUS_INFO};
 use rtps_params::{Front, Param, read_front};
 use rtps_types::{Endian, KeyHash, get_octets};
 
-/// What inline QoS says of a change.
+/// The parameters of inline QoS that are used here.
 #[derive(Clone, Copy, Debug, PartialEq, Eq)]
 pub(crate) struct InlineQos {
-    /// The key of its instance.
+    /// The key hash of the instance.
     pub(crate) hash: Option<KeyHash>,
-    /// The last octet of its status info, 0 where there is none.
+    /// The last octet of the status info; 0 if there is none.
     pub(crate) status: u8,
-    /// How many octets the list takes.
+    /// The number of octets of the list.
     pub(crate) used: usize,
 }
 
-/// What the parameters up to a place say.
+/// What the parameters read so far say.
 #[derive(Clone, Copy)]
 struct Seen {
     hash: Option<KeyHash>,
@@ -29,8 +29,8 @@ impl Seen {
     ghost use Rattle.rtps_params.specs.Reading.{view};
     ghost use Rattle.rtps_wire.specs.InlineSeen.{seen_with};
 
-    /// What they say together with one more, if its value is long enough; of several of one kind
-    /// the last counts.
+    /// Returns what they say with one more parameter, or `None` if its value is too short. The last
+    /// parameter of a kind counts.
     fn with(self, param: Param<'_>) -> Option<Seen>
         ensures { result ≡ seen_with self (view param.entry) }
     {
@@ -44,7 +44,8 @@ impl Seen {
     }
 }
 
-/// The inline QoS at the front of octets, if its list has no fault and its values are long enough.
+/// Returns the inline QoS at the start of `octets`, or `None` if the list has a fault or a value is
+/// too short.
 #[tactic(auto, using(crate::proofs::InlineSteps::whole_goes, crate::proofs::InlineSteps::whole_bad, crate::proofs::InlineSteps::whole_end, crate::proofs::InlineSteps::whole_fault, crate::proofs::InlineSteps::whole_is))]
 pub(crate) fn read_inline_qos(octets: &[u8], endian: Endian) -> Option<InlineQos>
     ensures { result ≡ inline_of endian octets.now }

@@ -22,10 +22,10 @@ pub(crate) const DATA: u8 = 0x15;
 
 pub(crate) const DATA_FRAG: u8 = 0x16;
 
-/// Flag E of each kind: numbers have the lowest octet first (9.4.5.1.2).
+/// Flag E of each kind: numbers are little-endian (9.4.5.1.2).
 pub(crate) const LITTLE: u8 = 0x01;
 
-/// Flag F of an ACKNACK: no answer is asked for (9.4.5.2).
+/// Flag F of an ACKNACK: the reader asks for no answer (9.4.5.2).
 pub(crate) const ACKNACK_FINAL: u8 = 0x02;
 
 /// Flag Q of a DATA and of a DATA_FRAG: inline QoS follows (9.4.5.3, 9.4.5.4).
@@ -46,10 +46,10 @@ pub(crate) const DATA_FRAG_KEY: u8 = 0x04;
 /// Flag N of a DATA_FRAG: the payload is in no standard form.
 pub(crate) const DATA_FRAG_NON_STANDARD: u8 = 0x08;
 
-/// Flag F of a HEARTBEAT: an answer is not asked for (9.4.5.6).
+/// Flag F of a HEARTBEAT: the writer asks for no answer (9.4.5.6).
 pub(crate) const HEARTBEAT_FINAL: u8 = 0x02;
 
-/// Flag L of a HEARTBEAT: the writer only says that it is alive.
+/// Flag L of a HEARTBEAT: it is sent only to show that the writer is alive.
 pub(crate) const HEARTBEAT_LIVELINESS: u8 = 0x04;
 
 /// Flag I of an INFO_TS: there is no time (9.4.5.11).

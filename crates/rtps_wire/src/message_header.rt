@@ -1,22 +1,22 @@
-//! The first 20 octets of a message (DDSI-RTPS 8.3.3, 9.4.4).
+//! The header of a message, its first 20 octets (DDSI-RTPS 8.3.3, 9.4.4).
 
 ghost use Rattle.std.specs.Prelude.{◌≡◌};
-ghost use Rattle.rtps_wire.specs.Header.{header_of};
+ghost use Rattle.rtps_wire.specs.MessageHeader.{header_of};
 
 use rtps_types::{GuidPrefix, get_octets};
 
-/// Who sent a message, and by which version of the protocol (DDSI-RTPS 8.3.3, 9.4.4).
+/// The header of a message: protocol version, vendor and sender (DDSI-RTPS 8.3.3, 9.4.4).
 #[derive(Clone, Copy, Debug, PartialEq, Eq)]
 pub struct Header {
-    /// Major and minor; the major one is 2.
+    /// The major version, which is 2, and the minor version.
     pub version: [u8; 2],
-    /// Who made the sender's implementation; any vendor is taken.
+    /// The vendor of the sender's implementation; any vendor is accepted.
     pub vendor: [u8; 2],
     /// The participant that sent the message.
     pub prefix: GuidPrefix,
 }
 
-/// Why octets are no message: the first cause in this order.
+/// Why octets are no message. If several apply, the first in this order is reported.
 #[derive(Clone, Copy, Debug, PartialEq, Eq)]
 pub enum HeaderFault {
     /// There are fewer than 20 octets.
@@ -27,8 +27,8 @@ pub enum HeaderFault {
     Version,
 }
 
-/// The header in the first 20 octets of a message, or the first fault that it has
-/// (DDSI-RTPS 8.3.3). No memory is taken.
+/// Returns the header in the first 20 octets of a message, or its first fault (DDSI-RTPS 8.3.3). No
+/// memory is taken.
 pub fn read_header(octets: &[u8]) -> Result<Header, HeaderFault>
     ensures { result ≡ header_of octets.now }
 {

@@ -1,7 +1,8 @@
-//! NACK_FRAG: which fragments of a change a reader misses (DDSI-RTPS 8.3.7.11, 9.4.5.13).
+//! NACK_FRAG: the fragments of a change that a reader misses (DDSI-RTPS 8.3.7.11, 9.4.5.13).
 
 ghost use Rattle.std.specs.Prelude.{◌≡◌, None, IfOk};
-ghost use Rattle.rtps_wire.specs.Answering.{TellsNackFrag, answer_items, nack_frag_octets, our_header};
+ghost use Rattle.rtps_wire.specs.Answering.{answer_items, our_header};
+ghost use Rattle.rtps_wire.specs.NackFrag.{TellsNackFrag, nack_frag_octets};
 ghost use Rattle.rtps_wire.specs.OneReading.{IsOnly};
 
 use crate::answering::{begin, push_octets, push_sn, push_u32, push_words};
@@ -9,23 +10,23 @@ use crate::kinds::{LITTLE, NACK_FRAG};
 use rtps_types::{FragSet, Guid, Number, Octets};
 use std::alloc::{AllocError, Allocator};
 
-/// What a NACK_FRAG says to a writer (DDSI-RTPS 8.3.7.11).
+/// The contents of a NACK_FRAG (DDSI-RTPS 8.3.7.11).
 #[derive(Clone, Copy, Debug)]
 pub struct NackFrag {
     /// The reader that answers.
     pub reader: Guid,
     /// The writer that is answered.
     pub writer: Guid,
-    /// The change.
+    /// The number of the change.
     pub number: Number,
-    /// Its fragments that are missing.
+    /// The missing fragments.
     pub missing: FragSet,
-    /// Rises from one answer to the next.
+    /// Rises from one NACK_FRAG to the next.
     pub count: u32,
 }
 
-/// The datagram with which a reader asks a writer for fragments (DDSI-RTPS 8.3.7.11, 9.4.5.13):
-/// header, INFO_DST and NACK_FRAG, all little-endian. An error is a refused growth.
+/// Returns the datagram with which a reader asks a writer for fragments (DDSI-RTPS 8.3.7.11,
+/// 9.4.5.13): header, INFO_DST and NACK_FRAG, all little-endian. An error is a refused growth.
 pub fn write_nack_frag<A: Allocator>(alloc: A, answer: NackFrag) -> Result<Octets<A>, AllocError>
     ensures octets { IfOk result (λ octets. octets ≡ nack_frag_octets answer) }
     ensures message { IfOk result (λ octets. IsOnly octets

@@ -1,18 +1,18 @@
-//! Sets of sequence numbers as they are in a body (DDSI-RTPS 9.4.2.6).
+//! Sets of sequence numbers in a body (DDSI-RTPS 9.4.2.6).
 
 ghost use Rattle.std.specs.Prelude.{◌≡◌, ◌≤◌, length};
 ghost use Rattle.std.specs.Option.{option_map};
 ghost use Rattle.rtps_types.specs.Sets.{sn_view};
-ghost use Rattle.rtps_wire.specs.NumberSets.{sn_set_at, words_at};
+ghost use Rattle.rtps_wire.specs.NumberSet.{sn_set_at, words_at};
 
 use crate::fields::get_positive;
 use rtps_types::{Endian, SnSet, get_u32};
 
-/// The most bits that a set may have.
+/// The most bits of a set (DDSI-RTPS 9.4.2.6).
 const MAX_BITS: u32 = 256;
 
-/// The set at `at`, if it is there and has at most [`MAX_BITS`] bits.
-#[tactic(auto, unfolding(crate::specs::NumberSets::sn_set_at))]
+/// Returns the set at `at`, if there is one and it has at most [`MAX_BITS`] bits.
+#[tactic(auto, unfolding(crate::specs::NumberSet::sn_set_at))]
 pub(crate) fn get_sn_set(octets: &[u8], at: usize, endian: Endian) -> Option<SnSet>
     ensures { option_map sn_view result ≡ sn_set_at endian octets.now at }
 {
@@ -25,7 +25,8 @@ pub(crate) fn get_sn_set(octets: &[u8], at: usize, endian: Endian) -> Option<SnS
     Some(SnSet { base, bits, words })
 }
 
-/// The `count` words at `at`, if they are there, and zeros after them.
+/// Returns the `count` words at `at`, with zeros after them, or `None` if not all of them are
+/// there.
 fn get_words(octets: &[u8], at: usize, count: usize, endian: Endian) -> Option<[u32; 8]>
     requires few { count ≤ 8 }
     requires there { at ≤ length octets.now }

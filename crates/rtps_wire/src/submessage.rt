@@ -1,4 +1,4 @@
-//! A submessage, and what its body says by its kind (DDSI-RTPS 8.3.7, 9.4.5).
+//! Submessages and their bodies, by kind (DDSI-RTPS 8.3.7, 9.4.5).
 
 ghost use Rattle.std.specs.Prelude.{◌≡◌};
 ghost use Rattle.std.specs.Option.{option_map};
@@ -17,48 +17,49 @@ use crate::kinds::{
 };
 use rtps_types::{GuidPrefix, Timestamp};
 
-/// A valid submessage, whose payload stays where the datagram lies (DDSI-RTPS 8.3.4).
+/// A valid submessage, whose payload is borrowed from the datagram (DDSI-RTPS 8.3.4).
 #[derive(Clone, Copy, Debug)]
 pub struct Submessage<'a> {
     /// Its kind (DDSI-RTPS 9.4.5.1.1).
     pub id: u8,
-    /// As they came; flag E is the lowest bit.
+    /// The flags; flag E is the lowest bit.
     pub flags: u8,
     pub parts: Parts<'a>,
 }
 
-/// What a submessage says, by its kind (DDSI-RTPS 8.3.7).
+/// The contents of a submessage, by its kind (DDSI-RTPS 8.3.7).
 #[derive(Clone, Copy, Debug)]
 pub enum Parts<'a> {
-    /// Nothing (8.3.7.12).
+    /// No contents (8.3.7.12).
     Pad,
     Heartbeat(Heartbeat),
     Gap(Gap),
-    /// The time of what follows, or that there is none.
+    /// The timestamp of the submessages after it, or none.
     InfoTimestamp(Option<Timestamp>),
-    /// The source of what follows.
+    /// The source of the submessages after it.
     InfoSource(InfoSource),
-    /// The destination of what follows (8.3.7.7); all zeros mean whoever reads it.
+    /// The destination of the submessages after it (8.3.7.7); all zeros stand for every
+    /// participant.
     InfoDestination(GuidPrefix),
     HeartbeatFrag(HeartbeatFrag),
     Data(Data<'a>),
     DataFrag(DataFrag<'a>),
-    /// A kind that isn't read: ACKNACK, NACK_FRAG, INFO_REPLY, INFO_REPLY_IP4 and unknown ones.
+    /// A kind that isn't read: ACKNACK, NACK_FRAG, INFO_REPLY, INFO_REPLY_IP4 and unknown kinds.
     Skipped,
 }
 
-/// What ends the submessages before the message ends (DDSI-RTPS 8.3.4.1).
+/// Why reading stops before the end of a message (DDSI-RTPS 8.3.4.1).
 #[derive(Clone, Copy, Debug, PartialEq, Eq)]
 pub enum SubmessageFault {
-    /// One to three octets are left.
+    /// One to three octets are left, which are too few for a submessage header.
     Rest,
-    /// A length passes the end.
+    /// A submessage's length is greater than the number of octets left.
     Length,
-    /// A body hasn't the form of its kind.
+    /// A body is invalid for its kind.
     Invalid,
 }
 
-/// What a body says, if it has the form of its kind.
+/// Returns the contents of a body, or `None` if it is invalid for its kind.
 #[tactic(auto, unfolding(crate::specs::Submessage::parts_of))]
 pub(crate) fn read_parts(id: u8, flags: u8, body: &[u8]) -> Option<Parts<'_>>
     ensures { option_map parts_view result ≡ parts_of id flags body.now }

@@ -1,4 +1,4 @@
-//! The submessages of a message, one after the other (DDSI-RTPS 8.3.4.1, 9.4.5.1).
+//! The submessages of a message, in order (DDSI-RTPS 8.3.4.1, 9.4.5.1).
 
 ghost use Rattle.std.specs.Prelude.{◌≡◌, ◌≤◌, List, Option, None, [], ◌∷◌, length};
 ghost use Rattle.std.specs.Iterator.{item_count};
@@ -13,7 +13,7 @@ use crate::submessage::{Submessage, SubmessageFault, read_parts};
 use rtps_types::get_u16;
 use std::marker::Model;
 
-/// What the octets of submessages begin with, and the octets after it.
+/// The result of reading one submessage, with the octets after it.
 #[derive(Clone, Copy)]
 enum Front<'a> {
     Submessage(Submessage<'a>, &'a [u8]),
@@ -50,8 +50,8 @@ fn read_front(octets: &[u8]) -> Front<'_>
     }
 }
 
-/// The valid submessages after a message's header, in order, up to the first that is invalid
-/// (DDSI-RTPS 8.3.4.1). No memory is taken.
+/// An iterator over the valid submessages after a message's header, in order, up to the first
+/// invalid one (DDSI-RTPS 8.3.4.1). No memory is taken.
 #[derive(Drop)]
 pub struct Submessages<'a> {
     rest: &'a [u8],
@@ -64,10 +64,10 @@ impl<'a> Model for Submessages<'a> {
 }
 
 impl<'a> Submessages<'a> {
-    /// Begins with the first submessage; the octets are those after the 20 of the header.
+    /// Returns the submessages in `octets`, which are those after the 20 octets of the header.
     #[tactic(auto, using(crate::proofs::Steps::few_items, crate::proofs::Grammar::reading_is))]
     pub fn new(octets: &'a [u8]) -> Submessages<'a>
-        // Any octets have a reading by the grammar, this one, and no other.
+        // By the grammar, any octets have exactly this reading.
         ensures found { IsReading octets.now result.items result.fault }
         ensures only { (items : List Item) (fault : Option SubmessageFault) →
             IsReading octets.now items fault → result ≡ record { items = items; fault = fault } }
@@ -77,8 +77,8 @@ impl<'a> Submessages<'a> {
         Submessages { rest: octets }
     }
 
-    /// What keeps the octets that are left from being submessages, or `None` where nothing is left;
-    /// to be asked once there is no next submessage, and `None` before.
+    /// Returns why reading stopped, or `None` if it reached the end. It is meant to be called once
+    /// `next` has returned `None`; before that it returns `None`.
     #[tactic(auto, using(crate::proofs::Steps::reading_item, crate::proofs::Steps::reading_end, crate::proofs::Steps::reading_fault))]
     pub fn fault(&self) -> Option<SubmessageFault>
         ensures ended { self.now.items ≡ [] → result ≡ self.now.fault }

@@ -97,7 +97,7 @@ const UNREGISTERED: [Call<'_>; 5] = [
     Read(10, ALL, &[(1, true, WasRead, NotNew, NoWriters)]),
 ];
 
-/// Of two writers one unregisters the instance, and one ends its match.
+/// Of two writers, one unregisters the instance and the match of the other ends.
 const TWO_WRITERS: [Call<'_>; 8] = [
     Accept(1, 1, Value(BLUE)),
     Accept(2, 2, Value(BLUE)),
@@ -116,7 +116,7 @@ const TWO_WRITERS: [Call<'_>; 8] = [
     ),
 ];
 
-/// The writers of a disposed instance go; the value of another makes it alive and new.
+/// The writers of a disposed instance go; a value of another writer makes it alive and new.
 const DISPOSED_AND_LEFT: [Call<'_>; 8] = [
     Accept(1, 1, Value(BLUE)),
     Accept(2, 2, Value(BLUE)),
@@ -136,7 +136,7 @@ const DISPOSED_AND_LEFT: [Call<'_>; 8] = [
     TakeNext(Some((6, true, NotRead, New, Alive))),
 ];
 
-/// Nothing is answered where nothing is asked for, and nothing is marked.
+/// A call with a `max` of 0 returns nothing and marks nothing.
 const NONE_ASKED_FOR: [Call<'_>; 4] = [
     Accept(1, 1, Value(BLUE)),
     Read(0, ALL, &[]),
@@ -173,7 +173,7 @@ fn keeps_all(rt: HostRuntime) -> Result<(), Fail> {
     Ok(())
 }
 
-/// The entry in the middle is taken; then more come of its instance than are kept.
+/// The entry in the middle is taken; then more entries of its instance come than are kept.
 const MIDDLE_TAKEN: [Call<'_>; 8] = [
     Accept(1, 1, Value(BLUE)),
     Accept(1, 2, Value(BLUE)),

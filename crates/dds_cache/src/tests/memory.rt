@@ -1,4 +1,4 @@
-//! Refused growths.
+//! Tests with too little memory.
 
 use super::What::{Dispose, Value};
 use super::{ALL, Row, notice, reads, takes, takes_next};
@@ -11,11 +11,11 @@ use rtps_types::KeyHash;
 use std::alloc::Allocator;
 use std::test::Fail;
 
-/// The octets of a heap.
+/// The size of a heap in octets.
 const SIZE: usize = 16_384;
 
-/// Whether values of twelve instances are accepted, the first that is refused once there is memory
-/// again; whether one was refused.
+/// Accepts values of twelve instances; the first that is refused is tried again once there is
+/// memory again. Returns whether all were accepted, and whether one was refused.
 fn accepts<A: Allocator + Copy>(
     alloc: A,
     cache: &mut DataReader<u64, A>,
@@ -55,19 +55,19 @@ fn accepts_again_what_was_refused(rt: HostRuntime) -> Result<(), Fail> {
     Ok(())
 }
 
-/// A value and the end of its instance, before a call answers them.
+/// A value and the disposal of its instance, before a call returns them.
 const BEFORE: [Row; 2] = [
     (1, true, NotRead, New, Disposed),
     (2, false, NotRead, New, Disposed),
 ];
 
-/// The same, after it.
+/// The same two entries, after a call returned them.
 const AFTER: [Row; 2] = [
     (1, true, Read, NotNew, Disposed),
     (2, false, Read, NotNew, Disposed),
 ];
 
-/// Whether a cache has these two, once they were accepted.
+/// Whether a cache accepts the notices of these two entries.
 fn has_two<A: Allocator + Copy>(alloc: A, cache: &mut DataReader<u64, A>) -> Result<bool, Fail> {
     let blue = KeyHash([1; 16]);
     Ok(

@@ -1,4 +1,4 @@
-//! Notices that are pulled out of a ring.
+//! Tests of pulling notices out of a ring.
 
 ghost use Rattle.std.specs.Prelude.{◌≡◌, IfSome};
 
@@ -16,10 +16,10 @@ use std::alloc::{AllocError, Allocator, Global};
 use std::test::Fail;
 use std::thread;
 
-/// The octets of a heap.
+/// The size of a heap in octets.
 const SIZE: usize = 16_384;
 
-/// How often a thread tries again before it gives up.
+/// The number of tries after which a thread gives up, so that a test that fails ends.
 const TRIES: u32 = 10_000_000;
 
 const BLUE: KeyHash = KeyHash([1; 16]);
@@ -33,7 +33,7 @@ const FIVE: [Row; 5] = [
     (5, true, NotRead, NotNew, Alive),
 ];
 
-/// Whether a cache hands over these and nothing else.
+/// Whether a cache returns exactly these entries, taken one by one.
 fn has_only<A: Allocator + Copy>(cache: &mut DataReader<u64, A>, rows: &[Row]) -> bool {
     for row in rows {
         if !takes_next(cache, Some(*row)) {
@@ -59,7 +59,7 @@ fn pulls_no_more_than_the_ring_has_places(rt: HostRuntime) -> Result<(), Fail> {
     Ok(())
 }
 
-/// Delivers a notice, as soon as the ring has a place for it. Answers whether it had one.
+/// Delivers a notice as soon as the ring has a place for it. Returns whether it had one in time.
 fn delivers(outlet: &mut Outlet<u64>, notice: Notice<u64>) -> bool
     ensures { outlet.new.ring ≡ outlet.old.ring }
 {
@@ -74,7 +74,7 @@ fn delivers(outlet: &mut Outlet<u64>, notice: Notice<u64>) -> bool
     false
 }
 
-/// Delivers all notices, and finishes.
+/// Delivers all notices, and then finishes the outlet.
 fn sends(outlet: Outlet<u64>, notices: Vec<Notice<u64>>) -> Option<Sent<u64>>
     ensures { IfSome result (λ sent. sent.ring ≡ outlet.ring) }
 {

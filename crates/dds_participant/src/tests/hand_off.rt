@@ -75,7 +75,7 @@ fn take_one<R: Threads + Sync>(
     alloc: Global,
     participant: &mut Participant<Shapes>,
     batch: &[Vec<u8>],
-    given: &mut Given<Shape>,
+    given: &mut BatchOutput<Shape>,
 ) -> Result<(), Fail> {
     let mut slices: Vec<&[u8]> = Vec::new(alloc);
     for octets in batch {
@@ -101,7 +101,7 @@ fn take_all<R: Threads + Sync>(
     datagrams: &[Vec<u8>],
 ) -> Result<(), Fail> {
     let mut participant = participant;
-    let mut given = Given::new(alloc);
+    let mut given = BatchOutput::new(alloc);
     for batch in datagrams.chunks(BATCH) {
         take_one(rt, alloc, &mut participant, batch, &mut given)?;
     }

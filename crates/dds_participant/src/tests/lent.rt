@@ -18,7 +18,7 @@ pub(super) fn lend<R: Threads + Sync>(
     alloc: Global,
     participant: &mut Participant<Shapes>,
     batch: (&[&[u8]], usize),
-    given: &mut Given<Shape>,
+    given: &mut BatchOutput<Shape>,
 ) -> Result<Vec<(usize, usize)>, Fail>
     requires { (1 ≤ batch.1) × (batch.1 ≤ 64) }
 {
@@ -50,7 +50,7 @@ fn place(datagram: u64) -> Place {
 fn lists_that_are_lent_again_hold_the_last_batch_alone(rt: HostRuntime) -> Result<(), Fail> {
     let alloc = rt.alloc();
     let mut participant = Participant::new(alloc, config(alloc)?, Shapes)?;
-    let mut given = Given::new(alloc);
+    let mut given = BatchOutput::new(alloc);
     let counts = lend(
         &rt,
         alloc,

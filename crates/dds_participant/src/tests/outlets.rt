@@ -142,7 +142,7 @@ fn parts_the_lists<R: Threads + Sync>(rt: &R, alloc: Global, workers: usize) -> 
     requires { (1 ≤ workers) × (workers ≤ 64) }
 {
     let (mut participant, mut inlet) = attached(alloc, 4)?;
-    let mut given = Given::new(alloc);
+    let mut given = BatchOutput::new(alloc);
     let counts = lend(rt, alloc, &mut participant, (&ALL, workers), &mut given)?;
     Ok(
         participant.deliver(1) == 0
@@ -165,7 +165,7 @@ fn notices_are_in_the_outcome_or_in_the_backlog(rt: HostRuntime) -> Result<(), F
 fn what_comes_while_nothing_is_attached_is_in_the_outcome(rt: HostRuntime) -> Result<(), Fail> {
     let alloc = rt.alloc();
     let (mut participant, mut inlet) = attached(alloc, 2)?;
-    let mut given = Given::new(alloc);
+    let mut given = BatchOutput::new(alloc);
     lend(&rt, alloc, &mut participant, (&[DATA], 2), &mut given)?;
     let Some((outlet, backlog)) = participant.detach(1) else {
         return Err(Fail::new("the outlet is gone"));

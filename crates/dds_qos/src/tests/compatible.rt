@@ -1,4 +1,4 @@
-//! Offers against what is asked for (DDS 1.4, 2.2.3).
+//! Tests of offered against requested policies (DDS 1.4, 2.2.3).
 
 use crate::*;
 use rtps_types::Duration;
@@ -10,7 +10,7 @@ const SECOND: Duration = Duration {
     fraction: 0,
 };
 
-/// A second and the least fraction more.
+/// One second and the least fraction.
 const MORE: Duration = Duration {
     seconds: 1,
     fraction: 1,
@@ -29,7 +29,7 @@ const LIVELINESS: Liveliness = Liveliness {
     lease_duration: SECOND,
 };
 
-/// Policies that are in the middle of their ranges.
+/// Policies in the middle of their ranges.
 const MIDDLE: Policies = Policies {
     durability: Durability::Transient,
     presentation: PRESENTATION,
@@ -41,7 +41,7 @@ const MIDDLE: Policies = Policies {
     destination_order: DestinationOrder::BySourceTimestamp,
 };
 
-/// One offer less than what is asked for, and the id that is reported of it.
+/// Offers that are incompatible with `MIDDLE`, and the policy id that is reported.
 const LESS: [(Policies, u32); 12] = [
     (
         Policies {
@@ -135,7 +135,7 @@ const LESS: [(Policies, u32); 12] = [
         },
         12,
     ),
-    // Two at once: the lesser id.
+    // Two incompatible policies: the lesser id is reported.
     (
         Policies {
             reliability: Reliability::BestEffort,
@@ -146,7 +146,8 @@ const LESS: [(Policies, u32); 12] = [
     ),
 ];
 
-/// The id of the policy that isn't met by an offer of these policies where those in the middle are asked for.
+/// Returns the id of the incompatible policy when these policies are offered and `MIDDLE` is
+/// requested.
 fn fault_of<A: Allocator + Copy>(alloc: A, policies: Policies) -> Option<u32> {
     let offered = Offered {
         policies,
@@ -196,7 +197,7 @@ fn as_much_and_more_is_met(rt: HostRuntime) {
     assert_eq!(rt; fault_of(rt.alloc(), more), None);
 }
 
-/// Partitions of one name, or of none.
+/// Returns partitions of one name, or of no name.
 fn partitions<A: Allocator + Copy>(alloc: A, name: Option<&str>) -> Result<Partitions<A>, Fail> {
     let mut names = Vec::new(alloc);
     if let Some(name) = name {
@@ -222,7 +223,7 @@ fn are_shared<A: Allocator + Copy>(
     Ok(share_partition(&offered, &requested))
 }
 
-/// What is offered, what is asked for, and whether they share it.
+/// An offered and a requested partition name, and whether they have a partition in common.
 const PARTITIONS: [(Option<&str>, Option<&str>, bool); 8] = [
     (None, None, true),
     (None, Some(""), true),
@@ -230,7 +231,7 @@ const PARTITIONS: [(Option<&str>, Option<&str>, bool); 8] = [
     (None, Some("a"), false),
     (Some("a"), None, false),
     (Some("a"), Some("a"), true),
-    // No wildcard, and no letter for another.
+    // A wildcard is compared as a plain name; case matters.
     (Some("*"), Some("a"), false),
     (Some("A"), Some("a"), false),
 ];

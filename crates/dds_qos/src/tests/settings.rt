@@ -1,4 +1,4 @@
-//! Records whose octets were written down by hand.
+//! Tests of decoding records, with octets written by hand.
 
 use super::octets_of;
 use crate::*;
@@ -8,7 +8,7 @@ use rtps_types::{Duration, Endian, EntityId, Guid, GuidPrefix, Locator};
 use std::alloc::Allocator;
 use std::test::Fail;
 
-/// Whether a record is well-formed that has this one parameter, in little-endian order.
+/// Whether a record with this one parameter, in little-endian order, is well-formed.
 fn is_taken<A: Allocator + Copy>(alloc: A, id: u16, value: &[u8]) -> Result<bool, Fail> {
     let mut octets = Vec::new(alloc);
     octets.extend_from_slice(&id.to_le_bytes())?;
@@ -22,7 +22,7 @@ fn is_taken<A: Allocator + Copy>(alloc: A, id: u16, value: &[u8]) -> Result<bool
     Ok(Settings::read(&list).is_ok())
 }
 
-/// The name of a partition may be long: that is no want of memory.
+/// A long name of a partition is accepted, and not reported as out of memory.
 #[test]
 fn a_partition_of_1000_octets_is_copied(rt: HostRuntime) -> Result<(), Fail> {
     let alloc = rt.alloc();
@@ -38,7 +38,7 @@ fn a_partition_of_1000_octets_is_copied(rt: HostRuntime) -> Result<(), Fail> {
     Ok(())
 }
 
-/// Each parameter that is known, by its id, with a value that is as short as it may be.
+/// Each known parameter id, with the shortest well-formed value.
 const LEAST: [(u16, &[u8]); 20] = [
     (0x02, &[100, 0, 0, 0, 0, 0, 0, 0]),
     (0x05, &[2, 0, 0, 0, 0x61, 0, 0, 0]),
@@ -86,15 +86,14 @@ fn each_parameter_at_its_least_length_and_a_word_less(rt: HostRuntime) -> Result
         assert!(rt; is_taken(rt.alloc(), id, value)?);
         assert!(rt; !is_taken(rt.alloc(), id, &value[..value.len() - 4])?);
     }
-    // Of a vendor's parameter, of one that must be understood, and of an unknown one nothing is
-    // read.
+    // Ignored: a vendor-specific parameter, one that must be understood, and an unknown one.
     for id in [0x8007, 0x4002, 0x0015] {
         assert!(rt; is_taken(rt.alloc(), id, &[])?);
     }
     Ok(())
 }
 
-/// A value by the id of its parameter, and whether it is in its range.
+/// A parameter id and a value, and whether the value is in its range.
 const RANGES: [(u16, &[u8], bool); 22] = [
     (0x1a, &[0, 0, 0, 0, 0, 0, 0, 0, 0, 0, 0, 0], false),
     (0x1a, &[1, 0, 0, 0, 0, 0, 0, 0, 0, 0, 0, 0], true),
@@ -119,7 +118,7 @@ const RANGES: [(u16, &[u8], bool); 22] = [
     // No partition, and one more than there are octets for.
     (0x29, &[0, 0, 0, 0], true),
     (0x29, &[2, 0, 0, 0, 2, 0, 0, 0, 0x61, 0, 0, 0], false),
-    // Octets after a value are free.
+    // Octets after a value are ignored.
     (0x1d, &[1, 0, 0, 0, 0xff, 0xff, 0xff, 0xff], true),
 ];
 
@@ -132,7 +131,7 @@ fn values_at_both_ends_of_their_range(rt: HostRuntime) -> Result<(), Fail> {
 }
 
 /// The record of a writer of topic Square and type ShapeType, little-endian, as peers send it: with
-/// parameters of other ids, of vendors too, with padding, and with some that come twice.
+/// parameters of other ids, also vendor-specific ones, with padding, and with repeated parameters.
 const WRITER: &str = "0000040000000000\
     50001000 0a0a0a0a0a0a0a0a0a0a0a0a000001c1\
     5a001000 0a0a0a0a0a0a0a0a0a0a0a0a00000102\
@@ -158,7 +157,7 @@ fn what_a_record_of_a_peer_names(rt: HostRuntime) -> Result<(), Fail> {
     let octets = octets_of(rt.alloc(), WRITER)?;
     let list = ParamList::new(octets.as_slice(), Endian::Little)?;
     let settings = Settings::read(&list)?;
-    // Of what comes again the last counts.
+    // The last value of a repeated parameter counts.
     assert_eq!(rt; settings.topic, Some("Square"));
     assert_eq!(rt; settings.type_name, Some("ShapeType"));
     let prefix = GuidPrefix([10; 12]);
@@ -208,7 +207,8 @@ fn locators_of_a_record_of_a_peer(rt: HostRuntime) -> Result<(), Fail> {
     let octets = octets_of(rt.alloc(), WRITER)?;
     let list = ParamList::new(octets.as_slice(), Endian::Little)?;
     let mut settings = Settings::read(&list)?;
-    // Locators add up; another kind, and a port of 0 or of more than 16 bits, are left out.
+    // All locators are listed, except those of another kind, or with a port of 0 or of more than
+    // 16 bits.
     let first = Locator {
         port: 1,
         address: [192, 0, 2, 1],
@@ -291,7 +291,7 @@ fn a_participant_in_big_endian_order(rt: HostRuntime) -> Result<(), Fail> {
     Ok(())
 }
 
-/// A bad ownership that a good one follows, after a good topic.
+/// A good topic, then a malformed ownership, then a good ownership.
 const OVERRIDDEN: &str =
     "05000c00 0700000053717561726500001f000400 020000001f000400 0000000001000000";
 
@@ -330,7 +330,7 @@ fn refused_growths(rt: HostRuntime) -> Result<(), Fail> {
     Ok(())
 }
 
-/// A participant's guid of twelve octets before a good one, with a policy that there isn't.
+/// A participant's guid of twelve octets before a good one, and a DURABILITY of an unknown kind.
 const NAMES: &str = "50000c00 0a0a0a0a0a0a0a0a0a0a0a0a 1d000400 04000000\
     50001000 0a0a0a0a0a0a0a0a0a0a0a0a000001c1\
     5a001000 090909090909090909090909000001c1\

@@ -1,4 +1,4 @@
-//! A struct whose key has no greatest size.
+//! A struct whose key has no maximum size.
 
 ghost use Rattle.std.specs.Prelude.{◌≡◌, ◌<◌, ◌+◌, ◌^◌, length, true, refl};
 ghost use Rattle.dds_struct.specs.Texts.{text_view, text_fits};

@@ -1,4 +1,4 @@
-//! A struct whose key has six octets at the most.
+//! A struct whose key has a maximum size of six octets.
 
 ghost use Rattle.std.specs.Prelude.{◌<◌, ◌^◌, [], refl};
 ghost use Rattle.rtps_cdr.specs.Cdr.{Both, Signed, Unsigned};

@@ -1,7 +1,7 @@
-//! What changes of announcers announce, by octets that were written down by hand.
+//! Tests of decoding changes of announcers, with octets written by hand.
 
+use crate::announced_data::said_in;
 use crate::announcement::{Announcement, participant_said, reader_said, writer_said};
-use crate::said::said_in;
 use rtps_params::ids::{ENDPOINT_GUID, PARTICIPANT_GUID};
 use rtps_types::{Duration, EntityId, Guid, GuidPrefix, KeyHash, Locator};
 use rtps_wire::{ChangeInfo, Form};
@@ -24,12 +24,12 @@ pub(super) const WRITER: &str = "00030000 5a001000 0a0a0a0a0a0a0a0a0a0a0a0a 0000
     05000c00 07000000 53717561 72650000 07001000 0a000000 53686170 65547970 65000000 \
     1a000c00 02000000 00000000 00000000 01000000";
 
-/// The same of a vendor, in big-endian order, of a reader 00000107 that gives locators and no key
-/// hash.
+/// A record of its reader 00000107 in big-endian order, with a vendor-specific parameter and
+/// without a key hash.
 const READER: &str = "0002ffff 80010004 aaaaaaaa 005a0010 0a0a0a0a0a0a0a0a0a0a0a0a 00000107 \
     0005000c 00000007 53717561 72650000 00070010 0000000a 53686170 65547970 65000000 00010000";
 
-/// The octets of a text in hex; blanks are for the eye.
+/// Returns the octets of a text in hex; blanks are ignored.
 pub(super) fn octets_of<A: Allocator + Copy>(alloc: A, text: &str) -> Result<Vec<u8, A>, Fail> {
     let mut octets = Vec::new(alloc);
     for part in text.split_ascii_whitespace() {
@@ -38,7 +38,7 @@ pub(super) fn octets_of<A: Allocator + Copy>(alloc: A, text: &str) -> Result<Vec
     Ok(octets)
 }
 
-/// Whose change it is.
+/// The announcer that a change comes from.
 #[derive(Clone, Copy)]
 enum By {
     Participants,
@@ -46,7 +46,7 @@ enum By {
     Readers,
 }
 
-/// What is announced, by its name alone.
+/// The kind of an announcement, with the last octet of an endpoint's entity.
 #[derive(Clone, Copy, Debug, PartialEq)]
 enum Told {
     Nothing,
@@ -58,8 +58,7 @@ enum Told {
     AsksNoMore(u8),
 }
 
-/// What a change announces, where it comes from 0a0a..0a; of endpoints the last octet of theirs is
-/// told.
+/// Returns what a change from 0a0a..0a announces, with the last octet of an endpoint's entity.
 fn announced(by: By, info: ChangeInfo, payload: &[u8]) -> Told {
     let said = match by {
         By::Participants => said_in(PARTICIPANT_GUID, info, payload),
@@ -84,11 +83,10 @@ fn announced(by: By, info: ChangeInfo, payload: &[u8]) -> Told {
     }
 }
 
-/// The hash of an entity of another participant.
+/// The key hash of an endpoint of another participant.
 const ANOTHER: Option<KeyHash> = Some(KeyHash([9; 16]));
 
-/// A change: whose it is, its form, its status, its key hash and its payload; and what it
-/// announces.
+/// A change: its announcer, form, status, key hash and payload; and what it announces.
 type Row = (By, Form, u8, Option<KeyHash>, &'static str, Told);
 
 /// Records.
@@ -101,7 +99,7 @@ const RECORDS: [Row; 16] = [
         PARTICIPANT,
         Told::Comes,
     ),
-    // Named by nothing but its source; other bits of the status make no end.
+    // Named only by its source; other bits of the status don't mark an end.
     (
         By::Participants,
         Form::Value,
@@ -122,7 +120,7 @@ const RECORDS: [Row; 16] = [
     // A record of another kind of endpoint.
     (By::Readers, Form::Value, 0, None, WRITER, Told::Nothing),
     (By::Writers, Form::Value, 0, None, READER, Told::Nothing),
-    // A participant that speaks of another one.
+    // A participant that announces another one.
     (
         By::Participants,
         Form::Value,
@@ -131,7 +129,7 @@ const RECORDS: [Row; 16] = [
         "00030000 50001000 09090909 09090909 09090909 000001c1 01000000",
         Told::Nothing,
     ),
-    // No topic; no type; no name at all, nor a hash; a name of another participant, with a good
+    // No topic; no type; neither a guid nor a hash; a guid of another participant, with a good
     // hash.
     (
         By::Writers,
@@ -152,8 +150,8 @@ const RECORDS: [Row; 16] = [
     (By::Writers, Form::Value, 0, None, BOTH, Told::Nothing),
     (By::Writers, Form::Value, 0, HASH, BOTH, Told::Offers(2)),
     (By::Writers, Form::Value, 0, ANOTHER, BOTH, Told::Nothing),
-    // Another encapsulation; three octets; a list without an end; a bad parameter that no writer
-    // has.
+    // Another encapsulation; three octets; a list without an end; a malformed parameter that
+    // doesn't apply to a writer.
     (
         By::Participants,
         Form::Value,
@@ -188,20 +186,20 @@ const RECORDS: [Row; 16] = [
     ),
 ];
 
-/// A hash of their writer 00000102.
+/// The key hash of their writer 00000102.
 const HASH: Option<KeyHash> = Some(KeyHash([
     10, 10, 10, 10, 10, 10, 10, 10, 10, 10, 10, 10, 0, 0, 1, 2,
 ]));
 
-/// The same of their participant.
+/// The key hash of their participant.
 const WHOLE: Option<KeyHash> = Some(KeyHash([
     10, 10, 10, 10, 10, 10, 10, 10, 10, 10, 10, 10, 0, 0, 1, 0xc1,
 ]));
 
-/// A topic and a type, and no name of the endpoint.
+/// A topic and a type, without the guid of the endpoint.
 const BOTH: &str = "00030000 05000800 02000000 61000000 07000800 02000000 61000000 01000000";
 
-/// Their writer 00000102 by its guid alone, and with a policy that there isn't.
+/// Their writer 00000102 by its guid alone, and a DURABILITY of an unknown kind.
 const NAMED: &str =
     "00030000 1d000400 04000000 5a001000 0a0a0a0a0a0a0a0a0a0a0a0a 00000102 01000000";
 
@@ -209,9 +207,9 @@ const NAMED: &str =
 const SHORT: &str = "00030000 5a000c00 0a0a0a0a0a0a0a0a0a0a0a0a \
     5a001000 0a0a0a0a0a0a0a0a0a0a0a0a 00000102 01000000";
 
-/// Ends, and what is none.
+/// Ends, and changes that are no ends.
 const ENDS: [Row; 17] = [
-    // Without a payload, by the hash; by nothing, which for a participant is its source.
+    // Without a payload, named by the hash, or by nothing: a participant is then its source.
     (By::Writers, Form::Nothing, 1, HASH, "", Told::Withdraws(2)),
     (By::Readers, Form::Nothing, 2, HASH, "", Told::Nothing),
     (By::Writers, Form::Nothing, 3, None, "", Told::Nothing),
@@ -226,7 +224,7 @@ const ENDS: [Row; 17] = [
         "",
         Told::Nothing,
     ),
-    // By a payload, of which the guid alone is judged, and which wins over the hash.
+    // Named by a payload. Only its guid is decoded, and it takes precedence over the hash.
     (
         By::Writers,
         Form::Key,
@@ -252,7 +250,7 @@ const ENDS: [Row; 17] = [
         "00030000 01000000",
         Told::Withdraws(2),
     ),
-    // A payload that can't be read is no end, whatever the hash.
+    // A malformed payload is no end, whatever the hash.
     (By::Writers, Form::Key, 1, HASH, SHORT, Told::Nothing),
     (By::Writers, Form::Key, 1, HASH, "", Told::Nothing),
     (
@@ -263,7 +261,7 @@ const ENDS: [Row; 17] = [
         "00010000 01000000",
         Told::Nothing,
     ),
-    // No end: other bits of the status, and a form that the standard leaves open.
+    // No end: other bits of the status, and a form that the standard doesn't define.
     (By::Writers, Form::Key, 0xfc, HASH, NAMED, Told::Nothing),
     (By::Writers, Form::Nothing, 0, HASH, "", Told::Nothing),
     (By::Writers, Form::Other, 1, HASH, NAMED, Told::Nothing),
@@ -305,7 +303,7 @@ fn local(port: u16) -> Locator {
     }
 }
 
-/// Whether it is announced that their participant comes, with all that its record has.
+/// Whether this announces their participant, with all that its record has.
 fn is_participant(announced: Option<Announcement<'_>>) -> bool {
     let Some(Announcement::Comes(prefix, mut facts)) = announced else {
         return false;
@@ -323,7 +321,7 @@ fn is_participant(announced: Option<Announcement<'_>>) -> bool {
         && facts.locators.next().is_none()
 }
 
-/// What their participant announces by a record, where it comes to a participant with this prefix.
+/// Returns what a record of their participant announces to a participant with the prefix `own`.
 fn comes(own: GuidPrefix, payload: &[u8]) -> Option<Announcement<'_>> {
     participant_said(
         own,
@@ -337,12 +335,12 @@ fn comes(own: GuidPrefix, payload: &[u8]) -> Option<Announcement<'_>> {
 fn what_a_participant_says_of_itself(rt: HostRuntime) -> Result<(), Fail> {
     let octets = octets_of(rt.alloc(), PARTICIPANT)?;
     assert!(rt; is_participant(comes(OURS, octets.as_slice())));
-    // Nobody speaks for us.
+    // A record that names our own participant is ignored.
     assert!(rt; comes(THEIRS, octets.as_slice()).is_none());
     Ok(())
 }
 
-/// A set of builtin endpoints with the bit of one announcer, and a lease of zero.
+/// Builtin endpoint sets with the bit of one announcer, or of none, and a lease of zero.
 const ONE_ANNOUNCER: [(&str, bool, bool); 3] = [
     (
         "00030000 58000400 04000000 02000800 00000000 00000000 01000000",
@@ -361,7 +359,7 @@ const ONE_ANNOUNCER: [(&str, bool, bool); 3] = [
     ),
 ];
 
-/// Which announcers a participant names that comes with a lease of zero.
+/// Returns whether a participant, announced with a lease of zero, has each of the two announcers.
 fn announcers(announced: Option<Announcement<'_>>) -> Option<(bool, bool)> {
     let zero = Duration {
         seconds: 0,
@@ -385,7 +383,7 @@ fn announcers_that_a_set_names(rt: HostRuntime) -> Result<(), Fail> {
     Ok(())
 }
 
-/// Whether it is announced that their writer offers all that its record has.
+/// Whether this announces their writer, with all that its record has.
 fn is_writer(announced: Option<Announcement<'_>>) -> bool {
     let Some(Announcement::Offers(writer, mut offer)) = announced else {
         return false;

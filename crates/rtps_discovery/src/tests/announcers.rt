@@ -1,10 +1,10 @@
-//! What is known after records of theirs, and what is answered to their announcers.
+//! Tests of what discovery knows after records of a peer, and of its answers to the announcers.
 
 use super::events::{ASKS, COMES, MOVES, OFFERS, SQUARES, Said, after};
 use crate::Discovery;
 use crate::addressed::{ENTITYID_SEDP_BUILTIN_PUBLICATIONS_ANNOUNCER, ENTITYID_UNKNOWN};
 use dds_qos::Reliability;
-use rtps_receiver::{Body, Event, Heartbeat};
+use rtps_receiver::{Event, EventBody, Heartbeat};
 use rtps_types::{EntityId, Number, Place};
 use std::alloc::Global;
 use std::test::Fail;
@@ -73,7 +73,8 @@ fn what_is_known(rt: HostRuntime) -> Result<(), Fail> {
     Ok(())
 }
 
-/// The port that a heartbeat of their announcer of writers is answered at, if it is.
+/// Returns the port that the answer to a heartbeat of their announcer of writers goes to, if there
+/// is an answer.
 fn answered(alloc: Global, mut discovery: Discovery) -> Result<Option<u16>, Fail> {
     let writer = ENTITYID_SEDP_BUILTIN_PUBLICATIONS_ANNOUNCER;
     let heartbeat = Heartbeat {
@@ -92,7 +93,7 @@ fn answered(alloc: Global, mut discovery: Discovery) -> Result<Option<u16>, Fail
         time: None,
         writer,
         reader: ENTITYID_UNKNOWN,
-        body: Body::Heartbeat(heartbeat),
+        body: EventBody::Heartbeat(heartbeat),
     };
     let effects = discovery.step(alloc, &event)?;
     match &effects.answer {
@@ -101,8 +102,8 @@ fn answered(alloc: Global, mut discovery: Discovery) -> Result<Option<u16>, Fail
     }
 }
 
-/// Nobody is answered whose participant isn't known; and a later record doesn't move its
-/// announcers.
+/// An announcer of an unknown participant gets no answer. A later record of a participant doesn't
+/// change the locators of its announcers.
 const ANSWERS: [(&[Said], Option<u16>); 3] = [
     (&[], None),
     (&[COMES], Some(7412)),

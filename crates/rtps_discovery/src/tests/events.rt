@@ -1,4 +1,4 @@
-//! What events make of what is known, by octets that were written down by hand.
+//! Tests of the effects of events on discovery, with octets written by hand.
 
 use super::announcements::{OURS, PARTICIPANT, THEIRS, octets_of};
 use crate::addressed::{
@@ -8,7 +8,7 @@ use crate::addressed::{
 };
 use crate::{Config, Discovery, MatchChange, ReaderConfig, check};
 use dds_qos::Durability;
-use rtps_receiver::{Body, Event, Whole};
+use rtps_receiver::{Event, EventBody, Whole};
 use rtps_types::{EntityId, Guid, KeyHash, Locators, MatchChangeKind, Number, Place};
 use rtps_wire::{ChangeInfo, Form};
 use std::alloc::{Allocator, Global};
@@ -21,7 +21,7 @@ pub(super) const SQUARES: Guid = Guid {
 };
 
 /// A participant of ours with a reader of squares, reliable and transient local, and one of
-/// circles, which asks for nothing.
+/// circles, with default policies.
 pub(super) fn two_readers(alloc: Global) -> Result<Config, Fail> {
     let mut config = Config::new(alloc, OURS);
     let squares = ReaderConfig::new(alloc, EntityId([0, 0, 1, 7]), "Square", "ShapeType")?;
@@ -56,7 +56,7 @@ pub(super) const COMES: Said = Said {
     payload: &[PARTICIPANT],
 };
 
-/// Its end, which names nothing.
+/// Its end, which has no payload.
 const LEAVES: Said = Said {
     info: ChangeInfo {
         form: Form::Nothing,
@@ -67,7 +67,7 @@ const LEAVES: Said = Said {
     ..COMES
 };
 
-/// A later record of it, in which nothing is but another port, 7777.
+/// A later record of it, which has nothing but another port, 7777.
 pub(super) const MOVES: Said = Said {
     payload: &[
         LITTLE,
@@ -169,7 +169,7 @@ pub(super) fn event_of(said: Said, payload: &[u8]) -> Result<Event<'_>, Fail> {
         time: None,
         writer: said.writer,
         reader: said.reader,
-        body: Body::Whole(Whole {
+        body: EventBody::Whole(Whole {
             number: Number::new(said.number).ok_or("no number")?,
             info: said.info,
             payload,
@@ -177,8 +177,7 @@ pub(super) fn event_of(said: Said, payload: &[u8]) -> Result<Event<'_>, Fail> {
     })
 }
 
-/// Discovery at its start, where our reader of squares is matched with these writers from the
-/// start.
+/// Discovery at its start, where our reader of squares has fixed matches with these writers.
 fn started(alloc: Global, fixed: &[Guid]) -> Result<Discovery, Fail> {
     let mut config = two_readers(alloc)?;
     for writer in fixed {
@@ -188,7 +187,7 @@ fn started(alloc: Global, fixed: &[Guid]) -> Result<Discovery, Fail> {
     Ok(Discovery::new(alloc, &config)?)
 }
 
-/// Takes in a change of theirs, and gives what our readers hear.
+/// Processes a change of theirs, and returns the changes of our readers' matches.
 fn hear(alloc: Global, discovery: &mut Discovery, said: Said) -> Result<Vec<Heard>, Fail> {
     let payload = payload_of(alloc, said.payload)?;
     let event = event_of(said, payload.as_slice())?;
@@ -209,10 +208,10 @@ pub(super) fn after(alloc: Global, said: &[Said]) -> Result<Discovery, Fail> {
     Ok(discovery)
 }
 
-/// Changes of theirs, one after the other, and what our readers hear of each.
+/// Changes of theirs, one after the other, each with the expected changes of our readers' matches.
 type Steps<'a> = &'a [(Said, &'a [Heard])];
 
-/// The place of the first of these changes of which our readers hear something else.
+/// Returns the index of the first step whose result isn't the expected one.
 fn first_unheard(
     alloc: Global,
     discovery: &mut Discovery,
@@ -226,7 +225,7 @@ fn first_unheard(
     Ok(None)
 }
 
-/// The same of discovery that starts with these fixed matches.
+/// Like [`first_unheard`], for discovery that starts with these fixed matches.
 fn first_unheard_from_start(
     alloc: Global,
     fixed: &[Guid],
@@ -238,7 +237,7 @@ fn first_unheard_from_start(
 
 /// The changes of one writer, record by record.
 const ONE_WRITER: [(Said, &[Heard]); 16] = [
-    // Nobody is heard whose participant isn't known.
+    // Changes from an unknown participant are ignored.
     (OFFERS, &[]),
     (COMES, &[]),
     (OFFERS, &[(0, 1, Became::Match(7413))]),
@@ -250,7 +249,7 @@ const ONE_WRITER: [(Said, &[Heard]); 16] = [
         },
         &[],
     ),
-    // It is refused by its reliability; refused twice; and refused by its durability.
+    // It is refused for its reliability, twice, and then for its durability.
     (
         Said {
             number: 3,
@@ -314,7 +313,7 @@ const ONE_WRITER: [(Said, &[Heard]); 16] = [
         },
         &[(0, 1, Became::Refuse(2))],
     ),
-    // Another topic, and locators of its own; and back.
+    // Another topic, with locators of its own; and the first topic again.
     (
         Said {
             number: 8,
@@ -355,7 +354,7 @@ const ONE_WRITER: [(Said, &[Heard]); 16] = [
         },
         &[(0, 1, Became::Match(7413))],
     ),
-    // A record that can't be read changes nothing, and its number is received.
+    // A malformed record changes nothing, but its number counts as received.
     (
         Said {
             number: 12,
@@ -364,7 +363,7 @@ const ONE_WRITER: [(Said, &[Heard]); 16] = [
         },
         &[],
     ),
-    // Another type; and it ends, by a key.
+    // Another type; and its end, by a key payload.
     (
         Said {
             number: 13,
@@ -394,11 +393,11 @@ const ONE_WRITER: [(Said, &[Heard]); 16] = [
     ),
 ];
 
-/// A participant that speaks again, leaves, and comes again; and two writers of it.
+/// A participant that is announced again, leaves, and comes again; and two writers of it.
 const ONE_PARTICIPANT: [(Said, &[Heard]); 8] = [
     (COMES, &[]),
     (OFFERS, &[(0, 1, Became::Match(7413))]),
-    // Later records are numbered as they like.
+    // Later records may have any number.
     (MOVES, &[]),
     (
         Said {
@@ -409,7 +408,7 @@ const ONE_PARTICIPANT: [(Said, &[Heard]); 8] = [
         &[(0, 2, Became::Match(7777))],
     ),
     (LEAVES, &[(0, 1, Became::Unmatch), (0, 2, Became::Unmatch)]),
-    // Its announcers begin again with number 1.
+    // Its announcers start again at number 1.
     (OFFERS, &[]),
     (COMES, &[]),
     (OFFERS, &[(0, 1, Became::Match(7413))]),
@@ -471,8 +470,8 @@ pub(super) const ASKS: Said = Said {
     ..COMES
 };
 
-/// What leaves no trace: an announcer that the participant doesn't have, and an event for another
-/// reader than the one that it announces to.
+/// Events that are ignored: from an announcer that the participant doesn't have, and for another
+/// reader than the one that the announcer writes to.
 const UNHEARD: [(Said, &[Heard]); 4] = [
     (ONE_ANNOUNCER, &[]),
     (OFFERS, &[]),
@@ -486,7 +485,7 @@ const UNHEARD: [(Said, &[Heard]); 4] = [
     (ASKS, &[]),
 ];
 
-/// A match from the start; and another of the same writer.
+/// A fixed match, and another match of the same writer.
 const FIXED: [(Said, &[Heard]); 4] = [
     (COMES, &[]),
     (
@@ -519,7 +518,7 @@ const FIXED: [(Said, &[Heard]); 4] = [
     ),
 ];
 
-/// Each run, and the writers that our reader of squares is matched with from the start.
+/// Each run, with the writers that our reader of squares has fixed matches with.
 const RUNS: [(&[Guid], Steps<'static>); 5] = [
     (&[], &ONE_WRITER),
     (&[], &ONE_PARTICIPANT),

@@ -1,4 +1,4 @@
-//! Participants whose leases end, by octets that were written down by hand.
+//! Tests of participants whose leases end, with octets written by hand.
 
 use super::announcements::OURS;
 use super::events::payload_of;
@@ -7,7 +7,7 @@ use crate::addressed::{
     ENTITYID_UNKNOWN,
 };
 use crate::{Config, Discovery, MatchChange, ReaderConfig, check};
-use rtps_receiver::{Body, Event, Whole};
+use rtps_receiver::{Event, EventBody, Whole};
 use rtps_types::{EntityId, Guid, GuidPrefix, Locators, MatchChangeKind, Number, Place};
 use rtps_wire::{ChangeInfo, Form};
 use std::alloc::{AllocError, Allocator, Global};
@@ -35,7 +35,7 @@ const THREE: Peer = Peer {
     prefix: "030303030303030303030303",
 };
 
-/// What comes to discovery.
+/// An input of discovery.
 #[derive(Clone, Copy)]
 pub(super) enum Input {
     /// A record of a participant, with this lease.
@@ -52,10 +52,10 @@ pub(super) enum Input {
 
 use Input::{Comes, Leaves, Misnames, Moment, Offers};
 
-/// Leases of some length, little-endian: seconds, then units of 2^-32 seconds.
+/// A lease, little-endian: seconds, then units of 2^-32 seconds.
 const NO_TIME: &str = "02000800 00000000 00000000";
 
-/// 2147484 units.
+/// 2147484 units of 2^-32 seconds.
 const HALF_A_MILLISECOND: &str = "02000800 00000000 9cc42000";
 
 pub(super) const ONE_SECOND: &str = "02000800 01000000 00000000";
@@ -64,15 +64,15 @@ const TWO_SECONDS: &str = "02000800 02000000 00000000";
 
 const THREE_SECONDS: &str = "02000800 03000000 00000000";
 
-/// Less than no time, whatever the fraction.
+/// A negative lease, which counts as zero whatever its fraction.
 const MINUS_ONE_SECOND: &str = "02000800 ffffffff ffffffff";
 
 const INFINITE: &str = "02000800 ffffff7f ffffffff";
 
-/// A unit less: 2147483648 seconds, rounded up.
+/// One unit less than infinite: 2147483648 seconds, rounded up.
 const ALMOST_INFINITE: &str = "02000800 ffffff7f feffffff";
 
-/// No lease: 100 seconds.
+/// No lease is announced, so it is 100 seconds.
 const UNSAID: &str = "";
 
 /// The entities of two writers.
@@ -105,7 +105,7 @@ enum Became {
 use Became::{Matched, Unmatched};
 
 /// A change: the rank, the octet of the participant, the third octet of its writer's entity, and
-/// what becomes of them.
+/// the kind of the change.
 type Heard = (u32, u8, u8, Became);
 
 fn heard_of(change: &MatchChange) -> Heard {
@@ -127,7 +127,7 @@ pub(super) fn two_readers(alloc: Global) -> Result<Config, Fail> {
     Ok(config)
 }
 
-/// The octets of what an input says.
+/// Returns the payload of an input.
 fn payload_in(alloc: Global, input: Input) -> Result<Vec<u8>, Fail> {
     match input {
         Comes(peer, lease) => payload_of(
@@ -166,7 +166,7 @@ fn payload_in(alloc: Global, input: Input) -> Result<Vec<u8>, Fail> {
     }
 }
 
-/// The event of an input, if it is one.
+/// Returns the event of an input, if it is one.
 fn event_in(input: Input, payload: &[u8]) -> Result<Option<Event<'_>>, Fail> {
     let of_participants = ENTITYID_SPDP_BUILTIN_PARTICIPANT_ANNOUNCER;
     let of_writers = ENTITYID_SEDP_BUILTIN_PUBLICATIONS_ANNOUNCER;
@@ -185,7 +185,7 @@ fn event_in(input: Input, payload: &[u8]) -> Result<Option<Event<'_>>, Fail> {
         time: None,
         writer,
         reader: ENTITYID_UNKNOWN,
-        body: Body::Whole(Whole {
+        body: EventBody::Whole(Whole {
             number: Number::new(number).ok_or("no number")?,
             info: ChangeInfo {
                 form,
@@ -197,7 +197,7 @@ fn event_in(input: Input, payload: &[u8]) -> Result<Option<Event<'_>>, Fail> {
     }))
 }
 
-/// Takes a moment in; somebody is due exactly where somebody is forgotten.
+/// Advances to a moment, and checks that a lease is due exactly if a participant is removed.
 fn expire(alloc: Global, discovery: &mut Discovery, moment: u64) -> Result<Vec<MatchChange>, Fail> {
     let is_due = discovery.is_due(moment);
     let known = discovery.participants().count();
@@ -208,7 +208,7 @@ fn expire(alloc: Global, discovery: &mut Discovery, moment: u64) -> Result<Vec<M
     Ok(ended)
 }
 
-/// Takes the event of an input in, if it is one, and gives what our readers hear.
+/// Processes the event of an input, if it is one, and returns the changes of our readers' matches.
 pub(super) fn step<A: Allocator + Copy>(
     alloc: Global,
     heap: A,
@@ -225,7 +225,7 @@ pub(super) fn step<A: Allocator + Copy>(
     }
 }
 
-/// Takes an input in, and gives what our readers hear.
+/// Processes an input, and returns the changes of our readers' matches.
 fn take(alloc: Global, discovery: &mut Discovery, input: Input) -> Result<Vec<MatchChange>, Fail> {
     if let Moment(moment) = input {
         return expire(alloc, discovery, moment);
@@ -234,10 +234,10 @@ fn take(alloc: Global, discovery: &mut Discovery, input: Input) -> Result<Vec<Ma
     Ok(changes)
 }
 
-/// Inputs, one after the other, and what our readers hear of each.
+/// Inputs, one after the other, each with the expected changes of our readers' matches.
 type Story<'a> = &'a [(Input, &'a [Heard])];
 
-/// The place of the first of these inputs of which our readers hear something else.
+/// Returns the index of the first input whose result isn't the expected one.
 fn first_unheard(
     alloc: Global,
     discovery: &mut Discovery,
@@ -265,7 +265,7 @@ fn started(alloc: Global, fixed: &[Guid]) -> Result<Discovery, Fail> {
     Ok(Discovery::new(alloc, &config)?)
 }
 
-/// Three whose leases end in the opposite order of their prefixes.
+/// Three participants whose leases end in the opposite order of their prefixes.
 const ONE_BY_ONE: [(Input, &[Heard]); 13] = [
     (Comes(ONE, THREE_SECONDS), &[]),
     (Comes(TWO, TWO_SECONDS), &[]),
@@ -291,7 +291,7 @@ const ONE_BY_ONE: [(Input, &[Heard]); 13] = [
     (Moment(4000), &[]),
 ];
 
-/// The same at one moment: by rank, and then by writer over all of them.
+/// Their leases end at one moment: the changes are by rank, and then by writer over all of them.
 const ALL_AT_ONCE: [(Input, &[Heard]); 8] = [
     (Comes(ONE, THREE_SECONDS), &[]),
     (Comes(TWO, TWO_SECONDS), &[]),
@@ -342,8 +342,8 @@ fn leases_end_one_by_one_and_all_at_once(rt: HostRuntime) -> Result<(), Fail> {
     Ok(())
 }
 
-/// The last moment at which a participant is known that was heard at a moment with the first lease
-/// and at a later one with the second, if it is forgotten at all.
+/// A participant is heard at one moment with the first lease and at a later one with the second.
+/// The result is the last moment at which it is known, if it is removed at all.
 #[derive(Clone, Copy)]
 struct Renewal {
     first: (u64, &'static str),
@@ -352,7 +352,7 @@ struct Renewal {
 }
 
 const RENEWALS: [Renewal; 9] = [
-    // It is shortened, lengthened, made infinite and left out.
+    // The lease is shortened, lengthened, made infinite and left out.
     Renewal {
         first: (0, THREE_SECONDS),
         second: (500, ONE_SECOND),
@@ -373,7 +373,7 @@ const RENEWALS: [Renewal; 9] = [
         second: (1000, UNSAID),
         last: Some(101_000),
     },
-    // It ends with the moment at which it was heard, or half a millisecond later.
+    // The lease ends with the moment at which it was heard, or half a millisecond later.
     Renewal {
         first: (0, NO_TIME),
         second: (0, NO_TIME),
@@ -394,7 +394,7 @@ const RENEWALS: [Renewal; 9] = [
         second: (1, ALMOST_INFINITE),
         last: Some(2_147_483_648_001),
     },
-    // No moment is after the greatest.
+    // No moment is after the greatest one, so a lease that lasts until then never ends.
     Renewal {
         first: (0, INFINITE),
         second: (u64::MAX - 1, ONE_SECOND),
@@ -432,8 +432,8 @@ fn later_records_renew_leases(rt: HostRuntime) -> Result<(), Fail> {
     Ok(())
 }
 
-/// Neither a record that is ignored, since it names another participant, nor one of a writer is a
-/// sign of life; and a moment before another counts as that.
+/// Two records don't renew a lease: one that is ignored since it names another participant, and one
+/// of a writer. A moment before an earlier one counts as that one.
 const SILENT: [(Input, &[Heard]); 6] = [
     (Moment(500), &[]),
     (Comes(ONE, ONE_SECOND), &[]),
@@ -446,7 +446,7 @@ const SILENT: [(Input, &[Heard]); 6] = [
     (Moment(1501), &[(0, 1, 1, Unmatched), (1, 1, 1, Unmatched)]),
 ];
 
-/// It leaves by itself, comes again, and keeps silent.
+/// A participant leaves, comes again, and keeps silent.
 const COMES_AGAIN: [(Input, &[Heard]); 9] = [
     (Comes(ONE, ONE_SECOND), &[]),
     (
@@ -456,7 +456,7 @@ const COMES_AGAIN: [(Input, &[Heard]); 9] = [
     (Moment(900), &[]),
     (Leaves(ONE), &[(0, 1, 1, Unmatched), (1, 1, 1, Unmatched)]),
     (Comes(ONE, ONE_SECOND), &[]),
-    // Its announcers begin again with number 1.
+    // Its announcers start again at number 1.
     (
         Offers(ONE, 1, SECOND),
         &[(0, 1, 2, Matched), (1, 1, 2, Matched)],
@@ -479,7 +479,7 @@ fn what_is_no_sign_of_life(rt: HostRuntime) -> Result<(), Fail> {
     Ok(())
 }
 
-/// What is heard of a writer that is matched with the first reader from the start.
+/// The changes for a writer that has a fixed match with the first reader.
 const OF_A_FIXED_ONE: [(Input, &[Heard]); 3] = [
     (Comes(ONE, ONE_SECOND), &[]),
     (Offers(ONE, 1, FIRST), &[(1, 1, 1, Matched)]),

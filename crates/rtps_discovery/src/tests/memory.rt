@@ -1,4 +1,4 @@
-//! Refused growths.
+//! Tests with too little memory.
 
 ghost use Rattle.std.specs.Prelude.{◌≡◌, Ok};
 ghost use Rattle.rtps_discovery.specs.Config.{check_of};
@@ -22,7 +22,8 @@ fn is_taken<A: Allocator + Copy>(
     Ok(discovery.step(heap, &event).is_ok())
 }
 
-/// How many sets of all matches there is memory for, up to 64; each has the one match.
+/// Returns the number of sets of all matches that there is memory for, up to 64; each has the one
+/// match.
 fn count_sets<A: Allocator + Copy>(
     alloc: Global,
     heap: A,
@@ -39,8 +40,8 @@ fn count_sets<A: Allocator + Copy>(
     Ok(sets.len())
 }
 
-/// Whether there is memory for a participant and its writer, and then for their match, and not for
-/// it many times. After a refused growth each event is refused.
+/// Whether there is memory for a participant, its writer and some sets of all matches, but not for
+/// 64 sets. Once memory was refused, each event is refused.
 fn has_room<A: Allocator + Copy>(
     alloc: Global,
     heap: A,
@@ -58,7 +59,7 @@ fn has_room<A: Allocator + Copy>(
     Ok(false)
 }
 
-/// The same of a heap of this size.
+/// Like [`has_room`], for a heap of this size.
 fn has_room_in(alloc: Global, config: &Config, size: usize) -> Result<bool, Fail>
     requires { check_of config.now ≡ Ok tt }
 {
@@ -104,7 +105,7 @@ enum Refused {
     Nowhere,
 }
 
-/// How much is known, and of which moment.
+/// Returns the greatest moment, and the numbers of known participants and writers.
 fn amount_of<A: Allocator + Copy>(discovery: &Discovery<A>) -> (u64, usize, usize) {
     let participants = discovery.participants().count();
     (
@@ -114,7 +115,7 @@ fn amount_of<A: Allocator + Copy>(discovery: &Discovery<A>) -> (u64, usize, usiz
     )
 }
 
-/// Whether a record and a moment are refused from now on, and change nothing.
+/// Whether a record and a moment are refused, and change nothing.
 fn stays_spent<A: Allocator + Copy>(
     alloc: Global,
     heap: A,
@@ -127,8 +128,8 @@ fn stays_spent<A: Allocator + Copy>(
     Ok(!is_taken && !expires && amount_of(discovery) == amount)
 }
 
-/// Where memory is refused first as the leases of both participants end; two readers hear of four
-/// writers.
+/// Returns where memory is refused first as the leases of both participants end: four writers are
+/// unmatched from two readers.
 fn refusal_in<A: Allocator + Copy>(
     alloc: Global,
     heap: A,
@@ -154,7 +155,7 @@ fn refusal_in<A: Allocator + Copy>(
     Err(Fail::new("something is taken after a refused growth"))
 }
 
-/// The same of a heap of this size.
+/// Like [`refusal_in`], for a heap of this size.
 fn refusal_of(alloc: Global, config: &Config, size: usize) -> Result<Refused, Fail>
     requires { check_of config.now ≡ Ok tt }
 {

@@ -1,4 +1,4 @@
-//! What is known at the start.
+//! Tests of discovery at its start.
 
 use super::{GOOD, OUR_WRITER, WRITER, WRITER_WITHOUT_KEY, config_of};
 use crate::{Discovery, check};
@@ -16,7 +16,7 @@ fn is_at_start(discovery: &Discovery) -> bool {
         && discovery.remote_readers().next().is_none()
 }
 
-/// Whether discovery of a good configuration starts so.
+/// Whether discovery of a configuration without faults starts like this.
 fn starts(alloc: Global) -> Result<bool, Fail> {
     let config = config_of(alloc, GOOD)?;
     check(&config)?;

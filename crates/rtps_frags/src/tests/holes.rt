@@ -1,4 +1,4 @@
-//! Fragments that come early, at their places in the buffer or apart from it.
+//! Fragments after a missing one, stored at their places in the buffer or apart from it.
 
 use super::is_just;
 use crate::Assembly;
@@ -7,7 +7,7 @@ use std::test::Fail;
 /// The octets of a sample in fragments of one octet.
 const OCTETS: &[u8] = b"abcdefghi";
 
-/// Fragments 2 and 5 are missed. The later one comes first.
+/// Fragments 2 and 5 are missing, and 5 arrives first.
 #[test]
 fn the_later_hole_first(rt: HostRuntime) -> Result<(), Fail> {
     let alloc = rt.alloc();
@@ -23,7 +23,7 @@ fn the_later_hole_first(rt: HostRuntime) -> Result<(), Fail> {
     Ok(())
 }
 
-/// Or the earlier one does, and what lies up to the later one is joined.
+/// Fragments 2 and 5 are missing, and 2 arrives first: the fragments up to 5 are joined.
 #[test]
 fn the_earlier_hole_first(rt: HostRuntime) -> Result<(), Fail> {
     let alloc = rt.alloc();
@@ -38,8 +38,8 @@ fn the_earlier_hole_first(rt: HostRuntime) -> Result<(), Fail> {
     Ok(())
 }
 
-/// The last fragment is kept apart, for the hole before it would be longer than all that came. What
-/// comes before it ends just where it begins.
+/// The last fragment is stored apart, since the hole before it would be longer than all octets
+/// received. The fragments before it end exactly where it begins.
 #[test]
 fn a_hole_that_is_too_long(rt: HostRuntime) -> Result<(), Fail> {
     let alloc = rt.alloc();
@@ -54,7 +54,7 @@ fn a_hole_that_is_too_long(rt: HostRuntime) -> Result<(), Fail> {
     Ok(())
 }
 
-/// A hole that is filled in parts, each of which ends where fragments lie.
+/// A hole is filled in parts, each of which ends where stored fragments begin.
 #[test]
 fn a_hole_in_parts(rt: HostRuntime) -> Result<(), Fail> {
     let alloc = rt.alloc();

@@ -1,4 +1,4 @@
-//! What is missing, as the set that a NACK_FRAG carries.
+//! Missing fragments, as the set of a NACK_FRAG.
 
 use crate::{AddError, Assembly, FragFault, missing_of_none};
 use rtps_types::FragSet;
@@ -31,7 +31,8 @@ fn the_largest_sample(rt: HostRuntime) -> Result<(), Fail> {
     Ok(())
 }
 
-/// Of 300 fragments 1, 2 and 258 came: from 3 on all are missing but 258, which is the last of 256.
+/// Of 300 fragments 1, 2 and 258 were received: all from 3 to 257 are missing, and 258 is the last
+/// of the 256 that a set covers.
 #[test]
 fn a_window_of_256(rt: HostRuntime) -> Result<(), Fail> {
     let alloc = rt.alloc();
@@ -54,7 +55,7 @@ fn a_window_of_256(rt: HostRuntime) -> Result<(), Fail> {
     Ok(())
 }
 
-/// Every second fragment came, each in a chunk of its own, the last one first.
+/// Every second fragment was received, each in a chunk of its own, the last one first.
 #[test]
 fn between_chunks(rt: HostRuntime) -> Result<(), Fail> {
     let alloc = rt.alloc();
@@ -77,7 +78,8 @@ fn between_chunks(rt: HostRuntime) -> Result<(), Fail> {
     Ok(())
 }
 
-/// Up to the sample's last fragment, whatever is asked for; nothing once it is whole.
+/// Missing fragments end with the sample's last one, whatever is asked for; a complete sample has
+/// none.
 #[test]
 fn not_past_the_last(rt: HostRuntime) -> Result<(), Fail> {
     let alloc = rt.alloc();
@@ -95,7 +97,7 @@ fn not_past_the_last(rt: HostRuntime) -> Result<(), Fail> {
     Ok(())
 }
 
-/// Of nothing all is missing, up to 256 fragments; up to fragment 0 nothing is.
+/// Without any fragment all up to 256 are missing; up to fragment 0 none is.
 #[test]
 fn of_none_all_are_missing(rt: HostRuntime) {
     let three = FragSet {

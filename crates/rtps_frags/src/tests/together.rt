@@ -1,4 +1,4 @@
-//! Payloads, whatever the order of their fragments.
+//! Payloads from fragments in any order.
 
 use super::is_just;
 use crate::laws::any_order_gives_the_payload;
@@ -40,8 +40,8 @@ fn fragments_in_reverse(rt: HostRuntime) -> Result<(), Fail> {
     Ok(())
 }
 
-/// Odd ones first; then one DATA_FRAG with all of them, of which only the even ones are taken, and
-/// whose last octets belong to no fragment.
+/// The odd fragments arrive first, and then one DATA_FRAG with all of them: only the even ones are
+/// used, and the octets after the last fragment are ignored.
 #[test]
 fn late_fragment_stays_out(rt: HostRuntime) -> Result<(), Fail> {
     let alloc = rt.alloc();
@@ -54,8 +54,8 @@ fn late_fragment_stays_out(rt: HostRuntime) -> Result<(), Fail> {
     Ok(())
 }
 
-/// Fragments that follow one another while the first is awaited; then one before them, one after
-/// them, and the first.
+/// Consecutive fragments while the first is missing; then the one before them, those after them,
+/// and the first.
 #[test]
 fn fragments_after_a_missing_one(rt: HostRuntime) -> Result<(), Fail> {
     let alloc = rt.alloc();
@@ -71,7 +71,7 @@ fn fragments_after_a_missing_one(rt: HostRuntime) -> Result<(), Fail> {
     Ok(())
 }
 
-/// A run that overlaps one on either side.
+/// A piece that overlaps stored fragments on both sides.
 #[test]
 fn runs_that_overlap(rt: HostRuntime) -> Result<(), Fail> {
     let alloc = rt.alloc();
@@ -85,7 +85,7 @@ fn runs_that_overlap(rt: HostRuntime) -> Result<(), Fail> {
     Ok(())
 }
 
-/// A fragment size above the sample's is one fragment.
+/// A sample with a fragment size above its own size is one fragment.
 #[test]
 fn one_fragment_is_all(rt: HostRuntime) -> Result<(), Fail> {
     let alloc = rt.alloc();

@@ -3,7 +3,7 @@
 use super::place;
 use crate::*;
 use rtps_discovery::{Config, Discovery, ReaderConfig, check};
-use rtps_receiver::{Body, Event, HeartbeatFrag};
+use rtps_receiver::{Event, EventBody, HeartbeatFrag};
 use rtps_types::{EntityId, Guid, GuidPrefix, Locators, Number};
 use std::alloc::{AllocError, Global};
 use std::test::Fail;
@@ -49,7 +49,7 @@ pub(super) fn event_for(submessage: u32, reader: EntityId) -> Option<Event<'stat
         time: None,
         writer: WRITER.entity,
         reader,
-        body: Body::HeartbeatFrag(HeartbeatFrag {
+        body: EventBody::HeartbeatFrag(HeartbeatFrag {
             number,
             last: 1,
             count: 1,

@@ -3,7 +3,7 @@
 use super::{MAX, Row, What, first_unmet};
 use std::test::Fail;
 
-/// Three numbers from 1 on, as the first answer.
+/// ACKNACK of three numbers from 1 on, with count 1.
 const THREE: &[u8] = b"\x06\x01\x1c\x00\
     \x00\x00\x01\x07\x00\x00\x01\x02\
     \x00\x00\x00\x00\x01\x00\x00\x00\
@@ -11,7 +11,7 @@ const THREE: &[u8] = b"\x06\x01\x1c\x00\
     \x00\x00\x00\xe0\
     \x01\x00\x00\x00";
 
-/// The same, as the second answer.
+/// The same, with count 2.
 const THREE_AGAIN: &[u8] = b"\x06\x01\x1c\x00\
     \x00\x00\x01\x07\x00\x00\x01\x02\
     \x00\x00\x00\x00\x01\x00\x00\x00\
@@ -19,7 +19,7 @@ const THREE_AGAIN: &[u8] = b"\x06\x01\x1c\x00\
     \x00\x00\x00\xe0\
     \x02\x00\x00\x00";
 
-/// As many as a set holds.
+/// All 256 numbers that a set has room for.
 const MOST: &[u8] = b"\x06\x01\x38\x00\
     \x00\x00\x01\x07\x00\x00\x01\x02\
     \x00\x00\x00\x00\x01\x00\x00\x00\
@@ -99,7 +99,7 @@ fn flags_say_when_to_answer(rt: HostRuntime) -> Result<(), Fail> {
     let rows: [Row; 4] = [
         (What::Whole(1), 0, &[1], &[], &[]),
         (What::Whole(3), 0, &[], &[(3, 3)], &[]),
-        // With both flags it is only a sign of life.
+        // With both flags it is only for liveliness.
         (What::Alive(1, 4, 1), 0, &[], &[(3, 3)], &[]),
         // With flag F alone it is answered where something is missing.
         (What::Final(1, 4, 2), 0, &[], &[(3, 3)], TWO),

@@ -1,4 +1,4 @@
-//! What a best-effort reader takes.
+//! Effects for a best-effort reader.
 
 use super::{MAX, Row, What, first_unmet};
 use std::test::Fail;
@@ -12,7 +12,7 @@ fn only_rising_numbers_are_taken(rt: HostRuntime) -> Result<(), Fail> {
         (What::Whole(9), 2, &[9], &[], &[]),
         (What::Whole(9), 0, &[], &[], &[]),
         (What::Whole(8), 0, &[], &[], &[]),
-        // 2^62 is the last number that there is.
+        // 2^62 is the greatest number.
         (
             What::Whole(MAX),
             4_611_686_018_427_387_894,

@@ -8,10 +8,10 @@ use rtps_types::Timestamp;
 use std::alloc::Global;
 use std::test::Fail;
 
-/// What comes, how many numbers are lost, and the numbers of the changes that are ready.
+/// An event, the number of lost numbers, and the numbers of the ready changes.
 type Row = (Step, u64, &'static [u64]);
 
-/// The place of the first row that the proxy doesn't meet.
+/// Returns the index of the first row whose expectation the proxy doesn't meet.
 fn first_unlike(
     alloc: Global,
     proxy: &mut WriterProxy,
@@ -26,13 +26,13 @@ fn first_unlike(
     Ok(None)
 }
 
-/// The place of the first row that a new proxy doesn't meet.
+/// Returns the index of the first row whose expectation a new proxy doesn't meet.
 fn first_unmet(alloc: Global, rows: &[Row]) -> Result<Option<usize>, Fail> {
     let mut proxy = new_proxy(alloc, false)?;
     first_unlike(alloc, &mut proxy, rows)
 }
 
-/// A proxy for which 64 changes stand, from 1 on.
+/// Returns a proxy with 64 pending samples, from 1 on.
 fn with_64(alloc: Global) -> Result<WriterProxy, Fail> {
     let mut proxy = new_proxy(alloc, false)?;
     if !begin(alloc, &mut proxy, 1, 65)? {
@@ -41,8 +41,8 @@ fn with_64(alloc: Global) -> Result<WriterProxy, Fail> {
     Ok(proxy)
 }
 
-/// A change is ready with its last fragment, in any order. What it skips is lost, and what comes of
-/// it or of lesser numbers later does nothing.
+/// A change is ready with its last fragment, in any order. The numbers that it skips are lost, and
+/// later fragments of it or of lesser numbers do nothing.
 #[test]
 fn a_change_is_ready_with_its_last_fragment(rt: HostRuntime) -> Result<(), Fail> {
     let rows: [Row; 9] = [
@@ -61,7 +61,7 @@ fn a_change_is_ready_with_its_last_fragment(rt: HostRuntime) -> Result<(), Fail>
     Ok(())
 }
 
-/// Fragment 2 comes first, and has the time and what else counts.
+/// Fragment 2 arrives first, so its time and inline QoS count.
 #[test]
 fn the_first_one_tells_all(rt: HostRuntime) -> Result<(), Fail> {
     let alloc = rt.alloc();
@@ -78,7 +78,8 @@ fn the_first_one_tells_all(rt: HostRuntime) -> Result<(), Fail> {
     Ok(())
 }
 
-/// A change ends what was begun of its number and of lesser ones, in one piece or in fragments.
+/// A change drops the pending samples of its number and of lesser ones, whether it came in one
+/// piece or in fragments.
 #[test]
 fn a_later_change_ends_earlier_ones(rt: HostRuntime) -> Result<(), Fail> {
     let rows: [Row; 12] = [
@@ -99,7 +100,7 @@ fn a_later_change_ends_earlier_ones(rt: HostRuntime) -> Result<(), Fail> {
     Ok(())
 }
 
-/// 64 changes stand, each of which may become whole.
+/// 64 samples are pending, and each of them can be completed.
 #[test]
 fn sixty_four_stand(rt: HostRuntime) -> Result<(), Fail> {
     let mut proxy = with_64(rt.alloc())?;
@@ -112,7 +113,8 @@ fn sixty_four_stand(rt: HostRuntime) -> Result<(), Fail> {
     Ok(())
 }
 
-/// The least of 65 loses its fragments, and comes back once fewer than 64 greater ones stand.
+/// The least of 65 samples loses its fragments. It is accepted again once fewer than 64 greater
+/// ones are pending.
 #[test]
 fn the_least_of_65_is_displaced(rt: HostRuntime) -> Result<(), Fail> {
     let mut proxy = with_64(rt.alloc())?;
@@ -120,7 +122,7 @@ fn the_least_of_65_is_displaced(rt: HostRuntime) -> Result<(), Fail> {
         (Step::Half(66, 1), 0, &[]),
         (Step::Half(1, 2), 0, &[]),
         (Step::Half(1, 1), 0, &[]),
-        // 65 comes among them, and 2 goes.
+        // 65 is added, and 2 is dropped.
         (Step::Half(65, 1), 0, &[]),
         (Step::Half(2, 2), 0, &[]),
         (Step::Half(3, 2), 0, &[3]),
@@ -129,8 +131,8 @@ fn the_least_of_65_is_displaced(rt: HostRuntime) -> Result<(), Fail> {
     Ok(())
 }
 
-/// Fragments with a fault, or with other sizes than the first ones, displace nothing and begin
-/// nothing.
+/// Fragments with a fault, or with other sizes than the first ones, neither displace nor begin a
+/// sample.
 #[test]
 fn a_fault_displaces_nothing(rt: HostRuntime) -> Result<(), Fail> {
     let mut proxy = with_64(rt.alloc())?;

@@ -8,7 +8,7 @@ use rtps_wire::{ChangeInfo, Form};
 use std::alloc::{Allocator, Global};
 use std::test::Fail;
 
-/// One of the two fragments of a change of four octets, `abcd`.
+/// Returns one of the two fragments of a change of four octets, `abcd`.
 pub(super) fn half_of(value: u64, start: u32) -> Result<Fragment<'static>, Fail> {
     let payload: &'static [u8] = if start == 1 { b"ab" } else { b"cd" };
     Ok(Fragment {
@@ -22,7 +22,7 @@ pub(super) fn half_of(value: u64, start: u32) -> Result<Fragment<'static>, Fail>
     })
 }
 
-/// How many changes are ready, and the number of the last one, or 0.
+/// Returns the number of ready changes, and the number of the last one, or 0.
 fn last_of<A: Allocator>(effects: Effects<'_, A>) -> (usize, u64) {
     match effects.ready.last() {
         None => (0, 0),
@@ -30,18 +30,18 @@ fn last_of<A: Allocator>(effects: Effects<'_, A>) -> (usize, u64) {
     }
 }
 
-/// What comes.
+/// An event.
 #[derive(Clone, Copy)]
 pub(super) enum Step {
     /// One of the two fragments of the change with this number.
     Half(u64, u32),
     /// The change with this number.
     Whole(u64),
-    /// A gap from the first number up to below the second one.
+    /// A GAP from the first number to the second one, without the second.
     Gap(u64, u64),
 }
 
-/// What is given where this comes.
+/// Passes an event to a proxy and returns its effects.
 pub(super) fn given_at(
     alloc: Global,
     proxy: &mut WriterProxy,
@@ -54,12 +54,12 @@ pub(super) fn given_at(
     })
 }
 
-/// What is ready where this comes.
+/// Passes an event to a proxy and returns [`last_of`] its effects.
 fn ready_at(alloc: Global, proxy: &mut WriterProxy, step: Step) -> Result<(usize, u64), Fail> {
     Ok(last_of(given_at(alloc, proxy, step)?))
 }
 
-/// The first step at which another count of changes or another last one is ready.
+/// Returns the index of the first step after which other changes are ready than expected.
 fn first_unlike(
     alloc: Global,
     proxy: &mut WriterProxy,
@@ -73,7 +73,8 @@ fn first_unlike(
     Ok(None)
 }
 
-/// Begins the changes from one on and below another. Whether none is ready.
+/// Sends a first fragment of the changes from `from` to `to`, without `to`. Returns whether none is
+/// ready.
 pub(super) fn begin(
     alloc: Global,
     proxy: &mut WriterProxy,
@@ -88,7 +89,7 @@ pub(super) fn begin(
     Ok(true)
 }
 
-/// Brings the changes from one on and below another. Whether none is ready.
+/// Sends the changes from `from` to `to`, without `to`. Returns whether none is ready.
 fn fill(alloc: Global, proxy: &mut WriterProxy, from: u64, to: u64) -> Result<bool, Fail> {
     for number in from..to {
         if ready_at(alloc, proxy, Step::Whole(number))? != (0, 0) {
@@ -98,7 +99,7 @@ fn fill(alloc: Global, proxy: &mut WriterProxy, from: u64, to: u64) -> Result<bo
     Ok(true)
 }
 
-/// Whether a change is number 1, sent then, and carries `abcd` and what fragment 2 said.
+/// Whether a change is number 1 with this time, the payload `abcd`, and what fragment 2 said.
 pub(super) fn is_told<A: Allocator>(change: &Change<'_, A>, sent: Timestamp) -> bool {
     change.number.get() == 1
         && change.time == Some(sent)
@@ -106,7 +107,7 @@ pub(super) fn is_told<A: Allocator>(change: &Change<'_, A>, sent: Timestamp) -> 
         && change.payload.as_slice() == b"abcd".as_slice()
 }
 
-/// Fragment 2 comes first, and has the time and what else counts; what fragment 1 says is ignored.
+/// Fragment 2 arrives first, so its time and inline QoS count; those of fragment 1 are ignored.
 #[test]
 fn the_first_one_tells_all(rt: HostRuntime) -> Result<(), Fail> {
     let alloc = rt.alloc();
@@ -132,8 +133,8 @@ fn the_first_one_tells_all(rt: HostRuntime) -> Result<(), Fail> {
     Ok(())
 }
 
-/// A whole change waits for those before it, and is taken once. A DATA of the number ends what was
-/// begun, and so does a GAP.
+/// A complete change waits for lesser numbers, and is accepted once. A DATA or a GAP of its number
+/// drops a pending sample.
 #[test]
 fn whole_ones_wait_for_earlier_ones(rt: HostRuntime) -> Result<(), Fail> {
     let mut proxy = new_proxy(rt.alloc(), true)?;
@@ -156,7 +157,7 @@ fn whole_ones_wait_for_earlier_ones(rt: HostRuntime) -> Result<(), Fail> {
     Ok(())
 }
 
-/// Sizes that the first ones hadn't, and fragments with a fault, count as not come.
+/// Fragments with other sizes than the first ones, or with a fault, are ignored.
 #[test]
 fn unlike_sizes_stay_out(rt: HostRuntime) -> Result<(), Fail> {
     let mut proxy = new_proxy(rt.alloc(), true)?;
@@ -178,18 +179,18 @@ fn unlike_sizes_stay_out(rt: HostRuntime) -> Result<(), Fail> {
     Ok(())
 }
 
-/// 64 changes stand, and one more does where it is the next one.
+/// 64 samples are pending; one more is accepted only if it is the next one in order.
 #[test]
 fn there_are_64_seats(rt: HostRuntime) -> Result<(), Fail> {
     let mut proxy = new_proxy(rt.alloc(), true)?;
     assert!(rt; begin(rt.alloc(), &mut proxy, 2, 66)?);
     let steps = [
-        // 66 finds no seat; 1 needs none, and takes none away.
+        // 66 is refused; 1 needs no seat, and takes none from the others.
         (Step::Half(66, 1), (0, 0)),
         (Step::Half(1, 1), (0, 0)),
         (Step::Half(65, 2), (0, 0)),
         (Step::Half(1, 2), (1, 1)),
-        // 65 left its seat to 66, of which nothing came before.
+        // 65 left its seat to 66; no fragment of 66 was accepted before.
         (Step::Half(66, 2), (0, 0)),
         (Step::Gap(2, 65), (1, 65)),
         (Step::Half(66, 1), (1, 66)),
@@ -198,7 +199,8 @@ fn there_are_64_seats(rt: HostRuntime) -> Result<(), Fail> {
     Ok(())
 }
 
-/// 65,536 changes wait: a change that stands takes no more fragments then, but the next one does.
+/// 65,536 changes are held: then a pending sample accepts no more fragments, but the next one in
+/// order does.
 #[test]
 fn room_is_for_each_fragment(rt: HostRuntime) -> Result<(), Fail> {
     let mut proxy = new_proxy(rt.alloc(), true)?;
@@ -214,14 +216,14 @@ fn room_is_for_each_fragment(rt: HostRuntime) -> Result<(), Fail> {
     Ok(())
 }
 
-/// A heartbeat of fragments: its number, its last fragment and its count; and the answer after the
-/// writerSN, empty where there is none.
+/// A HEARTBEAT_FRAG, as its number, its last fragment and its count; and the expected answer after
+/// the writerSN, empty where there is none.
 type Asked = ((u64, u32, i32), &'static [u8]);
 
-/// What each answer to number 1 or 2 begins with: NACK_FRAG and the two entities.
+/// The first octets of each answer about number 1 or 2: NACK_FRAG and the two entities.
 const NACK: &[u8] = b"\x12\x01\x20\x00\x00\x00\x01\x07\x00\x00\x01\x02\x00\x00\x00\x00";
 
-/// Whether the heartbeat is answered so.
+/// Whether the HEARTBEAT_FRAG has the expected answer.
 fn is_answered(alloc: Global, proxy: &mut WriterProxy, asked: &Asked) -> Result<bool, Fail> {
     let (number, last, count) = asked.0;
     let heartbeat = HeartbeatFrag {
@@ -246,7 +248,7 @@ fn is_answered(alloc: Global, proxy: &mut WriterProxy, asked: &Asked) -> Result<
     Ok(body.strip_prefix(NACK) == Some(asked.1) && answer.to.as_slice() == [LOCATOR].as_slice())
 }
 
-/// Whether each heartbeat is answered so.
+/// Whether each HEARTBEAT_FRAG has the expected answer.
 fn are_answered(alloc: Global, proxy: &mut WriterProxy, all: &[Asked]) -> Result<bool, Fail> {
     for asked in all {
         if !is_answered(alloc, proxy, asked)? {
@@ -266,7 +268,7 @@ const FIRST: [&[u8]; 2] = [
 const THREE: &[u8] =
     b"\x02\x00\x00\x00\x01\x00\x00\x00\x03\x00\x00\x00\x00\x00\x00\xe0\x02\x00\x00\x00";
 
-/// ACKNACK for number 2, as the first one.
+/// ACKNACK for number 2, with count 1.
 const MISSING: &[u8] = b"\x06\x01\x1c\x00\
     \x00\x00\x01\x07\x00\x00\x01\x02\
     \x00\x00\x00\x00\x02\x00\x00\x00\
@@ -274,9 +276,9 @@ const MISSING: &[u8] = b"\x06\x01\x1c\x00\
     \x00\x00\x00\x80\
     \x01\x00\x00\x00";
 
-/// Fragment 2 of number 1 came. What is missing is asked for up to the last fragment of the
-/// heartbeat and of the sample; a count that was seen does nothing, nor does a number that is
-/// settled.
+/// Fragment 2 of number 1 was received. Missing fragments are asked for up to the last one of the
+/// HEARTBEAT_FRAG and of the sample. A HEARTBEAT_FRAG with an old count or a settled number does
+/// nothing.
 #[test]
 fn missing_fragments_are_asked_for(rt: HostRuntime) -> Result<(), Fail> {
     let mut proxy = new_proxy(rt.alloc(), true)?;
@@ -293,7 +295,7 @@ fn missing_fragments_are_asked_for(rt: HostRuntime) -> Result<(), Fail> {
     assert_eq!(rt; first_unlike(rt.alloc(), &mut proxy, &rest)?, None);
     let settled: [Asked; 2] = [((1, 2, 4), &[]), ((2, 3, 4), &[])];
     assert!(rt; are_answered(rt.alloc(), &mut proxy, &settled)?);
-    // ACKNACKs are counted apart.
+    // ACKNACKs have a count of their own.
     let rows: Row = (What::Asking(1, 2, 1), 0, &[], &[], MISSING);
     assert!(rt; meets(rt.alloc(), &mut proxy, &rows)?);
     Ok(())

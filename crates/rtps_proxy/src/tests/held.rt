@@ -1,8 +1,8 @@
-//! Changes that wait, and numbers that are given up.
+//! Held changes, and numbers that are given up.
 
 use super::{INFO, MAX, PAYLOAD, Row, What, bring, first_unmet, has_ready, new_proxy, whole_of};
 use crate::*;
-use rtps_receiver::{Body, Whole};
+use rtps_receiver::{EventBody, Whole};
 use rtps_types::Timestamp;
 use std::alloc::Global;
 use std::test::Fail;
@@ -12,7 +12,7 @@ const TIME: Timestamp = Timestamp {
     fraction: 7,
 };
 
-/// ACKNACK for 1 to 5, as the first answer.
+/// ACKNACK for 1 to 5, with count 1.
 const FIVE: &[u8] = b"\x06\x01\x1c\x00\
     \x00\x00\x01\x07\x00\x00\x01\x02\
     \x00\x00\x00\x00\x01\x00\x00\x00\
@@ -20,7 +20,7 @@ const FIVE: &[u8] = b"\x06\x01\x1c\x00\
     \x00\x00\x00\xf8\
     \x01\x00\x00\x00";
 
-/// Whether a change is as it was sent, at this time.
+/// Whether a change is as it was sent, with this time.
 fn is_as_sent(change: &Change<'_>, number: u64, time: Option<Timestamp>) -> bool {
     change.number.get() == number
         && change.time == time
@@ -28,7 +28,7 @@ fn is_as_sent(change: &Change<'_>, number: u64, time: Option<Timestamp>) -> bool
         && change.payload.as_slice() == PAYLOAD.as_slice()
 }
 
-/// Whether two changes are ready as they were sent: 1, where the datagram lies, and 2, which was
+/// Whether two changes are ready as they were sent: 1, borrowed from the datagram, and 2, which was
 /// kept.
 fn gives_both(effects: Effects<'_>) -> bool {
     if effects.lost != 0 || effects.answer.is_some() {
@@ -45,8 +45,8 @@ fn gives_both(effects: Effects<'_>) -> bool {
 
 /// Whether change 2 waits, and is ready after change 1.
 fn waits(alloc: Global, proxy: &mut WriterProxy) -> Result<bool, Fail> {
-    let later = Body::Whole(whole_of(2)?);
-    let first = Body::Whole(whole_of(1)?);
+    let later = EventBody::Whole(whole_of(2)?);
+    let first = EventBody::Whole(whole_of(1)?);
     let none = proxy.on_event(alloc, Some(TIME), &later)?;
     let nothing = has_ready(&none, &[]);
     Ok(nothing && gives_both(proxy.on_event(alloc, None, &first)?))
@@ -68,7 +68,7 @@ fn lost_are_those_below_a_raised_first(rt: HostRuntime) -> Result<(), Fail> {
         (What::Whole(3), 0, &[], &[(3, 3), (5, 5)], &[]),
         (What::Gap(2, 3), 0, &[3], &[(5, 5)], &[]),
         (What::Final(6, 5, 2), 1, &[5], &[], &[]),
-        // Each comes once.
+        // Each change is presented once.
         (What::Whole(5), 0, &[], &[], &[]),
     ];
     assert_eq!(rt; first_unmet(rt.alloc(), true, &rows)?, None);
@@ -80,14 +80,15 @@ fn a_first_heartbeat_loses_nothing(rt: HostRuntime) -> Result<(), Fail> {
     let rows: [Row; 3] = [
         (What::Whole(3), 0, &[], &[(3, 3)], &[]),
         (What::Final(6, 5, 1), 0, &[3], &[], &[]),
-        // It is counted from 6 on.
+        // Numbers below 6 were given up before, so only 6, 7 and 8 count.
         (What::Final(9, 8, 2), 3, &[], &[], &[]),
     ];
     assert_eq!(rt; first_unmet(rt.alloc(), true, &rows)?, None);
     Ok(())
 }
 
-/// How many changes are ready where the one with this number comes, and the number of the last.
+/// Passes the change with this number to a proxy. Returns the number of ready changes, and the
+/// number of the last one.
 fn ready_at(alloc: Global, proxy: &mut WriterProxy, number: u64) -> Result<(usize, u64), Fail> {
     let effects = bring(alloc, proxy, What::Whole(number))??;
     Ok(last_ready(effects))
@@ -100,7 +101,7 @@ fn last_ready(effects: Effects<'_>) -> (usize, u64) {
     }
 }
 
-/// Brings the changes 2 to 65,538, of which the last finds no room. Whether none is ready.
+/// Sends the changes 2 to 65,538; there is no room for the last one. Returns whether none is ready.
 fn fill(alloc: Global, proxy: &mut WriterProxy) -> Result<bool, Fail> {
     for number in 2_u64..65_539 {
         if ready_at(alloc, proxy, number)? != (0, 0) {
@@ -115,9 +116,9 @@ fn there_is_room_for_so_many(rt: HostRuntime) -> Result<(), Fail> {
     let mut proxy = new_proxy(rt.alloc(), true)?;
     // 65,536 changes wait for the first one.
     assert!(rt; fill(rt.alloc(), &mut proxy)?);
-    // The next one needs no room, and releases them.
+    // Number 1 needs no room, and releases them.
     assert_eq!(rt; ready_at(rt.alloc(), &mut proxy, 1)?, (65_537, 65_537));
-    // The one that found no room didn't come.
+    // The one without room was dropped, so it is accepted now.
     assert_eq!(rt; ready_at(rt.alloc(), &mut proxy, 65_538)?, (1, 65_538));
     Ok(())
 }
@@ -133,7 +134,7 @@ fn one_fragment_is_a_change(rt: HostRuntime) -> Result<(), Fail> {
     Ok(())
 }
 
-/// Brings every second number, and a long payload after them all: each waits.
+/// Sends every second number, and then a change with a long payload: all are held.
 fn spread(alloc: Global, proxy: &mut WriterProxy, payload: &[u8]) -> Result<bool, Fail> {
     for count in 1_u64..1_000 {
         if ready_at(alloc, proxy, 2 * count)? != (0, 0) || proxy.runs().len() as u64 != count {
@@ -153,7 +154,7 @@ fn many_runs_and_long_payloads_are_kept(rt: HostRuntime) -> Result<(), Fail> {
     let payload = [0x5a; 65_463];
     let mut proxy = new_proxy(rt.alloc(), true)?;
     assert!(rt; spread(rt.alloc(), &mut proxy, &payload)?);
-    // The first one releases the second, and no other.
+    // Number 1 releases number 2, and no other.
     assert_eq!(rt; ready_at(rt.alloc(), &mut proxy, 1)?, (2, 2));
     Ok(())
 }

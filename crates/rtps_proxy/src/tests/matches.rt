@@ -3,12 +3,12 @@
 use super::{gap_of, heartbeat_of, whole_of};
 use crate::{Matches, ProxyConfig};
 use linked_list_allocator::LocalHeap;
-use rtps_receiver::Body;
+use rtps_receiver::EventBody;
 use rtps_types::{EntityId, Guid, GuidPrefix, Locators};
 use std::alloc::{AllocError, Allocator};
 use std::test::Fail;
 
-/// The writer of this key in participant 0a0a..0a.
+/// Returns the writer of this key in participant 0a0a..0a.
 fn writer_of(key: u8) -> Guid {
     Guid {
         prefix: GuidPrefix([10; 12]),
@@ -23,19 +23,19 @@ enum Happens {
     Begin(u8),
     /// The match with it ends.
     End(u8),
-    /// A change of that number comes from it.
+    /// A change of that number arrives from it.
     Whole(u8, u64),
-    /// A gap from 1 to below that number.
+    /// A GAP from 1 to that number, without that number.
     Gap(u8, u64),
-    /// A heartbeat from 1 to that number, with that count.
+    /// A HEARTBEAT of the numbers from 1 to that number, with that count.
     Asking(u8, u64, i32),
 }
 
-/// The result: the change that is ready, and the count of the answer; none where the writer
-/// isn't matched.
+/// The result: the ready change, and the count of the answer; `None` where the writer isn't
+/// matched.
 type Given = Option<(Option<u64>, Option<u8>)>;
 
-/// Gives what happens to the matches; its result, or that memory was refused.
+/// Does a step to the matches and returns its result, or an error where memory was refused.
 fn come_of<A: Allocator + Copy>(
     alloc: A,
     matches: &mut Matches<A>,
@@ -47,9 +47,12 @@ fn come_of<A: Allocator + Copy>(
             matches.end(writer_of(key));
             return Ok(Ok(None));
         }
-        Happens::Whole(key, number) => (key, Body::Whole(whole_of(number)?)),
-        Happens::Gap(key, base) => (key, Body::Gap(gap_of(1, base)?)),
-        Happens::Asking(key, last, count) => (key, Body::Heartbeat(heartbeat_of(1, last, count)?)),
+        Happens::Whole(key, number) => (key, EventBody::Whole(whole_of(number)?)),
+        Happens::Gap(key, base) => (key, EventBody::Gap(gap_of(1, base)?)),
+        Happens::Asking(key, last, count) => (
+            key,
+            EventBody::Heartbeat(heartbeat_of(1, last, count)?),
+        ),
     };
     Ok(given(alloc, matches, writer_of(key), &body))
 }
@@ -71,13 +74,13 @@ fn began<A: Allocator + Copy>(
     Ok(None)
 }
 
-/// What an event gives: the first change that is ready, and the count of the answer, which is the
-/// first of its last four octets.
+/// Passes an event to the matches. Returns the first ready change, and the count of the answer,
+/// which is the first of its last four octets.
 fn given<A: Allocator + Copy>(
     alloc: A,
     matches: &mut Matches<A>,
     writer: Guid,
-    body: &Body<'_>,
+    body: &EventBody<'_>,
 ) -> Result<Given, AllocError> {
     let Some(effects) = matches.on_event(alloc, writer, None, body)? else {
         return Ok(None);
@@ -90,7 +93,7 @@ fn given<A: Allocator + Copy>(
     Ok(Some((ready, count)))
 }
 
-/// What happens, its result, and how many matches there are then.
+/// Steps, with the result of each and the number of matches after it.
 const STEPS: [(Happens, Given, usize); 17] = [
     (Happens::Whole(1, 1), None, 0),
     (Happens::Begin(3), None, 1),
@@ -102,7 +105,7 @@ const STEPS: [(Happens, Given, usize); 17] = [
     (Happens::Asking(1, 2, 7), Some((None, Some(1))), 3),
     (Happens::Asking(1, 2, 8), Some((None, Some(2))), 3),
     (Happens::Asking(1, 2, 8), Some((None, None)), 3),
-    // What waits of another writer stays; a match that begins again knows of nothing before.
+    // A held change of another writer stays; a match that begins again has no history.
     (Happens::Begin(1), None, 3),
     (Happens::Whole(1, 1), Some((Some(1), None)), 3),
     (Happens::Asking(1, 2, 8), Some((None, Some(1))), 3),
@@ -133,7 +136,7 @@ fn refused_growths(rt: HostRuntime) -> Result<(), Fail> {
         let heap = LocalHeap::new(rt.alloc(), step * 64)?;
         let mut matches = Matches::new(&heap);
         if come_of(&heap, &mut matches, Happens::Begin(1))?.is_err() {
-            // A match that could not begin isn't there.
+            // A match that could not begin is not in the list.
             assert_eq!(rt; matches.len(), 0);
             unbegun = true;
         } else if come_of(&heap, &mut matches, Happens::Whole(1, 2))?.is_ok() {

@@ -7,7 +7,7 @@ use linked_list_allocator::LocalHeap;
 use std::alloc::{AllocError, Allocator, Global};
 use std::test::Fail;
 
-/// ACKNACK for 1 and 2 and for 4 to 9 but 5, as the first answer.
+/// ACKNACK for 1, 2, 4 and 6 to 9, with count 1.
 const MISSING: &[u8] = b"\x06\x01\x1c\x00\
     \x00\x00\x01\x07\x00\x00\x01\x02\
     \x00\x00\x00\x00\x01\x00\x00\x00\
@@ -15,7 +15,8 @@ const MISSING: &[u8] = b"\x06\x01\x1c\x00\
     \x00\x00\x80\xd7\
     \x01\x00\x00\x00";
 
-/// A change that waits, a gap, a heartbeat that is answered, and a gap that makes the change ready.
+/// A change that is held, a GAP, a HEARTBEAT that is answered, and a GAP that makes the change
+/// ready.
 const ROWS: [Row; 4] = [
     (What::Whole(3), 0, &[], &[(3, 3)], &[]),
     (What::Gap(5, 6), 0, &[], &[(3, 3), (5, 5)], &[]),
@@ -23,7 +24,7 @@ const ROWS: [Row; 4] = [
     (What::Gap(1, 3), 0, &[3], &[(5, 5)], &[]),
 ];
 
-/// Whether each row is met; `None` where memory ran out.
+/// Whether each row's expectation is met; `None` where memory ran out.
 fn serves<A: Allocator + Copy>(alloc: A, proxy: &mut WriterProxy<A>) -> Result<Option<bool>, Fail> {
     for row in &ROWS {
         let Ok(effects) = bring(alloc, proxy, row.0)? else {
@@ -36,7 +37,7 @@ fn serves<A: Allocator + Copy>(alloc: A, proxy: &mut WriterProxy<A>) -> Result<O
     Ok(Some(true))
 }
 
-/// Something of each kind.
+/// An event of each kind.
 const EACH: [What; 5] = [
     What::Whole(1),
     What::Gap(1, 2),
@@ -80,8 +81,9 @@ fn a_refused_growth_is_out_of_memory(rt: HostRuntime) -> Result<(), Fail> {
     Ok(())
 }
 
-/// Fragments of two changes, the second one first, and a heartbeat of fragments of a third one. How
-/// many changes are ready at most, and whether there is an answer; `None` where memory ran out.
+/// Sends fragments of two changes, the second change first, and a HEARTBEAT_FRAG of a third one.
+/// Returns the greatest number of ready changes after an event, and whether there is an answer;
+/// `None` where memory ran out.
 fn puts_together<A: Allocator + Copy>(
     alloc: A,
     proxy: &mut WriterProxy<A>,
@@ -99,8 +101,8 @@ fn puts_together<A: Allocator + Copy>(
     }
 }
 
-/// Whether fragments and their heartbeat give this, or are refused from the first refused growth
-/// on, for all sizes of memory; and whether each happens.
+/// Whether [`puts_together`] returns `all` or is refused from the first refused growth on, for all
+/// sizes of memory, and each of the two happens.
 fn gives_or_refuses(alloc: Global, reliable: bool, all: (usize, bool)) -> Result<bool, Fail> {
     let (mut refused, mut served) = (false, false);
     for step in 1..192 {

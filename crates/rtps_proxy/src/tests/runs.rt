@@ -13,9 +13,9 @@ fn gaps_join(rt: HostRuntime) -> Result<(), Fail> {
         (What::Gap(3, 4), 0, &[], &[(3, 3)], &[]),
         (What::Gap(5, 6), 0, &[], &[(3, 3), (5, 5)], &[]),
         (What::Gap(4, 5), 0, &[], &[(3, 5)], &[]),
-        // A gap up to its own start names nothing.
+        // A GAP whose base is its start names nothing.
         (What::Gap(7, 7), 0, &[], &[(3, 5)], &[]),
-        // Numbers below the frontier are in no run.
+        // A run has no numbers below the frontier.
         (What::Gap(1, 2), 0, &[], &[(3, 5)], &[]),
         (What::Gap(2, 3), 0, &[], &[], &[]),
     ];
@@ -43,7 +43,7 @@ fn a_gap_joins_all_that_it_touches(rt: HostRuntime) -> Result<(), Fail> {
     Ok(())
 }
 
-/// Brings the events to the proxy, and says whether the runs are then these.
+/// Passes the events to the proxy, and returns whether it has the expected runs then.
 fn leaves_runs(
     alloc: Global,
     proxy: &mut WriterProxy,
@@ -83,7 +83,7 @@ fn a_run_reaches_the_greatest_number(rt: HostRuntime) -> Result<(), Fail> {
         (What::Gap(2, MAX), 0, &[], &[(2, MAX - 1)], &[]),
         (What::Whole(MAX), 0, &[], &[(2, MAX)], &[]),
         (What::Whole(1), 0, &[1, MAX], &[], &[]),
-        // Each number is settled now.
+        // All numbers are settled now.
         (What::Whole(MAX), 0, &[], &[], &[]),
     ];
     assert_eq!(rt; first_unmet(rt.alloc(), true, &rows)?, None);

@@ -1,8 +1,8 @@
-//! The most that a reader is given, with ample memory.
+//! The greatest inputs of a reader, with enough memory.
 
 use crate::*;
 use dds_topic::{Decoder, Raw};
-use rtps_receiver::{Body as EventBody, Event, Whole};
+use rtps_receiver::{Event, EventBody, Whole};
 use rtps_types::{EntityId, Guid, GuidPrefix, Locators, Number, Place, WriterFacts};
 use rtps_wire::{ChangeInfo, Form};
 use std::alloc::{AllocError, Global};
@@ -11,7 +11,7 @@ use std::test::Fail;
 
 const READER: EntityId = EntityId([0, 0, 1, 7]);
 
-/// The writer of a participant, by each octet of the participant.
+/// Returns the writer of a participant whose prefix repeats one octet.
 fn writer(participant: u8) -> Guid {
     Guid {
         prefix: GuidPrefix([participant; 12]),
@@ -19,7 +19,7 @@ fn writer(participant: u8) -> Guid {
     }
 }
 
-/// A best-effort reader of the greatest rank, which is matched with 255 writers.
+/// Returns a best-effort reader with the greatest rank, matched with 255 writers.
 fn reader(alloc: Global) -> Result<ReaderState, AllocError> {
     let mut fixed = Vec::new(alloc);
     for participant in 0..255 {
@@ -32,7 +32,7 @@ fn reader(alloc: Global) -> Result<ReaderState, AllocError> {
     ReaderState::new(alloc, u32::MAX, own, READER, false, fixed.as_slice())
 }
 
-/// The longest payload that a datagram of 65,507 octets has room for.
+/// The longest payload in a datagram of 65,507 octets.
 fn longest(alloc: Global) -> Result<Vec<u8>, AllocError> {
     let mut payload = Vec::new(alloc);
     for _ in 0..65_463 {
@@ -41,7 +41,7 @@ fn longest(alloc: Global) -> Result<Vec<u8>, AllocError> {
     Ok(payload)
 }
 
-/// The change with the greatest number, from the last writer, at the greatest place.
+/// Returns the change with the greatest number, from the last writer, at the greatest place.
 fn greatest<'a>(payload: &'a [u8]) -> Result<Event<'a>, Fail> {
     let Some(number) = Number::new(4_611_686_018_427_387_904) else {
         return Err(Fail::new("2^62 is no number"));
@@ -79,7 +79,7 @@ fn presents(alloc: Global, reader: &mut ReaderState, event: &Event<'_>) -> Resul
         Some(
             Notice {
                 what: NoticeKind::Sample {
-                    body: Body::Value(_, value),
+                    body: EventBody::Value(_, value),
                     ..
                 },
                 ..
@@ -90,7 +90,7 @@ fn presents(alloc: Global, reader: &mut ReaderState, event: &Event<'_>) -> Resul
     Ok(is_whole && output.notices.len() == 1 && reader.status().samples == 1)
 }
 
-/// Whether a reader names all its matches, by its rank.
+/// Whether a reader lists all its matches, with its rank.
 fn names_all(alloc: Global, reader: &ReaderState) -> Result<bool, Fail> {
     let mut matches = BTreeSet::new(alloc);
     reader.add_matches(&mut matches)?;
@@ -101,7 +101,7 @@ fn names_all(alloc: Global, reader: &ReaderState) -> Result<bool, Fail> {
     )
 }
 
-/// Whether a reader is who it has to be, and presents the greatest change.
+/// Whether a reader has its rank and entity id, and presents the greatest change.
 fn takes_the_most(alloc: Global, reader: &mut ReaderState, payload: &[u8]) -> Result<bool, Fail> {
     Ok(
         reader.rank() == u32::MAX
@@ -111,7 +111,7 @@ fn takes_the_most(alloc: Global, reader: &mut ReaderState, payload: &[u8]) -> Re
     )
 }
 
-/// The same of a new reader.
+/// The same for a new reader.
 fn takes_the_most_from_new(alloc: Global) -> Result<bool, Fail> {
     let payload = longest(alloc)?;
     let mut reader = reader(alloc)?;

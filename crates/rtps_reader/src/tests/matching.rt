@@ -3,7 +3,7 @@
 use crate::*;
 use dds_topic::{Decoder, Shape, Shapes};
 use linked_list_allocator::LocalHeap;
-use rtps_receiver::{Body as EventBody, Heartbeat, Whole};
+use rtps_receiver::{EventBody, Heartbeat, Whole};
 use rtps_types::{
     EntityId, Guid, GuidPrefix, Locator, Locators, MatchChangeKind, Number, Place, PolicyId,
     WriterFacts,
@@ -22,21 +22,21 @@ const PLACE: Place = Place {
     submessage: 1,
 };
 
-/// What the reader is asked to do.
+/// A step of the reader.
 #[derive(Clone, Copy)]
 enum Asks {
-    /// To take the change of this number.
+    /// Handle the change with this number.
     Change(u64),
-    /// To take a heartbeat from the first to the last number, with this count.
+    /// Handle a HEARTBEAT from the first to the last number, with this count.
     Heartbeat(u64, u64, i32),
-    /// To begin the match, with answers to this port.
+    /// Begin the match, with this port for answers.
     Match(u16),
     Unmatch,
-    /// To report the writer for this policy.
+    /// Report the writer as refused for this policy.
     Refuse(PolicyId),
 }
 
-/// What the reader reports.
+/// A notice of the reader.
 #[derive(Clone, Copy, Debug, PartialEq, Eq)]
 enum Told {
     Nothing,
@@ -47,14 +47,15 @@ enum Told {
     Incompatible(PolicyId),
 }
 
-/// The matches that began and those that there are, the refusals and the last policy, the lost
-/// numbers, and the samples.
+/// The matches that began and the matches now, the refusals and the last policy, the lost numbers,
+/// and the samples.
 type Counted = (u32, u64, u32, Option<PolicyId>, u32, u32);
 
-/// What is asked; what is reported; the port and the count of the answer; and the status after it.
+/// A step, the expected notice, the port and the count of the expected answer, and the status after
+/// the step.
 type Row = (Asks, Told, Option<(u16, u8)>, Counted);
 
-/// Matches that begin and end, one after the other.
+/// Steps of matches that begin and end, in order.
 const STEPS: [Row; 15] = [
     (Asks::Change(1), Told::Nothing, None, (0, 0, 0, None, 0, 0)),
     (
@@ -69,12 +70,12 @@ const STEPS: [Row; 15] = [
         None,
         (1, 1, 0, None, 0, 1),
     ),
-    // It waits for change 2, and goes unreported with the match.
+    // It waits for change 2, and is dropped without a notice when the match ends.
     (Asks::Change(3), Told::Nothing, None, (1, 1, 0, None, 0, 1)),
     (Asks::Unmatch, Told::Unmatched, None, (1, 0, 0, None, 0, 1)),
     (Asks::Change(2), Told::Nothing, None, (1, 0, 0, None, 0, 1)),
-    // The next match knows of nothing before: its first heartbeat loses no number, and its answers
-    // count from 1.
+    // The next match has no history: its first HEARTBEAT loses no number, and its answers count
+    // from 1.
     (
         Asks::Match(7412),
         Told::Matched,
@@ -99,7 +100,7 @@ const STEPS: [Row; 15] = [
         None,
         (2, 1, 0, None, 2, 2),
     ),
-    // One that begins while there is one takes its place.
+    // A match that begins replaces the earlier one.
     (
         Asks::Match(7413),
         Told::Matched,
@@ -178,7 +179,7 @@ fn heartbeat(first: u64, last: u64, count: i32) -> Result<EventBody<'static>, Fa
     }))
 }
 
-/// What a reader gives at a step. `values` is where values are decoded.
+/// Returns the output of a step.
 fn stepped<A: Allocator + Copy>(
     alloc: A,
     values: Global,
@@ -195,7 +196,7 @@ fn stepped<A: Allocator + Copy>(
     Ok(output)
 }
 
-/// What a reader gives of what came from the writer.
+/// Returns the output for an event of the writer.
 fn taken<A: Allocator + Copy>(
     alloc: A,
     values: Global,
@@ -210,7 +211,7 @@ fn taken<A: Allocator + Copy>(
     stepped(alloc, values, reader, what)
 }
 
-/// What a reader gives of what it is asked to do.
+/// Returns the output for a step.
 fn given<A: Allocator + Copy>(
     alloc: A,
     values: Global,
@@ -243,7 +244,7 @@ fn given<A: Allocator + Copy>(
     })
 }
 
-/// What the only notice says, if there is one.
+/// Returns the notice, if there is exactly one.
 fn said<A: Allocator>(output: &Output<Shape, A>) -> Result<Told, Fail> {
     let Some(notice) = output.notices.first() else {
         return Ok(Told::Nothing);
@@ -260,7 +261,7 @@ fn said<A: Allocator>(output: &Output<Shape, A>) -> Result<Told, Fail> {
     })
 }
 
-/// The port of the answer, and its count, which is the first of its last four octets.
+/// Returns the port of the answer and its count, which is the first of its last four octets.
 fn answer<A: Allocator>(output: &Output<Shape, A>) -> Option<(u16, u8)> {
     let (_, reply) = output.answers.first()?;
     let to = reply.to.as_slice().first()?;
@@ -279,14 +280,14 @@ fn counted(status: Status) -> Counted {
     )
 }
 
-/// Whether a reader reports, answers and counts what a step is to give.
+/// Whether a step gives the expected notice, answer and status.
 fn is_met(alloc: Global, reader: &mut ReaderState, step: &Row) -> Result<bool, Fail> {
     let (asks, expected, sent, status) = *step;
     let output = given(alloc, alloc, reader, asks)??;
     Ok(said(&output)? == expected && answer(&output) == sent && counted(reader.status()) == status)
 }
 
-/// The place of the first of these steps that a reader doesn't meet.
+/// Returns the index of the first step that doesn't give what is expected.
 fn first_unmet(
     alloc: Global,
     reader: &mut ReaderState,
@@ -321,7 +322,7 @@ fn a_match_without_memory(rt: HostRuntime) -> Result<(), Fail> {
             Err(error) => {
                 refused = true;
                 assert_eq!(rt; error, AllocError);
-                // The reader is spent: nothing else is taken, where memory would be left too.
+                // A spent reader refuses all later steps, even where memory is left.
                 for asks in [Asks::Unmatch, Asks::Refuse(PolicyId::Durability)] {
                     let again = given(&heap, rt.alloc(), &mut reader, asks)?;
                     assert!(rt; again.is_err());

@@ -1,4 +1,4 @@
-//! What a reliable reader reports and answers to a datagram that was written down by hand.
+//! Notices and answers of a reliable reader for a datagram written by hand.
 
 ghost use Rattle.std.specs.Prelude.{◌≤◌, IfOk, length};
 
@@ -12,13 +12,13 @@ use std::test::Fail;
 
 const OURS: GuidPrefix = GuidPrefix([11; 12]);
 
-/// Where the writer is reached.
+/// The writer's locator.
 const LOCATOR: Locator = Locator {
     port: 7411,
     address: [127, 0, 0, 1],
 };
 
-/// Changes 1 and 3; a heartbeat of the numbers 1 to 3; a gap that names 2; and a heartbeat of the
+/// Changes 1 and 3, a HEARTBEAT of the numbers 1 to 3, a GAP that names 2, and a HEARTBEAT of the
 /// numbers 6 and 7 that asks for no answer.
 const DATAGRAM: [&str; 6] = [
     "52545053020500000a0a0a0a0a0a0a0a0a0a0a0a",
@@ -29,7 +29,7 @@ const DATAGRAM: [&str; 6] = [
     "07031c0000000107000001020000000006000000000000000700000002000000",
 ];
 
-/// The answers, each with the submessage that it answers: 2 is missing, and then 6 and 7 are.
+/// The expected answers, each with the submessage that it answers: 2 is missing, and then 6 and 7.
 const ANSWERS: [(u32, &str); 2] = [
     (
         3,
@@ -41,7 +41,7 @@ const ANSWERS: [(u32, &str); 2] = [
     ),
 ];
 
-/// A reliable reader that is matched with the writer from the start.
+/// Returns a reliable reader that is matched with the writer from the start.
 fn reader<A: Allocator + Copy>(alloc: A) -> Result<ReaderState<A>, ReaderError> {
     let mut fixed = Vec::new(alloc);
     fixed.push(WriterFacts {
@@ -68,7 +68,7 @@ fn datagram(alloc: Global) -> Result<Vec<u8>, Fail>
     Ok(octets)
 }
 
-/// What a reader gives of the events of a datagram. `values` is where values are decoded.
+/// Returns the output for the events of a datagram.
 fn given<A: Allocator + Copy>(
     alloc: A,
     values: Global,
@@ -91,7 +91,7 @@ fn given<A: Allocator + Copy>(
     Ok(output)
 }
 
-/// The submessage that caused a notice, the number that it presents, and how many it tells lost.
+/// The submessage that caused a notice, the number that it presents, and the count of lost numbers.
 fn told(notice: &Notice<Shape>) -> (u32, u64, u64) {
     let (number, lost) = match &notice.what {
         NoticeKind::Sample { number, .. } => (number.get(), 0),
@@ -101,7 +101,7 @@ fn told(notice: &Notice<Shape>) -> (u32, u64, u64) {
     (notice.place.submessage, number, lost)
 }
 
-/// Whether the notices tell of both changes, and of two numbers that are lost.
+/// Whether the notices present both changes, and report two lost numbers.
 fn are_in_order(notices: &[Notice<Shape>]) -> bool {
     let expected: [(u32, u64, u64); 3] = [(1, 1, 0), (4, 3, 0), (5, 0, 2)];
     notices.len() == expected.len()
@@ -111,7 +111,7 @@ fn are_in_order(notices: &[Notice<Shape>]) -> bool {
             .all(|(notice, expected)| told(notice) == *expected)
 }
 
-/// Whether the answers are these, each to the writer's locator.
+/// Whether the answers are the expected ones, each to the writer's locator.
 fn are_answers(
     alloc: Global,
     answers: &[(Place, Reply)],
@@ -129,7 +129,7 @@ fn are_answers(
     Ok(answers.len() == expected.len())
 }
 
-/// Whether a reader tells what it has to of the datagram, and counts it.
+/// Whether a reader gives the expected notices for the datagram, and counts them.
 fn tells_in_order(alloc: Global, reader: &mut ReaderState, octets: &[u8]) -> Result<bool, Fail>
     requires { length octets.now ≤ 65507 }
 {
@@ -138,7 +138,7 @@ fn tells_in_order(alloc: Global, reader: &mut ReaderState, octets: &[u8]) -> Res
     Ok(are_in_order(&output.notices) && (status.lost_total, status.samples) == (2, 2))
 }
 
-/// Whether it answers as it has to.
+/// Whether a reader gives the expected answers.
 fn answers_all(alloc: Global, reader: &mut ReaderState, octets: &[u8]) -> Result<bool, Fail>
     requires { length octets.now ≤ 65507 }
 {

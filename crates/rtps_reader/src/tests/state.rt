@@ -1,14 +1,14 @@
-//! What a best-effort reader reports of events that were written down by hand.
+//! Notices of a best-effort reader for events written by hand.
 
 use crate::*;
 use dds_topic::{Decoder, Shape, Shapes};
-use rtps_receiver::{Body as EventBody, Event, Whole};
+use rtps_receiver::{Event, EventBody, Whole};
 use rtps_types::{EntityId, Guid, GuidPrefix, Locators, Number, Place, WriterFacts};
 use rtps_wire::{ChangeInfo, Form};
 use std::alloc::Global;
 use std::test::Fail;
 
-/// RED at 1, 2 of size 3, in little-endian CDR.
+/// A shape RED at 1, 2 with size 3, in little-endian CDR.
 const RED: [u8; 24] = [
     0, 1, 0, 0, 4, 0, 0, 0, 0x52, 0x45, 0x44, 0, 1, 0, 0, 0, 2, 0, 0, 0, 3, 0, 0, 0,
 ];
@@ -19,7 +19,7 @@ const WRITER: EntityId = EntityId([0, 0, 1, 2]);
 
 const READER: EntityId = EntityId([0, 0, 1, 7]);
 
-/// A reader that is matched with one writer from the start.
+/// Returns a reader that is matched with one writer from the start.
 fn reader(alloc: Global) -> Result<ReaderState, Fail> {
     let mut fixed = Vec::new(alloc);
     fixed.push(WriterFacts {
@@ -39,7 +39,7 @@ fn reader(alloc: Global) -> Result<ReaderState, Fail> {
     )?)
 }
 
-/// A change of this number that came in this datagram.
+/// Returns a change with this number, from this datagram.
 fn event(datagram: u64, source: GuidPrefix, number: u64) -> Result<Event<'static>, Fail> {
     let Some(number) = Number::new(number) else {
         return Err(Fail::new("no number"));
@@ -65,8 +65,8 @@ fn event(datagram: u64, source: GuidPrefix, number: u64) -> Result<Event<'static
     })
 }
 
-/// What a reader gives of four changes, of which it takes two: the others are an old one, and one
-/// from a writer that isn't matched.
+/// Returns the output for four changes. The reader accepts two: one of the others is old, and one
+/// is from a writer that isn't matched.
 fn given(alloc: Global, reader: &mut ReaderState) -> Result<Output<Shape>, Fail> {
     let mut output = Output {
         notices: Vec::new(alloc),
@@ -91,7 +91,7 @@ fn presents(notice: &Notice<Shape>, expected: u64) -> bool {
     match &notice.what {
         NoticeKind::Sample {
             number,
-            body: Body::Value(_, shape),
+            body: EventBody::Value(_, shape),
             ..
         } => {
             number.get() == expected
@@ -102,7 +102,7 @@ fn presents(notice: &Notice<Shape>, expected: u64) -> bool {
     }
 }
 
-/// Whether a notice reports this count of lost numbers.
+/// Whether a notice reports this number of lost samples.
 fn tells_lost(notice: &Notice<Shape>, expected: u64) -> bool {
     match &notice.what {
         NoticeKind::Lost { count } => *count == expected,
@@ -110,7 +110,7 @@ fn tells_lost(notice: &Notice<Shape>, expected: u64) -> bool {
     }
 }
 
-/// Whether the two changes are presented, in order, and nothing is answered.
+/// Whether the two changes are presented, in order, without an answer.
 fn are_presented(output: &Output<Shape>) -> bool {
     let [first, lost, last] = output.notices.as_slice() else {
         return false;
@@ -123,7 +123,7 @@ fn are_presented(output: &Output<Shape>) -> bool {
         && last.writer.prefix == THEIRS
 }
 
-/// Whether a reader presents what it has to.
+/// Whether a reader presents the expected changes.
 fn presents_rising(alloc: Global, reader: &mut ReaderState) -> Result<bool, Fail> {
     Ok(are_presented(&given(alloc, reader)?))
 }
@@ -135,7 +135,7 @@ fn rising_numbers_are_presented_once(rt: HostRuntime) -> Result<(), Fail> {
     Ok(())
 }
 
-/// Whether a reader counts what it presents, after the changes.
+/// Whether a reader's status counts what it presented.
 fn counts_rising(alloc: Global, reader: &mut ReaderState) -> Result<bool, Fail> {
     let status = Status {
         matched_total: 1,

@@ -1,4 +1,5 @@
-//! Records in batches: the same records as one by one, up to what is asked for and has room.
+//! Tests of reading records in batches: they are the same records as one by one, and a batch ends
+//! at the number asked for or where there is no room.
 
 ghost use Rattle.std.specs.Prelude.{◌≤◌};
 
@@ -7,7 +8,7 @@ use crate::{Batch, BatchEnd, MAX_LEN, Records, RunFault};
 use std::alloc::Global;
 use std::test::Fail;
 
-/// Adds a line of each record's number and length, and gives what the file ends by.
+/// Appends a line with the number and the length of each record, and returns how the file ends.
 fn print_batches(
     alloc: Global,
     mut file: &[u8],
@@ -77,7 +78,8 @@ fn a_batch_is_empty_at_first_and_once_it_is_cleared(rt: HostRuntime) -> Result<(
     Ok(())
 }
 
-/// The number of records of a first batch, where each of the file's seventeen is a longest one.
+/// Returns the number of records of the first batch of a file with seventeen records of the
+/// greatest length.
 fn longest(alloc: Global) -> Result<usize, Fail> {
     let mut file = b"RDG1".to_vec(alloc)?;
     let record = vec![in alloc; 0u8; MAX_LEN]?;

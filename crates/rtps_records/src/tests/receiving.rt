@@ -1,12 +1,12 @@
-//! Datagrams of a list are received into batches.
+//! Tests of receiving datagrams into batches.
 
 use crate::{Batch, MAX_LEN, Receive, ReceiveEnd};
 use std::alloc::Global;
 use std::io::{self, Error, ErrorKind};
 use std::test::Fail;
 
-/// Gives datagrams of these lengths, each of one octet that says which it is; then none comes, or
-/// the next one can't be received.
+/// A source of datagrams of these lengths, each filled with an octet that tells which one it is.
+/// After them none comes, or the source fails.
 #[derive(Drop)]
 struct Coming<'a> {
     lengths: &'a [usize],
@@ -42,7 +42,7 @@ fn source_of(lengths: &[usize], fails: bool) -> Coming<'_> {
     }
 }
 
-/// The length of each datagram of a batch, and its first octet, or 0 where it has none.
+/// Returns the length of each datagram of a batch, and its first octet, or 0 if it is empty.
 fn seen(alloc: Global, batch: &Batch) -> Result<Vec<(usize, u8)>, Fail> {
     let mut seen = Vec::new(alloc);
     for octets in batch.records(alloc)? {

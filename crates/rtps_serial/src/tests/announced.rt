@@ -1,4 +1,4 @@
-//! Datagrams of a peer that announces itself and its writers (DDSI-RTPS 8.5), written down by hand.
+//! Datagrams of a peer that announces itself and its writers (DDSI-RTPS 8.5), written by hand.
 
 ghost use Rattle.std.specs.Prelude.{◌≤◌, IfOk, length};
 
@@ -6,24 +6,25 @@ use super::{BLUE, HEADER};
 use std::alloc::{AllocError, Global};
 use std::test::Fail;
 
-/// What the peer sends. A writer is named by the third octet of its entity.
+/// A submessage of the peer. A writer is named by the third octet of its entity.
 #[derive(Clone, Copy)]
 pub(super) enum Says {
-    /// Its participant is there.
+    /// The record of its participant.
     Comes,
-    /// Its participant leaves.
+    /// The end of its participant.
     Leaves,
-    /// The record with this number: the writer is there, and this is what it offers.
+    /// The record, with this number, of a writer that offers this: the writer, the number, the
+    /// offer.
     Offers(u8, u8, Offer),
-    /// The record with this number: the writer is gone.
+    /// The end, with this number, of a writer: the writer, the number.
     Withdraws(u8, u8),
-    /// DATA of the writer with this number and BLUE, for every reader.
+    /// DATA of a writer, with this number and BLUE, for every reader.
     Blue(u8, u8),
     /// HEARTBEAT of this entity: the first number, the last one and the count.
     Heartbeat([u8; 4], [u8; 3]),
 }
 
-/// What a reliable writer of type ShapeType offers.
+/// The topic and partition of a reliable writer of type ShapeType.
 #[derive(Clone, Copy)]
 pub(super) enum Offer {
     Square,
@@ -56,13 +57,13 @@ const PARTICIPANT: &str = "00030000 50001000 0a0a0a0a 0a0a0a0a 0a0a0a0a 000001c1
 /// A key hash up to the entity.
 const HASH: &str = "70001000 0a0a0a0a 0a0a0a0a 0a0a0a0a";
 
-/// The status of what was disposed, and the end of the inline QoS.
+/// The status info that says disposed, and the end of the inline QoS.
 const DISPOSED: &str = "71000400 00000001 01000000";
 
 /// The record of a writer up to its entity.
 const WRITER: &str = "00030000 5a001000 0a0a0a0a 0a0a0a0a 0a0a0a0a";
 
-/// The type, and that the writer is reliable.
+/// The type name, and the reliability policy: reliable.
 const OFFERED: &str = "07001000 0a000000 53686170 65547970 65000000 \
     1a000c00 02000000 00000000 00000000";
 
@@ -76,7 +77,7 @@ const PARTITION: &str = "29000c00 01000000 02000000";
 /// The end of a parameter list.
 const SENTINEL: &[u8] = &[1, 0, 0, 0];
 
-/// Puts the octets of a text in hex after the others.
+/// Appends the octets of a text in hex.
 fn push_hex(alloc: Global, octets: &mut Vec<u8>, text: &str) -> Result<(), Fail> {
     for part in text.split_ascii_whitespace() {
         octets.extend_from_slice(hex::decode(alloc, part)?.as_slice())?;
@@ -84,7 +85,7 @@ fn push_hex(alloc: Global, octets: &mut Vec<u8>, text: &str) -> Result<(), Fail>
     Ok(())
 }
 
-/// DATA for every reader, up to what comes after its number.
+/// Appends DATA for every reader, up to and including its number.
 fn push_data(
     octets: &mut Vec<u8>,
     flags_and_length: [u8; 2],
@@ -98,7 +99,7 @@ fn push_data(
     octets.extend_from_slice(&[0, 0, 0, 0, number, 0, 0, 0])
 }
 
-/// The end of an entity by the key hash alone.
+/// Appends the end of an entity, named by the key hash alone.
 fn push_end(
     alloc: Global,
     octets: &mut Vec<u8>,
@@ -112,7 +113,7 @@ fn push_end(
     push_hex(alloc, octets, DISPOSED)
 }
 
-/// The record of a writer.
+/// Appends the record of a writer.
 fn push_offer(
     alloc: Global,
     octets: &mut Vec<u8>,
@@ -171,7 +172,7 @@ fn push(alloc: Global, octets: &mut Vec<u8>, part: Says) -> Result<(), Fail> {
     Ok(())
 }
 
-/// A datagram of these submessages.
+/// Returns a datagram of these submessages.
 pub(super) fn datagram_of(alloc: Global, parts: &[Says]) -> Result<Vec<u8>, Fail>
     ensures { IfOk result (λ octets. length octets.items ≤ 65507) }
 {

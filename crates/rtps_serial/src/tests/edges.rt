@@ -1,4 +1,4 @@
-//! The least and the most that an engine is given, with ample memory.
+//! Tests of the least and the greatest inputs of an engine, with ample memory.
 
 ghost use Rattle.std.specs.Prelude.{◌≤◌, IfOk, length};
 
@@ -10,8 +10,8 @@ use rtps_discovery::Config;
 use std::alloc::{AllocError, Global};
 use std::test::Fail;
 
-/// The longest datagram: a change with number 1 that runs to the end, of which all after BLUE is
-/// ignored.
+/// Returns the longest datagram: a change with number 1 that extends to the end. All after BLUE in
+/// it is ignored.
 fn longest(alloc: Global) -> Result<Vec<u8>, Fail>
     ensures { IfOk result (λ octets. length octets.items ≤ 65507) }
 {
@@ -28,7 +28,8 @@ fn longest(alloc: Global) -> Result<Vec<u8>, Fail>
     Ok(octets)
 }
 
-/// Whether an engine reports these lines of a datagram, dealt out and put in order again.
+/// Whether an engine reports these lines for a datagram, by [`SerialEngine::take`] and then
+/// [`Outcome::in_order`](crate::Outcome::in_order).
 pub(super) fn reports(
     alloc: Global,
     engine: &mut SerialEngine<Shapes>,
@@ -41,7 +42,7 @@ pub(super) fn reports(
     Ok(are_lines(&reports, lines))
 }
 
-/// Whether datagrams without events are taken, and then the longest one.
+/// Whether an engine takes datagrams without events, and then the longest one.
 fn takes_all_lengths(alloc: Global, engine: &mut SerialEngine<Shapes>) -> Result<bool, Fail> {
     for octets in [&[], &HEADER[..19], HEADER] {
         if !reports(alloc, engine, octets, &[])? {
@@ -56,7 +57,7 @@ fn takes_all_lengths(alloc: Global, engine: &mut SerialEngine<Shapes>) -> Result
     reports(alloc, engine, octets.as_slice(), &lines)
 }
 
-/// 256 readers, of which the last is matched with the writer.
+/// 256 readers, the last of them matched with the writer.
 fn most_readers(alloc: Global) -> Result<Config, AllocError> {
     let mut ranks = Vec::new(alloc);
     for rank in 0..=255 {
@@ -66,7 +67,7 @@ fn most_readers(alloc: Global) -> Result<Config, AllocError> {
     config(alloc, Reliability::Reliable, ranks.as_slice(), &fixed)
 }
 
-/// How many samples the reader of a rank presented, if there is such a reader.
+/// Returns the number of samples that the reader of a rank presented, if there is such a reader.
 fn samples(engine: &SerialEngine<Shapes>, rank: u32) -> Option<u32> {
     match engine.status(rank) {
         Some(status) => Some(status.samples),
@@ -87,13 +88,14 @@ fn presents_to_the_last(alloc: Global, engine: &mut SerialEngine<Shapes>) -> Res
     )
 }
 
-/// Whether two readers take a datagram of each length.
+/// Whether an engine of two readers takes datagrams of several lengths, from the least to the
+/// greatest.
 fn least(alloc: Global) -> Result<bool, Fail> {
     let mut engine = SerialEngine::new(alloc, two(alloc, Reliability::Reliable)?, Shapes)?;
     takes_all_lengths(alloc, &mut engine)
 }
 
-/// Whether the greatest number of readers take a change.
+/// Whether an engine with the greatest number of readers takes a change.
 fn most(alloc: Global) -> Result<bool, Fail> {
     let mut engine = SerialEngine::new(alloc, most_readers(alloc)?, Shapes)?;
     presents_to_the_last(alloc, &mut engine)

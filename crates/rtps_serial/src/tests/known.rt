@@ -1,4 +1,4 @@
-//! What engines know of a peer, and what discovery answers it.
+//! Tests of what engines know of a peer, and of discovery's answers to it.
 
 use super::announced::{Offer, Says, WRITERS, datagram_of};
 use super::matching::{Row, Unlike, meets, meets_from_new, status, two_unlike};
@@ -10,7 +10,7 @@ use rtps_types::{GuidPrefix, Locator};
 use std::alloc::Global;
 use std::test::Fail;
 
-/// Whether these are the known participants, each by the octets of its prefix.
+/// Whether the known participants are these, each named by an octet of its prefix.
 fn are_participants(known: &Discovery, expected: &[u8]) -> bool {
     known.participants().count() == expected.len()
         && known
@@ -19,7 +19,7 @@ fn are_participants(known: &Discovery, expected: &[u8]) -> bool {
             .all(|((prefix, _), octet)| *prefix == GuidPrefix([*octet; 12]))
 }
 
-/// Whether these are the known writers, each by the third octet of its entity and by its topic.
+/// Whether the known writers are these, each with the third octet of its entity and its topic.
 fn are_writers(known: &Discovery, expected: &[(u8, &str)]) -> bool {
     known.writers().count() == expected.len()
         && known.writers().zip(expected.iter()).all(|((guid, writer), (key, topic))| {
@@ -27,14 +27,14 @@ fn are_writers(known: &Discovery, expected: &[(u8, &str)]) -> bool {
         })
 }
 
-/// Datagrams that an engine takes, and the participants and the writers that it knows after them.
+/// Datagrams for an engine, and the participants and the writers that it knows after them.
 struct Known {
     rows: &'static [Row],
     participants: &'static [u8],
     writers: &'static [(u8, &'static str)],
 }
 
-/// Whether an engine meets the rows, and then knows what it has to.
+/// Whether an engine has the expected results for the rows, and then knows what is expected.
 fn knows(alloc: Global, engine: &mut SerialEngine<Shapes>, expected: &Known) -> Result<bool, Fail> {
     if !meets(alloc, engine, expected.rows)? {
         return Ok(false);
@@ -43,7 +43,7 @@ fn knows(alloc: Global, engine: &mut SerialEngine<Shapes>, expected: &Known) -> 
     Ok(are_participants(known, expected.participants) && are_writers(known, expected.writers))
 }
 
-/// Nothing; the peer with two writers; the end of the first one; and the end of the peer.
+/// No datagrams; the peer with two writers; the end of the first one; and the end of the peer.
 const KNOWN: [Known; 4] = [
     Known {
         rows: &[],
@@ -82,7 +82,7 @@ const KNOWN: [Known; 4] = [
     },
 ];
 
-/// The place of the first of these after which an engine doesn't know what it has to.
+/// Returns the index of the first step after which an engine doesn't know what is expected.
 fn first_unknown(
     alloc: Global,
     engine: &mut SerialEngine<Shapes>,
@@ -96,7 +96,7 @@ fn first_unknown(
     Ok(None)
 }
 
-/// The same of a new engine.
+/// Like [`first_unknown`], for a new engine.
 fn first_unknown_from_new(alloc: Global, expected: &[Known]) -> Result<Option<usize>, Fail> {
     let mut engine = SerialEngine::new(alloc, two_unlike(alloc, Unlike::Topics)?, Shapes)?;
     first_unknown(alloc, &mut engine, expected)
@@ -108,8 +108,8 @@ fn what_is_known_is_lent(rt: HostRuntime) -> Result<(), Fail> {
     Ok(())
 }
 
-/// The announcer of writers has number 1, which didn't come; then number 2 comes and waits, until
-/// a heartbeat without number 1.
+/// The announcer of writers offers number 1, which didn't arrive. Then number 2 arrives and waits,
+/// until a heartbeat doesn't offer number 1 any more.
 const ANSWERED: [Row; 2] = [
     (
         &[Says::Comes, Says::Heartbeat(WRITERS, [1, 1, 1])],
@@ -136,7 +136,7 @@ const ACKNACK: &[u8] = b"RTPS\x02\x05\x00\x00\
     \x06\x01\x1c\x00\x00\x00\x03\xc7\x00\x00\x03\xc2\x00\x00\x00\x00\x01\x00\x00\x00\
     \x01\x00\x00\x00\x00\x00\x00\x80\x01\x00\x00\x00";
 
-/// The answer to the peer's announcer of writers, which goes to its metatraffic.
+/// Whether this is the answer to the peer's announcer of writers, sent to its metatraffic locator.
 fn is_acknack(answer: &Answer) -> bool {
     let metatraffic = Locator {
         port: 7412,
@@ -147,7 +147,7 @@ fn is_acknack(answer: &Answer) -> bool {
         && answer.octets.as_slice() == ACKNACK
 }
 
-/// Whether the one answer to a datagram of these submessages is that one.
+/// Whether a datagram of these submessages has that answer and no other.
 fn answers_to_metatraffic(
     alloc: Global,
     engine: &mut SerialEngine<Shapes>,
@@ -161,7 +161,7 @@ fn answers_to_metatraffic(
     })
 }
 
-/// Whether a new engine answers so.
+/// Like [`answers_to_metatraffic`], for a new engine.
 fn answers_from_new(alloc: Global, parts: &[Says]) -> Result<bool, Fail> {
     let mut engine = SerialEngine::new(alloc, two_unlike(alloc, Unlike::Topics)?, Shapes)?;
     answers_to_metatraffic(alloc, &mut engine, parts)

@@ -1,4 +1,5 @@
-//! Matches that begin and end while an engine runs, with a peer that announces its writers.
+//! Tests of matches that begin and end while an engine runs, with a peer that announces its
+//! writers.
 
 use super::announced::{FIRST, Offer, Says, datagram_of, user};
 use super::{Line, SENDER, Said, are_lines, reader_config};
@@ -11,8 +12,8 @@ use rtps_types::{EntityId, Guid, GuidPrefix};
 use std::alloc::Global;
 use std::test::Fail;
 
-/// What a datagram has, what is reported of it, in order, and the matches after it: the rank and
-/// the third octet of the writer's entity.
+/// The submessages of a datagram, its reports in order, and the matches after it: the rank and the
+/// third octet of the writer's entity.
 pub(super) type Row = (&'static [Says], &'static [Line], &'static [(u32, u8)]);
 
 /// A writer of the peer.
@@ -23,12 +24,12 @@ fn theirs(key: u8) -> Guid {
     }
 }
 
-/// What sets two readers apart.
+/// How two readers differ.
 #[derive(Clone, Copy)]
 pub(super) enum Unlike {
-    /// The first one asks for squares, the second one for circles.
+    /// The first one reads squares, the second one circles.
     Topics,
-    /// Both ask for squares, the first one in partition A, the second one in B.
+    /// Both read squares, the first one in partition A, the second one in B.
     Partitions,
 }
 
@@ -52,7 +53,7 @@ fn one_partition(alloc: Global, name: &str) -> Result<Partitions, Fail> {
     Ok(Partitions::new(names))
 }
 
-/// Whether just these are the matches.
+/// Whether the matches are exactly these.
 fn are_matches(
     alloc: Global,
     engine: &SerialEngine<Shapes>,
@@ -68,7 +69,7 @@ fn are_matches(
     )
 }
 
-/// Whether an engine meets each row, one after another.
+/// Whether an engine has the expected results for each row, one after another.
 pub(super) fn meets(
     alloc: Global,
     engine: &mut SerialEngine<Shapes>,
@@ -98,7 +99,7 @@ pub(super) fn status(matched_total: u32, matched_now: u64, samples: u32) -> Opti
     })
 }
 
-/// Whether an engine meets these rows, with the statuses of its two readers after them.
+/// Like [`meets`], and whether the two readers have these statuses after the rows.
 fn meets_with(
     alloc: Global,
     engine: &mut SerialEngine<Shapes>,
@@ -112,7 +113,7 @@ fn meets_with(
     )
 }
 
-/// The same of a new engine.
+/// Like [`meets_with`], for a new engine.
 pub(super) fn meets_from_new(
     alloc: Global,
     what: Unlike,
@@ -181,11 +182,11 @@ fn a_partition_in_common_matches(rt: HostRuntime) -> Result<(), Fail> {
     Ok(())
 }
 
-/// What an engine takes, and its first reader's matches in all, those of now, and its samples after
-/// it.
+/// Rows for an engine, and the counts of its first reader after them: all matches so far, the
+/// present matches, and the samples.
 type Counted = (&'static [Row], (u32, u64, u32));
 
-/// Nothing; the peer and its writer 1, a sample, and the end of the writer; then the writer again,
+/// No rows; the peer and its writer 1, a sample, and the end of the writer; then the writer again,
 /// with numbers from 1.
 const COMES_AGAIN: [Counted; 6] = [
     (&[], (0, 0, 0)),
@@ -231,7 +232,7 @@ const COMES_AGAIN: [Counted; 6] = [
     ),
 ];
 
-/// The place of the first of these that an engine doesn't meet.
+/// Returns the index of the first step whose results an engine doesn't have.
 fn first_unmet(
     alloc: Global,
     engine: &mut SerialEngine<Shapes>,
@@ -245,7 +246,7 @@ fn first_unmet(
     Ok(None)
 }
 
-/// The same of a new engine.
+/// Like [`first_unmet`], for a new engine.
 fn first_unmet_from_new(alloc: Global, steps: &[Counted]) -> Result<Option<usize>, Fail> {
     let mut engine = SerialEngine::new(alloc, two_unlike(alloc, Unlike::Topics)?, Shapes)?;
     first_unmet(alloc, &mut engine, steps)
@@ -257,8 +258,8 @@ fn a_writer_comes_again_with_numbers_of_its_own(rt: HostRuntime) -> Result<(), F
     Ok(())
 }
 
-/// What a writer sends before its match leaves no trace: its heartbeat has no answer, and its
-/// number 1 comes as a new one after the match begins.
+/// Submessages of a writer before its match are ignored: its heartbeat has no answer, and its
+/// number 1 counts as new after the match begins.
 const BEFORE: [Row; 2] = [
     (
         &[
@@ -287,7 +288,7 @@ const BEFORE: [Row; 2] = [
 ];
 
 /// Numbers 2 and 3 wait for number 1 when the match ends, by the end of the writer and then by that
-/// of its participant; they are dropped, and no reader has lost them.
+/// of its participant. They are dropped, and don't count as lost.
 const HELD: [Row; 3] = [
     (
         &[

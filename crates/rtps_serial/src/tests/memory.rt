@@ -1,4 +1,4 @@
-//! Refused growths.
+//! Tests with too little memory.
 
 ghost use Rattle.std.specs.Prelude.{◌≤◌, length};
 
@@ -14,7 +14,7 @@ use rtps_reader::Status;
 use std::alloc::Global;
 use std::test::Fail;
 
-/// Whether an engine that has failed refuses what it is asked, and shows that nothing was taken.
+/// Whether an engine that has failed refuses each call, and shows that no datagram was processed.
 fn has_failed<'a>(
     heap: &'a LocalHeap,
     engine: &mut SerialEngine<Shapes, &'a LocalHeap>,
@@ -24,7 +24,7 @@ fn has_failed<'a>(
 {
     matches!(engine.status(1), Some(Status { samples: 0, .. }))
         && engine.matches(heap).err() == Some(EngineError::Failed)
-        && engine.take_in(heap, octets).err() == Some(EngineError::Failed)
+        && engine.take(heap, octets).err() == Some(EngineError::Failed)
 }
 
 /// The result of a datagram in a small heap.
@@ -34,9 +34,9 @@ enum Met {
     NoEngine,
     /// The engine has failed.
     Failed,
-    /// So many reports come.
+    /// The datagram has this number of reports.
     Reports(usize),
-    /// There was no memory to put them in order.
+    /// There was no memory to put the reports in order.
     Unordered,
 }
 
@@ -50,7 +50,7 @@ fn take_once(alloc: Global, size: usize, config: Config, octets: &[u8]) -> Resul
         Err(StartError::NoMemory) => return Ok(Met::NoEngine),
         Err(_) => return Err(Fail::new("the configuration is refused")),
     };
-    match engine.take_in(&heap, octets) {
+    match engine.take(&heap, octets) {
         Ok(outcome) => match outcome.in_order(&heap) {
             Ok(reports) => Ok(Met::Reports(reports.len())),
             Err(_) => Ok(Met::Unordered),
@@ -60,10 +60,10 @@ fn take_once(alloc: Global, size: usize, config: Config, octets: &[u8]) -> Resul
     }
 }
 
-/// Two readers, and whom they are matched with.
+/// Two readers, and how they come to be matched with the writer.
 #[derive(Clone, Copy)]
 enum Given {
-    /// Both are matched with the writer from the start.
+    /// Both have fixed matches with the writer.
     Fixed(Reliability),
     /// The writer is announced to the first one.
     Announced,
@@ -76,8 +76,8 @@ fn config_given(alloc: Global, what: Given) -> Result<Config, Fail> {
     }
 }
 
-/// Whether there is no engine in small heaps, one that fails in larger ones, and one that reports
-/// so much of a datagram in large ones.
+/// Whether small heaps have no room for an engine, larger ones have an engine that fails, and large
+/// ones have an engine that reports `reports` items of a datagram.
 fn fails_or_reports(alloc: Global, what: Given, octets: &[u8], reports: usize) -> Result<bool, Fail>
     requires { length octets.now ≤ 65507 }
 {
@@ -103,7 +103,8 @@ fn an_engine_out_of_memory_has_failed(rt: HostRuntime) -> Result<(), Fail> {
         Sent::Heartbeat(3, 3, 2),
     ];
     let octets = datagram(alloc, &parts)?;
-    // A best-effort reader has one sample, a reliable one answers twice and has lost a number.
+    // Of two readers, each best-effort one has one sample, and each reliable one also sends two
+    // answers and has lost a number.
     for (reliability, reports) in [(Reliability::BestEffort, 2), (Reliability::Reliable, 8)] {
         let what = Given::Fixed(reliability);
         assert!(rt; fails_or_reports(alloc, what, octets.as_slice(), reports)?);

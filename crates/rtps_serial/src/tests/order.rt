@@ -1,4 +1,4 @@
-//! Outcomes that were written down by hand, put in order.
+//! Tests of putting outcomes in order, with outcomes written by hand.
 
 use crate::*;
 use dds_topic::Shape;
@@ -7,7 +7,7 @@ use rtps_types::{EntityId, Guid, GuidPrefix, Locators, Octets, Place};
 use std::alloc::{AllocError, Global};
 use std::test::Fail;
 
-/// What comes: the submessage that caused it, its rank, and what a notice counts. An answer has no
+/// A report: the submessage that caused it, its rank, and the count of a notice. An answer has no
 /// count.
 type Line = (u32, Option<u32>, Option<u64>);
 
@@ -18,7 +18,7 @@ fn place(submessage: u32) -> Place {
     }
 }
 
-/// Notices, each by its submessage and by a count, which no other has.
+/// Returns notices, each with its submessage and a unique count.
 fn notices(alloc: Global, lines: &[(u32, u64)]) -> Result<Vec<Notice<Shape>>, AllocError> {
     let mut notices = Vec::new(alloc);
     for (submessage, count) in lines {
@@ -34,7 +34,7 @@ fn notices(alloc: Global, lines: &[(u32, u64)]) -> Result<Vec<Notice<Shape>>, Al
     Ok(notices)
 }
 
-/// Answers, each by its submessage and its rank.
+/// Returns answers, each with its submessage and its rank.
 fn answers(alloc: Global, lines: &[(u32, Option<u32>)]) -> Result<Vec<Answer>, AllocError> {
     let mut answers = Vec::new(alloc);
     for (submessage, rank) in lines {
@@ -60,7 +60,7 @@ fn line(report: &Report<Shape>) -> Line {
     (turn.place.submessage, turn.rank, count)
 }
 
-/// An outcome of three readers. What comes late in a list may belong to an earlier place.
+/// Returns an outcome of three readers. The items of its lists are not all in the order of places.
 fn outcome(alloc: Global) -> Result<Outcome<Shape>, AllocError> {
     let mut lists = Vec::new(alloc);
     lists.push(notices(alloc, &[(1, 10), (3, 11)])?)?;
@@ -82,7 +82,7 @@ fn an_outcome_in_order(rt: HostRuntime) -> Result<(), Fail> {
         (3, None, None),
         (3, Some(0), Some(11)),
         (3, Some(0), None),
-        // What comes at one place stays in order, whatever it says.
+        // Notices of one reader at one place keep their order, whatever their counts.
         (3, Some(2), Some(14)),
         (3, Some(2), Some(13)),
         (3, Some(2), None),

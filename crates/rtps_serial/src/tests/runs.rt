@@ -1,4 +1,4 @@
-//! What engines report, and their statuses then.
+//! Tests of the reports of engines, and of their statuses afterwards.
 
 ghost use Rattle.std.specs.Prelude.{◌≤◌, length};
 
@@ -12,10 +12,10 @@ use rtps_reader::Status;
 use std::alloc::Global;
 use std::test::Fail;
 
-/// The submessages of a datagram, and what is reported of it, in order.
+/// The submessages of a datagram, and its reports, in order.
 type Row = (&'static [Sent], &'static [Line]);
 
-/// Whether an engine reports these lines of a datagram, put in order at once.
+/// Whether an engine reports these lines for a datagram, by [`SerialEngine::take_in_order`].
 fn reports_at_once(
     alloc: Global,
     engine: &mut SerialEngine<Shapes>,
@@ -29,8 +29,8 @@ fn reports_at_once(
     Ok(are_lines(&reports, lines))
 }
 
-/// Whether an engine meets each row, one after another: at once, or dealt out and put in order
-/// again.
+/// Whether an engine has the expected reports for each row, one after another: by `take_in_order`,
+/// or by `take` and then `in_order`.
 fn meets_all(
     alloc: Global,
     engine: &mut SerialEngine<Shapes>,
@@ -54,7 +54,7 @@ fn meets_all(
 /// Each octet of another participant, which sends nothing.
 const OTHER: u8 = 0x09;
 
-/// Three datagrams; the second reader hears more than the first one.
+/// Three datagrams; the second reader receives more than the first one.
 const BEST_EFFORT: [Row; 3] = [
     (
         &[Sent::ForAll(1), Sent::ForSecond(3), Sent::ForAll(5)],
@@ -69,7 +69,7 @@ const BEST_EFFORT: [Row; 3] = [
             (Some(1), 0, 3, Said::Blue(5)),
         ],
     ),
-    // Both have had it.
+    // Both readers have this number already.
     (&[Sent::ForAll(5)], &[]),
     (
         &[Sent::ForSecond(4), Sent::ForSecond(6)],
@@ -121,7 +121,7 @@ fn status(lost_total: u32, samples: u32) -> Option<Status> {
     })
 }
 
-/// Whether an engine meets these rows, with the statuses of its two readers after them.
+/// Like [`meets_all`], and whether the two readers have these statuses after the rows.
 fn meets_with(
     alloc: Global,
     engine: &mut SerialEngine<Shapes>,
@@ -137,7 +137,7 @@ fn meets_with(
     )
 }
 
-/// The same of a new engine.
+/// Like [`meets_with`], for a new engine.
 fn meets_from_new(
     alloc: Global,
     reliability: Reliability,
@@ -149,8 +149,8 @@ fn meets_from_new(
     meets_with(alloc, &mut engine, rows, dealt, statuses)
 }
 
-/// The same of two new engines, of which one puts its reports in order at once, and the other deals
-/// them out.
+/// Like [`meets_from_new`], for two new engines: one by `take_in_order`, the other by `take` and
+/// then `in_order`.
 fn meets(
     alloc: Global,
     reliability: Reliability,
@@ -176,13 +176,13 @@ fn lists(alloc: Global, fixed: &[(u32, u8)], expected: &[(u32, u8)]) -> Result<b
     )
 }
 
-/// The fault of best-effort readers of these ranks, with these fixed matches.
+/// Returns the fault of a configuration of best-effort readers with these fixed matches.
 fn fault(alloc: Global, ranks: &[u8], fixed: &[(u32, u8)]) -> Result<Option<StartError>, Fail> {
     let config = config(alloc, Reliability::BestEffort, ranks, fixed)?;
     Ok(SerialEngine::new(alloc, config, Shapes).err())
 }
 
-/// Whether the matches that are listed and the faults that are found are those expected.
+/// Whether the listed matches and the faults are those expected.
 fn answers(alloc: Global) -> Result<bool, Fail> {
     let fixed = [(1, SENDER), (0, SENDER), (1, OTHER)];
     let listed = [(0, SENDER), (1, OTHER), (1, SENDER)];

@@ -1,7 +1,7 @@
 //! A board whose ends are on one thread.
 
 use super::{jobs_of, lines, three};
-use crate::{Batch, Board, NoGate, Stolen};
+use crate::{Board, NoGate, SharedBatch, Stolen};
 use dds_topic::Shapes;
 use std::alloc::{AllocError, Global};
 use std::test::Fail;
@@ -67,7 +67,7 @@ fn thieves_take_in_the_order_of_the_pushes(rt: HostRuntime) -> Result<(), Fail> 
 fn a_thief_runs_the_one_job(rt: HostRuntime) -> Result<(), Fail> {
     let alloc = rt.alloc();
     let events = three(alloc)?;
-    let batch = Batch {
+    let batch = SharedBatch {
         catalog: &Shapes,
         gate: &NoGate,
         events: &events,

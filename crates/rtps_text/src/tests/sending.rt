@@ -1,7 +1,7 @@
 //! Answers on their way to a network that keeps them.
 
 use crate::send_answers;
-use dds_participant::Given;
+use dds_participant::BatchOutput;
 use dds_topic::Shape;
 use rtps_reader::Output;
 use rtps_records::{Exchange, Receive};
@@ -87,7 +87,7 @@ fn output(alloc: Global, replies: &[(Place, u16, u8)]) -> Result<Output<Shape>, 
 #[test]
 fn answers_go_by_place_and_to_each_locator(rt: HostRuntime) -> Result<(), Fail> {
     let alloc = rt.alloc();
-    let mut given = Given::new(alloc);
+    let mut given = BatchOutput::new(alloc);
     given.places = [FIRST, SECOND, THIRD].to_vec(alloc)?;
     let answer = reply(alloc, &[7412, 7414], 1)?;
     given.answers.push((SECOND, answer))?;

@@ -64,7 +64,7 @@ impl FromStr for EntityId {
     }
 }
 
-/// The endpoint of twelve octets of its participant and four of its own.
+/// Returns the endpoint of twelve octets of prefix and four of entity id.
 fn guid_of(octets: [u8; 16]) -> Guid
     ensures { result ≡ guid_of octets }
 {
@@ -78,7 +78,7 @@ fn guid_of(octets: [u8; 16]) -> Guid
     }
 }
 
-/// 32 digits, those of its participant first.
+/// 32 digits, the participant's prefix first.
 impl fmt::Display for Guid {
     ghost output = { λ guid. Some (encode_lower (guid_octets guid)) };
 

@@ -13,14 +13,14 @@ use crate::{MAX_NUMBER, Number, Place};
 use std::fmt;
 use std::str::FromStr;
 
-/// Whether a text has no character but digits.
+/// Whether all characters of a text are digits.
 fn is_digits(text: &str) -> bool
     ensures { result ≡ list_all is_ascii_digit text.now }
 {
     text.as_bytes().iter().all(u8::is_ascii_digit)
 }
 
-/// The number from `least` to `greatest` that a text of digits writes.
+/// Parses a decimal number from `least` to `greatest`.
 fn read_decimal(text: &str, least: u64, greatest: u64) -> Result<u64, TextFault>
     ensures { result ≡ decimal_in least greatest text.now }
 {
@@ -52,7 +52,7 @@ impl fmt::Debug for Number {
     }
 }
 
-/// A number from 1 to [`MAX_NUMBER`] in digits alone, without a sign.
+/// A number from 1 to [`MAX_NUMBER`] in decimal digits only, without a sign.
 impl FromStr for Number {
     type Err = TextFault;
 
@@ -63,7 +63,7 @@ impl FromStr for Number {
     }
 }
 
-/// The datagram and the submessage in decimal, with a colon between.
+/// The datagram and the submessage in decimal, with a colon between them.
 impl fmt::Display for Place {
     ghost output = { λ place. Some (place_text place) };
 
@@ -83,7 +83,7 @@ impl fmt::Debug for Place {
     }
 }
 
-/// Two numbers in digits alone, with a colon between.
+/// Two numbers in decimal digits only, with a colon between them.
 impl FromStr for Place {
     type Err = TextFault;
 

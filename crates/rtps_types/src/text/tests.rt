@@ -1,4 +1,4 @@
-//! Texts that were written down by hand.
+//! Texts written by hand.
 
 use crate::*;
 use std::collections::HashMap;

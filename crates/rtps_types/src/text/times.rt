@@ -1,4 +1,4 @@
-//! Moments in hex, as they are in a message, and lengths of time in decimal.
+//! Timestamps in hex, as in a message, and durations in decimal.
 
 ghost use Rattle.std.specs.Prelude.{◌≡◌, Some, length};
 ghost use Rattle.std.specs.Fmt.{WritesOnOk};
@@ -9,7 +9,7 @@ use crate::{Duration, Timestamp};
 use std::str::FromStr;
 use std::{fmt, str};
 
-/// Eight digits of seconds, a dot, and eight of the fraction.
+/// Eight hex digits of seconds, a dot, and eight of the fraction.
 impl fmt::Display for Timestamp {
     ghost output = { λ moment. Some (moment_text moment) };
 
@@ -30,7 +30,7 @@ impl fmt::Debug for Timestamp {
     }
 }
 
-/// Spells a number in eight digits.
+/// Writes a number as eight hex digits.
 fn spell_word(number: u32, digits: &mut [u8])
     requires { length digits.old ≡ 8 }
     ensures { digits.new ≡ word_text number }
@@ -41,14 +41,14 @@ fn spell_word(number: u32, digits: &mut [u8])
     }
 }
 
-/// The number that eight digits write.
+/// Parses a number of eight hex digits.
 fn read_word(text: &str) -> Result<u32, TextFault>
     ensures { result ≡ word_in text.now }
 {
     Ok(u32::from_be_bytes(read_octets(text)?))
 }
 
-/// Eight digits of seconds, a dot, and eight of the fraction, in either case.
+/// Eight hex digits of seconds, a dot, and eight of the fraction, in either case.
 impl FromStr for Timestamp {
     type Err = TextFault;
 
@@ -63,11 +63,11 @@ impl FromStr for Timestamp {
     }
 }
 
-/// Nanoseconds in a second.
+/// The number of nanoseconds in a second.
 const SECOND: u64 = 1_000_000_000;
 
-/// In seconds with nine decimals, rounded down; `infinite` where it is the standard's infinite
-/// duration (DDSI-RTPS 9.3.2.3).
+/// Seconds with nine decimals, rounded down; `infinite` for the standard's infinite duration
+/// (DDSI-RTPS 9.3.2.3).
 impl fmt::Display for Duration {
     ghost output = { λ duration. Some (duration_text duration) };
 
@@ -92,7 +92,7 @@ impl fmt::Debug for Duration {
     }
 }
 
-/// Shows nanoseconds as seconds with nine decimals.
+/// Writes nanoseconds as seconds with nine decimals.
 fn show_nanoseconds<W: fmt::Write>(nanoseconds: u64, f: &mut fmt::Formatter<W>) -> fmt::Result
     ensures { WritesOnOk W.write_str_gives f.old result (seconds_text nanoseconds) f.new }
 {

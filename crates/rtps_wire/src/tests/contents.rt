@@ -1,12 +1,12 @@
-//! Sets, payloads and inline QoS: which octets are valid, and what they then say.
+//! Sets, payloads and inline QoS: valid and invalid octets.
 
 use super::only;
 use crate::*;
 use rtps_types::KeyHash;
 use std::test::Fail;
 
-/// A count of bits, how many words of ones follow it, and where that is a set from the base 5
-/// on, its last member, if it has one.
+/// A count of bits, the number of words of ones after it, and the last member of the set with base
+/// 5, if it is valid and has a member.
 const SETS: [(u32, u8, Option<Option<u64>>); 12] = [
     (0, 0, Some(None)),
     (0, 1, Some(None)),
@@ -43,11 +43,11 @@ fn sets_have_their_words_and_at_most_256_bits(rt: HostRuntime) -> Result<(), Fai
     Ok(())
 }
 
-/// Flags, octetsToInlineQos, what follows the fields, and what a change then carries, if it
-/// is valid.
+/// Flags, octetsToInlineQos, the octets after the fields, and the form and payload of the change,
+/// if it is valid.
 type Carries<'a> = (u8, u8, &'a [u8], Option<(Form, &'a [u8])>);
 
-/// What changes carry.
+/// Changes, valid and invalid.
 const CHANGES: [Carries<'static>; 19] = [
     // flags D, K and N; D and K together are no form
     (0x05, 16, b"\xaa\xbb", Some((Form::Value, b"\xaa\xbb"))),
@@ -138,7 +138,7 @@ fn fragments_carry_what_their_flags_say(rt: HostRuntime) -> Result<(), Fail> {
     Ok(())
 }
 
-/// The inline QoS of a change, and what it says, if it is good.
+/// The octets of inline QoS, and its expected contents, if it is valid.
 #[derive(Clone, Copy)]
 struct Qos<'a> {
     octets: &'a [u8],
@@ -150,7 +150,7 @@ const HASH: KeyHash = KeyHash([
     0x20, 0x21, 0x22, 0x23, 0x24, 0x25, 0x26, 0x27, 0x28, 0x29, 0x2a, 0x2b, 0x2c, 0x2d, 0x2e, 0x2f,
 ]);
 
-/// Inline QoS, good and bad.
+/// Inline QoS, valid and invalid.
 const LISTS: [Qos<'static>; 14] = [
     Qos {
         octets: b"\x01\x00\x00\x00",
@@ -170,7 +170,7 @@ const LISTS: [Qos<'static>; 14] = [
             \x01\x00\x00\x00",
         says: Some((1, None)),
     },
-    // octets after the known ones, padding, and parameters of other ids say nothing
+    // octets after the known ones, padding, and parameters with other ids are ignored
     Qos {
         octets: b"\x71\x00\x08\x00\x00\x00\x00\x02\xff\xff\xff\xff\
             \x00\x00\x04\x00\xee\xee\xee\xee\
@@ -185,7 +185,7 @@ const LISTS: [Qos<'static>; 14] = [
             \x01\x00\x00\x00",
         says: Some((0, Some(HASH))),
     },
-    // of two the last counts
+    // the last of two counts
     Qos {
         octets: b"\x70\x00\x10\x00\
             \xff\xff\xff\xff\xff\xff\xff\xff\xff\xff\xff\xff\xff\xff\xff\xff\

@@ -1,9 +1,9 @@
-//! What octets are refused, and how much of a message is read before a fault.
+//! Invalid octets, and the submessages that are read before a fault.
 
 use super::only;
 use crate::*;
 
-/// Whether these submessages are read, by their ids, and then this fault is met.
+/// Whether exactly the submessages with these ids are read, and then this fault is found.
 fn reads(octets: &[u8], ids: &[u8], fault: Option<SubmessageFault>) -> bool {
     let mut submessages = Submessages::new(octets);
     for id in ids {
@@ -15,7 +15,7 @@ fn reads(octets: &[u8], ids: &[u8], fault: Option<SubmessageFault>) -> bool {
     submessages.next().is_none() && submessages.fault() == fault
 }
 
-/// Submessages after a header, the ids of those that are read, and the fault that is met.
+/// Octets after a header, the ids of the submessages that are read, and the fault that is found.
 #[derive(Clone, Copy)]
 struct Behind<'a> {
     octets: &'a [u8],
@@ -23,7 +23,7 @@ struct Behind<'a> {
     fault: Option<SubmessageFault>,
 }
 
-/// Where a submessage ends, by its length.
+/// Submessages of different lengths.
 const LENGTHS: [Behind<'static>; 24] = [
     // nothing, and one to three octets
     Behind {
@@ -91,7 +91,7 @@ const LENGTHS: [Behind<'static>; 24] = [
         ids: &[0x09, 0x01],
         fault: None,
     },
-    // in any other kind a length of 0 runs to the end of the message, in one that is skipped too
+    // in any other kind, a skipped one too, a length of 0 runs to the end of the message
     Behind {
         octets: b"\x06\x01\x00\x00\
             \x01\x01\x00\x00",
@@ -129,7 +129,7 @@ const LENGTHS: [Behind<'static>; 24] = [
         ids: &[0x0e],
         fault: None,
     },
-    // octets after the known fields say nothing
+    // octets after the known fields are ignored
     Behind {
         octets: b"\x0e\x01\x10\x00\
             \x01\x02\x03\x04\x05\x06\x07\x08\x09\x0a\x0b\x0c\
@@ -138,7 +138,7 @@ const LENGTHS: [Behind<'static>; 24] = [
         ids: &[0x0e, 0x01],
         fault: None,
     },
-    // a length is taken as it is, in its byte order
+    // any length is used as it is, in its byte order
     Behind {
         octets: b"\x06\x01\x03\x00\
             \xee\xee\xee\
@@ -268,7 +268,7 @@ fn one_octet_less_than_the_least_length_is_invalid(rt: HostRuntime) {
     }
 }
 
-/// Submessages with a number out of its bounds, each running to the end of the message.
+/// Submessages with a number out of bounds, each running to the end of the message.
 const OUT_OF_BOUNDS: [&[u8]; 16] = [
     // the first number of a HEARTBEAT is at least 1, and the last one at least the first less 1
     b"\x07\x01\x00\x00\
@@ -291,7 +291,7 @@ const OUT_OF_BOUNDS: [&[u8]; 16] = [
         \x00\x00\x00\x00\x03\x00\x00\x00\
         \x00\x00\x00\x00\x01\x00\x00\x00\
         \x01\x00\x00\x00",
-    // those of a GAP are at least 1; its first may pass its base
+    // those of a GAP are at least 1; its first may be above its base
     b"\x08\x01\x00\x00\
         \x00\x00\x01\x07\x00\x00\x01\x02\
         \x00\x00\x00\x00\x00\x00\x00\x00\
@@ -379,7 +379,7 @@ const WITHIN_BOUNDS: [&[u8]; 9] = [
         \x00\x00\x00\x40\x01\x00\x00\x00\
         \xff\xff\xff\x7f\xff\xff\xff\xff\
         \x01\x00\x00\x00",
-    // those of a GAP are at least 1; its first may pass its base
+    // those of a GAP are at least 1; its first may be above its base
     b"\x08\x01\x00\x00\
         \x00\x00\x01\x07\x00\x00\x01\x02\
         \x00\x00\x00\x00\x09\x00\x00\x00\

@@ -1,11 +1,11 @@
-//! What valid octets say.
+//! Contents of valid octets.
 
 use super::{PREFIX, READER, WRITER, only};
 use crate::*;
 use rtps_types::{KeyHash, SnSet, Timestamp};
 use std::test::Fail;
 
-/// The first octets of a message, and what is answered of them.
+/// The first octets of a message, and the expected result of reading its header.
 #[derive(Clone, Copy)]
 struct Opening<'a> {
     octets: &'a [u8],

@@ -18,13 +18,13 @@ const THEIRS: Guid = Guid {
     entity: WRITER,
 };
 
-/// What each answer between these two begins with: its header and INFO_DST.
+/// The first octets of each answer between these two: header and INFO_DST.
 const FRONT: &[u8] = b"\x52\x54\x50\x53\x02\x05\x00\x00\
     \x0b\x0b\x0b\x0b\x0b\x0b\x0b\x0b\x0b\x0b\x0b\x0b\
     \x0e\x01\x0c\x00\
     \x0a\x0a\x0a\x0a\x0a\x0a\x0a\x0a\x0a\x0a\x0a\x0a";
 
-/// The set, the count, and the submessage that is written.
+/// A set, a count, and the expected submessage.
 const MISSING: [(SnSet, u32, &[u8]); 6] = [
     // three from 1 on
     (
@@ -41,7 +41,7 @@ const MISSING: [(SnSet, u32, &[u8]); 6] = [
             \x00\x00\x00\xe0\
             \x01\x00\x00\x00",
     ),
-    // as many as a set holds
+    // all 256 numbers that a set has room for
     (
         SnSet {
             base: 1,
@@ -133,7 +133,7 @@ fn an_acknack_names_what_is_missing(rt: HostRuntime) -> Result<(), Fail> {
     Ok(())
 }
 
-/// The change, the set, the count, and the submessage that is written.
+/// A change, a set, a count, and the expected submessage.
 const MISSING_FRAGMENTS: [(u64, FragSet, u32, &[u8]); 4] = [
     // the first of its fragments
     (

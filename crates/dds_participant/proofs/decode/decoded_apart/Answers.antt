@@ -6,7 +6,7 @@ use denote.Param.Send.{sendable}
 use Rattle.rayon.specs.Numbers.{nat_range}
 use Rattle.rayon.proofs.ListFacts.{IfOk-then}
 use Rattle.rayon.proofs.ToStd.{nat_range-All}
-use Rattle.dds_participant.specs.Pieces.{IsPiece}
+use Rattle.dds_participant.specs.Decode.{IsPiece}
 use Rattle.dds_participant.proofs.Pieces.{pieces_of}
 use Rattle.dds_participant.proofs.decode.decoded_apart.Goals as goal
 

@@ -1,6 +1,6 @@
 use Rattle.std.proofs.Common.{map, refl, subst}
 use Rattle.rtps_receiver.specs.Events.{view}
-use Rattle.dds_participant.specs.Sharing.{IsAsked}
+use Rattle.dds_participant.specs.Readers.{IsAsked}
 use Rattle.dds_participant.proofs.Pairing.{idle_done}
 use Rattle.dds_participant.proofs.readers.do_job.Goals as goal
 

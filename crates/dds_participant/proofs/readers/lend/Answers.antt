@@ -5,7 +5,7 @@ use Rattle.rtps_receiver.specs.Events.{EventView}
 use Rattle.rtps_planner.specs.declared.jobs.Job as plan_job
 use Rattle.rtps_planner.specs.Plan.{job_seen, jobs_by}
 use Rattle.rtps_shards.specs.Results.{IsReady, Share, rank_in}
-use Rattle.dds_participant.specs.Sharing.{AreJobs, IsAsked, AreRunAt, IsNoneOf}
+use Rattle.dds_participant.specs.Readers.{AreJobs, IsAsked, AreRunAt, IsNoneOf}
 use Rattle.dds_participant.proofs.Pairing.{idle_done, last_asked, ready}
 use Rattle.dds_participant.proofs.Returned.{fewer, rank_idle, rank_lent, share_at}
 use Rattle.dds_participant.proofs.readers.lend.Goals as goal

@@ -3,7 +3,7 @@ use Rattle.rtps_receiver.specs.Events.{EventView}
 use Rattle.dds_topic.specs.Decoding.{Decoding}
 use Rattle.rtps_reader.specs.Standing.{ReaderView}
 use Rattle.rtps_shards.specs.Results.{IsReady, Share, rank_in}
-use Rattle.dds_participant.specs.Sharing.{AllShare, AreJobs, AreRunAt, IsNoneOf}
+use Rattle.dds_participant.specs.Readers.{AllShare, AreJobs, AreRunAt, IsNoneOf}
 use Rattle.dds_participant.proofs.readers.lend.Given as goal
 
 -- the readers from a rank on have no job, or their jobs have them; the others are as they were

@@ -1,7 +1,7 @@
 use Rattle.std.proofs.Common.{◌≡◌, ◌<◌, ℕ, All, length, map}
 use Rattle.dds_topic.specs.Decoding.{Decoding}
 use Rattle.rtps_shards.specs.Results.{IsDone, Share, rank_of}
-use Rattle.dds_participant.specs.Sharing.{AreRunBut}
+use Rattle.dds_participant.specs.Readers.{AreRunBut}
 use Rattle.dds_participant.proofs.readers.put_back.Given as goal
 
 -- all but those of the other results are in their places

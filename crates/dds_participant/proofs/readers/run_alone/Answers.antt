@@ -2,7 +2,7 @@ use Rattle.std.proofs.Common.{ℕ, ◌≡◌, ◌-◌, ◌<◌, ◌≤◌, ◌�
 use Rattle.rtps_receiver.specs.Events.{view}
 use Rattle.rtps_planner.specs.Plan.{job_seen, jobs_by}
 use Rattle.rtps_shards.specs.Results.{Share}
-use Rattle.dds_participant.specs.Sharing.{AreJobs, IsAsked}
+use Rattle.dds_participant.specs.Readers.{AreJobs, IsAsked}
 use Rattle.dds_participant.proofs.Pairing.{last_asked}
 use Rattle.dds_participant.proofs.Returned.{all_run, none_run, rank_run, share_at}
 use Rattle.dds_participant.proofs.readers.run_alone.Goals as goal

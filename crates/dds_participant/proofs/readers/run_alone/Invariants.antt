@@ -2,7 +2,7 @@ use Rattle.std.proofs.Common.{◌≡◌, ◌<◌, ◌≤◌, ℕ, get_or, length
 use Rattle.rtps_receiver.specs.Events.{view}
 use Rattle.rtps_reader.specs.Standing.{ReaderView}
 use Rattle.rtps_shards.specs.Results.{Share}
-use Rattle.dds_participant.specs.Sharing.{AllShare, AreJobs, AreRunAt}
+use Rattle.dds_participant.specs.Readers.{AllShare, AreJobs, AreRunAt}
 use Rattle.dds_participant.proofs.readers.run_alone.Given as goal
 
 -- the readers from a rank on have done their jobs, and the others are as they were

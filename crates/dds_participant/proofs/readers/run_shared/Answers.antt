@@ -2,7 +2,7 @@ use Rattle.std.proofs.Common.{◌<◌, [], length, map, rules}
 use Rattle.rtps_receiver.specs.Events.{view}
 use Rattle.std.proofs.lemmas.List.Sorted.{All-permutation}
 use Rattle.rtps_shards.specs.Results.{rank_in, rank_of}
-use Rattle.dds_participant.specs.Sharing.{IsNoneOf}
+use Rattle.dds_participant.specs.Readers.{IsNoneOf}
 use Rattle.dds_participant.proofs.Returned.{all_run, none_of_none, same_ranks}
 use Rattle.dds_participant.proofs.readers.run_shared.Goals as goal
 

@@ -17,19 +17,19 @@ loop-reader-preserved g c =
     let i = c.loop-reader.reader-index in
     let rank = c.loop-reader.rank in
     let reader = c.reader-item.result in
-    let turn = c.args.turn.now in
+    let update = c.args.update.now in
     let left = drop (i + 1) c.args.readers.now in
     let cut : drop i c.args.readers.now ≡ reader ∷ left = drop_more c.args.readers.now i reader c.loop-reader-test.true ∙ ap (λ (r : Option Wish). r ∷ left) (sym c.reader-item.is) in
-    let heard = column (has_rank c.args.fixed.now) turn.writer turn.locators.now (lent turn.before) (lent turn.after) in
-    let ranks = matched_from (has_rank c.args.fixed.now) (lent turn.after) in
-    let here = met (has_rank c.args.fixed.now) turn.writer turn.locators.now rank (standing reader (lent turn.before)) (standing reader (lent turn.after)) in
+    let heard = column (has_rank c.args.fixed.now) update.writer update.locators.now (lent update.before) (lent update.after) in
+    let ranks = matched_from (has_rank c.args.fixed.now) (lent update.after) in
+    let here = met (has_rank c.args.fixed.now) update.writer update.locators.now rank (standing reader (lent update.before)) (standing reader (lent update.after)) in
     let earlier = map change_seen c.loop-reader.changes.items in
     let low : rank < 256 = omega (arith, c.loop-reader.invariant.rank, c.requires) in
     let same : get_or c.marked-marks.result rank false ≡ has_rank c.args.fixed.now rank = c.marked-marks.ensures rank low in
     let met_now : map change_seen c.meet.new.changes.items ≡ earlier ++ here =
-    c.in_ok-meet.ensures.changes ∙ ap (λ (b : Bool). earlier ++ met (λ _. b) turn.writer turn.locators.now rank (standing reader (lent turn.before)) (standing reader (lent turn.after))) same in
-    let joined : c.in_ok-meet.field-0 ≡ (has_rank c.args.fixed.now rank || is_joined (standing reader (lent turn.after))) =
-    c.in_ok-meet.ensures.matched ∙ ap (λ (b : Bool). b || is_joined (standing reader (lent turn.after))) same in
+    c.in_ok-meet.ensures.changes ∙ ap (λ (b : Bool). earlier ++ met (λ _. b) update.writer update.locators.now rank (standing reader (lent update.before)) (standing reader (lent update.after))) same in
+    let joined : c.in_ok-meet.field-0 ≡ (has_rank c.args.fixed.now rank || is_joined (standing reader (lent update.after))) =
+    c.in_ok-meet.ensures.matched ∙ ap (λ (b : Bool). b || is_joined (standing reader (lent update.after))) same in
     let old = c.loop-reader.matched.items in
     let more = ranks (rank + 1) left in
     record {

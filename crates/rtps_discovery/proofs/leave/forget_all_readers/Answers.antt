@@ -2,7 +2,7 @@ use Rattle.std.proofs.Common.{◌≡◌, ◌+◌, List, [], ◌∷◌, drop, get
 use Rattle.std.specs.Prelude.{filter}
 use Rattle.std.proofs.lemmas.List.{at_drop_all, drop_more}
 use Rattle.rtps_types.specs.declared.identity.GuidPrefix.{GuidPrefix}
-use Rattle.rtps_discovery.specs.Leaving.{any_of}
+use Rattle.rtps_discovery.specs.Leave.{any_of}
 use Rattle.rtps_discovery.proofs.Several.{endpoints_go, none_go}
 use Rattle.rtps_discovery.proofs.leave.forget_all_readers.Goals as goal
 

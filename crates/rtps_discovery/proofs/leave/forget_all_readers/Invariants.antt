@@ -1,7 +1,7 @@
 use Rattle.std.proofs.Common.{◌≡◌, drop, not, true}
 use Rattle.std.specs.Prelude.{filter}
 use Rattle.std.specs.Map.{keys_of}
-use Rattle.rtps_discovery.specs.Leaving.{any_of}
+use Rattle.rtps_discovery.specs.Leave.{any_of}
 use Rattle.rtps_discovery.specs.Sized.{are_sized}
 use Rattle.rtps_discovery.proofs.leave.forget_all_readers.Given as goal
 

@@ -5,7 +5,7 @@ use Rattle.rtps_types.specs.declared.identity.GuidPrefix.{GuidPrefix}
 use Rattle.std.specs.Map.{lookup}
 use Rattle.std.specs.Ordering.{is_eq}
 use Rattle.rtps_discovery.specs.Ends.{EndsAt, Renews, end_of}
-use Rattle.rtps_discovery.specs.Known.{Participant, is_of, prefix_order}
+use Rattle.rtps_discovery.specs.Known.{RemoteParticipant, is_of, prefix_order}
 use Rattle.rtps_discovery.proofs.Ends.{covers_then}
 use Rattle.rtps_discovery.proofs.Several.{no_participants_go, participant_goes}
 use Rattle.rtps_discovery.proofs.leave.forget_participants.Goals as goal
@@ -19,7 +19,7 @@ loop-prefix-preserved g c =
     let cut : drop i all ≡ p ∷ left = drop_more all i (record { 0 = [] }) c.loop-prefix-test.true in
     record {
       stay = participant_goes p left c.loop-prefix.participants.entries c.remove-gone.new.self.entries c.remove-gone.ensures.entries c.remove-gone.ensures.updates.1
-          ∙ ap (λ ps. filter (λ (e : GuidPrefix × Participant). not (is_of ps e.0)) c.loop-prefix.participants.entries) (sym cut) ∙ c.loop-prefix.invariant.stay;
+          ∙ ap (λ ps. filter (λ (e : GuidPrefix × RemoteParticipant). not (is_of ps e.0)) c.loop-prefix.participants.entries) (sym cut) ∙ c.loop-prefix.invariant.stay;
       covers = λ h.
           let covers = c.loop-prefix.invariant.covers h in
           let was : c.end_of.result ≡ end_of (lookup (λ q. is_eq (prefix_order p q)) c.loop-prefix.participants.entries) = c.end_of.ensures ∙ ap end_of c.remove-gone.ensures.value in

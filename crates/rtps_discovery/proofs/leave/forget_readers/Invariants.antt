@@ -1,7 +1,7 @@
 use Rattle.std.proofs.Common.{◌≡◌, length, not, true}
 use Rattle.std.specs.Prelude.{filter}
 use Rattle.std.specs.Map.{keys_of}
-use Rattle.rtps_discovery.specs.Leaving.{are_of}
+use Rattle.rtps_discovery.specs.Leave.{are_of}
 use Rattle.rtps_discovery.specs.Sized.{are_sized}
 use Rattle.rtps_discovery.proofs.leave.forget_readers.Given as goal
 

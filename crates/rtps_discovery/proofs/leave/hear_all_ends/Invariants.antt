@@ -1,5 +1,5 @@
 use Rattle.std.proofs.Common.{◌≡◌, ◌++◌, drop, map}
-use Rattle.rtps_discovery.specs.Leaving.{endings}
+use Rattle.rtps_discovery.specs.Leave.{endings}
 use Rattle.rtps_discovery.specs.Seen.{change_seen}
 use Rattle.rtps_discovery.proofs.leave.hear_all_ends.Given as goal
 

@@ -3,7 +3,7 @@ use Rattle.std.specs.List.{flat_map}
 use Rattle.std.proofs.lemmas.List.{drop_more}
 use Rattle.rtps_discovery.specs.declared.gone.Gone.{Gone}
 use Rattle.rtps_discovery.specs.Known.{standing}
-use Rattle.rtps_discovery.specs.Leaving.{ending}
+use Rattle.rtps_discovery.specs.Leave.{ending}
 use Rattle.rtps_discovery.specs.OneWriter.{met}
 use Rattle.rtps_discovery.specs.Seen.{change_seen}
 use Rattle.rtps_discovery.proofs.leave.hear_ends.Goals as goal

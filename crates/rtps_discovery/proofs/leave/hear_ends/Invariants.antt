@@ -1,6 +1,6 @@
 use Rattle.std.proofs.Common.{◌≡◌, ◌++◌, drop, map}
 use Rattle.std.specs.List.{flat_map}
-use Rattle.rtps_discovery.specs.Leaving.{ending}
+use Rattle.rtps_discovery.specs.Leave.{ending}
 use Rattle.rtps_discovery.specs.Seen.{change_seen}
 use Rattle.rtps_discovery.proofs.leave.hear_ends.Given as goal
 

@@ -1,7 +1,7 @@
 use Rattle.std.proofs.Common.{◌≡◌, List, [], ◌∷◌, length, arith, rules, refl, sym, ap, ◌∙◌}
 use Rattle.std.specs.Vec.Iter.{into_iter_items}
 use Rattle.rtps_discovery.specs.Kept.{ranks_at}
-use Rattle.rtps_discovery.specs.Leaving.{reranked}
+use Rattle.rtps_discovery.specs.Leave.{reranked}
 use Rattle.rtps_discovery.specs.declared.gone.Gone.{Gone}
 use Rattle.rtps_discovery.proofs.leave.rerank.Goals as goal
 

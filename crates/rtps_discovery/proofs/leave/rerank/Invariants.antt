@@ -2,7 +2,7 @@ use Rattle.std.proofs.Common.{◌≡◌}
 use Rattle.std.specs.Vec.Iter.{into_iter_items}
 use Rattle.rtps_types.specs.declared.identity.Guid.{Guid}
 use Rattle.rtps_discovery.specs.Kept.{ranks_at}
-use Rattle.rtps_discovery.specs.Leaving.{reranked}
+use Rattle.rtps_discovery.specs.Leave.{reranked}
 use Rattle.rtps_discovery.proofs.leave.rerank.Given as goal
 
 -- what those that are left make of the ranks is what all make of them

@@ -2,7 +2,7 @@ use Rattle.std.proofs.Common.{◌≡◌, ◌+◌, List, [], ◌∷◌, ◌++◌,
 use Rattle.std.specs.Prelude.{filter}
 use Rattle.std.proofs.lemmas.List.{at_drop_all, drop_more}
 use Rattle.rtps_types.specs.declared.identity.GuidPrefix.{GuidPrefix}
-use Rattle.rtps_discovery.specs.Leaving.{any_of, are_of, gone_by, gone_of}
+use Rattle.rtps_discovery.specs.Leave.{any_of, are_of, gone_by, gone_of}
 use Rattle.rtps_discovery.proofs.Several.{endpoints_go, none_go}
 use Rattle.rtps_discovery.proofs.leave.take_all_writers.Goals as goal
 

@@ -2,7 +2,7 @@ use Rattle.std.proofs.Common.{◌≡◌, ◌++◌, drop, map, not, true}
 use Rattle.std.specs.Prelude.{filter}
 use Rattle.std.specs.Map.{keys_of}
 use Rattle.rtps_discovery.specs.Kept.{ranks_at}
-use Rattle.rtps_discovery.specs.Leaving.{any_of, gone_by, gone_of}
+use Rattle.rtps_discovery.specs.Leave.{any_of, gone_by, gone_of}
 use Rattle.rtps_discovery.specs.Sized.{are_sized}
 use Rattle.rtps_discovery.proofs.leave.take_all_writers.Given as goal
 

@@ -1,6 +1,6 @@
 use Rattle.std.proofs.Common.{false, suc, sym, ◌∙◌, ap, add-one}
 use Rattle.std.specs.Prelude.{is_some}
-use Rattle.rtps_frags.specs.Parts.{holds}
+use Rattle.rtps_frags.specs.Chunks.{holds}
 use Rattle.rtps_frags.specs.declared.sizes.Sizes.{Sizes}
 use Rattle.rtps_frags.proofs.Assembled.{missing_same}
 use Rattle.rtps_frags.proofs.Placed.{apart_in}

@@ -2,7 +2,7 @@ use Rattle.rtps_run.proofs.Places.{rise_from}
 use Rattle.rtps_run.specs.Run.{events_from}
 use Rattle.rtps_planner.proofs.Adding.{adds}
 use Rattle.rtps_planner.proofs.Judged.{right}
-use Rattle.rtps_planner.specs.Gather.{ranks_of}
+use Rattle.rtps_planner.specs.Outputs.{ranks_of}
 use Rattle.rtps_planner.proofs.laws.gathered.Goals as goal
 
 pub returns : goal.returns

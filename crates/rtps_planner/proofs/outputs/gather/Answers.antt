@@ -1,5 +1,5 @@
 use Rattle.std.proofs.Common.{◌≡◌, None, rules}
-use Rattle.rtps_planner.specs.Gather.{fault_of, ranks_of}
+use Rattle.rtps_planner.specs.Outputs.{fault_of, ranks_of}
 use Rattle.rtps_planner.proofs.Judged.{refused}
 use Rattle.rtps_planner.proofs.Gathering.{gathered}
 use Rattle.rtps_planner.proofs.outputs.gather.Goals as goal

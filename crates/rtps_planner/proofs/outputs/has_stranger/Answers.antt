@@ -1,7 +1,7 @@
 use Rattle.std.proofs.Common.{◌∙◌, not, rules, tests}
 use Rattle.std.proofs.lemmas.Iterator.{YieldsList-from_slice}
 use Rattle.std.proofs.lemmas.Iterator.Search.{any_from_yields_List}
-use Rattle.rtps_planner.specs.Gather.{is_among}
+use Rattle.rtps_planner.specs.Outputs.{is_among}
 use Rattle.rtps_planner.proofs.Judged.{any_of_ranks}
 use Rattle.rtps_planner.proofs.outputs.has_stranger.Goals as goal
 

@@ -1,6 +1,6 @@
 use Rattle.std.proofs.Common.{◌≡◌, ◌∙◌, [], ap, length, rules, sym}
 use Rattle.std.proofs.lemmas.List.{nil_from_length}
-use Rattle.rtps_planner.specs.Gather.{outputs_with}
+use Rattle.rtps_planner.specs.Outputs.{outputs_with}
 use Rattle.rtps_planner.proofs.Judged.{count_with}
 use Rattle.rtps_planner.proofs.outputs.put_outputs.Goals as goal
 

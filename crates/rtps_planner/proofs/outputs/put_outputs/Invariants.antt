@@ -1,5 +1,5 @@
 use Rattle.std.proofs.Common.{◌≡◌}
-use Rattle.rtps_planner.specs.Gather.{outputs_with}
+use Rattle.rtps_planner.specs.Outputs.{outputs_with}
 use Rattle.rtps_planner.proofs.outputs.put_outputs.Given as goal
 
 -- what was put, with the outputs that are left, is all of them

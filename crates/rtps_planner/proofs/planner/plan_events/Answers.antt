@@ -2,7 +2,7 @@ use Rattle.std.proofs.Common.{◌≡◌, ◌<◌, ◌≤◌, ◌+◌, ◌-◌, �
 use Rattle.std.proofs.Math.Seq.{take-add}
 use Rattle.std.proofs.lemmas.List.{length-map, take_all}
 use Rattle.rtps_receiver.specs.Events.{view}
-use Rattle.rtps_reader.specs.Notices.{answer_view}
+use Rattle.rtps_reader.specs.Notice.{answer_view}
 use Rattle.rtps_planner.specs.Job.{known_after_events}
 use Rattle.rtps_planner.specs.Plan.{AreAllPlanned, steps_seen}
 use Rattle.rtps_planner.proofs.Whole.{planned_more}

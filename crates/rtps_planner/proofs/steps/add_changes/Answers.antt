@@ -1,6 +1,6 @@
 use Rattle.std.proofs.Common.{◌≡◌, ◌++◌, ◌∙◌, ◌∷◌, [], append-nil, append_assoc, ap, refl, rules, if◌then◌else◌, ◌==◌, subst, sym}
 use Rattle.std.proofs.lemmas.List.{nil_from_length}
-use Rattle.rtps_reader.specs.Steps.{Changes}
+use Rattle.rtps_reader.specs.Step.{Changes}
 use Rattle.rtps_discovery.specs.Seen.{change_seen}
 use Rattle.rtps_planner.specs.declared.steps.PlannedStep.{PlannedStep}
 use Rattle.rtps_planner.specs.declared.steps.PlannedStep.TheVariants as step

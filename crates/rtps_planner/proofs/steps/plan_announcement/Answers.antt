@@ -1,7 +1,7 @@
 use Rattle.std.proofs.Common.{◌++◌, ◌∙◌, ap, append-nil, map, subst, sym}
 use Rattle.rtps_receiver.specs.Events.{view}
 use Rattle.rtps_discovery.specs.Kept.{IsKnown}
-use Rattle.rtps_reader.specs.Notices.{answer_view}
+use Rattle.rtps_reader.specs.Notice.{answer_view}
 use Rattle.rtps_reader.specs.Reader.{placed}
 use Rattle.rtps_run.specs.World.{doings}
 use Rattle.rtps_run.proofs.Answered.{on_ok_then}

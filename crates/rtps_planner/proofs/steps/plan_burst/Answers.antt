@@ -1,6 +1,6 @@
 use Rattle.std.proofs.Common.{◌<◌, ◌++◌, ◌∙◌, [], ap, append-nil, map, subst, sym}
 use Rattle.rtps_discovery.specs.Kept.{IsKnown}
-use Rattle.rtps_reader.specs.Notices.{answer_view}
+use Rattle.rtps_reader.specs.Notice.{answer_view}
 use Rattle.rtps_run.proofs.Answered.{on_ok_then}
 use Rattle.rtps_planner.specs.Plan.{burst_at, events_at}
 use Rattle.rtps_planner.proofs.Bursts.{burst_asked, users_answers, users_known}

@@ -1,5 +1,5 @@
 use Rattle.std.proofs.Common.{◌≡◌, ◌++◌, map, length}
-use Rattle.rtps_proxy.specs.Changes.{change_view}
+use Rattle.rtps_proxy.specs.Change.{change_view}
 use Rattle.rtps_proxy.specs.Held.{behind_front, front_below}
 use Rattle.rtps_proxy.proofs.held.release.Given as goal
 

@@ -9,7 +9,7 @@ use Rattle.rtps_frags.specs.Fragments.{is_whole}
 use Rattle.rtps_frags.specs.Kept.{AssemblyView, has_come}
 use Rattle.rtps_proxy.specs.declared.pending.Pending.{Pending}
 use Rattle.rtps_proxy.specs.Fragments.{sample_in}
-use Rattle.rtps_proxy.specs.History.{ChangeView}
+use Rattle.rtps_proxy.specs.Change.{ChangeView}
 use Rattle.rtps_proxy.specs.Pending.{are_sound, found_at, pending_view, pending_views, place_in, whole_found}
 use Rattle.rtps_proxy.proofs.Places.{found_inside, found_within, left_filtered, sound_at, sound_removed}
 use Rattle.rtps_proxy.proofs.pending.take_whole.Goals as goal

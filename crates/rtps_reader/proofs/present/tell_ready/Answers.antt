@@ -1,9 +1,9 @@
 use Rattle.std.proofs.Common.{◌≡◌, ◌+◌, ◌∷◌, ◌∙◌, ap, drop, sym}
 use Rattle.std.proofs.lemmas.List.{drop_more}
 use Rattle.rtps_types.proofs.Nearest.{nearest_again}
-use Rattle.rtps_proxy.specs.Changes.{change_view, octets_of}
+use Rattle.rtps_proxy.specs.Change.{change_view, octets_of}
 use Rattle.rtps_reader.specs.Body.{body_by}
-use Rattle.rtps_reader.specs.Notices.{notice_view}
+use Rattle.rtps_reader.specs.Notice.{notice_view}
 use Rattle.rtps_reader.specs.Reader.{presented}
 use Rattle.rtps_reader.specs.declared.notice.NoticeKind.TheVariants as kind
 use Rattle.rtps_reader.proofs.Telling.{kept_more, sample_told, told_more}

@@ -1,6 +1,6 @@
 use Rattle.std.proofs.Common.{◌≡◌, ◌++◌, drop, length, map, take}
-use Rattle.rtps_proxy.specs.Changes.{change_view}
-use Rattle.rtps_reader.specs.Notices.{notice_view}
+use Rattle.rtps_proxy.specs.Change.{change_view}
+use Rattle.rtps_reader.specs.Notice.{notice_view}
 use Rattle.rtps_reader.specs.Reader.{presented}
 use Rattle.rtps_reader.proofs.present.tell_ready.Given as goal
 

@@ -1,6 +1,6 @@
 use Rattle.std.proofs.Common.{◌≡◌, ◌++◌, ◌∙◌, ◌∷◌, [], append-nil, append_assoc, ap, map, rules, subst, sym}
 use Rattle.std.proofs.lemmas.List.{map_push, nil_from_length}
-use Rattle.rtps_reader.specs.Notices.{notice_view}
+use Rattle.rtps_reader.specs.Notice.{notice_view}
 use Rattle.rtps_run.specs.Outcome.{Deals, report_view}
 use Rattle.rtps_serial.proofs.deal.dealt.Goals as goal
 

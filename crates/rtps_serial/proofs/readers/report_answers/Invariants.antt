@@ -1,6 +1,6 @@
 use Rattle.std.proofs.Common.{◌≡◌, ◌++◌, Some, map}
 use Rattle.std.specs.Vec.Iter.{drain_items}
-use Rattle.rtps_reader.specs.Notices.{answer_view}
+use Rattle.rtps_reader.specs.Notice.{answer_view}
 use Rattle.rtps_run.specs.Outcome.{report_view}
 use Rattle.rtps_run.specs.World.{sent_by}
 use Rattle.rtps_serial.proofs.readers.report_answers.Given as goal

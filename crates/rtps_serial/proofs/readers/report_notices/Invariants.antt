@@ -1,6 +1,6 @@
 use Rattle.std.proofs.Common.{◌≡◌, ◌++◌, map}
 use Rattle.std.specs.Vec.Iter.{drain_items}
-use Rattle.rtps_reader.specs.Notices.{notice_view}
+use Rattle.rtps_reader.specs.Notice.{notice_view}
 use Rattle.rtps_run.specs.Outcome.{report_view}
 use Rattle.rtps_run.specs.World.{NoticeOf}
 use Rattle.rtps_serial.proofs.readers.report_notices.Given as goal

@@ -2,7 +2,7 @@ use Rattle.std.proofs.Common.{◌≡◌, ◌<◌, ◌∷◌, [], ◌∙◌, ap, 
 use Rattle.std.proofs.lemmas.List.{get_or_default, take_all}
 use Rattle.rtps_receiver.specs.Events.{view}
 use Rattle.rtps_discovery.specs.Known.{reader_at}
-use Rattle.rtps_reader.specs.Steps.{asked, asks_of}
+use Rattle.rtps_reader.specs.Step.{asked, asks_of}
 use Rattle.rtps_run.specs.Addressed.{is_named}
 use Rattle.rtps_run.specs.Standing.{ReadersStand}
 use Rattle.rtps_run.specs.Steps.{event_steps, step_by, steps_run, world_stepped}

@@ -1,7 +1,7 @@
 use Rattle.std.proofs.Common.{◌≡◌, ◌+◌, ◌<◌, ◌++◌, ◌∷◌, [], ◌∙◌, ap, get_or, length, map, option_to_list, rules, subst, sym, take, Some}
 use Rattle.std.proofs.lemmas.List.{map_push, take_all, take_more}
 use Rattle.rtps_receiver.specs.Events.{view}
-use Rattle.rtps_reader.specs.Steps.{asked}
+use Rattle.rtps_reader.specs.Step.{asked}
 use Rattle.rtps_planner.specs.Job.{job_run, job_told}
 use Rattle.rtps_planner.specs.Plan.{taken_in}
 use Rattle.rtps_shards.specs.Results.{HasTaken, share}

@@ -1,6 +1,6 @@
 use Rattle.std.proofs.Common.{◌≡◌, ◌∷◌, [], List, ap, map, option_to_list, subst, sym}
 use Rattle.rtps_types.specs.declared.place.Place.{Place}
-use Rattle.rtps_reader.specs.Steps.{StepView, asked}
+use Rattle.rtps_reader.specs.Step.{StepView, asked}
 use Rattle.rtps_shards.specs.Results.{HasTaken, share}
 use Rattle.rtps_shards.proofs.Taking.{one_taken}
 use Rattle.rtps_shards.proofs.steps.take_step.Goals as goal

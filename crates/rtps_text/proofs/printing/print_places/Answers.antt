@@ -1,5 +1,5 @@
 use Rattle.std.proofs.Common.{rules, subst}
-use Rattle.dds_participant.specs.Given.{parts_given}
+use Rattle.dds_participant.specs.BatchOutput.{parts_given}
 use Rattle.rtps_text.proofs.Fronts.{place_more}
 use Rattle.rtps_text.proofs.Run.{Printed, on_err, printed_front, printed_more, printed_spilled, printed_stop}
 use Rattle.rtps_text.proofs.printing.print_places.Goals as goal

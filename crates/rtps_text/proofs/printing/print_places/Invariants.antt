@@ -1,5 +1,5 @@
 use Rattle.std.proofs.Common.{◌≡◌, ◌++◌, drop}
-use Rattle.dds_participant.specs.Given.{parts_given}
+use Rattle.dds_participant.specs.BatchOutput.{parts_given}
 use Rattle.rtps_text.specs.Slices.{places_lines}
 use Rattle.rtps_text.proofs.Run.{Printed}
 use Rattle.rtps_text.proofs.printing.print_places.Given as goal

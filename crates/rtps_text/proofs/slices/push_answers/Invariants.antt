@@ -1,6 +1,6 @@
 use Rattle.std.proofs.Common.{◌≡◌, ◌++◌, ◌+◌, length, map, drop}
 use Rattle.std.specs.Io.{StartsWith}
-use Rattle.rtps_reader.specs.Notices.{answer_view}
+use Rattle.rtps_reader.specs.Notice.{answer_view}
 use Rattle.rtps_text.specs.Slices.{answer_lines, first_answers}
 use Rattle.rtps_text.proofs.slices.push_answers.Given as goal
 

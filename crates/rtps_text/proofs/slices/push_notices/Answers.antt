@@ -1,6 +1,6 @@
 use Rattle.std.proofs.Common.{arith, rules, ap, length}
 use Rattle.rtps_ascii.proofs.Kept.{still_starts}
-use Rattle.rtps_reader.specs.Notices.{notice_view}
+use Rattle.rtps_reader.specs.Notice.{notice_view}
 use Rattle.rtps_text.proofs.Fronts.{is_other, is_same, line_more, lines_stop, notices_more, notices_stop}
 use Rattle.rtps_text.proofs.slices.push_notices.Goals as goal
 

@@ -1,6 +1,6 @@
 use Rattle.std.proofs.Common.{◌≡◌, ◌++◌, ◌+◌, length, map, drop}
 use Rattle.std.specs.Io.{StartsWith}
-use Rattle.rtps_reader.specs.Notices.{notice_view}
+use Rattle.rtps_reader.specs.Notice.{notice_view}
 use Rattle.rtps_run.specs.World.{NoticeOf}
 use Rattle.rtps_text.specs.Replayed.{put_lines}
 use Rattle.rtps_text.specs.Slices.{first_notices}

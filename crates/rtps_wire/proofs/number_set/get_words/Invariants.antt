@@ -1,6 +1,6 @@
 use Rattle.std.proofs.Common.{◌≡◌, ◌+◌, ◌-◌, ◌*◌, ◌≤◌, ◌++◌, length, drop}
 use Rattle.std.specs.Prelude.{replicate}
-use Rattle.rtps_wire.specs.NumberSets.{words_in}
+use Rattle.rtps_wire.specs.NumberSet.{words_in}
 use Rattle.rtps_wire.proofs.number_set.get_words.Given as goal
 
 abbrev pub invariant-loop-k : goal.invariant-loop-k

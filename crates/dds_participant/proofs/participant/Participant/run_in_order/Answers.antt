@@ -1,7 +1,7 @@
 use Rattle.std.proofs.Common.{◌≡◌, ◌∙◌, ap, length, map, refl, subst, sym}
 use Rattle.std.proofs.lemmas.List.{length-map}
 use Rattle.rtps_run.specs.World.{World}
-use Rattle.dds_participant.specs.Given.{HoldsNothing, IsGiven}
+use Rattle.dds_participant.specs.BatchOutput.{HoldsNothing, IsGiven}
 use Rattle.dds_participant.specs.Kept.{ParticipantView}
 use Rattle.rtps_run.specs.Standing.{EngineView}
 use Rattle.dds_participant.specs.Ports.{NoneAttached}

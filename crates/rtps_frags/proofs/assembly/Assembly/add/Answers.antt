@@ -5,7 +5,7 @@ use Rattle.rtps_frags.specs.declared.fault.FragFault.{FragFault}
 use Rattle.rtps_frags.specs.declared.sizes.Sizes.{Sizes}
 use Rattle.rtps_frags.specs.Fragments.{There, fault_of, fragment_in, last_of, with_fragments}
 use Rattle.rtps_frags.specs.Kept.{AssemblyView, with_part}
-use Rattle.rtps_frags.specs.Parts.{part_at, there_in}
+use Rattle.rtps_frags.specs.Chunks.{part_at, there_in}
 use Rattle.rtps_frags.proofs.Faultless.{Faultless, faultless}
 use Rattle.rtps_frags.proofs.Listed.{listed_same, puts_listed}
 use Rattle.rtps_frags.proofs.assembly.Assembly.add.Goals as goal
@@ -43,13 +43,13 @@ pub returns-clause-ok : goal.returns-clause-ok
 returns-clause-ok g c =
     let z = c.self.inside.sizes in
     let f = none_wrong z c.args.start c.args.count (length c.args.payload.now) c.fault_in.result c.fault_in.ensures c.in_default.is in
-    let was = part_at z c.self.inside.parts in
+    let was = part_at z c.self.inside.chunks in
     let now = part_at z c.add.new.self in
     let added : (k : ℕ) → now k ≡ option_or (was k) (cond (leb c.args.start k && ltb k (c.args.start + c.args.count)) (Some (fragment_in z c.args.start c.args.payload.now k)) None) =
     (λ k. on_ok c.add.result (sym c.is_err.ensures.value ∙ c.if-is_err.false) c.add.ensures.added k ∙ ap (λ n. option_or (was k) (cond (leb c.args.start k && ltb k (c.args.start + n)) (Some (fragment_in z c.args.start c.args.payload.now k)) None)) c.from.ensures)
     in
-    let there : there_in z c.add.new.self ≡ with_fragments z c.args.start c.args.payload.now (there_in z c.self.inside.parts) c.args.start c.args.count =
+    let there : there_in z c.add.new.self ≡ with_fragments z c.args.start c.args.payload.now (there_in z c.self.inside.chunks) c.args.start c.args.count =
     listed_same now (λ k. option_or (was k) (cond (leb c.args.start k && ltb k (c.args.start + c.args.count)) (Some (fragment_in z c.args.start c.args.payload.now k)) None)) 1 (last_of z) (λ k _ _. added k)
     ∙ sym (puts_listed z c.args.start c.args.payload.now (last_of z) was c.args.start c.args.count f.first f.within)
     in
-    same_kept z (there_in z c.add.new.self) (with_fragments z c.args.start c.args.payload.now (there_in z c.self.inside.parts) c.args.start c.args.count) there ∙ ap (λ (k : AssemblyView). with_part k c.args.start c.args.count c.args.payload.now) c.self.view_is
+    same_kept z (there_in z c.add.new.self) (with_fragments z c.args.start c.args.payload.now (there_in z c.self.inside.chunks) c.args.start c.args.count) there ∙ ap (λ (k : AssemblyView). with_part k c.args.start c.args.count c.args.payload.now) c.self.view_is

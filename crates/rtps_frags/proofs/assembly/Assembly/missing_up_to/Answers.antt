@@ -3,7 +3,7 @@ use Rattle.rtps_frags.specs.Buffer.{front_in, runs_in}
 use Rattle.rtps_frags.specs.Fragments.{There, has, is_empty, last_of}
 use Rattle.rtps_frags.specs.Kept.{AssemblyView}
 use Rattle.rtps_frags.specs.Missing.{missing, missing_by}
-use Rattle.rtps_frags.specs.Parts.{holds, there_in}
+use Rattle.rtps_frags.specs.Chunks.{holds, there_in}
 use Rattle.rtps_frags.specs.declared.sizes.Sizes.{Sizes}
 use Rattle.rtps_frags.proofs.Assembled.{has_is, missing_same}
 use Rattle.rtps_frags.proofs.Placed.{apart_in, covers_in}
@@ -15,7 +15,7 @@ none_of z there last some = sym (rw some refl)
 pub returns : goal.returns
 returns g c =
     let a = c.self.inside in
-    let p = a.parts in
+    let p = a.chunks in
     let end : c.min-end.result ≡ min c.args.last (last_of a.sizes) = omega (arith, c.min-end.ensures, c.last.ensures) in
     let same : missing_by (holds p) (min c.args.last (last_of a.sizes)) ≡ missing_by (has (there_in a.sizes p)) (min c.args.last (last_of a.sizes)) =
     missing_same (holds p) (has (there_in a.sizes p)) (min c.args.last (last_of a.sizes)) (λ k one le. sym (has_is a.sizes p.next (front_in a.sizes p.next p.buffer.items) (runs_in a.sizes p.buffer.items p.early.entries) c.self.invariant.0.kept k one (omega (arith, le)) ∙ ap (λ b. (leb 1 k && ltb k p.next) || b) (covers_in a.sizes p.buffer.items p.early.entries k)))
@@ -24,5 +24,5 @@ returns g c =
 
 pub missing_up_to-requires-clause-apart : goal.missing_up_to-requires-clause-apart
 missing_up_to-requires-clause-apart g c =
-    let p = c.self.inside.parts in
+    let p = c.self.inside.chunks in
     rw add-one (apart_in c.self.inside.sizes p.buffer.items p.early.entries (suc p.next) c.self.invariant.0.kept.apart)

@@ -1,5 +1,5 @@
 use Rattle.rtps_frags.specs.Fragments.{last_of}
-use Rattle.rtps_frags.specs.Parts.{part_at}
+use Rattle.rtps_frags.specs.Chunks.{part_at}
 use Rattle.rtps_frags.specs.declared.sizes.Sizes.{Sizes}
 use Rattle.rtps_frags.proofs.Listed.{none_listed}
 use Rattle.rtps_frags.proofs.assembly.Assembly.new.Goals as goal

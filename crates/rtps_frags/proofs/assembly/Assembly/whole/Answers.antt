@@ -3,7 +3,7 @@ use Rattle.std.proofs.lemmas.Bool.Decides.{nat_tests}
 use Rattle.rtps_frags.specs.Buffer.{front_in, runs_in}
 use Rattle.rtps_frags.specs.Fragments.{has_all, is_empty, last_of, payload_of}
 use Rattle.rtps_frags.specs.Kept.{AssemblyView, has_come}
-use Rattle.rtps_frags.specs.Parts.{there_in}
+use Rattle.rtps_frags.specs.Chunks.{there_in}
 use Rattle.rtps_frags.proofs.AnyOrder.{some_octets}
 use Rattle.rtps_frags.proofs.Assembled.{payload_is, size_is, whole_is}
 use Rattle.rtps_frags.proofs.Stored.{buffer_is}
@@ -22,7 +22,7 @@ above n m h = grind (arith, nat_tests)
 pub returns-clause-payload : goal.returns-clause-payload
 returns-clause-payload g c =
     let a = c.self.inside in
-    let p = a.parts in
+    let p = a.chunks in
     let come : has_come (record { sizes = a.sizes; there = there_in a.sizes p; spent = a.spent }) ≡ true = ap has_come c.self.view_is ∙ c.requires in
     let whole : has_all (there_in a.sizes p) 1 (last_of a.sizes) ≡ ltb (last_of a.sizes) p.next = whole_is a.sizes p.next (front_in a.sizes p.next p.buffer.items) (runs_in a.sizes p.buffer.items p.early.entries) c.self.invariant.0.kept in
     let beyond : last_of a.sizes < p.next = above (last_of a.sizes) p.next (sym whole ∙ all_from (record { sizes = a.sizes; there = there_in a.sizes p; spent = a.spent }) come) in
@@ -33,7 +33,7 @@ returns-clause-payload g c =
 pub returns-clause-size : goal.returns-clause-size
 returns-clause-size g c =
     let a = c.self.inside in
-    let p = a.parts in
+    let p = a.chunks in
     let come : has_come (record { sizes = a.sizes; there = there_in a.sizes p; spent = a.spent }) ≡ true = ap has_come c.self.view_is ∙ c.requires in
     let whole : has_all (there_in a.sizes p) 1 (last_of a.sizes) ≡ ltb (last_of a.sizes) p.next = whole_is a.sizes p.next (front_in a.sizes p.next p.buffer.items) (runs_in a.sizes p.buffer.items p.early.entries) c.self.invariant.0.kept in
     let beyond : last_of a.sizes < p.next = above (last_of a.sizes) p.next (sym whole ∙ all_from (record { sizes = a.sizes; there = there_in a.sizes p; spent = a.spent }) come) in

@@ -4,7 +4,7 @@ use Rattle.std.proofs.lemmas.Bool.Decides.{nat_tests}
 use Rattle.rtps_receiver.specs.EventBody.{FragmentView}
 use Rattle.rtps_receiver.specs.Views.{fragment_view}
 use Rattle.rtps_proxy.specs.BestEffort.{above, standing, taken, takes_fragments}
-use Rattle.rtps_proxy.specs.Changes.{change_view}
+use Rattle.rtps_proxy.specs.Change.{change_view}
 use Rattle.rtps_proxy.specs.Fragments.{with_fragments_of}
 use Rattle.rtps_proxy.specs.History.{MatchEvent}
 use Rattle.rtps_proxy.specs.Kept.{BestEffortView, best_effort_view, takes_above}

@@ -4,7 +4,7 @@ use Rattle.std.specs.List.{filter}
 use Rattle.std.proofs.lemmas.Bool.Decides.{nat_tests}
 use Rattle.rtps_receiver.specs.EventBody.{FragmentView}
 use Rattle.rtps_receiver.specs.Views.{fragment_view}
-use Rattle.rtps_proxy.specs.Changes.{change_view}
+use Rattle.rtps_proxy.specs.Change.{change_view}
 use Rattle.rtps_proxy.specs.Fragments.{fits, whole_at, with_fragments_of}
 use Rattle.rtps_proxy.specs.Held.{IsRising, behind_front, front_below}
 use Rattle.rtps_proxy.specs.History.{MatchEvent}

@@ -1,13 +1,13 @@
 use Rattle.std.proofs.Common.{◌≡◌, ◌++◌, ◌||◌, ℕ, not, true, ap, map, refl, sym, ◌∙◌}
 use Rattle.std.specs.List.{filter}
-use Rattle.rtps_receiver.specs.declared.body.Body.TheVariants as body
-use Rattle.rtps_proxy.specs.Changes.{change_view}
+use Rattle.rtps_receiver.specs.declared.event_body.EventBody.TheVariants as body
+use Rattle.rtps_proxy.specs.Change.{change_view}
 use Rattle.rtps_proxy.specs.Effects.{match_event}
 use Rattle.rtps_proxy.specs.Held.{front_below}
 use Rattle.rtps_proxy.specs.History.{MatchEvent}
 use Rattle.rtps_proxy.proofs.Apart.{apart_from}
 use Rattle.rtps_proxy.proofs.Seats.{standing_then}
-use Rattle.rtps_proxy.specs.History.{names}
+use Rattle.rtps_proxy.specs.Gap.{names}
 use Rattle.rtps_proxy.specs.Runs.{marks}
 use Rattle.rtps_proxy.proofs.Standing.{or_true, Shows, lost_nothing, names_shows, split_held, split_ready}
 use Rattle.rtps_proxy.proofs.reliable.Reliable.on_gap.Goals as goal

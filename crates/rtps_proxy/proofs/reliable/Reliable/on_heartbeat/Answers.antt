@@ -6,11 +6,12 @@ use mir.Syntax.{w32}
 use mir.Val.{to_z, of_z}
 use Rattle.rtps_types.specs.Number.{value_of}
 use Rattle.rtps_receiver.specs.EventBody.{HeartbeatView}
-use Rattle.rtps_proxy.specs.Changes.{change_view}
+use Rattle.rtps_proxy.specs.Change.{change_view}
 use Rattle.rtps_proxy.specs.Answer.{is_answered}
 use Rattle.rtps_proxy.specs.Effects.{ReliableStandsAt, exceeds}
 use Rattle.rtps_proxy.specs.Held.{front_below}
-use Rattle.rtps_proxy.specs.History.{MatchEvent, announced_of, has_heartbeat, is_new}
+use Rattle.rtps_proxy.specs.Heartbeat.{announced_of, has_heartbeat, is_new}
+use Rattle.rtps_proxy.specs.History.{MatchEvent}
 use Rattle.rtps_proxy.specs.Kept.{ReliableView, pairing}
 use Rattle.rtps_types.specs.Numbers.{lacks}
 use Rattle.rtps_proxy.specs.Received.{in_order, lost}

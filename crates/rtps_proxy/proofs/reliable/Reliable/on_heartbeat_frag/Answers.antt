@@ -8,9 +8,10 @@ use Rattle.rtps_types.specs.NumberSet.{NumberSet}
 use Rattle.rtps_types.specs.Sets.{frag_view}
 use Rattle.rtps_receiver.specs.EventBody.{HeartbeatFragView, HeartbeatFrag}
 use Rattle.rtps_receiver.specs.Views.{heartbeat_frag_view}
-use Rattle.rtps_proxy.specs.Changes.{change_view}
+use Rattle.rtps_proxy.specs.Change.{change_view}
 use Rattle.rtps_proxy.specs.Effects.{ReliableStandsAt, exceeds}
-use Rattle.rtps_proxy.specs.History.{MatchEvent, is_new_frag}
+use Rattle.rtps_proxy.specs.HeartbeatFrag.{is_new_frag}
+use Rattle.rtps_proxy.specs.History.{MatchEvent}
 use Rattle.rtps_proxy.specs.Kept.{ReliableView, Pairing, reliable_view, lacks_frags, pairing}
 use Rattle.rtps_proxy.specs.NackFrag.{asked_frags, nack, nack_by, nacks}
 use Rattle.rtps_proxy.specs.Received.{in_order, is_settled, taken}

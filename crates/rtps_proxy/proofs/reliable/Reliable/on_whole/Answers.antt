@@ -3,9 +3,9 @@ use Rattle.std.specs.List.{filter}
 use Rattle.std.proofs.lemmas.List.{length-map}
 use Rattle.rtps_receiver.specs.EventBody.{WholeView}
 use Rattle.rtps_receiver.specs.Views.{whole_view}
-use Rattle.rtps_proxy.specs.Changes.{change_view}
+use Rattle.rtps_proxy.specs.Change.{change_view, ChangeView, change_of}
 use Rattle.rtps_proxy.specs.Held.{IsRising, front_below}
-use Rattle.rtps_proxy.specs.History.{MatchEvent, ChangeView, change_of}
+use Rattle.rtps_proxy.specs.History.{MatchEvent}
 use Rattle.rtps_proxy.specs.Received.{held, in_order, put}
 use Rattle.rtps_proxy.proofs.Apart.{apart_from}
 use Rattle.rtps_proxy.proofs.Ordering.{in_order_rises}

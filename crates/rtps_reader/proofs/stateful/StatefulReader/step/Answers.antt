@@ -1,10 +1,10 @@
 use Rattle.std.proofs.Common.{◌≡◌, ◌++◌, ◌∙◌, append-nil, false, map, sym, ap, subst}
 use Rattle.rtps_proxy.specs.Effects.{match_event}
 use Rattle.rtps_proxy.specs.Matches.{AreTaken, given_where, match_with}
-use Rattle.rtps_reader.specs.Notices.{answer_view, notice_view}
+use Rattle.rtps_reader.specs.Notice.{answer_view, notice_view}
 use Rattle.rtps_reader.specs.Reader.{reader_after, sends, tells}
 use Rattle.rtps_reader.specs.Standing.{StandsAt, kept_by}
-use Rattle.rtps_reader.specs.Steps.{StepView, Takes, asked}
+use Rattle.rtps_reader.specs.Step.{StepView, Takes, asked}
 use Rattle.rtps_reader.proofs.Stepping.{stands_taken}
 use Rattle.rtps_reader.proofs.Telling.{none_said, none_told, on_ok, on_ok_then, said_taken, told_taken}
 use Rattle.rtps_reader.proofs.stateful.StatefulReader.step.Goals as goal

@@ -1,7 +1,7 @@
 use Rattle.std.proofs.Common.{◌≡◌, ◌<◌, ◌++◌, ◌∙◌, Some, ap, arith, length, map}
-use Rattle.rtps_reader.specs.Notices.{answer_view, notice_view}
+use Rattle.rtps_reader.specs.Notice.{answer_view, notice_view}
 use Rattle.rtps_reader.specs.Reader.{sends, tells}
-use Rattle.rtps_reader.specs.Steps.{asked}
+use Rattle.rtps_reader.specs.Step.{asked}
 use Rattle.rtps_run.specs.Outcome.{report_view}
 use Rattle.rtps_run.specs.Seen.{notices_by}
 use Rattle.rtps_run.specs.Steps.{step_by}

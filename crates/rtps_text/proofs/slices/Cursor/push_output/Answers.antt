@@ -1,5 +1,5 @@
 use Rattle.std.proofs.Common.{drop, rules, ap, ◌∙◌}
-use Rattle.rtps_reader.specs.Notices.{answer_view}
+use Rattle.rtps_reader.specs.Notice.{answer_view}
 use Rattle.rtps_text.proofs.Fronts.{both_after, both_lines, none_due_after, none_due_lines}
 use Rattle.rtps_text.proofs.slices.Cursor.push_output.Goals as goal
 

@@ -1,6 +1,6 @@
 use Rattle.std.proofs.Common.{◌≡◌, ◌++◌, [], ◌∷◌, ap, map, rules, subst, sym, ◌∙◌}
 use Rattle.std.specs.List.{AllByRecursion}
-use Rattle.dds_participant.specs.Given.{parts_given}
+use Rattle.dds_participant.specs.BatchOutput.{parts_given}
 use Rattle.rtps_text.specs.Slices.{IsLeft}
 use Rattle.rtps_text.specs.declared.slices.Cursor.{Cursor}
 use Rattle.rtps_text.proofs.Sliced.{left_more, left_said, ranks_more}

@@ -1,6 +1,6 @@
 use Rattle.std.proofs.Common.{◌≡◌, ◌<◌, drop, length, get_or, refl, rules, ap, ◌∙◌}
 use Rattle.rtps_ascii.proofs.Kept.{still_starts}
-use Rattle.dds_participant.specs.Given.{parts_given}
+use Rattle.dds_participant.specs.BatchOutput.{parts_given}
 use Rattle.rtps_text.proofs.Fronts.{moved_more, parts_more, said_first}
 use Rattle.rtps_text.proofs.slices.Cursors.push_place.Goals as goal
 

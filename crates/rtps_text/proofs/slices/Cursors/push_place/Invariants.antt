@@ -1,6 +1,6 @@
 use Rattle.std.proofs.Common.{◌≡◌, ◌+◌, ◌++◌, length, take}
 use Rattle.std.specs.Io.{StartsWith}
-use Rattle.dds_participant.specs.Given.{parts_given}
+use Rattle.dds_participant.specs.BatchOutput.{parts_given}
 use Rattle.rtps_text.specs.Slices.{answer_lines, next_said, parts_lines}
 use Rattle.rtps_text.proofs.Fronts.{AreMoved}
 use Rattle.rtps_text.proofs.slices.Cursors.push_place.Given as goal

@@ -1,6 +1,0 @@
-use Rattle.std.specs.List.Sorted.{IsStrictlySortedBy}
-use Rattle.rtps_discovery.proofs.held.Held.leave.Goals as goal
-
-pub leave_all-requires : goal.leave_all-requires
-unfolding IsStrictlySortedBy
-leave_all-requires g c = (tt, tt)

@@ -1,0 +1,31 @@
+use Rattle.std.proofs.Common.{◌≡◌, refl, Some, None, map, true, false, ap, sym, ◌∙◌, subst}
+use Rattle.std.specs.Prelude.{IfOk, OnOk}
+use Rattle.std.specs.Option.{option_map}
+use Rattle.rtps_proxy.specs.Replies.{reply_view}
+use Rattle.rtps_receiver.specs.Events.{view}
+use Rattle.rtps_discovery.specs.Addressed.{is_for, writer_of}
+use Rattle.rtps_discovery.specs.Changes.{changes_run, known_run}
+use Rattle.rtps_discovery.specs.Effects.{AreHeard, match_of}
+use Rattle.rtps_discovery.specs.Kept.{IsKnown, kept}
+use Rattle.rtps_discovery.specs.Records.{announcer_of, answer_by, changes_by, detector_of, named_match, participants_in}
+use Rattle.rtps_discovery.specs.Seen.{change_seen}
+use Rattle.rtps_discovery.proofs.Hearing.{named_if, of_endpoints, of_participants, spdp_undetected, undetected, unheard_of}
+use Rattle.rtps_discovery.proofs.registry.Registry.take_participant.Goals as goal
+
+pub returns-clause-known : goal.returns-clause-known
+returns-clause-known g c = λ k is.
+    let e = view c.args.event.now in
+    let none : announcer_of k e ≡ None = ap (named_match e) (undetected (writer_of e) k.announcers is.announce (spdp_undetected e.writer c.requires)) in
+    let gives = of_participants k e c.requires none in
+    subst (λ x. IsKnown x (kept c.hear_participant.new.self)) gives.known
+    (subst (λ o. IsKnown (known_run k (participants_in o e)) (kept c.hear_participant.new.self)) is.own (c.in_ok-changes.ensures.known k is))
+
+pub returns-clause-effects : goal.returns-clause-effects
+returns-clause-effects g c = λ k is.
+    let e = view c.args.event.now in
+    let none : announcer_of k e ≡ None = ap (named_match e) (undetected (writer_of e) k.announcers is.announce (spdp_undetected e.writer c.requires)) in
+    let gives = of_participants k e c.requires none in
+    record {
+      heard = c.in_ok-changes.ensures.changes k is ∙ ap (λ o. changes_run k (participants_in o e)) is.own ∙ gives.changes;
+      said = gives.answer;
+    }

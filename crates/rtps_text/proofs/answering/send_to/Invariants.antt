@@ -1,9 +1,0 @@
-use Rattle.std.proofs.Common.{take}
-use Rattle.rtps_records.specs.Traffic.{Grows}
-use Rattle.rtps_text.specs.Sending.{sendings, to_each}
-use Rattle.rtps_text.proofs.answering.send_to.Given as goal
-
-abbrev pub invariant-loop-locator : goal.invariant-loop-locator
-invariant-loop-locator g l =
-    Grows (g.N.Receive.traffic l.fn.network) (g.N.Receive.traffic l.network)
-    (sendings (to_each (take l.locator-index l.to) l.octets))

@@ -1,0 +1,136 @@
+//! The lines of a batch, made by several workers: each makes those of neighbouring places.
+
+ghost use Rattle.std.specs.Prelude.{◌≡◌, ◌++◌, ◌+◌, ◌*◌, ◌<◌, ◌≤◌, IfOk, OnOk, drop, length, slice_index_or, take, ℕ};
+ghost use Rattle.std.specs.Io.{StartsWith};
+ghost use Rattle.dds_participant.specs.BatchOutput.{parts_given};
+ghost use Rattle.rtps_text.specs.Slices.{AreByPlace, AreTexts, IsSliceOf, merged_lines, places_lines};
+
+use crate::slices::Cursors;
+use dds_participant::BatchOutput;
+use dds_topic::TextCatalog;
+use rtps_lines::LastLine;
+use rtps_shards::map_apart;
+use rtps_types::Place;
+use std::alloc::{AllocError, Global};
+use std::thread::Threads;
+
+/// What a batch gave, and how its values are formatted.
+#[derive(Clone, Copy)]
+pub(crate) struct LineFormatter<'a, C: TextCatalog> {
+    pub alloc: Global,
+    pub catalog: &'a C,
+    pub given: &'a BatchOutput<C::Value>,
+    /// How many readers there are.
+    pub readers: u32,
+}
+
+/// Neighbouring places whose lines one worker makes.
+#[derive(Drop)]
+struct Slice<'a> {
+    places: &'a [Place],
+    /// Where its text goes. What is in it is dropped.
+    text: Vec<u8>,
+}
+
+/// The slice of this index, counted from 0, of `size` places each; the last may
+/// have fewer.
+fn slice_at(places: &[Place], size: usize, index: usize) -> &[Place]
+    requires { index * size < length places.now }
+    ensures { result.now ≡ take size (drop (index * size) places.now) }
+{
+    let rest = &places[index * size..];
+    &rest[..size.min(rest.len())]
+}
+
+/// Cuts places into slices of this size, and gives each the memory of a text that was written, as
+/// long as there is such.
+fn cut<'a>(
+    alloc: Global,
+    places: &'a [Place],
+    size: usize,
+    spare: &mut Vec<Vec<u8>>,
+) -> Result<Vec<Slice<'a>>, AllocError>
+    requires { 0 < size }
+    ensures all { IfOk result (λ slices. length places.now ≤ length slices.items * size) }
+    ensures few { IfOk result (λ slices. length slices.items * size < length places.now + size) }
+    ensures each { IfOk result (λ slices. (n : ℕ) (other : _) → n < length slices.items
+        → (slice_index_or slices.items n other).places.now
+        ≡ take size (drop (n * size) places.now)) }
+{
+    let mut slices = Vec::new(alloc);
+    for index in 0..places.len().div_ceil(size) {
+        slices.push(Slice {
+            places: slice_at(places, size, index),
+            text: spare.pop().unwrap_or(Vec::new(alloc)),
+        })?;
+    }
+    Ok(slices)
+}
+
+impl<C: TextCatalog> LineFormatter<'_, C>
+where
+    C::Value: Sync,
+{
+    /// The lines of a slice.
+    fn text(&self, slice: Slice<'_>) -> Result<Vec<u8>, AllocError>
+        ensures { IsSliceOf slice.entry.places.now self.now.given.now.places.items
+            → AreByPlace C.view self.now.given.now → IfOk result (λ text. text.items
+            ≡ merged_lines (C.text_of self.now.catalog.now) C.view self.now.given.now
+            self.now.readers slice.entry.places.now) }
+    {
+        let Slice { places, mut text } = slice;
+        text.clear();
+        let Some(first) = places.first() else {
+            return Ok(text);
+        };
+        let cursors = Cursors::at::<C>(self.alloc, self.given, self.readers, *first)?;
+        self.push_places(&mut text, cursors, places)?;
+        Ok(text)
+    }
+
+    /// Adds the lines of places, where the cursors say how much was printed before.
+    fn push_places(
+        &self,
+        out: &mut Vec<u8>,
+        mut cursors: Cursors,
+        places: &[Place],
+    ) -> Result<(), AllocError>
+        ensures ok { OnOk result (out.new.items ≡ out.old.items
+            ++ places_lines (C.text_of self.now.catalog.now)
+            (parts_given C.view self.now.given.now) places.now cursors.said cursors.readers.items) }
+        ensures keeps { StartsWith out.new.items out.old.items }
+    {
+        let mut last = LastLine::none(self.alloc);
+        for place in places {
+            cursors.push_place(out, &mut last, self.catalog, self.given, *place)?;
+        }
+        Ok(())
+    }
+
+    /// The lines of all places, in one text for each worker, or fewer. Each text is made
+    /// on a thread of its own where one can be started. Texts that were written lend them their
+    /// memory.
+    pub(crate) fn texts<T: Threads + Sync>(
+        &self,
+        rt: &T,
+        workers: usize,
+        spare: &mut Vec<Vec<u8>>,
+    ) -> Result<Vec<Result<Vec<u8>, AllocError>>, AllocError>
+        requires { 1 ≤ workers }
+        ensures few { IfOk result (λ texts. length texts.items ≤ workers) }
+        ensures lines { AreByPlace C.view self.now.given.now → IfOk result (λ texts.
+            AreTexts texts.items (merged_lines (C.text_of self.now.catalog.now) C.view
+            self.now.given.now self.now.readers self.now.given.now.places.items)) }
+    {
+        let places = self.given.places.as_slice();
+        let size = places.len().div_ceil(workers).max(1);
+        let slices = cut(self.alloc, places, size, spare)?;
+        let spell = |slice: Slice<'_>| -> Result<Vec<u8>, AllocError>
+            ensures { IsSliceOf slice.entry.places.now self.entry.now.given.now.places.items
+                → AreByPlace C.view self.entry.now.given.now → IfOk result (λ text. text.items
+                ≡ merged_lines (C.text_of self.entry.now.catalog.now) C.view
+                self.entry.now.given.now self.entry.now.readers slice.entry.places.now) }
+        { self.text(slice) };
+        map_apart(rt, self.alloc, slices, &spell)
+    }
+}

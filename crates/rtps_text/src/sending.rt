@@ -1,0 +1,81 @@
+//! The answers of a batch, on their way to writers.
+
+ghost use Rattle.std.specs.Prelude.{◌≡◌, false, map};
+ghost use Rattle.rtps_planner.specs.Commuting.{answers_at};
+ghost use Rattle.rtps_reader.specs.Notice.{answer_view};
+ghost use Rattle.rtps_records.specs.Traffic.{Grows};
+ghost use Rattle.rtps_text.specs.Sending.{AreAnswersByPlace, AreBy, HasNoAnswer, IsPlaceOf, Sends, given_sends, place_sends, replies_sends, sendings, to_each};
+
+use crate::slices::{answers_before, rest};
+use dds_participant::BatchOutput;
+use rtps_records::Exchange;
+use rtps_types::{Locator, Place, Reply};
+
+/// Sends the answers of a batch in the order of the run, each one whole and once to each of its
+/// locators: place by place, discovery's answers first, and then those of each reader, by rank
+/// (DDSI-RTPS 8.3.8.1, AckNack, and 8.3.8.10, NackFrag). So what is sent of a run is the same
+/// however it is cut into batches.
+///
+/// `given` is what [`run_in_order`](dds_participant::Participant::run_in_order) gave of the batch.
+/// An answer without locators goes nowhere. A send that the network refuses is no error: that
+/// datagram is lost, as any may be, and the next heartbeat of its writer is answered again. Nothing
+/// is received, and no memory is taken.
+pub fn send_answers<V: Drop, N: Exchange>(network: &mut N, given: &BatchOutput<V>)
+    ensures { Sends (AreAnswersByPlace given.now) (N.traffic network.old) (N.traffic network.new)
+        (given_sends given.now) }
+{
+    if !has_answer(given) {
+        return;
+    }
+    for place in &given.places {
+        send_at(network, given, *place);
+    }
+}
+
+/// Whether there is an answer in what a batch gave.
+fn has_answer<V: Drop>(given: &BatchOutput<V>) -> bool
+    ensures { result ≡ false → HasNoAnswer given.now }
+{
+    for output in &given.outputs {
+        if !output.answers.is_empty() {
+            return true;
+        }
+    }
+    !given.answers.is_empty()
+}
+
+/// Sends the answers of a batch at a place: discovery's, and then those of each reader, by rank.
+fn send_at<V: Drop, N: Exchange>(network: &mut N, given: &BatchOutput<V>, place: Place)
+    ensures { Sends (IsPlaceOf given.now place) (N.traffic network.old) (N.traffic network.new)
+        (place_sends given.now place) }
+{
+    send_list(network, &given.answers, place);
+    for output in &given.outputs {
+        send_list(network, &output.answers, place);
+    }
+}
+
+/// Sends those of a list of answers that are at a place.
+fn send_list<N: Exchange>(network: &mut N, answers: &[(Place, Reply)], place: Place)
+    ensures { Sends (AreBy place (map answer_view answers.now))
+        (N.traffic network.old) (N.traffic network.new)
+        (replies_sends (answers_at place (map answer_view answers.now))) }
+{
+    let left = rest(answers, answers_before(answers, place));
+    for (at, reply) in left {
+        if *at != place {
+            return;
+        }
+        send_to(network, reply.to.as_slice(), reply.octets.as_slice());
+    }
+}
+
+/// Sends an answer to each of these locators.
+fn send_to<N: Exchange>(network: &mut N, to: &[Locator], octets: &[u8])
+    ensures { Grows (N.traffic network.old) (N.traffic network.new)
+        (sendings (to_each to.now octets.now)) }
+{
+    for locator in to {
+        network.send(*locator, octets);
+    }
+}
