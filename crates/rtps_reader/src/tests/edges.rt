@@ -79,7 +79,7 @@ fn presents(alloc: Global, reader: &mut ReaderState, event: &Event<'_>) -> Resul
         Some(
             Notice {
                 what: NoticeKind::Sample {
-                    body: EventBody::Value(_, value),
+                    body: Body::Value(_, value),
                     ..
                 },
                 ..

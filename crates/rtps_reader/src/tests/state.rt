@@ -91,7 +91,7 @@ fn presents(notice: &Notice<Shape>, expected: u64) -> bool {
     match &notice.what {
         NoticeKind::Sample {
             number,
-            body: EventBody::Value(_, shape),
+            body: Body::Value(_, shape),
             ..
         } => {
             number.get() == expected
