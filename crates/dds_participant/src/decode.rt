@@ -14,8 +14,9 @@ use rtps_types::{GuidPrefix, Place};
 use std::alloc::{AllocError, Global};
 use std::thread::Threads;
 
-/// Up to this many octets of datagrams, one thread is faster: starting threads takes longer.
-const ALONE: usize = 1 << 20;
+/// Up to this many datagrams, one thread is faster: starting threads takes longer than decoding.
+/// Decoding borrows each payload, so its time doesn't grow with the octets.
+const ALONE: usize = 1_024;
 
 /// The number of datagrams in a piece, which is decoded by one thread.
 const PIECE: usize = 64;
@@ -108,11 +109,7 @@ pub(crate) fn decoded<'a, R: Threads + Sync>(
         first,
         datagrams,
     } = arrived;
-    let octets = datagrams.iter().fold(
-        0_usize,
-        |octets, datagram| octets.saturating_add(datagram.len()),
-    );
-    if workers == 1 || octets <= ALONE {
+    if workers == 1 || datagrams.len() <= ALONE {
         return decoded_alone(alloc, own, first, datagrams);
     }
     joined(alloc, decoded_apart(rt, alloc, own, first, datagrams)?)

@@ -1,5 +1,5 @@
 -- What clap finds in a line of this program.
-use Rattle.std.proofs.Common.{◌≡◌, ◌&&◌, ℕ, List, [], ◌∷◌, length, nat_lt, Bool, true, false, Option, Some, None, Result, Ok, Err, unwrap_or, codes, refl, ap, ◌∙◌, lt-ltb, ltb-true}
+use Rattle.std.proofs.Common.{◌≡◌, ℕ, List, [], ◌∷◌, length, nat_lt, Bool, true, false, Option, Some, None, Result, Ok, Err, unwrap_or, codes, refl, ap, ◌∙◌, lt-ltb, ltb-true}
 use Rattle.std.specs.Prelude.{option_map}
 use Rattle.std.specs.Char.{digit_value}
 use Rattle.std.specs.List.{list_all}

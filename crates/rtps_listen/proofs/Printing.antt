@@ -1,119 +1,200 @@
--- What is refused before a file is opened, and what is printed of one.
-use Rattle.std.proofs.Common.{◌≡◌, List, ℕ, ◌∙◌, ap, inl, inr, subst, Option, Result, Ok, Err, IfErr, refl}
+-- What is printed of a file and of the datagrams of a domain.
+use Rattle.std.proofs.Common.{◌≡◌, List, ℕ, Bool, true, false, inl, inr, subst, sym, Option, None, Result, Ok, Err, IfErr, refl}
 use Rattle.std.specs.Prelude.{IsErrAnd}
 use Rattle.std.proofs.KnownBytes.{Keeps-refl}
-use Rattle.rtps_records.specs.declared.fault.RunFault.TheVariants.{NoMemory}
-use Rattle.rtps_listen.specs.Asked.{IsDumpCause, RefusesFirst}
-use Rattle.rtps_listen.specs.Configs.{IsReplayCause}
-use Rattle.rtps_listen.specs.Printed.{IsBefore, IsFirst, IsTaskOf, Prints, PrintsBy}
-use Rattle.rtps_listen.specs.declared.asked.Asked.{Asked}
-use Rattle.rtps_listen.specs.declared.asked.Asked.TheVariants.{Dump, Replay, Samples}
-use Rattle.rtps_listen.specs.declared.options.Options.{Options}
-use Rattle.rtps_listen.specs.declared.task.Task.{Task}
+use Rattle.rtps_types.specs.declared.identity.GuidPrefix.{GuidPrefix}
+use Rattle.rtps_discovery.specs.declared.config.Config.{Config}
+use Rattle.rtps_records.specs.Runs.{Stops, WroteAll}
+use Rattle.rtps_records.specs.Text.{text_of}
+use Rattle.rtps_records.specs.declared.fault.RunFault.{RunFault}
+use Rattle.rtps_records.specs.declared.fault.RunFault.TheVariants.{CannotRead, NotRecordFile, CutRecord, RecordTooLong, TooManyRecords, CannotWrite, NoMemory}
+use Rattle.rtps_lines.specs.EventLines.{lines_of}
+use Rattle.rtps_text.specs.Caches.{StopsLate}
+use Rattle.rtps_text.specs.Listened.{Limits, LiveRun, limits_of}
+use Rattle.rtps_text.specs.Taken.{StopsBy}
+use Rattle.rtps_text.specs.declared.live_fault.LiveFault.{LiveFault}
+use Rattle.rtps_text.specs.declared.live_fault.LiveFault.TheVariants as live_fault
+use Rattle.rtps_text.specs.declared.setup.CacheSetup.{CacheSetup}
+use Rattle.rtps_text.specs.declared.setup.LiveSetup.{LiveSetup}
+use Rattle.rtps_text.specs.declared.setup.Setup.{Setup}
+use Rattle.rtps_listen.specs.Configs.{IsCause, IsConfigOf}
+use Rattle.rtps_listen.specs.Domain.{Ends, ListensBy, live_run_of}
+use Rattle.rtps_listen.specs.Identities.{WritesPrefix}
+use Rattle.rtps_listen.specs.Printed.{EndsBy, IsBefore, IsFirst, IsUnopened, Prints, Writes, kept_text, run_text}
+use Rattle.rtps_listen.specs.Setup.{IsCacheSetupOf, IsLiveSetupOf, IsSetupOf, history_of}
+use Rattle.rtps_listen.specs.Status.{live_fault_of}
 use Rattle.rtps_listen.specs.declared.fault.ListenFault.{ListenFault}
 use Rattle.rtps_listen.specs.declared.fault.ListenFault.TheVariants.{NoText, BadPrefix, BadWriter, Socket, Run}
+use Rattle.rtps_listen.specs.declared.options.Options.{Options}
+use Rattle.rtps_listen.specs.declared.request.Request.TheVariants.{Dump, Listen, Replay, Samples}
+use Rattle.rtps_listen.proofs.Refused.{IsLive, IsRun}
 
--- what is found before a file is opened is found before it is read
-pub is_first : (fault : ListenFault) → IsBefore fault → IsFirst fault
-is_first NoText h = tt
-is_first Socket h = tt
-is_first BadPrefix h = tt
-is_first BadWriter h = tt
-is_first (Run fault) h = rw h tt
+-- what is wrong with options is found before a domain is joined
+pub cause_before : (o : Options) (fault : ListenFault) → IsCause o fault → IsBefore fault
+cause_before o NoText h = tt
+cause_before o BadPrefix h = tt
+cause_before o BadWriter h = tt
+cause_before o Socket h = tt
+cause_before o (Run NoMemory) h = refl
+cause_before o (Run CannotRead) h = absurd h
+cause_before o (Run NotRecordFile) h = absurd h
+cause_before o (Run (CutRecord n)) h = absurd h
+cause_before o (Run (RecordTooLong n)) h = absurd h
+cause_before o (Run TooManyRecords) h = absurd h
+cause_before o (Run CannotWrite) h = absurd h
 
--- a fault of the run, and no other
-abbrev pub IsRun : ListenFault → Type 0
-IsRun (Run fault) = Unit {0}
-IsRun fault = ⊥
+before_first : (fault : ListenFault) → IsBefore fault → IsFirst fault
+before_first NoText h = tt
+before_first Socket h = tt
+before_first BadPrefix h = tt
+before_first BadWriter h = tt
+before_first (Run fault) h = rw h tt
 
-dump_cause : (own : List ℕ) (s : Result (Unit {0}) ListenFault) → IfErr s IsRun → IfErr s (IsDumpCause own)
-dump_cause own (Ok u) k = tt
-dump_cause own (Err (Run fault)) k = tt
-dump_cause own (Err NoText) k = absurd k
-dump_cause own (Err Socket) k = absurd k
-dump_cause own (Err BadPrefix) k = absurd k
-dump_cause own (Err BadWriter) k = absurd k
+-- and before a file is read
+pub cause_first : (o : Options) (fault : ListenFault) → IsCause o fault → IsFirst fault
+cause_first o fault h = before_first fault (cause_before o fault h)
 
-replay_cause : (options : Options) (s : Result (Unit {0}) ListenFault) → IfErr s IsRun → IfErr s (IsReplayCause options)
-replay_cause options (Ok u) k = tt
-replay_cause options (Err (Run fault)) k = tt
-replay_cause options (Err NoText) k = absurd k
-replay_cause options (Err Socket) k = absurd k
-replay_cause options (Err BadPrefix) k = absurd k
-replay_cause options (Err BadWriter) k = absurd k
+-- so is a file that can't be opened
+pub unopened_first : (fault : ListenFault) → IsUnopened fault → IsFirst fault
+unopened_first (Run CannotRead) h = tt
+unopened_first (Run NoMemory) h = tt
+unopened_first (Run NotRecordFile) h = absurd h
+unopened_first (Run (CutRecord n)) h = absurd h
+unopened_first (Run (RecordTooLong n)) h = absurd h
+unopened_first (Run TooManyRecords) h = absurd h
+unopened_first (Run CannotWrite) h = absurd h
+unopened_first NoText h = absurd h
+unopened_first BadPrefix h = absurd h
+unopened_first BadWriter h = absurd h
+unopened_first Socket h = absurd h
 
-not_err : {T U E : Type 0} (x : T) (e : E) → Ok x ≡ Err e → U
-not_err x e h = absurd (let bad : Ok x ≡ Err e = h in cc)
+-- it is a fault of the run
+pub unopened_run : (s : Result (Unit {0}) ListenFault) (fault : ListenFault) → IsErrAnd s (λ e. e ≡ fault) → IsUnopened fault → IfErr s IsRun
+unopened_run (Ok u) fault is h = absurd is
+unopened_run (Err e) fault is h = rw is (go fault h)
+  where
+    go : (fault : ListenFault) → IsUnopened fault → IsRun fault
+    go (Run fault) h = tt
+    go NoText h = absurd h
+    go BadPrefix h = absurd h
+    go BadWriter h = absurd h
+    go Socket h = absurd h
 
--- where nothing is refused, the run alone can fail
-pub nothing_refused : {T : Type 0} (a : Asked) (t : T) (s : Result (Unit {0}) ListenFault) → RefusesFirst a (Ok t) → IfErr s IsRun → RefusesFirst a s
-unfolding RefusesFirst
-nothing_refused (Dump file own) t s h k = (λ bad. not_err t BadPrefix (h.0 bad), dump_cause own.now s k)
-nothing_refused (Replay options) t s h k = (
-  record {
-    prefix = λ bad. not_err t BadPrefix (h.0.prefix bad);
-    fixed = λ good bad. not_err t BadWriter (h.0.fixed good bad);
-    writer = λ good bad. elim (h.0.writer good bad) [ inl e ↦ not_err t BadWriter e | inr e ↦ not_err t (Run NoMemory) e ];
-  },
-  replay_cause options s k,
-)
-nothing_refused (Samples samples) t s h k = (
-  record {
-    prefix = λ bad. not_err t BadPrefix (h.0.prefix bad);
-    fixed = λ good bad. not_err t BadWriter (h.0.fixed good bad);
-    writer = λ good bad. elim (h.0.writer good bad) [ inl e ↦ not_err t BadWriter e | inr e ↦ not_err t (Run NoMemory) e ];
-  },
-  replay_cause samples.options s k,
-)
+-- a fault of the run, as it is passed on
+pub run_fault : (s : Result (Unit {0}) ListenFault) (fault : RunFault) → IsErrAnd s (λ e. e ≡ Run fault) → IfErr s IsRun
+run_fault (Ok u) fault is = absurd is
+run_fault (Err e) fault is = rw is tt
 
-again : {T U E : Type 0} (r : Result T E) (s : Result U E) (f e : E) → r ≡ Err f → s ≡ Err f → r ≡ Err e → s ≡ Err e
-again r s f e h k l = let same : f ≡ e = cc in k ∙ ap Err same
-
-is_err : {U E : Type 0} (s : Result U E) (fault : E) → IsErrAnd s (λ e. e ≡ fault) → s ≡ Err fault
-is_err (Ok u) fault is = absurd is
-is_err (Err other) fault is = ap Err is
-
-same_err : {T U : Type 0} (a : Asked) (r : Result T ListenFault) (s : Result U ListenFault) (fault : ListenFault) → r ≡ Err fault → s ≡ Err fault → RefusesFirst a r → RefusesFirst a s
-unfolding RefusesFirst
-same_err (Dump file own) r s fault e k h = (λ bad. again r s fault BadPrefix e k (h.0 bad), rw k (rw e at h.1))
-same_err (Replay options) r s fault e k h = (
-  record {
-    prefix = λ bad. again r s fault BadPrefix e k (h.0.prefix bad);
-    fixed = λ good bad. again r s fault BadWriter e k (h.0.fixed good bad);
-    writer = λ good bad. elim (h.0.writer good bad) [ inl w ↦ inl (again r s fault BadWriter e k w) | inr w ↦ inr (again r s fault (Run NoMemory) e k w) ];
-  },
-  rw k (rw e at h.1),
-)
-same_err (Samples samples) r s fault e k h = (
-  record {
-    prefix = λ bad. again r s fault BadPrefix e k (h.0.prefix bad);
-    fixed = λ good bad. again r s fault BadWriter e k (h.0.fixed good bad);
-    writer = λ good bad. elim (h.0.writer good bad) [ inl w ↦ inl (again r s fault BadWriter e k w) | inr w ↦ inr (again r s fault (Run NoMemory) e k w) ];
-  },
-  rw k (rw e at h.1),
-)
-
--- what was refused is passed on
-pub refused : {T U : Type 0} (a : Asked) (r : Result T ListenFault) (s : Result U ListenFault) (fault : ListenFault) → r ≡ Err fault → IsErrAnd s (λ e. e ≡ fault) → RefusesFirst a r → RefusesFirst a s
-refused a r s fault e is h = same_err a r s fault e (is_err s fault is) h
+pub heard_fault : (s : Result (Unit {0}) ListenFault) (fault : LiveFault) → IsErrAnd s (λ e. e ≡ live_fault_of fault) → IfErr s IsLive
+heard_fault (Ok u) fault is = absurd is
+heard_fault (Err e) live_fault.Socket is = rw is tt
+heard_fault (Err e) (live_fault.Run fault) is = rw is tt
 
 -- what is refused before leaves nothing written
-pub prints_before : (a : Asked) (file old : Option (List ℕ)) (s : Result (Unit {0}) ListenFault) (fault : ListenFault) → IsErrAnd s (λ e. e ≡ fault) → IsFirst fault → Prints a file old old s
-unfolding Prints
-prints_before a file old (Ok u) fault is h = absurd is
-prints_before a file old (Err other) fault is h = inl (refl, rw is h, Keeps-refl old)
+ends : (P : ListenFault → Type 0) (old : Option (List ℕ)) (s : Result (Unit {0}) ListenFault) (fault : ListenFault)
+    → IsErrAnd s (λ e. e ≡ fault) → P fault → EndsBy P old old s
+ends P old (Ok u) fault is h = absurd is
+ends P old (Err other) fault is h = (refl, rw is h, Keeps-refl old)
 
--- what a task prints is printed
-pub prints_task : (a : Asked) (t : Task) (file all old new : Option (List ℕ)) (s : Result (Unit {0}) ListenFault) → IsTaskOf a t → file ≡ all → PrintsBy t file old new s → Prints a all old new s
+pub dumps_none : (o : Options) (holds : List ℕ → Option (List ℕ)) (old : Option (List ℕ)) (s : Result (Unit {0}) ListenFault) (fault : ListenFault)
+    → IsErrAnd s (λ e. e ≡ fault) → IsFirst fault → Prints (Dump o) holds old old s
 unfolding Prints
-prints_task a t file all old new s h e p = inr (t, h, subst (λ f. PrintsBy t f old new s) e p)
+dumps_none o holds old s fault is h = inl (ends IsFirst old s fault is h)
 
--- and its faults are those of a run
-pub is_run : (t : Task) (file old new : Option (List ℕ)) (s : Result (Unit {0}) ListenFault) → PrintsBy t file old new s → IfErr s IsRun
-unfolding PrintsBy
-is_run t file old new (Ok u) p = tt
-is_run t file old new (Err (Run fault)) p = tt
-is_run t file old new (Err NoText) p = absurd p
-is_run t file old new (Err Socket) p = absurd p
-is_run t file old new (Err BadPrefix) p = absurd p
-is_run t file old new (Err BadWriter) p = absurd p
+pub replays_none : (o : Options) (holds : List ℕ → Option (List ℕ)) (old : Option (List ℕ)) (s : Result (Unit {0}) ListenFault) (fault : ListenFault)
+    → IsErrAnd s (λ e. e ≡ fault) → IsFirst fault → Prints (Replay o) holds old old s
+unfolding Prints
+replays_none o holds old s fault is h = inl (ends IsFirst old s fault is h)
+
+pub keeps_none : (o : Options) (holds : List ℕ → Option (List ℕ)) (old : Option (List ℕ)) (s : Result (Unit {0}) ListenFault) (fault : ListenFault)
+    → IsErrAnd s (λ e. e ≡ fault) → IsFirst fault → Prints (Samples o) holds old old s
+unfolding Prints
+keeps_none o holds old s fault is h = inl (ends IsFirst old s fault is h)
+
+pub hears_none : (o : Options) (holds : List ℕ → Option (List ℕ)) (old : Option (List ℕ)) (s : Result (Unit {0}) ListenFault) (fault : ListenFault)
+    → IsErrAnd s (λ e. e ≡ fault) → IsBefore fault → Prints (Listen o) holds old old s
+unfolding Prints
+hears_none o holds old s fault is h = inl (ends IsBefore old s fault is h)
+
+-- all of the text was written, or what a fault leaves
+pub writes_all : (late : Bool) (text : List (List ℕ) → List ℕ) (file all old new : Option (List ℕ)) → file ≡ all
+    → WroteAll text file old new None → Writes late text all old new (Ok tt)
+unfolding Writes
+writes_all late text file all old new e h = subst (λ f. WroteAll text f old new None) e h
+
+pub writes_front : (text : List (List ℕ) → List ℕ) (file all after old new : Option (List ℕ)) (s : Result (Unit {0}) ListenFault) (fault : RunFault)
+    → file ≡ all → IsErrAnd s (λ e. e ≡ Run fault) → Stops text fault file after old new → Writes false text all old new s
+unfolding Writes StopsBy
+writes_front text file all after old new (Ok u) fault e is h = absurd is
+writes_front text file all after old new (Err other) fault e is h = rw is (after, subst (λ f. Stops text fault f after old new) e h)
+
+pub writes_late_front : (text : List (List ℕ) → List ℕ) (file all after old new : Option (List ℕ)) (s : Result (Unit {0}) ListenFault) (fault : RunFault)
+    → file ≡ all → IsErrAnd s (λ e. e ≡ Run fault) → StopsLate text fault file after old new → Writes true text all old new s
+unfolding Writes StopsBy
+writes_late_front text file all after old new (Ok u) fault e is h = absurd is
+writes_late_front text file all after old new (Err other) fault e is h = rw is (after, subst (λ f. StopsLate text fault f after old new) e h)
+
+-- that is what is printed
+pub dumps : (o : Options) (own : GuidPrefix) (holds : List ℕ → Option (List ℕ)) (old new : Option (List ℕ)) (s : Result (Unit {0}) ListenFault)
+    → WritesPrefix o.own.now own → Writes false (text_of (lines_of own)) (holds o.file.now) old new s → Prints (Dump o) holds old new s
+unfolding Prints
+dumps o own holds old new s is w = inr (own, is, w)
+
+pub replays : {C : Type 0} (o : Options) (config : Config) (catalog : C) (setup : Setup C) (raw : Bool) (holds : List ℕ → Option (List ℕ)) (old new : Option (List ℕ))
+    (s : Result (Unit {0}) ListenFault) → IsConfigOf o config → o.raw ≡ raw → IsSetupOf o config catalog setup
+    → Writes false (run_text raw setup.config setup.summary) (holds o.file.now) old new s → Prints (Replay o) holds old new s
+unfolding Prints
+replays o config catalog setup raw holds old new s is same by w = inr (
+  config,
+  is,
+  subst (λ r. Writes false (run_text r config o.summary) (holds o.file.now) old new s) (sym same)
+      (subst (λ k. Writes false (run_text raw k o.summary) (holds o.file.now) old new s) by.config
+      (subst (λ u. Writes false (run_text raw setup.config u) (holds o.file.now) old new s) by.summary w)),
+)
+
+pub keeps : {C : Type 0} (o : Options) (config : Config) (catalog : C) (setup : CacheSetup C) (raw : Bool) (holds : List ℕ → Option (List ℕ)) (old new : Option (List ℕ))
+    (s : Result (Unit {0}) ListenFault) → IsConfigOf o config → o.raw ≡ raw → IsCacheSetupOf o config catalog setup
+    → Writes true (kept_text raw setup.run.config setup.run.summary setup.keep) (holds o.file.now) old new s → Prints (Samples o) holds old new s
+unfolding Prints
+keeps o config catalog setup raw holds old new s is same by w = inr (
+  config,
+  is,
+  subst (λ r. Writes true (kept_text r config o.summary (history_of o.keep)) (holds o.file.now) old new s) (sym same)
+      (subst (λ k. Writes true (kept_text raw k o.summary (history_of o.keep)) (holds o.file.now) old new s) by.run.config
+      (subst (λ u. Writes true (kept_text raw setup.run.config u (history_of o.keep)) (holds o.file.now) old new s) by.run.summary
+      (subst (λ n. Writes true (kept_text raw setup.run.config setup.run.summary n) (holds o.file.now) old new s) by.keep w))),
+)
+
+-- a domain that can't be joined leaves nothing written
+pub not_joined : (o : Options) (config : Config) (holds : List ℕ → Option (List ℕ)) (old : Option (List ℕ)) → IsConfigOf o config → Prints (Listen o) holds old old (Err Socket)
+unfolding Prints ListensBy
+not_joined o config holds old is = inr (config, is, inl (Keeps-refl old))
+
+-- how the run ends is how the program ends
+abbrev pub IsPassed : Result (Unit {0}) LiveFault → Result (Unit {0}) ListenFault → Type 0
+IsPassed (Ok u) s = s ≡ Ok tt
+IsPassed (Err fault) s = s ≡ Err (live_fault_of fault)
+
+listens : (made : LiveRun) (limits : Limits) (old new : Option (List ℕ)) (r : Result (Unit {0}) LiveFault) (s : Result (Unit {0}) ListenFault)
+    → Ends made limits old new r → IsPassed r s → ListensBy made limits old new s
+unfolding ListensBy
+listens made limits old new (Ok u) s h e = rw e h
+listens made limits old new (Err live_fault.Socket) s h e = rw e (inr h)
+listens made limits old new (Err (live_fault.Run fault)) s h e = rw e h
+
+pub hears : {C : Type 0} (o : Options) (config : Config) (catalog : C) (setup : LiveSetup C) (raw : Bool) (holds : List ℕ → Option (List ℕ)) (old new : Option (List ℕ))
+    (r : Result (Unit {0}) LiveFault) (s : Result (Unit {0}) ListenFault) → IsConfigOf o config → o.raw ≡ raw → IsLiveSetupOf o config catalog setup
+    → Ends (live_run_of raw setup.run.config setup.run.summary) (limits_of setup.datagrams setup.turns) old new r
+    → IsPassed r s → Prints (Listen o) holds old new s
+unfolding Prints
+hears o config catalog setup raw holds old new r s is same by h passed = inr (
+  config,
+  is,
+  listens (live_run_of o.raw config o.summary) (limits_of o.count o.turns) old new r s
+      (subst (λ b. Ends (live_run_of b config o.summary) (limits_of o.count o.turns) old new r) (sym same)
+      (subst (λ k. Ends (live_run_of raw k o.summary) (limits_of o.count o.turns) old new r) by.run.config
+      (subst (λ u. Ends (live_run_of raw setup.run.config u) (limits_of o.count o.turns) old new r) by.run.summary
+      (subst (λ n. Ends (live_run_of raw setup.run.config setup.run.summary) (limits_of n o.turns) old new r) by.datagrams
+      (subst (λ n. Ends (live_run_of raw setup.run.config setup.run.summary) (limits_of setup.datagrams n) old new r) by.turns h)))))
+      passed,
+)

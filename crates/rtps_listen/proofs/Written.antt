@@ -1,11 +1,11 @@
 -- A text writes one participant or endpoint alone.
-use Rattle.std.proofs.Common.{◌≡◌, ◌∙◌, Option, Some, None, Result, Ok, Err, refl, sym, ap}
+use Rattle.std.proofs.Common.{◌≡◌, Option, Some, None, Result, Ok, Err, refl, ap}
 use Rattle.std.specs.Borrow.{Bor}
 use Rattle.clap.specs.Words.{Text}
 use Rattle.rtps_types.specs.declared.identity.Guid.{Guid}
 use Rattle.rtps_types.specs.declared.identity.GuidPrefix.{GuidPrefix}
 use Rattle.rtps_listen.specs.Configs.{NamesWriter}
-use Rattle.rtps_listen.specs.Identities.{WritesGuid, WritesPrefix}
+use Rattle.rtps_listen.specs.Identities.{WritesPrefix}
 
 same_ok : {T E : Type 0} (r : Result T E) (a b : T) → r ≡ Ok a → r ≡ Ok b → a ≡ b
 same_ok (Ok x) a b p q = cc

@@ -1,4 +1,4 @@
--- The configuration that the options of `replay` ask for, and why they are refused.
+-- The configuration that options ask for, and why they are refused.
 use Rattle.std.specs.Prelude.{◌≡◌, ℕ, ◌+◌, List, [], ◌∷◌, map, Bool, true, false, not, ◌||◌, IsTrue, Option, Some, None, ◌⊎◌, Result, Err, codes}
 use Rattle.std.specs.List.{range_with_len}
 use Rattle.std.specs.Str.{bytes_eq}
@@ -19,20 +19,20 @@ use Rattle.rtps_records.specs.declared.fault.RunFault.TheVariants.{NoMemory}
 use Rattle.rtps_listen.specs.Identities.{IsGuidText, IsPrefixText, WritesGuid, WritesPrefix}
 use Rattle.rtps_listen.specs.declared.options.Options.{Options}
 use Rattle.rtps_listen.specs.declared.fault.ListenFault.{ListenFault}
-use Rattle.rtps_listen.specs.declared.fault.ListenFault.TheVariants.{BadPrefix, BadWriter, Run}
+use Rattle.rtps_listen.specs.declared.fault.ListenFault.TheVariants.{BadPrefix, BadWriter, Run, Socket}
 
 -- the entity of the reader of a rank: readers with a key (DDSI-RTPS 9.3.1.2) that are counted
 -- from 1
 abbrev pub entity_of : ℕ → EntityId
 entity_of rank = record { 0 = 0x00 ∷ 0x00 ∷ (rank + 1) ∷ 0x07 ∷ [] }
 
--- what readers ask for: with `--best-effort` for nothing again
+-- with `--best-effort` readers ask for nothing again
 abbrev pub reliability_of : Bool → Reliability
 reliability_of true = BestEffort
 reliability_of false = Reliable
 
--- the reader of a rank: it has the type of the Shapes demo, and its other policies are what holds
--- where none is given
+-- the reader of a rank: it has the type of the Shapes demo, and the policies that hold where none
+-- is announced
 abbrev pub reader_of : Text → Reliability → ℕ → Wish
 reader_of topic reliability rank = record {
   entity = entity_of rank;
@@ -98,7 +98,7 @@ abbrev pub IsFixedText : Option (Bor Text) → Type 0
 IsFixedText None = Unit {0}
 IsFixedText (Some text) = IsGuidText text.now
 
--- what is refused first, in this order; memory is taken before the writer is judged
+-- which fault is reported first; memory is taken before the writer is judged
 pub record Refuses {T : Type 0} (options : Options) (result : Result T ListenFault) : Type 0 where
   pub prefix : ¬ IsPrefixText options.own.now → result ≡ Err BadPrefix
   pub fixed : IsPrefixText options.own.now → ¬ IsFixedText options.fixed
@@ -106,14 +106,20 @@ pub record Refuses {T : Type 0} (options : Options) (result : Result T ListenFau
   pub writer : IsPrefixText options.own.now → IsUnmatched options
       → (result ≡ Err BadWriter) ⊎ (result ≡ Err (Run NoMemory))
 
--- what is wrong with options that are refused by this fault, memory apart
+-- what is wrong with options that are refused with this fault; memory may always run out
 abbrev pub IsCause : Options → ListenFault → Type 0
 IsCause options BadPrefix = ¬ IsPrefixText options.own.now
 IsCause options BadWriter = ¬ IsFixedText options.fixed ⊎ IsUnmatched options
 IsCause options (Run NoMemory) = Unit {0}
 IsCause options _ = ⊥
 
--- what is wrong where `replay` ends with this fault: with its options, or with its run
+-- what is wrong if `replay` ends with this fault: its options, or its run
 abbrev pub IsReplayCause : Options → ListenFault → Type 0
 IsReplayCause options (Run fault) = Unit {0}
 IsReplayCause options fault = IsCause options fault
+
+-- what is wrong if `listen` ends with this fault: its options, a socket, or its run
+abbrev pub IsLiveCause : Options → ListenFault → Type 0
+IsLiveCause options Socket = Unit {0}
+IsLiveCause options (Run fault) = Unit {0}
+IsLiveCause options fault = IsCause options fault

@@ -1,4 +1,3 @@
-pub mod Asked
 pub mod Configs
 pub mod Domain
 pub mod Identities
@@ -6,4 +5,6 @@ pub mod Line
 pub mod Options
 pub mod Printed
 pub mod Program
+pub mod Request
+pub mod Setup
 pub mod Status

@@ -11,7 +11,7 @@ use Rattle.clap.specs.declared.builder.value_parser.ValueParser.TheVariants.{Sig
 abbrev pub file_rule : Rule
 file_rule = record (new_rule (codes "file")) { value_names = 1; required = true }
 
--- the prefix where none is given, in hex
+-- the prefix if none is given, in hex
 abbrev pub own_text : List ℕ
 own_text = codes "0b0b0b0b0b0b0b0b0b0b0b0b"
 
@@ -25,7 +25,7 @@ workers_rule = record (new_rule (codes "workers")) { value_names = 1; long = Som
 
 -- `--batch` 1 to 4096
 abbrev pub batch_rule : Rule
-batch_rule = record (new_rule (codes "batch")) { value_names = 1; long = Some (codes "batch"); parser = Some (Signed (pos 1) (pos 4096)); defaults = codes "256" ∷ [] }
+batch_rule = record (new_rule (codes "batch")) { value_names = 1; long = Some (codes "batch"); parser = Some (Signed (pos 1) (pos 4096)); defaults = codes "512" ∷ [] }
 
 -- `--readers` 1 to 8
 abbrev pub readers_rule : Rule
@@ -35,7 +35,7 @@ readers_rule = record (new_rule (codes "readers")) { value_names = 1; long = Som
 abbrev pub keep_rule : Rule
 keep_rule = record (new_rule (codes "keep")) { value_names = 1; long = Some (codes "keep"); parser = Some (Signed (pos 0) (pos 65536)); defaults = codes "0" ∷ [] }
 
--- the topic where none is given
+-- the topic if none is given
 abbrev pub topic_text : List ℕ
 topic_text = codes "Square"
 
@@ -75,11 +75,11 @@ count_rule = record (new_rule (codes "count")) { value_names = 1; long = Some (c
 abbrev pub turns_rule : Rule
 turns_rule = record (new_rule (codes "turns")) { value_names = 1; long = Some (codes "turns"); parser = Some (Signed (pos 1) (pos 100000)); defaults = codes "600" ∷ [] }
 
--- how a run is cut, and how many readers it has
+-- the options for the workers, the batches and the number of readers
 unfoldable pub with_sizes : App → App
 with_sizes a = with_rule (with_rule (with_rule a workers_rule) batch_rule) readers_rule
 
--- who the readers are, and whom they know from the start
+-- the options for the topic, the participant and the writer that is known from the start
 unfoldable pub with_names : App → App
 with_names a = with_rule (with_rule (with_rule a topic_rule) own_rule) fixed_rule
 
@@ -107,7 +107,7 @@ samples_app = with_options (with_rule (with_rule (new_app (codes "samples")) fil
 unfoldable pub live_app : App
 live_app = with_options (with_rule (with_rule (with_rule (new_app (codes "listen")) domain_rule) count_rule) turns_rule)
 
--- the program, with what it prints of a file
+-- the program with `dump` and `replay`
 unfoldable pub printing_app : App
 printing_app = with_subcommand (with_subcommand (new_app (codes "rtps_listen")) dump_app.top) replay_app.top
 

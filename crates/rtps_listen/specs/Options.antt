@@ -1,4 +1,4 @@
--- The options of `replay`, `samples` and `listen`, by what clap finds after it.
+-- The options of a subcommand, by what clap finds after it.
 use Rattle.std.specs.Prelude.{◌≡◌, ℕ, nat_le, nat_lt, List, length, Bool, false, ◌&&◌, if◌then◌else◌, codes, unwrap_or, option_map}
 use Rattle.std.specs.Char.{digit_value}
 use Rattle.std.specs.List.{list_all}
@@ -6,9 +6,7 @@ use Rattle.std.specs.Option.{option_map_or}
 use Rattle.std.specs.Str.{bytes_eq}
 use Rattle.std.specs.Str.Parse.{digits_value, without_leading_plus}
 use Rattle.clap.specs.Words.{Row, Text, first_of, one_of}
-use Rattle.rtps_listen.specs.declared.options.LiveOptions.{LiveOptions}
 use Rattle.rtps_listen.specs.declared.options.Options.{Options}
-use Rattle.rtps_listen.specs.declared.options.SamplesOptions.{SamplesOptions}
 use Rattle.rtps_listen.specs.Line.{own_text, topic_text}
 
 -- the text after this name, or else this one
@@ -31,36 +29,28 @@ number_of text = if are_digits (without_leading_plus text) then digits_value 10 
 abbrev pub number_in : Text → List Row → ℕ
 number_in name rows = option_map_or number_of (one_of name rows) 0
 
--- a number from 1 to the greatest; clap lets no other through, which its definition of what was
--- found doesn't repeat
+-- This number if it is from 1 to the greatest, or else 1. clap lets no other through, which its
+-- definition of what was found doesn't repeat; 0 is what an option has that wasn't found.
 abbrev pub one_to : ℕ → ℕ → ℕ
 one_to most n = if nat_le 1 n && nat_le n most then n else 1
 
--- a number up to the greatest, in the same way
+-- this number if it is up to the greatest, or else 0
 abbrev pub up_to : ℕ → ℕ → ℕ
 up_to most n = if nat_le n most then n else 0
 
 -- the options are those in these rows
 pub record AreOptions (options : Options) (rows : List Row) : Type 0 where
   pub file : options.file.now ≡ text_or (codes "file") (codes "-") rows
+  pub own : options.own.now ≡ text_or (codes "own") own_text rows
   pub readers : options.readers ≡ one_to 8 (number_in (codes "readers") rows)
   pub workers : options.workers ≡ one_to 64 (number_in (codes "workers") rows)
   pub batch : options.batch ≡ one_to 4096 (number_in (codes "batch") rows)
   pub topic : options.topic.now ≡ text_or (codes "topic") topic_text rows
-  pub own : options.own.now ≡ text_or (codes "own") own_text rows
   pub fixed : option_map (λ text. text.now) options.fixed ≡ first_of (codes "fixed") rows
   pub best_effort : options.best_effort ≡ is_set (codes "best-effort") rows
   pub raw : options.raw ≡ is_set (codes "raw") rows
   pub summary : options.summary ≡ is_set (codes "summary") rows
-
--- the same for `samples`
-pub record AreSamplesOptions (s : SamplesOptions) (rows : List Row) : Type 0 where
-  pub options : AreOptions s.options rows
-  pub keep : s.keep ≡ up_to 65536 (number_in (codes "keep") rows)
-
--- the same for `listen`
-pub record AreLiveOptions (live : LiveOptions) (rows : List Row) : Type 0 where
-  pub options : AreOptions live.options rows
-  pub domain : live.domain ≡ up_to 232 (number_in (codes "domain") rows)
-  pub count : live.count ≡ one_to 65536 (number_in (codes "count") rows)
-  pub turns : live.turns ≡ one_to 100000 (number_in (codes "turns") rows)
+  pub keep : options.keep ≡ up_to 65536 (number_in (codes "keep") rows)
+  pub domain : options.domain ≡ up_to 232 (number_in (codes "domain") rows)
+  pub count : options.count ≡ one_to 65536 (number_in (codes "count") rows)
+  pub turns : options.turns ≡ one_to 100000 (number_in (codes "turns") rows)

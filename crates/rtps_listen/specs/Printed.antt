@@ -1,80 +1,55 @@
--- What is printed of a record file, by what the words ask for.
-use Rattle.std.specs.Prelude.{◌≡◌, ◌==◌, ℕ, List, [], true, false, if◌then◌else◌, Option, None, ◌⊎◌, Result, Ok, Err, IfErr, IsErr}
+-- What is printed, by what the words ask for.
+use Rattle.std.specs.Prelude.{◌≡◌, ℕ, List, Bool, true, false, Option, None, ◌⊎◌, Result, Ok, Err, IfErr, IsErr}
 use Rattle.std.specs.Io.KnownBytes.{Keeps}
+use Rattle.rtps_types.specs.declared.identity.GuidPrefix.{GuidPrefix}
 use Rattle.dds_topic.specs.RawMeaning.{raw_decoding}
 use Rattle.dds_topic.specs.ShapeMeaning.{shape_decoding, shape_text}
-use Rattle.rtps_ascii.specs.Hex.{hex_text}
-use Rattle.rtps_records.specs.Runs.{Stops, WroteAll}
-use Rattle.rtps_records.specs.Text.{text_of}
-use Rattle.rtps_records.specs.declared.fault.RunFault.{RunFault}
-use Rattle.rtps_records.specs.declared.fault.RunFault.TheVariants.{CannotRead, NoMemory}
 use Rattle.dds_cache.specs.declared.history.History.{History}
-use Rattle.dds_cache.specs.declared.history.History.TheVariants.{KeepLast, KeepAll}
-use Rattle.rtps_text.specs.Caches.{StopsLate}
-use Rattle.rtps_text.specs.Entries.{samples_text}
+use Rattle.rtps_ascii.specs.Hex.{hex_text}
+use Rattle.rtps_discovery.specs.declared.config.Config.{Config}
+use Rattle.rtps_records.specs.Runs.{WroteAll}
+use Rattle.rtps_records.specs.Text.{text_of}
+use Rattle.rtps_records.specs.declared.fault.RunFault.TheVariants.{CannotRead, NoMemory}
 use Rattle.rtps_lines.specs.EventLines.{lines_of}
-use Rattle.rtps_text.specs.declared.setup.CacheSetup.{CacheSetup}
-use Rattle.rtps_text.specs.declared.setup.Setup.{Setup}
+use Rattle.rtps_text.specs.Entries.{samples_text}
+use Rattle.rtps_text.specs.Listened.{limits_of}
 use Rattle.rtps_text.specs.Replayed.{replay_text}
+use Rattle.rtps_text.specs.Taken.{StopsBy}
 use Rattle.rtps_listen.specs.Configs.{IsConfigOf}
+use Rattle.rtps_listen.specs.Domain.{ListensBy, live_run_of}
 use Rattle.rtps_listen.specs.Identities.{WritesPrefix}
-use Rattle.rtps_listen.specs.declared.asked.Asked.{Asked}
-use Rattle.rtps_listen.specs.declared.asked.Asked.TheVariants as asked
+use Rattle.rtps_listen.specs.Setup.{history_of}
 use Rattle.rtps_listen.specs.declared.fault.ListenFault.{ListenFault}
 use Rattle.rtps_listen.specs.declared.fault.ListenFault.TheVariants.{Run}
-use Rattle.rtps_listen.specs.declared.options.Options.{Options}
-use Rattle.rtps_listen.specs.declared.options.SamplesOptions.{SamplesOptions}
-use Rattle.rtps_listen.specs.declared.task.Task.{Task}
-use Rattle.rtps_listen.specs.declared.task.Task.TheVariants as task
+use Rattle.rtps_listen.specs.declared.request.Request.{Request}
+use Rattle.rtps_listen.specs.declared.request.Request.TheVariants.{Dump, Listen, Replay, Samples}
 
--- the text of these records: the lines of their events; or those of a run over them, or of what its
--- readers keep, whose samples are shapes of the Shapes demo, or with `--raw` octets
-unfoldable pub task_text : Task → List (List ℕ) → List ℕ
-task_text (task.Dump own) records = text_of (lines_of own) records
-task_text (task.Replay setup) records = replay_text shape_text shape_decoding setup.config setup.summary records
-task_text (task.ReplayRaw setup) records = replay_text (λ v. hex_text v.body) raw_decoding setup.config setup.summary records
-task_text (task.Samples setup) records = samples_text shape_text shape_decoding setup.run.config setup.run.summary setup.keep records
-task_text (task.SamplesRaw setup) records = samples_text (λ v. hex_text v.body) raw_decoding setup.run.config setup.run.summary setup.keep records
+-- the text of a run over these records, whose samples are shapes of the Shapes demo, or with
+-- `--raw` octets
+abbrev pub run_text : Bool → Config → Bool → List (List ℕ) → List ℕ
+run_text true config summary = replay_text (λ v. hex_text v.body) raw_decoding config summary
+run_text false config summary = replay_text shape_text shape_decoding config summary
 
--- what a task leaves that stops at a fault
-unfoldable pub TaskStops : Task → RunFault → Option (List ℕ) → Option (List ℕ) → Option (List ℕ) → Option (List ℕ) → Type 0
-TaskStops (task.Dump own) fault before after old new = Stops (task_text (task.Dump own)) fault before after old new
-TaskStops (task.Replay setup) fault before after old new = Stops (task_text (task.Replay setup)) fault before after old new
-TaskStops (task.ReplayRaw setup) fault before after old new = Stops (task_text (task.ReplayRaw setup)) fault before after old new
-TaskStops (task.Samples setup) fault before after old new = StopsLate (task_text (task.Samples setup)) fault before after old new
-TaskStops (task.SamplesRaw setup) fault before after old new = StopsLate (task_text (task.SamplesRaw setup)) fault before after old new
+-- the text of what readers keep of such a run
+abbrev pub kept_text : Bool → Config → Bool → History → List (List ℕ) → List ℕ
+kept_text true config summary keep =
+    samples_text (λ v. hex_text v.body) raw_decoding config summary keep
+kept_text false config summary keep = samples_text shape_text shape_decoding config summary keep
 
--- how many entries are kept of an instance by `--keep`: the last n, or all
-abbrev pub history_of : ℕ → History
-history_of n = if n == 0 then KeepAll else KeepLast n
+-- What is written of a file with these octets, whose records have this text: all of it, or the part
+-- that a run has written when it stops at a fault. A late text is made as it is written, last.
+unfoldable pub Writes : Bool → (List (List ℕ) → List ℕ) → Option (List ℕ) → Option (List ℕ)
+    → Option (List ℕ) → Result (Unit {0}) ListenFault → Type 0
+Writes late text file old new (Ok u) = WroteAll text file old new None
+Writes late text file old new (Err (Run fault)) =
+    (after : Option (List ℕ)) × StopsBy late text fault file after old new
+Writes late text file old new (Err fault) = ⊥
 
--- a run is what options ask for: its readers, `--summary`, `--batch` and `--workers`
-pub record IsRunOf {C : Type 0} (options : Options) (setup : Setup C) : Type 0 where
-  pub config : IsConfigOf options setup.config
-  pub summary : setup.summary ≡ options.summary
-  pub batch : setup.pace.batch ≡ options.batch
-  pub workers : setup.pace.workers ≡ options.workers
-
--- a run whose entries are kept is what options ask for
-abbrev pub AreKeptBy : {C : Type 0} → SamplesOptions → CacheSetup C → Type 0
-AreKeptBy samples setup = IsRunOf samples.options setup.run × (setup.keep ≡ history_of samples.keep)
-
--- the task is what is asked for: by `--own` whose events they are; by the options the run, `--raw`
--- and `--keep`
-unfoldable pub IsTaskOf : Asked → Task → Type 0
-IsTaskOf (asked.Dump file own) (task.Dump prefix) = WritesPrefix own.now prefix
-IsTaskOf (asked.Dump file own) t = ⊥
-IsTaskOf (asked.Replay options) (task.Replay setup) = (options.raw ≡ false) × IsRunOf options setup
-IsTaskOf (asked.Replay options) (task.ReplayRaw setup) = (options.raw ≡ true) × IsRunOf options setup
-IsTaskOf (asked.Replay options) t = ⊥
-IsTaskOf (asked.Samples samples) (task.Samples setup) = (samples.options.raw ≡ false) × AreKeptBy samples setup
-IsTaskOf (asked.Samples samples) (task.SamplesRaw setup) = (samples.options.raw ≡ true) × AreKeptBy samples setup
-IsTaskOf (asked.Samples samples) t = ⊥
-
--- a fault that is found before a file is opened: of memory it is the only one of a run's
-abbrev pub IsBefore : ListenFault → Type 0
-IsBefore (Run fault) = fault ≡ NoMemory
-IsBefore fault = Unit {0}
+-- a fault of a file that isn't opened
+abbrev pub IsUnopened : ListenFault → Type 0
+IsUnopened (Run CannotRead) = Unit {0}
+IsUnopened (Run NoMemory) = Unit {0}
+IsUnopened fault = ⊥
 
 -- a fault that is found before a file is read
 abbrev pub IsFirst : ListenFault → Type 0
@@ -83,21 +58,37 @@ IsFirst (Run NoMemory) = Unit {0}
 IsFirst (Run fault) = ⊥
 IsFirst fault = Unit {0}
 
--- the name of the file that is asked for
-abbrev pub file_of : Asked → List ℕ
-file_of (asked.Dump file own) = file.now
-file_of (asked.Replay options) = options.file.now
-file_of (asked.Samples samples) = samples.options.file.now
+-- a fault that is found before a domain is joined: the only fault of a run is want of memory
+abbrev pub IsBefore : ListenFault → Type 0
+IsBefore (Run fault) = fault ≡ NoMemory
+IsBefore fault = Unit {0}
 
--- What a task writes of a file with these octets: all of its text, or what a fault leaves. Want of
--- memory before it is read leaves nothing written.
-unfoldable pub PrintsBy : Task → Option (List ℕ) → Option (List ℕ) → Option (List ℕ) → Result (Unit {0}) ListenFault → Type 0
-PrintsBy t file old new (Ok u) = WroteAll (task_text t) file old new None
-PrintsBy t file old new (Err (Run fault)) = ((fault ≡ NoMemory) × Keeps old new) ⊎ ((after : Option (List ℕ)) × TaskStops t fault file after old new)
-PrintsBy t file old new (Err fault) = ⊥
+-- it ended with such a fault, and nothing was written
+abbrev pub EndsBy : (ListenFault → Type 0) → Option (List ℕ) → Option (List ℕ)
+    → Result (Unit {0}) ListenFault → Type 0
+EndsBy is_fault old new result = IsErr result × IfErr result is_fault × Keeps old new
 
--- What is written of the file that is asked for: what its task makes of it. What is refused before
--- leaves nothing written; so does memory that runs out there, and a file that can't be opened.
-unfoldable pub Prints : Asked → Option (List ℕ) → Option (List ℕ) → Option (List ℕ) → Result (Unit {0}) ListenFault → Type 0
-Prints a file old new result =
-    (IsErr result × IfErr result IsFirst × Keeps old new) ⊎ ((t : Task) × IsTaskOf a t × PrintsBy t file old new result)
+-- What is written if this is asked for, with files of these names: the text of the file, by the
+-- prefix that `--own` writes or by the configuration of the options; or what `listen` writes.
+-- Nothing is written if the options are refused, a file can't be opened, or memory runs out before.
+unfoldable pub Prints : Request → (List ℕ → Option (List ℕ)) → Option (List ℕ)
+    → Option (List ℕ) → Result (Unit {0}) ListenFault → Type 0
+Prints (Dump options) holds old new result =
+    EndsBy IsFirst old new result
+    ⊎ ((own : GuidPrefix) × WritesPrefix options.own.now own
+    × Writes false (text_of (lines_of own)) (holds options.file.now) old new result)
+Prints (Replay options) holds old new result =
+    EndsBy IsFirst old new result
+    ⊎ ((config : Config) × IsConfigOf options config
+    × Writes false (run_text options.raw config options.summary)
+    (holds options.file.now) old new result)
+Prints (Samples options) holds old new result =
+    EndsBy IsFirst old new result
+    ⊎ ((config : Config) × IsConfigOf options config
+    × Writes true (kept_text options.raw config options.summary (history_of options.keep))
+    (holds options.file.now) old new result)
+Prints (Listen options) holds old new result =
+    EndsBy IsBefore old new result
+    ⊎ ((config : Config) × IsConfigOf options config
+    × ListensBy (live_run_of options.raw config options.summary)
+    (limits_of options.count options.turns) old new result)

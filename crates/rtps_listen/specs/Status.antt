@@ -2,10 +2,17 @@
 use Rattle.std.specs.Prelude.{ℕ, List, ◌++◌, codes}
 use Rattle.rtps_records.specs.Faults as records
 use Rattle.rtps_records.specs.declared.fault.RunFault.TheVariants.{CannotRead, NotRecordFile, CutRecord, RecordTooLong, TooManyRecords, CannotWrite, NoMemory}
+use Rattle.rtps_text.specs.declared.live_fault.LiveFault.{LiveFault}
+use Rattle.rtps_text.specs.declared.live_fault.LiveFault.TheVariants as live_fault
 use Rattle.rtps_listen.specs.declared.program.Failure.{Failure}
 use Rattle.rtps_listen.specs.declared.program.Failure.TheVariants.{Line, Fault}
 use Rattle.rtps_listen.specs.declared.fault.ListenFault.{ListenFault}
 use Rattle.rtps_listen.specs.declared.fault.ListenFault.TheVariants.{NoText, BadPrefix, BadWriter, Socket, Run}
+
+-- the fault of the program that a run over a domain ends with
+abbrev pub live_fault_of : LiveFault → ListenFault
+live_fault_of live_fault.Socket = Socket
+live_fault_of (live_fault.Run fault) = Run fault
 
 -- 2 for the line, 3 for a file and its text, 4 for sockets, 5 for memory
 abbrev pub status_of : ListenFault → ℕ
@@ -26,7 +33,7 @@ abbrev pub status_after : Failure → ℕ
 status_after (Line error) = 2
 status_after (Fault fault) = status_of fault
 
--- what the line of a fault says
+-- the text in the line of a fault
 abbrev pub fault_text : ListenFault → List ℕ
 fault_text NoText = codes "a word is not text"
 fault_text BadPrefix = codes "bad prefix"

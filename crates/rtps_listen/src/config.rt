@@ -1,4 +1,4 @@
-//! The configuration that the options of `replay` ask for.
+//! The configuration that options ask for.
 
 ghost use Rattle.std.specs.Prelude.{◌≡◌, ◌<◌, ◌++◌, ◌↔◌, IfErr, IfOk, IsOk, Ok, OnOk};
 ghost use Rattle.rtps_discovery.specs.Config.{check_of};
@@ -15,7 +15,8 @@ use std::alloc::{AllocError, Global};
 /// The type of each reader.
 const TYPE_NAME: &str = "ShapeType";
 
-/// The reader of a rank, which asks for what it misses unless it is a best-effort one.
+/// Returns the reader with this rank: a best-effort reader, or a reliable one, which asks again for
+/// what it misses.
 fn reader_for(
     alloc: Global,
     topic: &str,
@@ -35,7 +36,7 @@ fn reader_for(
     }
 }
 
-/// Adds a match of the reader of a rank with the writer, where there is one.
+/// Adds a match of the reader with this rank with the writer, if there is one.
 fn match_with(
     config: &mut Config,
     alloc: Global,
@@ -55,7 +56,7 @@ fn match_with(
     }
 }
 
-/// The configuration of the options, with what their texts write.
+/// Returns the configuration of the options, with what their texts write.
 fn config_with(
     alloc: Global,
     options: &Options<'_>,
@@ -73,7 +74,7 @@ fn config_with(
     Ok(config)
 }
 
-/// The writer that `--fixed` names, where it is given.
+/// Returns the writer that `--fixed` names, or `None` if it isn't given.
 fn writer_in(fixed: Option<&str>) -> Result<Option<Guid>, ListenFault>
     ensures value { IfOk result (NamesWriter fixed.entry) }
     ensures found { IsOk result ↔ IsFixedText fixed.entry }
@@ -88,9 +89,11 @@ fn writer_in(fixed: Option<&str>) -> Result<Option<Guid>, ListenFault>
     Ok(Some(writer))
 }
 
-/// The configuration that the options ask for, which discovery takes. The readers of options are
-/// good ones, so that a fault of [`check`] is one of the writer; memory is taken before it is
-/// judged.
+/// Returns the configuration that the options ask for, which discovery accepts.
+///
+/// `BadPrefix` if `--own` isn't 24 hex digits; `BadWriter` if `--fixed` isn't 32 hex digits or
+/// names no writer that can be matched; and `NoMemory`. The readers of options are good ones, so a
+/// fault of [`check`] is one of the writer; memory is taken before the writer is judged.
 pub fn config_of(alloc: Global, options: &Options<'_>) -> Result<Config, ListenFault>
     ensures refused { Refuses options.now result }
     ensures cause { IfErr result (IsCause options.now) }

@@ -1,9 +1,11 @@
 //! Why the program ends with another status than 0.
 
-ghost use Rattle.std.specs.Prelude.{Some};
-ghost use Rattle.rtps_listen.specs.Status.{fault_text};
+ghost use Rattle.std.specs.Prelude.{◌≡◌, Some};
+ghost use Rattle.rtps_listen.specs.Status.{fault_text, live_fault_of};
+ghost use Rattle.rtps_listen.specs.declared.fault.ListenFault.TheVariants as listen_fault;
 
 use rtps_records::RunFault;
+use rtps_text::LiveFault;
 use std::fmt;
 use thiserror::Error;
 
@@ -16,17 +18,35 @@ pub enum ListenFault {
     BadPrefix,
     /// The value of `--fixed` isn't 32 hex digits, or names no writer that can be matched.
     BadWriter,
-    /// The sockets of a domain can't be had, or one of them fails.
+    /// The sockets of a domain can't be opened, or one of them fails.
     Socket,
     /// The run over the records or datagrams ended early.
     Run(RunFault),
 }
 
+impl From<RunFault> for ListenFault {
+    ghost from_gives = { λ run fault. fault ≡ listen_fault.Run run };
+
+    fn from(fault: RunFault) -> ListenFault {
+        ListenFault::Run(fault)
+    }
+}
+
+impl From<LiveFault> for ListenFault {
+    ghost from_gives = { λ live fault. fault ≡ live_fault_of live };
+
+    fn from(fault: LiveFault) -> ListenFault {
+        match fault {
+            LiveFault::Socket => ListenFault::Socket,
+            LiveFault::Run(fault) => ListenFault::Run(fault),
+        }
+    }
+}
+
 impl ListenFault {
-    ghost use Rattle.std.specs.Prelude.{◌≡◌};
     ghost use Rattle.rtps_listen.specs.Status.{status_of};
 
-    /// The exit status of the program that ends with this fault.
+    /// Returns the exit status of a program that ends with this fault.
     pub fn status(self) -> u8
         ensures { result ≡ status_of self }
     {

@@ -1,4 +1,5 @@
-//! Prints what record files hold, and what readers make of it or of the datagrams of a domain.
+//! Prints the events of record files, and what readers report and answer of record files or of the
+//! datagrams of a domain.
 #![tactic(auto)]
 
 ghost use Rattle.std.specs.Prelude.{◌≡◌, None, OnOk};
@@ -6,20 +7,19 @@ ghost use Rattle.std.specs.Io.KnownBytes.{Appends};
 ghost use Rattle.std.specs.Process.{exit_status};
 ghost use Rattle.rtps_listen.specs.Status.{fault_line, status_after};
 
-mod answering;
-mod asked;
 mod config;
 mod domain;
 mod fault;
-mod live_task;
+mod files;
 mod options;
 mod program;
-mod task;
+mod request;
+mod setup;
 mod words;
 
-use answering::RecordFiles;
 use domain::Domains;
 use fault::ListenFault;
+use files::RecordFiles;
 use program::{Failure, run};
 use rtps_records::RunFault;
 use rtps_udp::Sockets;
@@ -29,7 +29,7 @@ use std::io::{self, Read, Stdin, Write};
 use std::process::ExitCode;
 use std::thread::Threads;
 
-/// As many octets as no sample is likely to have.
+/// More octets than a sample is likely to have.
 const LARGE: usize = 16 << 20;
 
 fn main(rt: HostRuntime) -> ExitCode {
@@ -40,9 +40,9 @@ fn main(rt: HostRuntime) -> ExitCode {
     }
 }
 
-/// Takes a large block, and gives it back untouched. Once the allocator of the C library has seen
-/// such a block go, it keeps twice as much freed memory. Else what a sample in fragments held would
-/// be given back to the system, and taken anew, page by page, for the next one.
+/// Allocates a large block, and frees it untouched. Once the allocator of the C library has freed
+/// such a block, it keeps twice as much freed memory. Without this, the memory of a sample in
+/// fragments would be returned to the system, and taken again, page by page, for the next one.
 fn keep_freed_memory(alloc: Global) {
     let _ = Vec::<u8>::with_capacity(alloc, LARGE);
 }
@@ -63,7 +63,7 @@ fn run_line<T: Threads + Sync>(rt: &HostRuntime, threads: &T) -> Result<(), Fail
     )
 }
 
-/// The words of the command line, the program's name first.
+/// Returns the words of the command line; the first one is the program's name.
 fn words_given(rt: &HostRuntime) -> Result<Vec<String>, ListenFault> {
     let arguments = match std::env::args(rt) {
         Ok(arguments) => arguments,
@@ -121,7 +121,7 @@ impl Read for HostFile {
     }
 }
 
-/// Writes the line of a failure to standard error, and gives the program's status.
+/// Writes the line of a failure to standard error, and returns the exit status of the program.
 fn report(rt: &HostRuntime, failure: Failure) -> ExitCode
     ensures { exit_status result ≡ status_after failure }
 {

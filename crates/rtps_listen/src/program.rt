@@ -3,10 +3,10 @@
 ghost use Rattle.std.specs.Prelude.{map};
 ghost use Rattle.rtps_listen.specs.Program.{Does, Leaves};
 
-use crate::answering::{RecordFiles, answer};
-use crate::asked::Request;
-use crate::domain::{Domains, answer_live};
+use crate::domain::{Domains, listen_in};
 use crate::fault::ListenFault;
+use crate::files::{RecordFiles, dump_file, replay_file, samples_file};
+use crate::request::Request;
 use crate::words::read_words;
 use clap::Error;
 use clap::error::ErrorKind;
@@ -19,13 +19,13 @@ use std::thread::Threads;
 /// Why the program ends with another status than 0.
 #[derive(Drop)]
 pub enum Failure {
-    /// The line asks for nothing that there is; the error has the command line's own text.
+    /// The line is a bad one; the error has the text that clap prints for it.
     Line(Error),
     Fault(ListenFault),
 }
 
-/// Does what the words ask for, the program's name first, with the files and the domains of a host;
-/// `rt` starts the workers.
+/// Does what the words ask for, with the files and the domains of a host. The first word is the
+/// program's name; `rt` starts the workers.
 ///
 /// A bad line is a [`Failure::Line`], and then nothing is opened, joined or written. Any other
 /// failure is the fault of what was asked for, or `NoMemory`.
@@ -53,7 +53,7 @@ pub fn run<H: RecordFiles + Domains, S: AsStr, W: Write + Send, T: Threads + Syn
     }
 }
 
-/// Does what was asked for.
+/// Does what the request asks for.
 #[tactic(auto, unfolding(crate::specs::Program::Does))]
 fn perform<H: RecordFiles + Domains, W: Write + Send, T: Threads + Sync>(
     rt: &T,
@@ -66,7 +66,9 @@ fn perform<H: RecordFiles + Domains, W: Write + Send, T: Threads + Sync>(
         (W.contents writer.old) (W.contents writer.new) result }
 {
     match request {
-        Request::OfFile(asked) => answer(rt, alloc, host, asked, writer),
-        Request::OfDomain(live) => answer_live(rt, alloc, host, live, writer),
+        Request::Dump(options) => dump_file(rt, alloc, host, options, writer),
+        Request::Replay(options) => replay_file(rt, alloc, host, options, writer),
+        Request::Samples(options) => samples_file(rt, alloc, host, options, writer),
+        Request::Listen(options) => listen_in(rt, alloc, host, options, writer),
     }
 }

@@ -4,9 +4,9 @@ ghost use Rattle.std.specs.Prelude.{◌≤◌};
 
 mod replay;
 
-use crate::asked::{Asked, OWN, Request};
 use crate::fault::ListenFault;
-use crate::options::LiveOptions;
+use crate::options::Options;
+use crate::request::Request;
 use crate::words::read_words;
 use clap::error::ErrorKind;
 use replay::flags;
@@ -23,15 +23,11 @@ fn words(alloc: Global, line: &[&'static str]) -> Result<Vec<&'static str>, Fail
 
 #[test]
 fn lines_of_dump(rt: HostRuntime) -> Result<(), Fail> {
-    let nothing = Asked::Dump {
-        file: "-",
-        own: OWN,
-    };
-    let other = Asked::Dump {
-        file: "a b",
-        own: "",
-    };
-    for (line, asked) in [
+    let nothing = Options::unset();
+    let mut other = nothing;
+    other.file = "a b";
+    other.own = "";
+    for (line, options) in [
         ([].as_slice(), nothing),
         (["dump", "-"].as_slice(), nothing),
         (["dump", "--own", "", "a b"].as_slice(), other),
@@ -39,23 +35,22 @@ fn lines_of_dump(rt: HostRuntime) -> Result<(), Fail> {
     ] {
         let words = words(rt.alloc(), line)?;
         let request = read_words(rt.alloc(), words.as_slice())?;
-        assert_eq!(rt; request, Request::OfFile(asked));
+        assert_eq!(rt; request, Request::Dump(options));
     }
     Ok(())
 }
 
-/// Options of a domain, and else those where none is given.
-fn live(domain: u16, count: u32, turns: u32) -> LiveOptions<'static>
+/// Options of `listen` with these, and else those where none is given.
+fn live(domain: u16, count: u32, turns: u32) -> Options<'static>
     requires domain { domain ≤ 232 }
     requires count { 1 ≤ count }
     requires turns { 1 ≤ turns }
 {
-    LiveOptions {
-        options: flags(false, false, false),
-        domain,
-        count,
-        turns,
-    }
+    let mut options = flags(false, false, false);
+    options.domain = domain;
+    options.count = count;
+    options.turns = turns;
+    options
 }
 
 #[test]
@@ -75,7 +70,7 @@ fn lines_of_listen(rt: HostRuntime) -> Result<(), Fail> {
     ] {
         let words = words(rt.alloc(), line)?;
         let request = read_words(rt.alloc(), words.as_slice())?;
-        assert_eq!(rt; request, Request::OfDomain(options));
+        assert_eq!(rt; request, Request::Listen(options));
     }
     Ok(())
 }

@@ -3,16 +3,17 @@
 ghost use Rattle.std.specs.Prelude.{◌≡◌, IfOk, false, map};
 ghost use Rattle.clap.specs.Words.{FailsBy, HasMatchesOf, app_of, fault_of, subcommand_of};
 ghost use Rattle.clap.specs.declared.builder.command.Command.TheViews.{out-Command};
-ghost use Rattle.rtps_listen.specs.Asked.{Asks};
 ghost use Rattle.rtps_listen.specs.Line as line;
 ghost use Rattle.rtps_listen.specs.Line.{IsPlainApp, IsPlainRule};
+ghost use Rattle.rtps_listen.specs.Request.{Asks};
 
-use crate::asked::{OWN, Request, TOPIC, asked_by};
+use crate::options::{OWN, TOPIC};
+use crate::request::{Request, request_of};
 use clap::{Arg, ArgAction, ArgMatches, Command, Error, value_parser};
 use std::alloc::{AllocError, Global};
 use std::convert::AsStr;
 
-/// The command and its subcommands.
+/// Returns the command with its subcommands.
 #[tactic(auto, unfolding(crate::specs::Line::listen_app))]
 fn command<'a>(alloc: Global) -> Result<Command<'a>, AllocError>
     ensures { IfOk result (λ c. IsPlainApp c line.listen_app) }
@@ -80,7 +81,7 @@ fn live_command<'a>(alloc: Global) -> Result<Command<'a>, AllocError>
     with_options(alloc, command)
 }
 
-/// The options of each subcommand that runs readers.
+/// Adds the options of a subcommand that runs readers.
 fn with_options<'a>(alloc: Global, command: Command<'a>) -> Result<Command<'a>, AllocError>
     requires { (out-Command command).has_globals ≡ false }
     ensures { IfOk result (λ c. IsPlainApp c (line.with_options (app_of command.entry))) }
@@ -88,7 +89,7 @@ fn with_options<'a>(alloc: Global, command: Command<'a>) -> Result<Command<'a>, 
     with_flags(alloc, with_names(alloc, with_sizes(alloc, command)?)?)
 }
 
-/// How a run is cut, and how many readers it has.
+/// Adds the options for the workers, the batches and the number of readers.
 #[tactic(auto, unfolding(crate::specs::Line::with_sizes))]
 fn with_sizes<'a>(alloc: Global, command: Command<'a>) -> Result<Command<'a>, AllocError>
     requires { (out-Command command).has_globals ≡ false }
@@ -100,7 +101,7 @@ fn with_sizes<'a>(alloc: Global, command: Command<'a>) -> Result<Command<'a>, Al
         .arg(readers(alloc))
 }
 
-/// Who the readers are, and whom they know from the start.
+/// Adds the options for the topic, the participant and the writer that is known from the start.
 #[tactic(auto, unfolding(crate::specs::Line::with_names))]
 fn with_names<'a>(alloc: Global, command: Command<'a>) -> Result<Command<'a>, AllocError>
     requires { (out-Command command).has_globals ≡ false }
@@ -112,7 +113,7 @@ fn with_names<'a>(alloc: Global, command: Command<'a>) -> Result<Command<'a>, Al
         .arg(fixed(alloc))
 }
 
-/// The flags.
+/// Adds the flags.
 #[tactic(auto, unfolding(crate::specs::Line::with_flags))]
 fn with_flags<'a>(alloc: Global, command: Command<'a>) -> Result<Command<'a>, AllocError>
     requires { (out-Command command).has_globals ≡ false }
@@ -148,7 +149,7 @@ fn workers<'a>(alloc: Global) -> Arg<'a>
 {
     Arg::new(alloc, "workers")
         .value_name("COUNT")
-        .help("How many threads share the run of a batch, 1 to 64; the text is the same")
+        .help("How many threads share a batch that is large enough, 1 to 64; the text is the same")
         .long("workers")
         .value_parser(value_parser!(u32).range(1..65))
         .default_value("1")
@@ -162,7 +163,7 @@ fn batch<'a>(alloc: Global) -> Arg<'a>
         .help("How many datagrams are taken at a time, 1 to 4096; the text is the same")
         .long("batch")
         .value_parser(value_parser!(u32).range(1..4097))
-        .default_value("256")
+        .default_value("512")
 }
 
 fn readers<'a>(alloc: Global) -> Arg<'a>
@@ -266,8 +267,8 @@ fn turns<'a>(alloc: Global) -> Arg<'a>
         .default_value("600")
 }
 
-/// What clap finds in the words. This and the fault where the line is a bad one are functions of
-/// the words; where memory runs out, that is answered in their place.
+/// Returns what clap finds in the words. This, or the error if the line is a bad one, depends on
+/// the words alone; if memory runs out, that is the error instead.
 pub fn found<'a, S: AsStr>(alloc: Global, words: &'a [S]) -> Result<ArgMatches<'a>, Error>
     ensures matches { IfOk result (HasMatchesOf line.listen_app (map S.text words.entry.now)) }
     ensures fails { FailsBy (fault_of line.listen_app (map S.text words.entry.now)) result }
@@ -278,14 +279,14 @@ pub fn found<'a, S: AsStr>(alloc: Global, words: &'a [S]) -> Result<ArgMatches<'
     }
 }
 
-/// Reads the words, the program's name first.
+/// Returns what the words ask for; the first one is the program's name.
 pub fn read_words<'a, S: AsStr>(alloc: Global, words: &'a [S]) -> Result<Request<'a>, Error>
-    ensures asks { IfOk result (λ asked. Asks asked
+    ensures asks { IfOk result (λ request. Asks request
         (subcommand_of line.listen_app (map S.text words.entry.now))) }
     ensures fails { FailsBy (fault_of line.listen_app (map S.text words.entry.now)) result }
 {
     match found(alloc, words) {
-        Ok(matches) => Ok(asked_by(matches.subcommand())),
+        Ok(matches) => Ok(request_of(matches.subcommand())),
         Err(error) => Err(error),
     }
 }

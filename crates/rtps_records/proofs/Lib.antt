@@ -2,7 +2,7 @@ pub mod Batching
 pub mod Cuts
 pub mod Filled
 pub mod Received
-pub mod NextRead
+pub mod Faults
 pub mod OneReading
 pub mod Printed
 pub mod Progress

@@ -8,9 +8,8 @@ use Rattle.rtps_records.specs.declared.fault.RunFault.{RunFault}
 use Rattle.rtps_records.specs.declared.fault.RunFault.TheVariants.{CannotRead, NotRecordFile, CutRecord, RecordTooLong, TooManyRecords, CannotWrite, NoMemory}
 use Rattle.rtps_records.specs.RecordFile.{magic, frame, Holds, EndsBy, IsOther, IsRecord, IsPartial, FaultHere, FaultFirst, Reads}
 use Rattle.rtps_records.specs.Text.{IsFront, Says, Ends, text_of}
-use Rattle.rtps_records.proofs.Printed.{ends_here}
 use Rattle.rtps_records.proofs.OneReading.{one_reading, records_first}
-use Rattle.rtps_records.specs.Runs.{IsFrontOf, WroteAll, WroteRead, WroteFront, WroteReadFront, Moves, PutsFront, Spills, Stops, Closes, ClosesNot}
+use Rattle.rtps_records.specs.Runs.{IsFrontOf, WroteAll, WroteRead, WroteFront, WroteReadFront, PutsFront, Stops, Closes, ClosesNot}
 
 -- n records were read; what is said of them was written or is kept back
 pub record Progress (said : List (List ℕ) → List ℕ → Type 0) (before now old new : Option (List ℕ)) (n : ℕ) (kept : List ℕ) : Type 0 where
@@ -65,63 +64,6 @@ many_more said then_said before now after old new n kept out more p read small s
   read = subst (Consumes before after) (append_assoc magic (flat_map frame p.records) (flat_map frame more) ∙ ap (λ l. magic ++ l) (sym (flat_map-append frame p.records more))) (Consumes-trans _ _ _ _ _ p.read read);
   wrote = p.wrote;
   says = subst (then_said (p.records ++ more)) (append_assoc p.written kept s.0 ∙ ap (λ l. p.written ++ l) (sym s.1)) (s.2 p.records (p.written ++ kept) p.says p.count);
-}
-
--- one record more was read, and its text was added
-pub one_more : (said then_said : List (List ℕ) → List ℕ → Type 0) (before now after old new : Option (List ℕ)) (n : ℕ) (kept out octets : List ℕ)
-    → Progress said before now old new n kept → Consumes now after (frame octets) → length octets ≤ 65507 → Says said then_said n (octets ∷ []) kept out
-    → Progress then_said before after old new (n + 1) out
-one_more said then_said before now after old new n kept out octets p read small s =
-    many_more said then_said before now after old new n kept out (octets ∷ []) p (subst (Consumes now after) (sym (append-nil (frame octets))) read) (small, tt) s
-
--- what was kept back was written in part, and the rest is kept back
-pub moved : (said : List (List ℕ) → List ℕ → Type 0) (before now old mid new : Option (List ℕ)) (n : ℕ) (kept left : List ℕ)
-    → Progress said before now old mid n kept → Moves mid new kept left → Progress said before now old new n left
-moved said before now old mid new n kept left p m = record {
-  records = p.records;
-  written = p.written ++ m.0;
-  count = p.count;
-  each = p.each;
-  read = p.read;
-  wrote = Appends-trans _ _ _ _ _ p.wrote m.1;
-  says = subst (said p.records) (ap (λ l. p.written ++ l) m.2 ∙ sym (append_assoc p.written m.0 left)) p.says;
-}
-
--- the text was written or is kept back
-pub spilled : (said : List (List ℕ) → List ℕ → Type 0) (before now old mid new : Option (List ℕ)) (n : ℕ) (kept left : List ℕ)
-    → Progress said before now old mid n kept → Spills mid new kept left → Progress said before now old new n left
-spilled said before now old mid new n kept left p s = elim s [
-  | inl out ↦ rw out.2 (record {
-    records = p.records;
-    written = p.written ++ kept;
-    count = p.count;
-    each = p.each;
-    read = p.read;
-    wrote = Appends-trans _ _ _ _ _ p.wrote out.1;
-    says = subst (said p.records) (sym (append-nil (p.written ++ kept))) p.says;
-  })
-  | inr same ↦ record {
-    records = p.records;
-    written = p.written;
-    count = p.count;
-    each = p.each;
-    read = p.read;
-    wrote = Appends-kept _ _ _ _ p.wrote same.1;
-    says = rw same.2 p.says;
-  }
-]
-
--- the last text was said, and all of it was written
-pub closed : (said : List (List ℕ) → List ℕ → Type 0) (text whole : List (List ℕ) → List ℕ) (before now old mid new : Option (List ℕ)) (n : ℕ) (kept : List ℕ)
-    → Progress said before now old mid n kept → ((records : List (List ℕ)) → text records ≡ whole records) → Closes said text mid new kept
-    → Finished whole before now old new n
-unfolding Closes
-closed said text whole before now old mid new n kept p same c = record {
-  records = p.records;
-  count = p.count;
-  each = p.each;
-  read = p.read;
-  wrote = subst (Appends old new) (sym (c.2 p.records p.written p.says) ∙ same p.records) (Appends-trans _ _ _ _ _ p.wrote c.1);
 }
 
 -- the input is what was read, and then what is left
@@ -245,13 +187,6 @@ put_front said text whole before now old mid new n kept few p fronts same put = 
       (subst (IsFront (p.written ++ kept)) (same (p.records ++ more)) (fronts p.records more (p.written ++ kept) p.says))),
 )
 
--- the run stops at a write fault, and where memory runs out
-pub stops_writing : (said : List (List ℕ) → List ℕ → Type 0) (text whole : List (List ℕ) → List ℕ) (before now after old mid new : Option (List ℕ)) (n : ℕ) (kept : List ℕ) (fault : RunFault)
-    → n ≤ 4294967295 → fault ≡ CannotWrite → Progress said before now old mid n kept → SaidIsFront said text → ((records : List (List ℕ)) → text records ≡ whole records) → PutsFront mid new kept
-    → Stops whole fault before after old new
-unfolding Stops
-stops_writing said text whole before now after old mid new n kept fault few e p fronts same put = rw e (inl (put_front said text whole before now old mid new n kept few p fronts same put))
-
 pub stops_printing : (said : List (List ℕ) → List ℕ → Type 0) (text whole : List (List ℕ) → List ℕ) (before now after old mid new : Option (List ℕ)) (n : ℕ) (kept : List ℕ) (fault : RunFault)
     → n ≤ 4294967295 → (fault ≡ CannotWrite) ⊎ (fault ≡ NoMemory) → PutsFront mid new kept → Progress said before now old mid n kept → SaidIsFront said text
     → ((records : List (List ℕ)) → text records ≡ whole records) → Stops whole fault before after old new
@@ -259,11 +194,6 @@ unfolding Stops
 stops_printing said text whole before now after old mid new n kept fault few cause put p fronts same =
     let front = put_front said text whole before now old mid new n kept few p fronts same put in
     elim cause [ inl cannot ↦ rw cannot (inl front) | inr none ↦ rw none front ]
-
-pub stops_without : (said : List (List ℕ) → List ℕ → Type 0) (text whole : List (List ℕ) → List ℕ) (before now after old new : Option (List ℕ)) (n : ℕ) (kept : List ℕ)
-    → n ≤ 4294967295 → Progress said before now old new n kept → SaidIsFront said text → ((records : List (List ℕ)) → text records ≡ whole records) → Stops whole NoMemory before after old new
-unfolding Stops
-stops_without said text whole before now after old new n kept few p fronts same = put_front said text whole before now old new new n kept few p fronts same (0, Appends-nil new)
 
 -- how the reading of an input ended, of which n records were read: at its end, or at a fault
 abbrev pub EndsHere : Option RunFault → ℕ → Option (List ℕ) → Option (List ℕ) → Type 0
@@ -353,28 +283,8 @@ pub closes_without : (said : List (List ℕ) → List ℕ → Type 0) (text : Li
 unfolding ClosesNot
 closes_without said text old kept = inl (refl, Keeps-refl old)
 
--- the texts of all records that were read were written
-pub printed : (line : ℕ → List ℕ → List ℕ) (before now old mid new : Option (List ℕ)) (n : ℕ) (kept : List ℕ) → Progress (λ records said. said ≡ text_of line records) before now old mid n kept
-    → Appends mid new kept → Finished (text_of line) before now old new n
-printed line before now old mid new n kept p put =
-    closed _ _ _ _ _ _ _ _ _ _ p (λ records. refl) (closes (λ records said. said ≡ text_of line records) (text_of line) _ _ kept kept (ends_here line kept) put)
-
--- a write that fails, in the place of what was to be said
-pub fails_writing : {U : Type 0} (said : List (List ℕ) → List ℕ → Type 0) (text whole : List (List ℕ) → List ℕ) (before now after old mid new : Option (List ℕ)) (n : ℕ) (kept : List ℕ) (r : Result U RunFault)
-    → n ≤ 4294967295 → IfErr r (λ fault. fault ≡ CannotWrite) → OnErr r (PutsFront mid new kept) → Progress said before now old mid n kept → SaidIsFront said text
-    → ((records : List (List ℕ)) → text records ≡ whole records) → IfErr r (λ fault. Stops whole fault before after old new)
-fails_writing said text whole before now after old mid new n kept (Ok x) few fault put p fronts same = tt
-fails_writing said text whole before now after old mid new n kept (Err e) few fault put p fronts same = stops_writing said text whole before now after old mid new n kept e few fault p fronts same put
-
 -- the last text is written, or it isn't
 pub closes_if : {U : Type 0} (said : List (List ℕ) → List ℕ → Type 0) (text : List (List ℕ) → List ℕ) (old new : Option (List ℕ)) (kept out : List ℕ) (r : Result U RunFault) → Ends said text kept out
     → IfErr r (λ fault. fault ≡ CannotWrite) → OnErr r (PutsFront old new out) → IfErr r (λ fault. ClosesNot fault said text old new kept)
 closes_if said text old new kept out (Ok x) e fault put = tt
 closes_if said text old new kept out (Err f) e fault put = closes_not said text f old new kept out fault e put
-
--- a run that doesn't come to the end of its last text
-pub fails_closing : {U : Type 0} (said : List (List ℕ) → List ℕ → Type 0) (text whole : List (List ℕ) → List ℕ) (before now after old mid new : Option (List ℕ)) (n : ℕ) (kept : List ℕ) (end : Option RunFault) (r : Result U RunFault)
-    → n ≤ 4294967295 → EndsHere end n now after → Progress said before now old mid n kept → SaidIsFront said text → ((records : List (List ℕ)) → text records ≡ whole records) → IfErr r (λ fault. ClosesNot fault said text mid new kept)
-    → IfErr r (λ fault. Stops whole fault before after old new)
-fails_closing said text whole before now after old mid new n kept end (Ok x) few ends p fronts same c = tt
-fails_closing said text whole before now after old mid new n kept end (Err e) few ends p fronts same c = stops_closing said text whole before now after old mid new n kept end e few ends p fronts same c

@@ -2,7 +2,6 @@ pub mod Batches
 pub mod Cuts
 pub mod Faults
 pub mod Traffic
-pub mod Reading
 pub mod RecordFile
 pub mod Runs
 pub mod Steps

@@ -7,11 +7,13 @@ ghost use Rattle.rtps_records.specs.Cuts.{cut};
 ghost use Rattle.rtps_records.specs.Steps.{ReadsOne};
 
 use crate::batch_end::BatchEnd;
-use crate::buffer::{MAX_LEN, zeros};
 use crate::fault::RunFault;
 use crate::records::read_record;
 use std::alloc::{AllocError, Allocator, Global};
 use std::io::Read;
+
+/// The greatest length of a record, in octets: that of a UDP payload over IPv4.
+pub const MAX_LEN: usize = 65_507;
 
 /// The number of octets of records that a batch has room for.
 const ROOM: usize = 1_048_576;
@@ -28,6 +30,13 @@ pub struct Batch<A: Allocator = Global> {
     ghost room: { vec_len octets ≡ 1048576 },
     ghost counted: { used ≡ sum lengths.items },
     ghost within: { used ≤ 1048576 },
+}
+
+/// Returns `count` octets, all zero.
+fn zeros<A: Allocator>(alloc: A, count: usize) -> Result<Vec<u8, A>, AllocError>
+    ensures { IfOk result (λ v. vec_len v ≡ count) }
+{
+    vec![in alloc; 0u8; count]
 }
 
 /// Reads the record with this number, counted from 0, into `octets` after the first `used` ones,

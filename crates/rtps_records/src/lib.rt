@@ -3,8 +3,6 @@
 
 mod batch;
 mod batch_end;
-mod batched;
-mod buffer;
 mod exchange;
 mod fault;
 pub mod laws;
@@ -14,9 +12,8 @@ mod receiving;
 mod records;
 mod transfer;
 
-pub use batch::Batch;
+pub use batch::{Batch, MAX_LEN};
 pub use batch_end::BatchEnd;
-pub use buffer::{Buffer, MAX_LEN};
 pub use exchange::Exchange;
 pub use fault::RunFault;
 pub use lines::Lines;

@@ -7,8 +7,7 @@ ghost use Rattle.rtps_records.specs.RecordFile.{IsRecord};
 ghost use Rattle.rtps_records.specs.Traffic.{Exhausted, Failed, Grows, Received, ReceivesNext, Traffic, last_call, receipts};
 ghost use Rattle.rtps_records.specs.declared.receive_end.ReceiveEnd.TheVariants.{More};
 
-use crate::batch::Batch;
-use crate::buffer::MAX_LEN;
+use crate::batch::{Batch, MAX_LEN};
 use crate::receive_end::ReceiveEnd;
 use std::alloc::{AllocError, Allocator};
 use std::io;

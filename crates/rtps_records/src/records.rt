@@ -1,42 +1,49 @@
-//! The records of a record file, one at a time.
+//! The records of a record file, a batch at a time.
 
-ghost use Rattle.std.specs.Prelude.{◌≡◌, ◌+◌, ◌<◌, ◌≤◌, length, take, None, IfOk, IfErr, IfSome, OnErr, OnSome, OnOk, []};
-ghost use Rattle.std.specs.Borrow.{sem};
+ghost use Rattle.std.specs.Prelude.{◌≡◌, ◌<◌, ◌≤◌, length, take, None, IfOk, IfErr, IfSome, OnErr, OnSome, OnOk};
 ghost use Rattle.std.specs.Int.{w32, from_be_bytes, to_be_bytes};
-ghost use Rattle.std.specs.Io.BufRead.{Rests};
 ghost use Rattle.std.specs.Io.KnownBytes.{Consumes, IsAtEnd};
-ghost use Rattle.rtps_records.specs.Reading.{ReadsNext};
+ghost use Rattle.rtps_records.specs.Batches.{HasRead, IsFull, ReadsBatch, records_in};
 ghost use Rattle.rtps_records.specs.RecordFile.{frame, magic, FaultHere, FaultFirst};
-ghost use mir.Syntax.{named};
+ghost use Rattle.rtps_records.specs.declared.batch_end.BatchEnd.TheVariants.{More};
+ghost use Rattle.rtps_records.specs.declared.fault.RunFault.TheVariants.{NoMemory};
 
-use crate::buffer::{Buffer, MAX_LEN};
+use crate::batch::{Batch, MAX_LEN};
+use crate::batch_end::BatchEnd;
 use crate::fault::RunFault;
 use crate::transfer::fill;
-use std::alloc::{AllocError, Allocator};
+use std::alloc::Allocator;
 use std::io::Read;
 
-/// A reader of the records of a file, in order. `B` holds the record that is borrowed: a
-/// [`Buffer`].
-pub struct Records<'a, R, B: Drop = Buffer> {
+/// A reader of the records of a file, in order. It holds none of them: they are read into the
+/// caller's batch.
+pub struct Records<'a, R> {
     pub(crate) reader: &'a mut R,
-    pub(crate) buffer: B,
     /// The number of records read so far.
     pub(crate) count: u32,
 }
 
-impl<R, B: Drop> Drop for Records<'_, R, B> {
+impl<R> Drop for Records<'_, R> {
     fn drop(self)
         ensures { self.exit.0.now ≡ self.entry.reader.now }
     {
         let Records {
             reader: _,
-            buffer: _,
             count: _,
         } = self;
     }
 }
 
-impl<R: Read, B: Drop> Records<'_, R, B> {
+impl<'a, R: Read> Records<'a, R> {
+    /// Makes a reader of the records of a file; call [`Records::open`] first. No memory is taken.
+    pub fn new(reader: &'a mut R) -> Records<'a, R>
+        ensures same_reader { result.reader.ghost_name ≡ reader.entry.ghost_name }
+        ensures unread { result.reader.now ≡ reader.old }
+        ensures count { result.count ≡ 0 }
+    {
+        Records { reader, count: 0 }
+    }
+
     /// Reads the four octets that a record file begins with.
     ///
     /// `NotRecordFile` where the file begins with other octets or is shorter, `CannotRead` where a
@@ -66,70 +73,43 @@ impl<R: Read, B: Drop> Records<'_, R, B> {
     {
         self.count
     }
-}
 
-impl<'a, R: Read, A: Allocator> Records<'a, R, Buffer<A>> {
-    ghost use Rattle.rtps_records.specs.contracts.buffer.Buffer.{the_row as buffer_row};
-    ghost use Rattle.rtps_records.specs.contracts.records.Records.{the_row};
-
-    /// Makes a reader of records, one by one, over `reader`; call [`Records::open`] first. An error
-    /// is a refused growth.
-    pub fn new(alloc: A, reader: &'a mut R) -> Result<Records<'a, R, Buffer<A>>, AllocError>
-        ensures same_reader { IfOk result (λ records. records.reader.ghost_name ≡
-            reader.entry.ghost_name) }
-        ensures unread { IfOk result (λ records. records.reader.now ≡ reader.old) }
-        ensures count { IfOk result (λ records. records.count ≡ 0) }
-    {
-        Ok(Records {
-            reader,
-            buffer: Buffer::new(alloc)?,
-            count: 0,
-        })
-    }
-
-    /// Reads the next record and returns its octets, borrowed, or `None` where the file ends.
+    /// Replaces the records of a batch by the next ones of the file. It reads `most` of them; fewer
+    /// if there is no room for one more of the greatest length, or at the end of the file, or at
+    /// its first fault. With [`BatchEnd::More`] there is at least one.
     ///
-    /// `CutRecord` where the file ends inside the record, `RecordTooLong` for a length above 65,507
-    /// octets whatever follows it, `TooManyRecords` where there are octets after 4,294,967,295
-    /// records, and `CannotRead` where a read fails before the record is complete. Neither the end
-    /// nor a fault counts as a record.
-    #[tactic(auto, unfolding(crate::specs::Reading::ReadsNext))]
-    pub fn next(&mut self) -> Result<Option<&[u8]>, RunFault>
-        ensures* reads { sem 𝓛 (Rests
-            (the_row (record { mir = named 0; lft = [] }) R.row (buffer_row A.row A.Allocator))
-            self.entry
-            (λ new. (new.reader.ghost_name ≡ self.old.reader.ghost_name)
-            × ReadsNext (R.remaining self.old.reader.now) (R.remaining new.reader.now)
-            self.old.count new.count result)) }
-    {
-        match self.advance()? {
-            Some(len) => Ok(Some(&self.buffer.octets[..len])),
-            None => Ok(None),
-        }
-    }
-
-    /// Reads the next record into the front of the buffer, and returns its length in octets, or
-    /// `None` where the file ends.
-    fn advance(&mut self) -> Result<Option<usize>, RunFault>
+    /// A fault is `CutRecord` where the file ends inside a record, `RecordTooLong` for a length
+    /// above 65,507 octets whatever follows it, `TooManyRecords` where there are octets after
+    /// 4,294,967,295 records, and `CannotRead` where a read fails before a record is complete.
+    /// Neither the end nor a fault counts as a record.
+    ///
+    /// An error is always `NoMemory`. The records that were read until then are in the batch, and
+    /// no other record was read.
+    pub fn next_batch<A: Allocator>(
+        &mut self,
+        batch: &mut Batch<A>,
+        most: u16,
+    ) -> Result<BatchEnd, RunFault>
+        requires some { 1 ≤ most }
         ensures same_reader { self.new.reader.ghost_name ≡ self.old.reader.ghost_name }
-        ensures count { IfOk result (λ next. OnSome next
-            ((self.old.count < 4294967295) × (self.new.count ≡ self.old.count + 1))) }
-        ensures stays { IfOk result (λ next. next ≡ None → self.new.count ≡ self.old.count) }
-        ensures refused { OnErr result (self.new.count ≡ self.old.count) }
-        ensures fits { IfOk result (λ next. IfSome next (λ n. n ≤ 65507)) }
-        ensures some { IfOk result (λ next. IfSome next (λ n.
-            Consumes (R.remaining self.old.reader.now) (R.remaining self.new.reader.now)
-            (frame (take n self.new.buffer.octets.items)))) }
-        ensures none { IfOk result (λ next. next ≡ None
-            → IsAtEnd (R.remaining self.old.reader.now)) }
-        ensures fault { IfErr result (λ fault. FaultHere fault self.old.count
-            (R.remaining self.old.reader.now) (R.remaining self.new.reader.now)) }
+        ensures reads { IfOk result (ReadsBatch
+            (R.remaining self.old.reader.now) (R.remaining self.new.reader.now)
+            self.old.count self.new.count (records_in batch.new)) }
+        ensures few { OnOk result (length (records_in batch.new) ≤ most) }
+        ensures full { IfOk result (λ end. end ≡ More → IsFull most batch.new) }
+        ensures fault { IfErr result (λ fault. fault ≡ NoMemory) }
+        ensures refused { OnErr result (HasRead
+            (R.remaining self.old.reader.now) (R.remaining self.new.reader.now)
+            self.old.count self.new.count (records_in batch.new)) }
     {
-        let next = read_record(self.reader, self.buffer.octets.as_mut_slice(), self.count)?;
-        if next.is_some() {
-            self.count += 1;
+        batch.clear();
+        while batch.len() < most as usize && batch.has_room() {
+            match batch.read(self.reader, self.count)? {
+                BatchEnd::More => self.count += 1,
+                end => return Ok(end),
+            }
         }
-        Ok(next)
+        Ok(BatchEnd::More)
     }
 }
 

@@ -1,8 +1,9 @@
 //! Tests of records and of lines with readers and writers that fail, and of a loop over both.
 
-use crate::buffer::zeros;
+ghost use Rattle.std.specs.Prelude.{◌≤◌};
+
 use crate::records::read_record;
-use crate::{Buffer, Lines, MAX_LEN, Records, RunFault};
+use crate::{Batch, BatchEnd, Lines, MAX_LEN, Records, RunFault};
 use linked_list_allocator::LocalHeap;
 use std::alloc::{Allocator, Global};
 use std::io::{self, Error, ErrorKind, Read, Write};
@@ -11,33 +12,48 @@ use std::test::Fail;
 mod batches;
 mod receiving;
 
-/// Prints a line with the number and the length of each record.
+/// Prints a line with the number and the length of each record of a file, which is read into this
+/// batch, `most` records at a time.
 fn print_lengths<A: Allocator + Copy, R: Read, W: Write>(
     alloc: A,
+    batch: &mut Batch<A>,
+    most: u16,
     reader: &mut R,
     writer: &mut W,
-) -> Result<(), RunFault> {
-    let mut records = Records::new(alloc, reader)?;
-    print_each(&mut records, &mut Lines::new(alloc, writer))
-}
-
-fn print_each<A: Allocator, R: Read, W: Write>(
-    records: &mut Records<'_, R, Buffer<A>>,
-    lines: &mut Lines<'_, W, Vec<u8, A>>,
-) -> Result<(), RunFault> {
+) -> Result<(), RunFault>
+    requires { 1 ≤ most }
+{
+    let mut lines = Lines::new(alloc, writer);
+    let mut records = Records::new(reader);
     records.open()?;
-    for number in 0..u64::MAX {
-        match records.next() {
-            Ok(Some(octets)) => push_length(&mut lines.text, number, octets.len())?,
-            Ok(None) => return lines.close(),
-            Err(fault) => {
+    let mut number = 0_u64;
+    for _ in 0..u64::MAX {
+        let end = records.next_batch(batch, most)?;
+        for octets in batch.records(alloc)? {
+            push_length(&mut lines.text, number, octets.len())?;
+            lines.write_if_full()?;
+            number = number.saturating_add(1);
+        }
+        match end {
+            BatchEnd::More => {}
+            BatchEnd::End => return lines.close(),
+            BatchEnd::Fault(fault) => {
                 lines.close()?;
                 return Err(fault);
             }
         }
-        lines.write_if_full()?;
     }
     Ok(())
+}
+
+/// Prints the same with a batch of its own, many records at a time.
+fn print_with<A: Allocator + Copy, R: Read, W: Write>(
+    alloc: A,
+    reader: &mut R,
+    writer: &mut W,
+) -> Result<(), RunFault> {
+    let mut batch = Batch::new(alloc)?;
+    print_lengths(alloc, &mut batch, 4096, reader, writer)
 }
 
 fn push_length<A: Allocator>(
@@ -146,7 +162,7 @@ fn text_len(read: usize) -> usize {
 fn printed(alloc: Global, file: &[u8]) -> (Result<(), RunFault>, Vec<u8>) {
     let mut out = Vec::new(alloc);
     let mut rest = file;
-    let outcome = print_lengths(alloc, &mut rest, &mut out);
+    let outcome = print_with(alloc, &mut rest, &mut out);
     (outcome, out)
 }
 
@@ -174,43 +190,8 @@ const ENDS: [(&[u8], &[u8], Result<(), RunFault>); 11] = [
 ];
 
 #[test]
-fn ends_as_each_file_does(rt: HostRuntime) -> Result<(), Fail> {
-    for (file, text, outcome) in ENDS {
-        let (found, out) = printed(rt.alloc(), file);
-        assert_eq!(rt; found, outcome);
-        assert_eq!(rt; out.as_slice(), text);
-    }
-    Ok(())
-}
-
-#[test]
-fn takes_the_longest_record(rt: HostRuntime) -> Result<(), Fail> {
-    let mut file = b"RDG1\0\0\xff\xe3".to_vec(rt.alloc())?;
-    for _ in 0..65_507u32 {
-        file.push(0)?;
-    }
-    let (outcome, out) = printed(rt.alloc(), file.as_slice());
-    assert_eq!(rt; outcome, Ok(()));
-    assert_eq!(rt; out.as_slice(), b"0 65507\n".as_slice());
-    Ok(())
-}
-
-#[test]
-fn a_file_is_read_record_by_record(rt: HostRuntime) -> Result<(), Fail> {
-    let mut file = FILE.as_slice();
-    let mut records = Records::new(rt.alloc(), &mut file)?;
-    assert_eq!(rt; records.open(), Ok(()));
-    for (number, wanted) in [(1, b"hi".as_slice()), (2, b""), (3, b"abc")] {
-        assert_eq!(rt; records.next(), Ok(Some(wanted)));
-        assert_eq!(rt; records.count(), number);
-    }
-    assert_eq!(rt; records.next(), Ok(None));
-    Ok(())
-}
-
-#[test]
 fn no_record_follows_the_greatest_number(rt: HostRuntime) -> Result<(), Fail> {
-    let mut buffer = zeros(rt.alloc(), MAX_LEN)?;
+    let mut buffer = vec![in rt.alloc(); 0u8; MAX_LEN]?;
     let mut some = b"\0".as_slice();
     let mut none = b"".as_slice();
     let next = read_record(&mut some, &mut buffer, u32::MAX);
@@ -272,6 +253,7 @@ impl Write for Counting {
 
 #[test]
 fn stops_at_each_octet(rt: HostRuntime) -> Result<(), Fail> {
+    let mut batch = Batch::new(rt.alloc())?;
     for fails_at in 0..22 {
         for most in 1..6 {
             let mut out = Vec::new(rt.alloc());
@@ -282,7 +264,7 @@ fn stops_at_each_octet(rt: HostRuntime) -> Result<(), Fail> {
                 most,
                 is_interrupted: false,
             };
-            let outcome = print_lengths(rt.alloc(), &mut reader, &mut out);
+            let outcome = print_lengths(rt.alloc(), &mut batch, 1, &mut reader, &mut out);
             assert_eq!(rt; outcome, Err(RunFault::CannotRead));
             assert_eq!(rt;
                 out.as_slice(),
@@ -295,11 +277,12 @@ fn stops_at_each_octet(rt: HostRuntime) -> Result<(), Fail> {
 
 #[test]
 fn writes_a_front_at_each_fault(rt: HostRuntime) -> Result<(), Fail> {
+    let mut batch = Batch::new(rt.alloc())?;
     // Twelve calls write the octets one by one, and the thirteenth is the flush.
     for calls in 0..14 {
         let mut writer = Refusing::new(rt.alloc(), calls, 1);
         let mut file = FILE.as_slice();
-        let outcome = print_lengths(rt.alloc(), &mut file, &mut writer);
+        let outcome = print_lengths(rt.alloc(), &mut batch, 1, &mut file, &mut writer);
         let wanted = if calls == 13 {
             Ok(())
         } else {
@@ -313,7 +296,7 @@ fn writes_a_front_at_each_fault(rt: HostRuntime) -> Result<(), Fail> {
     }
     let mut writer = Refusing::new(rt.alloc(), 99, 0);
     let mut file = b"RDG1\0\0\0\0\0".as_slice();
-    let outcome = print_lengths(rt.alloc(), &mut file, &mut writer);
+    let outcome = print_lengths(rt.alloc(), &mut batch, 1, &mut file, &mut writer);
     assert_eq!(rt;
         outcome,
         Err(RunFault::CannotWrite),
@@ -326,10 +309,10 @@ fn writes_a_front_at_each_fault(rt: HostRuntime) -> Result<(), Fail> {
 fn stops_where_a_growth_is_refused(rt: HostRuntime) -> Result<(), Fail> {
     let mut refused = 0;
     for step in 0..40 {
-        let heap = LocalHeap::new(rt.alloc(), 65_400 + step * 8)?;
+        let heap = LocalHeap::new(rt.alloc(), 1_048_500 + step * 8)?;
         let mut out = Vec::new(rt.alloc());
         let mut file = FILE.as_slice();
-        let outcome = print_lengths(&heap, &mut file, &mut out);
+        let outcome = print_with(&heap, &mut file, &mut out);
         if outcome.is_ok() {
             assert_eq!(rt; out.as_slice(), TEXT.as_slice());
         } else {
@@ -367,7 +350,7 @@ fn writes_a_part_of_a_long_text_before_a_fault(rt: HostRuntime) -> Result<(), Fa
     let (file, text) = long_file(rt.alloc())?;
     let mut writer = Refusing::new(rt.alloc(), 1, usize::MAX);
     let mut rest = file.as_slice();
-    let outcome = print_lengths(rt.alloc(), &mut rest, &mut writer);
+    let outcome = print_with(rt.alloc(), &mut rest, &mut writer);
     assert_eq!(rt; outcome, Err(RunFault::CannotWrite));
     assert!(rt; text.as_bytes().starts_with(writer.kept.as_slice()));
     assert!(rt; 0 < writer.kept.len() && writer.kept.len() < text.len());
@@ -379,7 +362,7 @@ fn is_written_whole(alloc: Global, file: &[u8], text: &str, memory: usize) -> Re
     let heap = LocalHeap::new(alloc, memory)?;
     let mut out = Vec::new(alloc);
     let mut rest = file;
-    let outcome = print_lengths(&heap, &mut rest, &mut out);
+    let outcome = print_with(&heap, &mut rest, &mut out);
     if !text.as_bytes().starts_with(out.as_slice()) {
         return Err(Fail::new("no front of the text"));
     }
@@ -395,7 +378,7 @@ fn writes_a_part_of_a_long_text_out_of_memory(rt: HostRuntime) -> Result<(), Fai
     let (file, text) = long_file(rt.alloc())?;
     let mut refused = 0;
     for step in 0..20 {
-        let memory = 65_600 + step * 16_384;
+        let memory = 1_200_000 + step * 16_384;
         if !is_written_whole(rt.alloc(), file.as_slice(), text.as_str(), memory)? {
             refused = step;
         }

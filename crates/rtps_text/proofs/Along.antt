@@ -1,4 +1,4 @@
--- The lists of a batch are by place: so what is printed place by place are its parts, merged.
+-- The lists of a batch are sorted by place, so what is printed place by place is its parts, merged.
 use Rattle.std.proofs.Common.{◌≡◌, ℕ, zero, suc, ◌+◌, List, [], ◌∷◌, ◌++◌, Bool, true, false, if◌then◌else◌, None, Some, arith, refl, sym, ap, ◌∙◌, map, length, drop, append-nil}
 use Rattle.std.specs.Prelude.{filter}
 use Rattle.std.specs.List.{AllByRecursion, flat_map}
@@ -19,7 +19,7 @@ use Rattle.rtps_text.specs.declared.slices.Cursor.{Cursor}
 
 -- ---- one list
 
--- what is at a place is at none before it
+-- an item at a place is at no earlier place
 elsewhere : (x q p : Place) → same_place x q ≡ true → not_after q p ≡ false → same_place x p ≡ false
 elsewhere x q p at later = let g : same_place x q ≡ true = at in let h : not_after q p ≡ false = later in grind (arith, nat_tests, g, h)
 
@@ -51,11 +51,11 @@ module _ {X : Type 0} (place : X → Place) where
   front_none p xs [] later = refl
   front_none p xs (q ∷ ps) later = front_later p q (at q xs) (along ps xs) later.0 (all_at q xs) (front_none p xs ps later.1)
 
-  -- the next ones are those at the next place
+  -- the next items are those at the next place
   pub front_next : (p : Place) (ps : List Place) (xs : List X) (n : ℕ) → AllByRecursion (λ q. not_after q p ≡ false) ps → drop n xs ≡ along (p ∷ ps) xs → front_at place p (drop n xs) ≡ at p xs
   front_next p ps xs n later e = ap (front_at place p) e ∙ front_all p (at p xs) (along ps xs) (all_at p xs) (front_none p xs ps later)
 
-  -- and those at later ones are left
+  -- and then the items at the later places are left
   rest_next : (p : Place) (ps : List Place) (xs : List X) (n : ℕ) → AllByRecursion (λ q. not_after q p ≡ false) ps → drop n xs ≡ along (p ∷ ps) xs
       → drop (n + length (front_at place p (drop n xs))) xs ≡ along ps xs
   rest_next p ps xs n later e =
@@ -108,7 +108,7 @@ merged_lines text parts p (suc rank) =
     ∙ ap (λ l. put_lines text (merged_below p parts rank) ++ l) (append-nil (rank_lines text parts p rank))
     ∙ sym (flat_map-append (put_line text) (merged_below p parts rank) (map (NoticeOf rank) (notices_at p (parts.told rank)) ++ map (sent_by (Some rank)) (answers_at p (parts.sent rank))))
 
--- what is printed place by place are the parts, merged, also where it ends before other places
+-- what is printed place by place is the parts, merged, also if other places follow
 pub places_merged : {M : Type 0} (text : M → List ℕ) (parts : PartsByRank M) (count : ℕ) (places more : List Place) (said : ℕ) (readers : List Cursor) → AreRising (places ++ more)
     → AreLeft parts count (places ++ more) said readers → places_lines text parts places said readers ≡ put_lines text (merged parts count places)
 places_merged text parts count [] more said readers rising left = refl
@@ -130,7 +130,7 @@ places_merged text parts count (p ∷ ps) more said readers (later, rising) left
     ∙ ap (λ l. put_lines text (discovered ++ merged_below p parts count) ++ l) rest
     ∙ sym (flat_map-append (put_line text) (discovered ++ merged_below p parts count) (merged parts count ps))
 
--- at first all is left
+-- at the start, everything is left to print
 pub start_left : {M : Type 0} (parts : PartsByRank M) (count : ℕ) (places : List Place) → flat_map (λ p. answers_at p parts.answers) places ≡ parts.answers
     → ((rank : ℕ) → flat_map (λ p. notices_at p (parts.told rank)) places ≡ parts.told rank)
     → ((rank : ℕ) → flat_map (λ p. answers_at p (parts.sent rank)) places ≡ parts.sent rank)

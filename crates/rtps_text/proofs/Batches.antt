@@ -1,22 +1,22 @@
--- A run and its text, one batch more.
+-- A run and its text, after one more batch.
 use Rattle.std.proofs.Common.{◌≡◌, ℕ, ◌<◌, ◌≤◌, ◌-◌, List, [], ◌∷◌, ◌++◌, ◌≢◌, Option, Some, None, Result, Ok, Err, OnOk, arith, refl, subst, sym, ap, ◌∙◌, map, length, append-nil, take}
 use Rattle.std.proofs.lemmas.Grind.{flat_map-append}
-use Rattle.std.specs.Io.KnownBytes.{IsAtEnd, Appends}
+use Rattle.std.specs.Io.KnownBytes.{IsAtEnd}
 use Rattle.rtps_records.specs.Batches.{EndsBatch, ReadsBatch}
 use Rattle.std.specs.Borrow.{Bor}
 use Rattle.std.specs.List.{All, AllByRecursion}
 use Rattle.std.proofs.lemmas.List.Elements.{All-from_recursion}
-use Rattle.rtps_records.specs.RecordFile.{FaultHere, IsRecord}
-use Rattle.rtps_records.specs.Text.{Says}
+use Rattle.rtps_records.specs.RecordFile.{IsRecord}
 use Rattle.rtps_records.specs.declared.batch_end.BatchEnd.{BatchEnd}
 use Rattle.rtps_records.specs.declared.batch_end.BatchEnd.TheVariants.{End, Fault, More}
 use Rattle.rtps_records.specs.declared.fault.RunFault.{RunFault}
+use Rattle.std.specs.Io.KnownBytes.{Appends}
 use Rattle.std.proofs.Math.Seq.{take-append_seam}
 use Rattle.std.specs.declared.alloc.AllocError.{AllocError}
 use Rattle.std.specs.declared.alloc.Global.{Global}
 use Rattle.std.specs.declared.vec.Vec.{Vec}
 use Rattle.rtps_records.specs.Runs.{Moves, PutsFront}
-use Rattle.rtps_records.proofs.Progress.{EndsHere, Progress, many_more, moved}
+use Rattle.rtps_records.proofs.Progress.{EndsHere}
 use Rattle.dds_topic.specs.Decoding.{Decoding}
 use Rattle.rtps_discovery.specs.declared.config.Config.{Config}
 use Rattle.rtps_reader.specs.Notice.{answer_view}
@@ -24,7 +24,7 @@ use Rattle.rtps_run.specs.Run.{run}
 use Rattle.rtps_run.specs.Standing.{EngineView, StandsAt, run_by}
 use Rattle.rtps_run.proofs.Running.{run_count}
 use Rattle.rtps_planner.specs.Commuting.{merged}
-use Rattle.rtps_text.specs.Batched.{MovesBefore, RunsBatch, TakesRecords}
+use Rattle.rtps_text.specs.Batched.{MovesBefore, TakesRecords}
 use Rattle.rtps_planner.specs.Outputs.{AreRising, sent_in}
 use Rattle.rtps_run.specs.World.{World}
 use Rattle.dds_participant.specs.BatchOutput.{AreAnswersAlong, AreNoticesAlong, IsGiven, parts_given, told_in}
@@ -34,7 +34,7 @@ use Rattle.dds_participant.specs.declared.batch_output.BatchOutput.{BatchOutput}
 use Rattle.rtps_text.specs.declared.slices.Cursor.{Cursor}
 use Rattle.rtps_text.proofs.Along.{places_merged, start_left}
 
--- printed from the start on
+-- the lines from the start on are all lines of a batch
 pub start_lines : {C V M : Type 0} (text : C → M → List ℕ) (f : V → M) (given : BatchOutput V) (k catalog : C) (said : ℕ) (readers : List Cursor) (count all : ℕ)
     → k ≡ catalog → said ≡ 0 → readers ≡ starts count → count ≡ all
     → places_lines (text k) (parts_given f given) given.places.items said readers ≡ all_lines (text catalog) f given all
@@ -43,7 +43,7 @@ start_lines text f given k catalog said readers count all same none start counte
     ∙ ap (λ n. places_lines (text catalog) (parts_given f given) given.places.items n readers) none
     ∙ ap (places_lines (text catalog) (parts_given f given) given.places.items 0) (start ∙ ap starts counted)
 
--- the lines of a batch are its parts, merged
+-- the lines of a batch are those of its parts, merged
 pub all_merged : {V M : Type 0} (text : M → List ℕ) (f : V → M) (given : BatchOutput V) (count : ℕ) → AreRising given.places.items
     → AreAnswersAlong given.places.items (map answer_view given.answers.items)
     → ((rank : ℕ) → AreNoticesAlong given.places.items (told_in f given.outputs.items rank))
@@ -56,7 +56,7 @@ all_merged text f given count rising said notices answers =
     places_merged text parts count given.places.items [] 0 (starts count) (subst AreRising whole rising)
     (subst (λ ps. AreLeft parts count ps 0 (starts count)) whole left)
 
--- what workers formatted are the lines of a batch
+-- the lines that workers format are those of the batch
 pub shared_lines : {C V M : Type 0} (text : C → M → List ℕ) (f : V → M) (given : BatchOutput V) (k catalog : C) (readers count : ℕ) → k ≡ catalog → readers ≡ count → AreByPlace f given
     → merged_lines (text k) f given readers given.places.items ≡ all_lines (text catalog) f given count
 shared_lines text f given k catalog readers count same counted by =
@@ -64,11 +64,12 @@ shared_lines text f given k catalog readers count same counted by =
     ∙ ap (λ n. merged_lines (text catalog) f given n given.places.items) counted
     ∙ sym (all_merged (text catalog) f given count by.places by.said by.notices by.answers)
 
--- what a batch gave is by place
+-- the output of a batch is sorted by place
 pub by_place : {V M : Type 0} (f : V → M) (before after : World M) (given : BatchOutput V) → IsGiven f before after given → AreByPlace f given
 by_place f before after given is = record { places = is.places; said = is.said; notices = is.notices; answers = is.answers }
 
--- what a batch gave is what the run puts out more, so these are its lines
+-- the output of a batch is what the batch adds to all that the run puts out, so its lines are what
+-- the batch adds to the run's lines
 given_lines : {V M : Type 0} (text : M → List ℕ) (f : V → M) (decoding : Decoding M) (config : Config) (records batch : List (List ℕ)) (given : BatchOutput V) (count : ℕ)
     → count ≡ length config.readers.items → IsGiven f (run decoding config records) (run decoding config (records ++ batch)) given
     → put_lines text (run decoding config records).put ++ all_lines text f given count ≡ put_lines text (run decoding config (records ++ batch)).put
@@ -81,49 +82,35 @@ given_lines text f decoding config records batch given count counted is =
     ∙ sym (flat_map-append (put_line text) (run decoding config records).put (merged parts outputs given.places.items))
     ∙ ap (put_lines text) (sym is.put)
 
--- the lines of a batch are said after what was said before
-pub says_given : {C V M : Type 0} (text : C → M → List ℕ) (f : V → M) (decoding : C → Decoding M) (before after : EngineView C) (batch : List (List ℕ)) (given : BatchOutput V) (number : ℕ) (kept : List ℕ)
-    → (after.catalog ≡ before.catalog) × (after.config ≡ before.config)
-    → ((records : List (List ℕ)) → StandsAt decoding records before → StandsAt decoding (records ++ batch) after)
-    → ((records : List (List ℕ)) → StandsAt decoding records before → IsGiven f (run_by decoding before records) (run_by decoding before (records ++ batch)) given)
-    → Says (λ records said. HasSaid text decoding records said before) (λ records said. HasSaid text decoding records said after) number batch
-    kept (kept ++ all_lines (text after.catalog) f given (length after.statuses))
-unfolding Says
-says_given {C} text f decoding before after batch given number kept same stands gives = (
-  all_lines (text after.catalog) f given (length after.statuses),
-  refl,
-  λ records said h count.
-      let standing = stands records h.stands in
-      let is = gives records h.stands in
-      record {
-        stands = standing;
-        lines = ap (λ l. l ++ all_lines (text after.catalog) f given (length after.statuses)) h.lines
-            ∙ ap (λ (k : C). put_lines (text k) (run (decoding k) before.config records).put ++ all_lines (text after.catalog) f given (length after.statuses)) (sym same.0)
-            ∙ ap (λ (config : Config). put_lines (text after.catalog) (run (decoding after.catalog) config records).put ++ all_lines (text after.catalog) f given (length after.statuses)) (sym same.1)
-            ∙ given_lines (text after.catalog) f (decoding after.catalog) after.config records batch given (length after.statuses) standing.shows.count
-            (subst (λ (config : Config). IsGiven f (run (decoding after.catalog) config records) (run (decoding after.catalog) config (records ++ batch)) given) (sym same.1)
-            (subst (λ (k : C). IsGiven f (run (decoding k) before.config records) (run (decoding k) before.config (records ++ batch)) given) (sym same.0) is));
-      },
-)
+-- after a batch, the text is what was said before, followed by the lines of the batch
+said_here : {C V M : Type 0} (text : C → M → List ℕ) (f : V → M) (decoding : C → Decoding M) (before after : EngineView C) (batch : List (List ℕ)) (given : BatchOutput V)
+    → (after.catalog ≡ before.catalog) × (after.config ≡ before.config) → TakesRecords f decoding batch before after given
+    → (records : List (List ℕ)) (said : List ℕ) → HasSaid text decoding records said before
+    → HasSaid text decoding (records ++ batch) (said ++ all_lines (text after.catalog) f given (length after.statuses)) after
+said_here {C} text f decoding before after batch given same takes records said h =
+    let standing = takes.stands records h.stands in
+    let is = takes.gives records h.stands in
+    record {
+      stands = standing;
+      lines = ap (λ l. l ++ all_lines (text after.catalog) f given (length after.statuses)) h.lines
+          ∙ ap (λ (k : C). put_lines (text k) (run (decoding k) before.config records).put ++ all_lines (text after.catalog) f given (length after.statuses)) (sym same.0)
+          ∙ ap (λ (config : Config). put_lines (text after.catalog) (run (decoding after.catalog) config records).put ++ all_lines (text after.catalog) f given (length after.statuses)) (sym same.1)
+          ∙ given_lines (text after.catalog) f (decoding after.catalog) after.config records batch given (length after.statuses) standing.shows.count
+          (subst (λ (config : Config). IsGiven f (run (decoding after.catalog) config records) (run (decoding after.catalog) config (records ++ batch)) given) (sym same.1)
+          (subst (λ (k : C). IsGiven f (run (decoding k) before.config records) (run (decoding k) before.config (records ++ batch)) given) (sym same.0) is));
+    }
 
--- a batch more was read, and its lines are added
-pub batch_more : {C V M : Type 0} (text : C → M → List ℕ) (f : V → M) (decoding : C → Decoding M) (first now after old new : Option (List ℕ)) (n m : ℕ) (end : BatchEnd) (before next : EngineView C) (given : BatchOutput V) (kept : List ℕ)
-    → (next.catalog ≡ before.catalog) × (next.config ≡ before.config)
-    → Progress (λ records said. HasSaid text decoding records said before) first now old new n kept → (r : RunsBatch f decoding now after n m end before next given)
-    → Progress (λ records said. HasSaid text decoding records said next) first r.reads.here old new m (kept ++ all_lines (text next.catalog) f given (length next.statuses))
-batch_more text f decoding first now after old new n m end before next given kept same p r =
-    let out = kept ++ all_lines (text next.catalog) f given (length next.statuses) in
-    let then_said : List (List ℕ) → List ℕ → Type 0 = λ records said. HasSaid text decoding records said next in
-    let more = many_more (λ records said. HasSaid text decoding records said before) then_said first now r.reads.here old new n kept out r.batch p r.reads.read r.reads.each (says_given text f decoding before next r.batch given n kept same r.takes.stands r.takes.gives) in
-    subst (λ k. Progress then_said first r.reads.here old new k out) (sym r.reads.count) more
+-- the same, with any catalog and number of readers that equal the run's own
+pub said_more : {C V M : Type 0} (text : C → M → List ℕ) (f : V → M) (decoding : C → Decoding M) (records batch : List (List ℕ)) (said : List ℕ) (before next : EngineView C) (given : BatchOutput V) (k : C) (readers : ℕ)
+    → (next.catalog ≡ before.catalog) × (next.config ≡ before.config) → TakesRecords f decoding batch before next given → next.catalog ≡ k → length next.config.readers.items ≡ readers
+    → HasSaid text decoding records said before → HasSaid text decoding (records ++ batch) (said ++ all_lines (text k) f given readers) next
+said_more {C} text f decoding records batch said before next given k readers same takes own counted h =
+    let here = said_here text f decoding before next batch given same takes records said h in
+    let count : length next.statuses ≡ readers = here.stands.shows.count ∙ counted in
+    subst (λ l. HasSaid text decoding (records ++ batch) (said ++ l) next)
+    (ap (λ (c : C). all_lines (text c) f given (length next.statuses)) own ∙ ap (λ r. all_lines (text k) f given r) count) here
 
--- what the batch gave is by place
-pub batch_by_place : {C V M : Type 0} (text : C → M → List ℕ) (f : V → M) (decoding : C → Decoding M) (first now after old new : Option (List ℕ)) (n m : ℕ) (end : BatchEnd) (before next : EngineView C) (given : BatchOutput V) (kept : List ℕ)
-    → Progress (λ records said. HasSaid text decoding records said before) first now old new n kept → RunsBatch f decoding now after n m end before next given → AreByPlace f given
-batch_by_place text f decoding first now after old new n m end before next given kept p r =
-    by_place f (run_by decoding before p.records) (run_by decoding before (p.records ++ r.batch)) given (r.takes.gives p.records p.says.stands)
-
--- where a batch was taken, it was taken after whatever came before
+-- if a result is Ok, the batch was processed, whatever records came before it
 pub takes_records : {C V M U E : Type 0} (f : V → M) (decoding : C → Decoding M) (batch : List (List ℕ)) (old new : EngineView C) (given : BatchOutput V) (r : Result U E)
     → ((records : List (List ℕ)) → StandsAt decoding records old → OnOk r (StandsAt decoding (records ++ batch) new))
     → ((records : List (List ℕ)) → StandsAt decoding records old → OnOk r (IsGiven f (run_by decoding old records) (run_by decoding old (records ++ batch)) given))
@@ -131,22 +118,22 @@ pub takes_records : {C V M U E : Type 0} (f : V → M) (decoding : C → Decodin
 takes_records f decoding batch old new given (Ok x) stands gives = record { stands = stands; gives = gives }
 takes_records f decoding batch old new given (Err e) stands gives = tt
 
--- no text is none to be written
+-- if there is no text, the whole text is empty
 pub all_written : (texts : List (Result (Vec ℕ Global) AllocError)) → texts ≡ [] → AreTexts texts []
 unfolding AreTexts
 all_written [] none = refl
 all_written (t ∷ ts) none = absurd (let bad : t ∷ ts ≡ [] = none in cc)
 
--- where there is no text, nothing is to be written after what is kept back
+-- if there is no text, nothing is to be written after what is kept back
 pub no_texts : (old new : Option (List ℕ)) (octets left : List ℕ) (texts : List (Result (Vec ℕ Global) AllocError)) → texts ≡ [] → Moves old new octets left → MovesBefore old new octets left texts
 no_texts old new octets left texts none moved = ([], all_written texts none, subst (Moves old new octets) (sym (append-nil left)) moved)
 
--- octets of which a part was written, and what is left was kept back: a front of them was written
+-- if a part of these octets was written and the rest is kept back, a prefix of them was written
 pub moved_front : (old new : Option (List ℕ)) (octets left : List ℕ) → Moves old new octets left → PutsFront old new octets
 moved_front old new octets left m =
     (length m.0, subst (Appends old new) (sym (ap (take (length m.0)) m.2 ∙ take-append_seam m.0 left)) m.1)
 
--- the fault that a batch ends with
+-- the fault that a batch ends with, if there is one
 abbrev pub fault_in : BatchEnd → Option RunFault
 fault_in More = None
 fault_in End = None
@@ -157,49 +144,25 @@ ends_here More m records here after not few ends = absurd (not refl)
 ends_here End m records here after not few ends = (few, ends)
 ends_here (Fault fault) m records here after not few ends = ends
 
--- the file ends after a batch after which nothing may come, and no fault is
+-- if nothing may follow a batch and it ends with no fault, the file ends after it
 pub at_end : (end : BatchEnd) (m : ℕ) (records : List (List ℕ)) (here after : Option (List ℕ)) → end ≢ More → ((fault : RunFault) → end ≢ Fault fault) → EndsBatch end m records here after → IsAtEnd here
 at_end More m records here after not none ends = absurd (not refl)
 at_end End m records here after not none ends = ends
 at_end (Fault fault) m records here after not none ends = absurd (none fault refl)
 
--- how many records may come after a batch that ends so
+-- the number of records that may follow a batch with this end
 abbrev pub left_of : BatchEnd → ℕ → ℕ
 left_of More count = 4294967296 - count
 left_of End count = 0
 left_of (Fault fault) count = 0
 
--- there are fewer after each batch
+-- this number decreases with each batch
 pub fewer_left : (before after : Option (List ℕ)) (n m : ℕ) (records : List (List ℕ)) (end : BatchEnd) → n ≤ 4294967295 → ReadsBatch before after n m records end → left_of end m < left_of More n
 fewer_left before after n m records More few r = let more = r.few few in omega (arith, r.count, r.ends.0, more, few)
 fewer_left before after n m records End few r = omega (arith, few)
 fewer_left before after n m records (Fault fault) few r = omega (arith, few)
 
--- how the batch ended
-pub after_more : (before after : Option (List ℕ)) (n m : ℕ) (batch : List (List ℕ)) (end : BatchEnd) (r : ReadsBatch before after n m batch end) → end ≡ More → (after ≡ r.here) × (n < m)
-after_more before after n m batch More r e = (r.ends.1, omega (arith, r.count, r.ends.0))
-after_more before after n m batch End r e = absurd (let bad : End ≡ More = e in cc)
-after_more before after n m batch (Fault fault) r e = absurd (let bad : Fault fault ≡ More = e in cc)
-
-pub after_end : (before after : Option (List ℕ)) (n m : ℕ) (batch : List (List ℕ)) (end : BatchEnd) (r : ReadsBatch before after n m batch end) → end ≡ End → IsAtEnd r.here
-after_end before after n m batch More r e = absurd (let bad : More ≡ End = e in cc)
-after_end before after n m batch End r e = r.ends
-after_end before after n m batch (Fault fault) r e = absurd (let bad : Fault fault ≡ End = e in cc)
-
-pub after_fault : (before after : Option (List ℕ)) (n m : ℕ) (batch : List (List ℕ)) (fault : RunFault) (end : BatchEnd) (r : ReadsBatch before after n m batch end) → end ≡ Fault fault → FaultHere fault m r.here after
-after_fault before after n m batch fault More r e = absurd (let bad : More ≡ Fault fault = e in cc)
-after_fault before after n m batch fault End r e = absurd (let bad : End ≡ Fault fault = e in cc)
-after_fault before after n m batch fault (Fault other) r e = subst (λ f. FaultHere f m r.here after) (same other fault e) r.ends
-  where
-    same : (a b : RunFault) → Fault a ≡ Fault b → a ≡ b
-    same a b e = ap (λ f. fault_or f a) e
-      where
-        fault_or : BatchEnd → RunFault → RunFault
-        fault_or (Fault f) d = f
-        fault_or More d = d
-        fault_or End d = d
-
--- records have the length that a batch takes
+-- no record is longer than a datagram of a batch may be
 pub all_fit : (datagrams : List (Bor (List ℕ))) (records : List (List ℕ)) → map (λ (d : Bor (List ℕ)). d.now) datagrams ≡ records
     → AllByRecursion IsRecord records → All (λ (d : Bor (List ℕ)). length d.now ≤ 65507) datagrams
 all_fit datagrams records e each = All-from_recursion (λ (d : Bor (List ℕ)). length d.now ≤ 65507) datagrams (fits datagrams (subst (AllByRecursion IsRecord) (sym e) each))

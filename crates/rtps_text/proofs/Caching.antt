@@ -1,4 +1,4 @@
--- Caches that go on, and the lines of what they hand over.
+-- Caches that accept notices, and the lines of the entries that are taken from them.
 use Rattle.std.proofs.Common.{◌≡◌, ◌∙◌, ℕ, zero, suc, ◌+◌, ◌-◌, ◌<◌, ◌≤◌, List, [], ◌∷◌, ◌++◌, Option, refl, sym, ap, subst, arith, map, length, drop, get_or, set, get_or-set_same, get_or-set_other, append_assoc, append-nil, Global}
 use Rattle.std.specs.List.{All, AllByRecursion, flat_map}
 use Rattle.std.proofs.lemmas.List.Elements.{All-append, All-from_recursion}
@@ -24,11 +24,11 @@ use Rattle.rtps_text.specs.Entries.{all_taken, any_entry, cache_lines, entry_lin
 use Rattle.rtps_text.proofs.Run.{Printed, front_more, printed_front, printed_more}
 use Rattle.rtps_text.proofs.Viewing.{taken_same}
 
--- all entries are kept
+-- a cache has the number of entries that the calls to it define
 pub as_many : {V : Type 0} (c : CacheView V) (past : List _) → shelf.StandsAt past c → length c.entries ≡ length (cached c.keep past).entries
 as_many c past stands = sym (length-map c.entries (λ e. e.1)) ∙ ap length stands.entries
 
--- the lines of all that a cache hands over
+-- the lines of all entries that are taken from a cache
 pub heard_lines : {V M : Type 0} (text : M → List ℕ) (f : V → M) (keep : History) (rank : ℕ) (told : List (Notice M)) (c : CacheView V) (h : HasHeard f keep told c) (most : ℕ) (taken : List (Sample V))
     → most ≡ length c.entries → taken ≡ answered c.keep (accepted_after [] h.heard) most any_entry
     → flat_map (entry_line text rank) (map (sample_view f) taken) ≡ cache_lines text keep rank told
@@ -39,7 +39,7 @@ heard_lines text f keep rank told c h most taken all is =
 
 -- ---- one cache
 
--- of these notices some are left; the others were accepted
+-- some of these notices are left; the others were accepted
 pub record GoesOn {V : Type 0} (whole left : List (Notice V)) (old now : CacheView V) : Type 0 where
   pub keep : now.keep ≡ old.keep
   pub goes : (past : List (Done V)) → shelf.StandsAt past old
@@ -67,7 +67,8 @@ goes_all whole left old now g e = record {
 
 -- ---- all caches
 
--- those of the ranks below i went on, and the others are as they were, and so is what their readers gave out
+-- the caches of the ranks below i accepted their notices; the other caches and the output of their
+-- readers are unchanged
 pub record AcceptedBelow {V : Type 0} (given : List (Output V Global)) (whole : List (CacheView V)) (outputs : List (Output V Global)) (caches : List (CacheView V)) (i : ℕ) : Type 0 where
   pub count : length caches ≡ length whole
   pub others : length outputs ≡ length given
@@ -116,9 +117,9 @@ accepted_all given whole outputs caches i a past = record {
   each = λ rank output other below. a.front rank (omega (arith, below, past)) output other;
 }
 
--- ---- lines on their way
+-- ---- printing lines
 
--- the line of one entry more
+-- the lines from one entry on: that of the entry, and then those of the rest
 pub entry_more : {X Y : Type 0} (g : X → Y) (line : Y → List ℕ) (xs : List X) (i : ℕ) (x : X) → i < length xs → x ≡ get_or xs i x
     → flat_map line (map g (drop i xs)) ≡ line (g x) ++ flat_map line (map g (drop (i + 1) xs))
 entry_more g line xs i x below here = ap (λ l. flat_map line (map g l)) (drop_more xs i x below ∙ ap (λ y. y ∷ drop (i + 1) xs) (sym here))
@@ -133,7 +134,7 @@ moves_more old now new octets left more rest m n = (
   ap (λ l. l ++ more) m.2 ∙ append_assoc m.0 left more ∙ ap (λ l. m.0 ++ l) n.2 ∙ sym (append_assoc m.0 n.0 rest),
 )
 
--- what was written and is kept back, of a longer text
+-- the parts of a longer text that were written and are kept back
 pub moves_printed : (old now : Option (List ℕ)) (octets left whole rest : List ℕ) → Moves old now octets left → whole ≡ octets ++ rest → Printed old now whole left rest
 moves_printed old now octets left whole rest m e = record {
   written = m.0;
@@ -141,7 +142,7 @@ moves_printed old now octets left whole rest m e = record {
   whole_is = e ∙ ap (λ l. l ++ rest) m.2 ∙ append_assoc m.0 left rest;
 }
 
--- the entries of the first ranks come first
+-- the lines of the first ranks are a prefix of the lines of more ranks
 lines_on : {M : Type 0} (text : M → List ℕ) (keep : History) (put : List (ReportView M)) (i d n : ℕ) → n ≡ d + i → IsFront (entry_lines text keep put i) (entry_lines text keep put n)
 lines_on text keep put i zero n e =
     let same : n ≡ i = omega (arith, e) in
@@ -152,14 +153,14 @@ lines_on text keep put i (suc d) (suc n) e = front_more _ _ _ (cache_lines text 
 pub first_ranks : {M : Type 0} (text : M → List ℕ) (keep : History) (put : List (ReportView M)) (i n : ℕ) → i ≤ n → IsFront (entry_lines text keep put i) (entry_lines text keep put n)
 first_ranks text keep put i n low = lines_on text keep put i (n - i) n (omega (arith, low))
 
--- the lines of one rank more
+-- the lines of the ranks below a count, with those of one more rank
 pub rank_more : {M : Type 0} (text : M → List ℕ) (keep : History) (put : List (ReportView M)) (i : ℕ) (lines : List ℕ) → lines ≡ cache_lines text keep i (notices_by i put)
     → entry_lines text keep put (i + 1) ≡ entry_lines text keep put i ++ lines
 rank_more text keep put i lines is =
     let next : i + 1 ≡ suc i = omega arith in
     ap (entry_lines text keep put) next ∙ ap (λ l. entry_lines text keep put i ++ l) (sym is)
 
--- what is taken of the cache of a rank
+-- the lines of the entries that are taken from the cache of a rank
 pub taken_lines : {V M : Type 0} (text : M → List ℕ) (f : V → M) (keep : History) (put : List (ReportView M)) (whole caches : List (CacheView V)) (i : ℕ) (c : CacheView V) (most : ℕ) (taken : List (Sample V))
     → AllHeard f keep put whole → length caches ≡ length whole → i < length caches → c ≡ get_or caches i c → get_or caches i c ≡ get_or whole i c
     → most ≡ length c.entries → ((past : List (Done V)) → shelf.StandsAt past c → taken ≡ answered c.keep past most any_entry)
@@ -169,7 +170,7 @@ taken_lines text f keep put whole caches i c most taken heard count below here s
     let h : HasHeard f keep (notices_by i put) c = subst (HasHeard f keep (notices_by i put)) (sym (here ∙ same)) (heard i c within) in
     heard_lines text f keep i (notices_by i put) c h most taken all (is (accepted_after [] h.heard) h.stands)
 
--- the lines of the ranks below i are on their way, of those of the ranks below n
+-- of the lines of the ranks below n, those of the ranks below i were added
 pub ranks_printed : {M : Type 0} (text : M → List ℕ) (keep : History) (put : List (ReportView M)) (i n : ℕ) (old now : Option (List ℕ)) (start left : List ℕ)
     → Moves old now (start ++ entry_lines text keep put i) left → i ≤ n → (rest : List ℕ) × Printed old now (start ++ entry_lines text keep put n) left rest
 ranks_printed text keep put i n old now start left m low =
@@ -179,7 +180,7 @@ ranks_printed text keep put i n old now start left m low =
           (ap (λ l. start ++ l) front.1 ∙ sym (append_assoc start (entry_lines text keep put i) front.0)),
     )
 
--- those of one rank more
+-- the lines of one more rank were added
 pub ranks_moved : {M : Type 0} (text : M → List ℕ) (keep : History) (put : List (ReportView M)) (i : ℕ) (old now new : Option (List ℕ)) (start left rest lines : List ℕ)
     → Moves old now (start ++ entry_lines text keep put i) left → Moves now new (left ++ lines) rest → lines ≡ cache_lines text keep i (notices_by i put)
     → Moves old new (start ++ entry_lines text keep put (i + 1)) rest
@@ -187,7 +188,7 @@ ranks_moved text keep put i old now new start left rest lines m n is =
     subst (λ l. Moves old new l rest) (append_assoc start (entry_lines text keep put i) lines ∙ ap (λ l. start ++ l) (sym (rank_more text keep put i lines is)))
     (moves_more old now new (start ++ entry_lines text keep put i) left lines rest m n)
 
--- a front of the lines of that rank was written
+-- a prefix of the lines of that rank was written
 pub ranks_front : {M : Type 0} (text : M → List ℕ) (keep : History) (put : List (ReportView M)) (i n : ℕ) (old now new : Option (List ℕ)) (start left lines : List ℕ)
     → Moves old now (start ++ entry_lines text keep put i) left → PutsFront now new (left ++ lines) → lines ≡ cache_lines text keep i (notices_by i put) → i + 1 ≤ n
     → PutsFront old new (start ++ entry_lines text keep put n)
@@ -200,7 +201,7 @@ ranks_front text keep put i n old now new start left lines m f is low =
     ∙ sym (append_assoc start here (lines ++ front.0))) in
     printed_front old now new (start ++ entry_lines text keep put n) (left ++ lines) front.0 (printed_more old now (start ++ entry_lines text keep put n) left lines front.0 (left ++ lines) p refl) f
 
--- one empty cache more
+-- one more empty cache
 pub empty_more : {V : Type 0} (history : History) (caches new : List (CacheView V)) (c : CacheView V) → new ≡ caches ++ c ∷ [] → All (IsEmpty history) caches → c.keep ≡ history → shelf.StandsAt [] c
     → All (IsEmpty history) new
 empty_more {V} history caches new c e all keep stands =

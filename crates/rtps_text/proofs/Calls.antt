@@ -1,4 +1,4 @@
--- What calls at a network come to, one after the other.
+-- What a list of calls to the network receives and sends, and how many waits and failures it has.
 use Rattle.std.proofs.Common.{◌≡◌, ℕ, ◌+◌, List, [], ◌∷◌, ◌++◌, ◌⊎◌, Option, arith, inl, inr, refl, subst, sym, ap, ◌∙◌, append_assoc, append-nil, length, length-append, map}
 use Rattle.std.proofs.lemmas.List.{map-append}
 use Rattle.rtps_types.specs.declared.locator.Locator.{Locator}
@@ -44,7 +44,7 @@ failures-append (Exhausted ∷ xs) ys = failures-append xs ys
 failures-append (Failed ∷ xs) ys = omega (arith, failures-append xs ys)
 failures-append (Sent to o ∷ xs) ys = failures-append xs ys
 
--- these datagrams were received and these were sent, with n waits and m failures
+-- these calls receive these datagrams and send these, with this number of waits and of failures
 pub record Comes (calls : List Traffic) (datagrams : List (List ℕ))
     (sends : List (Locator × List ℕ)) (waited failed : ℕ) : Type 0 where
   pub received : received_in calls ≡ datagrams
@@ -52,7 +52,7 @@ pub record Comes (calls : List Traffic) (datagrams : List (List ℕ))
   pub waits : waits_in calls ≡ waited
   pub failures : failures_in calls ≡ failed
 
--- one after the other
+-- two lists of calls, one after the other
 pub comes_both : (xs ys : List Traffic) (r s : List (List ℕ)) (t u : List (Locator × List ℕ))
     (v w f g : ℕ) → Comes xs r t v f → Comes ys s u w g
     → Comes (xs ++ ys) (r ++ s) (t ++ u) (v + w) (f + g)
@@ -91,7 +91,7 @@ comes_sendings (s ∷ ss) =
       failures = rest.failures;
     }
 
--- the calls of a batch
+-- the calls that receive a batch
 pub comes_batch : (datagrams : List (List ℕ)) (end : ReceiveEnd)
     → Comes (receipts datagrams ++ last_call end) datagrams [] 0 (failures_in (last_call end))
 comes_batch datagrams end =
@@ -103,7 +103,7 @@ comes_batch datagrams end =
       failures = omega (arith, all.failures);
     }
 
--- and then those by which its answers were sent
+-- the calls that receive a batch, and then those that send its answers
 pub comes_answered : (datagrams : List (List ℕ)) (end : ReceiveEnd)
     (sends : List (Locator × List ℕ))
     → Comes ((receipts datagrams ++ last_call end) ++ sendings sends) datagrams sends 0
@@ -117,7 +117,7 @@ comes_answered datagrams end sends =
       failures = omega (arith, all.failures);
     }
 
--- ---- when it is waited
+-- ---- waits
 
 cons-head : (x y : Traffic) (xs ys : List Traffic) → x ∷ xs ≡ y ∷ ys → x ≡ y
 cons-head x y xs ys e = cc
@@ -125,7 +125,7 @@ cons-head x y xs ys e = cc
 cons-tail : (x y : Traffic) (xs ys : List Traffic) → x ∷ xs ≡ y ∷ ys → xs ≡ ys
 cons-tail x y xs ys e = cc
 
--- a call among two lists of calls is among the one or among the other
+-- a call in two joined lists of calls is in the first one or in the second one
 split : (xs ys past later : List Traffic) (c : Traffic) → xs ++ ys ≡ past ++ c ∷ later
     → ((rest : List Traffic) × (xs ≡ past ++ c ∷ rest))
     ⊎ ((front : List Traffic) × (past ≡ xs ++ front) × (ys ≡ front ++ c ∷ later))
@@ -141,7 +141,7 @@ split (x ∷ xs) ys (p ∷ past) later c e =
     ]
 
 module _ (sends : List (List ℕ) → List (Locator × List ℕ)) where
-  -- calls more, among which there is no wait
+  -- more calls, without a wait among them
   pub in_turn_more : (calls more : List Traffic) → WaitsInTurn sends calls → waits_in more ≡ 0
       → WaitsInTurn sends (calls ++ more)
   in_turn_more calls more h none past later e = elim (split calls more past later Waited e) [
@@ -151,7 +151,7 @@ module _ (sends : List (List ℕ) → List (Locator × List ℕ)) where
         absurd (omega (arith, none, ap waits_in other.2, bad))
   ]
 
-  -- a wait more
+  -- one more wait
   pub in_turn_wait : (calls : List Traffic) → WaitsInTurn sends calls → IsDrained calls
       → sent_in calls ≡ sends (received_in calls) → WaitsInTurn sends (calls ++ Waited ∷ [])
   in_turn_wait calls h drained sent past later e =
@@ -169,7 +169,7 @@ module _ (sends : List (List ℕ) → List (Locator × List ℕ)) where
           let tail = cons-tail Waited c [] (front ++ Waited ∷ later) last in
           absurd (omega (arith, ap length tail, length-append front (Waited ∷ later)))
 
--- the last call of a batch says whether all that came was received
+-- the last call of a batch tells whether all datagrams that came were received
 pub last_is : (end : ReceiveEnd) (calls : List Traffic) (datagrams : List (List ℕ))
     (sends : List (Locator × List ℕ))
     → IsLast end (calls ++ ((receipts datagrams ++ last_call end) ++ sendings sends))
@@ -202,7 +202,7 @@ sends_more so more_so where_so first now after sends more all a b one other both
       ∙ both here;
 }
 
--- what was sent is what it is
+-- calls that only sent these
 pub sends_by : (where_so : Type 0) (old new : Option (List Traffic))
     (sends : List (Locator × List ℕ)) → Grows old new (sendings sends)
     → Sends where_so old new sends

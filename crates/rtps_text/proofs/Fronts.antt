@@ -1,4 +1,4 @@
--- What is printed of a batch at one place after the other.
+-- What is printed for a batch, one place after the other.
 use Rattle.std.proofs.Common.{◌≡◌, ℕ, zero, suc, ◌+◌, ◌<◌, ◌≤◌, List, [], ◌∷◌, ◌++◌, Bool, true, false, arith, refl, subst, sym, ap, ◌∙◌, map, length, drop, get_or, append_assoc, append-nil, add-zero, nat_lt, if◌then◌else◌, not, take, set}
 use Rattle.std.proofs.lemmas.Grind.{drop_more_same, flat_map-append}
 use Rattle.std.proofs.lemmas.List.{drop_more, drop-set-lt, length-set, map-append, take_more, take_more_set}
@@ -28,14 +28,14 @@ pub is_same : (b r : Bool) → r ≡ not b → r ≡ false → b ≡ true
 is_same true r e f = refl
 is_same false r e f = absurd (let bad : true ≡ false = sym e ∙ f in cc)
 
--- the next notice is at another place
+-- if the next notice is at another place, no more notices are at this place
 pub notices_stop : {V M : Type 0} (f : V → M) (place : Place) (ns : List (Notice V)) (i : ℕ) (n : Notice V) → i < length ns → n ≡ get_or ns i n
     → same_place n.place place ≡ false → first_notices place (map (notice_view f) (drop i ns)) ≡ []
 notices_stop f place ns i n below here other =
     ap (λ l. first_notices place (map (notice_view f) l)) (drop_more ns i n below ∙ ap (λ m. m ∷ drop (i + 1) ns) (sym here))
     ∙ ap (λ b. if b then notice_view f n ∷ first_notices place (map (notice_view f) (drop (i + 1) ns)) else []) other
 
--- it is at this one
+-- if the next notice is at this place, it is the first of those at this place
 pub notices_more : {V M : Type 0} (f : V → M) (place : Place) (ns : List (Notice V)) (i : ℕ) (n : Notice V) → i < length ns → n ≡ get_or ns i n
     → same_place n.place place ≡ true
     → first_notices place (map (notice_view f) (drop i ns)) ≡ notice_view f n ∷ first_notices place (map (notice_view f) (drop (i + 1) ns))
@@ -43,7 +43,7 @@ notices_more f place ns i n below here same =
     ap (λ l. first_notices place (map (notice_view f) l)) (drop_more ns i n below ∙ ap (λ m. m ∷ drop (i + 1) ns) (sym here))
     ∙ ap (λ b. if b then notice_view f n ∷ first_notices place (map (notice_view f) (drop (i + 1) ns)) else []) same
 
--- one line more
+-- one more line was added
 pub line_more : {M : Type 0} (text : M → List ℕ) (rank : ℕ) (n : Notice M) (first rest whole : List (Notice M)) (old now out : List ℕ)
     → first ≡ n ∷ rest → out ≡ now ++ heard_line text rank n
     → now ++ put_lines text (map (NoticeOf rank) first) ≡ old ++ put_lines text (map (NoticeOf rank) whole)
@@ -53,7 +53,7 @@ line_more text rank n first rest whole old now out e put so_far =
     ∙ append_assoc now (heard_line text rank n) (put_lines text (map (NoticeOf rank) rest))
     ∙ ap (λ l. now ++ put_lines text (map (NoticeOf rank) l)) (sym e) ∙ so_far
 
--- no line is left
+-- if no notice is left, all lines were added
 pub lines_stop : {M : Type 0} (text : M → List ℕ) (rank : ℕ) (first whole : List (Notice M)) (old now : List ℕ)
     → first ≡ [] → now ++ put_lines text (map (NoticeOf rank) first) ≡ old ++ put_lines text (map (NoticeOf rank) whole)
     → now ≡ old ++ put_lines text (map (NoticeOf rank) whole)
@@ -92,7 +92,7 @@ both_after f g c place ns left xs rest m n front more told sent =
         → ◌≡◌ {A = Cursor} (record { rank = rank; notices = c.notices + a; answers = c.answers + x }) (record { rank = rank; notices = c.notices + b; answers = c.answers + y })
     after c rank e h = rw e (rw h refl)
 
--- nothing is due: no line is added, and nothing more is printed
+-- if nothing is due, no line is added and the cursor is unchanged
 pub none_due_lines : {V M X : Type 0} (f : V → M) (g : X → Place × ReplyView) (text : M → List ℕ) (c : Cursor) (place : Place) (ns left : List (Notice V)) (xs rest : List X) (out : List ℕ)
     → left ≡ drop c.notices ns → rest ≡ drop c.answers xs
     → first_notices place (map (notice_view f) left) ≡ [] → first_answers place (map g rest) ≡ []
@@ -136,7 +136,7 @@ sent_none [] rank past = refl
 sent_none (x ∷ outputs) zero past = absurd (omega (arith, past))
 sent_none (x ∷ outputs) (suc rank) past = sent_none outputs rank (omega (arith, past))
 
--- its lines are those of its output
+-- the lines of a reader are those of its output
 pub part_some : {V M : Type 0} (f : V → M) (text : M → List ℕ) (given : BatchOutput V) (place : Place) (c : Cursor) (outputs : List (Output V Global)) (o : Output V Global)
     → outputs ≡ given.outputs.items → true ≡ nat_lt c.rank (length outputs) → o ≡ get_or outputs c.rank o
     → (lists_lines text (map (notice_view f) o.notices.items) (map answer_view o.answers.items) place c ≡ part_lines text (parts_given f given) place c)
@@ -167,7 +167,7 @@ nothing_left {M} text place c =
     after : (c : Cursor) {a b : ℕ} → a ≡ c.notices → b ≡ c.answers → ◌≡◌ {A = Cursor} (record { rank = c.rank; notices = a; answers = b }) c
     after c e h = rw e (rw h refl)
 
--- where there is no such reader, nothing is printed
+-- if there is no such reader, nothing is printed
 pub part_none : {V M : Type 0} (f : V → M) (text : M → List ℕ) (given : BatchOutput V) (place : Place) (c : Cursor) (outputs : List (Output V Global)) (out : List ℕ)
     → outputs ≡ given.outputs.items → false ≡ nat_lt c.rank (length outputs)
     → (out ≡ out ++ part_lines text (parts_given f given) place c) × (c ≡ cursor_after (parts_given f given) place c)
@@ -182,7 +182,7 @@ part_none {V} {M} f text given place c outputs out same test =
 
 -- ---- all readers
 
--- the first n cursors were moved, and the others are as they were
+-- the first i cursors were moved, and the others are unchanged
 pub record AreMoved {M : Type 0} (parts : PartsByRank M) (place : Place) (whole cursors : List Cursor) (i : ℕ) : Type 0 where
   pub count : length cursors ≡ length whole
   pub front : take i cursors ≡ map (cursor_after parts place) (take i whole)
@@ -191,7 +191,7 @@ pub record AreMoved {M : Type 0} (parts : PartsByRank M) (place : Place) (whole 
 same_head : {X : Type 0} {x y : X} {xs ys : List X} → x ∷ xs ≡ y ∷ ys → x ≡ y
 same_head {x = x} e = ap (λ l. get_or l 0 x) e
 
--- one more is moved
+-- one more cursor was moved
 pub moved_more : {M : Type 0} (parts : PartsByRank M) (place : Place) (whole cursors : List Cursor) (i : ℕ) (c after : Cursor)
     → i < length cursors → c ≡ get_or cursors i c → after ≡ cursor_after parts place c → AreMoved parts place whole cursors i
     → AreMoved parts place whole (set cursors i after) (i + 1)
@@ -209,7 +209,7 @@ moved_more parts place whole cursors i c after below here moved so_far =
       back = drop-set-lt (i + 1) cursors i after past ∙ drop_more_same cursors whole i so_far.back;
     }
 
--- and its lines were added
+-- and the lines of its reader were added
 pub parts_more : {M : Type 0} (text : M → List ℕ) (parts : PartsByRank M) (place : Place) (whole cursors : List Cursor) (i : ℕ) (c : Cursor) (old said now out : List ℕ)
     → i < length cursors → c ≡ get_or cursors i c → AreMoved parts place whole cursors i
     → now ≡ old ++ (said ++ parts_lines text parts place (take i whole)) → out ≡ now ++ part_lines text parts place c
@@ -225,7 +225,7 @@ parts_more text parts place whole cursors i c old said now out below here so_far
     ∙ ap (λ l. old ++ (said ++ l)) (sym (flat_map-append (part_lines text parts place) (take i whole) (get_or whole i c ∷ [])))
     ∙ ap (λ l. old ++ (said ++ parts_lines text parts place l)) (sym (take_more whole i c within))
 
--- discovery's answer comes first
+-- discovery's answers come first
 pub said_first : {M : Type 0} (text : M → List ℕ) (parts : PartsByRank M) (place : Place) (said n : ℕ) (answers left : List (Place × Reply Global)) (readers : List Cursor) (old out : List ℕ)
     → map answer_view answers ≡ parts.answers → left ≡ drop said answers → n ≡ length (first_answers place (map answer_view left))
     → out ≡ old ++ answer_lines (first_answers place (map answer_view left))
@@ -238,7 +238,7 @@ said_first text parts place said n answers left readers old out whole front coun
       lines ∙ ap (λ l. old ++ answer_lines l) next ∙ ap (λ l. old ++ l) (sym (append-nil (answer_lines (next_said parts place said)))),
     )
 
--- the lines of one place more
+-- the lines from one place on: those of the place, and then those of the rest
 pub place_more : {M : Type 0} (text : M → List ℕ) (parts : PartsByRank M) (places : List Place) (i : ℕ) (p : Place) (said said' : ℕ) (readers readers' : List Cursor)
     → i < length places → p ≡ get_or places i p → said' ≡ said + length (next_said parts p said) → readers' ≡ map (cursor_after parts p) readers
     → places_lines text parts (drop i places) said readers

@@ -1,4 +1,4 @@
--- Datagrams are received, and a run takes them, batch after batch.
+-- A run receives datagrams and processes them, batch after batch.
 use Rattle.std.proofs.Common.{◌≡◌, ℕ, ◌+◌, ◌≤◌, List, [], ◌∷◌, ◌++◌, Bool, ◌⊎◌, Option, Result, Ok, Err, arith, refl, subst, sym, ap, ◌∙◌, inl, inr, length, take, drop, length-append, append-nil, append_assoc, take-append-drop}
 use Rattle.std.specs.Prelude.{IsErrAnd}
 use Rattle.std.specs.Io.KnownBytes.{Appends}
@@ -10,7 +10,7 @@ use Rattle.std.specs.declared.alloc.Global.{Global}
 use Rattle.std.specs.declared.vec.Vec.{Vec}
 use Rattle.rtps_types.specs.declared.locator.Locator.{Locator}
 use Rattle.rtps_records.specs.Runs.{Closes, ClosesNot, Moves, PutsFront}
-use Rattle.rtps_records.specs.Text.{IsFront, Says}
+use Rattle.rtps_records.specs.Text.{IsFront}
 use Rattle.rtps_records.specs.Traffic.{Failed, Grows, Traffic, Waited, failures_in, last_call, receipts, received_in, sent_in, waits_in}
 use Rattle.rtps_records.specs.declared.fault.RunFault.{RunFault}
 use Rattle.rtps_records.specs.declared.fault.RunFault.TheVariants.{CannotWrite, NoMemory}
@@ -34,12 +34,12 @@ use Rattle.rtps_text.specs.Slices.{all_lines}
 use Rattle.rtps_text.specs.declared.live_fault.LiveFault.{LiveFault}
 use Rattle.rtps_text.specs.declared.live_fault.LiveFault.TheVariants.{Run, Socket}
 use Rattle.rtps_text.specs.declared.running.RunLines.{RunLines}
-use Rattle.rtps_text.proofs.Batches.{all_written, by_place, says_given}
+use Rattle.rtps_text.proofs.Batches.{all_written, by_place, said_more}
 use Rattle.rtps_text.proofs.Calls.{Comes, comes_answered, comes_both, in_turn_more, in_turn_wait, last_is}
 use Rattle.rtps_text.proofs.Run.{put_on}
 use Rattle.rtps_text.proofs.Sent.{given_by_place, given_send}
 
--- ---- runs of one catalog and one configuration
+-- ---- runs with the same catalog and configuration
 
 one_sends : {C M : Type 0} (decoding : C → Decoding M) (a b : EngineView C)
     → a.catalog ≡ b.catalog → a.config ≡ b.config → sends_by decoding a ≡ sends_by decoding b
@@ -63,7 +63,7 @@ none_waits sends [] later e = absurd (let bad : [] ≡ Waited ∷ later = e in c
 none_waits sends (c ∷ past) later e =
     absurd (let bad : [] ≡ c ∷ (past ++ Waited ∷ later) = e in cc)
 
--- nothing yet
+-- nothing was received yet
 pub listens_none : {C M : Type 0} (text : C → M → List ℕ) (decoding : C → Decoding M)
     (now : Option (List Traffic)) (old : Option (List ℕ)) (most : ℕ) (engine : EngineView C)
     → HasSaid text decoding [] [] engine
@@ -100,7 +100,7 @@ answered : {C M : Type 0} (text : C → M → List ℕ) (decoding : C → Decodi
 answered text decoding first now old new most left waits end engine l =
     l.sent ∙ ap (sends_by decoding engine) (sym l.received)
 
--- all that came was received, and then it was waited for more
+-- all datagrams that came were received, and then one more wait was made
 pub listens_waited : {C M : Type 0} (text : C → M → List ℕ) (decoding : C → Decoding M)
     (first then now : Option (List Traffic)) (origin old : Option (List ℕ))
     (most left waits : ℕ) (end : ReceiveEnd) (engine : EngineView C) → end ≡ Drained
@@ -131,7 +131,7 @@ listens_waited text decoding first then now origin old most left waits end engin
       says = l.says;
     }
 
--- the network failed as it was waited for more
+-- the network failed at one more wait
 pub listens_failed : {C M : Type 0} (text : C → M → List ℕ) (decoding : C → Decoding M)
     (first then now : Option (List Traffic)) (origin old : Option (List ℕ))
     (most left waits : ℕ) (end : ReceiveEnd) (engine : EngineView C) → failures_of end ≡ 0
@@ -159,7 +159,7 @@ listens_failed text decoding first then now origin old most left waits end engin
       says = l.says;
     }
 
--- all that is to be printed of a batch are its lines
+-- if no text is left, all that is to be printed for a batch is its lines
 pub batch_due : {C V M : Type 0} (text : C → M → List ℕ) (f : V → M) (decoding : C → Decoding M) (datagrams batch : List (List ℕ)) (before next : EngineView C) (given : BatchOutput V) (texts : List (Result (Vec ℕ Global) AllocError)) (k : C) (readers : ℕ)
     → texts ≡ [] → StandsAt decoding datagrams before → TakesRecords f decoding batch before next given → IsDue (text k) f texts given readers (all_lines (text k) f given readers)
 batch_due text f decoding datagrams batch before next given texts k readers none stands takes = record {
@@ -169,19 +169,7 @@ batch_due text f decoding datagrams batch before next given texts k readers none
   is = refl;
 }
 
--- and they are what is said of it
-said_more : {C V M : Type 0} (text : C → M → List ℕ) (f : V → M) (decoding : C → Decoding M) (datagrams batch : List (List ℕ)) (written : List ℕ) (before next : EngineView C) (given : BatchOutput V) (k : C) (readers : ℕ)
-    → (next.catalog ≡ before.catalog) × (next.config ≡ before.config) → TakesRecords f decoding batch before next given → next.catalog ≡ k → length next.config.readers.items ≡ readers
-    → HasSaid text decoding datagrams written before → HasSaid text decoding (datagrams ++ batch) (written ++ all_lines (text k) f given readers) next
-unfolding Says
-said_more text f decoding datagrams batch written before next given k readers same takes own counted h =
-    let s = says_given text f decoding before next batch given (length datagrams) [] same takes.stands takes.gives in
-    let said = s.2 datagrams written h refl in
-    let count : length next.statuses ≡ readers = said.stands.shows.count ∙ counted in
-    let lines : s.0 ≡ all_lines (text k) f given readers = sym s.1 ∙ ap (λ c. all_lines (text c) f given (length next.statuses)) own ∙ ap (λ r. all_lines (text k) f given r) count in
-    subst (λ l. HasSaid text decoding (datagrams ++ batch) (written ++ l) next) lines said
-
--- what was sent before a batch, and what it sends, is what the run sends with it
+-- what was sent before a batch, and then what the batch sends, is what the run with the batch sends
 batch_sends : {C V M : Type 0} (f : V → M) (decoding : C → Decoding M)
     (datagrams batch : List (List ℕ)) (before : EngineView C) (given : BatchOutput V)
     (mid now : Option (List Traffic))
@@ -195,7 +183,7 @@ batch_sends f decoding datagrams batch before given mid now g s =
     ap (λ l. sends_of was.put ++ l) (s.are (given_by_place f was is given g) ∙ sym (given_send f given))
     ∙ sym (ap sends_of g.put ∙ flat_map-append goes_out was.put _)
 
--- a batch more was received and taken, its answers were sent, and its lines were written
+-- one more batch was received and processed, its answers were sent, and its lines were written
 pub listens_more : {C V M : Type 0} (text : C → M → List ℕ) (f : V → M) (decoding : C → Decoding M)
     (first then mid now : Option (List Traffic)) (origin old new : Option (List ℕ))
     (most left less waits : ℕ) (before next : EngineView C) (given : BatchOutput V)
@@ -243,7 +231,8 @@ both_parts old mid new octets rest m more = subst (Appends old new) (sym m.2) (A
 
 -- ---- a run that stops
 
--- all was sent
+-- if all answers were sent, what was sent is as required, both at a write fault and if memory runs
+-- out
 sent_whole : (fault : RunFault) (made : LiveRun) (calls : List Traffic)
     → (fault ≡ CannotWrite) ⊎ (fault ≡ NoMemory) → sent_in calls ≡ made.sends (received_in calls)
     → SentAt fault made calls
@@ -258,7 +247,7 @@ sent_front : (made : LiveRun) (calls : List Traffic)
 unfolding SentAt
 sent_front made calls front = front
 
--- datagrams were received that were not taken
+-- a run stopped after it received datagrams and before they were processed
 pub stops_untaken : {C M : Type 0} (text : C → M → List ℕ) (decoding : C → Decoding M)
     (first then now : Option (List Traffic)) (origin old : Option (List ℕ))
     (most left waits failed : ℕ) (engine : EngineView C) (summary : Bool) (batch : List (List ℕ))
@@ -293,7 +282,8 @@ stops_untaken text decoding first then now origin old most left waits failed eng
       front = (flat_map line on.0, lines);
     }
 
--- a batch more was taken and its answers were sent, and a front of its lines was written
+-- a run stopped after one more batch was processed, its answers were sent, and a prefix of its
+-- lines was written
 pub stops_writing : {C V M : Type 0} (text : C → M → List ℕ) (f : V → M) (decoding : C → Decoding M)
     (first then mid now : Option (List Traffic)) (origin old new : Option (List ℕ))
     (most left less waits : ℕ) (before next : EngineView C) (summary : Bool) (given : BatchOutput V)
@@ -340,7 +330,7 @@ stops_writing text f decoding first then mid now origin old new most left less w
       );
     }
 
--- the same, whichever engine of the run says it, and in more turns
+-- what is stated of a run that stopped holds also for equal results and a greater limit of waits
 pub stopped_same : (a b : LiveRun) (most turns more : ℕ) (fault : RunFault)
     (before after : Option (List Traffic)) (old new : Option (List ℕ)) → a ≡ b → turns ≤ more
     → Stopped a most turns fault before after old new
@@ -361,7 +351,7 @@ stopped_same a b most turns more fault before after old new same fewer s =
 
 -- ---- how a run ends
 
--- the last text was added, and all of it was written
+-- the last text was added, and the whole text was written
 pub listens_done : {C M : Type 0} (text : C → M → List ℕ) (decoding : C → Decoding M)
     (made : LiveRun) (first now : Option (List Traffic)) (origin mid new : Option (List ℕ))
     (most left waits : ℕ) (end : ReceiveEnd) (engine : EngineView C) (summary : Bool)
@@ -391,7 +381,7 @@ counted : {C M : Type 0} (text : C → M → List ℕ) (decoding : C → Decodin
 counted text decoding first now old new most left waits end engine l =
     omega (arith, ap length l.received, l.count)
 
--- so it came to its end, or the network failed
+-- then the run is complete, or the network failed
 ended_by : {C M : Type 0} (text : C → M → List ℕ) (decoding : C → Decoding M)
     (first now : Option (List Traffic)) (old new : Option (List ℕ)) (most left waits turns : ℕ)
     (engine : EngineView C) (end : ReceiveEnd)
@@ -409,20 +399,20 @@ ended_by text decoding first now old new most left waits turns engine Drained l 
       | inr all ↦ inl (inr (l.waited ∙ all, l.last))
     ]
 
--- where no datagram is left, the turns may end at any batch
+-- if no datagram is left to receive, the run may end after any batch
 pub ends_full : (end : ReceiveEnd) (left waits turns : ℕ) → left ≡ 0 → EndsTurns end left waits turns
 ends_full More left waits turns none = none
 ends_full Drained left waits turns none = inl none
 ends_full Fault left waits turns none = tt
 
--- and so they may where all passed
+-- and so it may if all waits were made
 pub ends_passed : (end : ReceiveEnd) (left waits turns : ℕ) → (end ≡ More → left ≡ 0)
     → waits ≡ turns → EndsTurns end left waits turns
 ends_passed More left waits turns full passed = full refl
 ends_passed Drained left waits turns full passed = inr passed
 ends_passed Fault left waits turns full passed = tt
 
--- or the network failed
+-- and so it may if the network failed
 pub ends_failed : (end : ReceiveEnd) (left waits turns : ℕ) → end ≡ Fault
     → EndsTurns end left waits turns
 ends_failed More left waits turns is = absurd (let bad : More ≡ Fault = is in cc)
@@ -434,14 +424,14 @@ no_failure More other = refl
 no_failure Drained other = refl
 no_failure Fault other = absurd (other refl)
 
--- where more may be received, and the network didn't fail, all that came was
+-- if datagrams are left to receive and the network didn't fail, all that came were received
 pub is_drained : (end : ReceiveEnd) (left : ℕ) → ¬ (end ≡ Fault) → (end ≡ More → left ≡ 0)
     → ¬ (left ≡ 0) → end ≡ Drained
 is_drained More left other full some = absurd (some (full refl))
 is_drained Drained left other full some = refl
 is_drained Fault left other full some = absurd (other refl)
 
--- the run came to its end, and all was written
+-- the outcome of a run that is complete and has written its whole text
 pub listened_ok : {C M : Type 0} (text : C → M → List ℕ) (decoding : C → Decoding M)
     (made : LiveRun) (first now : Option (List Traffic)) (origin mid new : Option (List ℕ))
     (most left waits turns : ℕ) (engine : EngineView C) (summary : Bool) (end : ReceiveEnd)
@@ -467,7 +457,7 @@ listened_ok text decoding made first now origin mid new most left waits turns en
       leaves = (done, l.failed ∙ none, over);
     }
 
--- the network failed, and all was written
+-- the outcome of a run whose network failed and that has written its whole text
 pub listened_socket : {C M : Type 0} (text : C → M → List ℕ) (decoding : C → Decoding M)
     (made : LiveRun) (first now : Option (List Traffic)) (origin mid new : Option (List ℕ))
     (most left waits turns : ℕ) (engine : EngineView C) (summary : Bool) (end : ReceiveEnd)
@@ -487,7 +477,7 @@ listened_socket text decoding made first now origin mid new most left waits turn
       leaves = (done, l.failed ∙ one);
     }
 
--- the run stopped before its end
+-- the outcome of a run that stopped before its end
 pub listened_stop : (made : LiveRun) (most turns : ℕ) (fault : RunFault)
     (before after : Option (List Traffic)) (old new : Option (List ℕ))
     → Stopped made most turns fault before after old new
@@ -502,13 +492,13 @@ listened_stop made most turns fault before after old new s = record {
   leaves = (s.sent, (s.put, s.wrote, inl s.front));
 }
 
--- so it is where the last text was not written whole
+-- if the last text was not written completely, a write failed or memory ran out
 pub unclosed_cause : (said : List (List ℕ) → List ℕ → Type 0) (text : List (List ℕ) → List ℕ) (fault : RunFault) (old new : Option (List ℕ)) (kept : List ℕ) → ClosesNot fault said text old new kept
     → (fault ≡ CannotWrite) ⊎ (fault ≡ NoMemory)
 unfolding ClosesNot
 unclosed_cause said text fault old new kept c = elim c [ inl nothing ↦ inr nothing.0 | inr some ↦ inl some.0 ]
 
--- what was written where the last text was not written whole
+-- what was written if the last text was not written completely
 unclosed_front : {C M : Type 0} (text : C → M → List ℕ) (decoding : C → Decoding M)
     (limits : Limits) (first now : Option (List Traffic)) (origin mid new : Option (List ℕ))
     (most left waits : ℕ) (end : ReceiveEnd) (engine : EngineView C) (summary : Bool) (kept : List ℕ)
@@ -544,7 +534,7 @@ unclosed_front text decoding limits first now origin mid new most left waits end
       )
 ]
 
--- the last text was not written whole
+-- the outcome of a run whose last text was not written completely
 pub listened_unclosed : {C M : Type 0} (text : C → M → List ℕ) (decoding : C → Decoding M)
     (made : LiveRun) (first now : Option (List Traffic)) (origin mid new : Option (List ℕ))
     (most left waits turns : ℕ) (engine : EngineView C) (summary : Bool) (end : ReceiveEnd)
@@ -575,7 +565,7 @@ listened_unclosed text decoding made first now origin mid new most left waits tu
     } in
     subst (λ (m : LiveRun). Listened m limits (Err (Run fault)) first now origin new) same listened
 
--- a run that goes on twice
+-- a run that stays the same in each of two steps stays the same in both
 pub same_run : {C V U : Type 0} (a b c : RunLines C V U) → IsSameRun a b → IsSameRun b c → IsSameRun a c
 same_run a b c x y = record {
   catalog = y.catalog ∙ x.catalog;
@@ -585,12 +575,12 @@ same_run a b c x y = record {
   alone = λ none. y.alone (x.alone none);
 }
 
--- what a result is that is passed on as a fault of the run
+-- what holds for a fault of the run holds for a result that is this fault
 pub at_run : (r : Result (Unit {0}) LiveFault) (fault : RunFault) (P : Result (Unit {0}) LiveFault → Type 0) → IsErrAnd r (λ e. e ≡ Run fault) → P (Err (Run fault)) → P r
 at_run (Ok x) fault P is p = absurd is
 at_run (Err e) fault P is p = subst (λ e. P (Err e)) (sym is) p
 
--- nothing was received, as there was no memory to begin with
+-- the outcome of a run for which there was no memory at the start: nothing was received
 pub unbegun : (made : LiveRun) (most turns : ℕ) (now : Option (List Traffic)) (old : Option (List ℕ))
     → Listened made (limits_of most turns) (Err (Run NoMemory)) now now old old
 unbegun made most turns now old = listened_stop made most turns NoMemory now now old old (record {

@@ -3,11 +3,13 @@ pub mod Batches
 pub mod Caching
 pub mod Calls
 pub mod Due
+pub mod FileRun
 pub mod Fronts
 pub mod Hearing
 pub mod Run
 pub mod Sampled
 pub mod Sent
+pub mod Sinks
 pub mod Sliced
 pub mod Turns
 pub mod Viewing

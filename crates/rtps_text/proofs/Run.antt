@@ -1,4 +1,4 @@
--- A run and its text, one record more.
+-- A run and its text, after one more record.
 use Rattle.std.proofs.Common.{◌≡◌, ℕ, suc, ◌+◌, ◌<◌, nat_lt, arith, Option, None, Some, Result, Ok, Err, OnErr, OnOk, IfErr, subst, List, [], ◌∷◌, ◌++◌, Bool, true, false, if◌then◌else◌, sym, ap, ◌∙◌, append-nil, append_assoc, inl, inr, length, refl, take, drop, take-append-drop}
 use Rattle.std.specs.List.{flat_map}
 use Rattle.std.proofs.lemmas.Grind.{flat_map-append}
@@ -23,22 +23,22 @@ use Rattle.rtps_run.specs.Run.{events_from, first_world, world_run}
 use Rattle.rtps_run.specs.Standing.{EngineView, StandsAt, run_by}
 use Rattle.rtps_text.specs.Replayed.{HasSaid, put_line, replay_text, status_lines, status_text, summary_text, text_by}
 
--- a text that grows begins as before
+-- a prefix of a text is a prefix of a longer text
 pub front_more : (a b c x : List ℕ) → IsFront a b → c ≡ b ++ x → IsFront a c
 front_more a b c x f e = (f.0 ++ x, e ∙ ap (λ l. l ++ x) f.1 ∙ append_assoc a f.0 x)
 
--- what a text begins with, and what comes after that
+-- a text is its prefix, followed by the rest
 grown : (whole front : List ℕ) → StartsWith whole front → whole ≡ front ++ drop (length front) whole
 grown whole front e = sym (take-append-drop (length front) whole) ∙ ap (λ l. l ++ drop (length front) whole) e
 
--- without a summary nothing is left to say
+-- without a summary, nothing is left to say
 pub ends_plain : {C M : Type 0} (text : C → M → List ℕ) (decoding : C → Decoding M) (engine : EngineView C) (summary : Bool) (old : List ℕ) → summary ≡ false
     → Ends (λ records said. HasSaid text decoding records said engine) (text_by text decoding engine summary) old old
 unfolding Ends
 ends_plain text decoding engine true old e = absurd (let bad : true ≡ false = e in cc)
 ends_plain text decoding engine false old e = ([], sym (append-nil old), λ records said h. ap (λ l. l ++ []) (sym h.lines))
 
--- the summary is all that is left to say
+-- with a summary, it is all that is left to say
 pub ends_summed : {C M : Type 0} (text : C → M → List ℕ) (decoding : C → Decoding M) (engine : EngineView C) (summary : Bool) (old new : List ℕ) → summary ≡ true
     → StartsWith new old → ((records : List (List ℕ)) → StandsAt decoding records engine → new ≡ old ++ summary_text (run_by decoding engine records))
     → Ends (λ records said. HasSaid text decoding records said engine) (text_by text decoding engine summary) old new
@@ -53,11 +53,11 @@ ends_summed text decoding engine true old new e keeps sums =
           ∙ ap (λ l. said ++ l) (append_cancel_left old (summary_text (run_by decoding engine records)) more (sym (sums records h.stands) ∙ front)),
     )
 
--- the run over these events goes on where that over those ends
+-- the run over these events puts out what the run over those puts out, and then more
 abbrev GoesOn : {M : Type 0} → Decoding M → World M → List EventView → List EventView → Type 0
 GoesOn {M} decoding w those these = (extra : List (ReportView M)) × ((world_run decoding w these).put ≡ (world_run decoding w those).put ++ extra)
 
--- what was put out stays in front
+-- what was put out before is put out first
 put_stays : {M : Type 0} (decoding : Decoding M) (w : World M) (es : List EventView) → GoesOn decoding w [] es
 put_stays decoding w [] = ([], sym (append-nil w.put))
 put_stays decoding w (e ∷ es) =
@@ -84,7 +84,7 @@ pub put_on : {C M : Type 0} (decoding : C → Decoding M) (engine : EngineView C
 put_on decoding engine records more =
     goes_on (decoding engine.catalog) engine.config.own 0 records more (first_world engine.config)
 
--- what was said of the first records begins the whole text of all
+-- what was said for the first records is a prefix of the whole text of all records
 pub fronts : {C M : Type 0} (text : C → M → List ℕ) (decoding : C → Decoding M) (summary : Bool) (engine : EngineView C) (records more : List (List ℕ)) (said : List ℕ)
     → HasSaid text decoding records said engine → IsFront said (text_by text decoding engine summary (records ++ more))
 fronts text decoding summary engine records more said h =
@@ -97,7 +97,7 @@ fronts text decoding summary engine records more said h =
           ∙ append_assoc said (flat_map line on.0) rest,
     )
 
--- engines of one catalog and one configuration have one text
+-- engines with the same catalog and configuration have the same text
 pub same_text : {C M : Type 0} (text : C → M → List ℕ) (decoding : C → Decoding M) (a b : EngineView C) (s t : Bool) → a.catalog ≡ b.catalog → a.config ≡ b.config → s ≡ t
     → (records : List (List ℕ)) → text_by text decoding a s records ≡ text_by text decoding b t records
 same_text text decoding a b s t same e f records =
@@ -105,7 +105,8 @@ same_text text decoding a b s t same e f records =
     ∙ ap (λ (config : Config). replay_text (text b.catalog) (decoding b.catalog) config s records) e
     ∙ ap (λ u. replay_text (text b.catalog) (decoding b.catalog) b.config u records) f
 
--- what a run leaves that stops, by what its readers and its catalog were at first
+-- the outcome of a run that stops, with the catalog, the configuration and the summary setting that
+-- it had at first
 pub same_stop : {C M U : Type 0} (text : C → M → List ℕ) (decoding : C → Decoding M) (a b : C) (k l : Config) (s t : Bool) (r : Result U RunFault) (before after old new : Option (List ℕ)) → a ≡ b → k ≡ l → s ≡ t
     → IfErr r (λ fault. Stops (replay_text (text a) (decoding a) k s) fault before after old new) → IfErr r (λ fault. Stops (replay_text (text b) (decoding b) l t) fault before after old new)
 same_stop text decoding a b k l s t r before after old new e f g h =
@@ -113,12 +114,12 @@ same_stop text decoding a b k l s t r before after old new e f g h =
     (subst (λ (c : Config). IfErr r (λ fault. Stops (replay_text (text b) (decoding b) c s) fault before after old new)) f
     (subst (λ c. IfErr r (λ fault. Stops (replay_text (text c) (decoding c) k s) fault before after old new)) e h))
 
--- two facts of a result that is Ok, one of them for every list of datagrams, and what follows from both
+-- if a result is Ok, what follows from a fact about all lists of records holds
 pub on_ok_all : {X E : Type 0} {Q : Type 0} {S F : List (List ℕ) → Type 0} (r : Result X E) → ((records : List (List ℕ)) → S records → OnOk r (F records)) → (((records : List (List ℕ)) → S records → F records) → Q) → OnOk r Q
 on_ok_all (Ok x) f h = h f
 on_ok_all (Err e) f h = tt
 
--- the status of one rank more
+-- the status lines, with that of one more rank
 pub statuses_more : {M : Type 0} (w : World M) (n : ℕ) (status : Option Status) → n < reader_count w → status ≡ status_seen w n → status_lines w n ++ status_text n status ≡ status_lines w (n + 1)
 statuses_more w n status below e =
     let next : n + 1 ≡ suc n = omega arith in
@@ -126,7 +127,7 @@ statuses_more w n status below e =
     let seen : status ≡ Some (status_at w n) = e ∙ ap (λ b. if b then Some (status_at w n) else None) here in
     ap (λ s. status_lines w n ++ status_text n s) seen ∙ sym (ap (status_lines w) next)
 
--- Of a text a part was written and a part is kept back; the rest is still to be added.
+-- A part of a text was written and a part is kept back; the rest is still to be added.
 pub record Printed (old new : Option (List ℕ)) (whole kept rest : List ℕ) : Type 0 where
   pub written : List ℕ
   pub wrote : Appends old new written
@@ -136,7 +137,7 @@ pub record Printed (old new : Option (List ℕ)) (whole kept rest : List ℕ) : 
 pub printed_none : (old : Option (List ℕ)) (kept rest : List ℕ) → Printed old old (kept ++ rest) kept rest
 printed_none old kept rest = record { written = []; wrote = Appends-nil old; whole_is = refl }
 
--- some lines are added
+-- some lines were added
 pub printed_more : (old now : Option (List ℕ)) (whole kept added rest out : List ℕ) → Printed old now whole kept (added ++ rest) → out ≡ kept ++ added → Printed old now whole out rest
 printed_more old now whole kept added rest out p e = record {
   written = p.written;
@@ -144,7 +145,7 @@ printed_more old now whole kept added rest out p e = record {
   whole_is = p.whole_is ∙ ap (λ l. p.written ++ l) (sym (append_assoc kept added rest) ∙ ap (λ l. l ++ rest) (sym e));
 }
 
--- what is kept back is written where it is long
+-- what is kept back was written if it is long
 pub printed_spilled : (old now new : Option (List ℕ)) (whole kept left rest : List ℕ) → Printed old now whole kept rest → Spills now new kept left → Printed old new whole left rest
 printed_spilled old now new whole kept left rest p s = elim s [
   | inl out ↦ rw out.2 (record {
@@ -163,7 +164,7 @@ printed_spilled old now new whole kept left rest p s = elim s [
 pub printed_all : (old new : Option (List ℕ)) (whole kept : List ℕ) → Printed old new whole kept [] → Moves old new whole kept
 printed_all old new whole kept p = (p.written, p.wrote, p.whole_is ∙ ap (λ l. p.written ++ l) (append-nil kept))
 
--- what was written is a front of the whole
+-- what was written is a prefix of the whole text
 pub printed_front : (old now new : Option (List ℕ)) (whole kept rest : List ℕ) → Printed old now whole kept rest → PutsFront now new kept → PutsFront old new whole
 printed_front old now new whole kept rest p f =
     let front = take f.0 kept in
@@ -174,7 +175,7 @@ printed_front old now new whole kept rest p f =
       subst (Appends old new) (sym (ap (take (length (p.written ++ front))) all ∙ take-append_seam (p.written ++ front) (back ++ rest))) (Appends-trans _ _ _ _ _ p.wrote f.1),
     )
 
--- where nothing more is written too
+-- the same, if nothing more is written
 pub printed_stop : (old now : Option (List ℕ)) (whole kept rest : List ℕ) → Printed old now whole kept rest → PutsFront old now whole
 printed_stop old now whole kept rest p = printed_front old now now whole kept rest p (0, Appends-nil now)
 
@@ -182,6 +183,6 @@ pub on_err : {T E P : Type 0} (r : Result T E) → P → OnErr r P
 on_err (Ok x) p = tt
 on_err (Err e) p = p
 
--- a fault that there is no memory
+-- a run that stops without memory stops at any fault that equals NoMemory
 pub of_cause : (whole : List (List ℕ) → List ℕ) (fault : RunFault) (before after old new : Option (List ℕ)) → fault ≡ NoMemory → Stops whole NoMemory before after old new → Stops whole fault before after old new
 of_cause whole fault before after old new e stops = subst (λ f. Stops whole f before after old new) (sym e) stops

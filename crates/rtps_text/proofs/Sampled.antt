@@ -1,15 +1,12 @@
--- A run whose notices are kept, one batch more, and how it ends.
-use Rattle.std.proofs.Common.{◌≡◌, ℕ, ◌<◌, ◌≤◌, ◌⊎◌, inl, inr, List, [], ◌∷◌, ◌++◌, Bool, if◌then◌else◌, All, Option, Result, Ok, Err, IfErr, OnErr, Global, arith, refl, subst, sym, ap, ◌∙◌, map, length, get_or, append-nil, zero, suc}
+-- A run whose notices are kept in caches: one more batch, and how it ends.
+use Rattle.std.proofs.Common.{◌≡◌, ℕ, ◌<◌, inl, List, [], ◌∷◌, ◌++◌, Bool, if◌then◌else◌, All, Option, Result, Ok, Err, OnErr, Global, arith, refl, subst, sym, ap, ◌∙◌, map, length, get_or, append-nil, zero, suc}
 use Rattle.std.specs.Io.KnownBytes.{Appends}
 use Rattle.std.proofs.KnownBytes.{Appends-nil, Appends-trans}
 use Rattle.std.proofs.lemmas.List.{map-append}
 use Rattle.std.proofs.lemmas.List.Elements.{All-get_or}
-use Rattle.rtps_records.specs.Runs.{Moves, PutsFront, Stops, WroteFront, WroteReadFront, ClosesNot}
-use Rattle.rtps_records.specs.Text.{IsFront, Says}
-use Rattle.rtps_records.specs.declared.batch_end.BatchEnd.{BatchEnd}
+use Rattle.rtps_records.specs.Runs.{Moves, PutsFront, Stops}
 use Rattle.rtps_records.specs.declared.fault.RunFault.{RunFault}
 use Rattle.rtps_records.specs.declared.fault.RunFault.TheVariants.{CannotRead, NotRecordFile, CutRecord, RecordTooLong, TooManyRecords, CannotWrite, NoMemory}
-use Rattle.rtps_records.proofs.Progress.{EndsHere, Finished, Progress, many_more, stops_closing, stops_without}
 use Rattle.dds_topic.specs.Decoding.{Decoding}
 use Rattle.dds_cache.specs.Standing as shelf
 use Rattle.dds_cache.specs.Standing.{CacheView}
@@ -26,7 +23,7 @@ use Rattle.rtps_run.specs.World.{World}
 use Rattle.rtps_run.proofs.Running.{run_count}
 use Rattle.dds_participant.specs.BatchOutput.{IsGiven, told_in}
 use Rattle.dds_participant.specs.declared.batch_output.BatchOutput.{BatchOutput}
-use Rattle.rtps_text.specs.Batched.{RunsBatch}
+use Rattle.rtps_text.specs.Batched.{TakesRecords}
 use Rattle.rtps_text.specs.Caches.{AllAccept, AreKept, HasHeard, IsEmpty, StopsLate}
 use Rattle.rtps_text.specs.Entries.{entry_lines, samples_by, samples_text}
 use Rattle.rtps_text.specs.Replayed.{summary_text}
@@ -36,7 +33,7 @@ use Rattle.rtps_text.proofs.Run.{Printed, printed_front, printed_more}
 
 -- ---- the caches
 
--- nothing was reported, and nothing was accepted
+-- before the first record, nothing was reported and nothing was accepted
 pub kept_first : {C V M : Type 0} (f : V → M) (decoding : C → Decoding M) (history : History) (engine : EngineView C) (caches : List (CacheView V)) (readers : ℕ)
     → StandsAt decoding [] engine → readers ≡ length engine.statuses → length caches ≡ readers → All (IsEmpty history) caches → AreKept f decoding history [] engine caches
 kept_first f decoding history engine caches readers stands counted count empty = record {
@@ -56,19 +53,19 @@ accepted_both : {X : Type 0} (past : List (Done X)) (ns ms : List (Notice X)) �
 accepted_both past [] ms = refl
 accepted_both past (n ∷ ns) ms = accepted_both _ ns ms
 
--- engines of one catalog and one configuration have one run
+-- engines with the same catalog and configuration have the same run
 same_run : {C M : Type 0} (decoding : C → Decoding M) (a b : EngineView C) → (b.catalog ≡ a.catalog) × (b.config ≡ a.config) → (records : List (List ℕ)) → run_by decoding a records ≡ run_by decoding b records
 same_run {C} decoding a b same records =
     ap (λ (k : C). run (decoding k) a.config records) (sym same.0) ∙ ap (λ (config : Config). run (decoding b.catalog) config records) (sym same.1)
 
--- there is a cache for each reader that gave something out
+-- there is a cache for each reader's output
 pub outputs_many : {C V M : Type 0} (f : V → M) (decoding : C → Decoding M) (history : History) (records batch : List (List ℕ)) (engine : EngineView C) (caches : List (CacheView V)) (given : BatchOutput V)
     → AreKept f decoding history records engine caches → IsGiven f (run_by decoding engine records) (run_by decoding engine (records ++ batch)) given
     → length given.outputs.items ≡ length caches
 outputs_many f decoding history records batch engine caches given k is =
     is.readers ∙ run_count (decoding engine.catalog) engine.config (records ++ batch) ∙ sym k.count
 
--- what the readers gave out in a batch was accepted
+-- the caches accepted the notices of a batch
 pub kept_more : {C V M : Type 0} (f : V → M) (decoding : C → Decoding M) (history : History) (records batch : List (List ℕ)) (before after : EngineView C) (given : BatchOutput V) (caches next : List (CacheView V))
     → (after.catalog ≡ before.catalog) × (after.config ≡ before.config) → AreKept f decoding history records before caches → StandsAt decoding (records ++ batch) after
     → IsGiven f (run_by decoding before records) (run_by decoding before (records ++ batch)) given → AllAccept given.outputs.items caches next
@@ -97,39 +94,16 @@ kept_more {C} {V} {M} f decoding history records batch before after given caches
           stands = subst (λ p. shelf.StandsAt p (get_or next rank other)) (sym (accepted_both [] h.heard out.notices.items)) (goes.stands (accepted_after [] h.heard) h.stands);
         }
 
--- ---- the run so far
+-- one more batch was processed, and its notices were accepted
+pub batch_kept : {C V M : Type 0} (f : V → M) (decoding : C → Decoding M) (history again : History) (records batch : List (List ℕ)) (before next final : EngineView C) (given : BatchOutput V) (caches later : List (CacheView V))
+    → (next.catalog ≡ before.catalog) × (next.config ≡ before.config) → final ≡ next → again ≡ history → TakesRecords f decoding batch before next given → AllAccept given.outputs.items caches later
+    → AreKept f decoding history records before caches → AreKept f decoding again (records ++ batch) final later
+batch_kept {C} f decoding history again records batch before next final given caches later same is keep takes a k =
+    subst (λ h. AreKept f decoding h (records ++ batch) final later) (sym keep)
+    (subst (λ (e : EngineView C). AreKept f decoding history (records ++ batch) e later) (sym is)
+    (kept_more f decoding history records batch before next given caches later same k (takes.stands records k.stands) (takes.gives records k.stands) a))
 
--- nothing was said, and the caches have what the readers reported
-abbrev pub IsSilent : {C V M : Type 0} → (V → M) → (C → Decoding M) → History → EngineView C → List (CacheView V) → List (List ℕ) → List ℕ → Type 0
-IsSilent f decoding history engine caches records said = (said ≡ []) × AreKept f decoding history records engine caches
-
-silent_more : {C V M : Type 0} (f : V → M) (decoding : C → Decoding M) (history : History) (before after : EngineView C) (caches next : List (CacheView V)) (number : ℕ) (batch : List (List ℕ))
-    → ((records : List (List ℕ)) → AreKept f decoding history records before caches → AreKept f decoding history (records ++ batch) after next)
-    → Says (IsSilent f decoding history before caches) (IsSilent f decoding history after next) number batch [] []
-unfolding Says
-silent_more f decoding history before after caches next number batch more =
-    ([], refl, λ records said h count. (append-nil said ∙ h.0, more records h.1))
-
--- a batch more was read and accepted
-pub sampled_more : {C V M : Type 0} (f : V → M) (decoding : C → Decoding M) (history : History) (first now after old mid : Option (List ℕ)) (n m : ℕ) (end : BatchEnd) (before next final : EngineView C) (given : BatchOutput V) (caches later : List (CacheView V)) (again : History)
-    → (next.catalog ≡ before.catalog) × (next.config ≡ before.config) → final ≡ next → again ≡ history
-    → Progress (IsSilent f decoding history before caches) first now old mid n [] → (r : RunsBatch f decoding now after n m end before next given) → AllAccept given.outputs.items caches later
-    → Progress (IsSilent f decoding again final later) first r.reads.here old mid m []
-sampled_more f decoding history first now after old mid n m end before next final given caches later again same is keep p r a =
-    let more = many_more _ _ first now r.reads.here old mid n [] [] r.batch p r.reads.read r.reads.each
-    (silent_more f decoding history before next caches later n r.batch (λ records k. kept_more f decoding history records r.batch before next given caches later same k (r.takes.stands records k.stands) (r.takes.gives records k.stands) a)) in
-    subst (λ h. Progress (IsSilent f decoding h final later) first r.reads.here old mid m []) (sym keep)
-    (subst (λ e. Progress (IsSilent f decoding history e later) first r.reads.here old mid m []) (sym is)
-    (subst (λ k. Progress (IsSilent f decoding history next later) first r.reads.here old mid k []) (sym r.reads.count) more))
-
--- there is an output for each cache
-pub sampled_many : {C V M : Type 0} (f : V → M) (decoding : C → Decoding M) (history : History) (first now after old mid : Option (List ℕ)) (n m : ℕ) (end : BatchEnd) (before next : EngineView C) (given : BatchOutput V) (caches : List (CacheView V))
-    → Progress (IsSilent f decoding history before caches) first now old mid n [] → RunsBatch f decoding now after n m end before next given
-    → length given.outputs.items ≡ length caches
-sampled_many f decoding history first now after old mid n m end before next given caches p r =
-    outputs_many f decoding history p.records r.batch before caches given p.says.1 (r.takes.gives p.records p.says.1.stands)
-
--- runs of one catalog and one configuration that are kept alike have one text
+-- runs with the same catalog, configuration, summary setting and history have the same text
 pub same_samples : {C M : Type 0} (text : C → M → List ℕ) (decoding : C → Decoding M) (a b : EngineView C) (s t : Bool) (j k : History) → a.catalog ≡ b.catalog → a.config ≡ b.config → s ≡ t → j ≡ k
     → (records : List (List ℕ)) → samples_by text decoding a s j records ≡ samples_by text decoding b t k records
 same_samples {C} text decoding a b s t j k same e f g records =
@@ -138,7 +112,7 @@ same_samples {C} text decoding a b s t j k same e f g records =
     ∙ ap (λ u. samples_text (text b.catalog) (decoding b.catalog) b.config u j records) f
     ∙ ap (λ u. samples_text (text b.catalog) (decoding b.catalog) b.config t u records) g
 
--- ---- how it stops
+-- ---- how a run stops
 
 pub late : (text : List (List ℕ) → List ℕ) (fault : RunFault) (before after old new : Option (List ℕ)) → Stops text fault before after old new → StopsLate text fault before after old new
 unfolding Stops StopsLate
@@ -150,69 +124,9 @@ late text (CutRecord n) before after old new h = h
 late text (RecordTooLong n) before after old new h = h
 late text TooManyRecords before after old new h = h
 
-nothing_front : (whole : List (List ℕ) → List ℕ) (records more : List (List ℕ)) (words : List ℕ) → words ≡ [] → IsFront words (whole (records ++ more))
-nothing_front whole records more words e = (whole (records ++ more), ap (λ w. w ++ whole (records ++ more)) (sym e))
-
--- memory ran out before anything was said
-pub stops_silent : {C V M : Type 0} (f : V → M) (decoding : C → Decoding M) (history : History) (engine : EngineView C) (caches : List (CacheView V)) (whole : List (List ℕ) → List ℕ) (first now after old mid : Option (List ℕ)) (n : ℕ) (fault : RunFault)
-    → n ≤ 4294967295 → Progress (IsSilent f decoding history engine caches) first now old mid n [] → fault ≡ NoMemory → StopsLate whole fault first after old mid
-stops_silent f decoding history engine caches whole first now after old mid n fault few p is =
-    subst (λ e. StopsLate whole e first after old mid) (sym is)
-    (late whole NoMemory first after old mid
-    (stops_without _ whole whole first now after old mid n [] few p (λ records more words s. nothing_front whole records more words s.0) (λ records. refl)))
-
--- all was written
-pub finished : {C V M : Type 0} (f : V → M) (decoding : C → Decoding M) (history : History) (engine : EngineView C) (caches : List (CacheView V)) (text whole : List (List ℕ) → List ℕ) (first now old mid new : Option (List ℕ)) (n : ℕ)
-    → (p : Progress (IsSilent f decoding history engine caches) first now old mid n []) → ((records : List (List ℕ)) → text records ≡ whole records)
-    → Appends mid new (text p.records) → Finished whole first now old new n
-finished f decoding history engine caches text whole first now old mid new n p same put = record {
-  records = p.records;
-  count = p.count;
-  each = p.each;
-  read = p.read;
-  wrote = subst (Appends old new) (ap (λ w. w ++ text p.records) (sym (append-nil p.written) ∙ p.says.0) ∙ same p.records)
-      (Appends-trans _ _ _ _ _ p.wrote put);
-}
-
--- a front was written
-pub stops_late : {C V M : Type 0} (f : V → M) (decoding : C → Decoding M) (history : History) (engine : EngineView C) (caches : List (CacheView V)) (text whole : List (List ℕ) → List ℕ) (first now after old mid new : Option (List ℕ)) (n : ℕ) (end : Option RunFault) (fault : RunFault)
-    → n ≤ 4294967295 → EndsHere end n now after → (p : Progress (IsSilent f decoding history engine caches) first now old mid n []) → ((records : List (List ℕ)) → text records ≡ whole records)
-    → PutsFront mid new (text p.records) → (fault ≡ CannotWrite) ⊎ (fault ≡ NoMemory)
-    → StopsLate whole fault first after old new
-unfolding Stops StopsLate ClosesNot
-stops_late f decoding history engine caches text whole first now after old mid new n end fault few ends p same put is =
-    let these = p.records in
-    let said : List (List ℕ) → List ℕ → Type 0 = λ records words. (records ≡ these) × (words ≡ []) in
-    let progress : Progress said first now old mid n [] = record {
-      records = these;
-      written = p.written;
-      count = p.count;
-      each = p.each;
-      read = p.read;
-      wrote = p.wrote;
-      says = (refl, p.says.0);
-    } in
-    let front : PutsFront mid new (whole these) = subst (PutsFront mid new) (same these) put in
-    let both : WroteFront whole first old new ⊎ WroteReadFront whole first after old new =
-    stops_closing said whole whole first now after old mid new n [] end CannotWrite few ends progress
-    (λ records more words s. nothing_front whole records more words s.1) (λ records. refl)
-    (inr (refl, (whole these, front, λ records written s. ap whole s.0 ∙ ap (λ w. w ++ whole these) (sym (sym (append-nil written) ∙ s.1))))) in
-    elim is [
-      | inl e ↦ subst (λ k. StopsLate whole k first after old new) (sym e) both
-      | inr e ↦ subst (λ k. StopsLate whole k first after old new) (sym e) both
-    ]
-
-pub fails_late : {U C V M : Type 0} (f : V → M) (decoding : C → Decoding M) (history : History) (engine : EngineView C) (caches : List (CacheView V)) (text whole : List (List ℕ) → List ℕ) (first now after old mid new : Option (List ℕ)) (n : ℕ) (end : Option RunFault) (r : Result U RunFault)
-    → n ≤ 4294967295 → EndsHere end n now after → (p : Progress (IsSilent f decoding history engine caches) first now old mid n []) → ((records : List (List ℕ)) → text records ≡ whole records)
-    → OnErr r (PutsFront mid new (text p.records)) → IfErr r (λ fault. (fault ≡ CannotWrite) ⊎ (fault ≡ NoMemory))
-    → IfErr r (λ fault. StopsLate whole fault first after old new)
-fails_late f decoding history engine caches text whole first now after old mid new n end (Ok u) few ends p same put is = tt
-fails_late f decoding history engine caches text whole first now after old mid new n end (Err e) few ends p same put is =
-    stops_late f decoding history engine caches text whole first now after old mid new n end e few ends p same put is
-
 -- ---- the last text
 
--- entries and summary
+-- the text is the lines of the entries, followed by the summary
 pub all_text : {C V M : Type 0} (text : C → M → List ℕ) (f : V → M) (decoding : C → Decoding M) (engine : EngineView C) (summary : Bool) (history : History) (records : List (List ℕ)) (caches : List (CacheView V)) (catalog : C) (rest : List ℕ)
     → AreKept f decoding history records engine caches → catalog ≡ engine.catalog → rest ≡ (if summary then summary_text (run_by decoding engine records) else [])
     → samples_by text decoding engine summary history records ≡ entry_lines (text catalog) history (run_by decoding engine records).put (length caches) ++ rest
@@ -222,16 +136,16 @@ all_text {C} text f decoding engine summary history records caches catalog rest 
     ∙ ap (λ l. entry_lines (text engine.catalog) history (run_by decoding engine records).put (length caches) ++ l) (sym e)
     ∙ ap (λ (c : C). entry_lines (text c) history (run_by decoding engine records).put (length caches) ++ rest) (sym same)
 
--- the entries are on their way, and nothing was kept back before
+-- the lines of the entries were added, and nothing was kept back before
 pub entries_printed : (old mid : Option (List ℕ)) (kept entries left whole rest : List ℕ) → kept ≡ [] → Moves old mid (kept ++ entries) left → whole ≡ entries ++ rest → Printed old mid whole left rest
 entries_printed old mid kept entries left whole rest none m e = moves_printed old mid (kept ++ entries) left whole rest m (e ∙ ap (λ k. (k ++ entries) ++ rest) (sym none))
 
--- all of it is written
+-- the whole text was written
 pub all_written : (old mid new : Option (List ℕ)) (whole left rest out : List ℕ) → Printed old mid whole left rest → out ≡ left ++ rest → Appends mid new out → Appends old new whole
 all_written old mid new whole left rest out p e put =
     subst (Appends old new) (ap (λ l. p.written ++ l) e ∙ sym p.whole_is) (Appends-trans _ _ _ _ _ p.wrote put)
 
--- or a front of it
+-- a prefix of the text was written
 pub front_written : (old mid new : Option (List ℕ)) (whole left rest out : List ℕ) → Printed old mid whole left rest → out ≡ left ++ rest → PutsFront mid new out → PutsFront old new whole
 front_written old mid new whole left rest out p e put =
     let done : Printed old mid whole out [] = printed_more old mid whole left rest [] out (subst (Printed old mid whole left) (sym (append-nil rest)) p) e in

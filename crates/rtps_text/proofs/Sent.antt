@@ -1,4 +1,4 @@
--- What is sent of a batch, place by place, is what the run sends of it.
+-- What is sent for a batch, place by place, is what the run sends for it.
 use Rattle.std.proofs.Common.{◌≡◌, ℕ, zero, suc, ◌+◌, ◌<◌, ◌≤◌, List, [], ◌∷◌, ◌++◌, Bool, true, false, not, if◌then◌else◌, Option, None, Some, arith, refl, subst, sym, ap, ◌∙◌, map, length, take, drop, get_or, append-nil, append_assoc, take-append-drop, inl, inr}
 use Rattle.std.specs.Prelude.{◌==◌, filter, vec_len}
 use Rattle.std.specs.List.{AllByRecursion, flat_map}
@@ -58,7 +58,7 @@ below_send {M} parts place (suc rank) =
     ∙ ap (λ l. l ++ sends_of sent) (notices_send rank (notices_at place (parts.told rank)))
     ∙ answers_send (sent_by (Some rank)) (λ s. refl) (answers_at place (parts.sent rank)))
 
--- what is sent of parts at a place
+-- what is sent at a place, from the parts of a batch
 abbrev part_sends : {M : Type 0} → PartsByRank M → ℕ → Place → List (Locator × List ℕ)
 part_sends parts count place =
     replies_sends (answers_at place parts.answers) ++ ranks_send parts.sent place count
@@ -76,7 +76,7 @@ parts_send {M} parts count (p ∷ ps) =
     ∙ ap (λ l. replies_sends (answers_at p parts.answers) ++ l) (below_send parts p count))
     ∙ ap (λ l. part_sends parts count p ++ l) (parts_send parts count ps)
 
--- whatever values mean, the same is sent
+-- what is sent doesn't depend on the meanings of values
 pub given_send : {V M : Type 0} (f : V → M) (given : BatchOutput V)
     → sends_of (merged (parts_given f given) (length given.outputs.items) given.places.items)
     ≡ given_sends given
@@ -85,7 +85,7 @@ given_send {V} f given =
     parts_send (parts_given f given) count given.places.items
     ∙ sym (parts_send (parts_given (λ (v : V). v) given) count given.places.items)
 
--- what a batch gave is by place
+-- the answers of a batch are sorted by place
 pub given_by_place : {V M : Type 0} (f : V → M) (before after : World M) (given : BatchOutput V)
     → IsGiven f before after given → AreAnswersByPlace given
 given_by_place f before after given g =
@@ -93,7 +93,7 @@ given_by_place f before after given g =
 
 -- ---- the answers at a place
 
--- the next one is at another place
+-- if the next answer is at another place, no more answers are at this place
 pub answers_stop : {X : Type 0} (view : X → Place × ReplyView) (place : Place) (xs : List X) (i : ℕ)
     (x : X) → i < length xs → x ≡ get_or xs i x → same_place (view x).0 place ≡ false
     → first_answers place (map view (drop i xs)) ≡ []
@@ -102,7 +102,7 @@ answers_stop view place xs i x below here other =
     (drop_more xs i x below ∙ ap (λ y. y ∷ drop (i + 1) xs) (sym here))
     ∙ ap (λ b. if b then view x ∷ first_answers place (map view (drop (i + 1) xs)) else []) other
 
--- it is at this one
+-- if the next answer is at this place, it is the first of those at this place
 pub answers_more : {X : Type 0} (view : X → Place × ReplyView) (place : Place) (xs : List X) (i : ℕ)
     (x : X) → i < length xs → x ≡ get_or xs i x → same_place (view x).0 place ≡ true
     → first_answers place (map view (drop i xs))
@@ -118,19 +118,19 @@ drop_past [] (suc n) past = refl
 drop_past (x ∷ xs) zero past = absurd (omega (arith, past))
 drop_past (x ∷ xs) (suc n) past = drop_past xs n (omega (arith, past))
 
--- there is none any more
+-- past the end of the list, no more answers are at this place
 pub answers_end : {X : Type 0} (view : X → Place × ReplyView) (place : Place) (xs : List X) (i : ℕ)
     → length xs ≤ i → first_answers place (map view (drop i xs)) ≡ []
 answers_end view place xs i past = ap (λ l. first_answers place (map view l)) (drop_past xs i past)
 
--- of these answers some were sent, and these are left
+-- some of these answers were sent, and the others are left
 pub record AreSent (first now : Option (List Traffic)) (whole left : List (Place × ReplyView))
     : Type 0 where
   pub sent : List (Locator × List ℕ)
   pub grows : Grows first now (sendings sent)
   pub rest : sent ++ replies_sends left ≡ replies_sends whole
 
--- none was
+-- no answer was sent yet
 pub none_sent : (now : Option (List Traffic)) (whole : List (Place × ReplyView))
     → AreSent now now whole whole
 none_sent now whole = record { sent = []; grows = Grows-nil now; rest = refl }
@@ -139,7 +139,7 @@ sendings_both : (xs ys : List (Locator × List ℕ)) → sendings xs ++ sendings
 sendings_both [] ys = refl
 sendings_both (x ∷ xs) ys = ap (λ l. Sent x.0 x.1 ∷ l) (sendings_both xs ys)
 
--- one more
+-- one more answer was sent
 pub more_sent : (first now after : Option (List Traffic)) (whole left rest : List (Place × ReplyView))
     (s : Place × ReplyView) (to : List Locator) (octets : List ℕ) → left ≡ s ∷ rest
     → to ≡ s.1.to → octets ≡ s.1.octets → Grows now after (sendings (to_each to octets))
@@ -158,7 +158,7 @@ more_sent first now after whole left rest s to octets e goes is grows a =
           ∙ ap (λ l. a.sent ++ replies_sends l) (sym e) ∙ a.rest;
     }
 
--- all
+-- all answers were sent
 pub all_sent : (where_so : Type 0) (first now : Option (List Traffic))
     (whole left all : List (Place × ReplyView)) → left ≡ [] → (where_so → whole ≡ all)
     → AreSent first now whole left → Sends where_so first now (replies_sends all)
@@ -170,7 +170,7 @@ all_sent where_so first now whole left all none is a = record {
       ∙ ap replies_sends (is here);
 }
 
--- in a list by place those at a place begin where those before it end
+-- in a list that is sorted by place, the answers at a place begin after those before it
 pub front_here : {X : Type 0} (view : X → Place × ReplyView) (place : Place) (xs left : List X)
     (n : ℕ) → left ≡ drop n xs
     → (IsPartitionedBy (λ x. is_before (view x).0 place) xs
@@ -196,7 +196,7 @@ rank_by given place rank h = record {
       (h.by_place.sent rank);
 }
 
--- those of one rank more
+-- the answers of one more rank were sent
 pub rank_sent : {V : Type 0} (given : BatchOutput V) (place : Place) (first now after : Option (List Traffic))
     (said : List (Locator × List ℕ)) (outputs : List (Output V Global)) (rank : ℕ)
     (o : Output V Global) (replies : List (Place × Reply Global)) → outputs ≡ given.outputs.items
@@ -226,7 +226,7 @@ same_at [] i d e below = absurd (omega (arith, below))
 same_at (x ∷ xs) zero d e below = refl
 same_at (x ∷ xs) (suc i) d e below = same_at xs i d e (omega (arith, below))
 
--- those at one place more
+-- the answers at one more place were sent
 pub place_sent : {V : Type 0} (given : BatchOutput V) (those : List Place)
     (first now after : Option (List Traffic)) (i : ℕ) (other : Place)
     → those ≡ given.places.items → i < length those
@@ -261,7 +261,7 @@ take_past [] (suc n) past = refl
 take_past (x ∷ xs) zero past = absurd (omega (arith, past))
 take_past (x ∷ xs) (suc n) past = ap (λ l. x ∷ l) (take_past xs n (omega (arith, past)))
 
--- those at all places
+-- the answers at all places were sent
 pub places_sent : {V : Type 0} (given : BatchOutput V) (those : List Place)
     (first now : Option (List Traffic)) (i : ℕ) → those ≡ given.places.items → length those ≤ i
     → Sends (AreAnswersByPlace given) first now
@@ -296,14 +296,14 @@ no_place_sends given (p ∷ ps) h =
     ∙ ap (λ l. replies_sends (answers_at p (map answer_view l))
     ++ ranks_send (sent_in given.outputs.items) p (length given.outputs.items)) (sym h.said))
 
--- where there is no answer, nothing is sent
+-- if there is no answer, nothing is sent
 pub nothing_sends : {V : Type 0} (given : BatchOutput V) → HasNoAnswer given → [] ≡ given_sends given
 nothing_sends {V} given h =
     no_place_sends given given.places.items h
     ∙ sym (parts_send (parts_given (λ (v : V). v) given) (length given.outputs.items)
     given.places.items)
 
--- one rank more has no answer
+-- if the output at a rank has no answer, the reader of the rank sends none
 pub none_more : {V : Type 0} (outputs those : List (Output V Global)) (i : ℕ) (o : Output V Global)
     → outputs ≡ those → i < length outputs → o ≡ get_or outputs i o → o.answers.items ≡ []
     → sent_in those i ≡ []
@@ -311,7 +311,7 @@ none_more outputs those i o same below here none =
     ap (λ l. sent_in l i) (sym same) ∙ sent_some outputs i o below here
     ∙ ap (map answer_view) none
 
--- there is none of a rank that there is not
+-- if no output has an answer, no rank has one
 pub none_past : {V : Type 0} (outputs those : List (Output V Global)) (i rank : ℕ)
     → outputs ≡ those → length outputs ≤ i → ((k : ℕ) → k < i → sent_in those k ≡ [])
     → sent_in those rank ≡ []
@@ -321,7 +321,7 @@ none_past outputs those i rank same past none = elim (cases_lt rank i) [
       ap (λ l. sent_in l rank) (sym same) ∙ sent_none outputs rank (omega (arith, past, over))
 ]
 
--- a list whose length isn't above 0 is empty
+-- a list of length 0 is empty
 pub no_items : {X : Type 0} (v : Vec X Global) (b : Bool) → b ≡ (vec_len v == 0) → b ≡ true
     → v.items ≡ []
 no_items v b is holds =
@@ -329,7 +329,7 @@ no_items v b is holds =
     let zero : vec_len v ≡ 0 = grind (arith, nat_tests) in
     nil_from_length v.items (omega (arith, zero, v.ok.0))
 
--- one more rank has no answer
+-- if neither the ranks below i nor rank i have answers, no rank below i + 1 has any
 pub none_below : {V : Type 0} (those : List (Output V Global)) (i rank : ℕ) → rank < i + 1
     → ((k : ℕ) → k < i → sent_in those k ≡ []) → sent_in those i ≡ [] → sent_in those rank ≡ []
 none_below those i rank below none here = elim (cases_lt rank i) [

@@ -1,4 +1,5 @@
--- The lines of neighbouring places, made apart: where their lists begin, and how the texts are put together.
+-- The lines of consecutive places, made separately: where their lists begin, and how the texts are
+-- joined.
 use Rattle.std.proofs.Common.{◌≡◌, ℕ, zero, suc, ◌+◌, ◌*◌, ◌<◌, ◌≤◌, List, [], ◌∷◌, ◌++◌, Bool, true, false, not, if◌then◌else◌, None, arith, refl, subst, sym, ap, ◌∙◌, map, length, take, drop, get_or, nat_lt, append_assoc, Result, Ok, Err, IfOk, take-append-drop}
 use Rattle.std.specs.Prelude.{Option, Some, None, filter, slice_get, slice_index_or}
 use Rattle.std.specs.List.{AllByRecursion, flat_map}
@@ -30,7 +31,7 @@ use Rattle.rtps_text.specs.declared.line_formatter.Slice.{Slice}
 use Rattle.rtps_text.proofs.Along.{places_merged}
 use Rattle.rtps_text.proofs.Fronts.{sent_none, sent_some, told_none, told_some}
 
--- ---- lists that are cut by a test
+-- ---- lists that are partitioned by a test
 
 filter_all : {X : Type 0} (q : X → Bool) (xs : List X) → AllByRecursion (λ x. q x ≡ true) xs → filter q xs ≡ xs
 filter_all q [] all = refl
@@ -52,7 +53,7 @@ all_both : {X : Type 0} (P : X → Type 0) (xs ys : List X) → AllByRecursion P
 all_both P [] ys all more = more
 all_both P (x ∷ xs) ys all more = (all.0, all_both P xs ys all.1 more)
 
--- from the point on are those that fail the test
+-- the items from the partition point on are those that fail the test
 pub point_splits : {X : Type 0} (test : X → Bool) (xs : List X) (n : ℕ) → IsPartitionPoint (λ y. test y ≡ true) (λ y. test y ≡ false) xs n
     → drop n xs ≡ filter (λ x. not (test x)) xs
 point_splits test [] zero h = refl
@@ -71,7 +72,7 @@ at_place P [] k d all l = absurd (omega (arith, l))
 at_place P (x ∷ xs) zero d all l = all.0
 at_place P (x ∷ xs) (suc k) d all l = at_place P xs k d all.1 (omega (arith, l))
 
--- those that pass a test, and then those that fail it
+-- items that pass a test, followed by items that fail it, are partitioned by the test
 both_parted : {X : Type 0} (test : X → Bool) (xs ys : List X) → AllByRecursion (λ x. test x ≡ true) xs → AllByRecursion (λ x. test x ≡ false) ys → IsPartitionedBy test (xs ++ ys)
 both_parted test [] ys pass fail i j d le l e =
     absurd (let bad : true ≡ false = sym e ∙ at_place (λ x. test x ≡ false) ys j d fail l in cc)
@@ -79,7 +80,7 @@ both_parted test (x ∷ xs) ys pass fail zero j d le l e = pass.0
 both_parted test (x ∷ xs) ys pass fail (suc i) zero d le l e = absurd (omega (arith, le))
 both_parted test (x ∷ xs) ys pass fail (suc i) (suc j) d le l e = both_parted test xs ys pass.1 fail i j d (omega (arith, le)) (omega (arith, l)) e
 
--- the same by what is seen of the items
+-- an item of a mapped list is the mapped item of the list
 index_map : {X Y : Type 0} (f : X → Y) (xs : List X) (k : ℕ) (d : X) → slice_index_or (map f xs) k (f d) ≡ f (slice_index_or xs k d)
 index_map f [] k d = refl
 index_map f (x ∷ xs) zero d = refl
@@ -111,7 +112,7 @@ drop_map f (suc n) (x ∷ xs) = drop_map f n xs
 pub cut_map : {X Y : Type 0} (f : X → Y) (q : Y → Bool) (xs : List X) (n : ℕ) → drop n xs ≡ filter (λ x. q (f x)) xs → drop n (map f xs) ≡ filter q (map f xs)
 cut_map f q xs n e = drop_map f n xs ∙ ap (map f) e ∙ filter_map f q xs
 
--- ---- lists by place
+-- ---- lists that are sorted by place
 
 earlier : (x b p : Place) → same_place x b ≡ true → not_after p b ≡ false → is_before x p ≡ true
 earlier x b p at later = let g : same_place x b ≡ true = at in let h : not_after p b ≡ false = later in grind (arith, nat_tests, g, h)
@@ -162,14 +163,14 @@ module _ {X : Type 0} (place : X → Place) where
       (all_weaker (λ x. same_place (place x) p ≡ true) (λ x. is_before (place x) p ≡ false) (at p xs) (λ x e. just_here (place x) p e) (all_at p xs))
       (all_along (λ x. is_before (place x) p ≡ false) cs xs (λ c. not_after c p ≡ false) (λ c x later at. here_or_later (place x) c p at later) later)
 
-  -- a list by place is cut by each of its places
+  -- a list that is sorted by place is partitioned by each of its places
   pub along_parted : (bs : List Place) (p : Place) (cs : List Place) (xs : List X) → AreRising (bs ++ p ∷ cs) → along (bs ++ p ∷ cs) xs ≡ xs → IsPartitionedBy (λ x. is_before (place x) p) xs
   along_parted bs p cs xs rising e =
       let later = rising_later bs p cs rising in
       subst (IsPartitionedBy (λ x. is_before (place x) p)) (sym (flat_map-append (λ q. at q xs) bs (p ∷ cs)) ∙ e)
       (both_parted (λ x. is_before (place x) p) (along bs xs) (along (p ∷ cs) xs) (all_before bs p xs later.0) (none_before p cs xs later.1))
 
-  -- and from there on it is at the places that are left
+  -- and from there on it has the items at the places that are left
   pub along_left : (bs : List Place) (p : Place) (cs : List Place) (xs : List X) → AreRising (bs ++ p ∷ cs) → along (bs ++ p ∷ cs) xs ≡ xs → filter (λ x. not (is_before (place x) p)) xs ≡ along (p ∷ cs) xs
   along_left bs p cs xs rising e =
       let later = rising_later bs p cs rising in
@@ -185,7 +186,7 @@ along_none : {X : Type 0} (place : X → Place) (ps : List Place) → along plac
 along_none place [] = refl
 along_none place (p ∷ ps) = along_none place ps
 
--- a list that is seen by its items' views is left from where those before a place end
+-- what is left of a list after the items before a place, with the items seen through a view
 pub list_left : {X Y : Type 0} (view : X → Y) (place : Y → Place) (before : List Place) (p : Place) (after places : List Place) (xs : List X) (ys : List Y) (n : ℕ)
     → places ≡ before ++ p ∷ after → AreRising places → along place places ys ≡ ys → ys ≡ map view xs
     → (IsPartitionedBy (λ x. is_before (place (view x)) p) xs → drop n xs ≡ filter (λ x. not (is_before (place (view x)) p)) xs)
@@ -198,7 +199,7 @@ list_left view place before p after places xs ys n cut rising is seen left =
     ap (drop n) seen ∙ cut_map view (λ y. not (is_before (place y) p)) xs n from
     ∙ ap (filter (λ y. not (is_before (place y) p))) (sym seen) ∙ along_left place before p after ys up all
 
--- the lists of the reader of a rank
+-- what is left of the lists of the reader of a rank
 pub left_some : {V M : Type 0} (f : V → M) (given : BatchOutput V) (before : List Place) (p : Place) (after : List Place) (rank : ℕ) (outputs : List (Output V Global)) (o : Output V Global)
     (ns : List (Notice V)) (rs : List (Place × Reply Global)) (n m : ℕ)
     → outputs ≡ given.outputs.items → true ≡ nat_lt rank (length outputs) → o ≡ get_or outputs rank o → given.places.items ≡ before ++ p ∷ after → AreByPlace f given
@@ -214,7 +215,7 @@ left_some {V} {M} f given before p after rank outputs o ns rs n m same test e cu
       sent = list_left answer_view (λ (s : Place × ReplyView). s.0) before p after given.places.items rs (sent_in given.outputs.items rank) m cut by.places (by.answers rank) (sent ∙ ap (map answer_view) (sym all_answers)) answers;
     }
 
--- where there is no such reader
+-- what is left if there is no such reader
 pub left_none : {V M : Type 0} (f : V → M) (given : BatchOutput V) (p : Place) (after : List Place) (rank : ℕ) (outputs : List (Output V Global))
     → outputs ≡ given.outputs.items → false ≡ nat_lt rank (length outputs)
     → IsLeft (parts_given f given) (p ∷ after) (record { rank = rank; notices = 0; answers = 0 })
@@ -227,7 +228,7 @@ left_none {V} {M} f given p after rank outputs same test =
       sent = sent ∙ sym (along_none (λ (s : Place × ReplyView). s.0) (p ∷ after)) ∙ ap (along (λ (s : Place × ReplyView). s.0) (p ∷ after)) (sym sent);
     }
 
--- discovery's answers
+-- what is left of discovery's answers
 pub left_said : {V M : Type 0} (f : V → M) (given : BatchOutput V) (before : List Place) (p : Place) (after : List Place) (items : List (Place × Reply Global)) (n : ℕ)
     → items ≡ given.answers.items → given.places.items ≡ before ++ p ∷ after → AreByPlace f given
     → (IsPartitionedBy (λ a. is_before a.0 p) items → drop n items ≡ filter (λ a. not (is_before a.0 p)) items)
@@ -235,7 +236,7 @@ pub left_said : {V M : Type 0} (f : V → M) (given : BatchOutput V) (before : L
 left_said f given before p after items n same cut by left =
     list_left answer_view (λ (s : Place × ReplyView). s.0) before p after given.places.items items (map answer_view given.answers.items) n cut by.places by.said (ap (map answer_view) (sym same)) left
 
--- one reader more
+-- one more reader
 pub left_more : {M : Type 0} (parts : PartsByRank M) (places : List Place) (cs : List Cursor) (c : Cursor) → AllByRecursion (IsLeft parts places) cs → IsLeft parts places c → AllByRecursion (IsLeft parts places) (cs ++ c ∷ [])
 left_more parts places cs c all one = all_both (IsLeft parts places) cs (c ∷ []) all (one, tt)
 
@@ -248,20 +249,20 @@ rising_back : (bs cs : List Place) → AreRising (bs ++ cs) → AreRising cs
 rising_back [] cs rising = rising
 rising_back (b ∷ bs) cs rising = rising_back bs cs rising.1
 
--- the places of a slice, from where its lists begin
+-- all places, split at the first place of a slice
 pub slice_cut : (slice : List Place) (p : Place) (ps before after places : List Place) → places ≡ before ++ (slice ++ after) → slice ≡ p ∷ ps → places ≡ before ++ p ∷ (ps ++ after)
 slice_cut slice p ps before after places cut is = cut ∙ ap (λ l. before ++ (l ++ after)) is
 
--- the first place of a slice
+-- a slice that has a first place is that place and the rest
 pub slice_first : (ps : List Place) (p : Place) → Some p ≡ slice_get ps 0 → ps ≡ p ∷ drop 1 ps
 slice_first [] p e = absurd (let bad : ◌≡◌ {A = Option Place} (Some p) None = e in cc)
 slice_first (x ∷ ps) p e = let same : ◌≡◌ {A = Option Place} (Some p) (Some x) = e in cc
 
--- what is printed of a slice from there on are its parts, merged
-pub spelled : {V M : Type 0} (text : M → List ℕ) (f : V → M) (given : BatchOutput V) (count : ℕ) (slice : List Place) (p : Place) (ps before after : List Place) (said : ℕ) (readers : List Cursor)
+-- what is printed for a slice from there on is its parts, merged
+pub formatted : {V M : Type 0} (text : M → List ℕ) (f : V → M) (given : BatchOutput V) (count : ℕ) (slice : List Place) (p : Place) (ps before after : List Place) (said : ℕ) (readers : List Cursor)
     → given.places.items ≡ before ++ (slice ++ after) → slice ≡ p ∷ ps → AreByPlace f given → AreLeft (parts_given f given) count (p ∷ (ps ++ after)) said readers
     → places_lines text (parts_given f given) slice said readers ≡ merged_lines text f given count slice
-spelled text f given count slice p ps before after said readers cut is by left =
+formatted text f given count slice p ps before after said readers cut is by left =
     let rising = rising_back before (slice ++ after) (subst AreRising cut by.places) in
     places_merged text (parts_given f given) count slice after said readers rising
     (subst (λ l. AreLeft (parts_given f given) count (l ++ after) said readers) (sym is) left)
@@ -277,7 +278,7 @@ merged-append parts count (p ∷ ps) qs =
 size_more : (size n : ℕ) → suc n * size ≡ size + n * size
 size_more size n = omega (arith, suc-mul n size)
 
--- slices of one size, up to the last place, are all of the places
+-- slices of one size that reach the last place are all of the places
 pub all_cut : (size : ℕ) (slices : List Slice) (places : List Place) → ((n : ℕ) (d : Slice) → n < length slices → (slice_index_or slices n d).places.now ≡ take size (drop (n * size) places))
     → length places ≤ length slices * size → flat_map (λ (s : Slice). s.places.now) slices ≡ places
 all_cut size [] [] each few = refl
@@ -292,7 +293,7 @@ all_cut size (s ∷ slices) places each few =
     rest : (n : ℕ) (d : Slice) → n < length slices → (slice_index_or slices n d).places.now ≡ take size (drop (n * size) (drop size places))
     rest n d l = each (suc n) d (omega (arith, l)) ∙ ap (λ k. take size (drop k places)) (size_more size n) ∙ ap (take size) (sym (drop-drop (n * size) size places))
 
--- each slice is one of all places
+-- the places of each slice are a consecutive part of all places
 pub among : (slices : List Slice) (n : ℕ) (d : Slice) → n < length slices → IsSliceOf (slice_index_or slices n d).places.now (flat_map (λ (s : Slice). s.places.now) slices)
 among [] n d l = absurd (omega (arith, l))
 among (s ∷ slices) zero d l = ([], flat_map (λ (s : Slice). s.places.now) slices, refl)
@@ -301,7 +302,7 @@ among (s ∷ slices) (suc n) d l =
     let slice = (slice_index_or slices n d).places.now in
     (s.places.now ++ rest.0, rest.1, ap (λ ps. s.places.now ++ ps) rest.2 ∙ sym (append_assoc s.places.now rest.0 (slice ++ rest.1)))
 
--- each text has the lines of its slice
+-- if each text has the lines of its slice, the texts are the lines of all slices
 pub pieces : {M : Type 0} (text : M → List ℕ) (parts : PartsByRank M) (count : ℕ) (texts : List (Result (Vec ℕ Global) AllocError)) (slices : List Slice) → length texts ≡ length slices
     → ((n : ℕ) (d : Result (Vec ℕ Global) AllocError) (s : Slice) → n < length slices → IfOk (slice_index_or texts n d) (λ t. t.items ≡ put_lines text (merged parts count (slice_index_or slices n s).places.now)))
     → AreTexts texts (put_lines text (merged parts count (flat_map (λ (s : Slice). s.places.now) slices)))
@@ -320,18 +321,18 @@ pieces text parts count (Ok t ∷ texts) (s ∷ slices) len each =
       pieces text parts count texts slices (omega (arith, len)) (λ n d x l. each (suc n) d x (omega (arith, l))),
     )
 
--- two facts of what came, where it came
+-- if a result is Ok, two facts about its value and what follows from both hold
 pub if_ok_both : {X E : Type 0} {P Q S : X → Type 0} (r : Result X E) → IfOk r P → IfOk r Q → ((x : X) → P x → Q x → S x) → IfOk r S
 if_ok_both (Ok x) p q h = h x p q
 if_ok_both (Err e) p q h = tt
 
--- the next text
+-- the next text, and the texts after it
 pub texts_next : (texts more : List (Result (Vec ℕ Global) AllocError)) (t : Vec ℕ Global) (whole : List ℕ) → texts ≡ Ok t ∷ more → AreTexts texts whole
     → (rest : List ℕ) × (whole ≡ t.items ++ rest) × AreTexts more rest
 unfolding AreTexts
 texts_next texts more t whole e at = subst (λ (ts : List (Result (Vec ℕ Global) AllocError)). AreTexts ts whole) e at
 
--- no text is left
+-- if no text is left, no octets are left
 pub texts_done : (texts : List (Result (Vec ℕ Global) AllocError)) (rest : List ℕ) → texts ≡ [] → AreTexts texts rest → rest ≡ []
 unfolding AreTexts
 texts_done texts rest e at = subst (λ (ts : List (Result (Vec ℕ Global) AllocError)). AreTexts ts rest) e at

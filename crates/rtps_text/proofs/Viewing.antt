@@ -1,4 +1,5 @@
--- What a cache that accepted notices hands over means what one does that accepted what they mean.
+-- The meanings of the entries of a cache are the entries of a cache that accepted the meanings of
+-- its notices.
 use Rattle.std.proofs.Common.{◌≡◌, ◌∙◌, suc, List, [], ◌∷◌, ◌++◌, Bool, true, false, ◌||◌, ◌&&◌, if◌then◌else◌, nat_lt, refl, sym, ap, map, length}
 use Rattle.std.specs.Prelude.{filter}
 use Rattle.std.specs.List.{list_any}
@@ -27,7 +28,7 @@ abbrev pub accepted : {X : Type 0} → List (Notice X) → List (Done X)
 accepted [] = []
 accepted (n ∷ ns) = Accepted n ∷ accepted ns
 
--- those that come are put before those that came
+-- more notices are accepted after these; the newest come first
 abbrev pub heard_after : {X : Type 0} → List (Notice X) → List (Notice X) → List (Notice X)
 heard_after hs [] = hs
 heard_after hs (n ∷ ns) = heard_after (n ∷ hs) ns
@@ -40,7 +41,7 @@ heard_map : {X Y : Type 0} (g : Notice X → Notice Y) (hs ns : List (Notice X))
 heard_map g hs [] = refl
 heard_map g hs (n ∷ ns) = heard_map g (n ∷ hs) ns
 
--- ---- no state depends on values
+-- ---- the state of a cache doesn't depend on values
 
 module _ {V M : Type 0} (f : V → M) where
   told_same : (k : KeyHash) (what : NoticeKind V) → told_about k (kind_view f what) ≡ told_about k what
@@ -81,7 +82,7 @@ module _ {V M : Type 0} (f : V → M) where
   state_same : (hs : List (Notice V)) (k : KeyHash) → state_of (accepted (map (notice_view f) hs)) k ≡ state_of (accepted hs) k
   state_same hs k = rw (disposed_same hs k, has_live_same hs k) refl
 
-  -- ---- entries, by what their values mean
+  -- ---- entries, with the meanings of their values
 
   abbrev entry_view : Entry V → Entry M
   entry_view e = record {
@@ -143,7 +144,7 @@ module _ {V M : Type 0} (f : V → M) where
       ∙ ap (with_entry keep (map entry_view (cached keep (accepted hs)).entries)) (entry_same n.place n.writer n.what)
       ∙ with_same keep (cached keep (accepted hs)).entries (entry_by n.place n.writer n.what)
 
--- no call was answered, so each instance is new
+-- no entry was read or taken before, so each instance is new
 all_new : {X : Type 0} (keep : History) (hs : List (Notice X)) (k : KeyHash) → (cached keep (accepted hs)).is_new k ≡ true
 all_new keep [] k = refl
 all_new keep (n ∷ hs) k = rw (all_new keep hs k) refl
@@ -164,7 +165,8 @@ shown_same : {V M : Type 0} (f : V → M) (keep : History) (hs : List (Notice V)
     ≡ shown_by (accepted (map (notice_view f) hs)) (cached keep (accepted (map (notice_view f) hs))) (entry_view f e)
 shown_same f keep hs e = rw (all_new keep hs e.key, all_new keep (map (notice_view f) hs) e.key, state_same f hs e.key) refl
 
--- what is taken means what is taken of what was accepted means
+-- the meanings of the entries that are taken are the entries that are taken after the meanings of
+-- the notices were accepted
 pub taken_same : {V M : Type 0} (f : V → M) (keep : History) (ns : List (Notice V))
     → map (sample_view f) (all_taken keep (accepted_after [] ns)) ≡ all_taken keep (accepted_after [] (map (notice_view f) ns))
 taken_same f keep ns =

@@ -4,8 +4,6 @@ use Rattle.std.specs.declared.alloc.AllocError.{AllocError}
 use Rattle.std.specs.declared.alloc.Global.{Global}
 use Rattle.std.specs.declared.vec.Vec.{Vec}
 use Rattle.rtps_records.specs.Runs.{Moves}
-use Rattle.rtps_records.specs.Batches.{ReadsBatch}
-use Rattle.rtps_records.specs.declared.batch_end.BatchEnd.{BatchEnd}
 use Rattle.dds_topic.specs.Decoding.{Decoding}
 use Rattle.rtps_run.specs.Standing.{EngineView, StandsAt, run_by}
 use Rattle.dds_participant.specs.BatchOutput.{IsGiven}
@@ -14,8 +12,8 @@ use Rattle.dds_participant.specs.declared.batch_output.BatchOutput.{BatchOutput}
 use Rattle.rtps_text.specs.Slices.{AreByPlace, AreTexts, all_lines}
 use Rattle.rtps_text.specs.declared.running.RunLines.{RunLines}
 
--- a run goes on with its catalog and configuration, prints the same things, and gives what its
--- readers report to no outlet where it gave it to none
+-- a run keeps its catalog, its configuration, its summary setting and its pace; if none of its
+-- readers had an outlet, none has one afterwards
 pub record IsSameRun {C V U : Type 0} (old new : RunLines C V U) : Type 0 where
   pub catalog : new.participant.engine.catalog ≡ old.participant.engine.catalog
   pub config : new.participant.engine.config ≡ old.participant.engine.config
@@ -23,7 +21,7 @@ pub record IsSameRun {C V U : Type 0} (old new : RunLines C V U) : Type 0 where
   pub pace : new.pace ≡ old.pace
   pub alone : NoneAttached old.participant.ports → NoneAttached new.participant.ports
 
--- an engine took these records, and this is what it gave
+-- an engine processed these records, and this is its output for them
 pub record TakesRecords {C V M : Type 0} (f : V → M) (decoding : C → Decoding M)
     (records : List (List ℕ)) (old new : EngineView C) (given : BatchOutput V) : Type 0 where
   pub stands : (earlier : List (List ℕ)) → StandsAt decoding earlier old
@@ -31,22 +29,13 @@ pub record TakesRecords {C V M : Type 0} (f : V → M) (decoding : C → Decodin
   pub gives : (earlier : List (List ℕ)) → StandsAt decoding earlier old
       → IsGiven f (run_by decoding old earlier) (run_by decoding old (earlier ++ records)) given
 
--- after n records a batch of them was read, which makes them m, and this is what an engine gave of
--- it
-pub record RunsBatch {C V M : Type 0} (f : V → M) (decoding : C → Decoding M)
-    (before after : Option (List ℕ)) (n m : ℕ) (end : BatchEnd) (old new : EngineView C)
-    (given : BatchOutput V) : Type 0 where
-  pub batch : List (List ℕ)
-  pub reads : ReadsBatch before after n m batch end
-  pub takes : TakesRecords f decoding batch old new given
-
--- of some octets a part was written; what is left is kept back, and after it these texts
+-- a part of these octets was written; the rest is what is kept back, followed by these texts
 abbrev pub MovesBefore : Option (List ℕ) → Option (List ℕ) → List ℕ → List ℕ
     → List (Result (Vec ℕ Global) AllocError) → Type 0
 MovesBefore old new octets left texts =
     (whole : List ℕ) × AreTexts texts whole × Moves old new octets (left ++ whole)
 
--- what is still to be printed: texts that were made, and after them the lines of what a batch gave
+-- what is still to be printed: the texts that were made, and then the lines of a batch's output
 pub record IsDue {V M : Type 0} (text : M → List ℕ) (f : V → M)
     (texts : List (Result (Vec ℕ Global) AllocError)) (given : BatchOutput V) (readers : ℕ)
     (due : List ℕ) : Type 0 where

@@ -1,4 +1,4 @@
--- What the caches of a run's readers keep, and what a run leaves that prints their entries.
+-- What the caches of a run's readers keep, and the outcome of a run that prints their entries.
 use Rattle.std.specs.Prelude.{◌≡◌, ℕ, ◌<◌, ◌⊎◌, List, [], length, map, slice_index_or, Option}
 use Rattle.std.specs.declared.alloc.Global.{Global}
 use Rattle.rtps_records.specs.Runs.{Stops, WroteFront, WroteReadFront}
@@ -16,12 +16,12 @@ use Rattle.rtps_run.specs.Seen.{notices_by}
 use Rattle.rtps_run.specs.Standing.{EngineView, StandsAt, run_by}
 use Rattle.rtps_run.specs.World.{ReportView}
 
--- a cache in which nothing was done
+-- a cache with this history with which nothing was done yet
 pub record IsEmpty {V : Type 0} (history : History) (cache : CacheView V) : Type 0 where
   pub keep : cache.keep ≡ history
   pub stands : shelf.StandsAt [] cache
 
--- a cache accepted notices that mean these, in order
+-- a cache accepted notices with these meanings, in this order
 pub record HasHeard {V M : Type 0} (f : V → M) (history : History) (told : List (Notice M))
     (cache : CacheView V) : Type 0 where
   pub keep : cache.keep ≡ history
@@ -29,27 +29,27 @@ pub record HasHeard {V M : Type 0} (f : V → M) (history : History) (told : Lis
   pub means : map (notice_view f) heard ≡ told
   pub stands : shelf.StandsAt (accepted_after [] heard) cache
 
--- the cache of each rank accepted what the reader of the rank reported
+-- the cache of each rank accepted the notices of the reader of that rank
 abbrev pub AllHeard : {V M : Type 0} → (V → M) → History → List (ReportView M) → List (CacheView V) → Type 0
 AllHeard {V} f keep put caches =
     (rank : ℕ) (other : CacheView V) → rank < length caches
     → HasHeard f keep (notices_by rank put) (slice_index_or caches rank other)
 
--- an engine stands at these records, and there is a cache for each reader, which accepted what the
--- reader reported
+-- the state of an engine is that after these records, and there is a cache for each reader, which
+-- accepted the reader's notices
 pub record AreKept {C V M : Type 0} (f : V → M) (decoding : C → Decoding M) (keep : History)
     (records : List (List ℕ)) (engine : EngineView C) (caches : List (CacheView V)) : Type 0 where
   pub stands : StandsAt decoding records engine
   pub count : length caches ≡ length engine.config.readers.items
   pub heard : AllHeard f keep (run_by decoding engine records).put caches
 
--- a cache goes on by these notices, whatever was done with it before
+-- a cache accepts these notices, whatever was done with it before
 pub record Accepts {V : Type 0} (notices : List (Notice V)) (old new : CacheView V) : Type 0 where
   pub keep : new.keep ≡ old.keep
   pub stands : (past : List (Done V)) → shelf.StandsAt past old
       → shelf.StandsAt (accepted_after past notices) new
 
--- each cache goes on by what the reader of its rank gave out
+-- each cache accepts the notices in the output of the reader of its rank
 pub record AllAccept {V : Type 0} (outputs : List (Output V Global)) (old new : List (CacheView V))
     : Type 0 where
   pub count : length new ≡ length old
@@ -57,9 +57,9 @@ pub record AllAccept {V : Type 0} (outputs : List (Output V Global)) (old new : 
       → Accepts (slice_index_or outputs rank output).notices.items (slice_index_or old rank other)
       (slice_index_or new rank other)
 
--- What a run leaves that stops at a fault, where text is written as the last lines are made: it may
--- be out of memory then, as a write may fail, after a read fault too, in whose place that is
--- reported.
+-- The outcome of a run that stops at a fault, if text is written while the last lines are made.
+-- Memory may run out then, and a write may fail. Either may happen after a read fault too, and is
+-- reported instead of it.
 unfoldable pub StopsLate : (List (List ℕ) → List ℕ) → RunFault → Option (List ℕ)
     → Option (List ℕ) → Option (List ℕ) → Option (List ℕ) → Type 0
 StopsLate text NotRecordFile before after old new = Stops text NotRecordFile before after old new

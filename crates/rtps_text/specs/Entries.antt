@@ -1,4 +1,4 @@
--- What is printed of the entries of readers' caches.
+-- The lines of the entries of the readers' caches.
 use Rattle.std.specs.Prelude.{ℕ, zero, suc, List, [], ◌++◌, length, Bool, false, if◌then◌else◌}
 use Rattle.std.specs.List.{flat_map}
 use Rattle.dds_topic.specs.Decoding.{Decoding}
@@ -19,40 +19,40 @@ use Rattle.rtps_run.specs.World.{ReportView}
 use Rattle.rtps_text.specs.Replayed.{summary_text}
 use Rattle.rtps_lines.specs.Entry.{entry_line}
 
--- each entry meets it
+-- the condition that every entry meets
 abbrev pub any_entry : Condition
 any_entry = record { not_read = false; new = false; alive = false }
 
--- one take of all entries (DDS 1.4, 2.2.2.5.3.9)
+-- all entries of a cache, taken in one call (DDS 1.4, 2.2.2.5.3.9)
 abbrev pub all_taken : {M : Type 0} → History → List (Done M) → List (Sample M)
 all_taken keep past = answered keep past (length (cached keep past).entries) any_entry
 
--- the lines of the reader of a rank that reported these notices
+-- the lines of the entries of the reader of a rank, which reported these notices
 abbrev pub cache_lines : {M : Type 0} → (M → List ℕ) → History → ℕ → List (Notice M) → List ℕ
 cache_lines text keep rank told =
     flat_map (entry_line text rank) (all_taken keep (accepted_after [] told))
 
--- the lines of the readers of the ranks below a count, by rank
+-- the lines of the readers with a rank below a count, by rank
 abbrev pub entry_lines : {M : Type 0} → (M → List ℕ) → History → List (ReportView M) → ℕ → List ℕ
 entry_lines text keep put zero = []
 entry_lines text keep put (suc rank) =
     entry_lines text keep put rank ++ cache_lines text keep rank (notices_by rank put)
 
--- the text of these records: the entries that the caches of the run's readers hand over, and after
--- them the summary where it is asked for
+-- the text for these records: the lines of the entries that are taken from the caches of the run's
+-- readers, and then the summary if it is asked for
 abbrev pub samples_text : {M : Type 0} → (M → List ℕ) → Decoding M → Config → Bool → History
     → List (List ℕ) → List ℕ
 samples_text text decoding config summary keep records =
     entry_lines text keep (run decoding config records).put (reader_count (run decoding config records))
     ++ (if summary then summary_text (run decoding config records) else [])
 
--- the same, by an engine's catalog and configuration
+-- the same text, with the catalog and the configuration of an engine
 abbrev pub samples_by : {C M : Type 0} → (C → M → List ℕ) → (C → Decoding M) → EngineView C → Bool
     → History → List (List ℕ) → List ℕ
 samples_by text decoding engine summary keep records =
     samples_text (text engine.catalog) (decoding engine.catalog) engine.config summary keep records
 
--- how much may be kept is a fact with one proof
+-- any two proofs that a cache may have this history are equal
 pub IsHistory-prop : (history : History) → IsProp (IsHistory history)
 IsHistory-prop (KeepLast n) = ×_prop le_prop le_prop
 IsHistory-prop KeepAll = Unit-prop

@@ -6,4 +6,6 @@ pub mod Listened
 pub mod Live
 pub mod Replayed
 pub mod Sending
+pub mod Sink
 pub mod Slices
+pub mod Taken

@@ -1,4 +1,4 @@
--- What a run leaves over datagrams as they are received: what it did at the network, and what it
+-- The outcome of a run over datagrams as they are received: its calls to the network, and what it
 -- wrote.
 use Rattle.std.specs.Prelude.{◌≡◌, ◌≤◌, ◌⊎◌, ℕ, Bool, List, [], ◌∷◌, ◌++◌, length, Option, Result, Ok, Err}
 use Rattle.std.specs.Io.KnownBytes.{Appends}
@@ -15,14 +15,14 @@ use Rattle.rtps_text.specs.Sending.{sendings, sends_of}
 use Rattle.rtps_text.specs.declared.live_fault.LiveFault.{LiveFault}
 use Rattle.rtps_text.specs.declared.live_fault.LiveFault.TheVariants.{Run, Socket}
 
--- What a run makes of the datagrams that it takes: the lines of all that it puts out; its text,
--- which is these lines and, where it is asked for, the summary; and what it sends.
+-- The results of a run for the datagrams that it processes: the lines of all that it puts out; its
+-- text, which is these lines and, if it is asked for, the summary; and what it sends.
 pub record LiveRun : Type 0 where
   pub lines : List (List ℕ) → List ℕ
   pub text : List (List ℕ) → List ℕ
   pub sends : List (List ℕ) → List (Locator × List ℕ)
 
--- the run of one thread
+-- the results of the run of one thread
 abbrev pub live_run : {M : Type 0} → (M → List ℕ) → Decoding M → Config → Bool → LiveRun
 live_run text decoding config summary = record {
   lines = λ datagrams. put_lines text (run decoding config datagrams).put;
@@ -30,50 +30,51 @@ live_run text decoding config summary = record {
   sends = λ datagrams. sends_of (run decoding config datagrams).put;
 }
 
--- how many datagrams are received at the most, and how often they are waited for at the most
+-- the maximum number of datagrams to receive, and the maximum number of waits for them
 pub record Limits : Type 0 where
   pub datagrams : ℕ
   pub turns : ℕ
 
--- the limits by their numbers
+-- the limits with these numbers
 abbrev pub limits_of : ℕ → ℕ → Limits
 limits_of datagrams turns = record { datagrams = datagrams; turns = turns }
 
--- all that came was received: after the last call to receive, which found none, there were only
--- sends; or nothing was called yet
+-- all datagrams that came were received: the last call to receive found none, and only sends follow
+-- it; or there was no call yet
 abbrev pub IsDrained : List Traffic → Type 0
 IsDrained calls =
     (calls ≡ []) ⊎ ((past : List Traffic) × (sends : List (Locator × List ℕ))
     × (calls ≡ past ++ Exhausted ∷ sendings sends))
 
--- the run came to its end: the datagrams that were asked for came; or the turns passed, and
--- all that came was received
+-- the run is complete: the maximum number of datagrams was received; or the maximum number of waits
+-- was made, and all datagrams that came were received
 abbrev pub IsOver : Limits → List Traffic → Type 0
 IsOver limits calls =
     (length (received_in calls) ≡ limits.datagrams)
     ⊎ ((waits_in calls ≡ limits.turns) × IsDrained calls)
 
--- whenever it is waited, all that came was received, and all that was received is answered
+-- at each wait, all datagrams that came before were received, and all answers to them were sent
 abbrev pub WaitsInTurn : (List (List ℕ) → List (Locator × List ℕ)) → List Traffic → Type 0
 WaitsInTurn sends calls =
     (past later : List Traffic) → calls ≡ past ++ Waited ∷ later
     → IsDrained past × (sent_in past ≡ sends (received_in past))
 
--- each answer of the run over what was received was sent, in order, and all of its text was written
+-- all answers of the run over the received datagrams were sent, in order, and its whole text was
+-- written
 pub record IsDone (made : LiveRun) (calls : List Traffic) (old new : Option (List ℕ))
     : Type 0 where
   pub sent : sent_in calls ≡ made.sends (received_in calls)
   pub wrote : Appends old new (made.text (received_in calls))
 
--- What was sent where a run stops at a fault. Answers go out before lines are written: at a write
--- fault all of them were sent. Where memory runs out, a front of them was.
+-- What was sent by a run that stops at a fault. Answers are sent before lines are written, so at a
+-- write fault all of them were sent. If memory runs out, a prefix of them was sent.
 unfoldable pub SentAt : RunFault → LiveRun → List Traffic → Type 0
 SentAt CannotWrite made calls = sent_in calls ≡ made.sends (received_in calls)
 SentAt NoMemory made calls = IsFront (sent_in calls) (made.sends (received_in calls))
 SentAt fault made calls = ⊥
 
--- A front of the lines was written. A part of the summary is there only where the run came to its
--- end, or the network failed.
+-- A prefix of the lines was written. A part of the summary was written only if the run is complete
+-- or the network failed.
 abbrev pub WroteFrontOf : LiveRun → Limits → List Traffic → Option (List ℕ) → Option (List ℕ)
     → Type 0
 WroteFrontOf made limits calls old new =
@@ -82,7 +83,7 @@ WroteFrontOf made limits calls old new =
     ⊎ ((IsOver limits calls ⊎ (failures_in calls ≡ 1))
     × IsFront put (made.text (received_in calls))))
 
--- what was sent and written by a run that ends so
+-- what a run with this result has sent and written
 unfoldable pub Leaves : LiveRun → Limits → Result (Unit {0}) LiveFault → List Traffic
     → Option (List ℕ) → Option (List ℕ) → Type 0
 Leaves made limits (Ok u) calls old new =
@@ -92,17 +93,17 @@ Leaves made limits (Err Socket) calls old new =
 Leaves made limits (Err (Run fault)) calls old new =
     SentAt fault made calls × WroteFrontOf made limits calls old new
 
--- What a run does over datagrams as they are received, where it ends so.
+-- the outcome of a run over datagrams as they are received, with this result
 pub record Listened (made : LiveRun) (limits : Limits) (result : Result (Unit {0}) LiveFault)
     (before after : Option (List Traffic)) (old new : Option (List ℕ)) : Type 0 where
-  -- all that it did at the network, call by call
+  -- all calls of the run to the network, in order
   pub calls : List Traffic
   pub grows : Grows before after calls
-  -- no more datagrams were received than were asked for
+  -- no more datagrams were received than the limit allows
   pub few : length (received_in calls) ≤ limits.datagrams
-  -- it was waited no more often than was asked for
+  -- no more waits were made than the limit allows
   pub turns : waits_in calls ≤ limits.turns
-  -- each turn begins where all that came in the one before was received and answered
+  -- at each wait, all datagrams that came before were received and answered
   pub in_turn : WaitsInTurn made.sends calls
   -- what was sent and written
   pub leaves : Leaves made limits result calls old new

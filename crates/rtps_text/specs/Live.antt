@@ -15,38 +15,38 @@ use Rattle.rtps_text.specs.Replayed.{HasSaid}
 use Rattle.rtps_text.specs.Sending.{sends_of}
 use Rattle.rtps_text.specs.declared.live.Live.{Live}
 
--- its values are formatted by its own catalog, the lines of all of its readers are printed, no text
--- is kept back, and no reader has an outlet
+-- a live run formats its values with its own catalog and prints the lines of all its readers; no
+-- text is kept back, and no reader has an outlet
 pub record IsLive {C V U : Type 0} (live : Live C V U) : Type 0 where
   pub own : live.printer.catalog.now ≡ live.run.participant.engine.catalog
   pub readers : live.printer.readers ≡ length live.run.participant.engine.config.readers.items
   pub none : live.texts.made.items ≡ []
   pub alone : NoneAttached live.run.participant.ports
 
--- the run of one thread, by an engine's catalog and configuration
+-- the results of the run of one thread, with the catalog and the configuration of an engine
 abbrev pub live_by : {C M : Type 0} → (C → M → List ℕ) → (C → Decoding M) → EngineView C → Bool
     → LiveRun
 live_by text decoding engine summary =
     live_run (text engine.catalog) (decoding engine.catalog) engine.config summary
 
--- what an engine's run sends of datagrams
+-- what the run of an engine sends for these datagrams
 abbrev pub sends_by : {C M : Type 0} → (C → Decoding M) → EngineView C → List (List ℕ)
     → List (Locator × List ℕ)
 sends_by decoding engine datagrams = sends_of (run_by decoding engine datagrams).put
 
--- how often the network failed in a batch that ends so
+-- the number of network failures in a batch with this end
 abbrev pub failures_of : ReceiveEnd → ℕ
 failures_of end = failures_in (last_call end)
 
--- where a batch ends as one from which all that came was received, all was
+-- if the end of a batch tells that all datagrams that came were received, they were
 abbrev pub IsLast : ReceiveEnd → List Traffic → Type 0
 IsLast More calls = Unit {0}
 IsLast Drained calls = IsDrained calls
 IsLast Fault calls = Unit {0}
 
--- Some of the most datagrams were received, and the rest are left; it was waited so often, and
--- the last batch ended so. An engine took the datagrams, their answers were sent, and their lines
--- were written.
+-- The state of a live run. The datagrams that were received and those that are left make the
+-- maximum number; this number of waits was made, and this is how the last batch ended. An engine
+-- processed the datagrams, their answers were sent, and their lines were written.
 pub record Listens {C M : Type 0} (text : C → M → List ℕ) (decoding : C → Decoding M)
     (first now : Option (List Traffic)) (old new : Option (List ℕ)) (most left waits : ℕ)
     (end : ReceiveEnd) (engine : EngineView C) : Type 0 where
@@ -64,8 +64,8 @@ pub record Listens {C M : Type 0} (text : C → M → List ℕ) (decoding : C �
   pub wrote : Appends old new written
   pub says : HasSaid text decoding datagrams written engine
 
--- what was received more, up to a batch that ends so, was taken, its answers were sent, and its
--- lines were written
+-- more datagrams were received, up to a batch with this end; they were processed, their answers
+-- were sent, and their lines were written
 abbrev pub GoesOn : {C V U M : Type 0} → (C → M → List ℕ) → (C → Decoding M)
     → Live C V U → Live C V U → Option (List Traffic) → Option (List Traffic)
     → Option (List ℕ) → Option (List ℕ) → ReceiveEnd → Type 0
@@ -76,8 +76,8 @@ GoesOn text decoding before after then now old new end =
     → Listens text decoding first now origin new most after.left waits end
     after.run.participant.engine
 
--- what a run did that stopped at a fault before its end: no more datagrams were received than asked
--- for, in no more turns, and a front of their lines was written
+-- what a run did that stopped at a fault before its end: it received no more datagrams and made no
+-- more waits than these limits allow, and it wrote a prefix of the lines
 pub record Stopped (made : LiveRun) (most turns : ℕ) (fault : RunFault)
     (before after : Option (List Traffic)) (old new : Option (List ℕ)) : Type 0 where
   pub calls : List Traffic
@@ -90,7 +90,7 @@ pub record Stopped (made : LiveRun) (most turns : ℕ) (fault : RunFault)
   pub wrote : Appends old new put
   pub front : IsFront put (made.lines (received_in calls))
 
--- something more was received, and the run stopped at this fault
+-- a run went on from this state, and stopped at this fault
 abbrev pub StopsShort : {C V U M : Type 0} → (C → M → List ℕ) → (C → Decoding M)
     → Live C V U → RunFault → Option (List Traffic) → Option (List Traffic)
     → Option (List ℕ) → Option (List ℕ) → Type 0
@@ -101,14 +101,14 @@ StopsShort text decoding before fault then now old new =
     → Stopped (live_by text decoding before.run.participant.engine before.run.summary)
     most waits fault first now origin new
 
--- no datagram is left; or it was waited so often, and all that came was received; or the network
--- failed
+-- no datagram is left to receive; or all waits were made, and all datagrams that came were
+-- received; or the network failed
 abbrev pub EndsTurns : ReceiveEnd → ℕ → ℕ → ℕ → Type 0
 EndsTurns More left waits turns = left ≡ 0
 EndsTurns Drained left waits turns = (left ≡ 0) ⊎ (waits ≡ turns)
 EndsTurns Fault left waits turns = Unit {0}
 
--- no more turns were taken than asked for, from the first one on
+-- a run that had made no wait made at most this number of waits, and ended
 pub record TakesTurns {C V U M : Type 0} (text : C → M → List ℕ) (decoding : C → Decoding M)
     (turns : ℕ) (end : ReceiveEnd) (before after : Live C V U) (then now : Option (List Traffic))
     (old new : Option (List ℕ)) : Type 0 where
@@ -121,7 +121,7 @@ pub record TakesTurns {C V U M : Type 0} (text : C → M → List ℕ) (decoding
       → Listens text decoding first now origin new most after.left waits end
       after.run.participant.engine
 
--- the same where a run stopped
+-- a run that had made no wait stopped at this fault, after at most this number of waits
 abbrev pub TurnsStop : {C V U M : Type 0} → (C → M → List ℕ) → (C → Decoding M)
     → ℕ → Live C V U → RunFault → Option (List Traffic) → Option (List Traffic)
     → Option (List ℕ) → Option (List ℕ) → Type 0

@@ -1,4 +1,4 @@
-//! Texts are written and a batch is read while two other things are done.
+//! Writing texts and reading a batch while two other calls are made.
 
 ghost use Rattle.std.specs.Prelude.{◌≡◌, ◌≢◌, ◌⊎◌, ◌++◌, [], IfErr, IfSome, IsSomeAnd, List, OnErr, OnOk, Option, ℕ};
 ghost use Rattle.rtps_records.specs.Batches.{EndsBatch, records_in};
@@ -14,13 +14,13 @@ use std::io::{Read, Write};
 use std::thread;
 use std::thread::Threads;
 
-/// Writes texts and reads the next batch on a thread of its own, as [`ReadAhead::write_and_read`] does,
-/// while the first call is made on another thread and the second one on this; gives what came of
-/// the writing and the reading, and what each call gave.
+/// Writes texts and reads the next batch on a thread of its own, as [`ReadAhead::write_and_read`]
+/// does, while the first call is made on another thread and the second call on this one. Returns
+/// the result of the writing and reading, and the result of each call.
 pub(crate) fn write_and_read_beside<R, W, T, F, G, X, Y>(
     rt: &T,
-    held: &mut ReadAhead,
-    records: &mut Records<'_, R, ()>,
+    ahead: &mut ReadAhead,
+    records: &mut Records<'_, R>,
     lines: &mut Lines<'_, W>,
     calls: (F, G),
 ) -> (Result<(), RunFault>, X, Y)
@@ -35,22 +35,22 @@ where
     requires second { G.pre calls.1 }
     ensures first { F.post calls.0 result.1 }
     ensures second { G.post calls.1 result.2 }
-    ensures none { held.new.texts.made.items ≡ [] }
+    ensures none { ahead.new.texts.made.items ≡ [] }
     ensures same_reader { records.new.reader.ghost_name ≡ records.old.reader.ghost_name }
     ensures same_writer { lines.new.writer.ghost_name ≡ lines.old.writer.ghost_name }
     ensures reads { (here : Option (List ℕ)) (earlier : List (List ℕ))
-        → EndsBatch held.old.end records.old.count earlier here
+        → EndsBatch ahead.old.end records.old.count earlier here
         (R.remaining records.old.reader.now)
         → OnOk result.0 (ReadsAhead here (R.remaining records.new.reader.now)
-        records.old.count records.new.count (records_in held.new.next) held.new.end) }
-    ensures still { held.old.end ≢ More
+        records.old.count records.new.count (records_in ahead.new.next) ahead.new.end) }
+    ensures still { ahead.old.end ≢ More
         → R.remaining records.new.reader.now ≡ R.remaining records.old.reader.now }
-    ensures ok { (whole : List ℕ) → AreTexts held.old.texts.made.items whole
+    ensures ok { (whole : List ℕ) → AreTexts ahead.old.texts.made.items whole
         → OnOk result.0 (Moves
         (W.contents lines.old.writer.now) (W.contents lines.new.writer.now)
         (lines.old.text.items ++ whole) lines.new.text.items) }
     ensures fault { IfErr result.0 (λ fault. (fault ≡ CannotWrite) ⊎ (fault ≡ NoMemory)) }
-    ensures front { (whole : List ℕ) → AreTexts held.old.texts.made.items whole
+    ensures front { (whole : List ℕ) → AreTexts ahead.old.texts.made.items whole
         → OnErr result.0 (PutsFront
         (W.contents lines.old.writer.now) (W.contents lines.new.writer.now)
         (lines.old.text.items ++ whole)) }
@@ -58,7 +58,7 @@ where
     let mut due = Some(calls);
     let (done, made) = thread::join_mut(
         rt,
-        &mut || held.write_and_read(rt, records, lines),
+        &mut || ahead.write_and_read(rt, records, lines),
         &mut || -> Option<(X, Y)>
             requires { IfSome due (λ calls. F.pre calls.0 × G.pre calls.1) }
             ensures { IfSome due.entry (λ calls. IsSomeAnd result (λ made.

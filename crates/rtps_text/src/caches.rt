@@ -19,14 +19,21 @@ use rtps_records::{Lines, RunFault};
 use std::alloc::{AllocError, Allocator, Global};
 use std::io::Write;
 
-/// Each entry meets it.
+/// The condition that every entry meets, since all entries are printed.
 const ANY: Condition = Condition {
     not_read: false,
     new: false,
     alive: false,
 };
 
-/// Empty caches for this number of readers.
+/// The caches of a run's readers.
+#[derive(Drop)]
+pub(crate) struct ReaderCaches<V: Drop> {
+    pub by_rank: Vec<DataReader<V>>,
+    ghost few: { length by_rank.items ≤ 4294967295 },
+}
+
+/// Returns empty caches for `readers` readers.
 pub(crate) fn new_caches<V: Drop>(
     alloc: Global,
     keep: History,
@@ -61,7 +68,7 @@ fn accept_all<V: Drop>(
 }
 
 /// Moves the notices of each reader into its cache.
-pub(crate) fn accept_each<V: Drop>(
+fn accept_each<V: Drop>(
     alloc: Global,
     caches: &mut Vec<DataReader<V>>,
     outputs: &mut Vec<Output<V>>,
@@ -76,10 +83,26 @@ pub(crate) fn accept_each<V: Drop>(
     Ok(())
 }
 
-/// Adds the lines of entries of the reader of a rank, and writes them as they fill.
+impl<V: Drop> ReaderCaches<V> {
+    /// Moves the notices of each reader into its cache.
+    pub(crate) fn accept(
+        &mut self,
+        alloc: Global,
+        outputs: &mut Vec<Output<V>>,
+    ) -> Result<(), AllocError>
+        requires { length outputs.old.items ≡ length self.old.by_rank.items }
+        ensures { OnOk result (AllAccept outputs.old.items self.old.by_rank.items
+            self.new.by_rank.items) }
+    {
+        accept_each(alloc, &mut self.by_rank, outputs)
+    }
+}
+
+/// Adds the lines of these entries of the reader of `rank`, and writes the lines out whenever they
+/// are full.
 ///
-/// `CannotWrite` where a write fails, and `NoMemory`; a front of the lines may have been written
-/// then.
+/// Returns `CannotWrite` if a write fails, and `NoMemory` if memory runs out. A prefix of the lines
+/// may have been written by then.
 fn print_entries<C: TextCatalog, W: Write, B: Allocator + Copy>(
     lines: &mut Lines<'_, W>,
     last: &mut LastLine<B>,
@@ -105,10 +128,11 @@ fn print_entries<C: TextCatalog, W: Write, B: Allocator + Copy>(
     Ok(())
 }
 
-/// Takes all entries of each cache, prints them, and writes the lines as they fill.
+/// Takes all entries from each cache, by rank, adds their lines, and writes the lines out whenever
+/// they are full.
 ///
-/// `CannotWrite` where a write fails, and `NoMemory`; a front of the lines may have been written
-/// then.
+/// Returns `CannotWrite` if a write fails, and `NoMemory` if memory runs out. A prefix of the lines
+/// may have been written by then.
 pub(crate) fn print_caches<C: TextCatalog, W: Write, B: Allocator + Copy>(
     alloc: Global,
     lines: &mut Lines<'_, W>,

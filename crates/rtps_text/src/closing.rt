@@ -1,4 +1,4 @@
-//! What comes after the last line of a run: its matches, and the status of each reader.
+//! The summary after the last line of a run: its matches, and the status of each reader.
 
 ghost use Rattle.std.specs.Prelude.{◌≡◌, ◌++◌, List, OnOk, ℕ};
 ghost use Rattle.std.specs.Io.{StartsWith};
@@ -14,7 +14,7 @@ use rtps_types::Guid;
 use std::alloc::{AllocError, Allocator, Global};
 use std::collections::BTreeSet;
 
-/// Adds the lines of the matches and those of the statuses, both by rank.
+/// Adds the lines of the matches, and then those of the statuses, both by rank.
 pub(crate) fn push_summary<C: Catalog, A: Allocator>(
     out: &mut Vec<u8, A>,
     alloc: Global,
@@ -33,7 +33,7 @@ pub(crate) fn push_summary<C: Catalog, A: Allocator>(
     push_statuses(out, participant)
 }
 
-/// Adds the lines of matches.
+/// Adds a line for each match.
 fn push_all_matches<A: Allocator>(
     out: &mut Vec<u8, A>,
     matches: &BTreeSet<(u32, Guid)>,
@@ -47,7 +47,7 @@ fn push_all_matches<A: Allocator>(
     Ok(())
 }
 
-/// Adds the line of each reader's status.
+/// Adds a line for the status of each reader.
 fn push_statuses<C: Catalog, A: Allocator>(
     out: &mut Vec<u8, A>,
     participant: &Participant<C>,
@@ -65,7 +65,7 @@ fn push_statuses<C: Catalog, A: Allocator>(
     Ok(())
 }
 
-/// Adds the line of a status, if there is one.
+/// Adds the line of the status, if there is one.
 fn push_status_of<A: Allocator>(
     out: &mut Vec<u8, A>,
     rank: u32,

@@ -1,22 +1,40 @@
-//! The events of a whole record file, a line for each.
+//! Printing the events of a whole record file, one line for each.
 
-ghost use Rattle.std.specs.Prelude.{◌≡◌, IfErr, None, OnOk, []};
-ghost use Rattle.rtps_records.specs.Runs.{Stops, WroteAll};
-ghost use Rattle.rtps_records.specs.Text.{text_of};
+ghost use Rattle.std.specs.Prelude.{◌≡◌, ◌≤◌, ◌⊎◌, ◌+◌, ◌-◌, ◌++◌, All, IfErr, None, OnErr, OnOk, length, map};
+ghost use Rattle.std.specs.List.{AllByRecursion};
+ghost use Rattle.rtps_records.specs.Batches.{records_in};
+ghost use Rattle.rtps_records.specs.RecordFile.{IsRecord};
+ghost use Rattle.rtps_records.specs.Runs.{Moves, PutsFront, Stops, WroteAll};
+ghost use Rattle.rtps_records.specs.Text.{text_from, text_of};
+ghost use Rattle.rtps_records.specs.declared.fault.RunFault.TheVariants.{CannotWrite, NoMemory};
 ghost use Rattle.rtps_lines.specs.EventLines.{lines_of};
 
+use crate::file_run::run_file;
+use crate::pipeline::Pipeline;
+use crate::setup::Pace;
+use crate::sink::Sink;
+use dds_topic::Raw;
 use rtps_lines::push_events;
-use rtps_records::{Buffer, Lines, Records, RunFault};
+use rtps_records::{Batch, Lines, RunFault};
 use rtps_types::GuidPrefix;
-use std::alloc::{Allocator, Global};
+use std::alloc::Global;
 use std::io::{Read, Write};
+use std::thread::Threads;
 
-/// Reads a record file to its end or its first fault, and writes a line for each event of its
-/// datagrams, as the participant of the prefix `own` sees them.
+/// The pace of a dump: small batches, so that few records are in memory at a time, and one worker,
+/// since the events are printed on this thread.
+const PACE: Pace = Pace {
+    batch: 64,
+    workers: 1,
+};
+
+/// Reads a record file up to its end or its first fault, and writes a line for each event of its
+/// datagrams, as the participant with the prefix `own` sees them.
 ///
-/// The file is never held as a whole: one record and at most 64 KiB of text and the lines of one
-/// record are.
-pub fn dump<R: Read, W: Write>(
+/// The file is never in memory as a whole. In memory are the records of two batches, at most 1 MiB
+/// each, at most 64 KiB of text, and the lines of one record.
+pub fn dump<R: Read + Send, W: Write + Send, T: Threads + Sync>(
+    rt: &T,
     alloc: Global,
     own: GuidPrefix,
     reader: &mut R,
@@ -28,54 +46,68 @@ pub fn dump<R: Read, W: Write>(
         (R.remaining reader.old) (R.remaining reader.new)
         (W.contents writer.old) (W.contents writer.new)) }
 {
-    dump_in(alloc, own, reader, writer)
+    let pipeline = Pipeline::new(alloc, PACE)?;
+    // No value is decoded, so any catalog will do.
+    let sink: Sink<'_, Raw> = Sink::Events { own, alloc };
+    run_file(rt, sink, pipeline, reader, writer)
 }
 
-/// The same over any allocator.
-pub fn dump_in<A: Allocator + Copy, R: Read, W: Write>(
-    alloc: A,
+/// Adds the lines of the events of a batch's records, and writes the lines out whenever they are
+/// full. `count` is the number of records in the file up to the end of the batch.
+///
+/// Returns `CannotWrite` if a write fails, and `NoMemory` if memory runs out. A prefix of the lines
+/// may have been written by then.
+pub(crate) fn print_batch<W: Write>(
+    alloc: Global,
     own: GuidPrefix,
-    reader: &mut R,
-    writer: &mut W,
+    batch: &Batch,
+    count: u32,
+    lines: &mut Lines<'_, W>,
 ) -> Result<(), RunFault>
-    ensures ok { OnOk result (WroteAll (text_of (lines_of own)) (R.remaining reader.old)
-        (W.contents writer.old) (W.contents writer.new) None) }
-    ensures fault { IfErr result (λ fault. Stops (text_of (lines_of own)) fault
-        (R.remaining reader.old) (R.remaining reader.new)
-        (W.contents writer.old) (W.contents writer.new)) }
-{
-    let mut records = Records::new(alloc, reader)?;
-    print_events(own, &mut records, &mut Lines::new(alloc, writer))
-}
-
-/// Prints the events of all records.
-fn print_events<A: Allocator, R: Read, W: Write>(
-    own: GuidPrefix,
-    records: &mut Records<'_, R, Buffer<A>>,
-    lines: &mut Lines<'_, W, Vec<u8, A>>,
-) -> Result<(), RunFault>
-    requires unread { records.old.count ≡ 0 }
-    requires empty { lines.old.text.items ≡ [] }
-    ensures same_reader { records.new.reader.ghost_name ≡ records.old.reader.ghost_name }
+    requires few { length (records_in batch.now) ≤ 4096 }
+    requires fit { AllByRecursion IsRecord (records_in batch.now) }
+    requires counted { length (records_in batch.now) ≤ count }
     ensures same_writer { lines.new.writer.ghost_name ≡ lines.old.writer.ghost_name }
-    ensures ok { OnOk result (WroteAll (text_of (lines_of own))
-        (R.remaining records.old.reader.now)
-        (W.contents lines.old.writer.now) (W.contents lines.new.writer.now) None) }
-    ensures fault { IfErr result (λ fault. Stops (text_of (lines_of own)) fault
-        (R.remaining records.old.reader.now) (R.remaining records.new.reader.now)
-        (W.contents lines.old.writer.now) (W.contents lines.new.writer.now)) }
+    ensures ok { OnOk result (Moves
+        (W.contents lines.old.writer.now) (W.contents lines.new.writer.now)
+        (lines.old.text.items ++ text_from (lines_of own)
+        (count - length (records_in batch.now)) (records_in batch.now)) lines.new.text.items) }
+    ensures fault { IfErr result (λ fault. (fault ≡ CannotWrite) ⊎ (fault ≡ NoMemory)) }
+    ensures front { OnErr result (PutsFront
+        (W.contents lines.old.writer.now) (W.contents lines.new.writer.now)
+        (lines.old.text.items ++ text_from (lines_of own)
+        (count - length (records_in batch.now)) (records_in batch.now))) }
 {
-    records.open()?;
-    loop {
-        let number = records.count();
-        match records.next() {
-            Ok(Some(octets)) => push_events(&mut lines.text, own, number, octets)?,
-            Ok(None) => return lines.close(),
-            Err(fault) => {
-                lines.close()?;
-                return Err(fault);
-            }
-        }
+    let first = count - batch.len() as u32;
+    print_events(own, first, &batch.records(alloc)?, lines)
+}
+
+/// Adds the lines of the events of these datagrams, and writes the lines out whenever they are
+/// full. `first` is the number of the first datagram.
+fn print_events<W: Write>(
+    own: GuidPrefix,
+    first: u32,
+    datagrams: &[&[u8]],
+    lines: &mut Lines<'_, W>,
+) -> Result<(), RunFault>
+    requires fit { All (λ d. length d.now ≤ 65507) datagrams.now }
+    requires few { first + length datagrams.now ≤ 4294967295 }
+    ensures same_writer { lines.new.writer.ghost_name ≡ lines.old.writer.ghost_name }
+    ensures ok { OnOk result (Moves
+        (W.contents lines.old.writer.now) (W.contents lines.new.writer.now)
+        (lines.old.text.items ++ text_from (lines_of own) first (map (λ d. d.now) datagrams.now))
+        lines.new.text.items) }
+    ensures fault { IfErr result (λ fault. (fault ≡ CannotWrite) ⊎ (fault ≡ NoMemory)) }
+    ensures front { OnErr result (PutsFront
+        (W.contents lines.old.writer.now) (W.contents lines.new.writer.now)
+        (lines.old.text.items
+        ++ text_from (lines_of own) first (map (λ d. d.now) datagrams.now))) }
+{
+    let mut number = first;
+    for octets in datagrams {
+        push_events(&mut lines.text, own, number, octets)?;
         lines.write_if_full()?;
+        number += 1;
     }
+    Ok(())
 }

@@ -1,10 +1,11 @@
-//! Runs over record files and over the datagrams of a network, and the text that is printed of them.
+//! Runs over record files and over datagrams from a network, and the text that they print.
 #![tactic(auto)]
 
 mod beside;
 mod caches;
 mod closing;
 mod dumping;
+mod file_run;
 mod line_formatter;
 mod listening;
 mod live;
@@ -17,10 +18,11 @@ mod running;
 mod sampling;
 mod sending;
 mod setup;
+mod sink;
 mod slices;
 mod texts;
 
-pub use dumping::{dump, dump_in};
+pub use dumping::dump;
 pub use listening::listen;
 pub use live_fault::LiveFault;
 pub use replaying::replay;

@@ -1,4 +1,4 @@
-//! The lines of a batch, made by several workers: each makes those of neighbouring places.
+//! Formatting the lines of a batch on several workers, each for consecutive places.
 
 ghost use Rattle.std.specs.Prelude.{◌≡◌, ◌++◌, ◌+◌, ◌*◌, ◌<◌, ◌≤◌, IfOk, OnOk, drop, length, slice_index_or, take, ℕ};
 ghost use Rattle.std.specs.Io.{StartsWith};
@@ -14,26 +14,26 @@ use rtps_types::Place;
 use std::alloc::{AllocError, Global};
 use std::thread::Threads;
 
-/// What a batch gave, and how its values are formatted.
+/// The output of a batch, and the catalog that formats its values.
 #[derive(Clone, Copy)]
 pub(crate) struct LineFormatter<'a, C: TextCatalog> {
     pub alloc: Global,
     pub catalog: &'a C,
     pub given: &'a BatchOutput<C::Value>,
-    /// How many readers there are.
+    /// The number of readers.
     pub readers: u32,
 }
 
-/// Neighbouring places whose lines one worker makes.
+/// Consecutive places whose lines one worker formats.
 #[derive(Drop)]
 struct Slice<'a> {
     places: &'a [Place],
-    /// Where its text goes. What is in it is dropped.
+    /// The buffer for its text. The old contents are dropped.
     text: Vec<u8>,
 }
 
-/// The slice of this index, counted from 0, of `size` places each; the last may
-/// have fewer.
+/// Returns the slice at `index`, counted from 0. Each slice has `size` places; the last may have
+/// fewer.
 fn slice_at(places: &[Place], size: usize, index: usize) -> &[Place]
     requires { index * size < length places.now }
     ensures { result.now ≡ take size (drop (index * size) places.now) }
@@ -42,8 +42,8 @@ fn slice_at(places: &[Place], size: usize, index: usize) -> &[Place]
     &rest[..size.min(rest.len())]
 }
 
-/// Cuts places into slices of this size, and gives each the memory of a text that was written, as
-/// long as there is such.
+/// Cuts the places into slices of `size` places. Each slice takes one of the spare buffers; if none
+/// is left, it has a new one.
 fn cut<'a>(
     alloc: Global,
     places: &'a [Place],
@@ -71,7 +71,7 @@ impl<C: TextCatalog> LineFormatter<'_, C>
 where
     C::Value: Sync,
 {
-    /// The lines of a slice.
+    /// Returns the lines of a slice.
     fn text(&self, slice: Slice<'_>) -> Result<Vec<u8>, AllocError>
         ensures { IsSliceOf slice.entry.places.now self.now.given.now.places.items
             → AreByPlace C.view self.now.given.now → IfOk result (λ text. text.items
@@ -88,7 +88,7 @@ where
         Ok(text)
     }
 
-    /// Adds the lines of places, where the cursors say how much was printed before.
+    /// Adds the lines of the places. The cursors tell how much was printed before.
     fn push_places(
         &self,
         out: &mut Vec<u8>,
@@ -107,9 +107,8 @@ where
         Ok(())
     }
 
-    /// The lines of all places, in one text for each worker, or fewer. Each text is made
-    /// on a thread of its own where one can be started. Texts that were written lend them their
-    /// memory.
+    /// Returns the lines of all places, in at most one text for each worker. Each text is made on a
+    /// thread of its own if one can be started. The buffers in `spare` are reused for the texts.
     pub(crate) fn texts<T: Threads + Sync>(
         &self,
         rt: &T,
@@ -125,12 +124,12 @@ where
         let places = self.given.places.as_slice();
         let size = places.len().div_ceil(workers).max(1);
         let slices = cut(self.alloc, places, size, spare)?;
-        let spell = |slice: Slice<'_>| -> Result<Vec<u8>, AllocError>
+        let format_slice = |slice: Slice<'_>| -> Result<Vec<u8>, AllocError>
             ensures { IsSliceOf slice.entry.places.now self.entry.now.given.now.places.items
                 → AreByPlace C.view self.entry.now.given.now → IfOk result (λ text. text.items
                 ≡ merged_lines (C.text_of self.entry.now.catalog.now) C.view
                 self.entry.now.given.now self.entry.now.readers slice.entry.places.now) }
         { self.text(slice) };
-        map_apart(rt, self.alloc, slices, &spell)
+        map_apart(rt, self.alloc, slices, &format_slice)
     }
 }

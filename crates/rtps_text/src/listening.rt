@@ -1,4 +1,4 @@
-//! What a run prints over datagrams as they are received.
+//! Printing a run over datagrams as they are received.
 
 ghost use Rattle.std.specs.Prelude.{◌≡◌, []};
 ghost use Rattle.dds_participant.specs.BatchOutput.{HoldsNothing};
@@ -16,20 +16,21 @@ use std::alloc::Global;
 use std::io::Write;
 use std::thread::Threads;
 
-/// Receives datagrams, gives them to the readers of a configuration as they come, sends what they
-/// answer, each answer once to each of its locators, and writes the lines that
-/// [`replay`](crate::replay) writes of the same datagrams in a file. The answers to what came are
-/// sent first, so that a slow writer holds up none; then its lines are written and flushed, before
-/// more is received. With `summary` the matches and the status of each reader come at the end, also
-/// where no datagram can be received any more.
+/// Receives datagrams, has the readers of a configuration process them as they come, sends the
+/// answers, each once to each of its locators, and writes the lines that [`replay`](crate::replay)
+/// writes for the same datagrams in a file. The answers to the datagrams that came are sent first,
+/// so that a slow writer delays none of them. Then their lines are written and flushed, before more
+/// datagrams are received. With `summary` the matches and the status of each reader follow at the
+/// end, also if no more datagrams can be received.
 ///
-/// It ends after the setup's number of datagrams, and after its number of waits for some. Before
-/// each wait all that came was received and answered.
+/// The run ends after the number of datagrams in `setup`, or after its number of waits. Before each
+/// wait, all datagrams that came were received and answered.
 ///
-/// [`LiveFault::Socket`] where the network fails, as it waits or receives: what came before is
-/// answered and written, the summary too. [`LiveFault::Run`] with `CannotWrite` where a write
-/// fails, which comes after the answers to all that was received; and with `NoMemory`. A front of
-/// the text may have been written then.
+/// Returns [`LiveFault::Socket`] if the network fails while waiting or receiving. The datagrams
+/// before that are answered, and their lines are written, and the summary too. Returns
+/// [`LiveFault::Run`] with `CannotWrite` if a write fails, which happens after the answers to all
+/// received datagrams were sent, and with `NoMemory` if memory runs out. In both cases a prefix of
+/// the text may have been written by then.
 pub fn listen<C: TextCatalog, N: Exchange, W: Write, T: Threads + Sync>(
     rt: &T,
     alloc: Global,
@@ -73,7 +74,8 @@ where
     print_live(rt, live, turns, network, writer)
 }
 
-/// Prints a run that took no datagram yet, over those that are received in at most `turns` turns.
+/// Prints a run that has processed no datagram yet, over the datagrams that are received after at
+/// most `turns` waits.
 fn print_live<C: TextCatalog, N: Exchange, W: Write, T: Threads + Sync>(
     rt: &T,
     live: Live<'_, C>,
@@ -94,7 +96,7 @@ where
     print_turns(rt, live, turns, network, &mut lines)
 }
 
-/// Prints the lines of such a run, and after them its summary.
+/// Prints the lines of such a run, and then its summary if it is asked for.
 fn print_turns<C: TextCatalog, N: Exchange, W: Write, T: Threads + Sync>(
     rt: &T,
     mut live: Live<'_, C>,

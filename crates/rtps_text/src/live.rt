@@ -17,16 +17,16 @@ use std::alloc::AllocError;
 use std::io::Write;
 use std::thread::Threads;
 
-/// A run over datagrams as they are received, and its text.
+/// A run over datagrams as they are received, with its printer.
 #[derive(Drop)]
 pub(crate) struct Live<'c, C: TextCatalog> {
     pub run: RunLines<C>,
     pub printer: Printer<'c, C>,
-    /// What was received last.
+    /// The batch that was received last.
     batch: Batch,
-    /// What workers formatted of it.
+    /// The texts that workers formatted for that batch.
     texts: Texts,
-    /// How many datagrams may still be received.
+    /// The number of datagrams that may still be received.
     pub left: u32,
 }
 
@@ -34,8 +34,8 @@ impl<'c, C: TextCatalog> Live<'c, C>
 where
     C::Value: Sync,
 {
-    /// A run that took no datagram yet, and takes `datagrams` at the most. Its values are formatted
-    /// by the catalog, which is its own.
+    /// Returns a run that receives at most `datagrams` datagrams, and has received none yet. The
+    /// catalog, which is the run's own, formats its values.
     pub(crate) fn new(
         run: RunLines<C>,
         catalog: &'c C,
@@ -59,7 +59,7 @@ where
         })
     }
 
-    /// How many datagrams the next batch has at the most.
+    /// Returns the maximum number of datagrams in the next batch.
     fn most(&self) -> u16
         requires { 0 < self.now.left }
         ensures some { 1 ≤ result }
@@ -73,11 +73,12 @@ where
         }
     }
 
-    /// Receives what has come, a batch at the most, gives it to the readers, sends its answers, and
-    /// writes its lines. The answers go first, so that a slow writer holds up none.
+    /// Receives the datagrams that have come, at most one batch, has the readers process them,
+    /// sends the answers, and writes the lines. The answers are sent first, so that a slow writer
+    /// delays none of them.
     ///
-    /// `CannotWrite` where a write fails, after the answers, and `NoMemory`; a front of the lines
-    /// may have been written then.
+    /// Returns `CannotWrite` if a write fails, which happens after the answers were sent, and
+    /// `NoMemory` if memory runs out. A prefix of the lines may have been written by then.
     fn take<N: Exchange, W: Write, T: Threads + Sync>(
         &mut self,
         rt: &T,
@@ -111,8 +112,8 @@ where
         Ok(end)
     }
 
-    /// Takes batches until all that came was received, or the network fails; or no more may be,
-    /// where it answers [`ReceiveEnd::More`].
+    /// Receives and processes batches until all datagrams that came are received, or the network
+    /// fails, or no more datagrams may be received, in which case it returns [`ReceiveEnd::More`].
     fn take_all<N: Exchange, W: Write, T: Threads + Sync>(
         &mut self,
         rt: &T,
@@ -142,7 +143,8 @@ where
         Ok(ReceiveEnd::More)
     }
 
-    /// Waits for datagrams `turns` times at the most, and takes each time all that have come.
+    /// Waits for datagrams at most `turns` times, and each time receives and processes all that
+    /// have come. Stops before that if no more datagrams may be received or the network fails.
     pub(crate) fn take_turns<N: Exchange, W: Write, T: Threads + Sync>(
         &mut self,
         rt: &T,

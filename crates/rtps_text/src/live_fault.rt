@@ -1,16 +1,16 @@
-//! Why a run over datagrams as they are received ends before its time.
+//! Faults of a run over datagrams as they are received.
 
 ghost use Rattle.std.specs.Prelude.{◌≡◌};
 ghost use Rattle.rtps_text.specs.declared.live_fault.LiveFault.TheVariants as live_fault;
 
 use rtps_records::RunFault;
 
-/// Why a run over datagrams as they are received ends before its time.
+/// Why a run over datagrams as they are received ends early.
 #[derive(Clone, Copy, Debug, PartialEq, Eq)]
 pub enum LiveFault {
-    /// No datagram can be waited for or received any more.
+    /// The network failed: no datagram can be waited for or received any more.
     Socket,
-    /// Its text can't be written, or there is no memory.
+    /// The text can't be written, or memory runs out.
     Run(RunFault),
 }
 

@@ -1,4 +1,4 @@
-//! What is held from one batch of a run to the next.
+//! What a run over a file keeps from one batch to the next.
 
 ghost use Rattle.std.specs.Prelude.{◌≡◌, ◌≢◌, ◌⊎◌, ◌++◌, [], IfErr, IfOk, List, OnErr, OnOk, Option, ℕ};
 ghost use Rattle.rtps_records.specs.Batches.{EndsBatch, records_in};
@@ -14,45 +14,45 @@ use rtps_records::{Batch, BatchEnd, Lines, Records, RunFault};
 use std::alloc::{AllocError, Global};
 use std::io::{Read, Write};
 
-/// What is held from one batch to the next: texts that are still to be written, and a batch that
-/// was read before its turn.
+/// What is kept from one batch to the next: texts that are still to be written, and a batch that
+/// was read ahead.
 #[derive(Drop)]
 pub(crate) struct ReadAhead {
     pub texts: Texts,
-    /// What was read last.
+    /// The batch that was read last.
     pub next: Batch,
-    /// What comes after it.
+    /// What follows that batch in the file: more, the end or a fault.
     pub end: BatchEnd,
     /// How the file is cut into batches.
     pace: Pace,
 }
 
-/// What a turn of a run works on.
+/// The data of one step of a run.
 #[derive(Drop)]
 pub(crate) struct Pipeline {
-    /// What the run takes, while the next batch is read.
+    /// The batch that the run processes while the next one is read.
     pub batch: Batch,
-    pub held: ReadAhead,
+    pub ahead: ReadAhead,
 }
 
 impl Pipeline {
-    /// No text, and no record: more of the file may come.
+    /// Returns a pipeline without texts and without records. More of the file may follow.
     pub(crate) fn new(alloc: Global, pace: Pace) -> Result<Pipeline, AllocError>
-        ensures none { IfOk result (λ turn. turn.held.texts.made.items ≡ []) }
-        ensures more { IfOk result (λ turn. turn.held.end ≡ More) }
+        ensures none { IfOk result (λ pipeline. pipeline.ahead.texts.made.items ≡ []) }
+        ensures more { IfOk result (λ pipeline. pipeline.ahead.end ≡ More) }
     {
         Ok(Pipeline {
             batch: Batch::new(alloc)?,
-            held: ReadAhead::new(alloc, pace)?,
+            ahead: ReadAhead::new(alloc, pace)?,
         })
     }
 }
 
 impl ReadAhead {
-    /// No text, and no record: more of the file may come.
+    /// Returns a state without texts and without records. More of the file may follow.
     fn new(alloc: Global, pace: Pace) -> Result<ReadAhead, AllocError>
-        ensures none { IfOk result (λ held. held.texts.made.items ≡ []) }
-        ensures more { IfOk result (λ held. held.end ≡ More) }
+        ensures none { IfOk result (λ ahead. ahead.texts.made.items ≡ []) }
+        ensures more { IfOk result (λ ahead. ahead.end ≡ More) }
     {
         Ok(ReadAhead {
             texts: Texts::none(alloc),
@@ -62,11 +62,11 @@ impl ReadAhead {
         })
     }
 
-    /// Reads the batch after the one that was read last. After the last batch comes one without
-    /// records, which ends as the last one did; nothing is read for it.
+    /// Reads the batch after the one that was read last. After the last batch nothing is read: the
+    /// next batch has no records, and the same end as the last one.
     ///
-    /// An error is always `NoMemory`.
-    pub(crate) fn read<R: Read>(&mut self, records: &mut Records<'_, R, ()>) -> Result<(), RunFault>
+    /// The only error is `NoMemory`.
+    pub(crate) fn read<R: Read>(&mut self, records: &mut Records<'_, R>) -> Result<(), RunFault>
         ensures same_reader { records.new.reader.ghost_name ≡ records.old.reader.ghost_name }
         ensures texts { self.new.texts ≡ self.old.texts }
         ensures reads { (here : Option (List ℕ)) (earlier : List (List ℕ))
@@ -86,15 +86,16 @@ impl ReadAhead {
         Ok(())
     }
 
-    /// Adds the texts to lines, and writes them as they fill; then reads as [`ReadAhead::read`] does.
+    /// Adds the texts to the lines, and writes the lines out whenever they are full; then reads as
+    /// [`ReadAhead::read`] does.
     ///
-    /// `CannotWrite` where a write fails, and `NoMemory`; a front of the texts may have been written
-    /// then. No thread is started: `_threads` is there since the other half of a join, which starts
-    /// some, borrows it too.
+    /// Returns `CannotWrite` if a write fails, and `NoMemory` if memory runs out. A prefix of the
+    /// texts may have been written by then. No thread is started: `_threads` is there because the
+    /// other half of a join, which starts threads, borrows it too.
     pub(crate) fn write_and_read<R: Read, W: Write, T>(
         &mut self,
         _threads: &T,
-        records: &mut Records<'_, R, ()>,
+        records: &mut Records<'_, R>,
         lines: &mut Lines<'_, W>,
     ) -> Result<(), RunFault>
         ensures none { self.new.texts.made.items ≡ [] }

@@ -1,4 +1,4 @@
-//! What prints a run: what a batch gives is formatted, and what was formatted is written.
+//! Printing a run: the output of a batch is formatted, and the formatted text is written.
 
 ghost use Rattle.std.specs.Prelude.{◌≡◌, ◌≢◌, ◌≤◌, ◌⊎◌, ◌++◌, [], IfErr, IfOk, List, OnErr, OnOk, Option, length, ℕ};
 ghost use Rattle.std.specs.List.{AllByRecursion};
@@ -29,22 +29,23 @@ use std::io::{Read, Write};
 use std::mem;
 use std::thread::Threads;
 
-/// Prints what a run gives, a batch after the run: while the run takes a batch, workers format what
-/// the batch before gave, what they formatted of the one before that is written, and the next batch
-/// is read.
+/// The printer of a run, which works one batch behind it: while the run processes a batch, workers
+/// format the output of the batch before, the text of the batch before that one is written, and the
+/// next batch is read.
 #[derive(Drop)]
 pub(crate) struct Printer<'c, C: TextCatalog> {
-    /// How values are formatted.
+    /// The catalog that formats the values.
     pub catalog: &'c C,
-    /// How many readers there are.
+    /// The number of readers.
     pub readers: u32,
-    /// What workers format while the next batch is run. Its lists serve for the batch after that.
+    /// The output that workers format while the next batch is run. Its lists are reused for the
+    /// batch after that.
     given: BatchOutput<C::Value>,
-    /// What the last line began with that was formatted on this thread.
+    /// The last place, writer and change that were formatted on this thread, with their texts.
     last: LastLine,
-    /// How many workers format what a batch gave.
+    /// The pace, which tells how many workers format the output of a batch.
     pace: Pace,
-    /// Where texts are made.
+    /// The allocator for texts.
     alloc: Global,
 }
 
@@ -52,7 +53,7 @@ impl<'c, C: TextCatalog> Printer<'c, C>
 where
     C::Value: Sync,
 {
-    /// What prints this run, whose values are formatted by the catalog. Nothing was printed.
+    /// Returns a printer for this run, whose values the catalog formats. Nothing is printed yet.
     pub(crate) fn new(catalog: &'c C, run: &RunLines<C>) -> Printer<'c, C>
         ensures catalog { result.catalog.now ≡ catalog.now }
         ensures readers { result.readers ≡ length run.now.participant.engine.statuses }
@@ -67,63 +68,69 @@ where
         }
     }
 
-    /// Prints what a run gave last, while the run takes the batch that was read before its turn and
-    /// the next one is read. Where several workers format what the run gave, their texts are kept:
-    /// they are to be written after the lines.
+    /// Prints the output of the run's last batch, has the run process the batch that was read
+    /// ahead, and reads the next batch. If several workers format the output, these happen at the
+    /// same time, and the workers' texts are kept in `pipeline`: they are to be written after the
+    /// lines.
     ///
-    /// `CannotWrite` where a write fails, and `NoMemory`; a front of what was to be printed may
-    /// have been written then.
+    /// Returns `CannotWrite` if a write fails, and `NoMemory` if memory runs out. A prefix of what
+    /// was to be printed may have been written by then.
     pub(crate) fn print_and_take<R: Read + Send, W: Write + Send, T: Threads + Sync>(
         &mut self,
         rt: &T,
         mut run: RunLines<C>,
-        turn: &mut Pipeline,
-        records: &mut Records<'_, R, ()>,
+        pipeline: &mut Pipeline,
+        records: &mut Records<'_, R>,
         lines: &mut Lines<'_, W>,
     ) -> Result<RunLines<C>, RunFault>
-        requires few { length (records_in turn.old.held.next) ≤ 4096 }
-        requires fit { AllByRecursion IsRecord (records_in turn.old.held.next) }
+        requires few { length (records_in pipeline.old.ahead.next) ≤ 4096 }
+        requires fit { AllByRecursion IsRecord (records_in pipeline.old.ahead.next) }
         requires alone { NoneAttached run.participant.ports }
         ensures same { IfOk result (IsSameRun run) }
         ensures takes { IfOk result (λ now. TakesRecords C.view C.decoding
-            (records_in turn.old.held.next) run.participant.engine now.participant.engine now.given) }
+            (records_in pipeline.old.ahead.next)
+            run.participant.engine now.participant.engine now.given) }
         ensures reads { (here : Option (List ℕ)) (earlier : List (List ℕ))
-            → EndsBatch turn.old.held.end records.old.count earlier here
+            → EndsBatch pipeline.old.ahead.end records.old.count earlier here
             (R.remaining records.old.reader.now)
             → OnOk result (ReadsAhead here (R.remaining records.new.reader.now)
-            records.old.count records.new.count (records_in turn.new.held.next) turn.new.held.end) }
-        ensures still { turn.old.held.end ≢ More
+            records.old.count records.new.count
+            (records_in pipeline.new.ahead.next) pipeline.new.ahead.end) }
+        ensures still { pipeline.old.ahead.end ≢ More
             → R.remaining records.new.reader.now ≡ R.remaining records.old.reader.now }
         ensures catalog { self.new.catalog.now ≡ self.old.catalog.now }
         ensures readers { self.new.readers ≡ self.old.readers }
         ensures same_reader { records.new.reader.ghost_name ≡ records.old.reader.ghost_name }
         ensures same_writer { lines.new.writer.ghost_name ≡ lines.old.writer.ghost_name }
         ensures ok { (due : List ℕ) → IsDue (C.text_of self.old.catalog.now) C.view
-            turn.old.held.texts.made.items run.given self.old.readers due → OnOk result (MovesBefore
+            pipeline.old.ahead.texts.made.items run.given self.old.readers due
+            → OnOk result (MovesBefore
             (W.contents lines.old.writer.now) (W.contents lines.new.writer.now)
-            (lines.old.text.items ++ due) lines.new.text.items turn.new.held.texts.made.items) }
+            (lines.old.text.items ++ due) lines.new.text.items
+            pipeline.new.ahead.texts.made.items) }
         ensures fault { IfErr result (λ fault. (fault ≡ CannotWrite) ⊎ (fault ≡ NoMemory)) }
         ensures front { (due : List ℕ) → IsDue (C.text_of self.old.catalog.now) C.view
-            turn.old.held.texts.made.items run.given self.old.readers due → OnErr result (PutsFront
+            pipeline.old.ahead.texts.made.items run.given self.old.readers due
+            → OnErr result (PutsFront
             (W.contents lines.old.writer.now) (W.contents lines.new.writer.now)
             (lines.old.text.items ++ due)) }
     {
         let workers = self.workers(&run.given);
         if workers > 1 {
-            return self.spell_and_take(rt, run, turn, records, lines);
+            return self.format_and_take(rt, run, pipeline, records, lines);
         }
-        turn.held.texts.write(lines)?;
+        pipeline.ahead.texts.write(lines)?;
         self.print_alone(&run.given, lines)?;
-        run.take_records(rt, &turn.held.next)?;
-        turn.held.read(records)?;
+        run.take_records(rt, &pipeline.ahead.next)?;
+        pipeline.ahead.read(records)?;
         Ok(run)
     }
 
-    /// Adds what a run gave last to the lines, after what was formatted before, and writes them as
-    /// they fill. Then no text is left.
+    /// Adds the texts that were formatted before, and then the lines of a batch's output, and
+    /// writes the lines out whenever they are full. Afterwards no text is left.
     ///
-    /// `CannotWrite` where a write fails, and `NoMemory`; a front of what was to be printed may
-    /// have been written then.
+    /// Returns `CannotWrite` if a write fails, and `NoMemory` if memory runs out. A prefix of what
+    /// was to be printed may have been written by then.
     pub(crate) fn print_last<W: Write, T: Threads + Sync>(
         &mut self,
         rt: &T,
@@ -151,60 +158,72 @@ where
             return self.print_alone(given, lines);
         }
         let mut spare = mem::replace(&mut texts.spare, Vec::new(self.alloc));
-        texts.made = self.spelling(given).texts(rt, workers, &mut spare)?;
+        texts.made = self.formatter(given).texts(rt, workers, &mut spare)?;
         texts.write(lines)
     }
 
-    /// How many workers format what a batch gave.
+    /// Returns the number of workers that format the output of a batch.
     fn workers(&self, given: &BatchOutput<C::Value>) -> usize
         ensures { 1 ≤ result }
     {
-        self.pace.workers_for(given.places.len(), self.readers)
+        let lines = given
+            .outputs
+            .iter()
+            .fold(given.answers.len(), |lines, output| {
+                let more = output.notices.len().saturating_add(output.answers.len());
+                lines.saturating_add(more)
+            });
+        self.pace.formatters(lines)
     }
 
-    /// Has a thread of its own run a batch, and workers format what the run gave before, while
-    /// texts are written and the next batch is read.
-    fn spell_and_take<R: Read + Send, W: Write + Send, T: Threads + Sync>(
+    /// Runs a batch on a thread of its own and has workers format the output of the batch before,
+    /// while texts are written and the next batch is read.
+    fn format_and_take<R: Read + Send, W: Write + Send, T: Threads + Sync>(
         &mut self,
         rt: &T,
         mut run: RunLines<C>,
-        turn: &mut Pipeline,
-        records: &mut Records<'_, R, ()>,
+        pipeline: &mut Pipeline,
+        records: &mut Records<'_, R>,
         lines: &mut Lines<'_, W>,
     ) -> Result<RunLines<C>, RunFault>
-        requires few { length (records_in turn.old.held.next) ≤ 4096 }
-        requires fit { AllByRecursion IsRecord (records_in turn.old.held.next) }
+        requires few { length (records_in pipeline.old.ahead.next) ≤ 4096 }
+        requires fit { AllByRecursion IsRecord (records_in pipeline.old.ahead.next) }
         requires alone { NoneAttached run.participant.ports }
         ensures same { IfOk result (IsSameRun run) }
         ensures takes { IfOk result (λ now. TakesRecords C.view C.decoding
-            (records_in turn.old.held.next) run.participant.engine now.participant.engine now.given) }
+            (records_in pipeline.old.ahead.next)
+            run.participant.engine now.participant.engine now.given) }
         ensures reads { (here : Option (List ℕ)) (earlier : List (List ℕ))
-            → EndsBatch turn.old.held.end records.old.count earlier here
+            → EndsBatch pipeline.old.ahead.end records.old.count earlier here
             (R.remaining records.old.reader.now)
             → OnOk result (ReadsAhead here (R.remaining records.new.reader.now)
-            records.old.count records.new.count (records_in turn.new.held.next) turn.new.held.end) }
-        ensures still { turn.old.held.end ≢ More
+            records.old.count records.new.count
+            (records_in pipeline.new.ahead.next) pipeline.new.ahead.end) }
+        ensures still { pipeline.old.ahead.end ≢ More
             → R.remaining records.new.reader.now ≡ R.remaining records.old.reader.now }
         ensures catalog { self.new.catalog.now ≡ self.old.catalog.now }
         ensures readers { self.new.readers ≡ self.old.readers }
         ensures same_reader { records.new.reader.ghost_name ≡ records.old.reader.ghost_name }
         ensures same_writer { lines.new.writer.ghost_name ≡ lines.old.writer.ghost_name }
         ensures ok { (due : List ℕ) → IsDue (C.text_of self.old.catalog.now) C.view
-            turn.old.held.texts.made.items run.given self.old.readers due → OnOk result (MovesBefore
+            pipeline.old.ahead.texts.made.items run.given self.old.readers due
+            → OnOk result (MovesBefore
             (W.contents lines.old.writer.now) (W.contents lines.new.writer.now)
-            (lines.old.text.items ++ due) lines.new.text.items turn.new.held.texts.made.items) }
+            (lines.old.text.items ++ due) lines.new.text.items
+            pipeline.new.ahead.texts.made.items) }
         ensures fault { IfErr result (λ fault. (fault ≡ CannotWrite) ⊎ (fault ≡ NoMemory)) }
         ensures front { (due : List ℕ) → IsDue (C.text_of self.old.catalog.now) C.view
-            turn.old.held.texts.made.items run.given self.old.readers due → OnErr result (PutsFront
+            pipeline.old.ahead.texts.made.items run.given self.old.readers due
+            → OnErr result (PutsFront
             (W.contents lines.old.writer.now) (W.contents lines.new.writer.now)
             (lines.old.text.items ++ due)) }
     {
-        let Pipeline { batch, held } = turn;
-        mem::swap(batch, &mut held.next);
+        let Pipeline { batch, ahead } = pipeline;
+        mem::swap(batch, &mut ahead.next);
         mem::swap(&mut run.given, &mut self.given);
-        let spare = mem::replace(&mut held.texts.spare, Vec::new(self.alloc));
+        let spare = mem::replace(&mut ahead.texts.spare, Vec::new(self.alloc));
         let workers = self.workers(&self.given);
-        let spelling = self.spelling(&self.given);
+        let formatter = self.formatter(&self.given);
         let batch = &*batch;
         let take = move || -> Result<RunLines<C>, AllocError>
             requires few { length (records_in batch.now) ≤ 4096 }
@@ -219,25 +238,25 @@ where
             run.take_records(rt, batch)?;
             Ok(run)
         };
-        let spell = move || -> Result<Vec<Result<Vec<u8>, AllocError>>, AllocError>
+        let format_lines = move || -> Result<Vec<Result<Vec<u8>, AllocError>>, AllocError>
             requires { 1 ≤ workers }
-            ensures { AreByPlace C.view spelling.entry.given.now → IfOk result (λ texts.
-                AreTexts texts.items (merged_lines (C.text_of spelling.entry.catalog.now) C.view
-                spelling.entry.given.now spelling.entry.readers
-                spelling.entry.given.now.places.items)) }
+            ensures { AreByPlace C.view formatter.entry.given.now → IfOk result (λ texts.
+                AreTexts texts.items (merged_lines (C.text_of formatter.entry.catalog.now) C.view
+                formatter.entry.given.now formatter.entry.readers
+                formatter.entry.given.now.places.items)) }
         {
             let mut spare = spare;
-            spelling.texts(rt, workers, &mut spare)
+            formatter.texts(rt, workers, &mut spare)
         };
-        let calls = (take, spell);
-        let (done, taken, made) = write_and_read_beside(rt, held, records, lines, calls);
+        let calls = (take, format_lines);
+        let (done, taken, made) = write_and_read_beside(rt, ahead, records, lines, calls);
         done?;
-        held.texts.made = made?;
+        ahead.texts.made = made?;
         Ok(taken?)
     }
 
-    /// How lists that a batch gave are formatted.
-    fn spelling<'g>(&self, given: &'g BatchOutput<C::Value>) -> LineFormatter<'g, C>
+    /// Returns the formatter for the output of a batch.
+    fn formatter<'g>(&self, given: &'g BatchOutput<C::Value>) -> LineFormatter<'g, C>
     where
         'c: 'g,
         ensures { (result.catalog.now ≡ self.now.catalog.now)
@@ -251,7 +270,8 @@ where
         }
     }
 
-    /// Spells what a batch gave on this thread, and writes it as it fills.
+    /// Formats the output of a batch on this thread, and writes the lines out whenever they are
+    /// full.
     fn print_alone<W: Write>(
         &mut self,
         given: &BatchOutput<C::Value>,

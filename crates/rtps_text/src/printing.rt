@@ -1,4 +1,4 @@
-//! The lines of a batch, on their way to a writer.
+//! Writing the lines of a batch.
 
 ghost use Rattle.std.specs.Prelude.{◌≡◌, ◌⊎◌, ◌++◌, IfErr, List, OnErr, OnOk, ℕ};
 ghost use Rattle.rtps_records.specs.Runs.{Moves, PutsFront};
@@ -15,11 +15,11 @@ use std::alloc::{AllocError, Allocator};
 use std::io::Write;
 use std::mem;
 
-/// Adds the lines of what a batch gave, place by place, and writes them as they fill. The cursors
-/// say how much of it was printed before.
+/// Adds the lines of a batch's output, place by place, and writes them out whenever they are full.
+/// The cursors tell how much of the output was printed before.
 ///
-/// `CannotWrite` where a write fails, and `NoMemory`; a front of the lines may have been written
-/// then.
+/// Returns `CannotWrite` if a write fails, and `NoMemory` if memory runs out. A prefix of the lines
+/// may have been written by then.
 pub(crate) fn print_places<C: TextCatalog, W: Write, B: Allocator + Copy>(
     lines: &mut Lines<'_, W>,
     last: &mut LastLine<B>,
@@ -48,8 +48,8 @@ pub(crate) fn print_places<C: TextCatalog, W: Write, B: Allocator + Copy>(
     Ok(())
 }
 
-/// Adds a text at the end of another, without a copy where the other is empty. What is left in its
-/// place is no part of either.
+/// Appends `text` to `whole`, without a copy if `whole` is empty. The contents of `text` afterwards
+/// are of no use.
 fn add_text(whole: &mut Vec<u8>, text: &mut Vec<u8>) -> Result<(), AllocError>
     ensures ok { OnOk result (whole.new.items ≡ whole.old.items ++ text.old.items) }
     ensures err { OnErr result (whole.new.items ≡ whole.old.items) }
@@ -61,15 +61,16 @@ fn add_text(whole: &mut Vec<u8>, text: &mut Vec<u8>) -> Result<(), AllocError>
     whole.append(text)
 }
 
-/// Keeps a buffer for reuse, or drops it where the list of such buffers finds no room.
+/// Keeps a buffer for reuse, or drops it if there is no memory for its place in the list.
 fn keep(spare: &mut Vec<Vec<u8>>, text: Vec<u8>) {
     let _kept = spare.push(text);
 }
 
-/// Adds texts, one after the other, and writes them as they fill. Then they are spare.
+/// Adds the texts in order, and writes the lines out whenever they are full. The buffers of the
+/// texts are kept in `spare`.
 ///
-/// `CannotWrite` where a write fails, and `NoMemory`, also where there was none for a text; a front
-/// of the texts may have been written then.
+/// Returns `CannotWrite` if a write fails, and `NoMemory` if memory runs out or if there was none
+/// for one of the texts. A prefix of the texts may have been written by then.
 pub(crate) fn print_texts<W: Write>(
     lines: &mut Lines<'_, W>,
     texts: Vec<Result<Vec<u8>, AllocError>>,

@@ -1,4 +1,4 @@
-//! A run in batches.
+//! A run of a participant, in batches.
 
 ghost use Rattle.std.specs.Prelude.{◌≡◌, ◌≤◌, ◌++◌, [], All, IfErr, IfOk, List, OnOk, length, map, ℕ};
 ghost use Rattle.std.specs.Io.{StartsWith};
@@ -23,16 +23,16 @@ use std::alloc::{AllocError, Allocator, Global};
 use std::io::Write;
 use std::thread::Threads;
 
-/// A participant whose run is printed. Its readers have no outlets, so all that they report is in
-/// what a batch gives.
+/// A participant whose run is printed. Its readers have no outlets, so the output of a batch has
+/// all that they report.
 #[derive(Drop)]
 pub(crate) struct RunLines<C: TextCatalog> {
     pub participant: Participant<C>,
-    /// What the last batch gave.
+    /// The output of the last batch.
     pub given: BatchOutput<C::Value>,
-    /// Where what a batch gives is kept.
+    /// The allocator for the output of a batch.
     pub alloc: Global,
-    /// How the run is cut, and shared among workers.
+    /// How the run is cut into batches and shared among workers.
     pub pace: Pace,
     /// Whether matches and statuses are printed after the last record.
     pub summary: bool,
@@ -42,7 +42,7 @@ impl<C: TextCatalog> RunLines<C>
 where
     C::Value: Sync,
 {
-    /// No datagram was taken, and nothing was printed.
+    /// Returns a run with these settings. No datagram was processed, and nothing was printed.
     pub(crate) fn new(alloc: Global, setup: Setup<C>) -> Result<RunLines<C>, AllocError>
         ensures same { IfOk result (λ run. (run.participant.engine.catalog ≡ setup.catalog) ×
             (run.participant.engine.config ≡ setup.config) × (run.summary ≡ setup.summary)
@@ -70,7 +70,7 @@ where
         })
     }
 
-    /// Gives the participant the datagrams of a batch.
+    /// Has the participant process the datagrams of a batch.
     pub(crate) fn take<T: Threads + Sync>(
         &mut self,
         rt: &T,
@@ -95,7 +95,7 @@ where
     {
         let readers = self.participant.readers();
         let workers = Workers {
-            count: self.pace.workers_for(datagrams.len(), readers),
+            count: self.pace.runners(datagrams, readers),
             gate: &NoGate,
         };
         match self
@@ -107,7 +107,7 @@ where
         }
     }
 
-    /// Gives the participant the records of a batch.
+    /// Has the participant process the records of a batch.
     pub(crate) fn take_records<T: Threads + Sync>(
         &mut self,
         rt: &T,
@@ -123,7 +123,7 @@ where
         self.take(rt, &batch.records(self.alloc)?)
     }
 
-    /// Adds the summary where it is asked for.
+    /// Adds the summary if it is asked for.
     fn finish<A: Allocator>(&self, out: &mut Vec<u8, A>) -> Result<(), AllocError>
         ensures ok { OnOk result (Ends
             (λ records said. HasSaid C.text_of C.decoding records said self.now.participant.engine)

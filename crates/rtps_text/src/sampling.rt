@@ -1,49 +1,55 @@
-//! What readers keep of a run over a whole record file: a line for each entry of their caches.
+//! Printing what readers keep after a run over a whole record file: one line for each entry of
+//! their caches.
 
 ghost use Rattle.std.specs.Prelude.{◌≡◌, ◌≤◌, ◌⊎◌, ◌++◌, [], IfErr, IfOk, List, None, OnErr, OnOk, if◌then◌else◌, length, ℕ};
 ghost use Rattle.std.specs.Io.{StartsWith};
 ghost use Rattle.std.specs.Io.KnownBytes.{Appends};
+ghost use Rattle.std.specs.List.{AllByRecursion};
+ghost use Rattle.rtps_records.specs.Batches.{records_in};
+ghost use Rattle.rtps_records.specs.RecordFile.{IsRecord};
 ghost use Rattle.rtps_records.specs.Runs.{PutsFront, WroteAll};
 ghost use Rattle.rtps_records.specs.declared.fault.RunFault.TheVariants.{CannotWrite, NoMemory};
 ghost use Rattle.rtps_run.specs.Standing.{StandsAt, run_by};
 ghost use Rattle.dds_participant.specs.Ports.{NoneAttached};
+ghost use Rattle.rtps_text.specs.Batched.{IsSameRun};
 ghost use Rattle.rtps_text.specs.Caches.{AllAccept, AreKept, StopsLate};
 ghost use Rattle.rtps_text.specs.Entries.{samples_by, samples_text};
 ghost use Rattle.rtps_text.specs.Replayed.{summary_text};
 
-use crate::caches::{accept_each, new_caches, print_caches};
+use crate::caches::{ReaderCaches, new_caches, print_caches};
 use crate::closing::push_summary;
-use crate::replaying::run_batch;
+use crate::file_run::run_file;
+use crate::pipeline::Pipeline;
 use crate::running::RunLines;
-use crate::setup::CacheSetup;
-use dds_cache::{DataReader, History};
+use crate::setup::{CacheSetup, Setup};
+use crate::sink::Sink;
+use dds_cache::History;
 use dds_topic::TextCatalog;
 use rtps_lines::LastLine;
-use rtps_records::{Batch, BatchEnd, Lines, Records, RunFault};
+use rtps_records::{Batch, Lines, RunFault};
 use std::alloc::{AllocError, Allocator, Global};
 use std::io::{Read, Write};
 use std::thread::Threads;
 
 /// A participant, and a cache for each of its readers.
 #[derive(Drop)]
-struct RunCaches<C: TextCatalog> {
-    run: RunLines<C>,
-    /// How much each cache keeps.
-    keep: History,
-    /// By rank.
-    caches: Vec<DataReader<C::Value>>,
-    ghost few: { length caches.items ≤ 4294967295 },
+pub(crate) struct RunCaches<C: TextCatalog> {
+    pub run: RunLines<C>,
+    /// The number of entries that each cache keeps for an instance.
+    pub keep: History,
+    pub caches: ReaderCaches<C::Value>,
 }
 
-/// Reads a record file to its end or its first fault, gives its datagrams to the readers of a
-/// configuration, batch after batch, and moves what each reader reports into a cache of its own.
-/// Then all entries are taken of each cache, by rank, and a line is written for each. With
-/// `summary` the matches and the status of each reader come after them. All of that comes also
-/// where a record has a fault.
+/// Reads a record file up to its end or its first fault, has the readers of a configuration process
+/// its datagrams, batch after batch, and moves the notices of each reader into a cache of its own.
+/// Then all entries are taken from each cache, by rank, and a line is written for each entry. With
+/// `summary` the matches and the status of each reader follow. All of this is written also if a
+/// record has a fault.
 ///
-/// The file is never held as a whole, and neither is the text: the entries of the caches are, and
-/// besides them the records of a batch, 1 MiB at the most, what they give and some 64 KiB of text.
-pub fn samples<C: TextCatalog, R: Read, W: Write, T: Threads + Sync>(
+/// Neither the file nor the text is ever in memory as a whole. In memory are the entries of the
+/// caches, the records of two batches, at most 1 MiB each, the output of one batch, and about 64
+/// KiB of text.
+pub fn samples<C: TextCatalog, R: Read + Send, W: Write + Send, T: Threads + Sync>(
     rt: &T,
     alloc: Global,
     setup: CacheSetup<C>,
@@ -62,20 +68,37 @@ where
         fault (R.remaining reader.old) (R.remaining reader.new)
         (W.contents writer.old) (W.contents writer.new)) }
 {
-    keep_file(rt, RunCaches::new(alloc, setup)?, reader, writer)
+    let CacheSetup { run, keep } = setup;
+    let Setup {
+        config,
+        catalog,
+        summary,
+        pace,
+    } = run;
+    let catalog = &catalog;
+    let run = Setup {
+        config,
+        catalog,
+        summary,
+        pace,
+    };
+    let lent = CacheSetup { run, keep };
+    keep_file(rt, RunCaches::new(alloc, lent)?, &catalog, reader, writer)
 }
 
-/// Keeps the run over a file, and prints what is kept. Nothing was taken before.
-fn keep_file<C: TextCatalog, R: Read, W: Write, T: Threads + Sync>(
+/// Runs the readers over a file, and prints what their caches keep. No datagram was processed
+/// before. `_catalog` is there only for its lifetime: a sink of another kind borrows a catalog.
+fn keep_file<'c, C: TextCatalog, R: Read + Send, W: Write + Send, T: Threads + Sync>(
     rt: &T,
-    mut kept: RunCaches<C>,
+    kept: RunCaches<C>,
+    _catalog: &'c C,
     reader: &mut R,
     writer: &mut W,
 ) -> Result<(), RunFault>
 where
     C::Value: Sync,
     requires fresh { AreKept C.view C.decoding kept.keep [] kept.run.participant.engine
-        kept.caches.items }
+        kept.caches.by_rank.items }
     requires alone { NoneAttached kept.run.participant.ports }
     ensures ok { OnOk result (WroteAll
         (samples_by C.text_of C.decoding kept.run.participant.engine kept.run.summary kept.keep)
@@ -85,54 +108,12 @@ where
         fault (R.remaining reader.old) (R.remaining reader.new)
         (W.contents writer.old) (W.contents writer.new)) }
 {
-    let alloc = kept.run.alloc;
-    let mut records = Records::in_batches(reader);
-    keep_run(rt, &mut kept, &mut records, &mut Lines::new(alloc, writer))
+    let pipeline = Pipeline::new(kept.run.alloc, kept.run.pace)?;
+    let sink: Sink<'c, C> = Sink::Caches(kept);
+    run_file(rt, sink, pipeline, reader, writer)
 }
 
-/// Keeps the run over all records, and prints what is kept.
-fn keep_run<C: TextCatalog, R: Read, W: Write, T: Threads + Sync>(
-    rt: &T,
-    kept: &mut RunCaches<C>,
-    records: &mut Records<'_, R, ()>,
-    lines: &mut Lines<'_, W>,
-) -> Result<(), RunFault>
-where
-    C::Value: Sync,
-    requires unread { records.old.count ≡ 0 }
-    requires empty { lines.old.text.items ≡ [] }
-    requires fresh { AreKept C.view C.decoding kept.old.keep [] kept.old.run.participant.engine
-        kept.old.caches.items }
-    requires alone { NoneAttached kept.old.run.participant.ports }
-    ensures same_reader { records.new.reader.ghost_name ≡ records.old.reader.ghost_name }
-    ensures same_writer { lines.new.writer.ghost_name ≡ lines.old.writer.ghost_name }
-    ensures ok { OnOk result (WroteAll
-        (samples_by C.text_of C.decoding kept.old.run.participant.engine kept.old.run.summary
-        kept.old.keep) (R.remaining records.old.reader.now)
-        (W.contents lines.old.writer.now) (W.contents lines.new.writer.now) None) }
-    ensures fault { IfErr result (λ fault. StopsLate
-        (samples_by C.text_of C.decoding kept.old.run.participant.engine kept.old.run.summary
-        kept.old.keep) fault
-        (R.remaining records.old.reader.now) (R.remaining records.new.reader.now)
-        (W.contents lines.old.writer.now) (W.contents lines.new.writer.now)) }
-{
-    let mut room = Batch::new(kept.run.alloc)?;
-    records.open()?;
-    loop {
-        let end = run_batch(rt, &mut kept.run, records, &mut room)?;
-        kept.accept()?;
-        match end {
-            BatchEnd::More => {}
-            BatchEnd::End => return kept.close(lines),
-            BatchEnd::Fault(fault) => {
-                kept.close(lines)?;
-                return Err(fault);
-            }
-        }
-    }
-}
-
-/// Adds the summary of a run where it is asked for.
+/// Adds the summary of a run if it is asked for.
 fn push_asked<C: TextCatalog, A: Allocator>(
     out: &mut Vec<u8, A>,
     run: &RunLines<C>,
@@ -155,53 +136,75 @@ impl<C: TextCatalog> RunCaches<C>
 where
     C::Value: Sync,
 {
-    /// No datagram was taken, and nothing is in the caches.
+    /// Returns a run with these settings. No datagram was processed, and the caches are empty.
     fn new(alloc: Global, setup: CacheSetup<C>) -> Result<RunCaches<C>, AllocError>
         ensures same { IfOk result (λ kept.
             (kept.run.participant.engine.catalog ≡ setup.run.catalog)
             × (kept.run.participant.engine.config ≡ setup.run.config)
             × (kept.run.summary ≡ setup.run.summary) × (kept.keep ≡ setup.keep)) }
         ensures fresh { IfOk result (λ kept. AreKept C.view C.decoding kept.keep []
-            kept.run.participant.engine kept.caches.items) }
+            kept.run.participant.engine kept.caches.by_rank.items) }
         ensures alone { IfOk result (λ kept. NoneAttached kept.run.participant.ports) }
     {
         let CacheSetup { run, keep } = setup;
         let run = RunLines::new(alloc, run)?;
-        let caches = new_caches(alloc, keep, run.participant.readers())?;
+        let by_rank = new_caches(alloc, keep, run.participant.readers())?;
+        let caches = ReaderCaches { by_rank };
         Ok(RunCaches { run, keep, caches })
     }
 
-    /// Moves what each reader gave out in the last batch into its cache.
+    /// Has the run process the records of a batch, and moves the notices of each reader into its
+    /// cache.
+    pub(crate) fn take<T: Threads + Sync>(
+        &mut self,
+        rt: &T,
+        batch: &Batch,
+    ) -> Result<(), AllocError>
+        requires few { length (records_in batch.now) ≤ 4096 }
+        requires fit { AllByRecursion IsRecord (records_in batch.now) }
+        requires kept { (earlier : List (List ℕ)) × AreKept C.view C.decoding self.old.keep earlier
+            self.old.run.participant.engine self.old.caches.by_rank.items }
+        requires alone { NoneAttached self.old.run.participant.ports }
+        ensures same { IsSameRun self.old.run self.new.run × (self.new.keep ≡ self.old.keep) }
+        ensures takes { (earlier : List (List ℕ)) → AreKept C.view C.decoding self.old.keep earlier
+            self.old.run.participant.engine self.old.caches.by_rank.items → OnOk result
+            (AreKept C.view C.decoding self.new.keep (earlier ++ records_in batch.now)
+            self.new.run.participant.engine self.new.caches.by_rank.items) }
+    {
+        self.run.take_records(rt, batch)?;
+        self.accept()
+    }
+
+    /// Moves the notices of each reader in the last batch into its cache.
     fn accept(&mut self) -> Result<(), AllocError>
-        requires many { length self.old.run.given.outputs.items ≡ length self.old.caches.items }
+        requires many { length self.old.run.given.outputs.items
+            ≡ length self.old.caches.by_rank.items }
         ensures same { (self.new.run.participant ≡ self.old.run.participant)
             × (self.new.run.summary ≡ self.old.run.summary)
             × (self.new.run.pace ≡ self.old.run.pace) × (self.new.keep ≡ self.old.keep) }
         ensures accept { OnOk result (AllAccept self.old.run.given.outputs.items
-            self.old.caches.items self.new.caches.items) }
+            self.old.caches.by_rank.items self.new.caches.by_rank.items) }
     {
-        accept_each(
-            self.run.alloc,
-            &mut self.caches,
-            &mut self.run.given.outputs,
-        )
+        let RunCaches { run, caches, .. } = self;
+        caches.accept(run.alloc, &mut run.given.outputs)
     }
 
-    /// Prints what is in the caches, adds the summary where it is asked for, and closes the text.
+    /// Takes all entries from the caches and prints them, adds the summary if it is asked for, and
+    /// closes the text.
     ///
-    /// `CannotWrite` where a write fails, and `NoMemory`; a front of the text may have been written
-    /// then.
-    fn close<W: Write>(&mut self, lines: &mut Lines<'_, W>) -> Result<(), RunFault>
+    /// Returns `CannotWrite` if a write fails, and `NoMemory` if memory runs out. A prefix of the
+    /// text may have been written by then.
+    pub(crate) fn close<W: Write>(&mut self, lines: &mut Lines<'_, W>) -> Result<(), RunFault>
         requires empty { lines.old.text.items ≡ [] }
         ensures same_writer { lines.new.writer.ghost_name ≡ lines.old.writer.ghost_name }
         ensures ok { (records : List (List ℕ)) → AreKept C.view C.decoding self.old.keep records
-            self.old.run.participant.engine self.old.caches.items → OnOk result (Appends
+            self.old.run.participant.engine self.old.caches.by_rank.items → OnOk result (Appends
             (W.contents lines.old.writer.now) (W.contents lines.new.writer.now)
             (samples_by C.text_of C.decoding self.old.run.participant.engine
             self.old.run.summary self.old.keep records)) }
         ensures fault { IfErr result (λ fault. (fault ≡ CannotWrite) ⊎ (fault ≡ NoMemory)) }
         ensures front { (records : List (List ℕ)) → AreKept C.view C.decoding self.old.keep
-            records self.old.run.participant.engine self.old.caches.items
+            records self.old.run.participant.engine self.old.caches.by_rank.items
             → OnErr result (PutsFront
             (W.contents lines.old.writer.now) (W.contents lines.new.writer.now)
             (samples_by C.text_of C.decoding self.old.run.participant.engine
@@ -210,7 +213,8 @@ where
         let alloc = self.run.alloc;
         let mut last = LastLine::none(alloc);
         let catalog = self.run.participant.catalog();
-        print_caches(alloc, lines, &mut last, catalog, &mut self.caches)?;
+        let caches = &mut self.caches.by_rank;
+        print_caches(alloc, lines, &mut last, catalog, caches)?;
         push_asked(&mut lines.text, &self.run)?;
         lines.close()
     }

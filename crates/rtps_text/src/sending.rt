@@ -1,4 +1,4 @@
-//! The answers of a batch, on their way to writers.
+//! Sending the answers of a batch to writers.
 
 ghost use Rattle.std.specs.Prelude.{◌≡◌, false, map};
 ghost use Rattle.rtps_planner.specs.Commuting.{answers_at};
@@ -11,15 +11,15 @@ use dds_participant::BatchOutput;
 use rtps_records::Exchange;
 use rtps_types::{Locator, Place, Reply};
 
-/// Sends the answers of a batch in the order of the run, each one whole and once to each of its
-/// locators: place by place, discovery's answers first, and then those of each reader, by rank
-/// (DDSI-RTPS 8.3.8.1, AckNack, and 8.3.8.10, NackFrag). So what is sent of a run is the same
-/// however it is cut into batches.
+/// Sends the answers of a batch in the order of the run, each one whole, and once to each of its
+/// locators. The order is by place; at one place discovery's answers come first, and then those of
+/// each reader, by rank (DDSI-RTPS 8.3.8.1, AckNack, and 8.3.8.10, NackFrag). So a run sends the
+/// same datagrams however it is cut into batches.
 ///
-/// `given` is what [`run_in_order`](dds_participant::Participant::run_in_order) gave of the batch.
-/// An answer without locators goes nowhere. A send that the network refuses is no error: that
-/// datagram is lost, as any may be, and the next heartbeat of its writer is answered again. Nothing
-/// is received, and no memory is taken.
+/// `given` is the output of [`run_in_order`](dds_participant::Participant::run_in_order) for the
+/// batch. An answer without locators isn't sent. A send that the network refuses is no error: that
+/// datagram is lost, as any datagram may be, and the next heartbeat of its writer is answered
+/// again. Nothing is received, and no memory is taken.
 pub fn send_answers<V: Drop, N: Exchange>(network: &mut N, given: &BatchOutput<V>)
     ensures { Sends (AreAnswersByPlace given.now) (N.traffic network.old) (N.traffic network.new)
         (given_sends given.now) }
@@ -32,7 +32,7 @@ pub fn send_answers<V: Drop, N: Exchange>(network: &mut N, given: &BatchOutput<V
     }
 }
 
-/// Whether there is an answer in what a batch gave.
+/// Whether the output of a batch has an answer.
 fn has_answer<V: Drop>(given: &BatchOutput<V>) -> bool
     ensures { result ≡ false → HasNoAnswer given.now }
 {
@@ -44,7 +44,8 @@ fn has_answer<V: Drop>(given: &BatchOutput<V>) -> bool
     !given.answers.is_empty()
 }
 
-/// Sends the answers of a batch at a place: discovery's, and then those of each reader, by rank.
+/// Sends the answers of a batch at a place: discovery's first, and then those of each reader, by
+/// rank.
 fn send_at<V: Drop, N: Exchange>(network: &mut N, given: &BatchOutput<V>, place: Place)
     ensures { Sends (IsPlaceOf given.now place) (N.traffic network.old) (N.traffic network.new)
         (place_sends given.now place) }
@@ -55,7 +56,7 @@ fn send_at<V: Drop, N: Exchange>(network: &mut N, given: &BatchOutput<V>, place:
     }
 }
 
-/// Sends those of a list of answers that are at a place.
+/// Sends the answers of a list that are at this place, if the list is sorted by place.
 fn send_list<N: Exchange>(network: &mut N, answers: &[(Place, Reply)], place: Place)
     ensures { Sends (AreBy place (map answer_view answers.now))
         (N.traffic network.old) (N.traffic network.new)

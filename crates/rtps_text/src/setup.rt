@@ -1,4 +1,4 @@
-//! What a run is set up with.
+//! The settings of a run.
 
 ghost use Rattle.std.specs.Prelude.{◌≡◌, ◌≤◌, Ok};
 ghost use Rattle.rtps_discovery.specs.Config.{check_of};
@@ -8,15 +8,16 @@ ghost use Rattle.rtps_text.specs.Entries.{IsHistory-prop};
 use dds_cache::History;
 use rtps_discovery::Config;
 
-/// How a run is cut into batches, and how many workers share each. It changes how long the run
-/// takes, and nothing of its text.
+/// How a run is cut into batches, and how many workers share each batch. It changes only how long
+/// the run takes, not its text.
 #[derive(Clone, Copy, Debug, PartialEq, Eq)]
 pub struct Pace {
-    /// The most datagrams of a batch, 1 to 4,096.
+    /// The maximum number of datagrams in a batch, 1 to 4,096.
     pub batch: u16,
-    /// The most workers that a batch is shared among, 1 to 64. One is the caller; several have a
-    /// thread each. In `replay` half of them run a batch while the others format the one before,
-    /// two at the least for each where there are several.
+    /// The maximum number of workers that share a batch, 1 to 64. One worker runs on the caller's
+    /// thread; several have a thread each. In `replay` half of them run a batch while the others
+    /// format the output of the batch before; if there are several, each of the two tasks has at
+    /// least two workers.
     pub workers: u8,
     ghost batched: { 1 ≤ batch },
     ghost few: { batch ≤ 4096 },
@@ -24,13 +25,19 @@ pub struct Pace {
     ghost shared: { workers ≤ 64 },
 }
 
-/// Steps per worker, counting one for each datagram and reader: for fewer a thread costs more than
-/// it does.
+/// The minimum number of steps for each worker that runs a batch. Each datagram counts one step for
+/// each reader. With fewer steps, starting a thread takes longer than it saves.
 const STEPS: usize = 1_024;
 
+/// Copying this many octets of a datagram takes a reader about as long as a step.
+const OCTETS: usize = 2_048;
+
+/// The minimum number of lines for each worker that formats them, for the same reason.
+const LINES: usize = 1_024;
+
 impl Pace {
-    /// The pace of a run beside which other workers format: half of the workers, but two at the
-    /// least where there are several.
+    /// Returns the pace of a run while other workers format: half of the workers, but at least two
+    /// if there are several.
     pub(crate) fn halved(self) -> Pace
         ensures { result.batch ≡ self.batch }
     {
@@ -40,44 +47,61 @@ impl Pace {
         }
     }
 
-    /// How many workers run or print this number of datagrams or places, for this number of
-    /// readers.
-    pub(crate) fn workers_for(&self, datagrams: usize, readers: u32) -> usize
+    /// Returns how many workers run these datagrams for this number of readers.
+    pub(crate) fn runners(&self, datagrams: &[&[u8]], readers: u32) -> usize
         ensures { (1 ≤ result) × (result ≤ 64) }
     {
-        let steps = datagrams.saturating_mul(readers as usize);
-        (steps / STEPS).min(self.workers as usize).max(1)
+        let octets = datagrams.iter().fold(
+            0_usize,
+            |octets, datagram| octets.saturating_add(datagram.len()),
+        );
+        let steps = datagrams.len().saturating_add(octets / OCTETS);
+        self.at_most(steps.saturating_mul(readers as usize) / STEPS)
+    }
+
+    /// Returns how many workers format this number of lines.
+    pub(crate) fn formatters(&self, lines: usize) -> usize
+        ensures { (1 ≤ result) × (result ≤ 64) }
+    {
+        self.at_most(lines / LINES)
+    }
+
+    /// Returns this number of workers if there are as many, and at least one.
+    fn at_most(&self, workers: usize) -> usize
+        ensures { (1 ≤ result) × (result ≤ 64) }
+    {
+        workers.min(self.workers as usize).max(1)
     }
 }
 
-/// Which readers a file is replayed to, and what is printed of them.
+/// The settings of a run: its readers and their catalog, what is printed, and how the run is cut.
 #[derive(Drop)]
 pub struct Setup<C: Drop> {
     pub config: Config,
     pub catalog: C,
     /// Whether matches and statuses are printed after the last record.
     pub summary: bool,
-    /// How the run is cut and shared.
+    /// How the run is cut into batches and shared among workers.
     pub pace: Pace,
     ghost checked: { check_of config ≡ Ok tt },
 }
 
-/// Which readers keep a run over a file, and how much.
+/// The settings of a run over a file whose readers keep their samples in caches.
 #[derive(Drop)]
 pub struct CacheSetup<C: Drop> {
-    /// The run. A summary comes after the entries.
+    /// The settings of the run. If a summary is asked for, it is printed after the entries.
     pub run: Setup<C>,
-    /// How many entries each reader keeps of an instance.
+    /// The number of entries that each reader keeps for an instance.
     pub keep: History,
     ghost kept: { IsHistory keep } by { IsHistory-prop keep },
 }
 
-/// Which readers are given datagrams as they are received, and for how long.
+/// The settings of a run over datagrams as they are received, and its limits.
 #[derive(Drop)]
 pub struct LiveSetup<C: Drop> {
     pub run: Setup<C>,
-    /// How many datagrams are received at the most.
+    /// The maximum number of datagrams to receive.
     pub datagrams: u32,
-    /// How often datagrams are waited for at the most.
+    /// The maximum number of waits for datagrams.
     pub turns: u32,
 }

@@ -1,4 +1,4 @@
-//! The lines of what a batch gave, place by place.
+//! The lines of a batch's output, place by place.
 
 ghost use Rattle.std.specs.Prelude.{◌≡◌, ◌+◌, ◌≤◌, ◌++◌, ◌∷◌, [], IfOk, List, OnOk, drop, false, filter, length, map, not};
 ghost use Rattle.std.specs.Io.{StartsWith};
@@ -16,28 +16,28 @@ use rtps_reader::{Notice, Output};
 use rtps_types::{Place, Reply};
 use std::alloc::{AllocError, Allocator, Global};
 
-/// How much of what one reader gave is printed.
+/// A cursor into one reader's output: how much of it is printed.
 #[derive(Clone, Copy)]
 pub(crate) struct Cursor {
     /// The reader's rank.
     pub rank: u32,
-    /// How many of its notices are printed.
+    /// The number of its notices that are printed.
     pub notices: usize,
-    /// How many of its answers are printed.
+    /// The number of its answers that are printed.
     pub answers: usize,
 }
 
-/// How much of what a batch gave is printed.
+/// Cursors into the output of a batch: how much of it is printed.
 #[derive(Drop)]
 pub(crate) struct Cursors {
-    /// How many of discovery's answers are printed.
+    /// The number of discovery's answers that are printed.
     pub said: usize,
-    /// Of each reader, by rank.
+    /// The cursor of each reader, by rank.
     pub readers: Vec<Cursor>,
 }
 
-/// Adds the lines of the notices in front that the reader of a rank gives out at a place, and gives
-/// their number.
+/// Adds the lines of the leading notices that are at a place, and returns their number. `spot` is
+/// the rank of their reader, and the place.
 fn push_notices<C: TextCatalog, A: Allocator, B: Allocator + Copy>(
     out: &mut Vec<u8, A>,
     last: &mut LastLine<B>,
@@ -65,7 +65,7 @@ fn push_notices<C: TextCatalog, A: Allocator, B: Allocator + Copy>(
     Ok(count)
 }
 
-/// Adds the lines of the answers in front that are sent at a place, and gives their number.
+/// Adds the lines of the leading answers that are at this place, and returns their number.
 fn push_answers<A: Allocator>(
     out: &mut Vec<u8, A>,
     place: Place,
@@ -89,14 +89,14 @@ fn push_answers<A: Allocator>(
     Ok(count)
 }
 
-/// Whether a place comes before another.
+/// Whether place `a` comes before place `b`.
 fn is_before(a: Place, b: Place) -> bool
     ensures { result ≡ is_before a b }
 {
     a < b
 }
 
-/// How many notices come before a place, where they are by place.
+/// Returns the number of notices before a place, if the notices are sorted by place.
 fn notices_before<V>(notices: &[Notice<V>], place: Place) -> usize
     ensures { IsPartitionedBy (λ n. is_before n.place place) notices.now → drop result notices.now
         ≡ filter (λ n. not (is_before n.place place)) notices.now }
@@ -104,7 +104,7 @@ fn notices_before<V>(notices: &[Notice<V>], place: Place) -> usize
     notices.partition_point(|notice| is_before(notice.place, place))
 }
 
-/// How many answers come before a place, where they are by place.
+/// Returns the number of answers before a place, if the answers are sorted by place.
 pub(crate) fn answers_before(answers: &[(Place, Reply)], place: Place) -> usize
     ensures { IsPartitionedBy (λ a. is_before a.0 place) answers.now → drop result answers.now
         ≡ filter (λ a. not (is_before a.0 place)) answers.now }
@@ -112,14 +112,14 @@ pub(crate) fn answers_before(answers: &[(Place, Reply)], place: Place) -> usize
     answers.partition_point(|answer| is_before(answer.0, place))
 }
 
-/// The items from one on.
+/// Returns the items from index `from` on. There are none if it is past the end.
 pub(crate) fn rest<T>(items: &[T], from: usize) -> &[T]
     ensures { result.now ≡ drop from items.now }
 {
     items.get(from..).unwrap_or(&[])
 }
 
-/// Whether the first of these notices is given out at a place.
+/// Whether the first of these notices is at this place.
 fn is_noticed<C: TextCatalog>(notices: &[Notice<C::Value>], place: Place) -> bool
     ensures { result ≡ false
         → first_notices place (map (notice_view C.view) notices.now) ≡ [] }
@@ -130,7 +130,7 @@ fn is_noticed<C: TextCatalog>(notices: &[Notice<C::Value>], place: Place) -> boo
     }
 }
 
-/// Whether the first of these answers is sent at a place.
+/// Whether the first of these answers is at this place.
 fn is_answered(answers: &[(Place, Reply)], place: Place) -> bool
     ensures { result ≡ false → first_answers place (map answer_view answers.now) ≡ [] }
 {
@@ -141,10 +141,12 @@ fn is_answered(answers: &[(Place, Reply)], place: Place) -> bool
 }
 
 impl Cursor {
-    /// All that the reader of a rank gave before a place is printed.
+    /// Returns the cursor of the reader of `rank` with all of its output before `place` counted as
+    /// printed.
     fn at<C: TextCatalog>(rank: u32, given: &BatchOutput<C::Value>, place: Place) -> Cursor
         ensures rank { result.rank ≡ rank }
-        ensures left { (before after : List Place) → given.now.places.items ≡ before ++ place ∷ after
+        ensures left { (before after : List Place)
+            → given.now.places.items ≡ before ++ place ∷ after
             → AreByPlace C.view given.now
             → IsLeft (parts_given C.view given.now) (place ∷ after) result }
     {
@@ -162,8 +164,8 @@ impl Cursor {
         }
     }
 
-    /// Adds the lines of what a reader gave out and sent at a place: its notices, and then its
-    /// answer. Gives what is printed then.
+    /// Adds the lines of a reader's output at a place: its notices, and then its answer. Returns
+    /// the cursor after that.
     fn push_output<C: TextCatalog, A: Allocator, B: Allocator + Copy>(
         self,
         out: &mut Vec<u8, A>,
@@ -194,7 +196,8 @@ impl Cursor {
         })
     }
 
-    /// The same for the reader of its rank; a batch that has no such reader has nothing of it.
+    /// Does what `push_output` does, with the output of the reader of its rank. If the batch has no
+    /// such reader, nothing is added.
     fn push_part<C: TextCatalog, A: Allocator, B: Allocator + Copy>(
         self,
         out: &mut Vec<u8, A>,
@@ -217,7 +220,7 @@ impl Cursor {
 }
 
 impl Cursors {
-    /// Nothing is printed yet of what a batch gave that has this many readers.
+    /// Returns the cursors of a batch with `readers` readers, with nothing printed yet.
     pub(crate) fn start(alloc: Global, readers: u32) -> Result<Cursors, AllocError>
         ensures { IfOk result (λ c. (c.said ≡ 0) × (c.readers.items ≡ starts readers)) }
     {
@@ -235,7 +238,7 @@ impl Cursors {
         })
     }
 
-    /// All that a batch gave before a place is printed.
+    /// Returns the cursors of a batch with all of its output before `place` counted as printed.
     pub(crate) fn at<C: TextCatalog>(
         alloc: Global,
         given: &BatchOutput<C::Value>,
@@ -256,7 +259,7 @@ impl Cursors {
         })
     }
 
-    /// Adds the lines at a place: discovery's answer, and then those of each reader.
+    /// Adds the lines at a place: discovery's answer, and then the lines of each reader, by rank.
     pub(crate) fn push_place<C: TextCatalog, A: Allocator, B: Allocator + Copy>(
         &mut self,
         out: &mut Vec<u8, A>,

@@ -1,4 +1,4 @@
-//! Lines against a record file that was written down by hand.
+//! Printing the events of a record file written by hand.
 
 mod answers;
 mod entries;
@@ -8,8 +8,7 @@ mod matches;
 mod runs;
 mod sending;
 
-use crate::{dump, dump_in};
-use linked_list_allocator::LocalHeap;
+use crate::dump;
 use rtps_records::RunFault;
 use rtps_types::GuidPrefix;
 use std::alloc::Global;
@@ -18,8 +17,8 @@ use std::test::Fail;
 
 const OURS: GuidPrefix = GuidPrefix([0x0b; 12]);
 
-/// `RDG1`, and two datagrams: a time and the five kinds of event after it, and three events that
-/// leave out what they can.
+/// `RDG1` and two datagrams. The first has a time and then the five kinds of event; the second has
+/// three events that leave out the optional parts.
 const FILE: [&str; 14] = [
     "52444731",
     "000000e8",
@@ -37,7 +36,7 @@ const FILE: [&str; 14] = [
     "07011c00000001c7000001c20000000001000000000000000000000005000000",
 ];
 
-/// How many octets the magic and the first record take.
+/// The number of octets of the magic and the first record.
 const FIRST: usize = 240;
 
 const LINES: [&str; 8] = [
@@ -51,7 +50,7 @@ const LINES: [&str; 8] = [
     "1:3 0102030405060708090a0b0c - 000001c2 000001c7 heartbeat 1 0 5 -",
 ];
 
-/// The octets of these parts, which are in hex.
+/// Returns the octets of these parts, which are in hex.
 fn octets(alloc: Global, parts: &[&str]) -> Result<Vec<u8>, Fail> {
     let mut octets = Vec::new(alloc);
     for part in parts {
@@ -60,7 +59,7 @@ fn octets(alloc: Global, parts: &[&str]) -> Result<Vec<u8>, Fail> {
     Ok(octets)
 }
 
-/// These lines, each with its end.
+/// Returns these lines, each with its line end.
 fn text(alloc: Global, lines: &[&str]) -> Result<String, Fail> {
     let mut text = String::new(alloc);
     for line in lines {
@@ -70,28 +69,7 @@ fn text(alloc: Global, lines: &[&str]) -> Result<String, Fail> {
     Ok(text)
 }
 
-#[test]
-fn prints_a_front_where_a_growth_is_refused(rt: HostRuntime) -> Result<(), Fail> {
-    let file = octets(rt.alloc(), &FILE)?;
-    let text = text(rt.alloc(), &LINES)?;
-    let mut refused = 0;
-    for step in 0..40 {
-        let heap = LocalHeap::new(rt.alloc(), 65_400 + step * 128)?;
-        let mut out = Vec::new(rt.alloc());
-        let outcome = dump_in(&heap, OURS, &mut file.as_slice(), &mut out);
-        if outcome.is_ok() {
-            assert_eq!(rt; out.as_slice(), text.as_bytes());
-        } else {
-            refused = step;
-            assert_eq!(rt; outcome, Err(RunFault::NoMemory), "at {step}");
-            assert!(rt; text.as_bytes().starts_with(out.as_slice()));
-        }
-    }
-    assert!(rt; 0 < refused && refused < 39);
-    Ok(())
-}
-
-/// Gives its octets, and then fails.
+/// A reader that delivers its octets, and then fails.
 #[derive(Drop)]
 pub(crate) struct Failing<'a>(pub(crate) &'a [u8]);
 
@@ -114,7 +92,7 @@ fn prints_the_records_before_a_read_that_fails(rt: HostRuntime) -> Result<(), Fa
     for read in [FIRST, FIRST + 2, FIRST + 50] {
         let front = file.as_slice().get(..read).unwrap_or(&[]);
         let mut out = Vec::new(rt.alloc());
-        let outcome = dump(rt.alloc(), OURS, &mut Failing(front), &mut out);
+        let outcome = dump(&rt, rt.alloc(), OURS, &mut Failing(front), &mut out);
         assert_eq!(rt; outcome, Err(RunFault::CannotRead), "at {read}");
         assert_eq!(rt; out.as_slice(), first.as_bytes(), "at {read}");
     }

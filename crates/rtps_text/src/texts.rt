@@ -1,4 +1,4 @@
-//! Texts that workers made, on their way to a writer.
+//! Texts that workers made, and writing them.
 
 ghost use Rattle.std.specs.Prelude.{◌≡◌, ◌⊎◌, ◌++◌, [], IfErr, List, OnErr, OnOk, ℕ};
 ghost use Rattle.rtps_records.specs.Runs.{Moves, PutsFront};
@@ -11,18 +11,20 @@ use std::alloc::{AllocError, Global};
 use std::io::Write;
 use std::mem;
 
-/// Texts that workers made and that are still to be written.
+/// The texts that workers made and that are still to be written.
 #[derive(Drop)]
 pub(crate) struct Texts {
-    /// One after the other, and an error where there was no memory for one.
+    /// The texts in the order in which they are written. An error stands for a text for which there
+    /// was no memory.
     pub made: Vec<Result<Vec<u8>, AllocError>>,
-    /// Texts that were written; their memory serves for the next ones.
+    /// Texts that were written. Their memory is reused for the next ones.
     pub spare: Vec<Vec<u8>>,
-    alloc: Global,
+    /// The allocator for lists of texts.
+    pub alloc: Global,
 }
 
 impl Texts {
-    /// No text. No memory is taken.
+    /// Returns an empty list of texts. No memory is taken.
     pub(crate) fn none(alloc: Global) -> Texts
         ensures { result.made.items ≡ [] }
     {
@@ -33,10 +35,11 @@ impl Texts {
         }
     }
 
-    /// Adds the texts to lines, and writes them as they fill; then there are none.
+    /// Adds the texts to the lines, and writes the lines out whenever they are full. Afterwards no
+    /// text is left.
     ///
-    /// `CannotWrite` where a write fails, and `NoMemory`, also where there was none for a text; a
-    /// front of the texts may have been written then.
+    /// Returns `CannotWrite` if a write fails, and `NoMemory` if memory runs out or if there was
+    /// none for one of the texts. A prefix of the texts may have been written by then.
     pub(crate) fn write<W: Write>(&mut self, lines: &mut Lines<'_, W>) -> Result<(), RunFault>
         ensures none { self.new.made.items ≡ [] }
         ensures same_writer { lines.new.writer.ghost_name ≡ lines.old.writer.ghost_name }

@@ -307,21 +307,10 @@ fn batches_give_what_one_thread_gives(rt: HostRuntime) -> Result<(), Fail> {
     Ok(())
 }
 
-/// The same datagrams, each with a PAD of 5,000 octets at its end.
-fn padded(alloc: Global, datagrams: Vec<Vec<u8>>) -> Result<Vec<Vec<u8>>, AllocError> {
-    let mut all = Vec::new(alloc);
-    for mut octets in datagrams {
-        octets.extend_from_slice(b"\x01\x01\x88\x13")?;
-        octets.extend_from_slice(&[0; 5000])?;
-        all.push(octets)?;
-    }
-    Ok(all)
-}
-
 #[test]
 fn large_batches_are_decoded_apart(rt: HostRuntime) -> Result<(), Fail> {
-    // More than 1 MiB, so that several threads decode.
-    let datagrams = padded(rt.alloc(), datagrams(rt.alloc(), 300)?)?;
+    // More than 1,024 datagrams, so that several threads decode.
+    let datagrams = datagrams(rt.alloc(), 2000)?;
     assert!(rt; give_the_same(&rt, rt.alloc(), &datagrams, &[1])?);
     Ok(())
 }

@@ -3,11 +3,11 @@
 ghost use Rattle.std.specs.Prelude.{None};
 
 use super::words;
-use crate::answering::{RecordFiles, answer};
-use crate::asked::{Asked, Request};
 use crate::config::config_of;
 use crate::fault::ListenFault;
-use crate::options::{Options, SamplesOptions};
+use crate::files::{RecordFiles, replay_file, samples_file};
+use crate::options::Options;
+use crate::request::Request;
 use crate::words::read_words;
 use dds_qos::{Durability, Ownership, Reliability};
 use rtps_discovery::check;
@@ -26,42 +26,28 @@ const WRITER: Guid = Guid {
     entity: EntityId([0, 0xab, 1, 2]),
 };
 
-/// Options with these flags, and else those where none is given.
+/// Options with these flags, and else those of `replay` where none is given.
 pub(super) fn flags(best_effort: bool, raw: bool, summary: bool) -> Options<'static> {
-    Options {
-        file: "-",
-        readers: 1,
-        workers: 1,
-        batch: 256,
-        topic: "Square",
-        own: OURS,
-        fixed: None,
-        best_effort,
-        raw,
-        summary,
-    }
+    let mut options = Options::unset();
+    options.batch = 512;
+    options.best_effort = best_effort;
+    options.raw = raw;
+    options.summary = summary;
+    options
 }
 
 /// Options of a run that can be had but for its texts.
 fn texts(own: &'static str, fixed: Option<&'static str>) -> Options<'static> {
-    Options {
-        file: "-",
-        readers: 1,
-        workers: 1,
-        batch: 256,
-        topic: "Square",
-        own,
-        fixed,
-        best_effort: true,
-        raw: false,
-        summary: false,
-    }
+    let mut options = flags(true, false, false);
+    options.own = own;
+    options.fixed = fixed;
+    options
 }
 
 /// Whether the words after `replay` are read as these options.
 fn reads(alloc: Global, line: &[&'static str], options: Options<'_>) -> Result<bool, Fail> {
     let words = words(alloc, line)?;
-    Ok(read_words(alloc, words.as_slice())? == Request::OfFile(Asked::Replay(options)))
+    Ok(read_words(alloc, words.as_slice())? == Request::Replay(options))
 }
 
 #[test]
@@ -118,18 +104,14 @@ fn a_line_with_all_options(rt: HostRuntime) -> Result<(), Fail> {
         "--summary",
         "--best-effort",
     ];
-    let options = Options {
-        file: "a b",
-        readers: 8,
-        workers: 7,
-        batch: 1,
-        topic: "",
-        own: "x",
-        fixed: Some("y"),
-        best_effort: true,
-        raw: true,
-        summary: true,
-    };
+    let mut options = flags(true, true, true);
+    options.file = "a b";
+    options.readers = 8;
+    options.workers = 7;
+    options.batch = 1;
+    options.topic = "";
+    options.own = "x";
+    options.fixed = Some("y");
     assert!(rt; reads(rt.alloc(), line.as_slice(), options)?);
     Ok(())
 }
@@ -143,11 +125,11 @@ fn lines_of_samples(rt: HostRuntime) -> Result<(), Fail> {
         (["samples", "-", "--keep=65536"].as_slice(), 65_536),
     ] {
         let words = words(rt.alloc(), line)?;
-        let options = flags(false, false, false);
-        let samples = SamplesOptions { options, keep };
+        let mut options = flags(false, false, false);
+        options.keep = keep;
         assert_eq!(rt;
             read_words(rt.alloc(), words.as_slice())?,
-            Request::OfFile(Asked::Samples(samples)),
+            Request::Samples(options),
             "{line:?}"
         );
     }
@@ -208,15 +190,12 @@ fn options_that_are_refused(rt: HostRuntime) {
     for (best_effort, own, fixed, fault) in REFUSED {
         let mut options = texts(own, fixed);
         options.best_effort = best_effort;
-        let samples = SamplesOptions { options, keep: 0 };
-        for asked in [Asked::Replay(options), Asked::Samples(samples)] {
-            let mut out = Vec::new(rt.alloc());
-            assert_eq!(rt;
-                answer(&rt, rt.alloc(), &NoFiles, &asked, &mut out),
-                Err(fault)
-            );
-            assert_eq!(rt; out.len(), 0);
-        }
+        let mut out = Vec::new(rt.alloc());
+        let replayed = replay_file(&rt, rt.alloc(), &NoFiles, &options, &mut out);
+        assert_eq!(rt; replayed, Err(fault));
+        let kept = samples_file(&rt, rt.alloc(), &NoFiles, &options, &mut out);
+        assert_eq!(rt; kept, Err(fault));
+        assert_eq!(rt; out.len(), 0);
     }
 }
 

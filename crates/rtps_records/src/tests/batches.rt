@@ -1,47 +1,20 @@
-//! Tests of reading records in batches: they are the same records as one by one, and a batch ends
-//! at the number asked for or where there is no room.
+//! Tests of reading records in batches: they are those of the file however many are read at a
+//! time, and a batch ends at the number asked for or where there is no room.
 
-ghost use Rattle.std.specs.Prelude.{◌≤◌};
-
-use super::{ENDS, FILE, push_length};
-use crate::{Batch, BatchEnd, MAX_LEN, Records, RunFault};
+use super::{ENDS, FILE, print_lengths};
+use crate::{Batch, BatchEnd, MAX_LEN, Records};
 use std::alloc::Global;
 use std::test::Fail;
 
-/// Appends a line with the number and the length of each record, and returns how the file ends.
-fn print_batches(
-    alloc: Global,
-    mut file: &[u8],
-    most: u16,
-    text: &mut Vec<u8>,
-) -> Result<(), RunFault>
-    requires { 1 ≤ most }
-{
-    let mut batch = Batch::new(alloc)?;
-    let mut records = Records::in_batches(&mut file);
-    records.open()?;
-    let mut number = 0_u64;
-    for _ in 0..u64::MAX {
-        let end = records.next_batch(&mut batch, most)?;
-        for octets in batch.records(alloc)? {
-            push_length(text, number, octets.len())?;
-            number = number.saturating_add(1);
-        }
-        match end {
-            BatchEnd::More => {}
-            BatchEnd::End => return Ok(()),
-            BatchEnd::Fault(fault) => return Err(fault),
-        }
-    }
-    Ok(())
-}
-
 #[test]
 fn batches_have_the_records_of_each_file(rt: HostRuntime) -> Result<(), Fail> {
+    let mut batch = Batch::new(rt.alloc())?;
     for (file, text, outcome) in ENDS {
         for most in [1, 2, 3, 4096] {
             let mut out = Vec::new(rt.alloc());
-            assert_eq!(rt; print_batches(rt.alloc(), file, most, &mut out), outcome);
+            let mut rest = file;
+            let found = print_lengths(rt.alloc(), &mut batch, most, &mut rest, &mut out);
+            assert_eq!(rt; found, outcome);
             assert_eq!(rt; out.as_slice(), text);
         }
     }
@@ -51,7 +24,7 @@ fn batches_have_the_records_of_each_file(rt: HostRuntime) -> Result<(), Fail> {
 #[test]
 fn a_batch_has_as_many_records_as_are_asked_for(rt: HostRuntime) -> Result<(), Fail> {
     let mut file = FILE.as_slice();
-    let mut records = Records::in_batches(&mut file);
+    let mut records = Records::new(&mut file);
     let mut batch = Batch::new(rt.alloc())?;
     assert_eq!(rt; records.open(), Ok(()));
     assert_eq!(rt; records.next_batch(&mut batch, 2), Ok(BatchEnd::More));
@@ -70,7 +43,7 @@ fn a_batch_is_empty_at_first_and_once_it_is_cleared(rt: HostRuntime) -> Result<(
     let mut batch = Batch::new(rt.alloc())?;
     assert!(rt; batch.records(rt.alloc())?.is_empty());
     let mut file = FILE.as_slice();
-    let mut records = Records::in_batches(&mut file);
+    let mut records = Records::new(&mut file);
     assert_eq!(rt; records.open(), Ok(()));
     assert_eq!(rt; records.next_batch(&mut batch, 2), Ok(BatchEnd::More));
     batch.clear();
@@ -89,7 +62,7 @@ fn longest(alloc: Global) -> Result<usize, Fail> {
     }
     let mut rest = file.as_slice();
     let mut batch = Batch::new(alloc)?;
-    let mut records = Records::in_batches(&mut rest);
+    let mut records = Records::new(&mut rest);
     records.open()?;
     records.next_batch(&mut batch, 4096)?;
     Ok(batch.records(alloc)?.len())

@@ -1,10 +1,10 @@
-//! Runs of reliable readers over a record file that was written down by hand.
+//! Runs of reliable readers over a record file written by hand.
 
 use super::runs::{Given, prints_and_refuses};
 use dds_qos::Reliability;
 use std::test::Fail;
 
-/// `RDG1`, and a datagram with the changes 1 and 3 and a heartbeat of the numbers 1 to 3.
+/// `RDG1`, and a datagram with the changes 1 and 3 and a heartbeat for the numbers 1 to 3.
 const FILE: [&str; 6] = [
     "52444731",
     "0000009c",

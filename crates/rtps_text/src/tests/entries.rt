@@ -1,4 +1,4 @@
-//! What readers keep of the run over a record file that was written down by hand.
+//! What readers keep after a run over a record file written by hand.
 
 ghost use Rattle.std.specs.Prelude.{◌≡◌, Ok};
 ghost use Rattle.dds_cache.specs.Cache.{IsHistory};
@@ -19,7 +19,7 @@ use std::thread::Threads;
 
 const GIVEN: Given = Given::Fixed(Reliability::BestEffort);
 
-/// How many values the file has for the two readers.
+/// The number of values that the file has for the two readers.
 const VALUES: u64 = 5;
 
 /// All entries of the two readers.
@@ -37,7 +37,8 @@ const LAST: [&str; 2] = [
     "entry 1 0a0a0a0a0a0a0a0a0a0a0a0a00000102 4 - NotRead New Alive value 424c5545 10 20 30",
 ];
 
-/// These readers, of whose values one finds no memory, keep so much.
+/// Returns the settings of these readers with the history `keep`. There is no memory for the value
+/// at index `refused`.
 fn kept(
     config: Config,
     refused: u64,
@@ -53,8 +54,9 @@ fn kept(
     }
 }
 
-/// Whether the readers print these entries of a file, datagram by datagram on one thread and in one
-/// batch on several; and nothing, and `NoMemory`, where one of the values finds no memory.
+/// Whether the readers print these entries for the file, both datagram by datagram on one thread
+/// and in one batch on several, and whether they print nothing and return `NoMemory` if there is no
+/// memory for one of the values.
 fn keeps_and_refuses<T: Threads + Sync>(
     rt: &T,
     alloc: Global,
@@ -92,8 +94,9 @@ fn keeps_all_or_the_last(rt: HostRuntime) -> Result<(), Fail> {
     Ok(())
 }
 
-/// Whether the entries of the records before a fault are printed: those of the first record, and
-/// the octets after it are a part of the second.
+/// Whether the entries of the first record are printed if the first `read` octets of the file are
+/// read, which end in the second record. If `is_cut`, the file ends there; otherwise reading on
+/// fails.
 fn keeps_before<T: Threads + Sync>(
     rt: &T,
     alloc: Global,
@@ -130,7 +133,7 @@ fn keeps_the_records_before_a_fault(rt: HostRuntime) -> Result<(), Fail> {
     Ok(())
 }
 
-/// Takes one octet a call, and fails after `room` of them.
+/// A writer that takes one octet per call, and fails after `most` octets.
 #[derive(Drop)]
 pub(super) struct Slow {
     pub(super) taken: Vec<u8>,
@@ -152,8 +155,8 @@ impl Write for Slow {
     }
 }
 
-/// Whether a writer that takes this many octets, one a call, is given all of a text or a front of
-/// it.
+/// Whether a writer that takes at most `most` octets, one per call, receives the whole text, or
+/// else the first `most` octets of it before `CannotWrite` is returned.
 fn writes_slowly<T: Threads + Sync>(rt: &T, alloc: Global, most: usize) -> Result<bool, Fail> {
     let file = octets(alloc, &FILE)?;
     let text = text(alloc, &LAST)?;

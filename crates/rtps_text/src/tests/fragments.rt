@@ -1,12 +1,11 @@
-//! A run of reliable readers over a change in fragments, in a record file that was written down by
-//! hand.
+//! A run of reliable readers over a change in fragments, from a record file written by hand.
 
 use super::runs::{Given, prints_and_refuses};
 use dds_qos::Reliability;
 use std::test::Fail;
 
-/// `RDG1`, and a datagram with fragments 2 and 1 of change 1, and a heartbeat of fragment 1 of
-/// change 2.
+/// `RDG1`, and a datagram with fragments 2 and 1 of change 1, and a HEARTBEAT_FRAG for fragment 1
+/// of change 2.
 const FILE: [&str; 6] = [
     "52444731",
     "00000094",
@@ -16,7 +15,7 @@ const FILE: [&str; 6] = [
     "13011800000000000000010200000000020000000100000001000000",
 ];
 
-/// Both readers put change 1 together, and ask for fragment 1 of change 2.
+/// Both readers assemble change 1, and ask for fragment 1 of change 2.
 const LINES: [&str; 4] = [
     "0:2 reader 0 sample 0a0a0a0a0a0a0a0a0a0a0a0a00000102 1 - value 424c5545 10 20 30",
     "0:2 reader 1 sample 0a0a0a0a0a0a0a0a0a0a0a0a00000102 1 - value 424c5545 10 20 30",

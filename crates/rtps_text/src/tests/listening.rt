@@ -1,4 +1,4 @@
-//! Runs over datagrams of a list, as if they were received.
+//! Runs over datagrams from a list, as if they were received.
 
 ghost use Rattle.rtps_discovery.specs.Config.{check_of};
 ghost use Rattle.std.specs.Prelude.{◌≡◌, Ok};
@@ -20,25 +20,25 @@ use std::thread::Threads;
 /// What a network does after its last datagram.
 #[derive(Clone, Copy, PartialEq, Eq)]
 enum After {
-    /// Nothing comes any more.
+    /// No more datagrams come.
     Nothing,
-    /// A wait fails.
+    /// The next wait fails.
     WaitFails,
-    /// A datagram can't be received.
+    /// Receiving a datagram fails.
     ReceiveFails,
 }
 
-/// A network to which these datagrams come, a number of them with each wait.
+/// A network on which these datagrams come, `each` of them with each wait.
 #[derive(Drop)]
 struct Wire<'a> {
     datagrams: &'a [&'a [u8]],
     each: usize,
     after: After,
-    /// How many were received.
+    /// The number of datagrams that were received.
     taken: usize,
-    /// How many have come that were not received.
+    /// The number of datagrams that have come and aren't received yet.
     standing: usize,
-    /// What was sent, and where it went.
+    /// The datagrams that were sent, each with its destination.
     sent: Vec<(Locator, Vec<u8>)>,
     alloc: Global,
 }
@@ -97,7 +97,7 @@ impl Exchange for Wire<'_> {
     }
 }
 
-/// So many datagrams and waits at the most, and no summary.
+/// Returns settings for at most `datagrams` datagrams and at most `turns` waits, without a summary.
 fn live_setup(config: Config, pace: Pace, datagrams: u32, turns: u32) -> LiveSetup<Shapes>
     requires { check_of config ≡ Ok tt }
 {
@@ -114,7 +114,7 @@ fn live_setup(config: Config, pace: Pace, datagrams: u32, turns: u32) -> LiveSet
     }
 }
 
-/// The two datagrams of the record file.
+/// Returns the two datagrams of the record file.
 fn datagrams_in(file: &[u8]) -> [&[u8]; 2] {
     [
         file.get(8..FIRST).unwrap_or(&[]),
@@ -122,7 +122,7 @@ fn datagrams_in(file: &[u8]) -> [&[u8]; 2] {
     ]
 }
 
-/// What two best-effort readers print of these datagrams, and how that ends.
+/// Returns what two best-effort readers print for these datagrams, and the result of the run.
 fn heard<T: Threads + Sync>(
     rt: &T,
     alloc: Global,
@@ -177,15 +177,15 @@ fn prints_what_came_before_a_socket_fault(rt: HostRuntime) -> Result<(), Fail> {
     Ok(())
 }
 
-/// A participant announces itself, with 127.0.0.1:7412 for its discovery, and its announcer of
-/// writers says that it has number 1.
+/// A participant announces itself, with 127.0.0.1:7412 as its locator for discovery. Then its
+/// announcer of writers sends a heartbeat for number 1.
 const ANNOUNCED: [&str; 3] = [
     "52545053020500000a0a0a0a0a0a0a0a0a0a0a0a15057c0000001000000100c7000100c20000000001000000",
     "00030000500010000a0a0a0a0a0a0a0a0a0a0a0a000001c13200180001000000f41c00000000000000000000000000007f0000013100180001000000f51c00000000000000000000000000007f000001020008006400000000000000580004001400000001000000",
     "52545053020500000a0a0a0a0a0a0a0a0a0a0a0a07011c00000003c7000003c20000000001000000000000000100000001000000",
 ];
 
-/// The number is asked for.
+/// The answer: an ACKNACK that asks for that number.
 const ASKED: &str =
     "52545053020500000b0b0b0b0b0b0b0b0b0b0b0b0e010c000a0a0a0a0a0a0a0a0a0a0a0a06011c00000003c7000003c20000000001000000010000000000008001000000";
 

@@ -1,13 +1,12 @@
-//! Runs of a reliable reader that is matched while they go on, over record files that were written
-//! down by hand.
+//! Runs of a reliable reader that is matched during the run, over record files written by hand.
 
 use super::runs::{Given, prints_and_refuses};
 use std::test::Fail;
 
-/// `RTPS` 2.5, no vendor, and the prefix of the participant.
+/// The RTPS header: version 2.5, no vendor, and the prefix of the participant.
 const HEADER: &str = "52545053020500000a0a0a0a0a0a0a0a0a0a0a0a";
 
-/// DATA: the participant is there, with both announcers.
+/// DATA in which the participant appears, with both of its announcers.
 const COMES: &str = "15057c0000001000000100c7000100c20000000001000000\
     00030000500010000a0a0a0a0a0a0a0a0a0a0a0a000001c1\
     3200180001000000f41c00000000000000000000000000007f000001\
@@ -15,25 +14,26 @@ const COMES: &str = "15057c0000001000000100c7000100c20000000001000000\
     02000800640000000000000058000400140000000100\
     0000";
 
-/// DATA: the participant leaves.
+/// DATA in which the participant leaves.
 const LEAVES: &str = "1503340000001000000100c7000100c20000000002000000\
     700010000a0a0a0a0a0a0a0a0a0a0a0a000001c1710004000000000101000000";
 
-/// DATA of the announcer of writers, up to its number.
+/// The beginning of a DATA of the announcer of writers, up to the low half of its sequence number.
 const ANNOUNCES: &str = "1505640000001000000003c7000003c200000000";
 
-/// A record, up to the entity of the writer.
+/// The beginning of a writer's discovery data, up to the entity id of the writer.
 const RECORD: &str = "000300005a0010000a0a0a0a0a0a0a0a0a0a0a0a";
 
-/// What a reliable writer of squares offers.
+/// The end of that data, for a reliable writer of squares: its topic, its type and its reliability.
 const OFFERS: &str = "05000c00070000005371756172650000\
     070010000a0000005368617065547970650000001a000c0002000000000000000000000001000000";
 
-/// DATA of the writer 00000202 with number 1: BLUE at 10, 20 of size 30.
+/// DATA of the writer 00000202 with number 1: a BLUE shape at 10, 20 of size 30.
 const BLUE: &str = "150530000000100000000107000002020000000001000000\
     0001000005000000424c5545000000000a000000140000001e000000";
 
-/// `RDG1`: a participant and its writer come, the participant leaves, and both come again.
+/// `RDG1`, and datagrams in which a participant and its writer appear, the participant leaves, and
+/// both appear again.
 const REMATCH: [&str; 24] = [
     "52444731", "00000094", HEADER, COMES, "0000007c", HEADER, ANNOUNCES, "01000000", RECORD,
     "00000102", OFFERS, "0000004c", HEADER, LEAVES, "00000094", HEADER, COMES, "0000007c", HEADER,
@@ -46,8 +46,9 @@ const REMATCHED: [&str; 3] = [
     "4:1 reader 0 matched 0a0a0a0a0a0a0a0a0a0a0a0a00000102",
 ];
 
-/// `RDG1`: a participant; then a change of its second writer, the records of its writers, of which
-/// the first one comes last, and the change again.
+/// `RDG1`, and a datagram in which a participant appears. The next datagram has a change of its
+/// second writer, the discovery data of its three writers, of which number 1 comes last, and the
+/// change again.
 const ROUTED: [&str; 23] = [
     "52444731", "00000094", HEADER, COMES, "000001b4", HEADER, BLUE, ANNOUNCES, "02000000", RECORD,
     "00000302", OFFERS, ANNOUNCES, "03000000", RECORD, "00000202", OFFERS, ANNOUNCES, "01000000",

@@ -1,4 +1,4 @@
-//! Runs of best-effort readers over a record file that was written down by hand.
+//! Runs of best-effort readers over a record file written by hand.
 
 ghost use Rattle.std.specs.Prelude.{◌≡◌, IfOk, Ok};
 ghost use Rattle.rtps_discovery.specs.Config.{check_of};
@@ -20,8 +20,8 @@ const WRITER: Guid = Guid {
     entity: EntityId([0x00, 0x00, 0x01, 0x02]),
 };
 
-/// `RDG1`, and two datagrams of BLUE at 10, 20 of size 30: the changes 1 and 3 for every reader,
-/// and 4 for the second one.
+/// `RDG1` and two datagrams, whose values are all BLUE at 10, 20 of size 30: changes 1 and 3 for
+/// every reader, and change 4 for the second reader.
 pub(super) const FILE: [&str; 10] = [
     "52444731",
     "0000007c",
@@ -35,7 +35,7 @@ pub(super) const FILE: [&str; 10] = [
     "1505300000001000000002070000010200000000040000000001000005000000424c5545000000000a000000140000001e000000",
 ];
 
-/// How many octets the magic and the first record take.
+/// The number of octets of the magic and the first record.
 pub(super) const FIRST: usize = 132;
 
 pub(super) const LINES: [&str; 7] = [
@@ -51,13 +51,13 @@ pub(super) const LINES: [&str; 7] = [
 /// The readers of a run.
 #[derive(Clone, Copy)]
 pub(super) enum Given {
-    /// Two that ask for this and are matched with the writer from the start.
+    /// Two readers that request this reliability and are matched with the writer from the start.
     Fixed(Reliability),
-    /// A reliable one that is matched with nobody.
+    /// One reliable reader that is matched with no writer at the start.
     Unmatched,
 }
 
-/// A reader of squares, by its rank.
+/// Returns the configuration of a reader of squares. Its entity id depends on its rank.
 fn reader_config(alloc: Global, reliability: Reliability, rank: u8) -> Result<ReaderConfig, Fail> {
     let entity = EntityId([0, 0, rank.wrapping_add(1), 7]);
     let mut reader = ReaderConfig::new(alloc, entity, "Square", "ShapeType")?;
@@ -65,7 +65,7 @@ fn reader_config(alloc: Global, reliability: Reliability, rank: u8) -> Result<Re
     Ok(reader)
 }
 
-/// A configuration of these readers.
+/// Returns a configuration of these readers.
 pub(super) fn config_of(alloc: Global, given: Given) -> Result<Config, Fail>
     ensures { IfOk result (λ config. check_of config ≡ Ok tt) }
 {
@@ -87,7 +87,8 @@ pub(super) fn config_of(alloc: Global, given: Given) -> Result<Config, Fail>
     }
 }
 
-/// How runs are cut and shared in these tests.
+/// The paces of the runs in these tests, from the smallest batch and one worker up to the maximum
+/// of both.
 pub(super) const PACES: [Pace; 4] = [
     Pace {
         batch: 1,
@@ -107,7 +108,8 @@ pub(super) const PACES: [Pace; 4] = [
     },
 ];
 
-/// These readers, with values of shapes of which one finds no memory, and without a summary.
+/// Returns the settings of these readers, with values that are shapes, and without a summary. There
+/// is no memory for the value at index `refused`.
 pub(super) fn setup(config: Config, refused: u64, pace: Pace) -> Setup<FailingCatalog<Shapes>>
     requires { check_of config ≡ Ok tt }
 {
@@ -123,7 +125,7 @@ pub(super) fn setup(config: Config, refused: u64, pace: Pace) -> Setup<FailingCa
     }
 }
 
-/// Whether these readers print this text of octets after which a read fails.
+/// Whether these readers print this text and report the fault if a read fails after these octets.
 fn prints_before<T: Threads + Sync>(
     rt: &T,
     alloc: Global,
@@ -163,8 +165,8 @@ fn prints_the_records_before_a_fault(rt: HostRuntime) -> Result<(), Fail> {
     Ok(())
 }
 
-/// Whether a run of a file, where one value finds no memory, gives the whole text, or else a front
-/// of it.
+/// Whether a run over a file prints the whole text. It is `false` if memory runs out after the
+/// beginning of the text; any other outcome is an error.
 fn prints_all<T: Threads + Sync>(
     rt: &T,
     alloc: Global,
@@ -181,8 +183,9 @@ fn prints_all<T: Threads + Sync>(
     }
 }
 
-/// Whether these readers print all of a file with this many values, however the run is cut and
-/// shared; and a front of it, and `NoMemory`, where one of the values finds no memory.
+/// Whether these readers print the whole text of a file with `values` values, however the run is
+/// cut and shared, and whether they print only its beginning and return `NoMemory` if there is no
+/// memory for one of the values.
 pub(super) fn prints_and_refuses<T: Threads + Sync>(
     rt: &T,
     alloc: Global,

@@ -1,4 +1,4 @@
-//! Answers on their way to a network that keeps them.
+//! Sending answers to a network that keeps them.
 
 use crate::send_answers;
 use dds_participant::BatchOutput;
@@ -10,7 +10,7 @@ use std::alloc::{AllocError, Global};
 use std::io;
 use std::test::Fail;
 
-/// A network that keeps the port and the first octet of what is sent.
+/// A network that keeps the port and the first octet of each datagram that is sent.
 #[derive(Drop)]
 struct Kept {
     sent: Vec<(u16, u8)>,
@@ -52,7 +52,7 @@ const THIRD: Place = Place {
     submessage: 1,
 };
 
-/// Locators of this machine with these ports.
+/// Returns locators of this machine with these ports.
 fn locators(alloc: Global, ports: &[u16]) -> Result<Locators, AllocError> {
     let mut locators = Vec::new(alloc);
     for port in ports {
@@ -64,7 +64,7 @@ fn locators(alloc: Global, ports: &[u16]) -> Result<Locators, AllocError> {
     Ok(Locators::new(locators))
 }
 
-/// An answer of one octet to these ports.
+/// Returns an answer of one octet to these ports.
 fn reply(alloc: Global, ports: &[u16], octet: u8) -> Result<Reply, AllocError> {
     Ok(Reply {
         to: locators(alloc, ports)?,
@@ -72,7 +72,7 @@ fn reply(alloc: Global, ports: &[u16], octet: u8) -> Result<Reply, AllocError> {
     })
 }
 
-/// What a reader gives out that sends these answers alone.
+/// Returns the output of a reader that has only these answers.
 fn output(alloc: Global, replies: &[(Place, u16, u8)]) -> Result<Output<Shape>, AllocError> {
     let mut answers = Vec::new(alloc);
     for (place, port, octet) in replies {

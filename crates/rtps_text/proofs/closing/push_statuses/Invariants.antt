@@ -4,7 +4,7 @@ use Rattle.rtps_run.specs.Standing.{StandsAt, run_by}
 use Rattle.rtps_text.specs.Replayed.{status_lines}
 use Rattle.rtps_text.proofs.closing.push_statuses.Given as goal
 
--- the lines of the statuses so far
+-- the text so far has the lines of the statuses so far
 abbrev pub invariant-loop-rank : goal.invariant-loop-rank
 invariant-loop-rank g l = record {
   tells : (datagrams : List (List ℕ)) → StandsAt g.C.Catalog.decoding datagrams l.participant.engine

@@ -1,5 +1,5 @@
 use Rattle.std.proofs.Common.{sym}
-use Rattle.rtps_records.proofs.NextRead.{at_fault}
+use Rattle.rtps_records.proofs.Faults.{at_fault}
 use Rattle.rtps_records.proofs.Progress.{stops_at_once}
 use Rattle.rtps_text.proofs.replaying.replay.Goals as goal
 

@@ -1,4 +1,4 @@
-use Rattle.rtps_records.proofs.NextRead.{at_fault}
+use Rattle.rtps_records.proofs.Faults.{at_fault}
 use Rattle.rtps_records.proofs.Progress.{stops_at_once}
 use Rattle.rtps_text.proofs.Sampled.{late}
 use Rattle.rtps_text.proofs.sampling.samples.Goals as goal

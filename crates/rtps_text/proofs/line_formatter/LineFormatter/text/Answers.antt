@@ -1,7 +1,7 @@
 use Rattle.std.proofs.Common.{◌++◌, ap, drop, ◌∙◌}
 use Rattle.dds_participant.specs.BatchOutput.{parts_given}
 use Rattle.rtps_text.specs.Slices.{places_lines}
-use Rattle.rtps_text.proofs.Sliced.{slice_cut, slice_first, spelled}
+use Rattle.rtps_text.proofs.Sliced.{slice_cut, slice_first, formatted}
 use Rattle.rtps_text.proofs.line_formatter.LineFormatter.text.Goals as goal
 
 pub returns : goal.returns
@@ -16,4 +16,4 @@ returns g c = λ slice by.
     let left = c.in_ok-cursors.ensures slice.0 (drop 1 places ++ slice.1) cut by in
     c.in_ok-push_places.ensures.ok
     ∙ ap (λ l. l ++ places_lines text (parts_given g.C.Catalog.view given) places cursors.said cursors.readers.items) c.clear.ensures.items
-    ∙ spelled text g.C.Catalog.view given c.args.self.now.readers places first (drop 1 places) slice.0 slice.1 cursors.said cursors.readers.items slice.2 here by left
+    ∙ formatted text g.C.Catalog.view given c.args.self.now.readers places first (drop 1 places) slice.0 slice.1 cursors.said cursors.readers.items slice.2 here by left

@@ -30,7 +30,8 @@ returns-clause-lines g c = λ by.
     let part : IsSliceOf made.job.places.now given.places.items = subst (IsSliceOf made.job.places.now) joined (subst (λ (x : Slice). IsSliceOf x.places.now (flat_map (λ (s : Slice). s.places.now) slices)) is (among slices n s within)) in
     subst (λ (x : Slice). IfOk (slice_index_or texts.items n d) (λ t. t.items ≡ put_lines text (merged lists count x.places.now))) (sym is) (made.call.met part by))))
 
--- slices that fill less than the places and one slice more are no more than the workers
+-- if the slices have room for less than the places and one slice more, there are no more slices
+-- than workers
 no_more : (count size workers places : ℕ) → count * size < places + size → places ≤ size * workers → count ≤ workers
 no_more count size workers places less fits =
     let one_more : suc workers * size ≡ workers * size + size = suc-mul workers size in

@@ -3,7 +3,7 @@ use Rattle.rtps_records.specs.Batches.{records_in}
 use Rattle.rtps_records.specs.Runs.{Moves, PutsFront}
 use Rattle.rtps_records.specs.declared.fault.RunFault.{RunFault}
 use Rattle.rtps_records.proofs.Batching.{some_used}
-use Rattle.rtps_records.proofs.NextRead.{at_fault}
+use Rattle.rtps_records.proofs.Faults.{at_fault}
 use Rattle.rtps_discovery.specs.declared.config.Config.{Config}
 use Rattle.rtps_text.specs.Live.{StopsShort}
 use Rattle.rtps_text.specs.Slices.{all_lines}

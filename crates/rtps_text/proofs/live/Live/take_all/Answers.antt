@@ -1,6 +1,6 @@
 use Rattle.std.proofs.Common.{arith}
 use Rattle.rtps_records.specs.declared.fault.RunFault.{RunFault}
-use Rattle.rtps_records.proofs.NextRead.{at_fault}
+use Rattle.rtps_records.proofs.Faults.{at_fault}
 use Rattle.rtps_text.specs.Live.{StopsShort}
 use Rattle.rtps_text.proofs.Hearing.{same_live, stopped_same}
 use Rattle.rtps_text.proofs.live.Live.take_all.Goals as goal

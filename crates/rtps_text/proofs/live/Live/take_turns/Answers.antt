@@ -1,6 +1,6 @@
 use Rattle.std.proofs.Common.{◌+◌, ◌≤◌, ◌∙◌, arith}
 use Rattle.rtps_records.specs.declared.fault.RunFault.{RunFault}
-use Rattle.rtps_records.proofs.NextRead.{at_fault}
+use Rattle.rtps_records.proofs.Faults.{at_fault}
 use Rattle.rtps_text.specs.Live.{TurnsStop}
 use Rattle.rtps_text.proofs.Hearing.{ends_failed, ends_full, ends_passed, is_drained, listens_failed, listens_waited, no_failure, same_live, same_run, stopped_same}
 use Rattle.rtps_text.proofs.live.Live.take_turns.Goals as goal

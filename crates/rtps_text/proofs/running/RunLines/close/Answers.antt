@@ -1,4 +1,4 @@
-use Rattle.rtps_records.proofs.NextRead.{at_fault}
+use Rattle.rtps_records.proofs.Faults.{at_fault}
 use Rattle.rtps_records.proofs.Progress.{closes, closes_if, closes_without}
 use Rattle.rtps_run.proofs.Answered.{on_ok_then}
 use Rattle.rtps_text.proofs.running.RunLines.close.Goals as goal

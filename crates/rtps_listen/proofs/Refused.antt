@@ -1,0 +1,132 @@
+-- What is refused before a file is opened or a domain is joined.
+use Rattle.std.proofs.Common.{◌≡◌, List, ℕ, ◌∙◌, ap, inl, inr, refl, Result, Ok, Err, IfErr}
+use Rattle.std.specs.Prelude.{IsErrAnd}
+use Rattle.rtps_records.specs.declared.fault.RunFault.TheVariants.{NoMemory}
+use Rattle.rtps_listen.specs.Configs.{IsCause, IsLiveCause, IsReplayCause, Refuses}
+use Rattle.rtps_listen.specs.Identities.{IsPrefixText}
+use Rattle.rtps_listen.specs.Request.{IsDumpCause, RefusesFirst}
+use Rattle.rtps_listen.specs.declared.fault.ListenFault.{ListenFault}
+use Rattle.rtps_listen.specs.declared.fault.ListenFault.TheVariants.{NoText, BadPrefix, BadWriter, Socket, Run}
+use Rattle.rtps_listen.specs.declared.options.Options.{Options}
+use Rattle.rtps_listen.specs.declared.request.Request.TheVariants.{Dump, Listen, Replay, Samples}
+
+-- a fault of the run
+abbrev pub IsRun : ListenFault → Type 0
+IsRun (Run fault) = Unit {0}
+IsRun fault = ⊥
+
+-- a fault of the run or of a socket
+abbrev pub IsLive : ListenFault → Type 0
+IsLive (Run fault) = Unit {0}
+IsLive Socket = Unit {0}
+IsLive fault = ⊥
+
+not_err : {T U E : Type 0} (x : T) (e : E) → Ok x ≡ Err e → U
+not_err x e h = absurd (let bad : Ok x ≡ Err e = h in cc)
+
+again : {T U E : Type 0} (r : Result T E) (s : Result U E) (f e : E) → r ≡ Err f → s ≡ Err f → r ≡ Err e → s ≡ Err e
+again r s f e h k l = let same : f ≡ e = cc in k ∙ ap Err same
+
+pub is_err : {U E : Type 0} (s : Result U E) (fault : E) → IsErrAnd s (λ e. e ≡ fault) → s ≡ Err fault
+is_err (Ok u) fault is = absurd is
+is_err (Err other) fault is = ap Err is
+
+-- what was refused is passed on
+refuses_again : {T U : Type 0} (o : Options) (r : Result T ListenFault) (s : Result U ListenFault) (fault : ListenFault)
+    → r ≡ Err fault → s ≡ Err fault → Refuses o r → Refuses o s
+refuses_again o r s fault e k h = record {
+  prefix = λ bad. again r s fault BadPrefix e k (h.prefix bad);
+  fixed = λ good bad. again r s fault BadWriter e k (h.fixed good bad);
+  writer = λ good bad. elim (h.writer good bad) [ inl w ↦ inl (again r s fault BadWriter e k w) | inr w ↦ inr (again r s fault (Run NoMemory) e k w) ];
+}
+
+-- where nothing is refused, nothing is to be refused
+refuses_none : {T U : Type 0} (o : Options) (t : T) (s : Result U ListenFault) → Refuses {T = T} o (Ok t) → Refuses o s
+refuses_none o t s h = record {
+  prefix = λ bad. not_err t BadPrefix (h.prefix bad);
+  fixed = λ good bad. not_err t BadWriter (h.fixed good bad);
+  writer = λ good bad. elim (h.writer good bad) [ inl e ↦ not_err t BadWriter e | inr e ↦ not_err t (Run NoMemory) e ];
+}
+
+-- what is wrong with options is among what is wrong with a run of them
+replay_cause : (o : Options) (fault : ListenFault) → IsCause o fault → IsReplayCause o fault
+replay_cause o (Run fault) h = tt
+replay_cause o BadPrefix h = h
+replay_cause o BadWriter h = h
+replay_cause o NoText h = h
+replay_cause o Socket h = h
+
+live_cause : (o : Options) (fault : ListenFault) → IsCause o fault → IsLiveCause o fault
+live_cause o (Run fault) h = tt
+live_cause o BadPrefix h = h
+live_cause o BadWriter h = h
+live_cause o NoText h = h
+live_cause o Socket h = tt
+
+run_cause : (o : Options) (s : Result (Unit {0}) ListenFault) → IfErr s IsRun → IfErr s (IsReplayCause o)
+run_cause o (Ok u) k = tt
+run_cause o (Err (Run fault)) k = tt
+run_cause o (Err NoText) k = absurd k
+run_cause o (Err Socket) k = absurd k
+run_cause o (Err BadPrefix) k = absurd k
+run_cause o (Err BadWriter) k = absurd k
+
+heard_cause : (o : Options) (s : Result (Unit {0}) ListenFault) → IfErr s IsLive → IfErr s (IsLiveCause o)
+heard_cause o (Ok u) k = tt
+heard_cause o (Err (Run fault)) k = tt
+heard_cause o (Err Socket) k = tt
+heard_cause o (Err NoText) k = absurd k
+heard_cause o (Err BadPrefix) k = absurd k
+heard_cause o (Err BadWriter) k = absurd k
+
+dumped_cause : (own : List ℕ) (s : Result (Unit {0}) ListenFault) → IfErr s IsRun → IfErr s (IsDumpCause own)
+dumped_cause own (Ok u) k = tt
+dumped_cause own (Err (Run fault)) k = tt
+dumped_cause own (Err NoText) k = absurd k
+dumped_cause own (Err Socket) k = absurd k
+dumped_cause own (Err BadPrefix) k = absurd k
+dumped_cause own (Err BadWriter) k = absurd k
+
+passed : (P Q : ListenFault → Type 0) (s : Result (Unit {0}) ListenFault) (fault : ListenFault) → s ≡ Err fault → P fault → ((e : ListenFault) → P e → Q e) → IfErr s Q
+passed P Q s fault e p to = rw e (to fault p)
+
+-- a refusal of the options
+pub replay_refused : {T : Type 0} (o : Options) (r : Result T ListenFault) (s : Result (Unit {0}) ListenFault) (fault : ListenFault)
+    → r ≡ Err fault → IsErrAnd s (λ e. e ≡ fault) → Refuses o r → IsCause o fault → RefusesFirst (Replay o) s
+unfolding RefusesFirst
+replay_refused o r s fault e is h cause =
+    (refuses_again o r s fault e (is_err s fault is) h, passed (IsCause o) _ s fault (is_err s fault is) cause (replay_cause o))
+
+pub samples_refused : {T : Type 0} (o : Options) (r : Result T ListenFault) (s : Result (Unit {0}) ListenFault) (fault : ListenFault)
+    → r ≡ Err fault → IsErrAnd s (λ e. e ≡ fault) → Refuses o r → IsCause o fault → RefusesFirst (Samples o) s
+unfolding RefusesFirst
+samples_refused o r s fault e is h cause =
+    (refuses_again o r s fault e (is_err s fault is) h, passed (IsCause o) _ s fault (is_err s fault is) cause (replay_cause o))
+
+pub listen_refused : {T : Type 0} (o : Options) (r : Result T ListenFault) (s : Result (Unit {0}) ListenFault) (fault : ListenFault)
+    → r ≡ Err fault → IsErrAnd s (λ e. e ≡ fault) → Refuses o r → IsCause o fault → RefusesFirst (Listen o) s
+unfolding RefusesFirst
+listen_refused o r s fault e is h cause =
+    (refuses_again o r s fault e (is_err s fault is) h, passed (IsCause o) _ s fault (is_err s fault is) cause (live_cause o))
+
+-- a prefix that is none
+pub dump_refused : (o : Options) → ¬ IsPrefixText o.own.now → RefusesFirst (Dump o) (Err BadPrefix)
+unfolding RefusesFirst
+dump_refused o bad = (λ _. refl, bad)
+
+-- where nothing is refused, the run alone can fail
+pub dump_runs : (o : Options) (s : Result (Unit {0}) ListenFault) → IsPrefixText o.own.now → IfErr s IsRun → RefusesFirst (Dump o) s
+unfolding RefusesFirst
+dump_runs o s good k = (λ bad. absurd (bad good), dumped_cause o.own.now s k)
+
+pub replay_runs : {T : Type 0} (o : Options) (t : T) (s : Result (Unit {0}) ListenFault) → Refuses {T = T} o (Ok t) → IfErr s IsRun → RefusesFirst (Replay o) s
+unfolding RefusesFirst
+replay_runs o t s h k = (refuses_none o t s h, run_cause o s k)
+
+pub samples_run : {T : Type 0} (o : Options) (t : T) (s : Result (Unit {0}) ListenFault) → Refuses {T = T} o (Ok t) → IfErr s IsRun → RefusesFirst (Samples o) s
+unfolding RefusesFirst
+samples_run o t s h k = (refuses_none o t s h, run_cause o s k)
+
+pub listen_runs : {T : Type 0} (o : Options) (t : T) (s : Result (Unit {0}) ListenFault) → Refuses {T = T} o (Ok t) → IfErr s IsLive → RefusesFirst (Listen o) s
+unfolding RefusesFirst
+listen_runs o t s h k = (refuses_none o t s h, heard_cause o s k)

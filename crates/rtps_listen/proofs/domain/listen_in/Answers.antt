@@ -1,0 +1,66 @@
+use Rattle.std.proofs.Common.{false, refl, rules, true, Ok, Err}
+use Rattle.rtps_listen.specs.declared.fault.ListenFault.TheVariants.{Socket}
+use Rattle.rtps_listen.proofs.Printing.{cause_before, heard_fault, hears, hears_none, not_joined}
+use Rattle.rtps_listen.proofs.Refused.{is_err, listen_refused, listen_runs}
+use Rattle.rtps_listen.proofs.domain.listen_in.Goals as goal
+
+pub returns-in_err-config-clause-refused : goal.returns-in_err-config-clause-refused
+returns-in_err-config-clause-refused g c =
+    listen_refused c.args.options.now c.config_of.result _ _ c.in_err-config.was c.from_residual.ensures.1 c.config_of.ensures.refused
+    c.in_err-config.ensures.cause
+
+pub returns-in_err-config-clause-prints : goal.returns-in_err-config-clause-prints
+returns-in_err-config-clause-prints g c =
+    λ holds.
+    hears_none _ holds _ _ _ c.from_residual.ensures.1 (cause_before c.args.options.now _ c.in_err-config.ensures.cause)
+
+pub returns-in_default-clause-refused : goal.returns-in_default-clause-refused
+returns-in_default-clause-refused g c =
+    listen_runs c.args.options.now c.in_ok-config.config (Err Socket) c.in_ok-config.ensures.refused tt
+
+pub returns-in_default-clause-prints : goal.returns-in_default-clause-prints
+returns-in_default-clause-prints g c =
+    λ holds.
+    not_joined c.args.options.now c.in_ok-config.config holds _ c.in_ok-config.ensures.config
+
+pub returns-in_err-listen-clause-refused : goal.returns-in_err-listen-clause-refused
+returns-in_err-listen-clause-refused g c =
+    listen_runs c.args.options.now c.in_ok-config.config _ c.in_ok-config.ensures.refused
+    (heard_fault _ _ c.from_residual-in_err-listen.ensures.1)
+
+pub returns-in_err-listen-clause-prints : goal.returns-in_err-listen-clause-prints
+returns-in_err-listen-clause-prints g c =
+    λ holds.
+    hears c.args.options.now c.in_ok-config.config _ c.live_setup_of-setup.result true holds _ _ (Err _) _ c.in_ok-config.ensures.config (search rules) c.live_setup_of-setup.ensures
+    (_, _, c.in_err-listen.ensures) (is_err _ _ c.from_residual-in_err-listen.ensures.1)
+
+pub returns-then-options-clause-refused : goal.returns-then-options-clause-refused
+returns-then-options-clause-refused g c =
+    listen_runs c.args.options.now c.in_ok-config.config (Ok tt) c.in_ok-config.ensures.refused tt
+
+pub returns-then-options-clause-prints : goal.returns-then-options-clause-prints
+returns-then-options-clause-prints g c =
+    λ holds.
+    hears c.args.options.now c.in_ok-config.config _ c.live_setup_of-setup.result true holds _ _ (Ok tt) (Ok tt) c.in_ok-config.ensures.config (search rules) c.live_setup_of-setup.ensures
+    (_, _, c.in_ok-listen.ensures) refl
+
+pub returns-in_err-listen-2-clause-refused : goal.returns-in_err-listen-2-clause-refused
+returns-in_err-listen-2-clause-refused g c =
+    listen_runs c.args.options.now c.in_ok-config.config _ c.in_ok-config.ensures.refused
+    (heard_fault _ _ c.from_residual-in_err-listen-2.ensures.1)
+
+pub returns-in_err-listen-2-clause-prints : goal.returns-in_err-listen-2-clause-prints
+returns-in_err-listen-2-clause-prints g c =
+    λ holds.
+    hears c.args.options.now c.in_ok-config.config _ c.live_setup_of-setup-2.result false holds _ _ (Err _) _ c.in_ok-config.ensures.config (search rules) c.live_setup_of-setup-2.ensures
+    (_, _, c.in_err-listen-2.ensures) (is_err _ _ c.from_residual-in_err-listen-2.ensures.1)
+
+pub returns-clause-refused : goal.returns-clause-refused
+returns-clause-refused g c =
+    listen_runs c.args.options.now c.in_ok-config.config (Ok tt) c.in_ok-config.ensures.refused tt
+
+pub returns-clause-prints : goal.returns-clause-prints
+returns-clause-prints g c =
+    λ holds.
+    hears c.args.options.now c.in_ok-config.config _ c.live_setup_of-setup-2.result false holds _ _ (Ok tt) (Ok tt) c.in_ok-config.ensures.config (search rules) c.live_setup_of-setup-2.ensures
+    (_, _, c.in_ok-listen-2.ensures) refl

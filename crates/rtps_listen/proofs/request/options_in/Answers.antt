@@ -1,0 +1,23 @@
+use Rattle.std.proofs.Common.{codes, ap, ◌∙◌}
+use Rattle.clap.specs.Words.{found_of}
+use Rattle.clap.proofs.WalkLemmas.{first_value-rows}
+use Rattle.rtps_listen.specs.Options.{one_to, up_to}
+use Rattle.rtps_listen.proofs.request.options_in.Goals as goal
+
+pub returns : goal.returns
+returns c = record {
+  file = c.text_in.ensures;
+  own = c.text_in-2.ensures;
+  readers = c.one_to.ensures.value ∙ ap (one_to 8) c.number_in.ensures;
+  workers = c.one_to-2.ensures.value ∙ ap (one_to 64) c.number_in-2.ensures;
+  batch = c.one_to-3.ensures.value ∙ ap (one_to 4096) c.number_in-3.ensures;
+  topic = c.text_in-3.ensures;
+  fixed = c.get_str.ensures ∙ first_value-rows (found_of c.args.matches.now) (codes "fixed");
+  best_effort = c.flag_in.ensures;
+  raw = c.flag_in-2.ensures;
+  summary = c.flag_in-3.ensures;
+  keep = c.up_to.ensures.value ∙ ap (up_to 65536) c.number_in-4.ensures;
+  domain = c.up_to-2.ensures.value ∙ ap (up_to 232) c.number_in-5.ensures;
+  count = c.one_to-4.ensures.value ∙ ap (one_to 65536) c.number_in-6.ensures;
+  turns = c.one_to-5.ensures.value ∙ ap (one_to 100000) c.number_in-7.ensures;
+}

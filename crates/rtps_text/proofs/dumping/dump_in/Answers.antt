@@ -1,6 +1,0 @@
-use Rattle.rtps_records.proofs.NextRead.{at_fault}
-use Rattle.rtps_records.proofs.Progress.{stops_at_once}
-use Rattle.rtps_text.proofs.dumping.dump_in.Goals as goal
-
-pub returns-in_err-records-clause-fault : goal.returns-in_err-records-clause-fault
-returns-in_err-records-clause-fault g c = at_fault _ _ _ c.from_residual.ensures.1 (stops_at_once _ _ _ _)
