@@ -1,47 +1,47 @@
 -- The events of datagrams, piece by piece.
-use Rattle.std.proofs.Common.{◌≡◌, ℕ, zero, suc, ◌+◌, ◌*◌, ◌≤◌, List, [], ◌∷◌, ◌++◌, Bor, Result, Ok, Err, IfOk, OnOk, Vec, Global, length, map, take, drop, refl, sym, ap, ◌∙◌, arith, append_assoc}
+use Rattle.std.proofs.Common.{◌≡◌, ℕ, zero, suc, ◌+◌, ◌*◌, ◌≤◌, List, [], ◌∷◌, ◌++◌, Result, Ok, Err, IfOk, OnOk, Vec, Global, length, map, take, drop, refl, sym, ap, ◌∙◌, arith, append_assoc}
 use Rattle.std.proofs.lemmas.Grind.{div_ceil_times}
 use Rattle.std.proofs.lemmas.List.{drop-drop, drop_all, map-append}
 use Rattle.std.specs.Int.{div_ceil}
 use Rattle.std.specs.List.{AllZip, flat_map, range_with_len}
+use Rattle.rtps_types.specs.declared.datagram.Datagram.{Datagram}
 use Rattle.rtps_types.specs.declared.identity.GuidPrefix.{GuidPrefix}
 use Rattle.rtps_receiver.specs.declared.event.Event.{Event}
 use Rattle.rtps_receiver.specs.Events.{events_of, view}
-use Rattle.rtps_run.specs.Run.{events_from}
+use Rattle.rtps_run.specs.Input.{arrived, events_from}
 use Rattle.rtps_shards.specs.Piles.{AllOk, given_by}
 use Rattle.dds_participant.specs.Decode.{IsPiece}
-use Rattle.dds_participant.proofs.Decoding.{lent}
 
 -- so many datagrams first, and then the others
-events_apart : (own : GuidPrefix) (first m : ℕ) (ds : List (Bor (List ℕ))) → events_from own first (lent ds) ≡ events_from own first (lent (take m ds)) ++ events_from own (first + m) (lent (drop m ds))
-events_apart own first zero ds = let same : first ≡ first + 0 = omega arith in ap (λ n. events_from own n (lent ds)) same
+events_apart : (own : GuidPrefix) (first m : ℕ) (ds : List Datagram) → events_from own first (map arrived ds) ≡ events_from own first (map arrived (take m ds)) ++ events_from own (first + m) (map arrived (drop m ds))
+events_apart own first zero ds = let same : first ≡ first + 0 = omega arith in ap (λ n. events_from own n (map arrived ds)) same
 events_apart own first (suc m) [] = refl
 events_apart own first (suc m) (d ∷ ds) =
     let same : first + 1 + m ≡ first + suc m = omega arith in
-    let rest : List (Bor (List ℕ)) = drop m ds in
-    ap (λ l. events_of own first d.now ++ l) (events_apart own (first + 1) m ds ∙ ap (λ n. events_from own (first + 1) (lent (take m ds)) ++ events_from own n (lent rest)) same)
-    ∙ sym (append_assoc (events_of own first d.now) (events_from own (first + 1) (lent (take m ds))) (events_from own (first + suc m) (lent rest)))
+    let rest : List Datagram = drop m ds in
+    ap (λ l. events_of own first d.bytes.now ++ l) (events_apart own (first + 1) m ds ∙ ap (λ n. events_from own (first + 1) (map arrived (take m ds)) ++ events_from own n (map arrived rest)) same)
+    ∙ sym (append_assoc (events_of own first d.bytes.now) (events_from own (first + 1) (map arrived (take m ds))) (events_from own (first + suc m) (map arrived rest)))
 
 -- all pieces from one on have the events of the datagrams from there on
-pub pieces_given : {E : Type 0} (own : GuidPrefix) (first k n : ℕ) (ds : List (Bor (List ℕ))) (rs : List (Result (Vec Event Global) E)) → length ds ≤ (k + n) * 64
-    → AllZip (IsPiece own first ds) (range_with_len k n) rs → AllOk rs → map view (flat_map given_by rs) ≡ events_from own (first + k * 64) (lent (drop (k * 64) ds))
-pieces_given own first k zero ds [] enough each ok = sym (ap (λ l. events_from own (first + k * 64) (lent l)) (drop_all (k * 64) ds (omega (arith, enough))))
+pub pieces_given : {E : Type 0} (own : GuidPrefix) (first k n : ℕ) (ds : List Datagram) (rs : List (Result (Vec Event Global) E)) → length ds ≤ (k + n) * 64
+    → AllZip (IsPiece own first ds) (range_with_len k n) rs → AllOk rs → map view (flat_map given_by rs) ≡ events_from own (first + k * 64) (map arrived (drop (k * 64) ds))
+pieces_given own first k zero ds [] enough each ok = sym (ap (λ l. events_from own (first + k * 64) (map arrived l)) (drop_all (k * 64) ds (omega (arith, enough))))
 pieces_given own first k zero ds (r ∷ rs) enough each ok = absurd each
 pieces_given own first k (suc n) ds [] enough each ok = absurd each
 pieces_given own first k (suc n) ds (Err e ∷ rs) enough each ok = absurd ok
 pieces_given own first k (suc n) ds (Ok v ∷ rs) enough each ok =
     let at : ℕ = first + k * 64 in
-    let left : List (Bor (List ℕ)) = drop (k * 64) ds in
+    let left : List Datagram = drop (k * 64) ds in
     let next : first + (k + 1) * 64 ≡ at + 64 = omega arith in
     let place : (k + 1) * 64 ≡ k * 64 + 64 = omega arith in
     let others = pieces_given own first (k + 1) n ds rs (omega (arith, enough)) each.1 ok in
     map-append view v.items (flat_map given_by rs)
     ∙ ap (λ l. l ++ map view (flat_map given_by rs)) each.0
-    ∙ ap (λ l. events_from own at (lent (take 64 left)) ++ l) (others ∙ ap (λ m. events_from own m (lent (drop ((k + 1) * 64) ds))) next ∙ ap (λ m. events_from own (at + 64) (lent (drop m ds))) place ∙ ap (λ l. events_from own (at + 64) (lent l)) (sym (drop-drop 64 (k * 64) ds)))
+    ∙ ap (λ l. events_from own at (map arrived (take 64 left)) ++ l) (others ∙ ap (λ m. events_from own m (map arrived (drop ((k + 1) * 64) ds))) next ∙ ap (λ m. events_from own (at + 64) (map arrived (drop m ds))) place ∙ ap (λ l. events_from own (at + 64) (map arrived l)) (sym (drop-drop 64 (k * 64) ds)))
     ∙ sym (events_apart own at 64 left)
 
 -- pieces, where what is known of each result says that it is one
-pub pieces_of : {E : Type 0} (P : ℕ → Result (Vec Event Global) E → Type 0) (own : GuidPrefix) (first : ℕ) (ds : List (Bor (List ℕ))) (indices : List ℕ) (rs : List (Result (Vec Event Global) E))
+pub pieces_of : {E : Type 0} (P : ℕ → Result (Vec Event Global) E → Type 0) (own : GuidPrefix) (first : ℕ) (ds : List Datagram) (indices : List ℕ) (rs : List (Result (Vec Event Global) E))
     → ((index : ℕ) (r : Result (Vec Event Global) E) → P index r → IsPiece own first ds index r) → AllZip P indices rs → AllZip (IsPiece own first ds) indices rs
 pieces_of P own first ds [] [] is each = tt
 pieces_of P own first ds [] (r ∷ rs) is each = absurd each
@@ -49,11 +49,11 @@ pieces_of P own first ds (i ∷ is) [] known each = absurd each
 pieces_of P own first ds (i ∷ is) (r ∷ rs) known each = (known i r each.0, pieces_of P own first ds is rs known each.1)
 
 -- joined they are the events of all datagrams
-pub pieces_joined : {E F : Type 0} (own : GuidPrefix) (first : ℕ) (ds : List (Bor (List ℕ))) (rs : List (Result (Vec Event Global) E)) (all : Result (Vec Event Global) F)
+pub pieces_joined : {E F : Type 0} (own : GuidPrefix) (first : ℕ) (ds : List Datagram) (rs : List (Result (Vec Event Global) E)) (all : Result (Vec Event Global) F)
     → AllZip (IsPiece own first ds) (range_with_len 0 (div_ceil (length ds) 64)) rs → OnOk all (AllOk rs) → IfOk all (λ v. v.items ≡ flat_map given_by rs)
-    → IfOk all (λ v. map view v.items ≡ events_from own first (lent ds))
+    → IfOk all (λ v. map view v.items ≡ events_from own first (map arrived ds))
 pieces_joined own first ds rs (Err e) each ok is = tt
 pieces_joined own first ds rs (Ok v) each ok is =
     let bounds = div_ceil_times (length ds) 64 (omega arith) in
     let same : first + 0 * 64 ≡ first = omega arith in
-    ap (map view) is ∙ pieces_given own first 0 (div_ceil (length ds) 64) ds rs (omega (arith, bounds.0)) each ok ∙ ap (λ n. events_from own n (lent ds)) same
+    ap (map view) is ∙ pieces_given own first 0 (div_ceil (length ds) 64) ds rs (omega (arith, bounds.0)) each ok ∙ ap (λ n. events_from own n (map arrived ds)) same

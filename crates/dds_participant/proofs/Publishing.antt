@@ -1,14 +1,15 @@
 -- A row of a participant shows the world that it stands at.
-use Rattle.std.proofs.Common.{◌≡◌, ◌==◌, ℕ, zero, suc, ◌+◌, ◌<◌, ◌≤◌, List, [], ◌∷◌, length, get_or, None, Some, true, false, inl, inr, nat_lt, if◌then◌else◌, refl, sym, ap, ◌∙◌, arith}
+use Rattle.std.proofs.Common.{◌≡◌, ◌==◌, ℕ, zero, suc, ◌+◌, ◌<◌, ◌≤◌, List, [], ◌∷◌, length, get_or, None, Option, Some, true, false, inl, inr, refl, sym, ap, ◌∙◌, arith}
 use Rattle.std.specs.List.{enumerate_from, find}
 use Rattle.std.specs.Option.{option_map}
 use Rattle.std.proofs.lemmas.Bool.{cases_lt}
 use Rattle.std.proofs.lemmas.Bool.Decides.{nat_tests}
 use Rattle.dds_topic.specs.Decoding.{Decoding}
 use Rattle.rtps_reader.specs.declared.status.Status.{Status}
-use Rattle.rtps_run.specs.Seen.{reader_count, status_at}
+use Rattle.rtps_run.specs.Input.{Input}
+use Rattle.rtps_run.specs.Seen.{status_seen}
 use Rattle.rtps_run.specs.Standing.{EngineView, ShowsAt, run_by}
-use Rattle.rtps_run.proofs.Running.{run_count}
+use Rattle.rtps_run.proofs.Running.{seen_past}
 use Rattle.dds_outlet.specs.declared.row.Look.{Look}
 use Rattle.dds_outlet.specs.Rows.{idle, look_at}
 use Rattle.dds_participant.specs.Publish.{ShowsWorld, row_of}
@@ -30,22 +31,20 @@ not_found (x ∷ xs) from rank past =
     rw no (not_found xs (from + 1) rank (omega (arith, past)))
 
 -- of the statuses with their ranks, a look finds that of the rank
-found_in : (batches : ℕ) (statuses : List Status) (at : ℕ → Status) (n rank : ℕ) → length statuses ≡ n → ((other : Status) → rank < length statuses → get_or statuses rank other ≡ at rank)
-    → look_at (row_of batches statuses) rank ≡ option_map (λ (s : Status). record { batch = batches; status = s }) (if nat_lt rank n then Some (at rank) else None)
-found_in batches statuses at n rank count shown =
-    elim (cases_lt rank n) [
+found_in : (batches : ℕ) (statuses : List Status) (rank : ℕ) (seen : Option Status) → ((other : Status) → rank < length statuses → Some (get_or statuses rank other) ≡ seen) → (length statuses ≤ rank → seen ≡ None)
+    → look_at (row_of batches statuses) rank ≡ option_map (λ (s : Status). record { batch = batches; status = s }) seen
+found_in batches statuses rank seen shown past =
+    let look : ℕ × Status → Look = λ entry. record { batch = batches; status = entry.1 } in
+    elim (cases_lt rank (length statuses)) [
       | inl below ↦
-          let within : nat_lt rank n ≡ true = grind (arith, nat_tests) in
-          let here : rank < length statuses = omega (arith, below, count) in
-          let look : ℕ × Status → Look = λ entry. record { batch = batches; status = entry.1 } in
-          rw within (ap (option_map look) (found statuses 0 rank rank idle (omega arith) here) ∙ ap (λ (s : Status). Some (look (rank, s))) (shown idle here))
-      | inr past ↦
-          let beyond : nat_lt rank n ≡ false = grind (arith, nat_tests) in
-          let look : ℕ × Status → Look = λ entry. record { batch = batches; status = entry.1 } in
-          rw beyond (ap (option_map look) (not_found statuses 0 rank (omega (arith, past, count))))
+          ap (option_map look) (found statuses 0 rank rank idle (omega arith) below)
+          ∙ ap (option_map (λ (s : Status). record { batch = batches; status = s })) (shown idle below)
+      | inr over ↦
+          ap (option_map look) (not_found statuses 0 rank (omega (arith, over)))
+          ∙ ap (option_map (λ (s : Status). record { batch = batches; status = s })) (sym (past over))
     ]
 
-pub shows_world : {C M : Type 0} (decoding : C → Decoding M) (datagrams : List (List ℕ)) (engine : EngineView C) (batches : ℕ) → ShowsAt decoding datagrams engine → ShowsWorld (row_of batches engine.statuses) (run_by decoding engine datagrams)
-shows_world decoding datagrams engine batches shown rank =
-    let w = run_by decoding engine datagrams in
-    found_in batches engine.statuses (status_at w) (reader_count w) rank (shown.count ∙ sym (run_count (decoding engine.catalog) engine.config datagrams)) (shown.statuses rank)
+pub shows_world : {C M : Type 0} (decoding : C → Decoding M) (inputs : List Input) (engine : EngineView C) (batches : ℕ) → ShowsAt decoding inputs engine → ShowsWorld (row_of batches engine.statuses) (run_by decoding engine inputs)
+shows_world decoding inputs engine batches shown rank =
+    let w = run_by decoding engine inputs in
+    found_in batches engine.statuses rank (status_seen w rank) (λ other below. shown.statuses rank other below) (λ over. seen_past w rank (omega (arith, over, shown.count)))

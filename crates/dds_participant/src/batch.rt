@@ -3,8 +3,9 @@
 ghost use Rattle.std.specs.Prelude.{◌≡◌, ◌+◌, ◌^◌, ◌≤◌, ◌<◌, ◌++◌, ℕ, All, IfErr, IfOk, List, OnErr, OnOk, false, true, length, map};
 ghost use Rattle.std.specs.declared.alloc.Global.{Global};
 ghost use Rattle.rtps_run.specs.declared.outcome.Outcome.{Outcome};
+ghost use Rattle.rtps_run.specs.Input.{Input, arrived, occurrences_from};
 ghost use Rattle.rtps_run.specs.Outcome.{Adds};
-ghost use Rattle.rtps_run.specs.Run.{events_from, world_run};
+ghost use Rattle.rtps_run.specs.Run.{world_run};
 ghost use Rattle.rtps_run.specs.Standing.{ShowsAt, StandsAt, datagram_limit, run_by};
 ghost use Rattle.rtps_run.specs.World.{World};
 ghost use Rattle.dds_participant.specs.Batch.{IsFinishedBy, Keeps, OnlyRuns, failing};
@@ -15,13 +16,14 @@ ghost use Rattle.dds_participant.specs.Ports.{NoneAttached};
 ghost use Rattle.dds_participant.specs.declared.batch_output.BatchOutput.{BatchOutput};
 
 use crate::batch_output::{BatchOutput, outcome_of};
-use crate::decode::{Arrived, decoded, places_of};
+use crate::decode::{Arrived, decoded, stamped};
 use crate::participant::Participant;
 use crate::readers::{Assigned, Readers, lists_for, run_assigned};
 use dds_topic::Catalog;
 use rtps_planner::plan;
 use rtps_run::{DATAGRAM_LIMIT, EngineError, Outcome, show_all};
 use rtps_shards::{Gate, SharedBatch};
+use rtps_types::Datagram;
 use std::alloc::{AllocError, Global};
 use std::mem;
 use std::thread::Threads;
@@ -39,22 +41,28 @@ pub struct Workers<'a, G> {
 /// Whether a participant takes these datagrams as one batch: at most 4,096, each of at most 65,507
 /// octets, the largest payload of a UDP datagram over IPv4. Call this on datagrams that come from
 /// outside, before [`Participant::run_batch`] or [`Participant::run_in_order`].
-pub fn is_batch(datagrams: &[&[u8]]) -> bool
+pub fn is_batch(datagrams: &[Datagram<'_>]) -> bool
     ensures few { result ≡ true → length datagrams.now ≤ 4096 }
-    ensures fit { result ≡ true → All (λ d. length d.now ≤ 65507) datagrams.now }
-    ensures is { length datagrams.now ≤ 4096 → All (λ d. length d.now ≤ 65507) datagrams.now
+    ensures fit { result ≡ true → All (λ d. length d.bytes.now ≤ 65507) datagrams.now }
+    ensures is { length datagrams.now ≤ 4096 → All (λ d. length d.bytes.now ≤ 65507) datagrams.now
         → result ≡ true }
 {
-    datagrams.len() <= 4096 && datagrams.iter().all(|datagram| datagram.len() <= 65_507)
+    datagrams.len() <= 4096
+        && datagrams
+            .iter()
+            .all(|datagram| datagram.bytes.len() <= 65_507)
 }
 
 impl<C: Catalog> Participant<C> {
     /// Processes the next datagrams, at most 4,096 of at most 65,507 octets each, and returns the
     /// notices of each reader and the answers to send, as [`rtps_serial::SerialEngine::take`]
-    /// returns them for one datagram after another. The readers' jobs are run by `workers` workers,
-    /// 1 to 64: one runs on the caller's thread; several have a thread each, for which the caller
-    /// waits. `gate` is called as each job begins and ends. If there is more than one worker, more
-    /// than 1,024 datagrams are decoded on one thread for each processor.
+    /// returns them for one datagram after another. Before the events of each datagram its moment
+    /// passes, at which leases may end (DDSI-RTPS 8.5.3.2).
+    ///
+    /// The readers' jobs are run by `workers` workers, 1 to 64: one runs on the caller's thread;
+    /// several have a thread each, for which the caller waits. `gate` is called as each job begins
+    /// and ends. If there is more than one worker, more than 1,024 datagrams are decoded on one
+    /// thread for each processor.
     ///
     /// The notices of a reader with an outlet are not in the outcome: they are appended to the
     /// outlet's backlog, which [`Participant::deliver`] sends. Its answers are in the outcome, as
@@ -71,32 +79,32 @@ impl<C: Catalog> Participant<C> {
         rt: &R,
         alloc: Global,
         gate: &G,
-        datagrams: &[&[u8]],
+        datagrams: &[Datagram<'_>],
         workers: usize,
     ) -> Result<Outcome<C::Value>, EngineError>
         requires few { length datagrams.now ≤ 4096 }
-        requires fit { All (λ d. length d.now ≤ 65507) datagrams.now }
+        requires fit { All (λ d. length d.bytes.now ≤ 65507) datagrams.now }
         requires workers { (1 ≤ workers) × (workers ≤ 64) }
         ensures takes { TakesBatch (length datagrams.now) result self.old self.new }
         ensures counts { (taken : ℕ) → self.old.batches ≡ counted taken
             → OnOk result (self.new.batches ≡ counted (taken + 1)) }
         ensures same { (self.new.engine.catalog ≡ self.old.engine.catalog)
             × (self.new.engine.config ≡ self.old.engine.config) }
-        ensures stands { (earlier : List (List ℕ)) → StandsAt C.decoding earlier self.old.engine
-            → OnOk result (StandsAt C.decoding (earlier ++ map (λ d. d.now) datagrams.now)
+        ensures stands { (earlier : List Input) → StandsAt C.decoding earlier self.old.engine
+            → OnOk result (StandsAt C.decoding (earlier ++ map arrived datagrams.now)
             self.new.engine) }
-        ensures adds { (earlier : List (List ℕ)) → StandsAt C.decoding earlier self.old.engine
+        ensures adds { (earlier : List Input) → StandsAt C.decoding earlier self.old.engine
             → IfOk result (λ outcome. (whole : Outcome C.Value Global)
             × Adds C.view (run_by C.decoding self.old.engine earlier)
-            (run_by C.decoding self.old.engine (earlier ++ map (λ d. d.now) datagrams.now)) whole
+            (run_by C.decoding self.old.engine (earlier ++ map arrived datagrams.now)) whole
             × IsOutcomeHandedOn whole outcome self.old.ports self.new.ports) }
-        ensures alone { (earlier : List (List ℕ)) → StandsAt C.decoding earlier self.old.engine
+        ensures alone { (earlier : List Input) → StandsAt C.decoding earlier self.old.engine
             → NoneAttached self.old.ports
             → IfOk result (Adds C.view (run_by C.decoding self.old.engine earlier)
-            (run_by C.decoding self.old.engine (earlier ++ map (λ d. d.now) datagrams.now))) }
+            (run_by C.decoding self.old.engine (earlier ++ map arrived datagrams.now))) }
         ensures free { NoneAttached self.old.ports → NoneAttached self.new.ports }
         ensures ports { OnErr result (self.new.ports ≡ self.old.ports) }
-        ensures shows { (earlier : List (List ℕ)) → ShowsAt C.decoding earlier self.old.engine
+        ensures shows { (earlier : List Input) → ShowsAt C.decoding earlier self.old.engine
             → OnErr result (ShowsAt C.decoding earlier self.new.engine) }
     {
         self.admit(datagrams.len())?;
@@ -113,13 +121,13 @@ impl<C: Catalog> Participant<C> {
 
     /// Processes the next datagrams as [`Participant::run_batch`] does, and puts the results into
     /// the caller's lists: the places of the batch, discovery's answers, and the notices and
-    /// answers of each reader. Merged by place, as [`BatchOutput`] says, they are all that the batch puts
-    /// out, except what went to backlogs: a reader with an outlet has no notice in its list, which
-    /// keeps its memory.
+    /// answers of each reader. Merged by place, as [`BatchOutput`] says, they are all that the batch
+    /// puts out, except what went to backlogs: a reader with an outlet has no notice in its list,
+    /// which keeps its memory.
     ///
     /// What was in the lists is dropped. Pass the same lists to the next batch, as they are: each
     /// reader's lists are emptied by the worker that runs its job, and no new memory is taken for
-    /// what they have room for. A refusal that changes nothing leaves them as they were; where
+    /// what these have room for. A refusal that changes nothing leaves them as they were; where
     /// memory runs out they are empty afterwards.
     #[tactic(auto, unfolding(crate::specs::Kept::TakesBatch, crate::specs::Kept::RefusesBatch))]
     pub fn run_in_order<G: Gate, R: Threads + Sync>(
@@ -127,33 +135,33 @@ impl<C: Catalog> Participant<C> {
         rt: &R,
         alloc: Global,
         workers: &Workers<'_, G>,
-        datagrams: &[&[u8]],
+        datagrams: &[Datagram<'_>],
         given: &mut BatchOutput<C::Value>,
     ) -> Result<(), EngineError>
         requires few { length datagrams.now ≤ 4096 }
-        requires fit { All (λ d. length d.now ≤ 65507) datagrams.now }
+        requires fit { All (λ d. length d.bytes.now ≤ 65507) datagrams.now }
         requires workers { (1 ≤ workers.now.count) × (workers.now.count ≤ 64) }
         ensures takes { TakesBatch (length datagrams.now) result self.old self.new }
         ensures counts { (taken : ℕ) → self.old.batches ≡ counted taken
             → OnOk result (self.new.batches ≡ counted (taken + 1)) }
         ensures same { (self.new.engine.catalog ≡ self.old.engine.catalog)
             × (self.new.engine.config ≡ self.old.engine.config) }
-        ensures stands { (earlier : List (List ℕ)) → StandsAt C.decoding earlier self.old.engine
-            → OnOk result (StandsAt C.decoding (earlier ++ map (λ d. d.now) datagrams.now)
+        ensures stands { (earlier : List Input) → StandsAt C.decoding earlier self.old.engine
+            → OnOk result (StandsAt C.decoding (earlier ++ map arrived datagrams.now)
             self.new.engine) }
-        ensures gives { (earlier : List (List ℕ)) → StandsAt C.decoding earlier self.old.engine
+        ensures gives { (earlier : List Input) → StandsAt C.decoding earlier self.old.engine
             → OnOk result ((whole : BatchOutput C.Value)
             × IsGiven C.view (run_by C.decoding self.old.engine earlier)
-            (run_by C.decoding self.old.engine (earlier ++ map (λ d. d.now) datagrams.now)) whole
+            (run_by C.decoding self.old.engine (earlier ++ map arrived datagrams.now)) whole
             × IsHandedOn whole given.new self.old.ports self.new.ports) }
-        ensures alone { (earlier : List (List ℕ)) → StandsAt C.decoding earlier self.old.engine
+        ensures alone { (earlier : List Input) → StandsAt C.decoding earlier self.old.engine
             → NoneAttached self.old.ports
             → OnOk result (IsGiven C.view (run_by C.decoding self.old.engine earlier)
-            (run_by C.decoding self.old.engine (earlier ++ map (λ d. d.now) datagrams.now))
+            (run_by C.decoding self.old.engine (earlier ++ map arrived datagrams.now))
             given.new) }
         ensures free { NoneAttached self.old.ports → NoneAttached self.new.ports }
         ensures ports { OnErr result (self.new.ports ≡ self.old.ports) }
-        ensures shows { (earlier : List (List ℕ)) → ShowsAt C.decoding earlier self.old.engine
+        ensures shows { (earlier : List Input) → ShowsAt C.decoding earlier self.old.engine
             → OnErr result (ShowsAt C.decoding earlier self.new.engine) }
         ensures lists { IfErr result (λ e. LeavesLists e given.old given.new) }
     {
@@ -188,18 +196,18 @@ impl<C: Catalog> Participant<C> {
         Ok(())
     }
 
-    /// Has discovery and the readers process the events of the datagrams. The results replace the
-    /// contents of the lists.
+    /// Has discovery and the readers process the datagrams, each with its moment first. The results
+    /// replace the contents of the lists.
     fn run<G: Gate, R: Threads + Sync>(
         &mut self,
         rt: &R,
         alloc: Global,
         workers: &Workers<'_, G>,
-        datagrams: &[&[u8]],
+        datagrams: &[Datagram<'_>],
         lists: BatchOutput<C::Value>,
     ) -> Result<BatchOutput<C::Value>, AllocError>
         requires room { self.old.engine.index + length datagrams.now < 2 ^ 64 }
-        requires fit { All (λ d. length d.now ≤ 65507) datagrams.now }
+        requires fit { All (λ d. length d.bytes.now ≤ 65507) datagrams.now }
         requires workers { (1 ≤ workers.now.count) × (workers.now.count ≤ 64) }
         requires readers { length self.old.engine.readers ≤ 256 }
         requires failed { self.old.engine.failed ≡ true }
@@ -210,21 +218,21 @@ impl<C: Catalog> Participant<C> {
         ensures outputs { IfOk result (λ given.
             length given.outputs.items ≡ length self.old.engine.readers) }
         ensures keeps { (w : World C.Meaning) → Keeps w self.old.engine → OnOk result
-            (Keeps (world_run (C.decoding self.old.engine.catalog) w (events_from
-            self.old.engine.config.own self.old.engine.index (map (λ d. d.now) datagrams.now)))
+            (Keeps (world_run (C.decoding self.old.engine.catalog) w (occurrences_from
+            self.old.engine.config.own self.old.engine.index (map arrived datagrams.now)))
             self.new.engine) }
         ensures gives { (w : World C.Meaning) → Keeps w self.old.engine → IfOk result
-            (IsGiven C.view w (world_run (C.decoding self.old.engine.catalog) w (events_from
-            self.old.engine.config.own self.old.engine.index (map (λ d. d.now) datagrams.now)))) }
+            (IsGiven C.view w (world_run (C.decoding self.old.engine.catalog) w (occurrences_from
+            self.old.engine.config.own self.old.engine.index (map arrived datagrams.now)))) }
     {
-        let arrived = Arrived {
+        let from = Arrived {
             own: self.config.own,
             first: self.index,
             datagrams,
         };
-        let events = decoded(rt, alloc, arrived, workers.count)?;
-        let places = places_of(lists.places, &events)?;
-        let plan = plan(alloc, &events, &mut self.discovery)?;
+        let events = decoded(rt, alloc, from, workers.count)?;
+        let stamped = stamped(alloc, self.index, datagrams, &events)?;
+        let plan = plan(alloc, &stamped, &mut self.discovery)?;
         let states = mem::replace(&mut self.readers, Vec::new(alloc));
         let outputs = lists_for(alloc, lists.outputs, states.len())?;
         let assigned = Assigned {
@@ -239,7 +247,7 @@ impl<C: Catalog> Participant<C> {
         let readers = run_assigned(rt, alloc, &batch, assigned, workers.count)?;
         self.readers = readers.states;
         Ok(BatchOutput {
-            places,
+            places: plan.rest.places,
             answers: plan.rest.answers,
             outputs: readers.outputs,
         })
@@ -252,8 +260,17 @@ impl<C: Catalog> Participant<C> {
         ensures finished { IsFinishedBy count self.old self.new }
         ensures ports { self.new.ports ≡ self.old.ports }
     {
-        show_all(&self.readers, &mut self.statuses);
+        self.end_batch();
         self.index += count as u64;
+    }
+
+    /// Counts one batch as taken, and updates the statuses from the readers.
+    pub(crate) fn end_batch(&mut self)
+        requires readers { length self.old.engine.readers ≡ length self.old.engine.statuses }
+        ensures finished { IsFinishedBy 0 self.old self.new }
+        ensures ports { self.new.ports ≡ self.old.ports }
+    {
+        show_all(&self.readers, &mut self.statuses);
         self.batches = self.batches.saturating_add(1);
         self.failed = false;
     }

@@ -1,16 +1,19 @@
-//! Decoding the events of a batch.
+//! Decoding the events of a batch, and cutting them by datagram.
 
-ghost use Rattle.std.specs.Prelude.{◌≡◌, ◌+◌, ◌*◌, ◌^◌, ◌<◌, ◌≤◌, All, IfOk, drop, length, map, take};
-ghost use Rattle.std.specs.List.{AllZip, range_with_len};
+ghost use Rattle.std.specs.Prelude.{◌≡◌, ◌==◌, ◌+◌, ◌*◌, ◌^◌, ◌<◌, ◌≤◌, ◌++◌, ◌∷◌, [], All, IfOk, OnOk, drop, false, length, map, slice_index_or, take};
+ghost use Rattle.std.specs.List.{AllByRecursion, AllZip, range_with_len};
 ghost use Rattle.std.specs.Int.{div_ceil};
+ghost use Rattle.rtps_types.specs.declared.identity.GuidPrefix as types;
 ghost use Rattle.rtps_receiver.specs.Events.{view};
-ghost use Rattle.rtps_run.specs.Run.{events_from};
+ghost use Rattle.rtps_run.specs.Input.{arrived, events_from};
+ghost use Rattle.rtps_planner.specs.Stamped.{AreStamped};
 ghost use Rattle.dds_participant.specs.Decode.{IsPiece};
 
 use rayon::prelude::*;
+use rtps_planner::Stamped;
 use rtps_receiver::{Event, add_events};
 use rtps_shards::joined;
-use rtps_types::{GuidPrefix, Place};
+use rtps_types::{Datagram, GuidPrefix};
 use std::alloc::{AllocError, Global};
 use std::thread::Threads;
 
@@ -28,7 +31,7 @@ pub(crate) struct Arrived<'a, 'b> {
     pub own: GuidPrefix,
     /// The index of the first of them in the run, counted from 0.
     pub first: u64,
-    pub datagrams: &'b [&'a [u8]],
+    pub datagrams: &'b [Datagram<'a>],
 }
 
 /// Returns the events of these datagrams, in order, for the participant `own`. `first` is the index
@@ -38,22 +41,22 @@ fn decoded_alone<'a>(
     alloc: Global,
     own: GuidPrefix,
     first: u64,
-    datagrams: &[&'a [u8]],
+    datagrams: &[Datagram<'a>],
 ) -> Result<Vec<Event<'a>>, AllocError>
     requires room { first + length datagrams.now < 2 ^ 64 }
-    requires fit { All (λ d. length d.now ≤ 65507) datagrams.now }
+    requires fit { All (λ d. length d.bytes.now ≤ 65507) datagrams.now }
     ensures { IfOk result (λ all. map view all.items
-        ≡ events_from own first (map (λ d. d.now) datagrams.now)) }
+        ≡ events_from own first (map arrived datagrams.now)) }
 {
     let mut all = Vec::with_capacity(alloc, datagrams.len())?;
     for (at, datagram) in datagrams.iter().enumerate() {
-        add_events(&mut all, own, first + at as u64, datagram)?;
+        add_events(&mut all, own, first + at as u64, datagram.bytes)?;
     }
     Ok(all)
 }
 
 /// Returns the piece of this index, counted from 0. The last piece may be shorter than the others.
-fn piece<'a, 'b>(datagrams: &'b [&'a [u8]], index: usize) -> &'b [&'a [u8]]
+fn piece<'a, 'b>(datagrams: &'b [Datagram<'a>], index: usize) -> &'b [Datagram<'a>]
     requires { index * 64 < length datagrams.now }
     ensures { result.now ≡ take 64 (drop (index * 64) datagrams.now) }
 {
@@ -69,10 +72,10 @@ fn decoded_apart<'a, R: Threads + Sync>(
     alloc: Global,
     own: GuidPrefix,
     first: u64,
-    datagrams: &[&'a [u8]],
+    datagrams: &[Datagram<'a>],
 ) -> Result<Vec<Result<Vec<Event<'a>>, AllocError>>, AllocError>
     requires room { first + length datagrams.now < 2 ^ 64 }
-    requires fit { All (λ d. length d.now ≤ 65507) datagrams.now }
+    requires fit { All (λ d. length d.bytes.now ≤ 65507) datagrams.now }
     ensures { IfOk result (λ pieces. AllZip (IsPiece own first datagrams.now)
         (range_with_len 0 (div_ceil (length datagrams.now) 64)) pieces.items) }
 {
@@ -82,11 +85,11 @@ fn decoded_apart<'a, R: Threads + Sync>(
             |index: usize| -> Result<Vec<Event<'_>>, AllocError>
                 requires { (index * 64 < length datagrams.now)
                     × (first + length datagrams.now < 2 ^ 64)
-                    × All (λ d. length d.now ≤ 65507) datagrams.now }
+                    × All (λ d. length d.bytes.now ≤ 65507) datagrams.now }
                 ensures { IsPiece own first datagrams.entry.now index result }
             {
-                let from = first + (index * PIECE) as u64;
-                decoded_alone(alloc, own, from, piece(datagrams, index))
+                let start = first + (index * PIECE) as u64;
+                decoded_alone(alloc, own, start, piece(datagrams, index))
             },
         )
         .collect(rt, alloc)
@@ -96,34 +99,77 @@ fn decoded_apart<'a, R: Threads + Sync>(
 pub(crate) fn decoded<'a, R: Threads + Sync>(
     rt: &R,
     alloc: Global,
-    arrived: Arrived<'a, '_>,
+    from: Arrived<'a, '_>,
     workers: usize,
 ) -> Result<Vec<Event<'a>>, AllocError>
-    requires room { arrived.first + length arrived.datagrams.now < 2 ^ 64 }
-    requires fit { All (λ d. length d.now ≤ 65507) arrived.datagrams.now }
-    ensures { IfOk result (λ all. map view all.items ≡ events_from arrived.entry.own
-        arrived.entry.first (map (λ d. d.now) arrived.entry.datagrams.now)) }
+    requires room { from.first + length from.datagrams.now < 2 ^ 64 }
+    requires fit { All (λ d. length d.bytes.now ≤ 65507) from.datagrams.now }
+    ensures { IfOk result (λ all. map view all.items ≡ events_from from.entry.own
+        from.entry.first (map arrived from.entry.datagrams.now)) }
 {
     let Arrived {
         own,
         first,
         datagrams,
-    } = arrived;
+    } = from;
     if workers == 1 || datagrams.len() <= ALONE {
         return decoded_alone(alloc, own, first, datagrams);
     }
     joined(alloc, decoded_apart(rt, alloc, own, first, datagrams)?)
 }
 
-/// Replaces the contents of `lent` by the places of the events, and returns it.
-pub(crate) fn places_of(lent: Vec<Place>, events: &[Event<'_>]) -> Result<Vec<Place>, AllocError>
-    ensures { IfOk result (λ places.
-        places.items ≡ map (λ e. e.place) (map view events.now)) }
+/// The number of events at the front of the list that came in the datagram of this index.
+fn count_at(events: &[Event<'_>], index: u64) -> usize
+    ensures within { result ≤ length events.now }
+    ensures alike { AllByRecursion (λ e. e.place.datagram ≡ index)
+        (take result (map view events.now)) }
+    ensures ends { (other : _) → result < length events.now
+        → ((view (slice_index_or events.now result other)).place.datagram == index) ≡ false }
 {
-    let mut places = lent;
-    places.clear();
+    let mut count = 0;
     for event in events {
-        places.push(event.place)?;
+        if event.place.datagram != index {
+            return count;
+        }
+        count += 1;
     }
-    Ok(places)
+    count
+}
+
+/// Appends the events of a datagram.
+fn push_stamped<'a>(all: &mut Vec<Stamped<'a>>, one: Stamped<'a>) -> Result<(), AllocError>
+    ensures { OnOk result (all.new.items ≡ all.old.items ++ one.entry ∷ []) }
+{
+    all.push(one)?;
+    Ok(())
+}
+
+/// Cuts the events of these datagrams, in order, by datagram: returns each datagram's moment, its
+/// index and its events. `first` is the index of the first of them in the run. An error is a refused
+/// growth.
+pub(crate) fn stamped<'a>(
+    alloc: Global,
+    first: u64,
+    datagrams: &[Datagram<'_>],
+    events: &'a [Event<'a>],
+) -> Result<Vec<Stamped<'a>>, AllocError>
+    requires room { first + length datagrams.now < 2 ^ 64 }
+    ensures { IfOk result (λ all. (own : types.GuidPrefix) → map view events.now
+        ≡ events_from own first (map arrived datagrams.now)
+        → AreStamped own first datagrams.now all.items) }
+{
+    let mut all = Vec::with_capacity(alloc, datagrams.len())?;
+    let mut next = 0;
+    for at in 0..datagrams.len() {
+        let index = first + at as u64;
+        let end = next + count_at(&events[next..], index);
+        let one = Stamped {
+            moment: datagrams[at].moment,
+            index,
+            events: &events[next..end],
+        };
+        push_stamped(&mut all, one)?;
+        next = end;
+    }
+    Ok(all)
 }

@@ -14,6 +14,7 @@ mod publish;
 mod readers;
 #[cfg(test)]
 mod tests;
+mod tick;
 
 pub use batch::{Workers, is_batch};
 pub use batch_output::BatchOutput;

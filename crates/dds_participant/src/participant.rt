@@ -3,6 +3,7 @@
 ghost use Rattle.std.specs.Prelude.{◌≡◌, [], IfOk, List, ℕ, false, length, map};
 ghost use Rattle.rtps_discovery.specs.Config.{check_of};
 ghost use Rattle.rtps_discovery.specs.Kept.{IsKnown};
+ghost use Rattle.rtps_run.specs.Input.{Input};
 ghost use Rattle.rtps_run.specs.Seen.{matches_seen, status_seen};
 ghost use Rattle.rtps_run.specs.Standing.{Answers, ShowsAt, StandsAt, Starts, run_by};
 ghost use Rattle.dds_participant.specs.Ports.{NoneAttached};
@@ -138,8 +139,8 @@ impl<C: Catalog> Participant<C> {
     /// Returns the status of the reader of a rank, after the last batch that was taken, or `None`
     /// where no reader has the rank. No memory is taken.
     pub fn status(&self, rank: u32) -> Option<Status>
-        ensures { (datagrams : List (List ℕ)) → ShowsAt C.decoding datagrams self.now.engine
-            → result ≡ status_seen (run_by C.decoding self.now.engine datagrams) rank }
+        ensures { (inputs : List Input) → ShowsAt C.decoding inputs self.now.engine
+            → result ≡ status_seen (run_by C.decoding self.now.engine inputs) rank }
     {
         self.statuses.get(rank as usize).copied()
     }
@@ -150,9 +151,9 @@ impl<C: Catalog> Participant<C> {
     #[tactic(auto, unfolding(rtps_run::specs::Standing::Answers))]
     pub fn matches(&self, alloc: Global) -> Result<BTreeSet<(u32, Guid)>, EngineError>
         ensures answers { Answers result self.now.engine }
-        ensures matches { (datagrams : List (List ℕ))
-            → StandsAt C.decoding datagrams self.now.engine → IfOk result (λ matches.
-            matches.keys ≡ matches_seen (run_by C.decoding self.now.engine datagrams)) }
+        ensures matches { (inputs : List Input)
+            → StandsAt C.decoding inputs self.now.engine → IfOk result (λ matches.
+            matches.keys ≡ matches_seen (run_by C.decoding self.now.engine inputs)) }
     {
         if self.failed {
             Err(EngineError::Failed)
@@ -164,9 +165,9 @@ impl<C: Catalog> Participant<C> {
     /// What is known of other participants after the last batch that was taken. Once a batch has
     /// run out of memory, discovery may know more than that.
     pub fn discovery(&self) -> &Discovery
-        ensures known { (datagrams : List (List ℕ)) → StandsAt C.decoding datagrams self.now.engine
-            → IsKnown (run_by C.decoding self.now.engine datagrams).known result.now.kept }
-        ensures unspent { (datagrams : List (List ℕ)) → StandsAt C.decoding datagrams
+        ensures known { (inputs : List Input) → StandsAt C.decoding inputs self.now.engine
+            → IsKnown (run_by C.decoding self.now.engine inputs).known result.now.kept }
+        ensures unspent { (inputs : List Input) → StandsAt C.decoding inputs
             self.now.engine → result.now.spent ≡ false }
     {
         &self.discovery

@@ -1,6 +1,7 @@
 //! Publishing the row of a participant on a board of statuses.
 
-ghost use Rattle.std.specs.Prelude.{◌≡◌, ◌∷◌, ◌++◌, [], IfOk, List, MatchResult, ℕ};
+ghost use Rattle.std.specs.Prelude.{◌≡◌, ◌∷◌, ◌++◌, [], IfOk, List, MatchResult};
+ghost use Rattle.rtps_run.specs.Input.{Input};
 ghost use Rattle.rtps_run.specs.Standing.{ShowsAt, run_by};
 ghost use Rattle.dds_outlet.specs.Rows.{row_view};
 ghost use Rattle.dds_participant.specs.Publish.{ShowsWorld, row_of};
@@ -54,9 +55,9 @@ impl<C: Catalog> Participant<C> {
             (λ _. board.new.rows
             ≡ board.old.rows ++ row_of self.now.batches self.now.engine.statuses ∷ [])
             (λ _. board.new.rows ≡ board.old.rows) }
-        ensures run { (datagrams : List (List ℕ)) → ShowsAt C.decoding datagrams self.now.engine
+        ensures run { (inputs : List Input) → ShowsAt C.decoding inputs self.now.engine
             → ShowsWorld (row_of self.now.batches self.now.engine.statuses)
-            (run_by C.decoding self.now.engine datagrams) }
+            (run_by C.decoding self.now.engine inputs) }
     {
         let Ok(row) = self.row(alloc) else {
             return Err(PublishFault::NoMemory);

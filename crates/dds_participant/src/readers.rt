@@ -102,7 +102,7 @@ fn do_job<C: Catalog, G: Gate>(
 }
 
 /// Runs the jobs with the readers in place, from the last rank down.
-fn run_alone<C: Catalog, G: Gate>(
+pub(crate) fn run_alone<C: Catalog, G: Gate>(
     alloc: Global,
     batch: &SharedBatch<'_, C, G>,
     assigned: Assigned<C::Value>,

@@ -5,6 +5,7 @@ ghost use Rattle.std.specs.Prelude.{◌≤◌};
 mod failing;
 mod hand_off;
 mod lent;
+mod moments;
 mod outlets;
 mod publishing;
 mod routed;
@@ -16,7 +17,7 @@ use rtps_discovery::{Config, ReaderConfig};
 use rtps_reader::{Body, Notice, NoticeKind, Status};
 use rtps_run::Report;
 use rtps_shards::{Gate, NoGate};
-use rtps_types::{EntityId, Guid, GuidPrefix, Locators};
+use rtps_types::{Datagram, EntityId, Guid, GuidPrefix, Locators};
 use std::alloc::{AllocError, Global};
 use std::sync::atomic::{AtomicU64, Ordering};
 use std::test::Fail;
@@ -80,6 +81,8 @@ enum Said {
     Lost(u64),
     /// A match with the writer of this third octet began.
     Matched(u8),
+    /// A match with the writer of this third octet ended.
+    Unmatched(u8),
     Answer,
     Other,
 }
@@ -92,6 +95,7 @@ fn said_by(notice: &Notice<Shape>) -> Said {
     match &notice.what {
         NoticeKind::Lost { count } => Said::Lost(*count),
         NoticeKind::Matched => Said::Matched(notice.writer.entity.0[2]),
+        NoticeKind::Unmatched => Said::Unmatched(notice.writer.entity.0[2]),
         NoticeKind::Sample {
             number,
             body: Body::Value(_, shape),
@@ -118,6 +122,15 @@ fn push_lines(reports: &[Report<Shape>], lines: &mut Vec<Line>) -> Result<(), Al
     Ok(())
 }
 
+/// Returns datagrams of these octets that came at moment 0.
+fn at_once<'a>(alloc: Global, all: &[&'a [u8]]) -> Result<Vec<Datagram<'a>>, AllocError> {
+    let mut datagrams = Vec::with_capacity(alloc, all.len())?;
+    for bytes in all {
+        datagrams.push(Datagram { moment: 0, bytes })?;
+    }
+    Ok(datagrams)
+}
+
 /// Has a participant take a batch, and appends the lines of what it puts out, in order.
 fn take<C: Catalog<Value = Shape>, G: Gate, R: Threads + Sync>(
     rt: &R,
@@ -129,11 +142,11 @@ fn take<C: Catalog<Value = Shape>, G: Gate, R: Threads + Sync>(
 ) -> Result<(), Fail>
     requires { (1 ≤ batch.1) × (batch.1 ≤ 64) }
 {
-    let (datagrams, workers) = batch;
-    if !is_batch(datagrams) {
+    let datagrams = at_once(alloc, batch.0)?;
+    if !is_batch(&datagrams) {
         return Err(Fail::new("the batch is too large"));
     }
-    let outcome = participant.run_batch(rt, alloc, gate, datagrams, workers)?;
+    let outcome = participant.run_batch(rt, alloc, gate, &datagrams, batch.1)?;
     let reports = outcome.in_order(alloc)?;
     Ok(push_lines(&reports, lines)?)
 }
@@ -337,13 +350,23 @@ fn a_batch_has_at_most_4096_datagrams_of_65507_octets(rt: HostRuntime) -> Result
     let alloc = rt.alloc();
     let octets = vec![in alloc; 0u8; 65_508]?;
     let (longest, _) = octets.split_at(65_507);
-    let mut datagrams: Vec<&[u8]> = Vec::new(alloc);
+    let mut datagrams = Vec::new(alloc);
     for _ in 0..4096 {
-        datagrams.push(longest)?;
+        datagrams.push(Datagram {
+            moment: 0,
+            bytes: longest,
+        })?;
     }
     assert!(rt; is_batch(&[]) && is_batch(&datagrams));
-    assert!(rt; !is_batch(&[octets.as_slice()]));
-    datagrams.push(&[])?;
+    let too_long = Datagram {
+        moment: 0,
+        bytes: octets.as_slice(),
+    };
+    assert!(rt; !is_batch(&[too_long]));
+    datagrams.push(Datagram {
+        moment: 0,
+        bytes: &[],
+    })?;
     assert!(rt; !is_batch(&datagrams));
     Ok(())
 }

@@ -79,7 +79,7 @@ impl Receiver {
                 self.network.wait()?;
             }
             end = batch.receive(&mut self.network, 256)?;
-            let datagrams = batch.records(alloc)?;
+            let datagrams = batch.datagrams(alloc)?;
             if end == ReceiveEnd::Fault || !is_batch(&datagrams) {
                 bail!("no datagram can be received");
             }

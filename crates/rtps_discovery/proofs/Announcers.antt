@@ -2,7 +2,6 @@
 use Rattle.std.proofs.Common.{◌≡◌, Bool, true, false, ◌||◌, Option, Some, None, if◌then◌else◌, is_some, refl}
 use Rattle.std.specs.Str.{bytes_eq}
 use Rattle.rtps_types.specs.declared.identity.EntityId.{EntityId}
-use Rattle.rtps_discovery.specs.declared.announcer.Announcer.{Announcer}
 use Rattle.rtps_discovery.specs.declared.announcer.Announcer.TheVariants as announcer
 use Rattle.rtps_discovery.specs.Addressed.{is_discovery}
 use Rattle.rtps_discovery.specs.Announcer.{announcer_at}

@@ -219,7 +219,5 @@ due_is_expired k d is = by_test (is_due d.leases d.moment) refl
         sym (none_ends k.moment k.participants (λ p. expired_is k.moment k.participants p is.in_order ∙ sym (due_is d.leases k.participants k.moment p is.leases) ∙ ap (λ m. has_due d.leases m p) (sym is.moment) ∙ none_due d.leases d.moment p h))
 
 -- where a growth is refused, somebody's lease has ended
-pub refused : (k : Known) (d : RegistryView) (moment m : ℕ) → IsKnown k d → m ≡ (moved moment (record k { moment = d.moment })).moment → is_due d.leases m ≡ true → has_expired (moved moment k) ≡ false → ⊥
-refused k d moment m is e due none =
-    let same : is_due d.leases m ≡ has_expired (moved moment k) = due_is_expired (moved moment k) (record d { moment = m }) (moves k d moment m is e) in
-    let bad : true ≡ false = sym due ∙ same ∙ none in cc
+pub refused : (k : Known) (d : RegistryView) → IsKnown k d → is_due d.leases d.moment ≡ true → has_expired k ≡ false → ⊥
+refused k d is due none = let bad : true ≡ false = sym due ∙ due_is_expired k d is ∙ none in cc

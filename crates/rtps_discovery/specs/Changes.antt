@@ -1,6 +1,6 @@
 -- The changes of our readers' matches between two states of discovery: set differences of the
 -- matches and of the refusals (DDS 1.4, 2.2.4.1).
-use Rattle.std.specs.Prelude.{ℕ, ◌+◌, ◌==◌, List, [], ◌∷◌, ◌++◌, if◌then◌else◌, Option, None}
+use Rattle.std.specs.Prelude.{ℕ, ◌+◌, List, [], ◌∷◌, ◌++◌, if◌then◌else◌, Option, None}
 use Rattle.std.specs.List.{flat_map}
 use Rattle.std.specs.Map.{keys_of}
 use Rattle.std.specs.BTreeSet.{insert_key}

@@ -57,16 +57,23 @@ impl<A: Allocator + Copy> Discovery<A> {
         Ok(Discovery { spent: false, held })
     }
 
-    /// Processes an event, and returns the changes of our readers' matches and the answer to send
-    /// (DDSI-RTPS 8.5.3, 8.5.4). The records of an announcer are applied one by one; any other
-    /// event changes nothing. A participant's record counts as heard at the greatest moment so far,
-    /// and no lease ends here. `AllocError` where memory is refused; from then on each call of this
-    /// and of [`expire`](Discovery::expire) returns `AllocError` and changes nothing.
-    pub fn step(&mut self, alloc: A, event: &Event<'_>) -> Result<DiscoveryEffects<A>, AllocError>
+    /// Processes an event that came at a moment, in milliseconds, and returns the changes of our
+    /// readers' matches and the answer to send (DDSI-RTPS 8.5.3, 8.5.4). The records of an announcer
+    /// are applied one by one; any other event changes nothing but the moment. A moment below an
+    /// earlier one counts as the greatest so far; a participant's record counts as heard at it, and
+    /// no lease ends here. `AllocError` where memory is refused; from then on each call of this and
+    /// of [`expire`](Discovery::expire) returns `AllocError` and changes nothing.
+    pub fn step(
+        &mut self,
+        alloc: A,
+        moment: u64,
+        event: &Event<'_>,
+    ) -> Result<DiscoveryEffects<A>, AllocError>
         ensures known { (k : Known) → IsKnown k self.old.kept
-            → OnOk result (IsKnown (known_by k (view event.now)) self.new.kept) }
-        ensures effects { (k : Known) → IsKnown k self.old.kept → IfOk result
-            (AreHeard (changes_by k (view event.now)) (answered k (view event.now))) }
+            → OnOk result (IsKnown (known_by (moved moment k) (view event.now)) self.new.kept) }
+        ensures effects { (k : Known) → IsKnown k self.old.kept
+            → IfOk result (AreHeard (changes_by (moved moment k) (view event.now))
+            (answered (moved moment k) (view event.now))) }
         ensures ok { OnOk result (self.new.spent ≡ false) }
         ensures err { OnErr result (self.new.spent ≡ true) }
         ensures spent { self.old.spent ≡ true → IsErr result }
@@ -77,6 +84,7 @@ impl<A: Allocator + Copy> Discovery<A> {
         }
         // Spent until the event is processed: a `?` leaves it so.
         self.spent = true;
+        self.held.advance(moment);
         let effects = self.held.take(alloc, event)?;
         self.spent = false;
         Ok(effects)

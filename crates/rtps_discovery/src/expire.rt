@@ -11,6 +11,14 @@ use crate::registry::Registry;
 use std::alloc::{AllocError, Allocator};
 
 impl<A: Allocator + Copy> Registry<A> {
+    /// Advances to a moment, and removes nobody.
+    pub fn advance(&mut self, moment: u64)
+        ensures { (k : Known) → IsKnown k (kept self.old)
+            → IsKnown (moved moment k) (kept self.new) }
+    {
+        self.moment = self.moment.max(moment);
+    }
+
     /// Advances to a moment, and removes the participants whose leases have ended, all together. It
     /// takes no step for a participant whose lease hasn't ended, and no memory if none has ended.
     pub fn expire(&mut self, alloc: A, moment: u64) -> Result<Vec<MatchChange<A>, A>, AllocError>
@@ -21,7 +29,7 @@ impl<A: Allocator + Copy> Registry<A> {
         ensures quiet { (k : Known) → IsKnown k (kept self.old)
             → has_expired (moved moment k) ≡ false → IsOk result }
     {
-        self.moment = self.moment.max(moment);
+        self.advance(moment);
         let mut ended = Vec::new(alloc);
         if !self.leases.is_due(self.moment) {
             return Ok(ended);

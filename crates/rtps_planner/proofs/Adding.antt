@@ -2,7 +2,7 @@
 use Rattle.std.proofs.Common.{◌≡◌, ℕ, zero, suc, ◌<◌, ◌≤◌, ◌==◌, nat_lt, List, [], ◌∷◌, ◌++◌, length, map, filter, get_or, Bool, true, false, if◌then◌else◌, None, Some, refl, sym, ap, ◌∙◌, subst, arith, true≢false, inl, inr}
 use Rattle.std.specs.List.{All, AllByRecursion, Contains, list_any}
 use Rattle.std.specs.declared.vec.Vec.{Vec}
-use Rattle.std.proofs.lemmas.Bool.{cases_lt, eq-eqb, eqb-false, eqb-true, ltb-false, ne_eqb, or_from, or_left, or_parts, or_right}
+use Rattle.std.proofs.lemmas.Bool.{cases_lt, eq-eqb, eqb-false, eqb-true, ne_eqb, or_from, or_left, or_parts, or_right}
 use Rattle.std.proofs.lemmas.List.{map-append}
 use Rattle.std.proofs.lemmas.List.Elements.{All-contains, All-from_recursion, recursion_from_All}
 use Rattle.rtps_types.specs.declared.place.Place.{Place}
@@ -16,30 +16,32 @@ use Rattle.rtps_reader.specs.declared.notice.Output.{Output}
 use Rattle.rtps_reader.specs.Notice as reader
 use Rattle.rtps_reader.specs.Reader.{Reader, reader_run}
 use Rattle.rtps_run.specs.declared.outcome.Outcome.{Outcome}
+use Rattle.rtps_run.specs.Occurrence.{Occurrence, place_of}
 use Rattle.rtps_run.specs.Outcome.{Adds, answer_view, notices_in}
 use Rattle.rtps_run.specs.Presentation.{not_after}
+use Rattle.rtps_run.specs.Rising.{IsSteady, OccurrencesRise}
 use Rattle.rtps_run.specs.Run.{world_run}
 use Rattle.rtps_run.specs.Seen.{answers_in, notices_by, reader_count}
-use Rattle.rtps_run.specs.World.{World, answer_by, doings, known_after_event}
+use Rattle.rtps_run.specs.World.{World, answer_by, doings, known_then}
 use Rattle.rtps_run.proofs.Dealt.{answers_in-append}
-use Rattle.rtps_run.proofs.Places.{PlacesRise, all_append, all_map, all_weaker}
-use Rattle.rtps_run.proofs.Running.{count_stays}
+use Rattle.rtps_run.proofs.Places.{all_append, all_map, all_weaker}
 use Rattle.rtps_planner.specs.Commuting.{answers_at, merged, parts_of, same_place}
 use Rattle.rtps_planner.specs.Job.{Job, discovery_answer, discovery_answers, job_of, job_sent, job_told}
 use Rattle.rtps_planner.specs.Outputs.{AreRising, IsGathered, IsOutputOf, StandAmong, is_among, parts_in, ranks_of, replies_by, said_in, times}
 use Rattle.rtps_planner.specs.Plan.{IsPlan, job_at, job_seen, jobs_by}
 use Rattle.rtps_planner.specs.declared.jobs.Job as plan_job
 use Rattle.rtps_planner.specs.declared.jobs.Plan.{Plan}
-use Rattle.rtps_planner.proofs.Alone.{parts, sent_front, sent_run}
+use Rattle.rtps_planner.proofs.Alone.{discovered, parts, sent_front, sent_run}
 use Rattle.rtps_planner.proofs.Gathered.{along, below, merged_seen}
 use Rattle.rtps_planner.proofs.Judged.{IsRight, any_at, none_sent, one_sent, unplanned}
 use Rattle.rtps_planner.proofs.Merged.{answer_here, by_places, same_self, sent_here}
+use Rattle.rtps_planner.proofs.Whole.{steady_all}
 
--- ---- places of the events, and of what comes of them
+-- ---- places of the occurrences, and of what comes of them
 
-pub rising : (es : List EventView) → PlacesRise es → AreRising (map (λ (e : EventView). e.place) es)
+pub rising : (os : List Occurrence) → OccurrencesRise os → AreRising (map place_of os)
 rising [] up = tt
-rising (e ∷ es) up = (all_map (λ q. not_after q e.place ≡ false) (λ (d : EventView). d.place) es up.0, rising es up.1)
+rising (o ∷ os) up = (all_map (λ q. not_after q (place_of o) ≡ false) place_of os up.0, rising os up.1)
 
 abbrev StandBy : List Place → List (Place × ReplyView) → Type 0
 StandBy places ss = AllByRecursion (λ s. list_any (same_place s.0) places ≡ true) ss
@@ -50,17 +52,17 @@ stand_more p places xs ys at rest =
     (all_weaker (λ s. s.0 ≡ p) (λ s. list_any (same_place s.0) (p ∷ places) ≡ true) xs (λ s e. or_left (same_place s.0 p) (list_any (same_place s.0) places) (ap (λ q. same_place q p) e ∙ same_self p)) at)
     (all_weaker (λ s. list_any (same_place s.0) places ≡ true) (λ s. list_any (same_place s.0) (p ∷ places) ≡ true) ys (λ s e. or_right (same_place s.0 p) (list_any (same_place s.0) places) e) rest)
 
-sent_stand : (rank : ℕ) (k : Known) (r : Reader) (es : List EventView) → StandBy (map (λ (e : EventView). e.place) es) (job_sent r (job_of rank k es))
+sent_stand : (rank : ℕ) (k : Known) (r : Reader) (os : List Occurrence) → StandBy (map place_of os) (job_sent r (job_of rank k os))
 sent_stand rank k r [] = tt
-sent_stand rank k r (e ∷ es) =
-    let after = known_after_event k e in
-    let ds = doings k rank e in
-    subst (StandBy (map (λ (e : EventView). e.place) (e ∷ es))) (sym (sent_front e.place r ds (job_of rank after es)))
-    (stand_more e.place (map (λ (e : EventView). e.place) es) (sent_run e.place r ds) (job_sent (reader_run r ds) (job_of rank after es)) (sent_here e.place r ds) (sent_stand rank after (reader_run r ds) es))
+sent_stand rank k r (o ∷ os) =
+    let after = known_then k o in
+    let ds = doings k rank o in
+    subst (StandBy (map place_of (o ∷ os))) (sym (sent_front (place_of o) r ds (job_of rank after os)))
+    (stand_more (place_of o) (map place_of os) (sent_run (place_of o) r ds) (job_sent (reader_run r ds) (job_of rank after os)) (sent_here (place_of o) r ds) (sent_stand rank after (reader_run r ds) os))
 
-answers_stand : (k : Known) (es : List EventView) → StandBy (map (λ (e : EventView). e.place) es) (discovery_answers k es)
+answers_stand : (k : Known) (os : List Occurrence) → StandBy (map place_of os) (discovery_answers k os)
 answers_stand k [] = tt
-answers_stand k (e ∷ es) = stand_more e.place (map (λ (e : EventView). e.place) es) (discovery_answer k e) (discovery_answers (known_after_event k e) es) (answer_here k e) (answers_stand (known_after_event k e) es)
+answers_stand k (o ∷ os) = stand_more (place_of o) (map place_of os) (discovery_answer k o) (discovery_answers (known_then k o) os) (answer_here k o) (answers_stand (known_then k o) os)
 
 -- ---- ranks of the jobs
 
@@ -137,29 +139,33 @@ along_same said xs ys n (p ∷ ps) same =
 
 -- ---- the outcome
 
-module _ {V M A : Type 0} (f : V → M) (decoding : Decoding M) (w : World M) (es : List EventView) (up : PlacesRise es) (plan : Plan A) (kept : RegistryView) (outputs : List (ℕ × Output V A)) (outcome : Outcome V A)
-    (planned : IsPlan w.known es plan kept) (fine : IsRight plan.rest.ranks.items (ranks_of outputs)) (of : All (IsOutputOf f decoding w es) outputs) (has : IsGathered plan.rest outputs outcome) where
+module _ {V M A : Type 0} (f : V → M) (decoding : Decoding M) (w : World M) (es : List EventView) (os : List Occurrence) (up : OccurrencesRise os) (steady : IsSteady os) (plan : Plan A) (kept : RegistryView) (outputs : List (ℕ × Output V A)) (outcome : Outcome V A)
+    (planned : IsPlan w.known es os plan kept) (fine : IsRight plan.rest.ranks.items (ranks_of outputs)) (of : All (IsOutputOf f decoding w os) outputs) (has : IsGathered plan.rest outputs outcome) where
   abbrev count : ℕ
   count = reader_count w
 
+  -- no rank is given
+  count_stays : reader_count (world_run decoding w os) ≡ count
+  count_stays = ap (λ (k : Known). length k.readers) (discovered decoding w os).known ∙ steady_all w.known os steady
+
   abbrev places : List Place
-  places = map (λ (e : EventView). e.place) es
+  places = map place_of os
 
   abbrev sent : ℕ → List (Place × ReplyView)
-  sent rank = job_sent (w.readers rank) (job_of rank w.known es)
+  sent rank = job_sent (w.readers rank) (job_of rank w.known os)
 
   abbrev said : List (Place × ReplyView)
-  said = discovery_answers w.known es
+  said = discovery_answers w.known os
 
-  ranks_are : plan.rest.ranks.items ≡ by_count (λ rank. job_of rank w.known es) count
+  ranks_are : plan.rest.ranks.items ≡ by_count (λ rank. job_of rank w.known os) count
   ranks_are = planned.ranks ∙ sym (ranks_seen es plan.jobs.items) ∙ ap (map (λ j. j.0)) planned.jobs
 
   ranks_below : AllByRecursion (λ rank. rank < count) plan.rest.ranks.items
-  ranks_below = subst (AllByRecursion (λ rank. rank < count)) (sym ranks_are) (all_below (λ rank. job_of rank w.known es) count)
+  ranks_below = subst (AllByRecursion (λ rank. rank < count)) (sym ranks_are) (all_below (λ rank. job_of rank w.known os) count)
 
   -- a reader without an output has nothing to do
-  no_job : (rank : ℕ) → rank < count → is_among plan.rest.ranks.items rank ≡ false → job_of rank w.known es ≡ []
-  no_job rank less none = idle (λ r. job_of r w.known es) count rank less (ap (λ l. is_among l rank) (sym ranks_are) ∙ none)
+  no_job : (rank : ℕ) → rank < count → is_among plan.rest.ranks.items rank ≡ false → job_of rank w.known os ≡ []
+  no_job rank less none = idle (λ r. job_of r w.known os) count rank less (ap (λ l. is_among l rank) (sym ranks_are) ∙ none)
 
   no_output : (rank : ℕ) → is_among plan.rest.ranks.items rank ≡ false → times rank (ranks_of outputs) ≡ 0
   no_output rank none = unplanned plan.rest.ranks.items outputs fine.known rank none
@@ -175,7 +181,7 @@ module _ {V M A : Type 0} (f : V → M) (decoding : Decoding M) (w : World M) (e
   sole_output rank is = any_at (λ r. nat_lt 1 (times r (ranks_of outputs))) plan.rest.ranks.items rank is fine.once
 
   all_sent : AllByRecursion (λ (o : ℕ × Output V A). map reader.answer_view o.1.answers.items ≡ sent o.0) outputs
-  all_sent = all_weaker (IsOutputOf f decoding w es) (λ o. map reader.answer_view o.1.answers.items ≡ sent o.0) outputs (λ o is. is.sent) (recursion_from_All (IsOutputOf f decoding w es) outputs of)
+  all_sent = all_weaker (IsOutputOf f decoding w os) (λ o. map reader.answer_view o.1.answers.items ≡ sent o.0) outputs (λ o is. is.sent) (recursion_from_All (IsOutputOf f decoding w os) outputs of)
 
   sent_is : (rank : ℕ) → rank < count → replies_by outputs rank ≡ sent rank
   sent_is rank less = by_test (is_among plan.rest.ranks.items rank) refl
@@ -187,52 +193,52 @@ module _ {V M A : Type 0} (f : V → M) (decoding : Decoding M) (w : World M) (e
   stands : (rank : ℕ) → StandAmong places (replies_by outputs rank)
   stands rank = elim (cases_lt rank count) [
     | inl less ↦ All-from_recursion (λ (s : Place × ReplyView). list_any (same_place s.0) places ≡ true) (replies_by outputs rank)
-        (subst (StandBy places) (sym (sent_is rank less)) (sent_stand rank w.known (w.readers rank) es))
+        (subst (StandBy places) (sym (sent_is rank less)) (sent_stand rank w.known (w.readers rank) os))
     | inr past ↦ All-from_recursion (λ (s : Place × ReplyView). list_any (same_place s.0) places ≡ true) (replies_by outputs rank)
         (subst (StandBy places) (sym (none_sent outputs rank (no_output rank (not_past plan.rest.ranks.items rank ranks_below past)))) tt)
   ]
 
   said_stand : StandAmong places (said_in plan.rest)
-  said_stand = subst (StandAmong places) (sym planned.answers) (All-from_recursion (λ (s : Place × ReplyView). list_any (same_place s.0) places ≡ true) said (answers_stand w.known es))
+  said_stand = subst (StandAmong places) (sym planned.answers) (All-from_recursion (λ (s : Place × ReplyView). list_any (same_place s.0) places ≡ true) said (answers_stand w.known os))
 
-  answers_are : map answer_view outcome.answers.items ≡ answers_in (merged (parts_of decoding w.known w.readers es) count places)
+  answers_are : map answer_view outcome.answers.items ≡ answers_in (merged (parts_of decoding w.known w.readers os) count places)
   answers_are =
       has.answers places
       (All-from_recursion (λ rank. rank < plan.rest.readers) plan.rest.ranks.items (subst (λ n. AllByRecursion (λ rank. rank < n) plan.rest.ranks.items) (sym planned.readers) ranks_below))
-      (rising es up) said_stand stands
+      (rising os up) said_stand stands
       ∙ ap (λ n. answers_in (merged (parts_in plan.rest outputs) n places)) planned.readers
       ∙ merged_seen (parts_in plan.rest outputs) count places
       ∙ along_same (said_in plan.rest) (replies_by outputs) sent count places sent_is
       ∙ ap (λ l. along l sent count places) planned.answers
-      ∙ sym (merged_seen (parts_of decoding w.known w.readers es) count places)
+      ∙ sym (merged_seen (parts_of decoding w.known w.readers os) count places)
 
-  told_are : (rank : ℕ) (other : Vec (Notice V) A) → rank < count → notices_in f (get_or outcome.notices.items rank other) ≡ job_told decoding (w.readers rank) (job_of rank w.known es)
+  told_are : (rank : ℕ) (other : Vec (Notice V) A) → rank < count → notices_in f (get_or outcome.notices.items rank other) ≡ job_told decoding (w.readers rank) (job_of rank w.known os)
   told_are rank other less = by_test (is_among plan.rest.ranks.items rank) refl
     where
       inside : rank < plan.rest.readers
       inside = subst (λ n. rank < n) (sym planned.readers) less
 
-      by_test : (b : Bool) → is_among plan.rest.ranks.items rank ≡ b → notices_in f (get_or outcome.notices.items rank other) ≡ job_told decoding (w.readers rank) (job_of rank w.known es)
+      by_test : (b : Bool) → is_among plan.rest.ranks.items rank ≡ b → notices_in f (get_or outcome.notices.items rank other) ≡ job_told decoding (w.readers rank) (job_of rank w.known os)
       by_test true is =
           let at = given_at outputs rank (some_output rank is) in
           let o : ℕ × Output V A = at.0 in
           let named : o ≡ (rank, o.1) = ap (λ (r : ℕ). (r, o.1)) at.2 in
-          let mine : IsOutputOf f decoding w es o = All-contains (IsOutputOf f decoding w es) outputs o of at.1 in
+          let mine : IsOutputOf f decoding w os o = All-contains (IsOutputOf f decoding w os) outputs o of at.1 in
           ap (notices_in f) (has.moved rank o.1 other inside (subst (Contains outputs) named at.1))
           ∙ mine.told
-          ∙ ap (λ r. job_told decoding (w.readers r) (job_of r w.known es)) at.2
+          ∙ ap (λ r. job_told decoding (w.readers r) (job_of r w.known os)) at.2
       by_test false none =
           ap (map (reader.notice_view f)) (has.others rank other inside none)
           ∙ ap (job_told decoding (w.readers rank)) (sym (no_job rank less none))
 
-  pub adds : Adds f w (world_run decoding w es) outcome
+  pub adds : Adds f w (world_run decoding w os) outcome
   adds = record {
-    readers = has.readers ∙ planned.readers ∙ sym (count_stays decoding w es);
+    readers = has.readers ∙ planned.readers ∙ sym count_stays;
     notices = λ rank other less.
-        let below : rank < count = subst (λ n. rank < n) (count_stays decoding w es) less in
-        (parts decoding w es rank).told below ∙ ap (λ l. notices_by rank w.put ++ l) (sym (told_are rank other below));
+        let below : rank < count = subst (λ n. rank < n) count_stays less in
+        (parts decoding w os rank).told below ∙ ap (λ l. notices_by rank w.put ++ l) (sym (told_are rank other below));
     answers =
-        ap answers_in (by_places decoding w es up)
-        ∙ answers_in-append w.put (merged (parts_of decoding w.known w.readers es) count places)
+        ap answers_in (by_places decoding w os up steady)
+        ∙ answers_in-append w.put (merged (parts_of decoding w.known w.readers os) count places)
         ∙ ap (λ l. answers_in w.put ++ l) (sym answers_are);
   }

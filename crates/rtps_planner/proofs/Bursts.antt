@@ -1,10 +1,9 @@
 -- A burst: what its events ask of a reader is what each of them asks, one after the other.
-use Rattle.std.proofs.Common.{◌≡◌, ℕ, zero, suc, ◌<◌, ◌≤◌, ◌==◌, ◌&&◌, arith, List, [], ◌∷◌, ◌++◌, length, map, Bool, true, false, if◌then◌else◌, Option, Some, None, get_or, refl, sym, ap, ◌∙◌, subst, append-nil, ◌+◌}
+use Rattle.std.proofs.Common.{◌≡◌, ℕ, suc, ◌<◌, ◌≤◌, ◌==◌, ◌&&◌, arith, List, [], ◌∷◌, ◌++◌, length, map, Bool, true, false, if◌then◌else◌, Option, Some, None, get_or, refl, sym, ap, ◌∙◌, append-nil}
 use Rattle.std.specs.Prelude.{drop, filter, take}
-use Rattle.std.specs.List.{flat_map, slice_get}
-use Rattle.std.proofs.Math.Seq.{take-add}
+use Rattle.std.specs.List.{flat_map}
 use Rattle.std.specs.Str.{bytes_eq}
-use Rattle.std.proofs.lemmas.List.{drop-drop, get_or-drop, length-drop, length-map, take_more}
+use Rattle.std.proofs.lemmas.List.{get_or-drop, length-drop, length-map, take_more}
 use Rattle.std.proofs.lemmas.Slice.Eq.{bytes_eq-Decides}
 use Rattle.rtps_types.specs.declared.identity.EntityId.{EntityId}
 use Rattle.rtps_types.specs.declared.identity.Guid.{Guid}
@@ -15,10 +14,11 @@ use Rattle.rtps_discovery.specs.Addressed.{is_discovery, writer_of}
 use Rattle.rtps_discovery.specs.Kept.{matched_ranks}
 use Rattle.rtps_discovery.specs.Known.{Known, Wish, reader_at}
 use Rattle.rtps_reader.specs.Step.{asks_of}
+use Rattle.rtps_run.specs.Occurrence.{Came}
 use Rattle.rtps_run.specs.Steps.{ReaderStep, step_by}
-use Rattle.rtps_run.specs.World.{addressed_to, doings, known_after_event}
+use Rattle.rtps_run.specs.World.{addressed_to, asked_by, known_after_event}
 use Rattle.rtps_run.proofs.Hearing.{other_known}
-use Rattle.rtps_planner.specs.Job.{Job, discovery_answers, job_of, known_after_events}
+use Rattle.rtps_planner.specs.Job.{Job, discovery_answers, job_of, known_after_all}
 use Rattle.rtps_run.specs.Addressed.{is_named}
 use Rattle.rtps_planner.specs.Plan.{AreFrom, is_from, ranks_named, taken_in}
 use Rattle.rtps_planner.proofs.Planned.{event_asked, no_answer, taken_at}
@@ -32,7 +32,7 @@ second_true true b h = h
 second_true false b h = absurd (let bad : false ≡ true = h in cc)
 
 -- the writer and the reader id of an event of a burst
-writer_is : (w : Guid) (r : EntityId) (e : EventView) → is_from w r e ≡ true → writer_of e ≡ w
+pub writer_is : (w : Guid) (r : EntityId) (e : EventView) → is_from w r e ≡ true → writer_of e ≡ w
 writer_is w r e h = same_is (writer_of e) w (first_true (same_guid (writer_of e) w) (bytes_eq e.reader.0 r.0) h)
 
 abbrev entity_from : List ℕ → EntityId
@@ -54,22 +54,6 @@ one_of es i e inside is =
     let here : get_or rest 0 e ≡ e = get_or-drop i es 0 e ∙ ap (λ i. get_or es i e) (omega arith) ∙ is in
     take_more rest 0 e below ∙ ap (λ d. d ∷ []) here
 
-pub burst_from : (w : Guid) (r : EntityId) (es : List EventView) (i more : ℕ) (e : EventView) → i < length es → get_or es i e ≡ e → is_from w r e ≡ true
-    → AreFrom w r (take more (drop (i + 1) es)) → AreFrom w r (take (more + 1) (drop i es))
-burst_from w r es i more e inside is first from =
-    let rest = drop i es in
-    let long : more + 1 ≡ 1 + more = omega arith in
-    let cut : take (more + 1) rest ≡ e ∷ take more (drop (i + 1) es) =
-    ap (λ n. take n rest) long ∙ take-add 1 more rest ∙ ap (λ l. l ++ take more (drop 1 rest)) (one_of es i e inside is) ∙ ap (λ l. e ∷ take more l) (drop-drop 1 i es) in
-    subst (AreFrom w r) (sym cut) (first, from)
-
--- an event that is alone where others were read
-pub head_got : (es : List EventView) (i : ℕ) (e : EventView) → take 1 (drop i es) ≡ e ∷ [] → slice_get es i ≡ Some e
-head_got [] zero e h = absurd (let bad : [] ≡ e ∷ [] = h in cc)
-head_got [] (suc i) e h = absurd (let bad : [] ≡ e ∷ [] = h in cc)
-head_got (d ∷ es) zero e h = ap (λ l. Some (get_or l 0 e)) h
-head_got (d ∷ es) (suc i) e h = head_got es i e h
-
 -- an event comes from its own writer with its own reader id
 pub own_writer : (e : EventView) → is_from (writer_of e) e.reader e ≡ true
 own_writer e = both (same e.source.0) (same e.writer.0) (same e.reader.0)
@@ -85,15 +69,15 @@ users : (w : Guid) (r : EntityId) (e : EventView) → is_discovery w.entity ≡ 
 users w r e others h = ap (λ (g : Guid). is_discovery g.entity) (writer_is w r e h) ∙ others
 
 -- such events change nothing of what is known, and discovery doesn't answer them
-pub users_known : (k : Known) (w : Guid) (r : EntityId) (run : List EventView) → is_discovery w.entity ≡ false → AreFrom w r run → known_after_events k run ≡ k
+pub users_known : (k : Known) (w : Guid) (r : EntityId) (run : List EventView) → is_discovery w.entity ≡ false → AreFrom w r run → known_after_all k (map Came run) ≡ k
 users_known k w r [] others from = refl
-users_known k w r (e ∷ run) others from = ap (λ k. known_after_events k run) (other_known k e (users w r e others from.0)) ∙ users_known k w r run others from.1
+users_known k w r (e ∷ run) others from = ap (λ k. known_after_all k (map Came run)) (other_known k e (users w r e others from.0)) ∙ users_known k w r run others from.1
 
-pub users_answers : (k : Known) (w : Guid) (r : EntityId) (run : List EventView) → is_discovery w.entity ≡ false → AreFrom w r run → discovery_answers k run ≡ []
+pub users_answers : (k : Known) (w : Guid) (r : EntityId) (run : List EventView) → is_discovery w.entity ≡ false → AreFrom w r run → discovery_answers k (map Came run) ≡ []
 users_answers k w r [] others from = refl
 users_answers k w r (e ∷ run) others from =
     let user = users w r e others from.0 in
-    ap (λ l. l ++ discovery_answers (known_after_event k e) run) (no_answer k e user) ∙ ap (λ k. discovery_answers k run) (other_known k e user) ∙ users_answers k w r run others from.1
+    ap (λ l. l ++ discovery_answers (known_after_event k e) (map Came run)) (no_answer k e user) ∙ ap (λ k. discovery_answers k (map Came run)) (other_known k e user) ∙ users_answers k w r run others from.1
 
 -- what an event asks, for each rank that is named
 abbrev each_asks : EventView → List ℕ → Job
@@ -126,7 +110,7 @@ few_addressed k rank e (Some r) = by_test _
     by_test true = omega arith
     by_test false = omega arith
 
-few_doings : (k : Known) (rank : ℕ) (e : EventView) → is_discovery e.writer ≡ false → length (doings k rank e) ≤ 1
+few_doings : (k : Known) (rank : ℕ) (e : EventView) → is_discovery e.writer ≡ false → length (asked_by k rank e) ≤ 1
 few_doings k rank e others = rw others (few_addressed k rank e (reader_at k.readers rank))
 
 each_length : (e : EventView) (ranks : List ℕ) → length (each_asks e ranks) ≡ length ranks
@@ -152,7 +136,7 @@ module _ (k : Known) (w : Guid) (r : EntityId) (rank : ℕ) (others : is_discove
   abbrev named : List ℕ
   named = ranks_named r k.readers (matched_ranks k w) rank
 
-  one_asks : (e : EventView) → is_from w r e ≡ true → map (λ what. (e.place, what)) (doings k rank e) ≡ each_asks e named
+  one_asks : (e : EventView) → is_from w r e ≡ true → map (λ what. (e.place, what)) (asked_by k rank e) ≡ each_asks e named
   one_asks e h =
       sym (event_asked k e rank (users w r e others h) below)
       ∙ taken_each e k.readers (matched_ranks k (writer_of e)) rank
@@ -161,17 +145,17 @@ module _ (k : Known) (w : Guid) (r : EntityId) (rank : ℕ) (others : is_discove
 
   few_named : (e : EventView) → is_from w r e ≡ true → length named ≤ 1
   few_named e h =
-      let same : length (doings k rank e) ≡ length named = sym (length-map (doings k rank e) (λ what. (e.place, what))) ∙ ap length (one_asks e h) ∙ each_length e named in
+      let same : length (asked_by k rank e) ≡ length named = sym (length-map (asked_by k rank e) (λ what. (e.place, what))) ∙ ap length (one_asks e h) ∙ each_length e named in
       omega (arith, same, few_doings k rank e (users w r e others h))
 
-  each_event : (run : List EventView) → AreFrom w r run → job_of rank k run ≡ flat_map (λ e. each_asks e named) run
+  each_event : (run : List EventView) → AreFrom w r run → job_of rank k (map Came run) ≡ flat_map (λ e. each_asks e named) run
   each_event [] from = refl
   each_event (e ∷ run) from =
-      ap (λ l. l ++ job_of rank (known_after_event k e) run) (one_asks e from.0)
-      ∙ ap (λ k. each_asks e named ++ job_of rank k run) (other_known k e (users w r e others from.0))
+      ap (λ l. l ++ job_of rank (known_after_event k e) (map Came run)) (one_asks e from.0)
+      ∙ ap (λ k. each_asks e named ++ job_of rank k (map Came run)) (other_known k e (users w r e others from.0))
       ∙ ap (λ l. each_asks e named ++ l) (each_event run from.1)
 
-  pub burst_asked : (run : List EventView) → AreFrom w r run → flat_map (λ r. map taken_in run) named ≡ job_of rank k run
+  pub burst_asked : (run : List EventView) → AreFrom w r run → flat_map (λ r. map taken_in run) named ≡ job_of rank k (map Came run)
   burst_asked [] from = nothing named
     where
       nothing : (ranks : List ℕ) → flat_map (λ (r : ℕ). map taken_in []) ranks ≡ []

@@ -1,6 +1,7 @@
 pub mod Alone
 mod Cuts
 pub mod Merged
+pub mod Spoken
 mod Planned
 mod Whole
 pub mod Judged
@@ -10,3 +11,5 @@ pub mod Gathering
 mod Rising
 pub mod Along
 mod Bursts
+mod Going
+pub mod Stamping

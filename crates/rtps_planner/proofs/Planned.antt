@@ -1,36 +1,33 @@
 -- The steps of a plan, one after the other.
-use Rattle.std.proofs.Common.{◌≡◌, ◌≢◌, ◌⊎◌, inl, inr, ℕ, zero, suc, ◌<◌, ◌≤◌, arith, ◌==◌, ◌&&◌, List, [], ◌∷◌, ◌++◌, length, map, Bool, true, false, if◌then◌else◌, Option, Some, None, get_or, refl, sym, ap, ◌∙◌, subst, append_assoc, append-nil, ◌+◌}
-use Rattle.std.specs.Prelude.{drop, filter, option_to_list, replicate, set, take}
-use Rattle.std.specs.List.{flat_map, slice_get}
-use Rattle.std.specs.Option.{option_map}
+use Rattle.std.proofs.Common.{◌≡◌, ◌≢◌, ◌⊎◌, inl, inr, ℕ, ◌<◌, arith, ◌==◌, ◌&&◌, List, [], ◌∷◌, ◌++◌, length, map, Bool, true, false, if◌then◌else◌, Option, Some, None, get_or, refl, sym, ap, ◌∙◌, subst, append_assoc, append-nil, ◌+◌}
+use Rattle.std.specs.Prelude.{drop, filter, max, set, take}
+use Rattle.std.specs.List.{flat_map}
 use Rattle.std.specs.declared.vec.Vec.{Vec}
 use Rattle.std.proofs.Math.Seq.{take-add}
 use Rattle.std.proofs.lemmas.Grind.{flat_map-append, get_or-set_at}
-use Rattle.std.proofs.lemmas.List.{drop-drop, get_or_default, get_or-replicate, get_or-set_other, length-replicate, length-set, map-append, set-get_or, take_all, take_more, take_more_set}
+use Rattle.std.proofs.Math.Nat.{le-max_left, max-le}
+use Rattle.std.proofs.lemmas.List.{drop-drop, get_or_default, get_or-set_other, length-set, map-append, set-get_or, take_all, take_more, take_more_set}
 use Rattle.std.proofs.lemmas.List.Elements.{filter-append}
 use Rattle.std.proofs.lemmas.Bool.Decides.{eqb_tells}
-use Rattle.std.proofs.lemmas.Option.{slice_get-get_or}
-use Rattle.rtps_types.specs.MatchChange.{match_change_view}
 use Rattle.rtps_types.specs.declared.place.Place.{Place}
 use Rattle.rtps_receiver.specs.Events.{EventView}
-use Rattle.rtps_types.specs.declared.match_change.MatchChangeKind.{MatchChangeKind}
 use Rattle.rtps_discovery.specs.declared.changes.MatchChange.{MatchChange}
 use Rattle.rtps_discovery.specs.Changes.{ChangeAt}
 use Rattle.rtps_discovery.specs.Seen.{change_seen}
 use Rattle.rtps_discovery.specs.Addressed.{is_discovery, writer_of}
 use Rattle.rtps_discovery.specs.Kept.{matched_ranks}
-use Rattle.rtps_discovery.specs.Known.{Known, Wish, is_fixed, is_matched, reader_at, writer_at}
+use Rattle.rtps_discovery.specs.Known.{Known, Wish, is_fixed, is_matched, moved, reader_at, writer_at}
 use Rattle.rtps_discovery.specs.Records.{answered, changes_by}
 use Rattle.rtps_reader.specs.Reader.{placed}
 use Rattle.rtps_reader.specs.Step.{Changes, asks_of}
 use Rattle.rtps_run.specs.Addressed.{is_named}
 use Rattle.rtps_run.specs.Steps.{ReaderStep, step_by}
 use Rattle.rtps_run.proofs.Hearing.{announced_doings, asked_from}
-use Rattle.rtps_run.specs.World.{addressed_to, changes_for, doings}
+use Rattle.rtps_run.specs.World.{addressed_to, asked_by, changes_for}
 use Rattle.rtps_planner.specs.declared.steps.Burst.{Burst}
 use Rattle.rtps_planner.specs.declared.steps.PlannedStep.{PlannedStep}
 use Rattle.rtps_planner.specs.declared.steps.PlannedStep.TheVariants as step
-use Rattle.rtps_planner.specs.Job.{Job, discovery_answer}
+use Rattle.rtps_planner.specs.Job.{Job, event_answer}
 use Rattle.rtps_planner.specs.Plan.{Grow, burst_at, events_at, step_seen, steps_seen, taken_in}
 
 -- one step more
@@ -112,24 +109,21 @@ front place rank b d xs =
     (if b then change_seen d ∷ filter (λ (c : ChangeAt). c.rank == rank) (map change_seen xs) else filter (λ (c : ChangeAt). c.rank == rank) (map change_seen xs)))
 
 -- one change more
-pub change_more : {A : Type 0} (es : List EventView) (e : EventView) (event : ℕ) (changes : List (MatchChange A)) (c : MatchChange A) (s : PlannedStep A) (rank : ℕ)
-    → step_seen es s ≡ (e.place, Changes (change_seen c).what) ∷ []
-    → changes_asked_at e.place changes rank ++ (if c.rank == rank then step_seen es s else []) ≡ changes_asked_at e.place (changes ++ c ∷ []) rank
-change_more {A} es e event [] c s rank is = by_test (c.rank == rank)
+pub change_more : {A : Type 0} (es : List EventView) (place : Place) (changes : List (MatchChange A)) (c : MatchChange A) (rank : ℕ)
+    → changes_asked_at place changes rank ++ (if c.rank == rank then step_seen es (step.Change place c.what) else []) ≡ changes_asked_at place (changes ++ c ∷ []) rank
+change_more {A} es place [] c rank = by_test (c.rank == rank)
   where
-    by_test : (b : Bool) → (if b then step_seen es s else []) ≡ map (λ what. (e.place, what)) (map (λ (c : ChangeAt). Changes c.what) (if b then change_seen c ∷ [] else []))
-    by_test true = is
+    by_test : (b : Bool) → (if b then step_seen es (step.Change place c.what) else []) ≡ map (λ what. (place, what)) (map (λ (c : ChangeAt). Changes c.what) (if b then change_seen c ∷ [] else []))
+    by_test true = refl
     by_test false = refl
-change_more {A} es e event (d ∷ ds) c s rank is = by_test (d.rank == rank) (change_more es e event ds c s rank is)
+change_more {A} es place (d ∷ ds) c rank = by_test (d.rank == rank) (change_more es place ds c rank)
   where
-    by_test : (b : Bool) → changes_asked_at e.place ds rank ++ (if c.rank == rank then step_seen es s else []) ≡ changes_asked_at e.place (ds ++ c ∷ []) rank → front e.place rank b d ds ++ (if c.rank == rank then step_seen es s else []) ≡ front e.place rank b d (ds ++ c ∷ [])
-    by_test true rest = ap (λ l. (e.place, Changes (change_seen d).what) ∷ l) rest
-    by_test false rest = rest
+    asked : Job
+    asked = if c.rank == rank then step_seen es (step.Change place c.what) else []
 
--- what a step of one change asks
-pub hears_one : {A : Type 0} (es : List EventView) (e : EventView) (event : ℕ) (what : MatchChangeKind A) → slice_get es event ≡ Some e
-    → step_seen es (step.Change event what) ≡ (e.place, Changes (match_change_view what)) ∷ []
-hears_one es e event what is = ap (λ (o : Option EventView). option_to_list (option_map (λ (d : EventView). (d.place, Changes (match_change_view what))) o)) is
+    by_test : (b : Bool) → changes_asked_at place ds rank ++ asked ≡ changes_asked_at place (ds ++ c ∷ []) rank → front place rank b d ds ++ asked ≡ front place rank b d (ds ++ c ∷ [])
+    by_test true rest = ap (λ l. (place, Changes (change_seen d).what) ∷ l) rest
+    by_test false rest = rest
 
 -- ---- a burst, for the readers of some ranks
 
@@ -176,19 +170,19 @@ taken_at e readers ranks rank =
 
 -- an event is taken by the readers that are matched with its writer and named by it
 pub event_asked : (k : Known) (e : EventView) (rank : ℕ) → is_discovery e.writer ≡ false → rank < length k.readers
-    → taken_at e k.readers (matched_ranks k (writer_of e)) rank ≡ map (λ what. (e.place, what)) (doings k rank e)
+    → taken_at e k.readers (matched_ranks k (writer_of e)) rank ≡ map (λ what. (e.place, what)) (asked_by k rank e)
 event_asked k e rank others below =
     ap (map (λ what. (e.place, what)))
     (asked_from (λ r. is_named e.reader (reader_at k.readers r)) (λ r. is_fixed k.fixed r (writer_of e)) (writer_at k (writer_of e)) (asks_of e) rank rank 0 k.readers below (omega arith)
     ∙ if_matched k rank e (reader_at k.readers rank) others
     ∙ by_event others)
   where
-    by_event : is_discovery e.writer ≡ false → addressed_to k rank e (reader_at k.readers rank) ≡ doings k rank e
+    by_event : is_discovery e.writer ≡ false → addressed_to k rank e (reader_at k.readers rank) ≡ asked_by k rank e
     by_event h = rw h refl
 
 -- and an announcement by those that hear of a change
 pub changes_asked : {A : Type 0} (k : Known) (e : EventView) (changes : List (MatchChange A)) (rank : ℕ) → is_discovery e.writer ≡ true → map change_seen changes ≡ changes_by k e
-    → changes_asked_at e.place changes rank ≡ map (λ what. (e.place, what)) (doings k rank e)
+    → changes_asked_at e.place changes rank ≡ map (λ what. (e.place, what)) (asked_by k rank e)
 changes_asked k e changes rank is heard = ap (map (λ what. (e.place, what))) (ap (changes_for rank) heard ∙ sym (announced_doings k rank e is))
 
 -- the same is added, by each rank that there is
@@ -199,15 +193,15 @@ grow_same es old new added other same grows = record {
 }
 
 -- what discovery answers to an announcement, and to no other event
-pub announced_answer : (k : Known) (e : EventView) → is_discovery e.writer ≡ true → discovery_answer k e ≡ placed e.place (answered k e)
+pub announced_answer : (k : Known) (e : EventView) → is_discovery e.writer ≡ true → event_answer k e ≡ placed e.place (answered k e)
 announced_answer k e is = rw is refl
 
-pub no_answer : (k : Known) (e : EventView) → is_discovery e.writer ≡ false → discovery_answer k e ≡ []
+pub no_answer : (k : Known) (e : EventView) → is_discovery e.writer ≡ false → event_answer k e ≡ []
 no_answer k e others = rw others refl
 
--- a list that has an event at an index
-abbrev pub list_to : ℕ → EventView → List EventView
-list_to i e = replicate (i + 1) e
+-- a moment that is reached changes nothing
+max_same : (n : ℕ) → max n n ≡ n
+max_same n = omega (arith, le-max_left n n, max-le {a = n} {b = n} {k = n} (omega arith) (omega arith))
 
-pub there_is : (i : ℕ) (e : EventView) → slice_get (list_to i e) i ≡ Some e
-there_is i e = slice_get-get_or (list_to i e) i e (omega (arith, length-replicate (i + 1) e)) ∙ ap Some (get_or-replicate (i + 1) i e e (omega arith))
+pub moved_not : (k : Known) (moment : ℕ) → moment ≡ k.moment → moved moment k ≡ k
+moved_not k moment is = ap (λ n. record k { moment = n }) (ap (max k.moment) is ∙ max_same k.moment)

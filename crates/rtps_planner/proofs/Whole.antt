@@ -1,124 +1,190 @@
--- A whole batch: some events more, and the jobs of the readers that have steps.
-use Rattle.std.proofs.Common.{◌≡◌, ◌==◌, false, true≢false, ℕ, suc, ◌<◌, ◌≤◌, ◌+◌, arith, List, [], ◌∷◌, ◌++◌, length, map, Some, get_or, refl, sym, ap, ◌∙◌, subst, append_assoc, append-nil}
-use Rattle.std.specs.Prelude.{drop, replicate, take}
-use Rattle.std.specs.List.{slice_get}
+-- A whole batch: some occurrences more, and the jobs of the readers that have steps.
+use Rattle.std.proofs.Common.{◌≡◌, ◌==◌, false, true≢false, ℕ, suc, ◌<◌, ◌+◌, arith, List, [], ◌∷◌, ◌++◌, length, map, None, Option, get_or, refl, sym, ap, ◌∙◌, subst, append_assoc, append-nil}
+use Rattle.std.specs.Prelude.{drop, pos, replicate, take}
 use Rattle.std.specs.declared.vec.Vec.{Vec}
-use Rattle.std.proofs.Math.Seq.{get_or-append_seam}
-use Rattle.std.proofs.lemmas.List.{drop-append-le, length-append, length-drop, length-map, length-replicate, length-take, map_push, nil_from_length, take-append-le}
-use Rattle.std.proofs.lemmas.Option.{slice_get-get_or, slice_get_within}
+use Rattle.std.proofs.Math.Seq.{get_or-append_seam, take-append_seam}
+use Rattle.std.proofs.lemmas.List.{length-append, length-drop, length-map, length-replicate, length-take, map_push}
+use Rattle.rtps_types.specs.declared.identity.EntityId.{EntityId}
+use Rattle.rtps_receiver.specs.EventBody.{HeartbeatFrag}
 use Rattle.rtps_receiver.specs.Events.{EventView}
 use Rattle.rtps_discovery.specs.Kept.{IsKnown, RegistryView}
 use Rattle.rtps_discovery.specs.Known.{Known}
-use Rattle.rtps_run.specs.World.{doings, known_after_event}
-use Rattle.rtps_run.proofs.Routed.{readers_stay}
-use Rattle.rtps_planner.specs.Job.{Job, discovery_answer, discovery_answers, job_of, known_after_events}
+use Rattle.rtps_reader.specs.Notice.{answer_view}
+use Rattle.rtps_run.specs.Occurrence.{Occurrence, head_of, place_of}
+use Rattle.rtps_run.specs.Rising.{IsSteady}
+use Rattle.rtps_run.specs.World.{doings, known_then}
+use Rattle.rtps_run.proofs.Counting.{steady_count, steady_rest}
+use Rattle.rtps_planner.specs.Commuting.{spoken, spoken_at}
+use Rattle.rtps_planner.specs.Job.{Job, discovery_answer, discovery_answers, job_of, known_after_all}
 use Rattle.rtps_planner.specs.declared.jobs.Job as plan_job
+use Rattle.rtps_planner.specs.declared.steps.Burst.{Burst}
 use Rattle.rtps_planner.specs.declared.steps.PlannedStep.{PlannedStep}
 use Rattle.rtps_planner.specs.declared.steps.PlannedStep.TheVariants as step
 use Rattle.rtps_planner.specs.declared.steps.Planning.{Planning}
-use Rattle.rtps_planner.specs.Plan.{AreAllPlanned, AreSteps, Grow, IsPlanned, ReadsAs, job_at, job_seen, jobs_by, step_seen, steps_seen, taken_in}
-use Rattle.rtps_planner.proofs.Planned.{hears_one}
+use Rattle.rtps_planner.specs.Plan.{AreSteps, Grow, IsOpen, IsPlanned, ReadsAs, asked_in, job_at, job_seen, jobs_by, pending, step_seen, steps_seen, taken_in}
 
--- ---- some events more
+-- ---- some occurrences more
 
-known_more : (k : Known) (es run : List EventView) → known_after_events k (es ++ run) ≡ known_after_events (known_after_events k es) run
+known_more : (k : Known) (os run : List Occurrence) → known_after_all k (os ++ run) ≡ known_after_all (known_after_all k os) run
 known_more k [] run = refl
-known_more k (d ∷ es) run = known_more (known_after_event k d) es run
+known_more k (o ∷ os) run = known_more (known_then k o) os run
 
-job_more : (rank : ℕ) (k : Known) (es run : List EventView) → job_of rank k (es ++ run) ≡ job_of rank k es ++ job_of rank (known_after_events k es) run
+pub job_more : (rank : ℕ) (k : Known) (os run : List Occurrence) → job_of rank k (os ++ run) ≡ job_of rank k os ++ job_of rank (known_after_all k os) run
 job_more rank k [] run = refl
-job_more rank k (d ∷ es) run =
-    let here : Job = map (λ what. (d.place, what)) (doings k rank d) in
-    let after = known_after_event k d in
-    ap (λ l. here ++ l) (job_more rank after es run) ∙ sym (append_assoc here (job_of rank after es) (job_of rank (known_after_events after es) run))
+job_more rank k (o ∷ os) run =
+    let here : Job = map (λ what. (place_of o, what)) (doings k rank o) in
+    let after = known_then k o in
+    ap (λ l. here ++ l) (job_more rank after os run) ∙ sym (append_assoc here (job_of rank after os) (job_of rank (known_after_all after os) run))
 
-answers_more : (k : Known) (es run : List EventView) → discovery_answers k (es ++ run) ≡ discovery_answers k es ++ discovery_answers (known_after_events k es) run
+answers_more : (k : Known) (os run : List Occurrence) → discovery_answers k (os ++ run) ≡ discovery_answers k os ++ discovery_answers (known_after_all k os) run
 answers_more k [] run = refl
-answers_more k (d ∷ es) run =
-    let after = known_after_event k d in
-    ap (λ l. discovery_answer k d ++ l) (answers_more after es run)
-    ∙ sym (append_assoc (discovery_answer k d) (discovery_answers after es) (discovery_answers (known_after_events after es) run))
+answers_more k (o ∷ os) run =
+    let after = known_then k o in
+    ap (λ l. discovery_answer k o ++ l) (answers_more after os run)
+    ∙ sym (append_assoc (discovery_answer k o) (discovery_answers after os) (discovery_answers (known_after_all after os) run))
 
-readers_stay_all : (k : Known) (es : List EventView) → (known_after_events k es).readers ≡ k.readers
-readers_stay_all k [] = refl
-readers_stay_all k (e ∷ es) = readers_stay_all (known_after_event k e) es ∙ readers_stay k e
+spoken_more : (k : Known) (os run : List Occurrence) → spoken k (os ++ run) ≡ spoken k os ++ spoken (known_after_all k os) run
+spoken_more k [] run = refl
+spoken_more k (o ∷ os) run =
+    let after = known_then k o in
+    ap (λ l. spoken_at k o ++ l) (spoken_more after os run)
+    ∙ sym (append_assoc (spoken_at k o) (spoken after os) (spoken (known_after_all after os) run))
+
+-- where no reader comes, no rank is given
+pub steady_all : (k : Known) (os : List Occurrence) → IsSteady os → length (known_after_all k os).readers ≡ length k.readers
+steady_all k [] steady = refl
+steady_all k (o ∷ os) steady = steady_all (known_then k o) os (steady_rest o os steady) ∙ steady_count k o os steady
+
+module _ {A : Type 0} (es : List EventView) (k : Known) where
+  -- nothing is planned
+  pub planned_none : (old : Planning A) (kept : RegistryView) → IsKnown k kept → IsPlanned es k [] old old kept
+  planned_none old kept known = record {
+    known = known;
+    count = refl;
+    opened = λ going. going;
+    steps = λ going count rank other below. sym (append-nil (asked_in es k old rank other));
+    answers = sym (append-nil (map answer_view old.answers.items));
+    places = sym (append-nil old.places.items);
+  }
+
+  -- these occurrences more are planned
+  pub planned_more : (os run : List Occurrence) (old mid new : Planning A) (before kept : RegistryView) → IsSteady os
+      → IsPlanned es k os old mid before → IsPlanned es (known_after_all k os) run mid new kept → IsPlanned es k (os ++ run) old new kept
+  planned_more os run old mid new before kept steady one two =
+      let after = known_after_all k os in
+      record {
+        known = subst (λ j. IsKnown j kept) (sym (known_more k os run)) two.known;
+        count = two.count ∙ one.count;
+        opened = λ going. two.opened (one.opened going);
+        steps = λ going count rank other below.
+            let still : length mid.lists.items ≡ length after.readers = one.count ∙ count ∙ sym (steady_all k os steady) in
+            ap (λ j. asked_in es j new rank other) (known_more k os run)
+            ∙ two.steps (one.opened going) still rank other (subst (λ n. rank < n) (sym one.count) below)
+            ∙ ap (λ l. l ++ job_of rank after run) (one.steps going count rank other below)
+            ∙ append_assoc (asked_in es k old rank other) (job_of rank k os) (job_of rank after run)
+            ∙ ap (λ l. asked_in es k old rank other ++ l) (sym (job_more rank k os run));
+        answers = two.answers
+            ∙ ap (λ l. l ++ discovery_answers after run) one.answers
+            ∙ append_assoc (map answer_view old.answers.items) (discovery_answers k os) (discovery_answers after run)
+            ∙ ap (λ l. map answer_view old.answers.items ++ l) (sym (answers_more k os run));
+        places = two.places
+            ∙ ap (λ l. l ++ spoken after run) one.places
+            ∙ append_assoc old.places.items (spoken k os) (spoken after run)
+            ∙ ap (λ l. old.places.items ++ l) (sym (spoken_more k os run));
+      }
+
+  -- what is appended to the lists, where no burst is open
+  pub planned_grow : (os : List Occurrence) (old new : Planning A) (added : ℕ → Job) (kept : RegistryView) → old.burst ≡ None → new.burst ≡ None
+      → IsKnown (known_after_all k os) kept
+      → Grow es old.lists.items new.lists.items added
+      → (length old.lists.items ≡ length k.readers → (rank : ℕ) → rank < length old.lists.items → added rank ≡ job_of rank k os)
+      → map answer_view new.answers.items ≡ map answer_view old.answers.items ++ discovery_answers k os
+      → new.places.items ≡ old.places.items ++ spoken k os
+      → IsPlanned es k os old new kept
+  planned_grow os old new added kept none still known grows same answers places =
+      let at : Planning A → ℕ → Vec (PlannedStep A) A → Job = λ p rank other. steps_seen es (get_or p.lists.items rank other).items in
+      record {
+        known = known;
+        count = grows.count;
+        opened = λ going. subst (IsOpen es) (sym still) tt;
+        steps = λ going count rank other below.
+            ap (λ (o : Option Burst). at new rank other ++ pending es (known_after_all k os) o rank) still
+            ∙ append-nil (at new rank other)
+            ∙ grows.steps rank other below
+            ∙ ap (λ l. at old rank other ++ l) (same count rank below)
+            ∙ ap (λ l. l ++ job_of rank k os) (sym (append-nil (at old rank other)))
+            ∙ ap (λ (o : Option Burst). (at old rank other ++ pending es k o rank) ++ job_of rank k os) (sym none);
+        answers = answers;
+        places = places;
+      }
 
 -- ---- steps
 
--- the event that a step begins with
-abbrev first_of : {A : Type 0} → PlannedStep A → ℕ
-first_of (step.TakeIn first more) = first
-first_of (step.Change event what) = event
+-- some event
+abbrev an_entity : EntityId
+an_entity = record { 0 = [] }
+
+abbrev an_event : EventView
+an_event = record {
+  place = head_of 0;
+  source = record { 0 = [] };
+  time = None;
+  writer = an_entity;
+  reader = an_entity;
+  body = HeartbeatFrag (record { number = 0; last = 0; count = pos 0 });
+}
+
+-- an index that isn't before the event that a step begins with
+abbrev last_of : {A : Type 0} → PlannedStep A → ℕ
+last_of (step.TakeIn first more) = first
+last_of (step.Change place what) = 0
 
 -- something is asked by a step whose first event is there
-some_asked : {A : Type 0} (es : List EventView) (e : EventView) (s : PlannedStep A) → slice_get es (first_of s) ≡ Some e → 0 < length (step_seen es s)
-some_asked es e (step.TakeIn first more) is =
+some_asked : {A : Type 0} (es : List EventView) (s : PlannedStep A) → last_of s < length es → 0 < length (step_seen es s)
+some_asked es (step.TakeIn first more) below =
     let rest = drop first es in
-    let some : 0 < length rest = omega (arith, slice_get_within es first e is, length-drop first es) in
+    let some : 0 < length rest = omega (arith, below, length-drop first es) in
     let taken = length-take (more + 1) rest in
     omega (arith, length-map (take (more + 1) rest) taken_in, taken, some)
-some_asked es e (step.Change event what) is = omega (arith, ap length (hears_one es e event what is))
-
--- an event, where there is one
-some_event : (all : List EventView) → 0 < length all → EventView
-some_event [] some = absurd (omega (arith, some))
-some_event (e ∷ es) some = e
+some_asked es (step.Change place what) below = omega arith
 
 -- there are no steps where nothing is seen of them, whatever events there are besides these
-no_steps : {A : Type 0} (all : List EventView) (i n : ℕ) → 0 < n → i + n ≤ length all → (steps : List (PlannedStep A))
-    → ((es : List EventView) → ReadsAs all es i n → steps_seen es steps ≡ []) → steps ≡ []
-no_steps all i n some within [] none = refl
-no_steps all i n some within (s ∷ ss) none =
-    let e = some_event all (omega (arith, some, within)) in
-    let first = first_of s in
-    let more : List EventView = replicate (first + 1) e in
+no_steps : {A : Type 0} (all : List EventView) (steps : List (PlannedStep A))
+    → ((es : List EventView) → ReadsAs all es 0 → steps_seen es steps ≡ []) → steps ≡ []
+no_steps all [] none = refl
+no_steps all (s ∷ ss) none =
+    let first = last_of s in
+    let more : List EventView = replicate (first + 1) an_event in
     let es : List EventView = all ++ more in
-    let long : first < length es = omega (arith, length-append all more, length-replicate (first + 1) e) in
-    let begins : i ≤ length all = omega (arith, within) in
-    let left : n ≤ length (drop i all) = omega (arith, within, length-drop i all) in
-    let at : ReadsAs all es i n = ap (take n) (drop-append-le i all more begins) ∙ take-append-le n (drop i all) more left in
-    let asks = some_asked es (get_or es first e) s (slice_get-get_or es first e long) in
-    absurd (omega (arith, length-append (step_seen es s) (steps_seen es ss), ap length (none es at), asks))
+    let long : first < length es = omega (arith, length-append all more, length-replicate (first + 1) an_event) in
+    let asks = some_asked es s long in
+    absurd (omega (arith, length-append (step_seen es s) (steps_seen es ss), ap length (none es (take-append_seam all more)), asks))
 
-front_nil : {X : Type 0} (xs ys : List X) → xs ++ ys ≡ [] → xs ≡ []
-front_nil xs ys e = nil_from_length xs (omega (arith, length-append xs ys, ap length e))
+-- a list has its own events
+pub reads_itself : (all : List EventView) → ReadsAs all all 0
+reads_itself all = ap (take (length all)) (sym (append-nil all)) ∙ take-append_seam all []
 
-back_nil : {X : Type 0} (xs ys : List X) → xs ++ ys ≡ [] → ys ≡ []
-back_nil xs ys e = nil_from_length ys (omega (arith, length-append xs ys, ap length e))
-
--- these events more are planned
-pub planned_more : {A : Type 0} (k : Known) (all es : List EventView) (i n : ℕ) (old new : Planning A) (before kept : RegistryView)
-    → 0 < n → i + n ≤ length all → AreAllPlanned k all es old before
-    → ((hs : List EventView) → ReadsAs all hs i n → IsPlanned hs (known_after_events k es) (take n (drop i hs)) old new kept)
-    → AreAllPlanned k all (es ++ take n (drop i all)) new kept
-planned_more {A} k all es i n old new before kept some within was planned =
-    let k' : Known = known_after_events k es in
-    let run : List EventView = take n (drop i all) in
-    let asked : ℕ → Job = λ rank. job_of rank k' run in
-    let count : length old.lists.items ≡ length k'.readers = was.count ∙ ap length (sym (readers_stay_all k es)) in
-    let grows : (hs : List EventView) → ReadsAs all hs i n → Grow hs old.lists.items new.lists.items asked =
-    λ hs h. subst (λ l. Grow hs old.lists.items new.lists.items (λ rank. job_of rank k' l)) h ((planned hs h).steps count) in
-    let here = planned all refl in
-    let fewer : (rank : ℕ) → rank < length new.lists.items → rank < length old.lists.items = λ rank less. subst (λ n. rank < n) (grows all refl).count less in
-    record {
-      known = subst (λ w. IsKnown w kept) (sym (known_more k es run)) here.known;
-      count = (grows all refl).count ∙ was.count;
-      steps = record {
-        steps = λ rank other less.
-            (grows all refl).steps rank other (fewer rank less)
-            ∙ ap (λ l. l ++ asked rank) (was.steps.steps rank other (fewer rank less))
-            ∙ sym (job_more rank k es run);
-        none = λ rank other less none.
-            let both : job_of rank k es ++ asked rank ≡ [] = sym (job_more rank k es run) ∙ none in
-            no_steps all i n some within (get_or new.lists.items rank other).items
-            (λ hs h. (grows hs h).steps rank other (fewer rank less)
-            ∙ ap (λ l. steps_seen hs l ++ asked rank) (was.steps.none rank other (fewer rank less) (front_nil (job_of rank k es) (asked rank) both))
-            ∙ back_nil (job_of rank k es) (asked rank) both);
-      };
-      answers = here.answers
-          ∙ ap (λ l. l ++ discovery_answers k' run) was.answers
-          ∙ sym (answers_more k es run);
-    }
+-- the steps of a whole plan
+pub all_steps : {A : Type 0} (all : List EventView) (k : Known) (os : List Occurrence) (old new : Planning A) (kept : RegistryView)
+    → length old.lists.items ≡ length k.readers → old.burst ≡ None → new.burst ≡ None
+    → ((rank : ℕ) (other : Vec (PlannedStep A) A) → rank < length old.lists.items → (get_or old.lists.items rank other).items ≡ [])
+    → ((es : List EventView) → ReadsAs all es 0 → IsPlanned es k os old new kept)
+    → AreSteps all new.lists.items (λ rank. job_of rank k os)
+all_steps {A} all k os old new kept count none still empty planned = record {
+  steps = λ rank other less. seen all (reads_itself all) rank other less;
+  none = λ rank other less nothing. no_steps all (get_or new.lists.items rank other).items (λ es reads. seen es reads rank other less ∙ nothing);
+}
+  where
+    seen : (es : List EventView) → ReadsAs all es 0 → (rank : ℕ) (other : Vec (PlannedStep A) A) → rank < length new.lists.items → steps_seen es (get_or new.lists.items rank other).items ≡ job_of rank k os
+    seen es reads rank other less =
+        let here = planned es reads in
+        let fewer : rank < length old.lists.items = subst (λ n. rank < n) here.count less in
+        let at = steps_seen es (get_or new.lists.items rank other).items in
+        sym (append-nil at)
+        ∙ ap (λ (o : Option Burst). at ++ pending es (known_after_all k os) o rank) (sym still)
+        ∙ here.steps (subst (IsOpen es) (sym none) tt) count rank other fewer
+        ∙ ap (λ l. (steps_seen es l ++ pending es k old.burst rank) ++ job_of rank k os) (empty rank other fewer)
+        ∙ ap (λ (o : Option Burst). pending es k o rank ++ job_of rank k os) none
 
 -- ---- the jobs of the readers that have steps
 

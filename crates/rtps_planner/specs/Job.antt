@@ -11,17 +11,18 @@ use Rattle.rtps_proxy.specs.Replies.{ReplyView}
 use Rattle.rtps_reader.specs.declared.notice.Notice.{Notice}
 use Rattle.rtps_reader.specs.Reader.{Reader, placed, reader_after, reader_run, sends, tells}
 use Rattle.rtps_reader.specs.Step.{StepView}
-use Rattle.rtps_run.specs.World.{doings, known_after_event}
+use Rattle.rtps_run.specs.Occurrence.{Occurrence, Passes, Came, Joins, Parts, place_of}
+use Rattle.rtps_run.specs.World.{doings, known_then}
 
--- what is asked of a reader, step by step, each with the place of the event that causes it
+-- what is asked of a reader, step by step, each with the place of the occurrence that causes it
 abbrev pub Job : Type 0
 Job = List (Place × StepView)
 
--- what discovery asks of the reader of a rank over a list of events
-abbrev pub job_of : ℕ → Known → List EventView → Job
+-- what discovery asks of the reader of a rank over a list of occurrences
+abbrev pub job_of : ℕ → Known → List Occurrence → Job
 job_of rank k [] = []
-job_of rank k (e ∷ es) =
-    map (λ what. (e.place, what)) (doings k rank e) ++ job_of rank (known_after_event k e) es
+job_of rank k (o ∷ os) =
+    map (λ what. (place_of o, what)) (doings k rank o) ++ job_of rank (known_then k o) os
 
 -- the reader after a job
 abbrev pub job_run : Reader → Job → Reader
@@ -37,15 +38,21 @@ abbrev pub job_sent : Reader → Job → List (Place × ReplyView)
 job_sent r [] = []
 job_sent r (s ∷ ss) = sends r s.0 s.1 ++ job_sent (reader_after r s.1) ss
 
--- what is known after a list of events
-abbrev pub known_after_events : Known → List EventView → Known
-known_after_events k [] = k
-known_after_events k (e ∷ es) = known_after_events (known_after_event k e) es
+-- what is known after a list of occurrences
+abbrev pub known_after_all : Known → List Occurrence → Known
+known_after_all k [] = k
+known_after_all k (o ∷ os) = known_after_all (known_then k o) os
 
--- discovery's answer to an event, and those to a list of events
-abbrev pub discovery_answer : Known → EventView → List (Place × ReplyView)
-discovery_answer k e = if is_discovery e.writer then placed e.place (answered k e) else []
+-- discovery's answer to an event, that at an occurrence, and those over a list of occurrences
+abbrev pub event_answer : Known → EventView → List (Place × ReplyView)
+event_answer k e = if is_discovery e.writer then placed e.place (answered k e) else []
 
-abbrev pub discovery_answers : Known → List EventView → List (Place × ReplyView)
+abbrev pub discovery_answer : Known → Occurrence → List (Place × ReplyView)
+discovery_answer k (Passes index moment) = []
+discovery_answer k (Came e) = event_answer k e
+discovery_answer k (Joins index r) = []
+discovery_answer k (Parts index rank) = []
+
+abbrev pub discovery_answers : Known → List Occurrence → List (Place × ReplyView)
 discovery_answers k [] = []
-discovery_answers k (e ∷ es) = discovery_answer k e ++ discovery_answers (known_after_event k e) es
+discovery_answers k (o ∷ os) = discovery_answer k o ++ discovery_answers (known_then k o) os

@@ -4,13 +4,13 @@ use Rattle.std.specs.Prelude.{◌≡◌, ◌⊎◌, ℕ, zero, suc, ◌<◌, ◌
 use Rattle.std.specs.List.{All, AllByRecursion, Contains, list_any}
 use Rattle.std.specs.declared.vec.Vec.{Vec}
 use Rattle.rtps_types.specs.declared.place.Place.{Place}
-use Rattle.rtps_receiver.specs.Events.{EventView}
 use Rattle.dds_topic.specs.Decoding.{Decoding}
 use Rattle.rtps_proxy.specs.Replies.{ReplyView}
 use Rattle.rtps_reader.specs.declared.notice.Notice.{Notice}
 use Rattle.rtps_reader.specs.declared.notice.Output.{Output}
 use Rattle.rtps_reader.specs.Notice as reader
 use Rattle.rtps_run.specs.declared.outcome.Outcome.{Outcome}
+use Rattle.rtps_run.specs.Occurrence.{Occurrence}
 use Rattle.rtps_run.specs.Outcome.{answer_view}
 use Rattle.rtps_run.specs.Presentation.{not_after}
 use Rattle.rtps_run.specs.Seen.{answers_in}
@@ -99,7 +99,7 @@ StandAmong places answers = All (λ s. list_any (same_place s.0) places ≡ true
 
 -- An outcome has the outputs of a batch. Each rank has the notices of its output, unchanged, and a
 -- reader without a job has none. The answers are those of the parts, merged by any ascending list
--- of places that has the places of all answers, such as the places of the batch's events.
+-- of places that has the places of all answers, such as those of the batch's occurrences.
 pub record IsGathered {V A : Type 0} (rest : Rest A) (outputs : List (ℕ × Output V A))
     (outcome : Outcome V A) : Type 0 where
   pub readers : length outcome.notices.items ≡ rest.readers
@@ -115,10 +115,10 @@ pub record IsGathered {V A : Type 0} (rest : Rest A) (outputs : List (ℕ × Out
       → map answer_view outcome.answers.items
       ≡ answers_in (merged (parts_in rest outputs) rest.readers places)
 
--- an output has the notices and the answers of its reader's job over these events
+-- an output has the notices and the answers of its reader's job over these occurrences
 pub record IsOutputOf {V M A : Type 0} (f : V → M) (decoding : Decoding M) (w : World M)
-    (es : List EventView) (o : ℕ × Output V A) : Type 0 where
+    (os : List Occurrence) (o : ℕ × Output V A) : Type 0 where
   pub told : map (reader.notice_view f) o.1.notices.items
-      ≡ job_told decoding (w.readers o.0) (job_of o.0 w.known es)
+      ≡ job_told decoding (w.readers o.0) (job_of o.0 w.known os)
   pub sent : map reader.answer_view o.1.answers.items
-      ≡ job_sent (w.readers o.0) (job_of o.0 w.known es)
+      ≡ job_sent (w.readers o.0) (job_of o.0 w.known os)

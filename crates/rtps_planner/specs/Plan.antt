@@ -1,29 +1,30 @@
--- The jobs of a plan, whose steps point into the batch's list of events.
-use Rattle.std.specs.Prelude.{◌≡◌, ℕ, zero, suc, ◌+◌, [], ◌∷◌, Bool, true, ◌&&◌, ◌<◌, List, ◌++◌, length, map, filter, take, drop, ◌==◌, Option, option_to_list, slice_index_or}
-use Rattle.std.specs.List.{AllByRecursion, flat_map, slice_get}
+-- The jobs of a plan, whose steps point into the batch's list of events, and the places at which
+-- something may be put out.
+use Rattle.std.specs.Prelude.{◌≡◌, ℕ, zero, suc, ◌+◌, [], ◌∷◌, Bool, true, ◌&&◌, ◌<◌, List, ◌++◌, ◌^◌, false, length, map, filter, take, drop, ◌==◌, None, Option, Some, slice_index_or}
+use Rattle.std.specs.List.{AllByRecursion, flat_map}
 use Rattle.std.specs.Str.{bytes_eq}
-use Rattle.std.specs.Option.{option_map}
 use Rattle.std.specs.declared.vec.Vec.{Vec}
-use Rattle.rtps_types.specs.MatchChange.{MatchChange, match_change_view}
+use Rattle.rtps_types.specs.MatchChange.{match_change_view}
 use Rattle.rtps_types.specs.declared.identity.EntityId.{EntityId}
 use Rattle.rtps_types.specs.declared.identity.Guid.{Guid}
 use Rattle.rtps_receiver.specs.Events.{EventView}
-use Rattle.rtps_discovery.specs.Addressed.{writer_of}
-use Rattle.rtps_discovery.specs.Changes as changes
+use Rattle.rtps_discovery.specs.Addressed.{is_discovery, writer_of}
 use Rattle.rtps_discovery.specs.Known.{Known, Wish, reader_at}
 use Rattle.rtps_reader.specs.Notice.{answer_view}
 use Rattle.rtps_reader.specs.Step.{Changes, StepView, asks_of}
 use Rattle.rtps_run.specs.Addressed.{is_named}
+use Rattle.rtps_run.specs.Occurrence.{Occurrence}
 use Rattle.rtps_proxy.specs.Matches.{same_guid}
 use Rattle.rtps_types.specs.declared.place.Place.{Place}
-use Rattle.rtps_discovery.specs.Kept.{IsKnown, RegistryView}
+use Rattle.rtps_discovery.specs.Kept.{IsKnown, RegistryView, matched_ranks}
 use Rattle.rtps_planner.specs.declared.steps.Burst.{Burst}
 use Rattle.rtps_planner.specs.declared.steps.Planning.{Planning}
 use Rattle.rtps_planner.specs.declared.steps.PlannedStep.{PlannedStep}
 use Rattle.rtps_planner.specs.declared.steps.PlannedStep.TheVariants as step
 use Rattle.rtps_planner.specs.declared.jobs.Job as plan_job
 use Rattle.rtps_planner.specs.declared.jobs.Plan.{Plan}
-use Rattle.rtps_planner.specs.Job.{Job, discovery_answers, job_of, known_after_events}
+use Rattle.rtps_planner.specs.Commuting.{spoken}
+use Rattle.rtps_planner.specs.Job.{Job, discovery_answers, job_of, known_after_all}
 
 -- the step by which a reader processes an event
 abbrev pub taken_in : EventView → Place × StepView
@@ -33,15 +34,10 @@ taken_in e = (e.place, asks_of e)
 abbrev pub events_at : List EventView → ℕ → ℕ → List EventView
 events_at es first more = take (more + 1) (drop first es)
 
--- the step that changes a match, at the event of an index; nothing where there is no such event
-abbrev pub heard_at : List EventView → ℕ → MatchChange → Job
-heard_at es event what =
-    option_to_list (option_map (λ e. (e.place, Changes what)) (slice_get es event))
-
 -- what a step asks, by the events that it points into; nothing where there are none
 abbrev pub step_seen : {A : Type 0} → List EventView → PlannedStep A → Job
 step_seen es (step.TakeIn first more) = map taken_in (events_at es first more)
-step_seen es (step.Change event what) = heard_at es event (match_change_view what)
+step_seen es (step.Change place what) = (place, Changes (match_change_view what)) ∷ []
 
 -- what the steps of a job ask, one after the other
 abbrev pub steps_seen : {A : Type 0} → List EventView → List (PlannedStep A) → Job
@@ -73,19 +69,62 @@ abbrev pub burst_at : List EventView → Burst → List (Option Wish) → List �
 burst_at es b readers ranks rank =
     flat_map (λ r. map taken_in (events_at es b.first b.more)) (ranks_named b.reader readers ranks rank)
 
--- two lists have the same `count` events from index `first` on
-abbrev pub ReadsAs : List EventView → List EventView → ℕ → ℕ → Type 0
-ReadsAs all es first count = take count (drop first es) ≡ take count (drop first all)
+-- a list has these events from index `first` on
+abbrev pub ReadsAs : List EventView → List EventView → ℕ → Type 0
+ReadsAs run es first = take (length run) (drop first es) ≡ run
 
--- what events ask of each reader, and discovery's answers to them, are appended, and discovery
--- keeps what is known after them
-pub record IsPlanned {A : Type 0} (es : List EventView) (k : Known) (run : List EventView)
+-- what an open burst asks of the reader of a rank, by what is known
+abbrev pub pending : List EventView → Known → Option Burst → ℕ → Job
+pending es k None rank = []
+pending es k (Some b) rank = burst_at es b k.readers (matched_ranks k b.writer) rank
+
+-- the events of an open burst have its writer, which is a user's, and its reader id
+abbrev pub IsOpen : List EventView → Option Burst → Type 0
+IsOpen es None = Unit {0}
+IsOpen es (Some b) =
+    AreFrom b.writer b.reader (events_at es b.first b.more)
+    × (is_discovery b.writer.entity ≡ false)
+
+-- it ends right before the event of this index
+abbrev pub EndsAt : Option Burst → ℕ → Type 0
+EndsAt None next = Unit {0}
+EndsAt (Some b) next = b.first + (b.more + 1) ≡ next
+
+-- it can have `count` events more
+abbrev pub HasRoom : Option Burst → ℕ → Type 0
+HasRoom None count = Unit {0}
+HasRoom (Some b) count = b.more + count < 2 ^ 64
+
+-- it has `count` events more
+abbrev pub longer : ℕ → Option Burst → Option Burst
+longer count None = None
+longer count (Some b) = Some (record b { more = b.more + count })
+
+-- these events have its writer and its reader id; none have if no burst is open
+abbrev pub AreNext : Option Burst → List EventView → Type 0
+AreNext None run = run ≡ []
+AreNext (Some b) run = AreFrom b.writer b.reader run
+
+-- all that is asked of the reader of a rank, by what is known
+abbrev pub asked_in : {A : Type 0} → List EventView → Known → Planning A → ℕ → Vec (PlannedStep A) A
+    → Job
+asked_in es k p rank other =
+    steps_seen es (slice_index_or p.lists.items rank other).items ++ pending es k p.burst rank
+
+-- what occurrences ask of each reader, discovery's answers to them, and the places at which they
+-- may put something out are appended, and discovery keeps what is known after them
+pub record IsPlanned {A : Type 0} (es : List EventView) (k : Known) (os : List Occurrence)
     (old new : Planning A) (kept : RegistryView) : Type 0 where
-  pub known : IsKnown (known_after_events k run) kept
-  pub steps : length old.lists.items ≡ length k.readers
-      → Grow es old.lists.items new.lists.items (λ rank. job_of rank k run)
+  pub known : IsKnown (known_after_all k os) kept
+  pub count : length new.lists.items ≡ length old.lists.items
+  pub opened : IsOpen es old.burst → IsOpen es new.burst
+  pub steps : IsOpen es old.burst → length old.lists.items ≡ length k.readers
+      → (rank : ℕ) (other : Vec (PlannedStep A) A) → rank < length old.lists.items
+      → asked_in es (known_after_all k os) new rank other
+      ≡ asked_in es k old rank other ++ job_of rank k os
   pub answers : map answer_view new.answers.items
-      ≡ map answer_view old.answers.items ++ discovery_answers k run
+      ≡ map answer_view old.answers.items ++ discovery_answers k os
+  pub places : new.places.items ≡ old.places.items ++ spoken k os
 
 -- the steps of each rank are what is asked of it, and there are none where nothing is asked
 pub record AreSteps {A : Type 0} (es : List EventView) (lists : List (Vec (PlannedStep A) A))
@@ -94,15 +133,6 @@ pub record AreSteps {A : Type 0} (es : List EventView) (lists : List (Vec (Plann
       → steps_seen es (slice_index_or lists rank other).items ≡ asked rank
   pub none : (rank : ℕ) (other : Vec (PlannedStep A) A) → rank < length lists
       → asked rank ≡ [] → (slice_index_or lists rank other).items ≡ []
-
--- what these events ask of each reader, and discovery's answers to them, are planned, and discovery
--- keeps what is known after them; steps refer to the events of the whole batch
-pub record AreAllPlanned {A : Type 0} (k : Known) (all es : List EventView) (new : Planning A)
-    (kept : RegistryView) : Type 0 where
-  pub known : IsKnown (known_after_events k es) kept
-  pub count : length new.lists.items ≡ length k.readers
-  pub steps : AreSteps all new.lists.items (λ rank. job_of rank k es)
-  pub answers : map answer_view new.answers.items ≡ discovery_answers k es
 
 -- a job, by the events that its steps point into
 abbrev pub job_seen : {A : Type 0} → List EventView → plan_job.Job A → ℕ × Job
@@ -118,13 +148,15 @@ abbrev pub jobs_by : (ℕ → Job) → ℕ → List (ℕ × Job)
 jobs_by asked zero = []
 jobs_by asked (suc n) = jobs_by asked n ++ job_at n (asked n)
 
--- a plan has a job for each reader that the events ask something of, and discovery's answers; and
--- discovery keeps what is known after the events
-pub record IsPlan {A : Type 0} (k : Known) (es : List EventView) (plan : Plan A) (kept : RegistryView)
-    : Type 0 where
-  pub known : IsKnown (known_after_events k es) kept
+-- A plan has a job for each reader that the occurrences ask something of, discovery's answers, and
+-- the places at which something may be put out; and discovery keeps what is known after them. Steps
+-- point into the events.
+pub record IsPlan {A : Type 0} (k : Known) (es : List EventView) (os : List Occurrence)
+    (plan : Plan A) (kept : RegistryView) : Type 0 where
+  pub known : IsKnown (known_after_all k os) kept
   pub jobs : map (job_seen es) plan.jobs.items
-      ≡ jobs_by (λ rank. job_of rank k es) (length k.readers)
+      ≡ jobs_by (λ rank. job_of rank k os) (length k.readers)
   pub readers : plan.rest.readers ≡ length k.readers
   pub ranks : plan.rest.ranks.items ≡ map (λ job. job.rank) plan.jobs.items
-  pub answers : map answer_view plan.rest.answers.items ≡ discovery_answers k es
+  pub answers : map answer_view plan.rest.answers.items ≡ discovery_answers k os
+  pub places : plan.rest.places.items ≡ spoken k os

@@ -11,19 +11,23 @@ use std::alloc::{Allocator, Global};
 pub struct Job<A: Allocator = Global> {
     /// The rank of the reader.
     pub rank: u32,
-    /// The steps of the job, at least one, in the order of the events.
+    /// The steps of the job, at least one, in the order of their places.
     pub steps: Vec<PlannedStep<A>, A>,
 }
 
 /// What a plan has besides the jobs.
 #[derive(Debug, Drop)]
 pub struct Rest<A: Allocator = Global> {
-    /// The number of readers, including those without a job.
+    /// The number of ranks that were given, including those without a job.
     pub readers: usize,
     /// The ranks of the readers that have a job, in ascending order.
     pub ranks: Vec<u32, A>,
     /// Discovery's answers, sorted by place, each with the place of the event that it answers.
     pub answers: Vec<(Place, Reply<A>), A>,
+    /// The places at which something may be put out, in ascending order: those of the events, and
+    /// that before the events of a datagram (submessage 0) if a match ends there because a lease
+    /// ended.
+    pub places: Vec<Place, A>,
     /// Ranks have 32 bits.
     ghost ranked: { readers ≤ 2 ^ 32 },
 }

@@ -1,10 +1,12 @@
-//! Plans what each reader has to do in a batch of datagrams, and merges what the readers put out.
+//! Plans what each reader has to do in a batch, which is datagrams or one tick, and merges what the
+//! readers put out.
 #![tactic(auto)]
 
 mod jobs;
 pub mod laws;
 mod outputs;
 mod planner;
+mod stamped;
 mod steps;
 #[cfg(test)]
 mod tests;
@@ -12,4 +14,5 @@ mod tests;
 pub use jobs::{Job, Plan, Rest};
 pub use outputs::{GatherFault, gather};
 pub use planner::plan;
+pub use stamped::Stamped;
 pub use steps::PlannedStep;

@@ -1,13 +1,18 @@
 //! What each reader has to do in a batch.
 
-ghost use Rattle.std.specs.Prelude.{◌≡◌, ◌+◌, ◌-◌, ◌<◌, ◌≤◌, ℕ, IfOk, IsErr, List, OnErr, OnOk, drop, false, length, map, slice_index_or, take, true};
+ghost use Rattle.std.specs.Prelude.{◌≡◌, ◌+◌, ◌<◌, ◌≤◌, ◌^◌, ℕ, IfOk, IsErr, List, OnErr, OnOk, None, false, length, map, slice_index_or, take, true};
 ghost use Rattle.rtps_discovery.specs.Kept.{IsKnown};
 ghost use Rattle.rtps_discovery.specs.Known.{Known};
 ghost use Rattle.rtps_receiver.specs.Events.{EventView, view};
-ghost use Rattle.rtps_planner.specs.Plan.{AreAllPlanned, AreFrom, AreSteps, IsPlan, IsPlanned, ReadsAs, is_from, job_seen, jobs_by};
+ghost use Rattle.rtps_run.specs.Occurrence.{Came};
+ghost use Rattle.rtps_planner.specs.Plan.{AreFrom, AreNext, AreSteps, EndsAt, HasRoom, IsPlan, IsPlanned, ReadsAs, is_from, job_seen, jobs_by, longer};
+ghost use Rattle.rtps_planner.specs.Stamped.{all_events, all_occurrences, events_in, occurrences_in};
 
 use crate::jobs::{Job, Plan, Rest};
-use crate::steps::{Burst, PlannedStep, Planning, plan_announcement, plan_burst};
+use crate::stamped::Stamped;
+use crate::steps::{
+    Burst, PlannedStep, Planning, add_places, close, open_burst, plan_announcement, plan_moment,
+};
 use rtps_discovery::{Discovery, is_discovery};
 use rtps_receiver::Event;
 use rtps_run::empty_lists;
@@ -38,67 +43,139 @@ fn count_from(events: &[Event<'_>], writer: Guid, reader: EntityId) -> usize
     count
 }
 
-/// Plans the event at index `first`, and returns the index of the next event to plan. An
-/// announcer's event goes to discovery. Any other event is planned together with the events right
-/// after it that have its writer and its reader id, so that their matches are looked up once.
+/// Extends the open burst by the events at the front of `rest` that have its writer and its reader
+/// id, and returns how many they are; 0 if no burst is open.
+fn go_on(burst: &mut Option<Burst>, rest: &[Event<'_>]) -> usize
+    requires { HasRoom burst.old (length rest.now) }
+    ensures within { result ≤ length rest.now }
+    ensures longer { burst.new ≡ longer result burst.old }
+    ensures alike { AreNext burst.old (take result (map view rest.now)) }
+{
+    match burst {
+        Some(last) => {
+            let count = count_from(rest, last.writer, last.reader);
+            last.more += count;
+            count
+        }
+        None => 0,
+    }
+}
+
+/// Plans the event at the front of `rest`, whose index among all events is `first`, and returns how
+/// many events were planned. An announcer's event goes to discovery. Any other event is planned
+/// together with the events right before and after it that have its writer and its reader id, so
+/// that their matches are looked up once.
 fn plan_next<A: Allocator + Copy>(
+    discovery: &mut Discovery<A>,
+    planning: &mut Planning<A>,
+    alloc: A,
+    rest: &[Event<'_>],
+    first: usize,
+) -> Result<usize, AllocError>
+    requires some { 0 < length rest.now }
+    requires room { first + length rest.now < 2 ^ 64 }
+    requires ends { EndsAt planning.old.burst first }
+    ensures count { OnOk result (length planning.new.lists.items
+        ≡ length planning.old.lists.items) }
+    ensures within { IfOk result (λ count. (0 < count) × (count ≤ length rest.now)) }
+    ensures ends { IfOk result (λ count. EndsAt planning.new.burst (first + count)) }
+    ensures ok { discovery.old.spent ≡ false → OnOk result (discovery.new.spent ≡ false) }
+    ensures planned { (k : Known) (es : List EventView) → IsKnown k discovery.old.kept
+        → IfOk result (λ count. ReadsAs (take count (map view rest.now)) es first
+        → IsPlanned es k (map Came (take count (map view rest.now))) planning.old planning.new
+        discovery.new.kept) }
+{
+    let event = &rest[0];
+    if is_discovery(event.writer) {
+        plan_announcement(discovery, planning, alloc, event)?;
+        return Ok(1);
+    }
+    let count = go_on(&mut planning.burst, rest);
+    if count == 0 {
+        open_burst(discovery, planning, event, first)?;
+        return Ok(1);
+    }
+    add_places(&mut planning.places, &rest[..count])?;
+    Ok(count)
+}
+
+/// Plans the events of one datagram, in order; the index of the first one among all events is
+/// `first`.
+fn plan_events<A: Allocator + Copy>(
     discovery: &mut Discovery<A>,
     planning: &mut Planning<A>,
     alloc: A,
     events: &[Event<'_>],
     first: usize,
-) -> Result<usize, AllocError>
-    requires { first < length events.now }
+) -> Result<(), AllocError>
+    requires room { first + length events.now < 2 ^ 64 }
+    requires ends { EndsAt planning.old.burst first }
     ensures count { OnOk result (length planning.new.lists.items
         ≡ length planning.old.lists.items) }
-    ensures within { IfOk result (λ next. (first < next) × (next ≤ length events.now)) }
+    ensures ends { OnOk result (EndsAt planning.new.burst (first + length events.now)) }
     ensures ok { discovery.old.spent ≡ false → OnOk result (discovery.new.spent ≡ false) }
     ensures planned { (k : Known) (es : List EventView) → IsKnown k discovery.old.kept
-        → IfOk result (λ next. ReadsAs (map view events.now) es first (next - first)
-        → IsPlanned es k (take (next - first) (drop first es)) planning.old planning.new
+        → ReadsAs (map view events.now) es first
+        → OnOk result (IsPlanned es k (map Came (map view events.now)) planning.old planning.new
         discovery.new.kept) }
 {
-    let event = &events[first];
-    if is_discovery(event.writer) {
-        plan_announcement(discovery, planning, alloc, first, event)?;
-        return Ok(first + 1);
+    let mut at = 0;
+    while at < events.len() {
+        at += plan_next(discovery, planning, alloc, &events[at..], first + at)?;
     }
-    let writer = Guid {
-        prefix: event.source,
-        entity: event.writer,
-    };
-    let burst = Burst {
-        first,
-        more: count_from(&events[first + 1..], writer, event.reader),
-        writer,
-        reader: event.reader,
-    };
-    plan_burst(discovery, planning, burst)?;
-    Ok(first + 1 + burst.more)
+    Ok(())
 }
 
-/// Plans all events, in order.
-fn plan_events<A: Allocator + Copy>(
-    alloc: A,
-    events: &[Event<'_>],
+/// Plans a datagram or a tick: first its moment, then its events.
+fn plan_stamped<A: Allocator + Copy>(
     discovery: &mut Discovery<A>,
-) -> Result<Planning<A>, AllocError>
-    requires { discovery.old.spent ≡ false }
-    ensures few { IfOk result (λ planning. length planning.lists.items ≤ 256) }
+    planning: &mut Planning<A>,
+    alloc: A,
+    stamped: &Stamped<'_>,
+    first: usize,
+) -> Result<(), AllocError>
+    requires room { first + length stamped.now.events.now < 2 ^ 64 }
+    requires ends { EndsAt planning.old.burst first }
+    ensures count { OnOk result (length planning.new.lists.items
+        ≡ length planning.old.lists.items) }
+    ensures ends { OnOk result (EndsAt planning.new.burst (first + length stamped.now.events.now)) }
     ensures ok { OnOk result (discovery.new.spent ≡ false) }
-    ensures planned { (k : Known) → IsKnown k discovery.old.kept → IfOk result (λ planning.
-        AreAllPlanned k (map view events.now) (map view events.now) planning
+    ensures planned { (k : Known) (es : List EventView) → IsKnown k discovery.old.kept
+        → ReadsAs (events_in stamped.now) es first
+        → OnOk result (IsPlanned es k (occurrences_in stamped.now) planning.old planning.new
         discovery.new.kept) }
 {
-    let mut planning = Planning {
-        lists: empty_lists(alloc, discovery.readers().len())?,
-        answers: Vec::new(alloc),
-    };
-    let mut first = 0;
-    while first < events.len() {
-        first = plan_next(discovery, &mut planning, alloc, events, first)?;
+    plan_moment(discovery, planning, alloc, stamped.moment, stamped.index)?;
+    plan_events(discovery, planning, alloc, stamped.events, first)
+}
+
+/// Plans all of these, one after the other.
+fn plan_all<A: Allocator + Copy>(
+    discovery: &mut Discovery<A>,
+    planning: &mut Planning<A>,
+    alloc: A,
+    stamped: &[Stamped<'_>],
+) -> Result<(), AllocError>
+    requires { EndsAt planning.old.burst 0 }
+    ensures count { OnOk result (length planning.new.lists.items
+        ≡ length planning.old.lists.items) }
+    ensures closed { OnOk result (planning.new.burst ≡ None) }
+    ensures ok { discovery.old.spent ≡ false → OnOk result (discovery.new.spent ≡ false) }
+    ensures planned { (k : Known) (es : List EventView) → IsKnown k discovery.old.kept
+        → ReadsAs (all_events stamped.now) es 0
+        → OnOk result (IsPlanned es k (all_occurrences stamped.now) planning.old planning.new
+        discovery.new.kept) }
+{
+    let mut first = 0_usize;
+    for one in stamped {
+        // No memory holds more events than a `usize` counts.
+        let Some(next) = first.checked_add(one.events.len()) else {
+            return Err(AllocError);
+        };
+        plan_stamped(discovery, planning, alloc, one, first)?;
+        first = next;
     }
-    Ok(planning)
+    close(discovery, planning)
 }
 
 /// Returns the jobs of the readers that have steps, by ascending rank.
@@ -131,41 +208,68 @@ fn ranks_of<A: Allocator + Copy>(alloc: A, jobs: &[Job<A>]) -> Result<Vec<u32, A
     Ok(ranks)
 }
 
-/// Plans a batch as [`plan`] does, with a discovery that isn't spent.
-fn planned<A: Allocator + Copy>(
-    alloc: A,
-    events: &[Event<'_>],
-    discovery: &mut Discovery<A>,
-) -> Result<Plan<A>, AllocError>
-    requires { discovery.old.spent ≡ false }
-    ensures planned { (k : Known) → IsKnown k discovery.old.kept → IfOk result (λ plan.
-        IsPlan k (map view events.now) plan discovery.new.kept) }
-    ensures ok { OnOk result (discovery.new.spent ≡ false) }
+/// Returns the jobs of the readers that have steps, and the rest of the plan.
+fn plan_from<A: Allocator + Copy>(alloc: A, planning: Planning<A>) -> Result<Plan<A>, AllocError>
+    requires { length planning.lists.items ≤ 256 }
+    ensures jobs { (es : List EventView) (asked : ℕ → _) → AreSteps es planning.lists.items asked
+        → IfOk result (λ plan. map (job_seen es) plan.jobs.items
+        ≡ jobs_by asked (length planning.lists.items)) }
+    ensures readers { IfOk result (λ plan. plan.rest.readers ≡ length planning.lists.items) }
+    ensures ranks { IfOk result (λ plan.
+        plan.rest.ranks.items ≡ map (λ job. job.rank) plan.jobs.items) }
+    ensures answers { IfOk result (λ plan. plan.rest.answers ≡ planning.answers) }
+    ensures places { IfOk result (λ plan. plan.rest.places ≡ planning.places) }
 {
-    let planning = plan_events(alloc, events, discovery)?;
     let readers = planning.lists.len();
     let jobs = jobs_of(alloc, planning.lists)?;
     let rest = Rest {
         readers,
         ranks: ranks_of(alloc, &jobs)?,
         answers: planning.answers,
+        places: planning.places,
     };
     Ok(Plan { jobs, rest })
 }
 
-/// Plans a batch: returns what each reader has to do at its events, and discovery's answers to
-/// them. Discovery processes the events here. Steps refer to `events` by index; no event is copied.
+/// Plans a batch as [`plan`] does, with a discovery that isn't spent.
+fn planned<A: Allocator + Copy>(
+    alloc: A,
+    stamped: &[Stamped<'_>],
+    discovery: &mut Discovery<A>,
+) -> Result<Plan<A>, AllocError>
+    requires { discovery.old.spent ≡ false }
+    ensures planned { (k : Known) → IsKnown k discovery.old.kept → IfOk result (λ plan.
+        IsPlan k (all_events stamped.now) (all_occurrences stamped.now) plan
+        discovery.new.kept) }
+    ensures ok { OnOk result (discovery.new.spent ≡ false) }
+{
+    let mut planning = Planning {
+        lists: empty_lists(alloc, discovery.readers().len())?,
+        answers: Vec::new(alloc),
+        places: Vec::new(alloc),
+        burst: None,
+    };
+    plan_all(discovery, &mut planning, alloc, stamped)?;
+    let plan = plan_from(alloc, planning)?;
+    Ok(plan)
+}
+
+/// Plans a batch, which is datagrams or one tick: returns what each reader has to do at their
+/// moments and events, and discovery's answers. Discovery advances to each moment, which may end
+/// leases, and then processes the datagram's events. Steps refer to the events by their indices
+/// among the events of all `stamped`, one after the other; no event is copied.
 ///
-/// An error is a refused growth, after which discovery is spent: it may have processed some of the
-/// events, and their results are lost. A discovery that is spent already is refused, and stays as
-/// it was.
+/// An error is a refused growth, after which discovery is spent: it may have taken some of the
+/// moments and events, and their results are lost. A discovery that is spent already is refused,
+/// and stays as it was.
 pub fn plan<A: Allocator + Copy>(
     alloc: A,
-    events: &[Event<'_>],
+    stamped: &[Stamped<'_>],
     discovery: &mut Discovery<A>,
 ) -> Result<Plan<A>, AllocError>
     ensures planned { (k : Known) → IsKnown k discovery.old.kept → IfOk result (λ plan.
-        IsPlan k (map view events.now) plan discovery.new.kept) }
+        IsPlan k (all_events stamped.now) (all_occurrences stamped.now) plan
+        discovery.new.kept) }
     ensures ok { OnOk result (discovery.new.spent ≡ false) }
     ensures err { OnErr result (discovery.new.spent ≡ true) }
     ensures spent { discovery.old.spent ≡ true → IsErr result }
@@ -174,7 +278,7 @@ pub fn plan<A: Allocator + Copy>(
     if discovery.is_spent() {
         return Err(AllocError);
     }
-    let planned = planned(alloc, events, discovery);
+    let planned = planned(alloc, stamped, discovery);
     if planned.is_err() {
         discovery.spend();
     }

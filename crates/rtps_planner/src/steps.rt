@@ -1,7 +1,6 @@
-//! The steps of readers for an announcement, and for events of a user's writer.
+//! The steps of readers for a moment, for an announcement, and for events of a user's writer.
 
-ghost use Rattle.std.specs.Prelude.{◌≡◌, ℕ, ◌+◌, ◌<◌, ◌^◌, ◌==◌, ◌++◌, [], ◌∷◌, List, OnOk, if◌then◌else◌, length, map, Some, true, false};
-ghost use Rattle.std.specs.List.{slice_get};
+ghost use Rattle.std.specs.Prelude.{◌≡◌, ℕ, ◌+◌, ◌<◌, ◌^◌, ◌==◌, ◌++◌, [], ◌∷◌, List, None, OnOk, if◌then◌else◌, length, map, true, false};
 ghost use Rattle.std.specs.Option.{option_map};
 ghost use Rattle.rtps_discovery.specs.Addressed as addressed;
 ghost use Rattle.rtps_discovery.specs.Kept.{IsKnown};
@@ -11,8 +10,10 @@ ghost use Rattle.rtps_receiver.specs.Events.{EventView, view};
 ghost use Rattle.rtps_proxy.specs.Replies.{reply_view};
 ghost use Rattle.rtps_reader.specs.Notice.{answer_view};
 ghost use Rattle.rtps_reader.specs.Reader.{placed};
+ghost use Rattle.rtps_run.specs.Occurrence.{Came, Passes};
 ghost use Rattle.rtps_run.specs.World.{changes_for};
-ghost use Rattle.rtps_planner.specs.Plan.{AreFrom, Grow, IsPlanned, burst_at, events_at, step_seen, steps_seen, taken_in};
+ghost use Rattle.rtps_planner.specs.Commuting.{head_spoken};
+ghost use Rattle.rtps_planner.specs.Plan.{EndsAt, Grow, IsPlanned, ReadsAs, burst_at, events_at, step_seen, steps_seen, taken_in};
 ghost use Rattle.rtps_planner.specs.declared.steps.PlannedStep.TheVariants as planned;
 
 use rtps_discovery::{Discovery, MatchChange, Reader};
@@ -24,7 +25,8 @@ use std::alloc::{AllocError, Allocator, Global};
 /// Initial capacity of a list of steps, so that short jobs take memory once.
 const FIRST_ROOM: usize = 8;
 
-/// One step of a job. It refers to events by their indices in the batch's list.
+/// One step of a job. It refers to events by their indices among those of the whole batch, one
+/// datagram's after the other's.
 #[derive(Debug, Drop)]
 pub enum PlannedStep<A: Allocator = Global> {
     /// The reader processes the event at index `first` and the `more` events after it.
@@ -32,9 +34,10 @@ pub enum PlannedStep<A: Allocator = Global> {
         first: usize,
         more: usize,
     },
-    /// A match changes: the event at index `event` announces it.
+    /// A match changes, at the place of the event that announces it, or before the events of a
+    /// datagram (submessage 0) if a lease ended.
     Change {
-        event: usize,
+        place: Place,
         what: MatchChangeKind<A>,
     },
 }
@@ -140,19 +143,18 @@ fn add_step<A: Allocator>(
     }
 }
 
-/// Appends each change of a match to the steps of its reader.
+/// Appends each change of a match, at this place, to the steps of its reader.
 fn add_changes<A: Allocator>(
     lists: &mut Vec<Vec<PlannedStep<A>, A>, A>,
-    event: usize,
+    place: Place,
     changes: Vec<MatchChange<A>, A>,
 ) -> Result<(), AllocError>
-    ensures { (es : List EventView) (e : EventView) → slice_get es event ≡ Some e
-        → OnOk result (Grow es lists.old.items lists.new.items (λ rank.
-        map (λ what. (e.place, what)) (changes_for rank (map change_seen changes.items)))) }
+    ensures { (es : List EventView) → OnOk result (Grow es lists.old.items lists.new.items
+        (λ rank. map (λ what. (place, what)) (changes_for rank (map change_seen changes.items)))) }
 {
     for change in changes {
         let what = change.what;
-        add_step(lists, change.rank, PlannedStep::Change { event, what })?;
+        add_step(lists, change.rank, PlannedStep::Change { place, what })?;
     }
     Ok(())
 }
@@ -175,11 +177,15 @@ fn add_burst<A: Allocator>(
     Ok(())
 }
 
-/// The steps of each reader so far, by rank, and discovery's answers.
+/// The steps of each reader so far, by rank, discovery's answers, and the places at which something
+/// may be put out.
 #[derive(Drop)]
 pub(crate) struct Planning<A: Allocator> {
     pub lists: Vec<Vec<PlannedStep<A>, A>, A>,
     pub answers: Vec<(Place, Reply<A>), A>,
+    pub places: Vec<Place, A>,
+    /// The last events, if they are a burst that may go on. Its steps are not in the lists yet.
+    pub burst: Option<Burst>,
 }
 
 /// Appends discovery's answer to the event at this place, if there is one.
@@ -197,44 +203,183 @@ fn add_answer<A: Allocator>(
     Ok(())
 }
 
-/// Has discovery process an announcement, and appends its answer, and each change of a match to the
-/// steps of its reader.
+/// Appends the place before the events of a datagram, if matches ended there.
+fn add_head<A: Allocator>(
+    places: &mut Vec<Place, A>,
+    index: u64,
+    ended: &[MatchChange<A>],
+) -> Result<(), AllocError>
+    ensures { OnOk result (places.new.items
+        ≡ places.old.items ++ head_spoken index (map change_seen ended.now)) }
+{
+    if ended.is_empty() {
+        return Ok(());
+    }
+    places.push(Place {
+        datagram: index,
+        submessage: 0,
+    })?;
+    Ok(())
+}
+
+/// Appends the places of these events.
+pub(crate) fn add_places<A: Allocator>(
+    places: &mut Vec<Place, A>,
+    events: &[Event<'_>],
+) -> Result<(), AllocError>
+    ensures { OnOk result (places.new.items
+        ≡ places.old.items ++ map (λ e. e.place) (map view events.now)) }
+{
+    for event in events {
+        places.push(event.place)?;
+    }
+    Ok(())
+}
+
+/// Has discovery advance to the moment of the datagram of this index, and appends each match that
+/// ends because a lease has ended to the steps of its reader. No burst is open.
+fn end_matches<A: Allocator + Copy>(
+    discovery: &mut Discovery<A>,
+    planning: &mut Planning<A>,
+    alloc: A,
+    moment: u64,
+    index: u64,
+) -> Result<(), AllocError>
+    requires { planning.old.burst ≡ None }
+    ensures count { OnOk result (length planning.new.lists.items
+        ≡ length planning.old.lists.items) }
+    ensures closed { OnOk result (planning.new.burst ≡ None) }
+    ensures ok { OnOk result (discovery.new.spent ≡ false) }
+    ensures planned { (k : Known) (es : List EventView) → IsKnown k discovery.old.kept
+        → OnOk result (IsPlanned es k (Passes index moment ∷ []) planning.old planning.new
+        discovery.new.kept) }
+{
+    let ended = discovery.expire(alloc, moment)?;
+    add_head(&mut planning.places, index, &ended)?;
+    let place = Place {
+        datagram: index,
+        submessage: 0,
+    };
+    add_changes(&mut planning.lists, place, ended)
+}
+
+/// Adds the open burst, if there is one, to the steps of the readers that are matched with its
+/// writer and that it names.
+pub(crate) fn close<A: Allocator + Copy>(
+    discovery: &Discovery<A>,
+    planning: &mut Planning<A>,
+) -> Result<(), AllocError>
+    ensures count { OnOk result (length planning.new.lists.items
+        ≡ length planning.old.lists.items) }
+    ensures closed { planning.new.burst ≡ None }
+    ensures planned { (k : Known) (es : List EventView) → IsKnown k discovery.now.kept
+        → OnOk result (IsPlanned es k [] planning.old planning.new discovery.now.kept) }
+{
+    let Some(burst) = planning.burst.take() else {
+        return Ok(());
+    };
+    let readers = discovery.readers();
+    let ranks = discovery.matched(burst.writer);
+    add_burst(&mut planning.lists, readers, ranks, burst)
+}
+
+/// Plans the moment of the datagram of this index. If no lease ends at it, the open burst stays
+/// open.
+pub(crate) fn plan_moment<A: Allocator + Copy>(
+    discovery: &mut Discovery<A>,
+    planning: &mut Planning<A>,
+    alloc: A,
+    moment: u64,
+    index: u64,
+) -> Result<(), AllocError>
+    ensures count { OnOk result (length planning.new.lists.items
+        ≡ length planning.old.lists.items) }
+    ensures ends { (next : ℕ) → EndsAt planning.old.burst next
+        → OnOk result (EndsAt planning.new.burst next) }
+    ensures ok { OnOk result (discovery.new.spent ≡ false) }
+    ensures planned { (k : Known) (es : List EventView) → IsKnown k discovery.old.kept
+        → OnOk result (IsPlanned es k (Passes index moment ∷ []) planning.old planning.new
+        discovery.new.kept) }
+{
+    if !discovery.is_due(moment) {
+        let _none = discovery.expire(alloc, moment)?;
+        return Ok(());
+    }
+    close(discovery, planning)?;
+    end_matches(discovery, planning, alloc, moment, index)
+}
+
+/// Has discovery process an announcement at the moment that it has reached, and appends its answer,
+/// and each change of a match to the steps of its reader. No burst is open.
+fn announce<A: Allocator + Copy>(
+    discovery: &mut Discovery<A>,
+    planning: &mut Planning<A>,
+    alloc: A,
+    event: &Event<'_>,
+) -> Result<(), AllocError>
+    requires { planning.old.burst ≡ None }
+    ensures count { OnOk result (length planning.new.lists.items
+        ≡ length planning.old.lists.items) }
+    ensures closed { OnOk result (planning.new.burst ≡ None) }
+    ensures ok { OnOk result (discovery.new.spent ≡ false) }
+    ensures planned { (k : Known) (es : List EventView) → IsKnown k discovery.old.kept
+        → addressed.is_discovery event.now.writer ≡ true
+        → OnOk result (IsPlanned es k (Came (view event.now) ∷ []) planning.old planning.new
+        discovery.new.kept) }
+{
+    let moment = discovery.moment();
+    let effects = discovery.step(alloc, moment, event)?;
+    planning.places.push(event.place)?;
+    add_answer(&mut planning.answers, event.place, effects.answer)?;
+    add_changes(&mut planning.lists, event.place, effects.changes)
+}
+
+/// Plans an announcement, which ends the open burst.
 pub(crate) fn plan_announcement<A: Allocator + Copy>(
     discovery: &mut Discovery<A>,
     planning: &mut Planning<A>,
     alloc: A,
-    index: usize,
     event: &Event<'_>,
 ) -> Result<(), AllocError>
     ensures count { OnOk result (length planning.new.lists.items
         ≡ length planning.old.lists.items) }
+    ensures closed { OnOk result (planning.new.burst ≡ None) }
     ensures ok { OnOk result (discovery.new.spent ≡ false) }
     ensures planned { (k : Known) (es : List EventView) → IsKnown k discovery.old.kept
-        → slice_get es index ≡ Some (view event.now)
         → addressed.is_discovery event.now.writer ≡ true
-        → OnOk result (IsPlanned es k (view event.now ∷ []) planning.old planning.new
+        → OnOk result (IsPlanned es k (Came (view event.now) ∷ []) planning.old planning.new
         discovery.new.kept) }
 {
-    let effects = discovery.step(alloc, event)?;
-    add_answer(&mut planning.answers, event.place, effects.answer)?;
-    add_changes(&mut planning.lists, index, effects.changes)
+    close(discovery, planning)?;
+    announce(discovery, planning, alloc, event)
 }
 
-/// Adds a burst to the steps of the readers that are matched with its writer and that it names.
-pub(crate) fn plan_burst<A: Allocator + Copy>(
+/// Plans an event of a user's writer, whose index is `first`: it opens a burst.
+pub(crate) fn open_burst<A: Allocator + Copy>(
     discovery: &Discovery<A>,
     planning: &mut Planning<A>,
-    burst: Burst,
+    event: &Event<'_>,
+    first: usize,
 ) -> Result<(), AllocError>
     ensures count { OnOk result (length planning.new.lists.items
         ≡ length planning.old.lists.items) }
+    ensures ends { OnOk result (EndsAt planning.new.burst (first + 1)) }
     ensures planned { (k : Known) (es : List EventView) → IsKnown k discovery.now.kept
-        → AreFrom burst.writer burst.reader (events_at es burst.first burst.more)
-        → addressed.is_discovery burst.writer.entity ≡ false
-        → OnOk result (IsPlanned es k (events_at es burst.first burst.more)
-        planning.old planning.new discovery.now.kept) }
+        → addressed.is_discovery event.now.writer ≡ false
+        → ReadsAs (view event.now ∷ []) es first
+        → OnOk result (IsPlanned es k (Came (view event.now) ∷ []) planning.old planning.new
+        discovery.now.kept) }
 {
-    let readers = discovery.readers();
-    let ranks = discovery.matched(burst.writer);
-    add_burst(&mut planning.lists, readers, ranks, burst)
+    close(discovery, planning)?;
+    planning.places.push(event.place)?;
+    planning.burst = Some(Burst {
+        first,
+        more: 0,
+        writer: Guid {
+            prefix: event.source,
+            entity: event.writer,
+        },
+        reader: event.reader,
+    });
+    Ok(())
 }

@@ -1,6 +1,7 @@
 //! Events and outputs written by hand.
 
 mod memory;
+mod moments;
 mod outputs;
 mod plans;
 

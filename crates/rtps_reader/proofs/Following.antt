@@ -21,7 +21,7 @@ use Rattle.rtps_proxy.specs.Kept.{Pairing}
 use Rattle.rtps_proxy.specs.Matches.{Match, begun, ended, extended, fresh, match_with, same_guid}
 use Rattle.rtps_proxy.proofs.Matching.{exact, same_is}
 use Rattle.rtps_reader.specs.Reader.{Facts, Reader, all_begun, extended_by, first_reader, fresh_with, reader_after, reader_run, pairing_of}
-use Rattle.rtps_reader.specs.Step.{StepView, Takes, Changes}
+use Rattle.rtps_reader.specs.Step.{StepView, Takes, Changes, Starts, Stops}
 use Rattle.rtps_reader.proofs.Begun.{swapped}
 
 -- two writers that are one with a third are one
@@ -150,11 +150,17 @@ writers_extended w e (m ∷ ms) = by_test (same_guid m.pairing.writer w) refl (w
 order_begun : (m : Match) (ms : List Match) → InOrder ms → InOrder (begun m ms)
 order_begun m ms up = subst (IsStrictlySortedBy guid_order) (sym (writers_begun m ms)) (inserted guid_order guid_total (writers_of ms) m.pairing.writer up)
 
+none_in_order : InOrder []
+unfolding IsStrictlySortedBy
+none_in_order = tt
+
 order_after : (r : Reader) (d : StepView) → InOrder r.matches → InOrder (reader_after r d).matches
 order_after r (Takes w e) up = subst (IsStrictlySortedBy guid_order) (sym (writers_extended w e r.matches)) up
 order_after r (Changes (Matches w locators)) up = order_begun (fresh_with r (w, locators)) r.matches up
 order_after r (Changes (Unmatches w)) up = subst (IsStrictlySortedBy guid_order) (sym (writers_ended w r.matches)) (IsStrictlySortedBy-filter guid_order (λ g. not (same_guid g w)) (writers_of r.matches) up)
 order_after r (Changes (Refuses w policy)) up = up
+order_after r (Starts own entity is_reliable) up = none_in_order
+order_after r Stops up = none_in_order
 
 order_run : (r : Reader) (ds : List StepView) → InOrder r.matches → InOrder (reader_run r ds).matches
 order_run r [] up = up
@@ -163,10 +169,6 @@ order_run r (d ∷ ds) up = order_run (reader_after r d) ds (order_after r d up)
 order_all : (ms : List Match) (ws : List Pairing) → InOrder ms → InOrder (all_begun ms ws)
 order_all ms [] up = up
 order_all ms (w ∷ ws) up = order_all (begun (fresh w) ms) ws (order_begun (fresh w) ms up)
-
-none_in_order : InOrder []
-unfolding IsStrictlySortedBy
-none_in_order = tt
 
 pub run_in_order : (own : GuidPrefix) (entity : EntityId) (is_reliable : Bool) (fixed : List Facts) (ds : List StepView) → InOrder (reader_run (first_reader own entity is_reliable fixed) ds).matches
 run_in_order own entity is_reliable fixed ds =

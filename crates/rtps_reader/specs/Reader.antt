@@ -19,7 +19,7 @@ use Rattle.rtps_reader.specs.declared.notice.Notice.{Notice}
 use Rattle.rtps_reader.specs.declared.notice.NoticeKind.{NoticeKind}
 use Rattle.rtps_reader.specs.declared.notice.NoticeKind.TheVariants as kind
 use Rattle.rtps_reader.specs.Body.{body_by}
-use Rattle.rtps_reader.specs.Step.{StepView, Takes, Changes}
+use Rattle.rtps_reader.specs.Step.{StepView, Takes, Changes, Starts, Stops}
 
 -- at an event: the number of lost numbers, the changes that are ready, and the answer to the writer
 abbrev pub lost_at : Match → MatchEvent → ℕ
@@ -61,6 +61,25 @@ pairing_of own entity is_reliable facts = record {
 abbrev pub fresh_with : Reader → Facts → Match
 fresh_with r facts = fresh (pairing_of r.own r.entity r.reliable facts)
 
+-- the matches after these begin, in order
+abbrev pub all_begun : List Match → List Pairing → List Match
+all_begun ms [] = ms
+all_begun ms (w ∷ ws) = all_begun (begun (fresh w) ms) ws
+
+-- the matches that a reader begins with
+abbrev pub first_matches : GuidPrefix → EntityId → Bool → List Facts → List Match
+first_matches own entity is_reliable fixed = all_begun [] (map (pairing_of own entity is_reliable) fixed)
+
+-- a reader at the start: it has its fixed matches, without events
+abbrev pub first_reader : GuidPrefix → EntityId → Bool → List Facts → Reader
+first_reader own entity is_reliable fixed = record {
+  own = own;
+  entity = entity;
+  reliable = is_reliable;
+  fixed = length (first_matches own entity is_reliable fixed);
+  matches = first_matches own entity is_reliable fixed;
+}
+
 -- the notice that presents a sample, with what the catalog decodes
 abbrev pub presented : {M : Type 0} → Decoding M → Place → Guid → ChangeView → Notice M
 presented decoding place w s = record {
@@ -85,12 +104,14 @@ told_of decoding place w e (Some m) =
 abbrev pub notice_of : {M : Type 0} → Place → Guid → NoticeKind M → List (Notice M)
 notice_of place w what = record { place = place; writer = w; what = what } ∷ []
 
--- the notices of a step; an event of a writer that isn't matched has none
+-- the notices of a step; an event of a writer that isn't matched has none, nor has a start or a stop
 abbrev pub tells : {M : Type 0} → Decoding M → Reader → Place → StepView → List (Notice M)
 tells decoding r place (Takes w e) = told_of decoding place w e (match_with w r.matches)
 tells decoding r place (Changes (Matches w locators)) = notice_of place w kind.Matched
 tells decoding r place (Changes (Unmatches w)) = notice_of place w kind.Unmatched
 tells decoding r place (Changes (Refuses w policy)) = notice_of place w (kind.Incompatible policy)
+tells decoding r place (Starts own entity is_reliable) = []
+tells decoding r place Stops = []
 
 -- the answer, with the place of the event that it answers
 abbrev pub placed : Place → Option ReplyView → List (Place × ReplyView)
@@ -108,40 +129,26 @@ sends r place (Takes w e) = sent_of place e (match_with w r.matches)
 sends r place (Changes (Matches w locators)) = []
 sends r place (Changes (Unmatches w)) = []
 sends r place (Changes (Refuses w policy)) = []
+sends r place (Starts own entity is_reliable) = []
+sends r place Stops = []
 
 -- a match after an event of its writer
 abbrev pub extended_by : MatchEvent → Match → Match
 extended_by e m = record { pairing = m.pairing; past = e ∷ m.past }
 
 -- the reader after a step: an event extends the history of the match with its writer; a match
--- begins without history and replaces an earlier one; a match that ends is removed
+-- begins without history and replaces an earlier one; a match that ends is removed. A reader that
+-- starts has no matches, and one that stops keeps none.
 abbrev pub reader_after : Reader → StepView → Reader
 reader_after r (Takes w e) = record r { matches = extended w e r.matches }
 reader_after r (Changes (Matches w locators)) =
     record r { matches = begun (fresh_with r (w, locators)) r.matches }
 reader_after r (Changes (Unmatches w)) = record r { matches = ended w r.matches }
 reader_after r (Changes (Refuses w policy)) = r
+reader_after r (Starts own entity is_reliable) = first_reader own entity is_reliable []
+reader_after r Stops = record r { matches = [] }
 
 -- the reader after these steps
 abbrev pub reader_run : Reader → List StepView → Reader
 reader_run r [] = r
 reader_run r (d ∷ ds) = reader_run (reader_after r d) ds
-
--- the matches after these begin, in order
-abbrev pub all_begun : List Match → List Pairing → List Match
-all_begun ms [] = ms
-all_begun ms (w ∷ ws) = all_begun (begun (fresh w) ms) ws
-
--- the matches that a reader begins with
-abbrev pub first_matches : GuidPrefix → EntityId → Bool → List Facts → List Match
-first_matches own entity is_reliable fixed = all_begun [] (map (pairing_of own entity is_reliable) fixed)
-
--- a reader at the start: it has its fixed matches, without events
-abbrev pub first_reader : GuidPrefix → EntityId → Bool → List Facts → Reader
-first_reader own entity is_reliable fixed = record {
-  own = own;
-  entity = entity;
-  reliable = is_reliable;
-  fixed = length (first_matches own entity is_reliable fixed);
-  matches = first_matches own entity is_reliable fixed;
-}

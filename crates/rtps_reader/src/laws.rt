@@ -12,11 +12,12 @@ ghost use Rattle.rtps_types.specs.Order.{guid_order};
 ghost use Rattle.rtps_proxy.specs.History.{MatchEvent};
 ghost use Rattle.rtps_proxy.specs.Matches.{match_with, same_guid};
 ghost use Rattle.rtps_reader.specs.Reader.{Facts, Reader, extended_by, first_reader, fresh_with, reader_after, reader_run};
-ghost use Rattle.rtps_reader.specs.Step.{StepView, Takes, Changes};
+ghost use Rattle.rtps_reader.specs.Step.{StepView, Takes, Changes, Starts, Stops};
 
 /// How a step changes the match with each writer. An event of a writer extends the history of its
 /// match, if there is one. A match that begins has no history, even if it replaces one. A match
-/// that ends is removed. No step changes the matches with other writers.
+/// that ends is removed. None of these changes the matches with other writers. A reader that starts
+/// or stops has no match.
 pub fn matches_follow()
     ensures taken { (r : Reader) (writer other : Guid) (event : MatchEvent)
         → match_with other (reader_after r (Takes writer event)).matches
@@ -29,6 +30,11 @@ pub fn matches_follow()
     ensures ended { (r : Reader) (writer other : Guid)
         → match_with other (reader_after r (Changes (Unmatches writer))).matches
         ≡ (if same_guid writer other then None else match_with other r.matches) }
+    ensures started { (r : Reader) (own : GuidPrefix) (entity : EntityId) (is_reliable : Bool)
+        (other : Guid)
+        → match_with other (reader_after r (Starts own entity is_reliable)).matches ≡ None }
+    ensures stopped { (r : Reader) (other : Guid)
+        → match_with other (reader_after r Stops).matches ≡ None }
 {}
 
 /// After any steps, the matches of a reader are in the order of their writers, and no writer has

@@ -1,6 +1,6 @@
 //! The records of a batch, and room for them.
 
-ghost use Rattle.std.specs.Prelude.{◌≡◌, ◌+◌, ◌<◌, ◌≤◌, ◌↔◌, [], IfErr, IfOk, IfSome, IsTrue, None, OnErr, OnSome, drop, false, length, map, sum, take, true, vec_len};
+ghost use Rattle.std.specs.Prelude.{◌≡◌, ◌+◌, ◌<◌, ◌≤◌, ◌↔◌, [], All, IfErr, IfOk, IfSome, IsTrue, None, OnErr, OnSome, drop, false, length, map, sum, take, true, vec_len};
 ghost use Rattle.std.specs.Io.KnownBytes.{Consumes, IsAtEnd};
 ghost use Rattle.rtps_records.specs.RecordFile.{FaultHere, frame};
 ghost use Rattle.rtps_records.specs.Cuts.{cut};
@@ -9,6 +9,7 @@ ghost use Rattle.rtps_records.specs.Steps.{ReadsOne};
 use crate::batch_end::BatchEnd;
 use crate::fault::RunFault;
 use crate::records::read_record;
+use rtps_types::Datagram;
 use std::alloc::{AllocError, Allocator, Global};
 use std::io::Read;
 
@@ -136,19 +137,20 @@ impl<A: Allocator> Batch<A> {
         }
     }
 
-    /// Returns the records of the batch, in order. An error is a refused growth.
-    pub fn records<B: Allocator>(&self, alloc: B) -> Result<Vec<&[u8], B>, AllocError>
-        ensures { IfOk result (λ records.
-            map (λ octets. octets.now) records.items ≡
-            cut self.now.lengths.items self.now.octets.items) }
+    /// Returns the records of the batch, in order, as datagrams. All have moment 0, since a record
+    /// has no moment of its own. An error is a refused growth.
+    pub fn datagrams<B: Allocator>(&self, alloc: B) -> Result<Vec<Datagram<'_>, B>, AllocError>
+        ensures records { IfOk result (λ datagrams. map (λ d. d.bytes.now) datagrams.items
+            ≡ cut self.now.lengths.items self.now.octets.items) }
+        ensures moments { IfOk result (λ datagrams. All (λ d. d.moment ≡ 0) datagrams.items) }
     {
-        let mut records = Vec::with_capacity(alloc, self.lengths.len())?;
+        let mut datagrams = Vec::with_capacity(alloc, self.lengths.len())?;
         let mut rest = self.octets.as_slice();
         for length in &self.lengths {
-            let (octets, more) = rest.split_at(*length);
-            records.push(octets)?;
+            let (bytes, more) = rest.split_at(*length);
+            datagrams.push(Datagram { moment: 0, bytes })?;
             rest = more;
         }
-        Ok(records)
+        Ok(datagrams)
     }
 }

@@ -29,8 +29,8 @@ fn print_lengths<A: Allocator + Copy, R: Read, W: Write>(
     let mut number = 0_u64;
     for _ in 0..u64::MAX {
         let end = records.next_batch(batch, most)?;
-        for octets in batch.records(alloc)? {
-            push_length(&mut lines.text, number, octets.len())?;
+        for datagram in batch.datagrams(alloc)? {
+            push_length(&mut lines.text, number, datagram.bytes.len())?;
             lines.write_if_full()?;
             number = number.saturating_add(1);
         }

@@ -27,9 +27,10 @@ use Rattle.rtps_run.specs.declared.outcome.Report.{Report}
 use Rattle.rtps_run.specs.Seen.{reader_count}
 use Rattle.rtps_run.specs.Standing.{AllKnown, ReadersStand, WorldStands}
 use Rattle.rtps_run.specs.Steps.{AreByRank, ReaderStep, change_step, event_steps, step_by, steps_run}
-use Rattle.rtps_run.specs.World.{ReportView, World, addressed_to, changes_for, discovery_puts, doings, known_after_event, sent_by, world_after}
+use Rattle.rtps_run.specs.Occurrence.{Came}
+use Rattle.rtps_run.specs.World.{ReportView, World, addressed_to, asked_by, changes_for, discovery_puts, doings, event_puts, known_after_event, sent_by, world_after}
 use Rattle.rtps_run.proofs.OneOrder.{Rises, filter-map, rises_map, rises_sorted, stable_by}
-use Rattle.rtps_run.proofs.Routed.{asks_for, comes_before, discovered, event_stands, named_after, not_before}
+use Rattle.rtps_run.proofs.Routed.{asks_for, comes_before, discovered, named_after, not_before, occurrence_stands, readers_stay}
 
 -- ---- changes by rank
 
@@ -157,34 +158,44 @@ addressed k rank e None entity others named = absurd cc
 addressed k rank e (Some r) entity others named = let is : r.entity ≡ entity = cc in rw (others, is) refl
 
 pub event_asked : {M : Type 0} (w : World M) (e : EventView) (rank : ℕ) → is_discovery e.writer ≡ false → AllKnown w → rank < reader_count w
-    → asks_for rank (event_steps w e (matched_ranks w.known (writer_of e))) ≡ doings w.known rank e
+    → asks_for rank (event_steps w e (matched_ranks w.known (writer_of e))) ≡ doings w.known rank (Came e)
 event_asked w e rank others named less =
     asked_from (λ rank. is_for e.reader (w.readers rank).entity) (λ rank. is_fixed w.known.fixed rank (writer_of e)) (writer_at w.known (writer_of e)) (asks_of e) rank rank 0 w.known.readers less (omega arith)
     ∙ sym (addressed w.known rank e (reader_at w.known.readers rank) (w.readers rank).entity others (named rank less))
     ∙ by_rank others
   where
-    by_rank : is_discovery e.writer ≡ false → addressed_to w.known rank e (reader_at w.known.readers rank) ≡ doings w.known rank e
+    by_rank : is_discovery e.writer ≡ false → addressed_to w.known rank e (reader_at w.known.readers rank) ≡ asked_by w.known rank e
     by_rank h = rw h refl
 
 -- ---- the whole event
 
+-- no reader comes at an event
+below_now : {M : Type 0} (w : World M) (e : EventView) (rank : ℕ) → rank < length (known_after_event w.known e).readers → rank < reader_count w
+below_now w e rank less = omega (arith, less, ap length (readers_stay w.known e))
+
 pub announced_known : (k : Known) (e : EventView) → is_discovery e.writer ≡ true → known_after_event k e ≡ known_by k e
 announced_known k e is = rw is refl
 
-pub announced_doings : (k : Known) (rank : ℕ) (e : EventView) → is_discovery e.writer ≡ true → doings k rank e ≡ changes_for rank (changes_by k e)
-announced_doings k rank e is = rw is refl
+announced_asked : (k : Known) (rank : ℕ) (e : EventView) → is_discovery e.writer ≡ true → asked_by k rank e ≡ changes_for rank (changes_by k e)
+announced_asked k rank e is = rw is refl
 
-pub announced_puts : {M : Type 0} (k : Known) (e : EventView) → is_discovery e.writer ≡ true → discovery_puts {M = M} k e ≡ map (sent_by None) (placed e.place (answered k e))
-announced_puts k e is = rw is refl
+pub announced_doings : (k : Known) (rank : ℕ) (e : EventView) → is_discovery e.writer ≡ true → doings k rank (Came e) ≡ changes_for rank (changes_by k e)
+announced_doings = announced_asked
+
+announced_answer : {M : Type 0} (k : Known) (e : EventView) → is_discovery e.writer ≡ true → event_puts {M = M} k e ≡ map (sent_by None) (placed e.place (answered k e))
+announced_answer k e is = rw is refl
+
+pub announced_puts : {M : Type 0} (k : Known) (e : EventView) → is_discovery e.writer ≡ true → discovery_puts {M = M} k (Came e) ≡ map (sent_by None) (placed e.place (answered k e))
+announced_puts k e is = announced_answer k e is
 
 -- an announcer's event
 pub announcement_stands : {V M A : Type 0} (view : V → M) (d : Decoding M) (w : World M) (e : EventView) (earlier : List (ReportView M)) (kept : RegistryView) (changes sorted : List (MatchChange A)) (states : List ReaderView) (reports : List (Report V A))
     → is_discovery e.writer ≡ true → AllKnown w → IsKnown (known_by w.known e) kept → map change_seen changes ≡ changes_by w.known e → AreByRank changes sorted
-    → ReadersStand view (steps_run d e.place (discovered w e) (map change_step (map change_seen sorted))) earlier states reports → WorldStands view (world_after d w e) earlier kept states reports
+    → ReadersStand view (steps_run d e.place (discovered w (Came e)) (map change_step (map change_seen sorted))) earlier states reports → WorldStands view (world_after d w (Came e)) earlier kept states reports
 announcement_stands view d w e earlier kept changes sorted states reports is named known heard by_rank stands = record {
   known = subst (λ k. IsKnown k kept) (sym (announced_known w.known e is)) known;
   named = named_after d w e named;
-  readers = event_stands view d w e (map change_step (map change_seen sorted)) earlier states reports (changes_rise changes sorted by_rank)
+  readers = occurrence_stands view d w (Came e) (map change_step (map change_seen sorted)) earlier states reports (changes_rise changes sorted by_rank)
       (λ rank less. changes_asked changes sorted rank by_rank ∙ ap (changes_for rank) heard ∙ sym (announced_doings w.known rank e is)) stands;
 }
 
@@ -192,18 +203,21 @@ announcement_stands view d w e earlier kept changes sorted states reports is nam
 pub other_known : (k : Known) (e : EventView) → is_discovery e.writer ≡ false → known_after_event k e ≡ k
 other_known k e others = rw others refl
 
-pub named_discovered : {M : Type 0} (w : World M) (e : EventView) → is_discovery e.writer ≡ false → AllKnown w → AllKnown (discovered w e)
+pub named_discovered : {M : Type 0} (w : World M) (e : EventView) → is_discovery e.writer ≡ false → AllKnown w → AllKnown (discovered w (Came e))
 named_discovered w e others named =
     subst (λ (k : Known). (rank : ℕ) → rank < length k.readers → option_map (λ r. r.entity) (reader_at k.readers rank) ≡ Some (w.readers rank).entity) (sym (other_known w.known e others)) named
 
-pub no_puts : {M : Type 0} (k : Known) (e : EventView) → is_discovery e.writer ≡ false → discovery_puts {M = M} k e ≡ []
-no_puts k e others = rw others refl
+no_answer : {M : Type 0} (k : Known) (e : EventView) → is_discovery e.writer ≡ false → event_puts {M = M} k e ≡ []
+no_answer k e others = rw others refl
+
+pub no_puts : {M : Type 0} (k : Known) (e : EventView) → is_discovery e.writer ≡ false → discovery_puts {M = M} k (Came e) ≡ []
+no_puts k e others = no_answer k e others
 
 pub user_stands : {V M A : Type 0} (view : V → M) (d : Decoding M) (w : World M) (e : EventView) (earlier : List (ReportView M)) (kept : RegistryView) (states : List ReaderView) (reports : List (Report V A))
     → is_discovery e.writer ≡ false → AllKnown w → IsKnown w.known kept
-    → ReadersStand view (steps_run d e.place (discovered w e) (event_steps w e (matched_ranks w.known (writer_of e)))) earlier states reports → WorldStands view (world_after d w e) earlier kept states reports
+    → ReadersStand view (steps_run d e.place (discovered w (Came e)) (event_steps w e (matched_ranks w.known (writer_of e)))) earlier states reports → WorldStands view (world_after d w (Came e)) earlier kept states reports
 user_stands view d w e earlier kept states reports others named known stands = record {
   known = subst (λ k. IsKnown k kept) (sym (other_known w.known e others)) known;
   named = named_after d w e named;
-  readers = event_stands view d w e (event_steps w e (matched_ranks w.known (writer_of e))) earlier states reports (event_rises w e) (λ rank less. event_asked w e rank others named less) stands;
+  readers = occurrence_stands view d w (Came e) (event_steps w e (matched_ranks w.known (writer_of e))) earlier states reports (event_rises w e) (λ rank less. event_asked w e rank others named (below_now w e rank less)) stands;
 }

@@ -8,9 +8,13 @@ pub mod OneOrder
 mod Derived
 pub mod Routed
 pub mod Hearing
+pub mod Quiet
 pub mod Running
 pub mod Places
 pub mod Shown
 pub mod Matched
 pub mod Taking
+pub mod Counting
+pub mod Heads
 pub mod Turns
+pub mod Rows

@@ -8,10 +8,7 @@ use Rattle.rtps_types.specs.SequenceNumber.{IsNumber}
 use Rattle.rtps_types.specs.declared.identity.Guid.{Guid}
 use Rattle.rtps_types.specs.declared.place.Place.{Place}
 use Rattle.rtps_types.proofs.Nearest.{value_of-nearest}
-use Rattle.rtps_receiver.specs.Events.{EventView}
-use Rattle.rtps_discovery.specs.Addressed.{is_discovery}
 use Rattle.rtps_discovery.specs.Known.{Known}
-use Rattle.rtps_discovery.specs.Records.{answered}
 use Rattle.rtps_proxy.specs.Change.{ChangeView}
 use Rattle.rtps_proxy.specs.History.{MatchEvent}
 use Rattle.rtps_proxy.specs.Matches.{Match, ended, extended, match_with, same_guid}
@@ -21,13 +18,15 @@ use Rattle.dds_topic.specs.Decoding.{Decoding}
 use Rattle.rtps_reader.specs.declared.notice.Notice.{Notice}
 use Rattle.rtps_reader.specs.declared.notice.NoticeKind.TheVariants.{Lost}
 use Rattle.rtps_reader.specs.Body.{body_by}
-use Rattle.rtps_reader.specs.Reader.{Reader, loses, lost_at, placed, presented, reader_after, ready_at, sends, tells, told_of}
+use Rattle.rtps_reader.specs.Reader.{Reader, loses, lost_at, presented, reader_after, ready_at, sends, tells, told_of}
 use Rattle.rtps_reader.specs.Step.{StepView}
 use Rattle.rtps_reader.proofs.Begun.{same_self}
+use Rattle.rtps_run.specs.Occurrence.{Occurrence, place_of}
 use Rattle.rtps_run.specs.Presentation.{Shown, shown_in}
-use Rattle.rtps_run.specs.Seen.{notices_by, reader_count}
-use Rattle.rtps_run.specs.World.{NoticeOf, World, discovery_puts, doings, puts_at, puts_below, puts_run, sent_by, world_after}
+use Rattle.rtps_run.specs.Seen.{notices_by}
+use Rattle.rtps_run.specs.World.{NoticeOf, World, count_after, discovery_puts, doings, puts_at, puts_below, puts_run, sent_by, world_after}
 use Rattle.rtps_run.proofs.Dealt.{notices_by-append}
+use Rattle.rtps_run.proofs.Routed.{no_notice}
 use Rattle.rtps_run.proofs.Shown.{samples_of, shown}
 
 pub other_way : (a b : Guid) → same_guid a b ≡ false → same_guid b a ≡ false
@@ -197,64 +196,52 @@ other_run decoding place rank k r (d ∷ ds) h =
     ∙ ap (λ l. l ++ notices_by rank (puts_run decoding place k (reader_after r d) ds)) (other_at decoding place rank k r d h)
     ∙ other_run decoding place rank k (reader_after r d) ds h
 
-pub none_below : {M : Type 0} (decoding : Decoding M) (k : Known) (e : EventView) (readers : ℕ → Reader) (rank n : ℕ) → n ≤ rank → notices_by rank (puts_below decoding k e readers n) ≡ []
-none_below decoding k e readers rank zero le = refl
-none_below decoding k e readers rank (suc n) le =
+pub none_below : {M : Type 0} (decoding : Decoding M) (k : Known) (o : Occurrence) (readers : ℕ → Reader) (rank n : ℕ) → n ≤ rank → notices_by rank (puts_below decoding k o readers n) ≡ []
+none_below decoding k o readers rank zero le = refl
+none_below decoding k o readers rank (suc n) le =
     let differ : eqb n rank ≡ false = grind (arith, nat_tests) in
-    notices_by-append rank (puts_below decoding k e readers n) (puts_run decoding e.place n (readers n) (doings k n e))
-    ∙ ap (λ l. notices_by rank (puts_below decoding k e readers n) ++ l) (other_run decoding e.place rank n (readers n) (doings k n e) differ)
-    ∙ append-nil (notices_by rank (puts_below decoding k e readers n))
-    ∙ none_below decoding k e readers rank n (omega arith)
+    notices_by-append rank (puts_below decoding k o readers n) (puts_run decoding (place_of o) n (readers n) (doings k n o))
+    ∙ ap (λ l. notices_by rank (puts_below decoding k o readers n) ++ l) (other_run decoding (place_of o) rank n (readers n) (doings k n o) differ)
+    ∙ append-nil (notices_by rank (puts_below decoding k o readers n))
+    ∙ none_below decoding k o readers rank n (omega arith)
 
--- of what all readers put out at an event, the notices of one
-by_rank : {M : Type 0} (decoding : Decoding M) (k : Known) (e : EventView) (readers : ℕ → Reader) (rank n : ℕ) → rank < n
-    → notices_by rank (puts_below decoding k e readers n) ≡ told_run decoding e.place (readers rank) (doings k rank e)
-by_rank decoding k e readers rank zero l = absurd (omega arith)
-by_rank decoding k e readers rank (suc n) l =
+-- of what all readers put out at an occurrence, the notices of one
+by_rank : {M : Type 0} (decoding : Decoding M) (k : Known) (o : Occurrence) (readers : ℕ → Reader) (rank n : ℕ) → rank < n
+    → notices_by rank (puts_below decoding k o readers n) ≡ told_run decoding (place_of o) (readers rank) (doings k rank o)
+by_rank decoding k o readers rank zero l = absurd (omega arith)
+by_rank decoding k o readers rank (suc n) l =
     elim (eqb_tells n rank) [
       | inl w ↦ (
-          notices_by-append rank (puts_below decoding k e readers n) (puts_run decoding e.place n (readers n) (doings k n e))
-          ∙ ap (λ l. l ++ notices_by rank (puts_run decoding e.place n (readers n) (doings k n e))) (none_below decoding k e readers rank n (omega (arith, w.1)))
-          ∙ ap (λ i. notices_by rank (puts_run decoding e.place i (readers i) (doings k i e))) w.1
-          ∙ heard_run decoding e.place rank (readers rank) (doings k rank e)
+          notices_by-append rank (puts_below decoding k o readers n) (puts_run decoding (place_of o) n (readers n) (doings k n o))
+          ∙ ap (λ l. l ++ notices_by rank (puts_run decoding (place_of o) n (readers n) (doings k n o))) (none_below decoding k o readers rank n (omega (arith, w.1)))
+          ∙ ap (λ i. notices_by rank (puts_run decoding (place_of o) i (readers i) (doings k i o))) w.1
+          ∙ heard_run decoding (place_of o) rank (readers rank) (doings k rank o)
           )
       | inr w ↦ (
           let differ = w.1 in
-          notices_by-append rank (puts_below decoding k e readers n) (puts_run decoding e.place n (readers n) (doings k n e))
-          ∙ ap (λ l. notices_by rank (puts_below decoding k e readers n) ++ l) (other_run decoding e.place rank n (readers n) (doings k n e) w.0)
-          ∙ append-nil (notices_by rank (puts_below decoding k e readers n))
-          ∙ by_rank decoding k e readers rank n (omega arith)
+          notices_by-append rank (puts_below decoding k o readers n) (puts_run decoding (place_of o) n (readers n) (doings k n o))
+          ∙ ap (λ l. notices_by rank (puts_below decoding k o readers n) ++ l) (other_run decoding (place_of o) rank n (readers n) (doings k n o) w.0)
+          ∙ append-nil (notices_by rank (puts_below decoding k o readers n))
+          ∙ by_rank decoding k o readers rank n (omega arith)
           )
     ]
 
--- discovery reports nothing
-unheard : {M : Type 0} (rank : ℕ) (k : Known) (e : EventView) → notices_by {M = M} rank (discovery_puts k e) ≡ []
-unheard {M} rank k e = by_test (is_discovery e.writer)
-  where
-    by_answer : (o : Option ReplyView) → notices_by {M = M} rank (map (sent_by None) (placed e.place o)) ≡ []
-    by_answer None = refl
-    by_answer (Some s) = refl
+-- all notices of an occurrence are readers': discovery gives out none
+pub heard_then : {M : Type 0} (decoding : Decoding M) (w : World M) (rank : ℕ) (o : Occurrence) (n : ℕ)
+    → notices_by rank (discovery_puts w.known o ++ puts_below decoding w.known o w.readers n) ≡ notices_by rank (puts_below decoding w.known o w.readers n)
+heard_then {M} decoding w rank o n =
+    notices_by-append rank (discovery_puts w.known o) (puts_below decoding w.known o w.readers n)
+    ∙ ap (λ l. l ++ notices_by rank (puts_below decoding w.known o w.readers n)) (no_notice {M = M} w.known o rank)
 
-    by_test : (b : Bool) → notices_by {M = M} rank (if b then map (sent_by None) (placed e.place (answered k e)) else []) ≡ []
-    by_test true = by_answer (answered k e)
-    by_test false = refl
+heard_more : {M : Type 0} (decoding : Decoding M) (w : World M) (rank : ℕ) (o : Occurrence)
+    → notices_by rank (world_after decoding w o).put ≡ notices_by rank w.put ++ notices_by rank (puts_below decoding w.known o w.readers (count_after w o))
+heard_more decoding w rank o =
+    notices_by-append rank w.put (discovery_puts w.known o ++ puts_below decoding w.known o w.readers (count_after w o))
+    ∙ ap (λ l. notices_by rank w.put ++ l) (heard_then decoding w rank o (count_after w o))
 
--- all notices of an event are readers': discovery gives out none
-pub heard_event : {M : Type 0} (decoding : Decoding M) (w : World M) (rank : ℕ) (e : EventView)
-    → notices_by rank (discovery_puts w.known e ++ puts_below decoding w.known e w.readers (reader_count w)) ≡ notices_by rank (puts_below decoding w.known e w.readers (reader_count w))
-heard_event decoding w rank e =
-    notices_by-append rank (discovery_puts w.known e) (puts_below decoding w.known e w.readers (reader_count w))
-    ∙ ap (λ l. l ++ notices_by rank (puts_below decoding w.known e w.readers (reader_count w))) (unheard rank w.known e)
-
-heard_more : {M : Type 0} (decoding : Decoding M) (w : World M) (rank : ℕ) (e : EventView)
-    → notices_by rank (world_after decoding w e).put ≡ notices_by rank w.put ++ notices_by rank (puts_below decoding w.known e w.readers (reader_count w))
-heard_more decoding w rank e =
-    notices_by-append rank w.put (discovery_puts w.known e ++ puts_below decoding w.known e w.readers (reader_count w))
-    ∙ ap (λ l. notices_by rank w.put ++ l) (heard_event decoding w rank e)
-
--- one event more, as the reader of a rank reports it
-pub told_more : {M : Type 0} (decoding : Decoding M) (w : World M) (rank : ℕ) (e : EventView) → rank < reader_count w
-    → notices_by rank (world_after decoding w e).put ≡ notices_by rank w.put ++ told_run decoding e.place (w.readers rank) (doings w.known rank e)
-told_more decoding w rank e below =
-    heard_more decoding w rank e
-    ∙ ap (λ l. notices_by rank w.put ++ l) (by_rank decoding w.known e w.readers rank (reader_count w) below)
+-- one occurrence more, as the reader of a rank reports it
+pub told_more : {M : Type 0} (decoding : Decoding M) (w : World M) (rank : ℕ) (o : Occurrence) → rank < count_after w o
+    → notices_by rank (world_after decoding w o).put ≡ notices_by rank w.put ++ told_run decoding (place_of o) (w.readers rank) (doings w.known rank o)
+told_more decoding w rank o below =
+    heard_more decoding w rank o
+    ∙ ap (λ l. notices_by rank w.put ++ l) (by_rank decoding w.known o w.readers rank (count_after w o) below)

@@ -22,7 +22,7 @@ use Rattle.rtps_receiver.specs.Events.{EventView, event_behind, events_behind, e
 use Rattle.rtps_discovery.specs.Addressed.{is_addressed}
 use Rattle.rtps_proxy.specs.Matches.{same_guid}
 use Rattle.rtps_run.specs.Presentation.{events_after, events_for, not_after}
-use Rattle.rtps_run.specs.Run.{events_from}
+use Rattle.rtps_run.specs.Input.{Input, Datagram, Tick, AddReader, RemoveReader, events_at, events_from, index_after}
 use Rattle.rtps_run.proofs.OneOrder.{filter_none}
 
 -- each event comes after those before it in the list
@@ -107,38 +107,59 @@ behind_rise own header index count before (i ∷ left) =
     (alone (event_behind own header (record { datagram = index; submessage = count + 1 }) before i.content))
     (behind_rise own header index (count + 1) (i.content ∷ before) left)
 
--- the events of one datagram
-all_of : (own : GuidPrefix) (index : ℕ) (octets : List ℕ) → AllByRecursion (λ e. e.place.datagram ≡ index) (events_of own index octets)
-all_of own index octets = by_header (header_of octets)
+-- the events of one datagram have its index, and places after its head
+pub within_of : (own : GuidPrefix) (index : ℕ) (octets : List ℕ) → AllByRecursion (λ (e : EventView). (e.place.datagram ≡ index) × (0 < e.place.submessage)) (events_of own index octets)
+within_of own index octets = by_header (header_of octets)
   where
-    by_header : (r : Result Header HeaderFault) → AllByRecursion (λ e. e.place.datagram ≡ index) (events_under own index octets r)
+    by_header : (r : Result Header HeaderFault) → AllByRecursion (λ (e : EventView). (e.place.datagram ≡ index) × (0 < e.place.submessage)) (events_under own index octets r)
     by_header (Err f) = tt
-    by_header (Ok h) = all_weaker (IsBehind index 0) (λ e. e.place.datagram ≡ index) _ (λ e b. b.0) (all_behind own h.prefix index 0 [] (reading (drop 20 octets)).items)
+    by_header (Ok h) = all_behind own h.prefix index 0 [] (reading (drop 20 octets)).items
 
-of_rise : (own : GuidPrefix) (index : ℕ) (octets : List ℕ) → PlacesRise (events_of own index octets)
+all_of : (own : GuidPrefix) (index : ℕ) (octets : List ℕ) → AllByRecursion (λ e. e.place.datagram ≡ index) (events_of own index octets)
+all_of own index octets = all_weaker (λ (e : EventView). (e.place.datagram ≡ index) × (0 < e.place.submessage)) (λ e. e.place.datagram ≡ index) (events_of own index octets) (λ e b. b.0) (within_of own index octets)
+
+pub of_rise : (own : GuidPrefix) (index : ℕ) (octets : List ℕ) → PlacesRise (events_of own index octets)
 of_rise own index octets = by_header (header_of octets)
   where
     by_header : (r : Result Header HeaderFault) → PlacesRise (events_under own index octets r)
     by_header (Err f) = tt
     by_header (Ok h) = behind_rise own h.prefix index 0 [] (reading (drop 20 octets)).items
 
--- the events of a list of datagrams
-all_from : (own : GuidPrefix) (index : ℕ) (datagrams : List (List ℕ)) → AllByRecursion (λ e. index ≤ e.place.datagram) (events_from own index datagrams)
-all_from own index [] = tt
-all_from own index (octets ∷ datagrams) =
-    all_append (λ e. index ≤ e.place.datagram) (events_of own index octets) (events_from own (index + 1) datagrams)
-    (all_weaker (λ e. e.place.datagram ≡ index) (λ e. index ≤ e.place.datagram) (events_of own index octets) (λ e same. omega arith) (all_of own index octets))
-    (all_weaker (λ e. index + 1 ≤ e.place.datagram) (λ e. index ≤ e.place.datagram) (events_from own (index + 1) datagrams) (λ e le. omega arith) (all_from own (index + 1) datagrams))
+-- the events of an input, and of a list of inputs
+all_at : (own : GuidPrefix) (index : ℕ) (x : Input) → AllByRecursion (λ e. (e.place.datagram ≡ index) × (index + 1 ≤ index_after index x)) (events_at own index x)
+all_at own index (Datagram moment octets) = all_weaker (λ e. e.place.datagram ≡ index) (λ e. (e.place.datagram ≡ index) × (index + 1 ≤ index + 1)) (events_of own index octets) (λ e same. (same, omega arith)) (all_of own index octets)
+all_at own index (Tick moment) = tt
+all_at own index (AddReader r) = tt
+all_at own index (RemoveReader rank) = tt
 
-pub rise_from : (own : GuidPrefix) (index : ℕ) (datagrams : List (List ℕ)) → PlacesRise (events_from own index datagrams)
+at_rise : (own : GuidPrefix) (index : ℕ) (x : Input) → PlacesRise (events_at own index x)
+at_rise own index (Datagram moment octets) = of_rise own index octets
+at_rise own index (Tick moment) = tt
+at_rise own index (AddReader r) = tt
+at_rise own index (RemoveReader rank) = tt
+
+pub not_back : (index : ℕ) (x : Input) → index ≤ index_after index x
+not_back index (Datagram moment octets) = omega arith
+not_back index (Tick moment) = omega arith
+not_back index (AddReader r) = omega arith
+not_back index (RemoveReader rank) = omega arith
+
+all_from : (own : GuidPrefix) (index : ℕ) (inputs : List Input) → AllByRecursion (λ e. index ≤ e.place.datagram) (events_from own index inputs)
+all_from own index [] = tt
+all_from own index (x ∷ inputs) =
+    all_append (λ e. index ≤ e.place.datagram) (events_at own index x) (events_from own (index_after index x) inputs)
+    (all_weaker (λ e. (e.place.datagram ≡ index) × (index + 1 ≤ index_after index x)) (λ e. index ≤ e.place.datagram) (events_at own index x) (λ e h. omega (arith, h.0)) (all_at own index x))
+    (all_weaker (λ e. index_after index x ≤ e.place.datagram) (λ e. index ≤ e.place.datagram) (events_from own (index_after index x) inputs) (λ e le. omega (arith, le, not_back index x)) (all_from own (index_after index x) inputs))
+
+pub rise_from : (own : GuidPrefix) (index : ℕ) (inputs : List Input) → PlacesRise (events_from own index inputs)
 rise_from own index [] = tt
-rise_from own index (octets ∷ datagrams) =
-    rises_append (λ e. e.place.datagram ≡ index) (λ e. index + 1 ≤ e.place.datagram) (λ d e same le. later_datagram d.place e.place (omega arith)) (events_of own index octets) (events_from own (index + 1) datagrams)
-    (all_of own index octets) (all_from own (index + 1) datagrams) (of_rise own index octets) (rise_from own (index + 1) datagrams)
+rise_from own index (x ∷ inputs) =
+    rises_append (λ e. (e.place.datagram ≡ index) × (index + 1 ≤ index_after index x)) (λ e. index_after index x ≤ e.place.datagram) (λ d e h le. later_datagram d.place e.place (omega (arith, h.0, h.1, le))) (events_at own index x) (events_from own (index_after index x) inputs)
+    (all_at own index x) (all_from own (index_after index x) inputs) (at_rise own index x) (rise_from own (index_after index x) inputs)
 
 -- the places of the events of a run rise strictly
-pub places_rise : (own : GuidPrefix) (datagrams : List (List ℕ)) → PlacesRise (events_from own 0 datagrams)
-places_rise own datagrams = rise_from own 0 datagrams
+pub places_rise : (own : GuidPrefix) (inputs : List Input) → PlacesRise (events_from own 0 inputs)
+places_rise own inputs = rise_from own 0 inputs
 
 -- of events, the newest first, each comes after those that follow in the list
 abbrev pub PlacesFall : List EventView → Type 0
@@ -164,10 +185,10 @@ none_before [] = tt
 none_before (e ∷ es) = (tt, none_before es)
 
 -- the places of the submessages for a match fall strictly, the newest first
-pub places_fall : (own : GuidPrefix) (datagrams : List (List ℕ)) (writer : Guid) (reader : EntityId) → PlacesFall (events_for writer reader (events_from own 0 datagrams))
-places_fall own datagrams writer reader =
-    reversed_falls (filter (is_addressed (same_guid writer) reader) (events_from own 0 datagrams)) [] (filter_rises (is_addressed (same_guid writer) reader) (events_from own 0 datagrams) (places_rise own datagrams)) tt
-    (none_before (filter (is_addressed (same_guid writer) reader) (events_from own 0 datagrams)))
+pub places_fall : (own : GuidPrefix) (inputs : List Input) (writer : Guid) (reader : EntityId) → PlacesFall (events_for writer reader (events_from own 0 inputs))
+places_fall own inputs writer reader =
+    reversed_falls (filter (is_addressed (same_guid writer) reader) (events_from own 0 inputs)) [] (filter_rises (is_addressed (same_guid writer) reader) (events_from own 0 inputs) (places_rise own inputs)) tt
+    (none_before (filter (is_addressed (same_guid writer) reader) (events_from own 0 inputs)))
 
 -- ---- the submessages since a place
 

@@ -12,7 +12,8 @@ use Rattle.rtps_reader.specs.Standing as reader
 use Rattle.rtps_reader.specs.Standing.{ReaderView, facts_in}
 use Rattle.rtps_reader.specs.Listed.{with_writers}
 use Rattle.rtps_types.specs.declared.identity.GuidPrefix.{GuidPrefix}
-use Rattle.rtps_run.specs.Run.{entity_of, is_reliable, is_reliable_at, reader_first}
+use Rattle.rtps_run.specs.Run.{entity_of, is_reliable_at, reader_first}
+use Rattle.rtps_run.specs.World.{is_reliable}
 use Rattle.rtps_run.specs.Seen.{matches_below}
 use Rattle.rtps_types.specs.declared.traffic.WriterFacts.{WriterFacts}
 use Rattle.rtps_proxy.specs.Kept.{ProxyView}

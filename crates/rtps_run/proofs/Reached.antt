@@ -1,24 +1,26 @@
 -- Steps one after the other, and the readers that an event is for.
-use Rattle.std.proofs.Common.{◌≡◌, ℕ, ◌+◌, ◌<◌, ◌≤◌, ◌==◌, List, [], ◌∷◌, ◌++◌, length, map, take, get_or, Bool, true, false, if◌then◌else◌, refl, sym, ap, ◌∙◌, arith, true≢false, inl, inr}
+use Rattle.std.proofs.Common.{◌≡◌, ℕ, ◌+◌, ◌<◌, ◌≤◌, ◌==◌, List, [], ◌∷◌, ◌++◌, length, map, take, get_or, Bool, true, false, if◌then◌else◌, Option, None, Some, refl, sym, ap, ◌∙◌, arith, true≢false, inl, inr}
 use Rattle.std.specs.Prelude.{filter}
 use Rattle.std.proofs.lemmas.Bool.{cases_lt}
 use Rattle.std.proofs.lemmas.List.{map-append, take_more}
 use Rattle.std.proofs.lemmas.List.Elements.{filter-append}
-use Rattle.rtps_types.specs.MatchChange.{Matches, Unmatches, Refuses}
+use Rattle.rtps_types.specs.MatchChange.{MatchChange, Matches, Unmatches, Refuses}
 use Rattle.rtps_types.specs.declared.place.Place.{Place}
 use Rattle.rtps_receiver.specs.Events.{EventView}
-use Rattle.rtps_discovery.specs.Addressed.{is_for}
-use Rattle.rtps_discovery.specs.Known.{Known, reader_at}
+use Rattle.rtps_discovery.specs.Addressed.{is_addressed, is_discovery, is_for}
+use Rattle.rtps_discovery.specs.Changes.{ChangeAt}
+use Rattle.rtps_discovery.specs.Known.{Known, Wish, is_matched, reader_at}
+use Rattle.rtps_discovery.specs.Records.{changes_by}
 use Rattle.dds_topic.specs.Decoding.{Decoding}
-use Rattle.rtps_reader.specs.Reader.{Reader, reader_after}
+use Rattle.rtps_reader.specs.Reader.{Reader, reader_after, reader_run}
 use Rattle.rtps_reader.specs.Standing.{ReaderView}
-use Rattle.rtps_reader.specs.Step.{StepView, Takes, Changes, asks_of}
+use Rattle.rtps_reader.specs.Step.{Changes, asks_of}
 use Rattle.rtps_run.specs.declared.outcome.Report.{Report}
 use Rattle.rtps_run.specs.Addressed.{is_named}
 use Rattle.rtps_run.specs.Seen.{reader_count}
 use Rattle.rtps_run.specs.Standing.{AllKnown, ReadersStand}
 use Rattle.rtps_run.specs.Steps.{ReaderStep, event_steps, step_by, steps_run, world_stepped}
-use Rattle.rtps_run.specs.World.{ReportView, World}
+use Rattle.rtps_run.specs.World.{ReportView, World, addressed_to, asked_by, changes_for}
 use Rattle.rtps_run.proofs.Naming.{named_is, reader_past}
 use Rattle.rtps_run.proofs.Stepped.{no_step_stands}
 
@@ -31,20 +33,31 @@ pub steps_more : {M : Type 0} (d : Decoding M) (place : Place) (w : World M) (ss
     → steps_run d place w (take (i + 1) ss) ≡ world_stepped d place (steps_run d place w (take i ss)) (get_or ss i other)
 steps_more d place w ss i other h = ap (steps_run d place w) (take_more ss i other h) ∙ steps_run-append d place w (take i ss) (get_or ss i other ∷ [])
 
--- a reader stays who it is
-pub same_entity : (r : Reader) (what : StepView) → (reader_after r what).entity ≡ r.entity
-same_entity r (Takes w e) = refl
-same_entity r (Changes (Matches w locators)) = refl
-same_entity r (Changes (Unmatches w)) = refl
-same_entity r (Changes (Refuses w policy)) = refl
+-- a reader stays who it is when a match of it changes
+same_by_change : (r : Reader) (b : MatchChange) → (reader_after r (Changes b)).entity ≡ r.entity
+same_by_change r (Matches w locators) = refl
+same_by_change r (Unmatches w) = refl
+same_by_change r (Refuses w policy) = refl
 
-entity_if : (b : Bool) (r : Reader) (what : StepView) → (if b then reader_after r what else r).entity ≡ r.entity
-entity_if true r what = same_entity r what
-entity_if false r what = refl
+pub same_by_changes : (r : Reader) (cs : List ChangeAt) → (reader_run r (map (λ (c : ChangeAt). Changes c.what) cs)).entity ≡ r.entity
+same_by_changes r [] = refl
+same_by_changes r (c ∷ cs) = same_by_changes (reader_after r (Changes c.what)) cs ∙ same_by_change r c.what
 
-pub entity_stays : {M : Type 0} (d : Decoding M) (place : Place) (w : World M) (ss : List ReaderStep) (rank : ℕ) → ((steps_run d place w ss).readers rank).entity ≡ (w.readers rank).entity
-entity_stays d place w [] rank = refl
-entity_stays d place w (s ∷ ss) rank = entity_stays d place (world_stepped d place w s) ss rank ∙ entity_if (s.rank == rank) (w.readers rank) s.what
+-- and at an event
+pub same_by_event : (k : Known) (rank : ℕ) (r : Reader) (e : EventView) → (reader_run r (asked_by k rank e)).entity ≡ r.entity
+same_by_event k rank r e = by_kind (is_discovery e.writer)
+  where
+    by_test : (b : Bool) → (reader_run r (if b then asks_of e ∷ [] else [])).entity ≡ r.entity
+    by_test true = refl
+    by_test false = refl
+
+    by_wish : (o : Option Wish) → (reader_run r (addressed_to k rank e o)).entity ≡ r.entity
+    by_wish None = refl
+    by_wish (Some wish) = by_test (is_addressed (is_matched k rank) wish.entity e)
+
+    by_kind : (b : Bool) → (reader_run r (if b then changes_for rank (changes_by k e) else addressed_to k rank e (reader_at k.readers rank))).entity ≡ r.entity
+    by_kind true = same_by_changes r (filter (λ (c : ChangeAt). c.rank == rank) (changes_by k e))
+    by_kind false = by_wish (reader_at k.readers rank)
 
 event_steps-append : {M : Type 0} (w : World M) (e : EventView) (xs ys : List ℕ) → event_steps w e (xs ++ ys) ≡ event_steps w e xs ++ event_steps w e ys
 event_steps-append w e xs ys =

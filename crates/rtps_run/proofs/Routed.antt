@@ -1,4 +1,4 @@
--- An event falls into steps of single readers.
+-- An occurrence falls into steps of single readers.
 use Rattle.std.proofs.Common.{◌≡◌, ◌≢◌, ℕ, zero, suc, ◌<◌, ◌≤◌, ◌==◌, nat_lt, List, [], ◌∷◌, ◌++◌, length, map, get_or, Bool, true, false, if◌then◌else◌, Option, Some, None, refl, sym, ap, ◌∙◌, subst, arith, append-nil, append_assoc, eq-eqb, true≢false}
 use Rattle.std.specs.Prelude.{filter}
 use Rattle.std.specs.List.{AllByRecursion}
@@ -10,8 +10,8 @@ use Rattle.rtps_types.specs.declared.place.Place.{Place}
 use Rattle.rtps_receiver.specs.Events.{EventView}
 use Rattle.rtps_discovery.specs.Addressed.{is_discovery}
 use Rattle.rtps_discovery.specs.Announcement.{Announcement, Comes, Leave, Offers, Withdraws, Asks, AsksNoMore}
-use Rattle.rtps_discovery.specs.Changes.{known_run}
-use Rattle.rtps_discovery.specs.Known.{Known, Wish, known_after, reader_at}
+use Rattle.rtps_discovery.specs.Changes.{ChangeAt, changes, known_run}
+use Rattle.rtps_discovery.specs.Known.{Known, Wish, known_after, moved, passed, reader_at}
 use Rattle.rtps_discovery.specs.Records.{announcements, answered, known_by, noted}
 use Rattle.rtps_proxy.specs.Replies.{ReplyView}
 use Rattle.dds_topic.specs.Decoding.{Decoding}
@@ -23,10 +23,11 @@ use Rattle.rtps_run.specs.Outcome.{report_view}
 use Rattle.rtps_run.specs.Seen.{notices_by, reader_count}
 use Rattle.rtps_run.specs.Standing.{AllKnown, ReadersStand, StandsFor}
 use Rattle.rtps_run.specs.Steps.{ReaderStep, step_puts, steps_run, world_stepped}
-use Rattle.rtps_run.specs.World.{ReportView, World, discovery_puts, doings, known_after_event, puts_at, puts_below, puts_run, sent_by, world_after}
+use Rattle.rtps_run.specs.Occurrence.{Occurrence, Passes, Came, Joins, Parts as Goes, place_of}
+use Rattle.rtps_run.specs.World.{ReportView, World, count_after, discovery_puts, doings, known_after_event, known_then, puts_at, puts_below, puts_run, sent_by, world_after}
 use Rattle.rtps_run.proofs.Dealt.{notices_by-append}
 use Rattle.rtps_run.proofs.OneOrder.{Rises, filter_none}
-use Rattle.rtps_run.proofs.Reached.{same_entity}
+use Rattle.rtps_run.proofs.Reached.{same_by_changes, same_by_event}
 
 -- ---- sums over the ranks below a count
 
@@ -156,7 +157,7 @@ put_of_steps {M} d place w (s ∷ ss) up =
         let past : reader_count w ≤ s.rank = grind (arith, nat_tests) in
         sums_same more all (reader_count w) (λ k low. sym (others k (λ e. absurd (omega arith))))
 
--- ---- an event
+-- ---- an occurrence
 
 -- no announcement changes our readers
 pub readers_after : (k : Known) (a : Announcement) → (known_after k a).readers ≡ k.readers
@@ -178,72 +179,72 @@ readers_if false j k e = refl
 pub readers_stay : (k : Known) (e : EventView) → (known_after_event k e).readers ≡ k.readers
 readers_stay k e = readers_if (is_discovery e.writer) (known_by k e) k (readers_run (noted k e) (announcements k e) ∙ readers_if _ _ k refl)
 
--- discovery's part of an event, before the readers' part
-abbrev pub discovered : {M : Type 0} → World M → EventView → World M
-discovered w e = record { known = known_after_event w.known e; readers = w.readers; put = w.put ++ discovery_puts w.known e }
+-- discovery's part of an occurrence, before the readers' part
+abbrev pub discovered : {M : Type 0} → World M → Occurrence → World M
+discovered w o = record { known = known_then w.known o; readers = w.readers; put = w.put ++ discovery_puts w.known o }
 
-below_sums : {M : Type 0} (d : Decoding M) (k : Known) (e : EventView) (readers : ℕ → Reader) (n : ℕ) → puts_below d k e readers n ≡ sums (λ rank. puts_run d e.place rank (readers rank) (doings k rank e)) n
-below_sums d k e readers zero = refl
-below_sums d k e readers (suc n) = ap (λ l. l ++ puts_run d e.place n (readers n) (doings k n e)) (below_sums d k e readers n)
+below_sums : {M : Type 0} (d : Decoding M) (k : Known) (o : Occurrence) (readers : ℕ → Reader) (n : ℕ) → puts_below d k o readers n ≡ sums (λ rank. puts_run d (place_of o) rank (readers rank) (doings k rank o)) n
+below_sums d k o readers zero = refl
+below_sums d k o readers (suc n) = ap (λ l. l ++ puts_run d (place_of o) n (readers n) (doings k n o)) (below_sums d k o readers n)
 
--- steps by rising rank that ask what the event asks of each reader make of the world what the event does
-pub event_put : {M : Type 0} (d : Decoding M) (w : World M) (e : EventView) (ss : List ReaderStep) → Rises comes_before ss
-    → ((rank : ℕ) → rank < reader_count w → asks_for rank ss ≡ doings w.known rank e) → (world_after d w e).put ≡ (steps_run d e.place (discovered w e) ss).put
-event_put d w e ss up same =
-    let n : length (known_after_event w.known e).readers ≡ reader_count w = ap length (readers_stay w.known e) in
-    sym (append_assoc w.put (discovery_puts w.known e) (puts_below d w.known e w.readers (reader_count w)))
-    ∙ ap (λ l. (w.put ++ discovery_puts w.known e) ++ l)
-    (below_sums d w.known e w.readers (reader_count w)
-    ∙ sums_same (λ rank. puts_run d e.place rank (w.readers rank) (doings w.known rank e)) (parts d e.place w.readers ss) (reader_count w) (λ k less. ap (puts_run d e.place k (w.readers k)) (sym (same k less)))
-    ∙ ap (sums (parts d e.place w.readers ss)) (sym n))
-    ∙ sym (put_of_steps d e.place (discovered w e) ss up)
+-- steps by rising rank that ask what the occurrence asks of each reader make of the world what the occurrence does
+pub occurrence_put : {M : Type 0} (d : Decoding M) (w : World M) (o : Occurrence) (ss : List ReaderStep) → Rises comes_before ss
+    → ((rank : ℕ) → rank < count_after w o → asks_for rank ss ≡ doings w.known rank o) → (world_after d w o).put ≡ (steps_run d (place_of o) (discovered w o) ss).put
+occurrence_put d w o ss up same =
+    sym (append_assoc w.put (discovery_puts w.known o) (puts_below d w.known o w.readers (count_after w o)))
+    ∙ ap (λ l. (w.put ++ discovery_puts w.known o) ++ l)
+    (below_sums d w.known o w.readers (count_after w o)
+    ∙ sums_same (λ rank. puts_run d (place_of o) rank (w.readers rank) (doings w.known rank o)) (parts d (place_of o) w.readers ss) (count_after w o) (λ k less. ap (puts_run d (place_of o) k (w.readers k)) (sym (same k less))))
+    ∙ sym (put_of_steps d (place_of o) (discovered w o) ss up)
 
-pub event_stands : {V M A : Type 0} (view : V → M) (d : Decoding M) (w : World M) (e : EventView) (ss : List ReaderStep) (earlier : List (ReportView M)) (states : List ReaderView) (reports : List (Report V A)) → Rises comes_before ss
-    → ((rank : ℕ) → rank < reader_count w → asks_for rank ss ≡ doings w.known rank e)
-    → ReadersStand view (steps_run d e.place (discovered w e) ss) earlier states reports → ReadersStand view (world_after d w e) earlier states reports
-event_stands {V} {M} {A} view d w e ss earlier states reports up same stands =
-    let v = steps_run d e.place (discovered w e) ss in
-    let put : (world_after d w e).put ≡ v.put = event_put d w e ss up same in
-    let known : v.known ≡ known_after_event w.known e = known_of_steps d e.place (discovered w e) ss in
-    let count : length v.known.readers ≡ reader_count w = ap (λ (k : Known). length k.readers) known ∙ ap length (readers_stay w.known e) in
+pub occurrence_stands : {V M A : Type 0} (view : V → M) (d : Decoding M) (w : World M) (o : Occurrence) (ss : List ReaderStep) (earlier : List (ReportView M)) (states : List ReaderView) (reports : List (Report V A)) → Rises comes_before ss
+    → ((rank : ℕ) → rank < count_after w o → asks_for rank ss ≡ doings w.known rank o)
+    → ReadersStand view (steps_run d (place_of o) (discovered w o) ss) earlier states reports → ReadersStand view (world_after d w o) earlier states reports
+occurrence_stands {V} {M} {A} view d w o ss earlier states reports up same stands =
+    let v = steps_run d (place_of o) (discovered w o) ss in
+    let put : (world_after d w o).put ≡ v.put = occurrence_put d w o ss up same in
+    let known : v.known ≡ known_then w.known o = known_of_steps d (place_of o) (discovered w o) ss in
+    let count : length v.known.readers ≡ count_after w o = ap (λ (k : Known). length k.readers) known in
     record {
-      count = stands.count ∙ ap (λ (k : Known). length k.readers) known;
+      count = stands.count ∙ count;
       readers = λ rank other less.
-          let below : rank < reader_count w = omega (arith, less, stands.count, count) in
-          let is : v.readers rank ≡ reader_run (w.readers rank) (doings w.known rank e) = reader_of_steps d e.place (discovered w e) ss rank ∙ ap (reader_run (w.readers rank)) (same rank below) in
-          subst (λ (r : Reader). StandsFor r (notices_by rank (world_after d w e).put) rank (get_or states rank other)) is
+          let below : rank < count_after w o = omega (arith, less, stands.count, count) in
+          let is : v.readers rank ≡ reader_run (w.readers rank) (doings w.known rank o) = reader_of_steps d (place_of o) (discovered w o) ss rank ∙ ap (reader_run (w.readers rank)) (same rank below) in
+          subst (λ (r : Reader). StandsFor r (notices_by rank (world_after d w o).put) rank (get_or states rank other)) is
           (subst (λ (l : List (ReportView M)). StandsFor (v.readers rank) (notices_by rank l) rank (get_or states rank other)) (sym put) (stands.readers rank other less));
       put = put ∙ stands.put;
     }
 
 -- discovery's part puts out no notice
-no_notice : {M : Type 0} (w : World M) (e : EventView) (rank : ℕ) → notices_by rank (discovery_puts {M = M} w.known e) ≡ []
-no_notice {M} w e rank = by_test (is_discovery e.writer) (answered w.known e)
+pub no_notice : {M : Type 0} (k : Known) (o : Occurrence) (rank : ℕ) → notices_by rank (discovery_puts {M = M} k o) ≡ []
+no_notice {M} k (Passes index moment) rank = refl
+no_notice {M} k (Joins index r) rank = refl
+no_notice {M} k (Goes index gone) rank = refl
+no_notice {M} k (Came e) rank = by_test (is_discovery e.writer) (answered k e)
   where
     by_test : (b : Bool) (o : Option ReplyView) → notices_by rank (if b then map (sent_by {M = M} None) (placed e.place o) else []) ≡ []
     by_test true None = refl
     by_test true (Some s) = refl
     by_test false o = refl
 
--- the readers stay as they are at discovery's part
-pub discovered_stands : {V M A : Type 0} (view : V → M) (w : World M) (e : EventView) (earlier : List (ReportView M)) (states : List ReaderView) (reports more : List (Report V A))
-    → ReadersStand view w earlier states reports → map (report_view view) more ≡ map (report_view view) reports ++ discovery_puts w.known e → ReadersStand view (discovered w e) earlier states more
-discovered_stands {V} {M} {A} view w e earlier states reports more stands put =
-    let same : length (known_after_event w.known e).readers ≡ reader_count w = ap length (readers_stay w.known e) in
-    record {
-      count = stands.count ∙ sym same;
-      readers = λ rank other less.
-          let given : notices_by rank (w.put ++ discovery_puts w.known e) ≡ notices_by rank w.put = notices_by-append rank w.put (discovery_puts w.known e) ∙ ap (λ l. notices_by rank w.put ++ l) (no_notice w e rank) ∙ append-nil (notices_by rank w.put) in
-          rw given (stands.readers rank other less);
-      put = ap (λ l. l ++ discovery_puts w.known e) stands.put ∙ append_assoc earlier (map (report_view view) reports) (discovery_puts w.known e) ∙ ap (λ l. earlier ++ l) (sym put);
-    }
+-- the readers stay as they are at discovery's part, where none comes
+pub discovered_stands : {V M A : Type 0} (view : V → M) (w : World M) (o : Occurrence) (earlier : List (ReportView M)) (states : List ReaderView) (reports more : List (Report V A)) → count_after w o ≡ reader_count w
+    → ReadersStand view w earlier states reports → map (report_view view) more ≡ map (report_view view) reports ++ discovery_puts w.known o → ReadersStand view (discovered w o) earlier states more
+discovered_stands {V} {M} {A} view w o earlier states reports more same stands put = record {
+  count = stands.count ∙ sym same;
+  readers = λ rank other less.
+      let given : notices_by rank (w.put ++ discovery_puts w.known o) ≡ notices_by rank w.put = notices_by-append rank w.put (discovery_puts w.known o) ∙ ap (λ l. notices_by rank w.put ++ l) (no_notice {M = M} w.known o rank) ∙ append-nil (notices_by rank w.put) in
+      rw given (stands.readers rank other less);
+  put = ap (λ l. l ++ discovery_puts w.known o) stands.put ∙ append_assoc earlier (map (report_view view) reports) (discovery_puts w.known o) ∙ ap (λ l. earlier ++ l) (sym put);
+}
 
-same_entities : (r : Reader) (ds : List StepView) → (reader_run r ds).entity ≡ r.entity
-same_entities r [] = refl
-same_entities r (d ∷ ds) = same_entities (reader_after r d) ds ∙ same_entity r d
-
--- the readers stay known, and by the same entities
-pub named_after : {M : Type 0} (d : Decoding M) (w : World M) (e : EventView) → AllKnown w → AllKnown (world_after d w e)
+-- the readers stay known at an event, and by the same entities
+pub named_after : {M : Type 0} (d : Decoding M) (w : World M) (e : EventView) → AllKnown w → AllKnown (world_after d w (Came e))
 named_after d w e named rank below =
     let less : rank < reader_count w = omega (arith, below, ap length (readers_stay w.known e)) in
-    ap (λ l. option_map (λ (r : Wish). r.entity) (reader_at l rank)) (readers_stay w.known e) ∙ named rank less ∙ ap Some (sym (same_entities (w.readers rank) (doings w.known rank e)))
+    ap (λ l. option_map (λ (r : Wish). r.entity) (reader_at l rank)) (readers_stay w.known e) ∙ named rank less ∙ ap Some (sym (same_by_event w.known rank (w.readers rank) e))
+
+-- and when a moment passes
+pub named_passes : {M : Type 0} (d : Decoding M) (w : World M) (index moment : ℕ) → AllKnown w → AllKnown (world_after d w (Passes index moment))
+named_passes d w index moment named rank below =
+    named rank below ∙ ap Some (sym (same_by_changes (w.readers rank) (filter (λ (c : ChangeAt). c.rank == rank) (changes (moved moment w.known) (passed moment w.known)))))

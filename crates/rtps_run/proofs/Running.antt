@@ -1,8 +1,8 @@
--- The run, one event and one datagram more.
-use Rattle.std.proofs.Common.{◌≡◌, ℕ, zero, suc, ◌+◌, ◌<◌, List, [], ◌∷◌, ◌++◌, length, map, take, Some, get_or, refl, sym, ap, ◌∙◌, append_assoc, append-nil, arith}
+-- The run, one occurrence and one input more.
+use Rattle.std.proofs.Common.{◌≡◌, ℕ, zero, suc, ◌+◌, ◌<◌, ◌≤◌, List, [], ◌∷◌, ◌++◌, length, map, take, Option, None, Some, get_or, refl, sym, ap, ◌∙◌, append_assoc, append-nil, arith}
 use Rattle.std.proofs.Math.Seq.{take-append_seam}
 use Rattle.std.specs.Option.{option_map}
-use Rattle.std.proofs.lemmas.List.{length-map, take_more}
+use Rattle.std.proofs.lemmas.List.{length-map, map-append, take_more}
 use Rattle.rtps_types.specs.declared.identity.EntityId.{EntityId}
 use Rattle.rtps_types.specs.declared.identity.GuidPrefix.{GuidPrefix}
 use Rattle.rtps_receiver.specs.Events.{EventView, events_of}
@@ -11,46 +11,87 @@ use Rattle.rtps_discovery.specs.declared.config.ReaderConfig.{ReaderConfig}
 use Rattle.rtps_discovery.specs.Known.{Wish, reader_at}
 use Rattle.rtps_discovery.specs.Start.{reader_of, wish_of}
 use Rattle.dds_topic.specs.Decoding.{Decoding}
+use Rattle.rtps_reader.specs.declared.status.Status.{Status}
+use Rattle.rtps_run.specs.Input.{Input, Datagram, Tick, AddReader, RemoveReader, added, events_at, events_from, index_after, index_after_all, occurrences_from, occurrences_of}
+use Rattle.rtps_run.specs.Occurrence.{Occurrence, Passes, Came, Parts}
 use Rattle.rtps_run.specs.World.{World, world_after}
-use Rattle.rtps_run.specs.Run.{entity_of, events_from, first_world, run, world_run}
-use Rattle.rtps_run.specs.Seen.{reader_count}
+use Rattle.rtps_run.specs.Run.{entity_of, first_world, run, world_run}
+use Rattle.rtps_run.specs.Seen.{reader_count, status_at, status_seen}
 use Rattle.rtps_run.specs.Standing.{AllKnown}
+use Rattle.rtps_run.proofs.Naming.{reader_past}
+use Rattle.rtps_run.proofs.Counting.{vacated_length}
 use Rattle.rtps_run.proofs.Routed.{named_after, readers_stay}
 
-pub world_run-append : {M : Type 0} (decoding : Decoding M) (w : World M) (xs ys : List EventView) → world_run decoding w (xs ++ ys) ≡ world_run decoding (world_run decoding w xs) ys
+pub world_run-append : {M : Type 0} (decoding : Decoding M) (w : World M) (xs ys : List Occurrence) → world_run decoding w (xs ++ ys) ≡ world_run decoding (world_run decoding w xs) ys
 world_run-append decoding w [] ys = refl
 world_run-append decoding w (x ∷ xs) ys = world_run-append decoding (world_after decoding w x) xs ys
 
--- one event more
-pub world_run_more : {M : Type 0} (decoding : Decoding M) (w : World M) (es : List EventView) (i : ℕ) (d : EventView) → i < length es
-    → world_run decoding w (take (i + 1) es) ≡ world_after decoding (world_run decoding w (take i es)) (get_or es i d)
-world_run_more decoding w es i d h = ap (world_run decoding w) (take_more es i d h) ∙ world_run-append decoding w (take i es) (get_or es i d ∷ [])
+-- one occurrence more
+pub world_run_more : {M : Type 0} (decoding : Decoding M) (w : World M) (os : List Occurrence) (i : ℕ) (d : Occurrence) → i < length os
+    → world_run decoding w (take (i + 1) os) ≡ world_after decoding (world_run decoding w (take i os)) (get_or os i d)
+world_run_more decoding w os i d h = ap (world_run decoding w) (take_more os i d h) ∙ world_run-append decoding w (take i os) (get_or os i d ∷ [])
+
+-- one event more of a list of events
+pub event_more : {M : Type 0} (decoding : Decoding M) (w : World M) (es : List EventView) (i : ℕ) (d : EventView) → i < length es
+    → world_run decoding w (map Came (take (i + 1) es)) ≡ world_after decoding (world_run decoding w (map Came (take i es))) (Came (get_or es i d))
+event_more decoding w es i d h =
+    ap (λ l. world_run decoding w (map Came l)) (take_more es i d h)
+    ∙ ap (world_run decoding w) (map-append Came (take i es) (get_or es i d ∷ []))
+    ∙ world_run-append decoding w (map Came (take i es)) (Came (get_or es i d) ∷ [])
 
 -- no event changes how many readers there are
-pub count_stays : {M : Type 0} (decoding : Decoding M) (w : World M) (es : List EventView) → reader_count (world_run decoding w es) ≡ reader_count w
+pub count_stays : {M : Type 0} (decoding : Decoding M) (w : World M) (es : List EventView) → reader_count (world_run decoding w (map Came es)) ≡ reader_count w
 count_stays decoding w [] = refl
-count_stays decoding w (e ∷ es) = count_stays decoding (world_after decoding w e) es ∙ ap length (readers_stay w.known e)
+count_stays decoding w (e ∷ es) = count_stays decoding (world_after decoding w (Came e)) es ∙ ap length (readers_stay w.known e)
 
--- some datagrams more
-pub events_more : (own : GuidPrefix) (n : ℕ) (xs ys : List (List ℕ)) → events_from own n (xs ++ ys) ≡ events_from own n xs ++ events_from own (n + length xs) ys
-events_more own n [] ys = let same : n ≡ n + 0 = omega arith in ap (λ k. events_from own k ys) same
+-- some inputs more
+pub index_more : (n : ℕ) (xs ys : List Input) → index_after_all n (xs ++ ys) ≡ index_after_all (index_after_all n xs) ys
+index_more n [] ys = refl
+index_more n (x ∷ xs) ys = index_more (index_after n x) xs ys
+
+pub events_more : (own : GuidPrefix) (n : ℕ) (xs ys : List Input) → events_from own n (xs ++ ys) ≡ events_from own n xs ++ events_from own (index_after_all n xs) ys
+events_more own n [] ys = refl
 events_more own n (x ∷ xs) ys =
-    let same : n + 1 + length xs ≡ n + length (x ∷ xs) = omega arith in
-    ap (λ l. events_of own n x ++ l) (events_more own (n + 1) xs ys ∙ ap (λ k. events_from own (n + 1) xs ++ events_from own k ys) same)
-    ∙ sym (append_assoc (events_of own n x) (events_from own (n + 1) xs) (events_from own (n + length (x ∷ xs)) ys))
+    ap (λ l. events_at own n x ++ l) (events_more own (index_after n x) xs ys)
+    ∙ sym (append_assoc (events_at own n x) (events_from own (index_after n x) xs) (events_from own (index_after_all n (x ∷ xs)) ys))
 
--- one datagram more
-pub run_more : {M : Type 0} (decoding : Decoding M) (config : Config) (datagrams : List (List ℕ)) (octets : List ℕ) (index : ℕ) → index ≡ length datagrams
-    → run decoding config (datagrams ++ octets ∷ []) ≡ world_run decoding (run decoding config datagrams) (events_of config.own index octets)
-run_more decoding config datagrams octets index e =
-    let same : 0 + length datagrams ≡ index = omega (arith, e) in
-    ap (world_run decoding (first_world config)) (events_more config.own 0 datagrams (octets ∷ []) ∙ ap (λ l. events_from config.own 0 datagrams ++ l) (append-nil (events_of config.own (0 + length datagrams) octets)))
-    ∙ world_run-append decoding (first_world config) (events_from config.own 0 datagrams) (events_of config.own (0 + length datagrams) octets)
-    ∙ ap (λ n. world_run decoding (run decoding config datagrams) (events_of config.own n octets)) same
+pub occurrences_more : (own : GuidPrefix) (n : ℕ) (xs ys : List Input) → occurrences_from own n (xs ++ ys) ≡ occurrences_from own n xs ++ occurrences_from own (index_after_all n xs) ys
+occurrences_more own n [] ys = refl
+occurrences_more own n (x ∷ xs) ys =
+    ap (λ l. occurrences_of own n x ++ l) (occurrences_more own (index_after n x) xs ys)
+    ∙ sym (append_assoc (occurrences_of own n x) (occurrences_from own (index_after n x) xs) (occurrences_from own (index_after_all n (x ∷ xs)) ys))
 
--- a run has the readers of its configuration
-pub run_count : {M : Type 0} (decoding : Decoding M) (config : Config) (datagrams : List (List ℕ)) → reader_count (run decoding config datagrams) ≡ length config.readers.items
-run_count decoding config datagrams = count_stays decoding (first_world config) (events_from config.own 0 datagrams) ∙ length-map config.readers.items reader_of
+-- a batch of inputs more
+pub batch_more : {M : Type 0} (decoding : Decoding M) (config : Config) (inputs batch : List Input) (index : ℕ) → index ≡ index_after_all 0 inputs
+    → run decoding config (inputs ++ batch) ≡ world_run decoding (run decoding config inputs) (occurrences_from config.own index batch)
+batch_more decoding config inputs batch index e =
+    ap (world_run decoding (first_world config)) (occurrences_more config.own 0 inputs batch)
+    ∙ world_run-append decoding (first_world config) (occurrences_from config.own 0 inputs) (occurrences_from config.own (index_after_all 0 inputs) batch)
+    ∙ ap (λ n. world_run decoding (run decoding config inputs) (occurrences_from config.own n batch)) (sym e)
+
+-- one input more
+pub run_more : {M : Type 0} (decoding : Decoding M) (config : Config) (inputs : List Input) (x : Input) (index : ℕ) → index ≡ index_after_all 0 inputs
+    → run decoding config (inputs ++ x ∷ []) ≡ world_run decoding (run decoding config inputs) (occurrences_of config.own index x)
+run_more decoding config inputs x index e =
+    batch_more decoding config inputs (x ∷ []) index e
+    ∙ ap (world_run decoding (run decoding config inputs)) (append-nil (occurrences_of config.own index x))
+
+-- a run over inputs by which no reader comes has the readers of its configuration
+count_kept : {M : Type 0} (decoding : Decoding M) (own : GuidPrefix) (n : ℕ) (inputs : List Input) (w : World M) → added inputs ≡ [] → reader_count (world_run decoding w (occurrences_from own n inputs)) ≡ reader_count w
+count_kept decoding own n [] w none = refl
+count_kept {M} decoding own n (Datagram moment octets ∷ inputs) w none =
+    let passed_by : World M = world_after decoding w (Passes n moment) in
+    let came : World M = world_run decoding passed_by (map Came (events_of own n octets)) in
+    ap (λ (v : World M). reader_count v) (world_run-append decoding passed_by (map Came (events_of own n octets)) (occurrences_from own (n + 1) inputs))
+    ∙ count_kept decoding own (n + 1) inputs came none
+    ∙ count_stays decoding passed_by (events_of own n octets)
+count_kept decoding own n (Tick moment ∷ inputs) w none = count_kept decoding own n inputs (world_after decoding w (Passes n moment)) none
+count_kept decoding own n (AddReader r ∷ inputs) w none = absurd cc
+count_kept decoding own n (RemoveReader gone ∷ inputs) w none =
+    count_kept decoding own n inputs (world_after decoding w (Parts n gone)) none ∙ vacated_length gone w.known.readers
+
+pub run_count : {M : Type 0} (decoding : Decoding M) (config : Config) (inputs : List Input) → added inputs ≡ [] → reader_count (run decoding config inputs) ≡ length config.readers.items
+run_count decoding config inputs none = count_kept decoding config.own 0 inputs (first_world config) none ∙ length-map config.readers.items reader_of
 
 -- the readers of a configuration are known, each by its own entity
 pub record HasWish (readers : List ReaderConfig) (rank : ℕ) : Type 0 where
@@ -70,13 +111,25 @@ first_named readers rank below =
     let there = wish_at readers rank (omega (arith, below, length-map readers reader_of)) in
     ap (option_map (λ (r : Wish). r.entity)) there.found ∙ ap (λ (e : EntityId). Some e) there.named
 
-all_named : {M : Type 0} (decoding : Decoding M) (w : World M) (es : List EventView) → AllKnown w → AllKnown (world_run decoding w es)
-all_named decoding w [] named = named
-all_named decoding w (e ∷ es) named = all_named decoding (world_after decoding w e) es (named_after decoding w e named)
+-- and so they are at the start
+pub first_known_named : (M : Type 0) (config : Config) → AllKnown (first_world {M = M} config)
+first_known_named M config rank below = first_named config.readers.items rank below
 
--- and so they are in each run of it
-pub run_named : {M : Type 0} (decoding : Decoding M) (config : Config) (datagrams : List (List ℕ)) → AllKnown (run decoding config datagrams)
-run_named decoding config datagrams = all_named decoding (first_world config) (events_from config.own 0 datagrams) (λ rank below. first_named config.readers.items rank below)
+-- and after events
+pub events_named : {M : Type 0} (decoding : Decoding M) (w : World M) (es : List EventView) → AllKnown w → AllKnown (world_run decoding w (map Came es))
+events_named decoding w [] named = named
+events_named decoding w (e ∷ es) named = events_named decoding (world_after decoding w (Came e)) es (named_after decoding w e named)
+
+-- so there is a status for each rank that was given, and for no other
+some_known : (o : Option Wish) (entity : EntityId) (s : Status) → option_map (λ (r : Wish). r.entity) o ≡ Some entity → option_map (λ (r : Wish). s) o ≡ Some s
+some_known None entity s h = absurd cc
+some_known (Some r) entity s h = refl
+
+pub seen_known : {M : Type 0} (w : World M) (rank : ℕ) → AllKnown w → rank < reader_count w → status_seen w rank ≡ Some (status_at w rank)
+seen_known w rank named below = some_known (reader_at w.known.readers rank) (w.readers rank).entity (status_at w rank) (named rank below)
+
+pub seen_past : {M : Type 0} (w : World M) (rank : ℕ) → reader_count w ≤ rank → status_seen w rank ≡ None
+seen_past w rank past = ap (option_map (λ (r : Wish). status_at w rank)) (reader_past w.known.readers rank past)
 
 -- a front is what was put in front
 pub front_back : {X : Type 0} (n : ℕ) (xs zs : List X) → length xs ≡ n → take n (xs ++ zs) ≡ xs

@@ -14,11 +14,11 @@ use Rattle.std.proofs.lemmas.Map.Lookups.{exact_unsigned}
 use Rattle.rtps_types.specs.declared.identity.Guid.{Guid}
 use Rattle.rtps_types.specs.declared.place.Place.{Place}
 use Rattle.rtps_types.specs.Place.{place_order}
-use Rattle.rtps_receiver.specs.Events.{EventView}
 use Rattle.rtps_discovery.specs.Addressed.{is_addressed, is_discovery}
 use Rattle.rtps_types.specs.MatchChange.{MatchChange, Matches, Unmatches, Refuses}
-use Rattle.rtps_discovery.specs.Changes.{ChangeAt}
-use Rattle.rtps_discovery.specs.Known.{Known, Wish, is_matched, reader_at}
+use Rattle.rtps_discovery.specs.Changes.{ChangeAt, changes}
+use Rattle.rtps_discovery.specs.Joining.{joined, without_fixed, without_reader}
+use Rattle.rtps_discovery.specs.Known.{Known, Wish, is_matched, moved, passed, reader_at}
 use Rattle.rtps_discovery.specs.Records.{answered, changes_by}
 use Rattle.dds_topic.specs.Decoding.{Decoding}
 use Rattle.rtps_proxy.specs.Change.{ChangeView}
@@ -28,23 +28,25 @@ use Rattle.rtps_proxy.specs.Replies.{ReplyView}
 use Rattle.rtps_reader.specs.declared.notice.Notice.{Notice}
 use Rattle.rtps_reader.specs.declared.notice.NoticeKind.TheVariants as notice
 use Rattle.rtps_reader.specs.Reader.{Reader, answer_at, loses, lost_at, placed, presented, reader_after, ready_at, sends, sent_of, tells, told_of}
-use Rattle.rtps_reader.specs.Step.{StepView, Takes, Changes, asks_of}
+use Rattle.rtps_reader.specs.Step.{StepView, Takes, Changes, Starts, Stops, asks_of}
 use Rattle.rtps_run.specs.declared.outcome.Report.{Report}
 use Rattle.rtps_run.specs.declared.outcome.Report.TheVariants as report
 use Rattle.rtps_run.specs.declared.turn.ReportKind.{ReportKind}
 use Rattle.rtps_run.specs.declared.turn.ReportKind.TheVariants as kind
 use Rattle.rtps_run.specs.declared.turn.Turn.{Turn}
+use Rattle.rtps_run.specs.Occurrence.{Occurrence, Passes, Came, Joins, Parts as Goes, head_of, place_of}
 use Rattle.rtps_run.specs.Outcome.{report_view}
 use Rattle.rtps_run.specs.Presentation.{not_after}
+use Rattle.rtps_run.specs.Rising.{OccurrencesRise}
 use Rattle.rtps_run.specs.Run.{world_run}
 use Rattle.rtps_run.specs.Seen.{notices_by, reader_count}
 use Rattle.rtps_run.specs.Turn.{kind_order, turn_of, turn_order}
-use Rattle.rtps_run.specs.World.{ReportView, NoticeOf, AnswerOf, World, addressed_to, changes_for, discovery_puts, doings, puts_at, puts_below, puts_run, sent_by, world_after}
-use Rattle.rtps_run.proofs.Routed.{readers_stay}
+use Rattle.rtps_run.specs.World.{ReportView, NoticeOf, AnswerOf, World, addressed_to, changes_for, count_after, discovery_puts, doings, is_reliable, puts_at, puts_below, puts_run, sent_by, world_after}
+use Rattle.rtps_run.proofs.Counting.{no_fewer_run, no_more}
 use Rattle.rtps_run.proofs.Dealt.{notices_by-append}
-use Rattle.rtps_run.proofs.Matched.{heard_event, none_below}
+use Rattle.rtps_run.proofs.Matched.{heard_then, none_below}
 use Rattle.rtps_run.proofs.OneOrder.{Rises, rises_then}
-use Rattle.rtps_run.proofs.Places.{PlacesRise, all_append, all_weaker}
+use Rattle.rtps_run.proofs.Places.{all_append, all_weaker}
 
 kinds_flip : (a b : ReportKind) → kind_order a b ≡ ordering_reverse (kind_order b a)
 kinds_flip kind.Notice kind.Notice = refl
@@ -163,7 +165,7 @@ rises_level t (x ∷ xs) h = (all_weaker (λ p. put_turn p ≡ t) (λ y. before 
 abbrev pub turn_at : Place → ℕ → ReportKind → Turn
 turn_at place rank k = record { place = place; rank = Some rank; kind = k }
 
--- what a reader puts out at an event has the event's place
+-- what a reader puts out at an occurrence has its place
 loses_at : (M : Type 0) (place : Place) (w : Guid) (count : ℕ) → AllByRecursion (λ (n : Notice M). n.place ≡ place) (loses place w count)
 loses_at M place w count = by_test (count == 0)
   where
@@ -184,6 +186,8 @@ tells_at d r place (Takes w e) = told_at d place w e (match_with w r.matches)
 tells_at d r place (Changes (Matches w locators)) = (refl, tt)
 tells_at d r place (Changes (Unmatches w)) = (refl, tt)
 tells_at d r place (Changes (Refuses w policy)) = (refl, tt)
+tells_at d r place (Starts own entity reliable) = tt
+tells_at d r place Stops = tt
 
 placed_at : (place : Place) (o : Option ReplyView) → AllByRecursion (λ (s : Place × ReplyView). s.0 ≡ place) (placed place o)
 placed_at place None = tt
@@ -198,6 +202,8 @@ sends_at r place (Takes w e) = sent_at place e (match_with w r.matches)
 sends_at r place (Changes (Matches w locators)) = tt
 sends_at r place (Changes (Unmatches w)) = tt
 sends_at r place (Changes (Refuses w policy)) = tt
+sends_at r place (Starts own entity reliable) = tt
+sends_at r place Stops = tt
 
 hears_turn : {M : Type 0} (place : Place) (rank : ℕ) (ns : List (Notice M)) → AllByRecursion (λ n. n.place ≡ place) ns → AllByRecursion (λ p. put_turn p ≡ turn_at place rank kind.Notice) (map (NoticeOf rank) ns)
 hears_turn place rank [] h = tt
@@ -210,7 +216,7 @@ sends_turn M place rank (s ∷ ss) h = (ap (λ l. turn_at l rank kind.Answer) h.
 answer_last : (place : Place) (rank : ℕ) → is_lt (turn_order (turn_at place rank kind.Answer) (turn_at place rank kind.Notice)) ≡ false
 answer_last place rank = rw (tied_itself places_total place, tied_itself nat_cmp_total rank) refl
 
--- what the reader of a rank puts out at an event
+-- what the reader of a rank puts out at an occurrence
 record IsAt {M : Type 0} (at : Place) (own : ℕ) (p : ReportView M) : Type 0 where
   place : (put_turn p).place ≡ at
   rank : (put_turn p).rank ≡ Some own
@@ -253,18 +259,44 @@ module _ {M : Type 0} (d : Decoding M) (place : Place) (rank : ℕ) where
   no_answer r (Unmatches w) = refl
   no_answer r (Refuses w policy) = refl
 
-  -- so changes of what is known bring notices alone
-  changes_told : (r : Reader) (cs : List ChangeAt) → Notices (puts_run d place rank r (map (λ (c : ChangeAt). Changes c.what) cs))
-  changes_told r [] = tt
-  changes_told r (c ∷ cs) =
-      all_append (λ p. put_turn p ≡ turn_at place rank kind.Notice) (puts_at d place rank r (Changes c.what)) (puts_run d place rank (reader_after r (Changes c.what)) (map (λ (c : ChangeAt). Changes c.what) cs))
+  -- so changes of what is known bring notices alone, also where the reader stops after them
+  abbrev heard : List ChangeAt → List StepView
+  heard cs = map (λ (c : ChangeAt). Changes c.what) cs
+
+  changes_told : (r : Reader) (cs : List ChangeAt) (last : List StepView) → ((s : Reader) → Notices (puts_run d place rank s last)) → Notices (puts_run d place rank r (heard cs ++ last))
+  changes_told r [] last quiet = quiet r
+  changes_told r (c ∷ cs) last quiet =
+      all_append (λ p. put_turn p ≡ turn_at place rank kind.Notice) (puts_at d place rank r (Changes c.what)) (puts_run d place rank (reader_after r (Changes c.what)) (heard cs ++ last))
       (subst (λ (ss : List (Place × ReplyView)). Notices (map (NoticeOf rank) (tells d r place (Changes c.what)) ++ map (sent_by (Some rank)) ss)) (sym (no_answer r c.what))
       (subst Notices (sym (append-nil (map (NoticeOf rank) (tells d r place (Changes c.what))))) (step_told r (Changes c.what))))
-      (changes_told (reader_after r (Changes c.what)) cs)
+      (changes_told (reader_after r (Changes c.what)) cs last quiet)
 
--- what a reader puts out at an event comes by turn: its notices, and then its answer
-reader_rises : {M : Type 0} (d : Decoding M) (k : Known) (rank : ℕ) (r : Reader) (e : EventView) → Rises (before {M = M}) (puts_run d e.place rank r (doings k rank e))
-reader_rises {M} d k rank r e = by_kind (is_discovery e.writer)
+  -- by turn
+  changes_rise : (r : Reader) (cs : List ChangeAt) → Rises (before {M = M}) (puts_run d place rank r (heard cs))
+  changes_rise r cs =
+      subst (λ ds. Rises (before {M = M}) (puts_run d place rank r ds)) (append-nil (heard cs))
+      (rises_level (turn_at place rank kind.Notice) _ (changes_told r cs [] (λ s. tt)))
+
+  ends_rise : (r : Reader) (cs : List ChangeAt) (b : Bool) → Rises (before {M = M}) (puts_run d place rank r (heard cs ++ (if b then Stops ∷ [] else [])))
+  ends_rise r cs true = rises_level (turn_at place rank kind.Notice) _ (changes_told r cs (Stops ∷ []) (λ s. tt))
+  ends_rise r cs false = rises_level (turn_at place rank kind.Notice) _ (changes_told r cs [] (λ s. tt))
+
+-- what a reader puts out at an occurrence comes by turn: its notices, and then its answer
+reader_rises : {M : Type 0} (d : Decoding M) (k : Known) (rank : ℕ) (r : Reader) (o : Occurrence) → Rises (before {M = M}) (puts_run d (place_of o) rank r (doings k rank o))
+reader_rises {M} d k rank r (Passes index moment) = changes_rise d (head_of index) rank r (filter (λ (c : ChangeAt). c.rank == rank) (changes (moved moment k) (passed moment k)))
+reader_rises {M} d k rank r (Joins index wish) = by_new (rank == length k.readers)
+  where
+    cs : List ChangeAt
+    cs = filter (λ (c : ChangeAt). c.rank == rank) (changes (without_fixed (length k.readers) k) (joined wish k))
+
+    start : StepView
+    start = Starts k.own wish.entity (is_reliable wish.policies.reliability)
+
+    by_new : (b : Bool) → Rises (before {M = M}) (puts_run d (head_of index) rank r ((if b then start ∷ [] else []) ++ map (λ (c : ChangeAt). Changes c.what) cs))
+    by_new true = changes_rise d (head_of index) rank (reader_after r start) cs
+    by_new false = changes_rise d (head_of index) rank r cs
+reader_rises {M} d k rank r (Goes index gone) = ends_rise d (head_of index) rank r (filter (λ (c : ChangeAt). c.rank == rank) (changes k (without_reader gone k))) (rank == gone)
+reader_rises {M} d k rank r (Came e) = by_kind (is_discovery e.writer)
   where
     by_test : (b : Bool) → Rises (before {M = M}) (puts_run d e.place rank r (if b then asks_of e ∷ [] else []))
     by_test true = subst (Rises before) (sym (append-nil (puts_at d e.place rank r (asks_of e)))) (step_rises d e.place rank r (asks_of e))
@@ -275,22 +307,22 @@ reader_rises {M} d k rank r e = by_kind (is_discovery e.writer)
     by_wish (Some wish) = by_test (is_addressed (is_matched k rank) wish.entity e)
 
     by_kind : (b : Bool) → Rises (before {M = M}) (puts_run d e.place rank r (if b then changes_for rank (changes_by k e) else addressed_to k rank e (reader_at k.readers rank)))
-    by_kind true = rises_level (turn_at e.place rank kind.Notice) _ (changes_told d e.place rank r (filter (λ c. c.rank == rank) (changes_by k e)))
+    by_kind true = changes_rise d e.place rank r (filter (λ (c : ChangeAt). c.rank == rank) (changes_by k e))
     by_kind false = by_wish (reader_at k.readers rank)
 
--- what the readers of the ranks below a count put out at an event
+-- what the readers of the ranks below a count put out at an occurrence
 record IsBelow {M : Type 0} (at : Place) (count : ℕ) (p : ReportView M) : Type 0 where
   place : (put_turn p).place ≡ at
   rank : ℕ
   is : (put_turn p).rank ≡ Some rank
   below : rank < count
 
-below_at : {M : Type 0} (d : Decoding M) (k : Known) (e : EventView) (readers : ℕ → Reader) (n : ℕ) → AllByRecursion (IsBelow e.place n) (puts_below d k e readers n)
-below_at d k e readers zero = tt
-below_at d k e readers (suc n) =
-    all_append (IsBelow e.place (suc n)) (puts_below d k e readers n) (puts_run d e.place n (readers n) (doings k n e))
-    (all_weaker (IsBelow e.place n) (IsBelow e.place (suc n)) _ (λ p b. record { place = b.place; rank = b.rank; is = b.is; below = omega (arith, b.below) }) (below_at d k e readers n))
-    (all_weaker (IsAt e.place n) (IsBelow e.place (suc n)) _ (λ p b. record { place = b.place; rank = n; is = b.rank; below = omega arith }) (steps_at d e.place n (readers n) (doings k n e)))
+below_at : {M : Type 0} (d : Decoding M) (k : Known) (o : Occurrence) (readers : ℕ → Reader) (n : ℕ) → AllByRecursion (IsBelow (place_of o) n) (puts_below d k o readers n)
+below_at d k o readers zero = tt
+below_at d k o readers (suc n) =
+    all_append (IsBelow (place_of o) (suc n)) (puts_below d k o readers n) (puts_run d (place_of o) n (readers n) (doings k n o))
+    (all_weaker (IsBelow (place_of o) n) (IsBelow (place_of o) (suc n)) _ (λ p b. record { place = b.place; rank = b.rank; is = b.is; below = omega (arith, b.below) }) (below_at d k o readers n))
+    (all_weaker (IsAt (place_of o) n) (IsBelow (place_of o) (suc n)) _ (λ p b. record { place = b.place; rank = n; is = b.rank; below = omega arith }) (steps_at d (place_of o) n (readers n) (doings k n o)))
 
 higher : (r k : ℕ) → r < k → nat_cmp k r ≡ Greater
 higher r k h =
@@ -301,19 +333,22 @@ higher r k h =
 pub lower_first : (a b : Turn) (place : Place) (r k : ℕ) → a.place ≡ place → a.rank ≡ Some r → b.place ≡ place → b.rank ≡ Some k → r < k → is_lt (turn_order b a) ≡ false
 lower_first a b place r k ap1 ar bp br less = rw (ap1, ar, bp, br, tied_itself places_total place, higher r k less) refl
 
-below_rises : {M : Type 0} (d : Decoding M) (k : Known) (e : EventView) (readers : ℕ → Reader) (n : ℕ) → Rises (before {M = M}) (puts_below d k e readers n)
-below_rises d k e readers zero = tt
-below_rises d k e readers (suc n) =
-    rises_then before (IsBelow e.place n) (IsAt e.place n) (λ x y p q. lower_first (put_turn x) (put_turn y) e.place p.rank n p.place p.is q.place q.rank p.below)
-    (puts_below d k e readers n) (puts_run d e.place n (readers n) (doings k n e)) (below_at d k e readers n) (steps_at d e.place n (readers n) (doings k n e))
-    (below_rises d k e readers n) (reader_rises d k n (readers n) e)
+below_rises : {M : Type 0} (d : Decoding M) (k : Known) (o : Occurrence) (readers : ℕ → Reader) (n : ℕ) → Rises (before {M = M}) (puts_below d k o readers n)
+below_rises d k o readers zero = tt
+below_rises d k o readers (suc n) =
+    rises_then before (IsBelow (place_of o) n) (IsAt (place_of o) n) (λ x y p q. lower_first (put_turn x) (put_turn y) (place_of o) p.rank n p.place p.is q.place q.rank p.below)
+    (puts_below d k o readers n) (puts_run d (place_of o) n (readers n) (doings k n o)) (below_at d k o readers n) (steps_at d (place_of o) n (readers n) (doings k n o))
+    (below_rises d k o readers n) (reader_rises d k n (readers n) o)
 
 -- discovery's answer has no rank
 abbrev pub discovery_turn : Place → Turn
 discovery_turn place = record { place = place; rank = None; kind = kind.Answer }
 
-answer_turn : (M : Type 0) (k : Known) (e : EventView) → AllByRecursion (λ (p : ReportView M). put_turn p ≡ discovery_turn e.place) (discovery_puts k e)
-answer_turn M k e = by_test (is_discovery e.writer)
+answer_turn : (M : Type 0) (k : Known) (o : Occurrence) → AllByRecursion (λ (p : ReportView M). put_turn p ≡ discovery_turn (place_of o)) (discovery_puts k o)
+answer_turn M k (Passes index moment) = tt
+answer_turn M k (Joins index r) = tt
+answer_turn M k (Goes index gone) = tt
+answer_turn M k (Came e) = by_test (is_discovery e.writer)
   where
     by_answer : (o : Option ReplyView) → AllByRecursion (λ (p : ReportView M). put_turn p ≡ discovery_turn e.place) (map (sent_by None) (placed e.place o))
     by_answer None = tt
@@ -327,51 +362,51 @@ answer_turn M k e = by_test (is_discovery e.writer)
 pub discovery_first : (a b : Turn) (place : Place) (r : ℕ) → a ≡ discovery_turn place → b.place ≡ place → b.rank ≡ Some r → is_lt (turn_order b a) ≡ false
 discovery_first a b place r is bp br = rw (is, bp, br, tied_itself places_total place) refl
 
--- what is put out at an event
-abbrev event_puts : {M : Type 0} → Decoding M → World M → EventView → List (ReportView M)
-event_puts d w e = discovery_puts w.known e ++ puts_below d w.known e w.readers (reader_count w)
+-- what is put out at an occurrence
+abbrev puts_then : {M : Type 0} → Decoding M → World M → Occurrence → List (ReportView M)
+puts_then d w o = discovery_puts w.known o ++ puts_below d w.known o w.readers (count_after w o)
 
-event_at : {M : Type 0} (d : Decoding M) (w : World M) (e : EventView) → AllByRecursion (λ (p : ReportView M). (put_turn p).place ≡ e.place) (event_puts d w e)
-event_at {M} d w e =
-    all_append (λ p. (put_turn p).place ≡ e.place) (discovery_puts w.known e) (puts_below d w.known e w.readers (reader_count w))
-    (all_weaker (λ p. put_turn p ≡ discovery_turn e.place) (λ p. (put_turn p).place ≡ e.place) _ (λ p is. ap (λ (t : Turn). t.place) is) (answer_turn M w.known e))
-    (all_weaker (IsBelow e.place (reader_count w)) (λ p. (put_turn p).place ≡ e.place) _ (λ p b. b.place) (below_at d w.known e w.readers (reader_count w)))
+occurrence_at : {M : Type 0} (d : Decoding M) (w : World M) (o : Occurrence) → AllByRecursion (λ (p : ReportView M). (put_turn p).place ≡ place_of o) (puts_then d w o)
+occurrence_at {M} d w o =
+    all_append (λ p. (put_turn p).place ≡ place_of o) (discovery_puts w.known o) (puts_below d w.known o w.readers (count_after w o))
+    (all_weaker (λ p. put_turn p ≡ discovery_turn (place_of o)) (λ p. (put_turn p).place ≡ place_of o) _ (λ p is. ap (λ (t : Turn). t.place) is) (answer_turn M w.known o))
+    (all_weaker (IsBelow (place_of o) (count_after w o)) (λ p. (put_turn p).place ≡ place_of o) _ (λ p b. b.place) (below_at d w.known o w.readers (count_after w o)))
 
-event_rises : {M : Type 0} (d : Decoding M) (w : World M) (e : EventView) → Rises (before {M = M}) (event_puts d w e)
-event_rises {M} d w e =
-    rises_then before (λ p. put_turn p ≡ discovery_turn e.place) (IsBelow e.place (reader_count w)) (λ x y p q. discovery_first (put_turn x) (put_turn y) e.place q.rank p q.place q.is)
-    (discovery_puts w.known e) (puts_below d w.known e w.readers (reader_count w)) (answer_turn M w.known e) (below_at d w.known e w.readers (reader_count w))
-    (rises_level (discovery_turn e.place) _ (answer_turn M w.known e)) (below_rises d w.known e w.readers (reader_count w))
+occurrence_rises : {M : Type 0} (d : Decoding M) (w : World M) (o : Occurrence) → Rises (before {M = M}) (puts_then d w o)
+occurrence_rises {M} d w o =
+    rises_then before (λ p. put_turn p ≡ discovery_turn (place_of o)) (IsBelow (place_of o) (count_after w o)) (λ x y p q. discovery_first (put_turn x) (put_turn y) (place_of o) q.rank p q.place q.is)
+    (discovery_puts w.known o) (puts_below d w.known o w.readers (count_after w o)) (answer_turn M w.known o) (below_at d w.known o w.readers (count_after w o))
+    (rises_level (discovery_turn (place_of o)) _ (answer_turn M w.known o)) (below_rises d w.known o w.readers (count_after w o))
 
--- what is put out at events, one after another
-abbrev pub run_puts : {M : Type 0} → Decoding M → World M → List EventView → List (ReportView M)
+-- what is put out at occurrences, one after another
+abbrev pub run_puts : {M : Type 0} → Decoding M → World M → List Occurrence → List (ReportView M)
 run_puts d w [] = []
-run_puts d w (e ∷ es) = event_puts d w e ++ run_puts d (world_after d w e) es
+run_puts d w (o ∷ os) = puts_then d w o ++ run_puts d (world_after d w o) os
 
-pub put_all : {M : Type 0} (d : Decoding M) (w : World M) (es : List EventView) → (world_run d w es).put ≡ w.put ++ run_puts d w es
+pub put_all : {M : Type 0} (d : Decoding M) (w : World M) (os : List Occurrence) → (world_run d w os).put ≡ w.put ++ run_puts d w os
 put_all d w [] = sym (append-nil w.put)
-put_all d w (e ∷ es) = put_all d (world_after d w e) es ∙ append_assoc w.put (event_puts d w e) (run_puts d (world_after d w e) es)
+put_all d w (o ∷ os) = put_all d (world_after d w o) os ∙ append_assoc w.put (puts_then d w o) (run_puts d (world_after d w o) os)
 
-run_later : {M : Type 0} (d : Decoding M) (w : World M) (place : Place) (es : List EventView) → AllByRecursion (λ (e : EventView). not_after e.place place ≡ false) es
-    → AllByRecursion (λ p. not_after (put_turn p).place place ≡ false) (run_puts d w es)
+run_later : {M : Type 0} (d : Decoding M) (w : World M) (place : Place) (os : List Occurrence) → AllByRecursion (λ (o : Occurrence). not_after (place_of o) place ≡ false) os
+    → AllByRecursion (λ p. not_after (put_turn p).place place ≡ false) (run_puts d w os)
 run_later d w place [] h = tt
-run_later d w place (e ∷ es) h =
-    all_append (λ p. not_after (put_turn p).place place ≡ false) (event_puts d w e) (run_puts d (world_after d w e) es)
-    (all_weaker (λ p. (put_turn p).place ≡ e.place) (λ p. not_after (put_turn p).place place ≡ false) _ (λ p is. ap (λ l. not_after l place) is ∙ h.0) (event_at d w e))
-    (run_later d (world_after d w e) place es h.1)
+run_later d w place (o ∷ os) h =
+    all_append (λ p. not_after (put_turn p).place place ≡ false) (puts_then d w o) (run_puts d (world_after d w o) os)
+    (all_weaker (λ p. (put_turn p).place ≡ place_of o) (λ p. not_after (put_turn p).place place ≡ false) _ (λ p is. ap (λ l. not_after l place) is ∙ h.0) (occurrence_at d w o))
+    (run_later d (world_after d w o) place os h.1)
 
 -- it comes by turn
-pub run_rises : {M : Type 0} (d : Decoding M) (w : World M) (es : List EventView) → PlacesRise es → Rises before (run_puts d w es)
+pub run_rises : {M : Type 0} (d : Decoding M) (w : World M) (os : List Occurrence) → OccurrencesRise os → Rises before (run_puts d w os)
 run_rises d w [] up = tt
-run_rises d w (e ∷ es) up =
-    rises_then before (λ p. (put_turn p).place ≡ e.place) (λ p. not_after (put_turn p).place e.place ≡ false) (λ x y p q. later x y e.place p q)
-    (event_puts d w e) (run_puts d (world_after d w e) es) (event_at d w e) (run_later d (world_after d w e) e.place es up.0)
-    (event_rises d w e) (run_rises d (world_after d w e) es up.1)
+run_rises d w (o ∷ os) up =
+    rises_then before (λ p. (put_turn p).place ≡ place_of o) (λ p. not_after (put_turn p).place (place_of o) ≡ false) (λ x y p q. later x y (place_of o) p q)
+    (puts_then d w o) (run_puts d (world_after d w o) os) (occurrence_at d w o) (run_later d (world_after d w o) (place_of o) os up.0)
+    (occurrence_rises d w o) (run_rises d (world_after d w o) os up.1)
 
 -- no reader past the last gives out a notice
-pub run_none : {M : Type 0} (d : Decoding M) (w : World M) (rank : ℕ) (es : List EventView) → reader_count w ≤ rank → notices_by rank (run_puts d w es) ≡ []
+pub run_none : {M : Type 0} (d : Decoding M) (w : World M) (rank : ℕ) (os : List Occurrence) → reader_count (world_run d w os) ≤ rank → notices_by rank (run_puts d w os) ≡ []
 run_none d w rank [] past = refl
-run_none d w rank (e ∷ es) past =
-    notices_by-append rank (event_puts d w e) (run_puts d (world_after d w e) es)
-    ∙ ap (λ l. l ++ notices_by rank (run_puts d (world_after d w e) es)) (heard_event d w rank e ∙ none_below d w.known e w.readers rank (reader_count w) past)
-    ∙ run_none d (world_after d w e) rank es (subst (λ (rs : List (Option Wish)). length rs ≤ rank) (sym (readers_stay w.known e)) past)
+run_none d w rank (o ∷ os) past =
+    notices_by-append rank (puts_then d w o) (run_puts d (world_after d w o) os)
+    ∙ ap (λ l. l ++ notices_by rank (run_puts d (world_after d w o) os)) (heard_then d w rank o (count_after w o) ∙ none_below d w.known o w.readers rank (count_after w o) (no_more (count_after w o) (reader_count (world_run d (world_after d w o) os)) rank (no_fewer_run d (world_after d w o) os) past))
+    ∙ run_none d (world_after d w o) rank os past

@@ -1,4 +1,6 @@
 pub mod Addressed
+pub mod Occurrence
+pub mod Input
 pub mod World
 pub mod Run
 pub mod Seen
@@ -7,3 +9,4 @@ pub mod Standing
 pub mod Outcome
 pub mod Turn
 pub mod Presentation
+pub mod Rising

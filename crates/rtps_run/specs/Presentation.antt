@@ -1,14 +1,16 @@
 -- Presentation in a run (DDSI-RTPS 8.4.12.3, 8.3.7): the samples of a writer that a reliable reader
 -- presents, compared with nothing but the submessages that came for their match.
-use Rattle.std.specs.Prelude.{◌≡◌, ℕ, ◌<◌, ◌==◌, ◌&&◌, ◌||◌, nat_lt, nat_le, Bool, not, List, [], ◌∷◌, ◌++◌, map, filter, reverse, Option, if◌then◌else◌}
+use Rattle.std.specs.Prelude.{◌≡◌, ℕ, ◌<◌, ◌==◌, ◌&&◌, ◌||◌, nat_lt, nat_le, Bool, false, not, List, [], ◌∷◌, ◌++◌, length, map, filter, reverse, slice_index_or, Option, if◌then◌else◌}
 use Rattle.std.specs.List.{AllByRecursion, list_any}
 use Rattle.rtps_types.specs.declared.identity.EntityId.{EntityId}
 use Rattle.rtps_types.specs.declared.identity.Guid.{Guid}
 use Rattle.rtps_types.specs.declared.place.Place.{Place}
 use Rattle.rtps_types.specs.declared.time.Timestamp.{Timestamp}
 use Rattle.rtps_receiver.specs.Events.{EventView}
-use Rattle.rtps_discovery.specs.Addressed.{is_addressed}
+use Rattle.rtps_discovery.specs.Addressed.{is_addressed, unknown_entity}
 use Rattle.rtps_discovery.specs.declared.config.Config.{Config}
+use Rattle.rtps_discovery.specs.Known.{Wish}
+use Rattle.rtps_discovery.specs.Start.{wish_of}
 use Rattle.rtps_proxy.specs.Change.{ChangeView}
 use Rattle.rtps_proxy.specs.History.{MatchEvent, match_event_of}
 use Rattle.rtps_proxy.specs.Presentation.{Brings, IsGivenUp, RisesStrictly}
@@ -20,8 +22,10 @@ use Rattle.rtps_reader.specs.declared.notice.NoticeKind.{NoticeKind}
 use Rattle.rtps_reader.specs.declared.notice.NoticeKind.TheVariants.{Sample as ASample, Matched, Unmatched}
 use Rattle.rtps_reader.specs.Body.{body_by}
 use Rattle.rtps_proxy.specs.Matches.{same_guid}
-use Rattle.rtps_run.specs.Run.{entity_of, events_from, run}
+use Rattle.rtps_run.specs.Input.{Input, added, events_from}
+use Rattle.rtps_run.specs.Run.{run}
 use Rattle.rtps_run.specs.Seen.{notices_by}
+use Rattle.rtps_run.specs.World.{is_reliable}
 
 -- a sample as a reader presents it, with the place of the submessage at which it is presented
 pub record Shown (M : Type 0) : Type 0 where
@@ -132,23 +136,39 @@ PresentedSince decoding events samples Never = samples ≡ []
 abbrev pub IsPresented : {M : Type 0} → Decoding M → List EventView → Stretch M → Type 0
 IsPresented decoding events s = PresentedSince decoding events s.samples s.since
 
--- the reader of a rank has a fixed match with a writer
+-- all readers of ours that there ever are, by rank: those of the configuration, and then those that
+-- come
+abbrev pub readers_ever : Config → List Input → List Wish
+readers_ever config inputs = map wish_of config.readers.items ++ added inputs
+
+-- the entity of the reader of a rank among these
+abbrev pub entity_at : List Wish → ℕ → EntityId
+entity_at readers rank = slice_index_or (map (λ r. r.entity) readers) rank unknown_entity
+
+-- the reader of a rank among these is reliable
+abbrev pub is_reliable_among : List Wish → ℕ → Bool
+is_reliable_among readers rank =
+    slice_index_or (map (λ r. is_reliable r.policies.reliability) readers) rank false
+
+-- the reader of a rank is one of the configuration, which has a fixed match with a writer for it
 abbrev pub is_fixed : Config → ℕ → Guid → Bool
 is_fixed config rank writer =
-    list_any (λ m. m.rank == rank && same_guid m.writer writer) config.fixed.items
+    nat_lt rank (length config.readers.items)
+    && list_any (λ m. m.rank == rank && same_guid m.writer writer) config.fixed.items
 
 -- the submessages of a run for the match of a writer and the reader of a rank, the newest first
-abbrev pub events_in : Config → List (List ℕ) → ℕ → Guid → List EventView
-events_in config datagrams rank writer =
-    events_for writer (entity_of config.readers.items rank) (events_from config.own 0 datagrams)
+abbrev pub events_in : Config → List Input → ℕ → Guid → List EventView
+events_in config inputs rank writer =
+    events_for writer (entity_at (readers_ever config inputs) rank)
+    (events_from config.own 0 inputs)
 
 -- when their match began, as seen at the start of a run
 abbrev pub first_since : Config → ℕ → Guid → Since
 first_since config rank writer = if is_fixed config rank writer then TheStart else Never
 
 -- the samples of a writer that the reader of a rank presented in a run, stretch by stretch
-abbrev pub stretches_in : {M : Type 0} → Decoding M → Config → List (List ℕ) → ℕ → Guid
+abbrev pub stretches_in : {M : Type 0} → Decoding M → Config → List Input → ℕ → Guid
     → List (Stretch M)
-stretches_in decoding config datagrams rank writer =
+stretches_in decoding config inputs rank writer =
     stretches writer (first_since config rank writer)
-    (notices_by rank (run decoding config datagrams).put)
+    (notices_by rank (run decoding config inputs).put)

@@ -1,10 +1,7 @@
--- The run of one thread, which processes the submessages of all datagrams one by one.
-use Rattle.std.specs.Prelude.{ℕ, ◌+◌, Bool, false, true, List, [], ◌∷◌, ◌++◌, map, filter, slice_index_or, ◌==◌}
+-- The run of one thread, which processes the occurrences of all inputs one by one.
+use Rattle.std.specs.Prelude.{ℕ, Bool, false, List, [], ◌∷◌, map, filter, slice_index_or, ◌==◌}
 use Rattle.rtps_types.specs.declared.identity.EntityId.{EntityId}
 use Rattle.rtps_types.specs.declared.identity.GuidPrefix.{GuidPrefix}
-use Rattle.dds_qos.specs.declared.policies.Reliability.{Reliability}
-use Rattle.dds_qos.specs.declared.policies.Reliability.TheVariants.{BestEffort, Reliable}
-use Rattle.rtps_receiver.specs.Events.{EventView, events_of}
 use Rattle.rtps_discovery.specs.Addressed.{unknown_entity}
 use Rattle.rtps_discovery.specs.declared.config.Config.{Config}
 use Rattle.rtps_discovery.specs.declared.config.FixedMatch.{FixedMatch}
@@ -12,16 +9,13 @@ use Rattle.rtps_discovery.specs.declared.config.ReaderConfig.{ReaderConfig}
 use Rattle.rtps_discovery.specs.Start.{first_known}
 use Rattle.dds_topic.specs.Decoding.{Decoding}
 use Rattle.rtps_reader.specs.Reader.{Facts, Reader, first_reader}
-use Rattle.rtps_run.specs.World.{World, world_after}
+use Rattle.rtps_run.specs.Input.{Input, occurrences_from}
+use Rattle.rtps_run.specs.Occurrence.{Occurrence}
+use Rattle.rtps_run.specs.World.{World, is_reliable, world_after}
 
 -- the entity of the reader of a rank
 abbrev pub entity_of : List ReaderConfig → ℕ → EntityId
 entity_of readers rank = slice_index_or (map (λ r. r.entity) readers) rank unknown_entity
-
--- a reliability is RELIABLE, which asks for missing changes (DDS 1.4, 2.2.3.14)
-abbrev pub is_reliable : Reliability → Bool
-is_reliable BestEffort = false
-is_reliable Reliable = true
 
 -- the reader of a rank is reliable
 abbrev pub is_reliable_at : List ReaderConfig → ℕ → Bool
@@ -47,18 +41,12 @@ first_world config = record {
   put = [];
 }
 
--- the events of a list of datagrams; the first datagram has this index in the run
-abbrev pub events_from : GuidPrefix → ℕ → List (List ℕ) → List EventView
-events_from own index [] = []
-events_from own index (datagram ∷ datagrams) =
-    events_of own index datagram ++ events_from own (index + 1) datagrams
-
--- the world after these events, one by one
-abbrev pub world_run : {M : Type 0} → Decoding M → World M → List EventView → World M
+-- the world after these occurrences, one by one
+abbrev pub world_run : {M : Type 0} → Decoding M → World M → List Occurrence → World M
 world_run decoding w [] = w
-world_run decoding w (e ∷ es) = world_run decoding (world_after decoding w e) es
+world_run decoding w (o ∷ os) = world_run decoding (world_after decoding w o) os
 
--- the world after a list of datagrams
-abbrev pub run : {M : Type 0} → Decoding M → Config → List (List ℕ) → World M
-run decoding config datagrams =
-    world_run decoding (first_world config) (events_from config.own 0 datagrams)
+-- the world after a list of inputs
+abbrev pub run : {M : Type 0} → Decoding M → Config → List Input → World M
+run decoding config inputs =
+    world_run decoding (first_world config) (occurrences_from config.own 0 inputs)

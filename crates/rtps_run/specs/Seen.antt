@@ -1,9 +1,10 @@
 -- The results of a run: the notices of each reader, the answers, the statuses and the matches
 -- (DDS 1.4, 2.2.4.1).
-use Rattle.std.specs.Prelude.{◌≡◌, ◌<◌, ℕ, zero, suc, List, [], ◌∷◌, map, Bool, ◌&&◌, Option, Some, None, nat_lt, ◌==◌, if◌then◌else◌, is_some, length}
+use Rattle.std.specs.Prelude.{◌≡◌, ◌<◌, ℕ, zero, suc, List, [], ◌∷◌, map, Bool, ◌&&◌, Option, nat_lt, ◌==◌, if◌then◌else◌, is_some, length}
 use Rattle.std.specs.List.{list_any}
+use Rattle.std.specs.Option.{option_map}
 use Rattle.rtps_types.specs.declared.identity.Guid.{Guid}
-use Rattle.rtps_discovery.specs.Known.{is_matched}
+use Rattle.rtps_discovery.specs.Known.{is_matched, reader_at}
 use Rattle.rtps_reader.specs.declared.status.Status.{Status}
 use Rattle.rtps_reader.specs.Listed.{with_writers}
 use Rattle.rtps_reader.specs.declared.notice.Notice.{Notice}
@@ -19,7 +20,7 @@ notices_by rank (NoticeOf by notice ∷ put) =
     if by == rank then notice ∷ notices_by rank put else notices_by rank put
 notices_by rank (AnswerOf answer ∷ put) = notices_by rank put
 
--- the number of readers; their ranks are the numbers below it
+-- the number of ranks that were given; these are the numbers below it
 abbrev pub reader_count : {M : Type 0} → World M → ℕ
 reader_count w = length w.known.readers
 
@@ -35,9 +36,10 @@ status_at w rank = status_of (w.readers rank) (notices_by rank w.put)
 
 -- the same, if there is such a reader
 abbrev pub status_seen : {M : Type 0} → World M → ℕ → Option Status
-status_seen w rank = if nat_lt rank (reader_count w) then Some (status_at w rank) else None
+status_seen w rank = option_map (λ r. status_at w rank) (reader_at w.known.readers rank)
 
--- the matches of the readers of the ranks below a count, ordered by rank and then by writer
+-- the matches of the readers of the ranks below a count, ordered by rank and then by writer; a
+-- reader that went has none
 abbrev pub matches_below : (ℕ → Reader) → ℕ → List (ℕ × Guid)
 matches_below readers zero = []
 matches_below readers (suc rank) =
@@ -56,7 +58,8 @@ abbrev pub is_matched_at : {M : Type 0} → World M → ℕ → Guid → Bool
 is_matched_at w rank writer =
     nat_lt rank (reader_count w) && is_some (match_with writer (w.readers rank).matches)
 
--- each reader is matched with exactly the writers that discovery says it is matched with
+-- the reader of each rank is matched with exactly the writers that discovery says it is matched
+-- with; one that went, with none
 abbrev pub Agrees : {M : Type 0} → World M → Type 0
 Agrees w = (rank : ℕ) (writer : Guid) → rank < reader_count w
     → is_some (match_with writer (w.readers rank).matches) ≡ is_matched w.known rank writer

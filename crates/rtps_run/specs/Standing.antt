@@ -1,4 +1,4 @@
--- The state of an engine, and its relation to the list of datagrams processed so far.
+-- The state of an engine, and its relation to the list of inputs processed so far.
 use Rattle.std.specs.Prelude.{◌≡◌, ◌+◌, ◌++◌, ◌^◌, ◌<◌, ◌≤◌, false, Bool, true, ℕ, List, [], length, map, slice_index_or, Some, Result, Ok, Err}
 use Rattle.std.specs.Option.{option_map}
 use Rattle.dds_topic.specs.Decoding.{Decoding}
@@ -17,8 +17,9 @@ use Rattle.rtps_run.specs.declared.errors.StartError.{StartError}
 use Rattle.rtps_run.specs.declared.errors.StartError.TheVariants as start
 use Rattle.rtps_run.specs.declared.outcome.Report.{Report}
 use Rattle.rtps_run.specs.Outcome.{report_view}
+use Rattle.rtps_run.specs.Input.{Input, index_after_all}
 use Rattle.rtps_run.specs.Run.{run}
-use Rattle.rtps_run.specs.Seen.{notices_by, reader_count, status_at}
+use Rattle.rtps_run.specs.Seen.{notices_by, reader_count, status_seen}
 use Rattle.rtps_run.specs.World.{ReportView, World}
 
 -- the state of an engine, as contracts see it
@@ -29,7 +30,7 @@ pub record EngineView (C : Type 0) : Type 0 where
   pub index : ℕ
   pub failed : Bool
   pub discovery : DiscoveryView
-  -- by rank, and the statuses after the last datagram that was processed
+  -- by rank, and the statuses after the last input that was processed
   pub readers : List ReaderView
   pub statuses : List Status
 
@@ -76,28 +77,29 @@ pub record WorldStands {V M A : Type 0} (view : V → M) (w : World M) (earlier 
   pub named : AllKnown w
   pub readers : ReadersStand view w earlier states reports
 
--- the run of the engine's configuration over a list of datagrams
-abbrev pub run_by : {C M : Type 0} → (C → Decoding M) → EngineView C → List (List ℕ) → World M
-run_by decoding engine datagrams = run (decoding engine.catalog) engine.config datagrams
+-- the run of the engine's configuration over a list of inputs
+abbrev pub run_by : {C M : Type 0} → (C → Decoding M) → EngineView C → List Input → World M
+run_by decoding engine inputs = run (decoding engine.catalog) engine.config inputs
 
--- the statuses are those after these datagrams
-pub record ShowsAt {C M : Type 0} (decoding : C → Decoding M) (datagrams : List (List ℕ))
+-- the statuses are those after these inputs, of every rank that was given
+pub record ShowsAt {C M : Type 0} (decoding : C → Decoding M) (inputs : List Input)
     (engine : EngineView C) : Type 0 where
-  pub count : length engine.statuses ≡ length engine.config.readers.items
+  pub count : length engine.statuses ≡ reader_count (run_by decoding engine inputs)
   pub statuses : (rank : ℕ) (other : Status) → rank < length engine.statuses
-      → slice_index_or engine.statuses rank other
-      ≡ status_at (run_by decoding engine datagrams) rank
+      → Some (slice_index_or engine.statuses rank other)
+      ≡ status_seen (run_by decoding engine inputs) rank
 
--- the state of the engine is that after these datagrams
-pub record StandsAt {C M : Type 0} (decoding : C → Decoding M) (datagrams : List (List ℕ))
+-- the state of the engine is that after these inputs
+pub record StandsAt {C M : Type 0} (decoding : C → Decoding M) (inputs : List Input)
     (engine : EngineView C) : Type 0 where
   pub sound : engine.failed ≡ false
-  pub index : engine.index ≡ length datagrams
-  pub known : IsKnown (run_by decoding engine datagrams).known engine.discovery.kept
+  pub index : engine.index ≡ index_after_all 0 inputs
+  pub known : IsKnown (run_by decoding engine inputs).known engine.discovery.kept
+  pub named : AllKnown (run_by decoding engine inputs)
   pub unspent : engine.discovery.spent ≡ false
-  pub count : length engine.readers ≡ length engine.config.readers.items
-  pub readers : AllStand (run_by decoding engine datagrams) engine.readers
-  pub shows : ShowsAt decoding datagrams engine
+  pub count : length engine.readers ≡ reader_count (run_by decoding engine inputs)
+  pub readers : AllStand (run_by decoding engine inputs) engine.readers
+  pub shows : ShowsAt decoding inputs engine
 
 -- a run has at most 2^48 datagrams
 abbrev pub datagram_limit : ℕ
@@ -115,6 +117,14 @@ Takes (Err Spent) old new = (old.failed ≡ false) × (datagram_limit ≤ old.in
 Takes (Err NoMemory) old new =
     (old.failed ≡ false) × (old.index < datagram_limit) × (new.failed ≡ true)
 
+-- How a tick is processed, and when each refusal comes: Failed exactly where memory ran out before,
+-- which leaves the engine as it was. A tick takes no index, so it is never Spent.
+unfoldable pub Ticks : {C X : Type 0} → Result X EngineError → EngineView C → EngineView C → Type 0
+Ticks (Ok x) old new = (old.failed ≡ false) × (new.failed ≡ false) × (new.index ≡ old.index)
+Ticks (Err Failed) old new = (old.failed ≡ true) × (new ≡ old)
+Ticks (Err Spent) old new = ⊥
+Ticks (Err NoMemory) old new = (old.failed ≡ false) × (new.failed ≡ true)
+
 -- why a datagram is refused before it is looked at
 unfoldable pub Refuses : {C : Type 0} → EngineError → EngineView C → Type 0
 Refuses Failed engine = engine.failed ≡ true
@@ -130,19 +140,19 @@ pub record IsSteppedFrom {C : Type 0} (old new : EngineView C) : Type 0 where
   pub statuses : new.statuses ≡ old.statuses
   pub count : length new.readers ≡ length old.readers
 
--- one more datagram is processed, and the statuses are those of the readers
-pub record IsFinishedFrom {C : Type 0} (old new : EngineView C) : Type 0 where
+-- `count` more datagrams are processed, and the statuses are those of the readers
+pub record IsFinishedFrom {C : Type 0} (count : ℕ) (old new : EngineView C) : Type 0 where
   pub catalog : new.catalog ≡ old.catalog
   pub config : new.config ≡ old.config
-  pub index : new.index ≡ old.index + 1
+  pub index : new.index ≡ old.index + count
   pub sound : new.failed ≡ false
   pub discovery : new.discovery ≡ old.discovery
   pub readers : new.readers ≡ old.readers
-  pub count : length new.statuses ≡ length old.statuses
+  pub shown : length new.statuses ≡ length old.statuses
   pub statuses : (rank : ℕ) (s : Status) (r : ReaderView) → rank < length old.readers
       → slice_index_or new.statuses rank s ≡ (slice_index_or old.readers rank r).status
 
--- What a refused datagram leaves in the caller's list: Failed and Spent leave it as it was, and
+-- What a refused input leaves in the caller's list: Failed and Spent leave it as it was, and
 -- NoMemory leaves nothing.
 unfoldable pub Leaves : {X Y : Type 0} → Result X EngineError → List Y → List Y → Type 0
 Leaves (Ok x) old new = Unit {0}

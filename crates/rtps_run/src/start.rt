@@ -3,8 +3,9 @@
 ghost use Rattle.std.specs.Prelude.{◌≡◌, List, ℕ, ◌<◌, ◌≤◌, IfOk, length, map, slice_index_or};
 ghost use Rattle.rtps_reader.specs.Reader.{Facts};
 ghost use Rattle.rtps_reader.specs.Standing.{facts_in};
-ghost use Rattle.rtps_run.specs.Run.{fixed_of, is_reliable, reader_first};
+ghost use Rattle.rtps_run.specs.Run.{fixed_of, reader_first};
 ghost use Rattle.rtps_run.specs.Standing.{AllStart};
+ghost use Rattle.rtps_run.specs.World.{is_reliable};
 
 use crate::lists::{empty_lists, push_by};
 use dds_qos::Reliability;

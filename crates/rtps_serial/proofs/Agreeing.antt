@@ -1,21 +1,24 @@
--- In a run each reader is matched with just the writers that it matches by what is known.
-use Rattle.std.proofs.Common.{◌≡◌, ℕ, ◌<◌, ◌==◌, Bool, true, false, not, ◌&&◌, ◌||◌, if◌then◌else◌, List, [], ◌∷◌, ◌++◌, length, map, filter, Option, Some, None, is_some, Contains, ◌⊎◌, inl, inr, refl, sym, ap, ◌∙◌, subst, true≢false, arith}
+-- In a run each reader is matched with just the writers that it matches by what is known, also where
+-- leases end and readers come and go.
+use Rattle.std.proofs.Common.{◌≡◌, ℕ, zero, suc, ◌+◌, ◌<◌, ◌==◌, Bool, true, false, not, ◌&&◌, ◌||◌, if◌then◌else◌, List, [], ◌∷◌, ◌++◌, length, map, filter, Option, Some, None, is_some, Contains, ◌⊎◌, inl, inr, refl, sym, ap, ◌∙◌, subst, true≢false, arith}
 use Rattle.std.specs.List.{list_any}
 use Rattle.std.specs.Option.{option_map}
 use Rattle.std.proofs.Math.Bool.{or-false}
 use Rattle.std.proofs.lemmas.Bool.{eq-eqb}
 use Rattle.std.proofs.lemmas.Bool.Decides.{nat_tests}
+use Rattle.std.proofs.lemmas.List.{length-append}
 use Rattle.rtps_types.specs.declared.identity.EntityId.{EntityId}
 use Rattle.rtps_types.specs.declared.identity.Guid.{Guid}
 use Rattle.rtps_types.specs.declared.identity.GuidPrefix.{GuidPrefix}
 use Rattle.rtps_receiver.specs.Events.{EventView}
 use Rattle.rtps_discovery.specs.Addressed.{is_addressed, is_discovery, writer_of}
-use Rattle.rtps_discovery.specs.Announcement.{Announcement, Comes, Leave, Offers, Withdraws, Asks, AsksNoMore}
+use Rattle.rtps_discovery.specs.Announcement.{Announcement, Comes, Leave, Offers, Withdraws, Asks, AsksNoMore, Offer}
 use Rattle.rtps_types.specs.MatchChange.{MatchChange, Matches, Unmatches, Refuses}
 use Rattle.rtps_discovery.specs.Changes.{ChangeAt, at, changes, changes_run, known_run}
 use Rattle.rtps_discovery.specs.declared.config.Config.{Config}
 use Rattle.rtps_discovery.specs.declared.config.FixedMatch.{FixedMatch}
-use Rattle.rtps_discovery.specs.Known.{Known, Wish, is_fixed, is_joined, is_matched, known_after, locators_at, reader_at}
+use Rattle.rtps_discovery.specs.Joining.{joined, parted, vacated, without_fixed, without_reader}
+use Rattle.rtps_discovery.specs.Known.{Known, Wish, is_fixed, is_joined, is_matched, known_after, locators_at, moved, passed, reader_at, standing, writer_at}
 use Rattle.rtps_discovery.specs.Records.{announcements, announcer_of, changes_by, known_by, noted}
 use Rattle.rtps_proxy.specs.History.{match_event_of}
 use Rattle.rtps_discovery.specs.Start.{first_known, pair_of, reader_of}
@@ -25,12 +28,14 @@ use Rattle.rtps_proxy.specs.Matches.{Match, begun, extended, fresh, match_with, 
 use Rattle.rtps_proxy.proofs.Matching.{same_is}
 use Rattle.dds_topic.specs.Decoding.{Decoding}
 use Rattle.rtps_reader.specs.Reader.{Reader, all_begun, first_matches, fresh_with, reader_after, reader_run, pairing_of}
-use Rattle.rtps_reader.specs.Step.{StepView, Takes, Changes, asks_of}
+use Rattle.rtps_reader.specs.Step.{StepView, Takes, Changes, Starts, Stops, asks_of}
 use Rattle.rtps_reader.proofs.Begun.{match_begun, same_self}
-use Rattle.rtps_run.specs.Presentation as start
-use Rattle.rtps_run.specs.Run.{entity_of, first_world, fixed_of, is_reliable_at, run, events_from, world_run}
+use Rattle.rtps_run.specs.Input.{Input, occurrences_from}
+use Rattle.rtps_run.specs.Occurrence.{Occurrence, Passes, Came, Joins, Parts as Goes}
+use Rattle.rtps_run.specs.Run.{entity_of, first_world, fixed_of, is_reliable_at, run, world_run}
 use Rattle.rtps_run.specs.Seen.{Agrees}
-use Rattle.rtps_run.specs.World.{World, addressed_to, changes_for, doings, known_after_event, world_after}
+use Rattle.rtps_run.specs.World.{World, addressed_to, asked_by, changes_for, doings, is_reliable, known_after_event, known_then, stops, world_after}
+use Rattle.rtps_run.proofs.Counting.{vacated_length}
 use Rattle.rtps_run.proofs.Matched.{ended_match, extend, extended_match}
 use Rattle.rtps_run.proofs.Routed.{readers_stay}
 
@@ -61,6 +66,8 @@ after_doing g b (Takes w c) = b
 after_doing g b (Changes (Matches w ls)) = same_guid w g || b
 after_doing g b (Changes (Unmatches w)) = not (same_guid w g) && b
 after_doing g b (Changes (Refuses w policy)) = b
+after_doing g b (Starts own entity reliable) = false
+after_doing g b Stops = false
 
 abbrev after_doings : Guid → Bool → List StepView → Bool
 after_doings g b [] = b
@@ -71,6 +78,8 @@ has_done g r (Takes w c) = ap (λ (o : Option Match). is_some o) (extended_match
 has_done g r (Changes (Matches w ls)) = has_begun g (fresh_with r (w, ls)) r.matches
 has_done g r (Changes (Unmatches w)) = ap (λ (o : Option Match). is_some o) (ended_match g w r.matches) ∙ none_if (same_guid w g) (match_with g r.matches)
 has_done g r (Changes (Refuses w policy)) = refl
+has_done g r (Starts own entity reliable) = refl
+has_done g r Stops = refl
 
 has_run : (g : Guid) (r : Reader) (ds : List StepView) → has g (reader_run r ds).matches ≡ after_doings g (has g r.matches) ds
 has_run g r [] = refl
@@ -224,7 +233,7 @@ noted_matched k e rank g = by_test (is_some (announcer_of k e))
     by_test false = refl
 
 -- what an event asks of a reader makes of a match what it is by what is known after the event
-known_presence : (k : Known) (e : EventView) (rank : ℕ) (g : Guid) → after_doings g (is_matched k rank g) (doings k rank e) ≡ is_matched (known_after_event k e) rank g
+known_presence : (k : Known) (e : EventView) (rank : ℕ) (g : Guid) → after_doings g (is_matched k rank g) (asked_by k rank e) ≡ is_matched (known_after_event k e) rank g
 known_presence k e rank g = by_kind (is_discovery e.writer)
   where
     taken : (r : Option Wish) → after_doings g (is_matched k rank g) (addressed_to k rank e r) ≡ is_matched k rank g
@@ -253,18 +262,104 @@ fixed_kept k e = by_kind (is_discovery e.writer)
     by_kind true = fixed_stay_run (noted k e) (announcements k e) ∙ (noted_alike k e).fixed
     by_kind false = refl
 
+-- ---- readers that come and go
+
+doings_then : (g : Guid) (b : Bool) (xs ys : List StepView) → after_doings g b (xs ++ ys) ≡ after_doings g (after_doings g b xs) ys
+doings_then g b [] ys = refl
+doings_then g b (d ∷ xs) ys = doings_then g (after_doing g b d) xs ys
+
+-- the fixed matches of a rank, where those of another are taken out
+pub other_fixed : (fixed : List (ℕ × Guid)) (rank gone : ℕ) (g : Guid) → (rank == gone) ≡ false → is_fixed (filter (λ (p : ℕ × Guid). not (p.0 == gone)) fixed) rank g ≡ is_fixed fixed rank g
+other_fixed [] rank gone g other = refl
+other_fixed (p ∷ ps) rank gone g other = by_gone (p.0 == gone) refl (other_fixed ps rank gone g other)
+  where
+    by_gone : (b : Bool) → (p.0 == gone) ≡ b → is_fixed (filter (λ (p : ℕ × Guid). not (p.0 == gone)) ps) rank g ≡ is_fixed ps rank g
+        → is_fixed (if not b then p ∷ filter (λ (p : ℕ × Guid). not (p.0 == gone)) ps else filter (λ (p : ℕ × Guid). not (p.0 == gone)) ps) rank g ≡ (p.0 == rank && same_guid p.1 g || is_fixed ps rank g)
+    by_gone false e more = ap (λ b. p.0 == rank && same_guid p.1 g || b) more
+    by_gone true e more =
+        let apart : (p.0 == rank) ≡ false = grind (arith, nat_tests) in
+        rw apart more
+
+-- and its own
+pub own_fixed : (fixed : List (ℕ × Guid)) (gone : ℕ) (g : Guid) → is_fixed (filter (λ (p : ℕ × Guid). not (p.0 == gone)) fixed) gone g ≡ false
+own_fixed [] gone g = refl
+own_fixed (p ∷ ps) gone g = by_gone (p.0 == gone) refl (own_fixed ps gone g)
+  where
+    by_gone : (b : Bool) → (p.0 == gone) ≡ b → is_fixed (filter (λ (p : ℕ × Guid). not (p.0 == gone)) ps) gone g ≡ false
+        → is_fixed (if not b then p ∷ filter (λ (p : ℕ × Guid). not (p.0 == gone)) ps else filter (λ (p : ℕ × Guid). not (p.0 == gone)) ps) gone g ≡ false
+    by_gone true e more = more
+    by_gone false e more = rw (e, more) refl
+
+past_none : (rs : List (Option Wish)) → reader_at rs (length rs) ≡ None
+past_none [] = refl
+past_none (r ∷ rs) = past_none rs
+
+pub vacated_none : (rs : List (Option Wish)) (gone : ℕ) → reader_at (vacated gone rs) gone ≡ None
+vacated_none [] gone = refl
+vacated_none (r ∷ rs) zero = refl
+vacated_none (r ∷ rs) (suc gone) = vacated_none rs gone
+
+apart_matched : (fixed : Bool) (o : Option Wish) (w : Option Offer) → fixed ≡ false → o ≡ None → (fixed || is_joined (standing o w)) ≡ false
+apart_matched fixed o w e f = rw (e, f) refl
+
+inside_of : (i n : ℕ) → (i == n) ≡ false → i < n + 1 → i < n
+inside_of i n other less = grind (arith, nat_tests)
+
+-- ---- each occurrence
+
+-- what an occurrence asks of a reader makes of a match what it is by what is known after the occurrence
+occurrence_presence : (k : Known) (o : Occurrence) (rank : ℕ) (g : Guid) (b : Bool) → (rank < length k.readers → b ≡ is_matched k rank g) → rank < length (known_then k o).readers
+    → after_doings g b (doings k rank o) ≡ is_matched (known_then k o) rank g
+occurrence_presence k (Passes index moment) rank g b was below =
+    ap (λ c. after_doings g c (changes_for rank (changes (moved moment k) (passed moment k)))) (was below)
+    ∙ changes_presence (moved moment k) (passed moment k) rank g refl
+occurrence_presence k (Came e) rank g b was below =
+    ap (λ c. after_doings g c (asked_by k rank e)) (was (subst (λ (rs : List (Option Wish)). rank < length rs) (readers_stay k e) below))
+    ∙ known_presence k e rank g
+occurrence_presence k (Joins index r) rank g b was below = by_new (rank == length k.readers) refl
+  where
+    open_at : Known
+    open_at = without_fixed (length k.readers) k
+
+    cs : List StepView
+    cs = changes_for rank (changes open_at (joined r k))
+
+    by_new : (t : Bool) → (rank == length k.readers) ≡ t
+        → after_doings g b ((if t then Starts k.own r.entity (is_reliable r.policies.reliability) ∷ [] else []) ++ cs) ≡ is_matched (joined r k) rank g
+    by_new true e =
+        let is : rank ≡ length k.readers = grind (arith, nat_tests) in
+        let free : is_matched open_at rank g ≡ false = apart_matched (is_fixed open_at.fixed rank g) (reader_at k.readers rank) (writer_at k g) (ap (λ n. is_fixed open_at.fixed n g) is ∙ own_fixed k.fixed (length k.readers) g) (ap (reader_at k.readers) is ∙ past_none k.readers) in
+        ap (λ c. after_doings g c cs) (sym free) ∙ changes_presence open_at (joined r k) rank g refl
+    by_new false e =
+        let more : length (k.readers ++ Some r ∷ []) ≡ length k.readers + 1 = length-append k.readers (Some r ∷ []) in
+        let inside : rank < length k.readers = inside_of rank (length k.readers) e (subst (λ n. rank < n) more below) in
+        let same : is_matched open_at rank g ≡ is_matched k rank g = ap (λ f. f || is_joined (standing (reader_at k.readers rank) (writer_at k g))) (other_fixed k.fixed rank (length k.readers) g e) in
+        ap (λ c. after_doings g c cs) (was inside ∙ sym same) ∙ changes_presence open_at (joined r k) rank g refl
+occurrence_presence k (Goes index gone) rank g b was below = doings_then g b cs (stops rank gone) ∙ by_gone (rank == gone) refl
+  where
+    cs : List StepView
+    cs = changes_for rank (changes k (without_reader gone k))
+
+    by_gone : (t : Bool) → (rank == gone) ≡ t → after_doings g (after_doings g b cs) (if t then Stops ∷ [] else []) ≡ is_matched (parted gone k) rank g
+    by_gone true e =
+        let is : rank ≡ gone = grind (arith, nat_tests) in
+        sym (apart_matched (is_fixed (parted gone k).fixed rank g) (reader_at (vacated gone k.readers) rank) (writer_at k g) (ap (λ n. is_fixed (parted gone k).fixed n g) is ∙ own_fixed k.fixed gone g) (ap (reader_at (vacated gone k.readers)) is ∙ vacated_none k.readers gone))
+    by_gone false e =
+        let inside : rank < length k.readers = subst (λ n. rank < n) (vacated_length gone k.readers) below in
+        ap (λ c. after_doings g c cs) (was inside)
+        ∙ changes_presence k (without_reader gone k) rank g refl
+        ∙ sym (ap (λ f. f || is_joined (standing (reader_at (vacated gone k.readers) rank) (writer_at k g))) (other_fixed k.fixed rank gone g e))
+
 -- ---- runs
 
-pub agrees_after : {M : Type 0} (decoding : Decoding M) (w : World M) (e : EventView) → Agrees w → Agrees (world_after decoding w e)
-agrees_after decoding w e agrees rank g below =
-    let was_below : rank < length w.known.readers = subst (λ (rs : List (Option Wish)). rank < length rs) (readers_stay w.known e) below in
-    has_run g (w.readers rank) (doings w.known rank e)
-    ∙ ap (λ b. after_doings g b (doings w.known rank e)) (agrees rank g was_below)
-    ∙ known_presence w.known e rank g
+pub agrees_after : {M : Type 0} (decoding : Decoding M) (w : World M) (o : Occurrence) → Agrees w → Agrees (world_after decoding w o)
+agrees_after decoding w o agrees rank g below =
+    has_run g (w.readers rank) (doings w.known rank o)
+    ∙ occurrence_presence w.known o rank g (has g (w.readers rank).matches) (λ inside. agrees rank g inside) below
 
-agrees_run : {M : Type 0} (decoding : Decoding M) (w : World M) (es : List EventView) → Agrees w → Agrees (world_run decoding w es)
+pub agrees_run : {M : Type 0} (decoding : Decoding M) (w : World M) (os : List Occurrence) → Agrees w → Agrees (world_run decoding w os)
 agrees_run decoding w [] agrees = agrees
-agrees_run decoding w (e ∷ es) agrees = agrees_run decoding (world_after decoding w e) es (agrees_after decoding w e agrees)
+agrees_run decoding w (o ∷ os) agrees = agrees_run decoding (world_after decoding w o) os (agrees_after decoding w o agrees)
 
 pub turned : (a b c : Bool) → (a || (b || c)) ≡ ((b || a) || c)
 turned true true c = refl
@@ -288,17 +383,21 @@ fixed_begun g own entity b rank (m ∷ fixed) ms = by_rank (m.rank == rank) refl
         ∙ turned (is_fixed (map pair_of fixed) rank g) (same_guid m.writer g) (has g ms))
     by_rank false is rest = rw is (rest ms)
 
+-- the configuration has a fixed match of a rank with a writer
+abbrev pub is_paired : Config → ℕ → Guid → Bool
+is_paired config rank g = list_any (λ (m : FixedMatch). m.rank == rank && same_guid m.writer g) config.fixed.items
+
 pairs_fixed : (rank : ℕ) (g : Guid) (fixed : List FixedMatch) → is_fixed (map pair_of fixed) rank g ≡ list_any (λ (m : FixedMatch). m.rank == rank && same_guid m.writer g) fixed
 pairs_fixed rank g [] = refl
 pairs_fixed rank g (m ∷ fixed) = ap (λ b. (m.rank == rank && same_guid m.writer g) || b) (pairs_fixed rank g fixed)
 
 -- what is known at the start has the fixed pairs of the configuration
-pub first_fixed : (config : Config) (rank : ℕ) (g : Guid) → is_fixed (first_known config).fixed rank g ≡ start.is_fixed config rank g
+pub first_fixed : (config : Config) (rank : ℕ) (g : Guid) → is_fixed (first_known config).fixed rank g ≡ is_paired config rank g
 first_fixed config rank g = pairs_fixed rank g config.fixed.items
 
 -- at the start a reader is matched with the writers of its fixed pairs
 pub first_has : (config : Config) (rank : ℕ) (g : Guid)
-    → has g (first_matches config.own (entity_of config.readers.items rank) (is_reliable_at config.readers.items rank) (fixed_of config.fixed.items rank)) ≡ start.is_fixed config rank g
+    → has g (first_matches config.own (entity_of config.readers.items rank) (is_reliable_at config.readers.items rank) (fixed_of config.fixed.items rank)) ≡ is_paired config rank g
 first_has config rank g =
     fixed_begun g config.own (entity_of config.readers.items rank) (is_reliable_at config.readers.items rank) rank config.fixed.items []
     ∙ or-false (is_fixed (map pair_of config.fixed.items) rank g)
@@ -309,5 +408,5 @@ agrees_first M config rank g below =
     fixed_begun g config.own (entity_of config.readers.items rank) (is_reliable_at config.readers.items rank) rank config.fixed.items []
     ∙ ap (λ s. is_fixed (map pair_of config.fixed.items) rank g || is_joined s) (sym (no_writer (reader_at (map reader_of config.readers.items) rank)))
 
-pub run_agrees : {M : Type 0} (decoding : Decoding M) (config : Config) (datagrams : List (List ℕ)) → Agrees (run decoding config datagrams)
-run_agrees {M} decoding config datagrams = agrees_run decoding (first_world config) (events_from config.own 0 datagrams) (agrees_first M config)
+pub run_agrees : {M : Type 0} (decoding : Decoding M) (config : Config) (inputs : List Input) → Agrees (run decoding config inputs)
+run_agrees {M} decoding config inputs = agrees_run decoding (first_world config) (occurrences_from config.own 0 inputs) (agrees_first M config)

@@ -8,7 +8,6 @@ use Rattle.std.proofs.lemmas.Bool.Decides.{nat_tests}
 use Rattle.std.proofs.lemmas.List.{append_cancel_left, map-append}
 use Rattle.std.proofs.lemmas.List.Elements.{filter-append}
 use Rattle.std.proofs.lemmas.List.Sorted.{ranks_by}
-use Rattle.rtps_receiver.specs.Events.{EventView}
 use Rattle.rtps_discovery.specs.declared.config.Config.{Config}
 use Rattle.dds_topic.specs.Decoding.{Decoding}
 use Rattle.rtps_reader.specs.declared.notice.Notice.{Notice}
@@ -19,15 +18,18 @@ use Rattle.rtps_run.specs.declared.outcome.Report.{Report}
 use Rattle.rtps_run.specs.declared.outcome.Report.TheVariants as report
 use Rattle.rtps_run.specs.declared.turn.ReportKind.{ReportKind}
 use Rattle.rtps_run.specs.declared.turn.ReportKind.TheVariants as kind
+use Rattle.rtps_run.specs.Input.{Input, index_after_all, occurrences_from}
+use Rattle.rtps_run.specs.Occurrence.{Occurrence}
 use Rattle.rtps_run.specs.Outcome.{Adds, answer_view, notices_in, report_view}
-use Rattle.rtps_run.specs.Run.{events_from, first_world, run, world_run}
+use Rattle.rtps_run.specs.Rising.{IsBatch, OccurrencesRise}
+use Rattle.rtps_run.specs.Run.{run, world_run}
 use Rattle.rtps_run.specs.Seen.{answers_in, notices_by, reader_count}
 use Rattle.rtps_run.specs.Turn.{AreInOrder, notices_from, reports_of, turn_of, turn_order}
 use Rattle.rtps_run.specs.World.{ReportView, NoticeOf, AnswerOf, AnswerView, World}
 use Rattle.rtps_run.proofs.Dealt.{answers_in-append, notices_by-append}
 use Rattle.rtps_run.proofs.OneOrder.{filter-map, one_order, rises_map, rises_sorted, stable_by}
-use Rattle.rtps_run.proofs.Places.{PlacesRise, rise_from}
-use Rattle.rtps_run.proofs.Running.{count_stays, events_more, world_run-append}
+use Rattle.rtps_run.proofs.Heads.{batch_rises}
+use Rattle.rtps_run.proofs.Running.{batch_more}
 use Rattle.rtps_run.proofs.Turns.{alike_turns, before, equal_turns, put_all, put_turn, run_none, run_puts, run_rises, same_kind, same_rank, turns_total, view_turn, weak}
 
 -- a test that passes only notices of one rank
@@ -173,8 +175,8 @@ at_turn {V} {M} {A} f more outcome has x = by_kind (put_turn x).kind (put_turn x
         (λ sent. no_tie x (AnswerOf sent) (λ s t. let wrong : kind.Notice ≡ kind.Answer = sym e ∙ t in cc))
 
 -- an outcome in order is what was put out
-in_order : {V M A : Type 0} (f : V → M) (d : Decoding M) (w : World M) (es : List EventView) (outcome : Outcome V A) (reports : List (Report V A))
-    → Has f (run_puts d w es) outcome → AreInOrder outcome reports → PlacesRise es → map (report_view f) reports ≡ run_puts d w es
+in_order : {V M A : Type 0} (f : V → M) (d : Decoding M) (w : World M) (es : List Occurrence) (outcome : Outcome V A) (reports : List (Report V A))
+    → Has f (run_puts d w es) outcome → AreInOrder outcome reports → OccurrencesRise es → map (report_view f) reports ≡ run_puts d w es
 in_order {V} {M} {A} f d w es outcome reports has ordered up =
     one_order before weak (map (report_view f) reports) (run_puts d w es)
     (rises_map by_turn before (report_view f) same_test reports (rises_sorted by_turn (ranks_by turns_total turn_of) reports ordered.sorted))
@@ -197,15 +199,15 @@ in_order {V} {M} {A} f d w es outcome reports has ordered up =
         ∙ sym (filter-map (ties before z) (report_view f) (reports_of outcome))
         ∙ at_turn f (run_puts d w es) outcome has z
 
-pub run_in_order : {V M A : Type 0} (f : V → M) (d : Decoding M) (config : Config) (datagrams batch : List (List ℕ)) (outcome : Outcome V A) (reports : List (Report V A))
-    → Adds f (run d config datagrams) (run d config (datagrams ++ batch)) outcome → AreInOrder outcome reports
-    → (run d config (datagrams ++ batch)).put ≡ (run d config datagrams).put ++ map (report_view f) reports
-run_in_order {V} {M} {A} f d config datagrams batch outcome reports adds ordered =
-    let w = run d config datagrams in
-    let es = events_from config.own (0 + length datagrams) batch in
-    let next : run d config (datagrams ++ batch) ≡ world_run d w es = ap (world_run d (first_world config)) (events_more config.own 0 datagrams batch) ∙ world_run-append d (first_world config) (events_from config.own 0 datagrams) es in
-    let put : (run d config (datagrams ++ batch)).put ≡ w.put ++ run_puts d w es = ap (λ (v : World M). v.put) next ∙ put_all d w es in
-    let count : reader_count (run d config (datagrams ++ batch)) ≡ reader_count w = ap (λ (v : World M). reader_count v) next ∙ count_stays d w es in
+pub run_in_order : {V M A : Type 0} (f : V → M) (d : Decoding M) (config : Config) (inputs batch : List Input) (outcome : Outcome V A) (reports : List (Report V A))
+    → IsBatch batch → Adds f (run d config inputs) (run d config (inputs ++ batch)) outcome → AreInOrder outcome reports
+    → (run d config (inputs ++ batch)).put ≡ (run d config inputs).put ++ map (report_view f) reports
+run_in_order {V} {M} {A} f d config inputs batch outcome reports batched adds ordered =
+    let w = run d config inputs in
+    let es = occurrences_from config.own (index_after_all 0 inputs) batch in
+    let next : run d config (inputs ++ batch) ≡ world_run d w es = batch_more d config inputs batch (index_after_all 0 inputs) refl in
+    let put : (run d config (inputs ++ batch)).put ≡ w.put ++ run_puts d w es = ap (λ (v : World M). v.put) next ∙ put_all d w es in
+    let count : reader_count (run d config (inputs ++ batch)) ≡ reader_count (world_run d w es) = ap (λ (v : World M). reader_count v) next in
     let has : Has f (run_puts d w es) outcome = record {
       notices = λ rank other below. append_cancel_left (notices_by rank w.put) (notices_by rank (run_puts d w es)) (notices_in f (get_or outcome.notices.items rank other))
           (sym (notices_by-append rank w.put (run_puts d w es)) ∙ ap (notices_by rank) (sym put) ∙ adds.notices rank other (omega (arith, below, adds.readers)));
@@ -213,4 +215,4 @@ run_in_order {V} {M} {A} f d config datagrams batch outcome reports adds ordered
           (sym (answers_in-append w.put (run_puts d w es)) ∙ ap answers_in (sym put) ∙ adds.answers);
       others = λ rank past. run_none d w rank es (omega (arith, past, adds.readers, count));
     } in
-    put ∙ ap (λ l. w.put ++ l) (sym (in_order f d w es outcome reports has ordered (rise_from config.own (0 + length datagrams) batch)))
+    put ∙ ap (λ l. w.put ++ l) (sym (in_order f d w es outcome reports has ordered (batch_rises config.own (index_after_all 0 inputs) batch batched)))

@@ -1,4 +1,8 @@
 pub mod Taken
+pub mod Told
+pub mod Passing
+pub mod Progress
+pub mod Absent
 pub mod Presenting
 pub mod InOrder
 pub mod Listing

@@ -22,7 +22,7 @@ use Rattle.rtps_proxy.specs.Change.{ChangeView}
 use Rattle.rtps_proxy.specs.History.{match_event_of}
 use Rattle.rtps_proxy.specs.Presentation.{Brings, CameWhole, IsSample, IsTold, IsToldBy}
 use Rattle.rtps_frags.specs.declared.sizes.Sizes.{Sizes}
-use Rattle.rtps_run.specs.Run.{events_from}
+use Rattle.rtps_run.specs.Input.{Input, Datagram, Tick, AddReader, RemoveReader, events_at, events_from, index_after}
 use Rattle.rtps_run.proofs.Places.{all_append}
 
 -- a change in one piece has a number that a change may have
@@ -69,10 +69,16 @@ of_datagram own index octets = by_header (header_of octets)
     by_header (Err f) = tt
     by_header (Ok h) = of_items own h.prefix index 0 [] (reading (drop 20 octets)).items
 
-pub all_have_numbers : (own : GuidPrefix) (index : ℕ) (datagrams : List (List ℕ)) → AllByRecursion (λ (e : EventView). HasNumber e.body) (events_from own index datagrams)
+of_input : (own : GuidPrefix) (index : ℕ) (x : Input) → AllByRecursion (λ (e : EventView). HasNumber e.body) (events_at own index x)
+of_input own index (Datagram moment octets) = of_datagram own index octets
+of_input own index (Tick moment) = tt
+of_input own index (AddReader r) = tt
+of_input own index (RemoveReader rank) = tt
+
+pub all_have_numbers : (own : GuidPrefix) (index : ℕ) (inputs : List Input) → AllByRecursion (λ (e : EventView). HasNumber e.body) (events_from own index inputs)
 all_have_numbers own index [] = tt
-all_have_numbers own index (octets ∷ datagrams) =
-    all_append (λ (e : EventView). HasNumber e.body) (events_of own index octets) (events_from own (index + 1) datagrams) (of_datagram own index octets) (all_have_numbers own (index + 1) datagrams)
+all_have_numbers own index (x ∷ inputs) =
+    all_append (λ (e : EventView). HasNumber e.body) (events_at own index x) (events_from own (index_after index x) inputs) (of_input own index x) (all_have_numbers own (index_after index x) inputs)
 
 -- a sample that such events brought has such a number
 is_sample_of : (time : Option Timestamp) (b : EventBodyView) (s : ChangeView) → HasNumber b → IsSample time b s → IsNumber s.number

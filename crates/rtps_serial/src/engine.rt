@@ -1,18 +1,20 @@
-//! An engine that processes datagrams one by one.
+//! An engine that processes inputs one by one: datagrams with their moments, and ticks.
 
-ghost use Rattle.std.specs.Prelude.{◌≡◌, ◌^◌, ◌≤◌, ◌<◌, ◌++◌, ◌∷◌, [], IfErr, IfOk, OnErr, OnOk, List, ℕ, false, length, map, true};
+ghost use Rattle.std.specs.Prelude.{◌≡◌, ◌^◌, ◌+◌, ◌≤◌, ◌<◌, ◌++◌, ◌∷◌, [], IfErr, IfOk, OnErr, OnOk, List, ℕ, false, length, map, slice_index_or, true};
 ghost use Rattle.rtps_discovery.specs.Config.{check_of};
 ghost use Rattle.rtps_discovery.specs.Kept.{IsKnown};
 ghost use Rattle.rtps_receiver.specs.Events.{events_of};
+ghost use Rattle.rtps_run.specs.Input.{Input, Tick, arrived, occurrences_of};
+ghost use Rattle.rtps_run.specs.Occurrence.{Came, Passes};
 ghost use Rattle.rtps_run.specs.Outcome.{Adds, report_view};
 ghost use Rattle.rtps_run.specs.Run.{world_run};
 ghost use Rattle.rtps_run.specs.Seen.{matches_seen, status_seen};
-ghost use Rattle.rtps_run.specs.Standing.{Answers, IsFinishedFrom, IsSteppedFrom, Leaves, ShowsAt, StandsAt, Starts, Refuses, Takes, WorldStands, datagram_limit, run_by};
-ghost use Rattle.rtps_run.specs.World.{World};
+ghost use Rattle.rtps_run.specs.Standing.{Answers, IsFinishedFrom, IsSteppedFrom, Leaves, ShowsAt, StandsAt, Starts, Refuses, Takes, Ticks, WorldStands, datagram_limit, run_by};
+ghost use Rattle.rtps_run.specs.World.{ReportView, World, world_after};
 
 use crate::deal::dealt;
 use crate::readers::Readers;
-use crate::steps::take_events;
+use crate::steps::{take_changes, take_events};
 use dds_topic::{Catalog, Decoder};
 use rtps_discovery::{Config, Discovery, check};
 use rtps_reader::Status;
@@ -21,28 +23,27 @@ use rtps_run::{
     DATAGRAM_LIMIT, EngineError, Outcome, Report, StartError, all_matches, first_readers,
     first_statuses, fixed_by_rank, show_all,
 };
-use rtps_types::Guid;
+use rtps_types::{Datagram, Guid, Place};
 use std::alloc::{AllocError, Allocator, Global};
 use std::collections::BTreeSet;
 use std::marker::Model;
 
-/// The discovery and the readers of a participant, which process the events of datagrams on one
-/// thread.
+/// The discovery and the readers of a participant, which process datagrams and ticks on one thread.
 #[derive(Drop)]
 pub struct SerialEngine<C: Catalog, A: Allocator = Global> {
     config: Config,
     /// The number of datagrams processed.
     index: u64,
-    /// Whether a datagram ran out of memory.
+    /// Whether an input ran out of memory.
     failed: bool,
     discovery: Discovery<A>,
     readers: Readers<C, A>,
-    /// The statuses by rank, after the last datagram that was processed.
+    /// The statuses by rank, after the last input that was processed.
     statuses: Vec<Status, A>,
 }
 
 impl<C: Catalog, A: Allocator> Model for SerialEngine<C, A> {
-    ghost use Rattle.std.specs.Prelude.{◌≡◌, ◌≤◌, length};
+    ghost use Rattle.std.specs.Prelude.{◌≡◌, ◌≤◌, ◌^◌, length};
     ghost use Rattle.rtps_run.specs.Standing.{EngineView};
 
     ghost Value = { EngineView C };
@@ -58,12 +59,12 @@ impl<C: Catalog, A: Allocator> Model for SerialEngine<C, A> {
     } };
 
     ghost invariant = { λ e. (length e.readers.states.items ≤ 256) × (length e.statuses.items
-        ≡ length e.readers.states.items) };
+        ≡ length e.readers.states.items) × (e.index ≤ 2 ^ 48) };
 }
 
 impl<C: Catalog> SerialEngine<C> {
     /// Returns an engine for this configuration, with its readers and their fixed matches, before
-    /// any datagram. Memory for values comes from `alloc`. [`StartError::Config`] exactly where
+    /// any input. Memory for values comes from `alloc`. [`StartError::Config`] exactly where
     /// [`check`](rtps_discovery::check) refuses the configuration, else an error is a refused
     /// growth.
     pub fn new(alloc: Global, config: Config, catalog: C) -> Result<SerialEngine<C>, StartError>
@@ -108,7 +109,8 @@ impl<C: Catalog, A: Allocator + Copy> SerialEngine<C, A> {
 
     /// Processes the next datagram, at most 65,507 octets, and replaces the contents of `reports`
     /// by its results, in order: by place, then by rank, and for one reader its notices before its
-    /// answer. [`Outcome::in_order`] of the result of [`SerialEngine::take`] is the same.
+    /// answer. First its moment passes, as by [`SerialEngine::tick`], and then its events come.
+    /// [`Outcome::in_order`] of the result of [`SerialEngine::take`] is the same.
     ///
     /// [`EngineError::Failed`] and [`EngineError::Spent`] leave `reports` as it was,
     /// [`EngineError::NoMemory`] leaves it empty.
@@ -116,80 +118,185 @@ impl<C: Catalog, A: Allocator + Copy> SerialEngine<C, A> {
     pub fn take_in_order(
         &mut self,
         alloc: A,
-        octets: &[u8],
+        datagram: Datagram<'_>,
         reports: &mut Vec<Report<C::Value, A>, A>,
     ) -> Result<(), EngineError>
-        requires { length octets.now ≤ 65507 }
+        requires { length datagram.bytes.now ≤ 65507 }
         ensures takes { Takes result self.old self.new }
         ensures same { (self.new.catalog ≡ self.old.catalog) × (self.new.config ≡ self.old.config) }
-        ensures stands { (datagrams : List (List ℕ)) → StandsAt C.decoding datagrams self.old
-            → OnOk result (StandsAt C.decoding (datagrams ++ octets.now ∷ []) self.new) }
-        ensures put { (datagrams : List (List ℕ)) → StandsAt C.decoding datagrams self.old
-            → OnOk result ((run_by C.decoding self.old (datagrams ++ octets.now ∷ [])).put
-            ≡ (run_by C.decoding self.old datagrams).put
+        ensures stands { (inputs : List Input) → StandsAt C.decoding inputs self.old
+            → OnOk result (StandsAt C.decoding (inputs ++ arrived datagram.entry ∷ []) self.new) }
+        ensures put { (inputs : List Input) → StandsAt C.decoding inputs self.old
+            → OnOk result ((run_by C.decoding self.old (inputs ++ arrived datagram.entry ∷ [])).put
+            ≡ (run_by C.decoding self.old inputs).put
             ++ map (report_view C.view) reports.new.items) }
-        ensures shows { (datagrams : List (List ℕ)) → ShowsAt C.decoding datagrams self.old
-            → OnErr result (ShowsAt C.decoding datagrams self.new) }
+        ensures shows { (inputs : List Input) → ShowsAt C.decoding inputs self.old
+            → OnErr result (ShowsAt C.decoding inputs self.new) }
         ensures leaves { Leaves result reports.old.items reports.new.items }
     {
-        self.admit()?; // `reports` stays as it is.
-        if self.report(alloc, octets, reports).is_err() {
+        self.admit_datagram()?; // `reports` stays as it is.
+        if self.report(alloc, datagram, reports).is_err() {
             reports.clear();
             return Err(EngineError::NoMemory);
         }
-        self.finish();
+        self.finish(1);
         Ok(())
     }
 
     /// Processes the next datagram, at most 65,507 octets, and returns the notices of each reader
-    /// and the answers to send.
+    /// and the answers to send. First its moment passes, as by [`SerialEngine::tick`], whatever its
+    /// octets are, and then its events come.
     ///
-    /// When a datagram runs out of memory the engine has failed: from then on it returns
-    /// [`EngineError::Failed`], and its statuses are those before that datagram. A datagram that
+    /// When a datagram or a tick runs out of memory the engine has failed: from then on it returns
+    /// [`EngineError::Failed`], and its statuses are those before that input. A datagram that
     /// would take the count past 2^48 is refused with [`EngineError::Spent`] and changes nothing.
     #[tactic(auto, unfolding(rtps_run::specs::Standing::Takes, rtps_run::specs::Standing::Refuses))]
-    pub fn take(&mut self, alloc: A, octets: &[u8]) -> Result<Outcome<C::Value, A>, EngineError>
-        requires { length octets.now ≤ 65507 }
+    pub fn take(
+        &mut self,
+        alloc: A,
+        datagram: Datagram<'_>,
+    ) -> Result<Outcome<C::Value, A>, EngineError>
+        requires { length datagram.bytes.now ≤ 65507 }
         ensures takes { Takes result self.old self.new }
         ensures same { (self.new.catalog ≡ self.old.catalog) × (self.new.config ≡ self.old.config) }
-        ensures stands { (datagrams : List (List ℕ)) → StandsAt C.decoding datagrams self.old
-            → OnOk result (StandsAt C.decoding (datagrams ++ octets.now ∷ []) self.new) }
-        ensures adds { (datagrams : List (List ℕ)) → StandsAt C.decoding datagrams self.old
-            → IfOk result (Adds C.view (run_by C.decoding self.old datagrams)
-            (run_by C.decoding self.old (datagrams ++ octets.now ∷ []))) }
-        ensures shows { (datagrams : List (List ℕ)) → ShowsAt C.decoding datagrams self.old
-            → OnErr result (ShowsAt C.decoding datagrams self.new) }
+        ensures stands { (inputs : List Input) → StandsAt C.decoding inputs self.old
+            → OnOk result (StandsAt C.decoding (inputs ++ arrived datagram.entry ∷ []) self.new) }
+        ensures adds { (inputs : List Input) → StandsAt C.decoding inputs self.old
+            → IfOk result (Adds C.view (run_by C.decoding self.old inputs)
+            (run_by C.decoding self.old (inputs ++ arrived datagram.entry ∷ []))) }
+        ensures shows { (inputs : List Input) → ShowsAt C.decoding inputs self.old
+            → OnErr result (ShowsAt C.decoding inputs self.new) }
     {
-        self.admit()?;
+        self.admit_datagram()?;
         let mut reports = Vec::new(alloc);
-        self.report(alloc, octets, &mut reports)?;
+        self.report(alloc, datagram, &mut reports)?;
         let outcome = dealt::<C, A>(alloc, self.readers.states.len(), reports)?;
-        self.finish();
+        self.finish(1);
         Ok(outcome)
     }
 
-    /// Refuses a datagram before it is looked at, or else marks the engine as failed until the
-    /// datagram is processed.
+    /// Lets a moment pass at which no datagram came, as [`SerialEngine::tick`] does, and replaces
+    /// the contents of `reports` by its results, in order: by rank, and then by writer.
+    /// [`Outcome::in_order`] of the result of [`SerialEngine::tick`] is the same.
+    ///
+    /// [`EngineError::Failed`] leaves `reports` as it was, [`EngineError::NoMemory`] leaves it
+    /// empty.
+    #[tactic(auto, unfolding(rtps_run::specs::Standing::Ticks, rtps_run::specs::Standing::Refuses, rtps_run::specs::Standing::Leaves))]
+    pub fn tick_in_order(
+        &mut self,
+        alloc: A,
+        moment: u64,
+        reports: &mut Vec<Report<C::Value, A>, A>,
+    ) -> Result<(), EngineError>
+        ensures takes { Ticks result self.old self.new }
+        ensures same { (self.new.catalog ≡ self.old.catalog) × (self.new.config ≡ self.old.config) }
+        ensures stands { (inputs : List Input) → StandsAt C.decoding inputs self.old
+            → OnOk result (StandsAt C.decoding (inputs ++ Tick moment ∷ []) self.new) }
+        ensures put { (inputs : List Input) → StandsAt C.decoding inputs self.old
+            → OnOk result ((run_by C.decoding self.old (inputs ++ Tick moment ∷ [])).put
+            ≡ (run_by C.decoding self.old inputs).put
+            ++ map (report_view C.view) reports.new.items) }
+        ensures shows { (inputs : List Input) → ShowsAt C.decoding inputs self.old
+            → OnErr result (ShowsAt C.decoding inputs self.new) }
+        ensures leaves { Leaves result reports.old.items reports.new.items }
+    {
+        self.admit()?; // `reports` stays as it is.
+        if self.pass(alloc, moment, reports).is_err() {
+            reports.clear();
+            return Err(EngineError::NoMemory);
+        }
+        self.finish(0);
+        Ok(())
+    }
+
+    /// Lets a moment pass at which no datagram came, in milliseconds, and returns the notices of
+    /// each reader (DDSI-RTPS 8.5.3.2): the participants whose leases have ended are removed, and
+    /// the matches with their writers end. There are no answers. The place of these notices is the
+    /// number of the next datagram, and submessage 0. A moment below an earlier one counts as the
+    /// greatest so far.
+    ///
+    /// When a tick runs out of memory the engine has failed, as by [`SerialEngine::take`]. A tick
+    /// isn't counted as a datagram, so it is never refused with [`EngineError::Spent`].
+    #[tactic(auto, unfolding(rtps_run::specs::Standing::Ticks, rtps_run::specs::Standing::Refuses))]
+    pub fn tick(&mut self, alloc: A, moment: u64) -> Result<Outcome<C::Value, A>, EngineError>
+        ensures takes { Ticks result self.old self.new }
+        ensures same { (self.new.catalog ≡ self.old.catalog) × (self.new.config ≡ self.old.config) }
+        ensures stands { (inputs : List Input) → StandsAt C.decoding inputs self.old
+            → OnOk result (StandsAt C.decoding (inputs ++ Tick moment ∷ []) self.new) }
+        ensures adds { (inputs : List Input) → StandsAt C.decoding inputs self.old
+            → IfOk result (Adds C.view (run_by C.decoding self.old inputs)
+            (run_by C.decoding self.old (inputs ++ Tick moment ∷ []))) }
+        ensures shows { (inputs : List Input) → ShowsAt C.decoding inputs self.old
+            → OnErr result (ShowsAt C.decoding inputs self.new) }
+    {
+        self.admit()?;
+        let mut reports = Vec::new(alloc);
+        self.pass(alloc, moment, &mut reports)?;
+        let outcome = dealt::<C, A>(alloc, self.readers.states.len(), reports)?;
+        self.finish(0);
+        Ok(outcome)
+    }
+
+    /// Refuses an input if the engine has failed, or else marks the engine as failed until the
+    /// input is processed.
     #[tactic(auto, unfolding(rtps_run::specs::Standing::Refuses))]
     fn admit(&mut self) -> Result<(), EngineError>
-        ensures ok { OnOk result ((self.old.failed ≡ false) × (self.old.index < datagram_limit)
+        ensures ok { OnOk result ((self.old.failed ≡ false) × (self.old.index ≤ datagram_limit)
             × (self.new ≡ record self.old { failed = true })) }
         ensures err { IfErr result (λ e. Refuses e self.old) }
+        ensures failed { OnErr result (self.old.failed ≡ true) }
         ensures still { OnErr result (self.new ≡ self.old) }
     {
         if self.failed {
             return Err(EngineError::Failed);
         }
-        if self.index >= DATAGRAM_LIMIT {
-            return Err(EngineError::Spent);
-        }
         self.failed = true;
         Ok(())
     }
 
-    /// Has discovery and the readers process the events of a datagram. The results replace the
-    /// contents of `reports`.
-    fn report(
+    /// The same for a datagram, which is also refused if it would pass the limit.
+    #[tactic(auto, unfolding(rtps_run::specs::Standing::Refuses))]
+    fn admit_datagram(&mut self) -> Result<(), EngineError>
+        ensures ok { OnOk result ((self.old.failed ≡ false) × (self.old.index < datagram_limit)
+            × (self.new ≡ record self.old { failed = true })) }
+        ensures err { IfErr result (λ e. Refuses e self.old) }
+        ensures still { OnErr result (self.new ≡ self.old) }
+    {
+        if !self.failed && self.index >= DATAGRAM_LIMIT {
+            return Err(EngineError::Spent);
+        }
+        self.admit()
+    }
+
+    /// Lets a moment pass before the next datagram: discovery removes the participants whose leases
+    /// have ended, and each reader processes its changes. The results replace the contents of
+    /// `reports`.
+    fn pass(
+        &mut self,
+        alloc: A,
+        moment: u64,
+        reports: &mut Vec<Report<C::Value, A>, A>,
+    ) -> Result<(), AllocError>
+        ensures same { IsSteppedFrom self.old self.new }
+        ensures unspent { OnOk result (self.new.discovery.spent ≡ false) }
+        ensures stands { (w : World C.Meaning)
+            → WorldStands {A = A} C.view w w.put self.old.discovery.kept self.old.readers []
+            → OnOk result (WorldStands C.view (world_after (C.decoding self.old.catalog) w
+            (Passes self.old.index moment)) w.put
+            self.new.discovery.kept self.new.readers reports.new.items) }
+    {
+        reports.clear();
+        let ended = self.discovery.expire(alloc, moment)?;
+        let head = Place {
+            datagram: self.index,
+            submessage: 0,
+        };
+        take_changes(&mut self.readers, alloc, head, &ended, reports)
+    }
+
+    /// Has discovery and the readers process the events of a datagram. The results are appended to
+    /// `reports`.
+    fn report_events(
         &mut self,
         alloc: A,
         octets: &[u8],
@@ -199,10 +306,11 @@ impl<C: Catalog, A: Allocator + Copy> SerialEngine<C, A> {
         ensures same { IsSteppedFrom self.old self.new }
         ensures unspent { self.old.discovery.spent ≡ false
             → OnOk result (self.new.discovery.spent ≡ false) }
-        ensures stands { (w : World C.Meaning)
-            → WorldStands {A = A} C.view w w.put self.old.discovery.kept self.old.readers []
+        ensures stands { (w : World C.Meaning) (earlier : List (ReportView C.Meaning))
+            → WorldStands C.view w earlier self.old.discovery.kept self.old.readers
+            reports.old.items
             → OnOk result (WorldStands C.view (world_run (C.decoding self.old.catalog) w
-            (events_of self.old.config.own self.old.index octets.now)) w.put
+            (map Came (events_of self.old.config.own self.old.index octets.now))) earlier
             self.new.discovery.kept self.new.readers reports.new.items) }
     {
         let Ok(events) = events(alloc, self.config.own, self.index, octets) else {
@@ -217,14 +325,46 @@ impl<C: Catalog, A: Allocator + Copy> SerialEngine<C, A> {
         )
     }
 
-    /// Counts the datagram as processed, and updates the statuses from the readers.
-    fn finish(&mut self)
-        requires { self.old.index < 2 ^ 48 }
-        ensures { IsFinishedFrom self.old self.new }
+    /// Lets the moment of a datagram pass, and then processes its events. The results replace the
+    /// contents of `reports`.
+    fn report(
+        &mut self,
+        alloc: A,
+        datagram: Datagram<'_>,
+        reports: &mut Vec<Report<C::Value, A>, A>,
+    ) -> Result<(), AllocError>
+        requires { length datagram.bytes.now ≤ 65507 }
+        ensures same { IsSteppedFrom self.old self.new }
+        ensures unspent { OnOk result (self.new.discovery.spent ≡ false) }
+        ensures stands { (w : World C.Meaning)
+            → WorldStands {A = A} C.view w w.put self.old.discovery.kept self.old.readers []
+            → OnOk result (WorldStands C.view (world_run (C.decoding self.old.catalog) w
+            (occurrences_of self.old.config.own self.old.index (arrived datagram.entry))) w.put
+            self.new.discovery.kept self.new.readers reports.new.items) }
+    {
+        self.pass(alloc, datagram.moment, reports)?;
+        self.report_events(alloc, datagram.bytes, reports)
+    }
+
+    /// Counts `count` datagrams more as processed, and updates the statuses from the readers.
+    fn finish(&mut self, count: u64)
+        requires { self.old.index + count ≤ 2 ^ 48 }
+        ensures { IsFinishedFrom count self.old self.new }
+    {
+        self.show();
+        self.index += count;
+        self.failed = false;
+    }
+
+    /// Updates the statuses from the readers.
+    fn show(&mut self)
+        ensures same { self.new ≡ record self.old { statuses = self.new.statuses } }
+        ensures count { length self.new.statuses ≡ length self.old.statuses }
+        ensures statuses { (rank : ℕ) (s : _) (r : _) → rank < length self.old.readers
+            → slice_index_or self.new.statuses rank s
+            ≡ (slice_index_or self.old.readers rank r).status }
     {
         show_all(&self.readers.states, &mut self.statuses);
-        self.index += 1;
-        self.failed = false;
     }
 
     /// The number of readers, 1 to 256. Their ranks are the numbers below it.
@@ -234,11 +374,11 @@ impl<C: Catalog, A: Allocator + Copy> SerialEngine<C, A> {
         self.readers.states.len() as u32
     }
 
-    /// Returns the status of the reader of a rank, after the last datagram that was processed, or
+    /// Returns the status of the reader of a rank, after the last input that was processed, or
     /// `None` where no reader has the rank. No memory is taken.
     pub fn status(&self, rank: u32) -> Option<Status>
-        ensures { (datagrams : List (List ℕ)) → ShowsAt C.decoding datagrams self.now
-            → result ≡ status_seen (run_by C.decoding self.now datagrams) rank }
+        ensures { (inputs : List Input) → ShowsAt C.decoding inputs self.now
+            → result ≡ status_seen (run_by C.decoding self.now inputs) rank }
     {
         self.statuses.get(rank as usize).copied()
     }
@@ -248,9 +388,9 @@ impl<C: Catalog, A: Allocator + Copy> SerialEngine<C, A> {
     #[tactic(auto, unfolding(rtps_run::specs::Standing::Answers))]
     pub fn matches(&self, alloc: A) -> Result<BTreeSet<(u32, Guid), A>, EngineError>
         ensures answers { Answers result self.now }
-        ensures matches { (datagrams : List (List ℕ)) → StandsAt C.decoding datagrams self.now
+        ensures matches { (inputs : List Input) → StandsAt C.decoding inputs self.now
             → IfOk result (λ matches. matches.keys
-            ≡ matches_seen (run_by C.decoding self.now datagrams)) }
+            ≡ matches_seen (run_by C.decoding self.now inputs)) }
     {
         if self.failed {
             Err(EngineError::Failed)
@@ -259,12 +399,12 @@ impl<C: Catalog, A: Allocator + Copy> SerialEngine<C, A> {
         }
     }
 
-    /// The discovery of the engine, as it is after the last datagram that was processed. If a
-    /// datagram ran out of memory, parts of that datagram may be included.
+    /// The discovery of the engine, as it is after the last input that was processed. If an
+    /// input ran out of memory, parts of that input may be included.
     pub fn discovery(&self) -> &Discovery<A>
-        ensures known { (datagrams : List (List ℕ)) → StandsAt C.decoding datagrams self.now
-            → IsKnown (run_by C.decoding self.now datagrams).known result.now.kept }
-        ensures unspent { (datagrams : List (List ℕ)) → StandsAt C.decoding datagrams self.now
+        ensures known { (inputs : List Input) → StandsAt C.decoding inputs self.now
+            → IsKnown (run_by C.decoding self.now inputs).known result.now.kept }
+        ensures unspent { (inputs : List Input) → StandsAt C.decoding inputs self.now
             → result.now.spent ≡ false }
     {
         &self.discovery

@@ -1,5 +1,5 @@
-//! The engine of one thread: from datagrams to notices, statuses, matches and answers
-//! (DDSI-RTPS 8.3.4, 8.4.10).
+//! The engine of one thread: from datagrams and moments to notices, statuses, matches and answers
+//! (DDSI-RTPS 8.3.4, 8.4.10, 8.5.3.2).
 //!
 //! Its results are the run that `rtps_run` defines, which every engine of several threads has to
 //! reproduce.
@@ -15,3 +15,4 @@ mod tests;
 
 pub use engine::SerialEngine;
 pub use rtps_run::{Answer, EngineError, Outcome, Report, ReportKind, StartError, Turn};
+pub use rtps_types::Datagram;

@@ -1,6 +1,6 @@
 //! Processing events in discovery and the readers, one event after another.
 
-ghost use Rattle.std.specs.Prelude.{◌≡◌, ◌++◌, [], IfOk, List, None, OnOk, false, length, map, true};
+ghost use Rattle.std.specs.Prelude.{◌≡◌, ◌++◌, IfOk, List, None, OnOk, false, length, map, true};
 ghost use Rattle.std.specs.Option.{option_map};
 ghost use Rattle.rtps_receiver.specs.Events.{view};
 ghost use Rattle.rtps_discovery.specs.Addressed as addressed;
@@ -9,6 +9,7 @@ ghost use Rattle.rtps_discovery.specs.Kept.{matched_ranks};
 ghost use Rattle.rtps_discovery.specs.Seen.{change_seen};
 ghost use Rattle.rtps_proxy.specs.Replies.{reply_view};
 ghost use Rattle.rtps_reader.specs.Reader.{placed};
+ghost use Rattle.rtps_run.specs.Occurrence.{Came};
 ghost use Rattle.rtps_run.specs.Outcome.{report_view};
 ghost use Rattle.rtps_run.specs.Run.{world_run};
 ghost use Rattle.rtps_run.specs.Standing.{ReadersStand, WorldStands};
@@ -57,7 +58,7 @@ fn take_by_ranks<C: Catalog, A: Allocator + Copy>(
 }
 
 /// Passes each change of a match to its reader, one after the other.
-fn take_changes<C: Catalog, A: Allocator + Copy>(
+pub(crate) fn take_changes<C: Catalog, A: Allocator + Copy>(
     readers: &mut Readers<C, A>,
     alloc: A,
     place: Place,
@@ -124,10 +125,11 @@ fn take_announcement<C: Catalog, A: Allocator + Copy>(
         → (w : World C.Meaning) (earlier : List (ReportView C.Meaning))
         → WorldStands C.view w earlier discovery.old.kept readers.old.states.items reports.old.items
         → OnOk result (WorldStands C.view (world_after (C.decoding readers.old.decoder) w
-        (view event.now)) earlier discovery.new.kept readers.new.states.items
+        (Came (view event.now))) earlier discovery.new.kept readers.new.states.items
         reports.new.items) }
 {
-    let effects = discovery.step(alloc, event)?;
+    let moment = discovery.moment(); // The moment of the datagram has passed.
+    let effects = discovery.step(alloc, moment, event)?;
     report_discovery::<C, A>(event.place, effects.answer, reports)?;
     let changes = by_rank(effects.changes)?;
     take_changes(readers, alloc, event.place, &changes, reports)
@@ -148,7 +150,7 @@ fn take_event<C: Catalog, A: Allocator + Copy>(
     ensures stands { (w : World C.Meaning) (earlier : List (ReportView C.Meaning))
         → WorldStands C.view w earlier discovery.old.kept readers.old.states.items reports.old.items
         → OnOk result (WorldStands C.view (world_after (C.decoding readers.old.decoder) w
-        (view event.now)) earlier discovery.new.kept readers.new.states.items
+        (Came (view event.now))) earlier discovery.new.kept readers.new.states.items
         reports.new.items) }
 {
     if is_discovery(event.writer) {
@@ -157,7 +159,7 @@ fn take_event<C: Catalog, A: Allocator + Copy>(
     take_by_ranks(discovery, readers, alloc, event, reports)
 }
 
-/// Processes events one by one. The results replace the contents of `reports`.
+/// Processes events one by one. The results are appended to `reports`.
 pub(crate) fn take_events<C: Catalog, A: Allocator + Copy>(
     discovery: &mut Discovery<A>,
     readers: &mut Readers<C, A>,
@@ -168,13 +170,12 @@ pub(crate) fn take_events<C: Catalog, A: Allocator + Copy>(
     ensures same { readers.new.decoder ≡ readers.old.decoder }
     ensures count { length readers.new.states.items ≡ length readers.old.states.items }
     ensures unspent { discovery.old.spent ≡ false → OnOk result (discovery.new.spent ≡ false) }
-    ensures stands { (w : World C.Meaning)
-        → WorldStands {A = A} C.view w w.put discovery.old.kept readers.old.states.items []
+    ensures stands { (w : World C.Meaning) (earlier : List (ReportView C.Meaning))
+        → WorldStands C.view w earlier discovery.old.kept readers.old.states.items reports.old.items
         → OnOk result (WorldStands C.view (world_run (C.decoding readers.old.decoder) w
-        (map view events.now)) w.put discovery.new.kept readers.new.states.items
+        (map Came (map view events.now))) earlier discovery.new.kept readers.new.states.items
         reports.new.items) }
 {
-    reports.clear();
     for event in events {
         take_event(discovery, readers, alloc, event, reports)?;
     }

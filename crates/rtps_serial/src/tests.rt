@@ -1,12 +1,13 @@
 //! Tests of engines with datagrams written by hand.
 
-ghost use Rattle.std.specs.Prelude.{◌≤◌, IfOk, length};
+ghost use Rattle.std.specs.Prelude.{◌≡◌, ◌≤◌, IfOk, length};
 
 mod announced;
 mod edges;
 mod known;
 mod matching;
 mod memory;
+mod moments;
 mod order;
 mod runs;
 
@@ -115,6 +116,13 @@ fn datagram(alloc: Global, parts: &[Sent]) -> Result<Vec<u8>, Fail>
         return Err(Fail::new("the datagram is too long"));
     }
     Ok(octets)
+}
+
+/// A datagram that came at the start.
+fn at_start(bytes: &[u8]) -> Datagram<'_>
+    ensures { result.bytes.now ≡ bytes.now }
+{
+    Datagram { moment: 0, bytes }
 }
 
 fn reader_config(

@@ -1,5 +1,5 @@
--- The results of one worker, and of all workers.
-use Rattle.std.specs.Prelude.{◌≡◌, ℕ, List, [], ◌∷◌, All, IfOk, Result, Ok, Err, map}
+-- The results of one job, and of all workers.
+use Rattle.std.specs.Prelude.{◌≡◌, ℕ, List, [], ◌∷◌, IfOk, Result, Ok, Err}
 use Rattle.std.specs.declared.alloc.Global.{Global}
 use Rattle.std.specs.declared.vec.Vec.{Vec}
 use Rattle.rtps_receiver.specs.Events.{EventView}
@@ -15,14 +15,6 @@ IsJobDone f decoding es x result =
     ((shares : ℕ → Share _) → IsReady es shares x
     → IfOk result (λ done. IsDone f decoding shares done))
     × IfOk result (λ done. rank_of done ≡ rank_in x)
-
--- all jobs of a worker are done, in their order
-unfoldable pub IsPileDone : {V M E : Type 0} → (V → M) → Decoding M → List EventView
-    → Vec (Posted V) Global → Result (Vec (JobResult V) Global) E → Type 0
-IsPileDone f decoding es pile result =
-    ((shares : ℕ → Share _) → All (IsReady es shares) pile.items
-    → IfOk result (λ results. All (IsDone f decoding shares) results.items))
-    × IfOk result (λ results. map rank_of results.items ≡ map rank_in pile.items)
 
 -- the items of a worker; none if it failed
 abbrev pub given_by : {X E : Type 0} → Result (Vec X Global) E → List X

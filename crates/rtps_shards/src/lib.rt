@@ -19,4 +19,4 @@ pub use board::{Board, Stolen, Thief};
 pub use gate::{Gate, NoGate};
 pub use jobs::{JobResult, Posted, SharedBatch, Worker};
 pub use piles::joined;
-pub use workers::{run_job, run_jobs};
+pub use workers::{run_alone, run_job, run_jobs};

@@ -1,14 +1,13 @@
 //! The steps of a job.
 
-ghost use Rattle.std.specs.Prelude.{◌≡◌, List, OnErr, OnOk, drop, map, option_to_list, take, true, ◌+◌};
-ghost use Rattle.rtps_types.specs.MatchChange.{match_change_view};
+ghost use Rattle.std.specs.Prelude.{◌≡◌, ◌∷◌, [], List, OnErr, OnOk, drop, map, take, true, ◌+◌};
 ghost use Rattle.rtps_receiver.specs.Events.{view};
 ghost use Rattle.rtps_proxy.specs.Effects.{GivesNothing};
 ghost use Rattle.rtps_reader.specs.declared.notice.Notice.{Notice};
 ghost use Rattle.rtps_reader.specs.Reader.{Reader};
 ghost use Rattle.rtps_reader.specs.Standing.{StandsAt};
 ghost use Rattle.rtps_reader.specs.Step.{asked};
-ghost use Rattle.rtps_planner.specs.Plan.{heard_at, steps_seen, taken_in};
+ghost use Rattle.rtps_planner.specs.Plan.{steps_seen, taken_in};
 ghost use Rattle.rtps_shards.specs.Results.{HasTaken, share};
 
 use crate::jobs::Worker;
@@ -17,7 +16,6 @@ use rtps_planner::PlannedStep;
 use rtps_proxy::Effects;
 use rtps_reader::{Output, ReaderState, Step, StepKind};
 use rtps_receiver::Event;
-use rtps_types::MatchChangeKind;
 use std::alloc::{AllocError, Global};
 
 /// Returns the event at index `first` and the `more` events after it, as far as there are any.
@@ -28,28 +26,11 @@ fn stretch<'a>(events: &'a [Event<'a>], first: usize, more: usize) -> &'a [Event
     &rest[..more.saturating_add(1).min(rest.len())]
 }
 
-/// Returns the step that changes a match, at the place of the event of this index, which announces
-/// the change; `None` where there is no such event.
-fn change_at<'a>(
-    events: &'a [Event<'a>],
-    event: usize,
-    what: &'a MatchChangeKind,
-) -> Option<Step<'a>>
-    ensures { map (λ s. (s.place, asked s.what)) (option_to_list result)
-        ≡ heard_at (map view events.now) event (match_change_view what.now) }
-{
-    let event = events.get(event)?;
-    Some(Step {
-        place: event.place,
-        what: StepKind::Change(what),
-    })
-}
-
-/// Runs a step of a reader, if there is one, and appends its notices and answers to the output. On
-/// an error, a refused growth, the reader is spent.
+/// Runs a step of a reader, and appends its notices and answers to the output. On an error, a
+/// refused growth, the reader is spent.
 fn take_step<'a, C: Catalog>(
     worker: &mut Worker<C>,
-    step: Option<Step<'a>>,
+    step: &Step<'a>,
     effects: &mut Effects<'a>,
     state: &mut ReaderState,
     output: &mut Output<C::Value>,
@@ -57,17 +38,15 @@ fn take_step<'a, C: Catalog>(
     requires { GivesNothing effects.old }
     ensures taken { (r : Reader) (given : List (Notice C.Meaning)) → StandsAt r given state.old
         → OnOk result (HasTaken C.view (C.decoding worker.old)
-        (share r given (map (λ s. (s.place, asked s.what)) (option_to_list step.entry)))
-        state.new output.old output.new) }
+        (share r given ((step.now.place, asked step.now.what) ∷ [])) state.new output.old
+        output.new) }
     ensures rank { state.new.rank ≡ state.old.rank }
     ensures same { worker.new ≡ worker.old }
     ensures err { OnErr result (state.new.spent ≡ true) }
     ensures nothing { OnOk result (GivesNothing effects.new) }
 {
-    if let Some(step) = step {
-        let decoder = &mut worker.decoder;
-        state.step_with(worker.alloc, decoder, &step, effects, output)?;
-    }
+    let decoder = &mut worker.decoder;
+    state.step_with(worker.alloc, decoder, step, effects, output)?;
     Ok(())
 }
 
@@ -90,8 +69,8 @@ fn take_events<'a, C: Catalog>(
     ensures nothing { OnOk result (GivesNothing effects.new) }
 {
     for event in events {
-        let step = Some(Step::of_event(event));
-        take_step(worker, step, effects, state, output)?;
+        let step = Step::of_event(event);
+        take_step(worker, &step, effects, state, output)?;
     }
     Ok(())
 }
@@ -120,9 +99,12 @@ pub(crate) fn take_steps<'a, C: Catalog>(
                 let events = stretch(events, *first, *more);
                 take_events(worker, events, &mut effects, state, output)?;
             }
-            PlannedStep::Change { event, what } => {
-                let step = change_at(events, *event, what);
-                take_step(worker, step, &mut effects, state, output)?;
+            PlannedStep::Change { place, what } => {
+                let step = Step {
+                    place: *place,
+                    what: StepKind::Change(what),
+                };
+                take_step(worker, &step, &mut effects, state, output)?;
             }
         }
     }

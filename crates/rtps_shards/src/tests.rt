@@ -182,6 +182,24 @@ fn each_job_is_run_once(rt: HostRuntime) -> Result<(), Fail> {
 }
 
 #[test]
+fn jobs_alone_are_run_in_order(rt: HostRuntime) -> Result<(), Fail> {
+    let alloc = rt.alloc();
+    let events = three(alloc)?;
+    let batch = SharedBatch {
+        catalog: &Shapes,
+        gate: &NoGate,
+        events: &events,
+    };
+    let results = run_alone(alloc, &batch, jobs_of::<Shapes>(alloc, 3)?)?;
+    let mut presented = Vec::new(alloc);
+    for result in &results {
+        presented.push((result.rank, result.output.notices.len()))?;
+    }
+    assert!(rt; presented.as_slice() == [(0, 3), (1, 2), (2, 3)].as_slice());
+    Ok(())
+}
+
+#[test]
 fn no_jobs_are_no_results(rt: HostRuntime) -> Result<(), Fail> {
     assert!(rt; run(&rt, rt.alloc(), &Shapes, &NoGate, (0, 64))?.is_empty());
     Ok(())

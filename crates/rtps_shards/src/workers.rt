@@ -6,7 +6,7 @@ ghost use Rattle.rtps_receiver.specs.Events.{view, EventView};
 ghost use Rattle.rtps_planner.specs.Plan.{steps_seen};
 ghost use Rattle.rtps_reader.specs.Standing.{StandsAt};
 ghost use Rattle.rtps_shards.specs.Results.{IsDone, IsOutput, IsReady, Share, given_done, rank_of, rank_in, reader_done};
-ghost use Rattle.rtps_shards.specs.Piles.{IsJobDone, IsPileDone};
+ghost use Rattle.rtps_shards.specs.Piles.{IsJobDone};
 ghost use Rattle.dds_topic.specs.Decoding.{Decoding};
 ghost use Rattle.rtps_shards.specs.Board.{hand};
 ghost use Rattle.rtps_shards.specs.Ends.{IsSameBoard, IsThiefOf, owner_hand, room};
@@ -79,19 +79,29 @@ pub(crate) fn run_posted<C: Catalog, G: Gate>(
     })
 }
 
-/// Runs the jobs of one worker, in order. The decoder's state between values belongs to the worker.
-#[tactic(auto, unfolding(crate::specs::Piles::IsPileDone))]
-fn run_pile<C: Catalog, G: Gate>(
+/// Runs jobs one after the other on the caller's thread, and returns their results in the order of
+/// the jobs. It needs no thread and waits for none. The decoder's state between values belongs to
+/// this call.
+///
+/// An error is a refused growth. No result is returned then, and the readers' states are dropped
+/// with the results.
+pub fn run_alone<C: Catalog, G: Gate>(
     alloc: Global,
     batch: &SharedBatch<'_, C, G>,
-    pile: Vec<Posted<C::Value>>,
+    jobs: Vec<Posted<C::Value>>,
 ) -> Result<Vec<JobResult<C::Value>>, AllocError>
-    ensures { IsPileDone C.view (C.decoding batch.now.catalog.now) (map view batch.now.events.now)
-        pile result }
+    ensures done { (shares : ℕ → Share C.Meaning)
+        → All (IsReady (map view batch.now.events.now) shares) jobs.items
+        → IfOk result (λ results.
+        All (IsDone C.view (C.decoding batch.now.catalog.now) shares) results.items) }
+    ensures order { IfOk result (λ results.
+        map rank_of results.items ≡ map rank_in jobs.items) }
+    ensures ranks { IfOk result (λ results.
+        IsPermutation (map rank_in jobs.items) (map rank_of results.items)) }
 {
     let mut worker = Worker::new(alloc, batch.catalog);
-    let mut results = Vec::with_capacity(alloc, pile.len())?;
-    for work in pile {
+    let mut results = Vec::with_capacity(alloc, jobs.len())?;
+    for work in jobs {
         let done = run_posted(&mut worker, batch, work)?;
         results.push(done)?;
     }
@@ -171,7 +181,7 @@ pub fn run_jobs<C: Catalog, G: Gate, R: Threads + Sync>(
 {
     let count = jobs.len().clamp(1, workers);
     if count == 1 {
-        return run_pile(alloc, batch, jobs);
+        return run_alone(alloc, batch, jobs);
     }
     let jobs = most_first(jobs);
     let (board, thieves) = Board::new(alloc, jobs.len(), count - 1)?;

@@ -5,6 +5,7 @@ use Rattle.std.specs.Io.KnownBytes.{IsAtEnd}
 use Rattle.rtps_records.specs.Batches.{EndsBatch, ReadsBatch}
 use Rattle.std.specs.Borrow.{Bor}
 use Rattle.std.specs.List.{All, AllByRecursion}
+use Rattle.std.proofs.lemmas.List.{map-append}
 use Rattle.std.proofs.lemmas.List.Elements.{All-from_recursion}
 use Rattle.rtps_records.specs.RecordFile.{IsRecord}
 use Rattle.rtps_records.specs.declared.batch_end.BatchEnd.{BatchEnd}
@@ -20,9 +21,14 @@ use Rattle.rtps_records.proofs.Progress.{EndsHere}
 use Rattle.dds_topic.specs.Decoding.{Decoding}
 use Rattle.rtps_discovery.specs.declared.config.Config.{Config}
 use Rattle.rtps_reader.specs.Notice.{answer_view}
-use Rattle.rtps_run.specs.Run.{run}
-use Rattle.rtps_run.specs.Standing.{EngineView, StandsAt, run_by}
-use Rattle.rtps_run.proofs.Running.{run_count}
+use Rattle.rtps_text.specs.Undated.{run}
+use Rattle.rtps_run.specs.Standing.{EngineView}
+use Rattle.rtps_run.specs.Input.{Input, arrived}
+use Rattle.rtps_run.specs.Input.{Datagram as dated}
+use Rattle.rtps_run.specs.Standing as standing
+use Rattle.rtps_types.specs.declared.datagram.Datagram.{Datagram}
+use Rattle.rtps_text.specs.Undated.{StandsAt, inputs_of, run_by}
+use Rattle.rtps_text.proofs.Undated.{inputs_are, run_count, shown_count}
 use Rattle.rtps_planner.specs.Commuting.{merged}
 use Rattle.rtps_text.specs.Batched.{MovesBefore, TakesRecords}
 use Rattle.rtps_planner.specs.Outputs.{AreRising, sent_in}
@@ -95,7 +101,7 @@ said_here {C} text f decoding before after batch given same takes records said h
       lines = ap (λ l. l ++ all_lines (text after.catalog) f given (length after.statuses)) h.lines
           ∙ ap (λ (k : C). put_lines (text k) (run (decoding k) before.config records).put ++ all_lines (text after.catalog) f given (length after.statuses)) (sym same.0)
           ∙ ap (λ (config : Config). put_lines (text after.catalog) (run (decoding after.catalog) config records).put ++ all_lines (text after.catalog) f given (length after.statuses)) (sym same.1)
-          ∙ given_lines (text after.catalog) f (decoding after.catalog) after.config records batch given (length after.statuses) standing.shows.count
+          ∙ given_lines (text after.catalog) f (decoding after.catalog) after.config records batch given (length after.statuses) (shown_count decoding (records ++ batch) after standing)
           (subst (λ (config : Config). IsGiven f (run (decoding after.catalog) config records) (run (decoding after.catalog) config (records ++ batch)) given) (sym same.1)
           (subst (λ (k : C). IsGiven f (run (decoding k) before.config records) (run (decoding k) before.config (records ++ batch)) given) (sym same.0) is));
     }
@@ -106,17 +112,24 @@ pub said_more : {C V M : Type 0} (text : C → M → List ℕ) (f : V → M) (de
     → HasSaid text decoding records said before → HasSaid text decoding (records ++ batch) (said ++ all_lines (text k) f given readers) next
 said_more {C} text f decoding records batch said before next given k readers same takes own counted h =
     let here = said_here text f decoding before next batch given same takes records said h in
-    let count : length next.statuses ≡ readers = here.stands.shows.count ∙ counted in
+    let count : length next.statuses ≡ readers = shown_count decoding (records ++ batch) next here.stands ∙ counted in
     subst (λ l. HasSaid text decoding (records ++ batch) (said ++ l) next)
     (ap (λ (c : C). all_lines (text c) f given (length next.statuses)) own ∙ ap (λ r. all_lines (text k) f given r) count) here
 
--- if a result is Ok, the batch was processed, whatever records came before it
-pub takes_records : {C V M U E : Type 0} (f : V → M) (decoding : C → Decoding M) (batch : List (List ℕ)) (old new : EngineView C) (given : BatchOutput V) (r : Result U E)
-    → ((records : List (List ℕ)) → StandsAt decoding records old → OnOk r (StandsAt decoding (records ++ batch) new))
-    → ((records : List (List ℕ)) → StandsAt decoding records old → OnOk r (IsGiven f (run_by decoding old records) (run_by decoding old (records ++ batch)) given))
+-- if a result is Ok, datagrams at moment 0 were processed, whatever records came before them
+pub takes_records : {C V M U E : Type 0} (f : V → M) (decoding : C → Decoding M) (datagrams : List Datagram) (batch : List (List ℕ)) (old new : EngineView C) (given : BatchOutput V) (r : Result U E)
+    → map arrived datagrams ≡ inputs_of batch
+    → ((earlier : List Input) → standing.StandsAt decoding earlier old → OnOk r (standing.StandsAt decoding (earlier ++ map arrived datagrams) new))
+    → ((earlier : List Input) → standing.StandsAt decoding earlier old → OnOk r (IsGiven f (standing.run_by decoding old earlier) (standing.run_by decoding old (earlier ++ map arrived datagrams)) given))
     → OnOk r (TakesRecords f decoding batch old new given)
-takes_records f decoding batch old new given (Ok x) stands gives = record { stands = stands; gives = gives }
-takes_records f decoding batch old new given (Err e) stands gives = tt
+takes_records {C} {V} {M} f decoding datagrams batch old new given (Ok x) same stands gives =
+    let whole : (records : List (List ℕ)) → inputs_of records ++ map arrived datagrams ≡ inputs_of (records ++ batch) =
+    λ records. ap (λ l. inputs_of records ++ l) same ∙ sym (map-append (dated 0) records batch) in
+    record {
+      stands = λ records h. subst (λ (l : List Input). standing.StandsAt decoding l new) (whole records) (stands (inputs_of records) h);
+      gives = λ records h. subst (λ (l : List Input). IsGiven f (run_by decoding old records) (standing.run_by decoding old l) given) (whole records) (gives (inputs_of records) h);
+    }
+takes_records f decoding datagrams batch old new given (Err e) same stands gives = tt
 
 -- if there is no text, the whole text is empty
 pub all_written : (texts : List (Result (Vec ℕ Global) AllocError)) → texts ≡ [] → AreTexts texts []
@@ -163,10 +176,10 @@ fewer_left before after n m records End few r = omega (arith, few)
 fewer_left before after n m records (Fault fault) few r = omega (arith, few)
 
 -- no record is longer than a datagram of a batch may be
-pub all_fit : (datagrams : List (Bor (List ℕ))) (records : List (List ℕ)) → map (λ (d : Bor (List ℕ)). d.now) datagrams ≡ records
-    → AllByRecursion IsRecord records → All (λ (d : Bor (List ℕ)). length d.now ≤ 65507) datagrams
-all_fit datagrams records e each = All-from_recursion (λ (d : Bor (List ℕ)). length d.now ≤ 65507) datagrams (fits datagrams (subst (AllByRecursion IsRecord) (sym e) each))
+pub all_fit : (datagrams : List Datagram) (records : List (List ℕ)) → map (λ (d : Datagram). d.bytes.now) datagrams ≡ records
+    → AllByRecursion IsRecord records → All (λ (d : Datagram). length d.bytes.now ≤ 65507) datagrams
+all_fit datagrams records e each = All-from_recursion (λ (d : Datagram). length d.bytes.now ≤ 65507) datagrams (fits datagrams (subst (AllByRecursion IsRecord) (sym e) each))
   where
-    fits : (ds : List (Bor (List ℕ))) → AllByRecursion IsRecord (map (λ (d : Bor (List ℕ)). d.now) ds) → AllByRecursion (λ (d : Bor (List ℕ)). length d.now ≤ 65507) ds
+    fits : (ds : List Datagram) → AllByRecursion IsRecord (map (λ (d : Datagram). d.bytes.now) ds) → AllByRecursion (λ (d : Datagram). length d.bytes.now ≤ 65507) ds
     fits [] h = tt
     fits (d ∷ ds) h = (h.0, fits ds h.1)

@@ -17,6 +17,7 @@ use Rattle.rtps_text.specs.declared.printer.Printer.{Printer}
 use Rattle.rtps_text.specs.declared.running.RunLines.{RunLines}
 use Rattle.rtps_text.specs.declared.sink.Sink.TheVariants.{Lines}
 use Rattle.rtps_text.proofs.Batches.{all_written, shared_lines}
+use Rattle.rtps_text.proofs.Undated.{shown_count}
 use Rattle.rtps_types.specs.declared.place.Place.{Place}
 use Rattle.rtps_planner.specs.Commuting.{answers_at, notices_at}
 use Rattle.rtps_planner.specs.Outputs.{AreRising, sent_in}
@@ -106,7 +107,7 @@ pub lines_begun : {C V U M : Type 0} (text : C → M → List ℕ) (f : V → M)
 unfolding IsTaken
 lines_begun text f decoding run printer texts catalog same own readers alone nothing fresh none = record {
   own = same ∙ own;
-  count = readers ∙ fresh.stands.shows.count;
+  count = readers ∙ shown_count decoding [] run.participant.engine fresh.stands;
   alone = alone;
   due = [];
   is_due = record {

@@ -22,8 +22,9 @@ use Rattle.dds_participant.specs.BatchOutput.{IsGiven}
 use Rattle.dds_participant.specs.declared.batch_output.BatchOutput.{BatchOutput}
 use Rattle.rtps_discovery.specs.declared.config.Config.{Config}
 use Rattle.rtps_planner.specs.Commuting.{merged}
-use Rattle.rtps_run.specs.Run.{run}
-use Rattle.rtps_run.specs.Standing.{EngineView, StandsAt, run_by}
+use Rattle.rtps_text.specs.Undated.{run}
+use Rattle.rtps_run.specs.Standing.{EngineView}
+use Rattle.rtps_text.specs.Undated.{StandsAt, run_by}
 use Rattle.rtps_run.specs.World.{World}
 use Rattle.rtps_text.specs.Batched.{IsDue, IsSameRun, TakesRecords}
 use Rattle.rtps_text.specs.Listened.{IsDone, IsDrained, IsOver, Leaves, Limits, Listened, LiveRun, SentAt, WaitsInTurn, WroteFrontOf, limits_of, live_run}

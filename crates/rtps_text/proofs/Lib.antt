@@ -12,4 +12,5 @@ pub mod Sent
 pub mod Sinks
 pub mod Sliced
 pub mod Turns
+pub mod Undated
 pub mod Viewing

@@ -15,12 +15,14 @@ use Rattle.rtps_records.specs.declared.fault.RunFault.{RunFault}
 use Rattle.rtps_records.specs.declared.fault.RunFault.TheVariants.{NoMemory}
 use Rattle.std.proofs.lemmas.Bool.Decides.{nat_tests}
 use Rattle.rtps_reader.specs.declared.status.Status.{Status}
-use Rattle.rtps_run.specs.Seen.{reader_count, status_at, status_seen}
+use Rattle.rtps_run.specs.Seen.{reader_count, status_at}
 use Rattle.rtps_types.specs.declared.identity.GuidPrefix.{GuidPrefix}
-use Rattle.rtps_receiver.specs.Events.{EventView, events_of}
-use Rattle.rtps_run.specs.World.{ReportView, World, discovery_puts, puts_below, world_after}
-use Rattle.rtps_run.specs.Run.{events_from, first_world, world_run}
-use Rattle.rtps_run.specs.Standing.{EngineView, StandsAt, run_by}
+use Rattle.rtps_run.specs.Occurrence.{Occurrence}
+use Rattle.rtps_run.specs.World.{ReportView, World, count_after, discovery_puts, puts_below, world_after}
+use Rattle.rtps_run.specs.Input.{Datagram, occurrences_from, occurrences_of}
+use Rattle.rtps_run.specs.Run.{first_world, world_run}
+use Rattle.rtps_run.specs.Standing.{EngineView}
+use Rattle.rtps_text.specs.Undated.{StandsAt, inputs_of, run_by}
 use Rattle.rtps_text.specs.Replayed.{HasSaid, put_line, replay_text, status_lines, status_text, summary_text, text_by}
 
 -- a prefix of a text is a prefix of a longer text
@@ -53,28 +55,28 @@ ends_summed text decoding engine true old new e keeps sums =
           ∙ ap (λ l. said ++ l) (append_cancel_left old (summary_text (run_by decoding engine records)) more (sym (sums records h.stands) ∙ front)),
     )
 
--- the run over these events puts out what the run over those puts out, and then more
-abbrev GoesOn : {M : Type 0} → Decoding M → World M → List EventView → List EventView → Type 0
+-- the run over these occurrences puts out what the run over those puts out, and then more
+abbrev GoesOn : {M : Type 0} → Decoding M → World M → List Occurrence → List Occurrence → Type 0
 GoesOn {M} decoding w those these = (extra : List (ReportView M)) × ((world_run decoding w these).put ≡ (world_run decoding w those).put ++ extra)
 
 -- what was put out before is put out first
-put_stays : {M : Type 0} (decoding : Decoding M) (w : World M) (es : List EventView) → GoesOn decoding w [] es
+put_stays : {M : Type 0} (decoding : Decoding M) (w : World M) (os : List Occurrence) → GoesOn decoding w [] os
 put_stays decoding w [] = ([], sym (append-nil w.put))
-put_stays decoding w (e ∷ es) =
-    let here = discovery_puts w.known e ++ puts_below decoding w.known e w.readers (reader_count w) in
-    let rest = put_stays decoding (world_after decoding w e) es in
+put_stays decoding w (o ∷ os) =
+    let here = discovery_puts w.known o ++ puts_below decoding w.known o w.readers (count_after w o) in
+    let rest = put_stays decoding (world_after decoding w o) os in
     (here ++ rest.0, rest.1 ∙ append_assoc w.put here rest.0)
 
-goes_on_behind : {M : Type 0} (decoding : Decoding M) (those these : List EventView) → ((w : World M) → GoesOn decoding w those these) → (w : World M) (es : List EventView)
-    → GoesOn decoding w (es ++ those) (es ++ these)
+goes_on_behind : {M : Type 0} (decoding : Decoding M) (those these : List Occurrence) → ((w : World M) → GoesOn decoding w those these) → (w : World M) (os : List Occurrence)
+    → GoesOn decoding w (os ++ those) (os ++ these)
 goes_on_behind decoding those these on w [] = on w
-goes_on_behind decoding those these on w (e ∷ es) = goes_on_behind decoding those these on (world_after decoding w e) es
+goes_on_behind decoding those these on w (o ∷ os) = goes_on_behind decoding those these on (world_after decoding w o) os
 
 goes_on : {M : Type 0} (decoding : Decoding M) (own : GuidPrefix) (index : ℕ) (records more : List (List ℕ)) (w : World M)
-    → GoesOn decoding w (events_from own index records) (events_from own index (records ++ more))
-goes_on decoding own index [] more w = put_stays decoding w (events_from own index more)
+    → GoesOn decoding w (occurrences_from own index (inputs_of records)) (occurrences_from own index (inputs_of (records ++ more)))
+goes_on decoding own index [] more w = put_stays decoding w (occurrences_from own index (inputs_of more))
 goes_on decoding own index (octets ∷ records) more w =
-    goes_on_behind decoding (events_from own (index + 1) records) (events_from own (index + 1) (records ++ more)) (goes_on decoding own (index + 1) records more) w (events_of own index octets)
+    goes_on_behind decoding (occurrences_from own (index + 1) (inputs_of records)) (occurrences_from own (index + 1) (inputs_of (records ++ more))) (goes_on decoding own (index + 1) records more) w (occurrences_of own index (Datagram 0 octets))
 
 -- what a run puts out over more records begins with what it puts out over the first ones
 pub put_on : {C M : Type 0} (decoding : C → Decoding M) (engine : EngineView C)
@@ -120,11 +122,9 @@ on_ok_all (Ok x) f h = h f
 on_ok_all (Err e) f h = tt
 
 -- the status lines, with that of one more rank
-pub statuses_more : {M : Type 0} (w : World M) (n : ℕ) (status : Option Status) → n < reader_count w → status ≡ status_seen w n → status_lines w n ++ status_text n status ≡ status_lines w (n + 1)
-statuses_more w n status below e =
+pub statuses_more : {M : Type 0} (w : World M) (n : ℕ) (status : Option Status) → status ≡ Some (status_at w n) → status_lines w n ++ status_text n status ≡ status_lines w (n + 1)
+statuses_more w n status seen =
     let next : n + 1 ≡ suc n = omega arith in
-    let here : nat_lt n (reader_count w) ≡ true = grind (arith, nat_tests) in
-    let seen : status ≡ Some (status_at w n) = e ∙ ap (λ b. if b then Some (status_at w n) else None) here in
     ap (λ s. status_lines w n ++ status_text n s) seen ∙ sym (ap (status_lines w) next)
 
 -- A part of a text was written and a part is kept back; the rest is still to be added.

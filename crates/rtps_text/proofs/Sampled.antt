@@ -16,11 +16,12 @@ use Rattle.rtps_discovery.specs.declared.config.Config.{Config}
 use Rattle.rtps_reader.specs.Notice.{notice_view}
 use Rattle.rtps_reader.specs.declared.notice.Notice.{Notice}
 use Rattle.rtps_reader.specs.declared.notice.Output.{Output}
-use Rattle.rtps_run.specs.Run.{run}
+use Rattle.rtps_text.specs.Undated.{run}
 use Rattle.rtps_run.specs.Seen.{notices_by}
-use Rattle.rtps_run.specs.Standing.{EngineView, StandsAt, run_by}
+use Rattle.rtps_run.specs.Standing.{EngineView}
+use Rattle.rtps_text.specs.Undated.{StandsAt, run_by}
 use Rattle.rtps_run.specs.World.{World}
-use Rattle.rtps_run.proofs.Running.{run_count}
+use Rattle.rtps_text.proofs.Undated.{run_count, shown_count}
 use Rattle.dds_participant.specs.BatchOutput.{IsGiven, told_in}
 use Rattle.dds_participant.specs.declared.batch_output.BatchOutput.{BatchOutput}
 use Rattle.rtps_text.specs.Batched.{TakesRecords}
@@ -38,7 +39,7 @@ pub kept_first : {C V M : Type 0} (f : V → M) (decoding : C → Decoding M) (h
     → StandsAt decoding [] engine → readers ≡ length engine.statuses → length caches ≡ readers → All (IsEmpty history) caches → AreKept f decoding history [] engine caches
 kept_first f decoding history engine caches readers stands counted count empty = record {
   stands = stands;
-  count = count ∙ counted ∙ stands.shows.count;
+  count = count ∙ counted ∙ shown_count decoding [] engine stands;
   heard = λ rank other below.
       let e = All-get_or (IsEmpty history) caches rank other below empty in
       record { keep = e.keep; heard = []; means = refl; stands = e.stands };

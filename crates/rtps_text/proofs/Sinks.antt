@@ -1,13 +1,13 @@
 -- What each sink does in a step of a run over a file: it processes a batch, or stops; and it
 -- finishes its text, or stops.
 use Rattle.std.proofs.Common.{◌≡◌, ℕ, ◌+◌, ◌-◌, ◌<◌, ◌⊎◌, List, [], ◌∷◌, ◌++◌, Bool, Option, None, Result, Ok, Err, IfErr, OnErr, OnOk, arith, refl, subst, sym, ap, ◌∙◌, length, map, get_or, take, drop, inl, inr, append-nil, append_assoc, take-append-drop, zero-add}
-use Rattle.std.specs.Borrow.{Bor}
 use Rattle.std.proofs.lemmas.List.{drop_more}
 use Rattle.std.specs.Io.KnownBytes.{Appends}
 use Rattle.std.proofs.KnownBytes.{Appends-kept, Appends-nil, Appends-trans}
 use Rattle.std.specs.declared.alloc.AllocError.{AllocError}
 use Rattle.std.specs.declared.alloc.Global.{Global}
 use Rattle.std.specs.declared.vec.Vec.{Vec}
+use Rattle.rtps_types.specs.declared.datagram.Datagram.{Datagram}
 use Rattle.rtps_types.specs.declared.identity.GuidPrefix.{GuidPrefix}
 use Rattle.rtps_records.specs.Runs.{Closes, ClosesNot, Moves, PutsFront, Stops, WroteAll}
 use Rattle.rtps_records.specs.Text.{IsFront, text_from, text_of}
@@ -16,7 +16,7 @@ use Rattle.rtps_records.specs.declared.fault.RunFault.TheVariants.{CannotWrite, 
 use Rattle.rtps_records.proofs.Printed.{text_both, texts_begin}
 use Rattle.dds_topic.specs.Decoding.{Decoding}
 use Rattle.rtps_discovery.specs.declared.config.Config.{Config}
-use Rattle.rtps_run.specs.Standing.{run_by}
+use Rattle.rtps_text.specs.Undated.{run_by}
 use Rattle.dds_participant.specs.Ports.{NoneAttached}
 use Rattle.rtps_lines.specs.EventLines.{lines_of}
 use Rattle.rtps_text.specs.Batched.{IsDue, IsSameRun, MovesBefore, TakesRecords}
@@ -61,9 +61,9 @@ empty_right (x ∷ a) b e = absurd (let bad : x ∷ (a ++ b) ≡ [] = e in cc)
 -- ---- events
 
 -- the text from one record on: that of the record, and then that of the rest
-pub record_more : (line : ℕ → List ℕ → List ℕ) (n : ℕ) (xs : List (Bor (List ℕ))) (i : ℕ) (d : Bor (List ℕ)) → i < length xs
-    → text_from line n (map (λ (x : Bor (List ℕ)). x.now) (drop i xs)) ≡ line n (get_or xs i d).now ++ text_from line (n + 1) (map (λ (x : Bor (List ℕ)). x.now) (drop (i + 1) xs))
-record_more line n xs i d below = ap (λ l. text_from line n (map (λ (x : Bor (List ℕ)). x.now) l)) (drop_more xs i d below)
+pub record_more : (line : ℕ → List ℕ → List ℕ) (n : ℕ) (xs : List Datagram) (i : ℕ) (d : Datagram) → i < length xs
+    → text_from line n (map (λ (x : Datagram). x.bytes.now) (drop i xs)) ≡ line n (get_or xs i d).bytes.now ++ text_from line (n + 1) (map (λ (x : Datagram). x.bytes.now) (drop (i + 1) xs))
+record_more line n xs i d below = ap (λ l. text_from line n (map (λ (x : Datagram). x.bytes.now) l)) (drop_more xs i d below)
 
 -- the text of a batch comes after that of the records before it
 texts_after : (line : ℕ → List ℕ → List ℕ) (records batch : List (List ℕ)) (n : ℕ) (written kept : List ℕ) → written ++ kept ≡ text_of line records → length records + length batch ≡ n

@@ -5,7 +5,8 @@ use Rattle.std.specs.declared.alloc.Global.{Global}
 use Rattle.std.specs.declared.vec.Vec.{Vec}
 use Rattle.rtps_records.specs.Runs.{Moves}
 use Rattle.dds_topic.specs.Decoding.{Decoding}
-use Rattle.rtps_run.specs.Standing.{EngineView, StandsAt, run_by}
+use Rattle.rtps_run.specs.Standing.{EngineView}
+use Rattle.rtps_text.specs.Undated.{StandsAt, run_by}
 use Rattle.dds_participant.specs.BatchOutput.{IsGiven}
 use Rattle.dds_participant.specs.Ports.{NoneAttached}
 use Rattle.dds_participant.specs.declared.batch_output.BatchOutput.{BatchOutput}

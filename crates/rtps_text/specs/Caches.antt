@@ -13,7 +13,8 @@ use Rattle.rtps_reader.specs.Notice.{notice_view}
 use Rattle.rtps_reader.specs.declared.notice.Notice.{Notice}
 use Rattle.rtps_reader.specs.declared.notice.Output.{Output}
 use Rattle.rtps_run.specs.Seen.{notices_by}
-use Rattle.rtps_run.specs.Standing.{EngineView, StandsAt, run_by}
+use Rattle.rtps_run.specs.Standing.{EngineView}
+use Rattle.rtps_text.specs.Undated.{StandsAt, run_by}
 use Rattle.rtps_run.specs.World.{ReportView}
 
 -- a cache with this history with which nothing was done yet

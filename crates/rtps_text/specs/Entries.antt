@@ -12,7 +12,7 @@ use Rattle.dds_cache.specs.declared.history.History.{History}
 use Rattle.dds_cache.specs.declared.history.History.TheVariants.{KeepLast, KeepAll}
 use Rattle.rtps_discovery.specs.declared.config.Config.{Config}
 use Rattle.rtps_reader.specs.declared.notice.Notice.{Notice}
-use Rattle.rtps_run.specs.Run.{run}
+use Rattle.rtps_text.specs.Undated.{run}
 use Rattle.rtps_run.specs.Seen.{notices_by, reader_count}
 use Rattle.rtps_run.specs.Standing.{EngineView}
 use Rattle.rtps_run.specs.World.{ReportView}

@@ -9,7 +9,7 @@ use Rattle.rtps_records.specs.declared.fault.RunFault.{RunFault}
 use Rattle.rtps_records.specs.declared.fault.RunFault.TheVariants.{CannotWrite, NoMemory}
 use Rattle.dds_topic.specs.Decoding.{Decoding}
 use Rattle.rtps_discovery.specs.declared.config.Config.{Config}
-use Rattle.rtps_run.specs.Run.{run}
+use Rattle.rtps_text.specs.Undated.{run}
 use Rattle.rtps_text.specs.Replayed.{put_lines, replay_text}
 use Rattle.rtps_text.specs.Sending.{sendings, sends_of}
 use Rattle.rtps_text.specs.declared.live_fault.LiveFault.{LiveFault}

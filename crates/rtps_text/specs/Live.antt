@@ -8,7 +8,8 @@ use Rattle.rtps_records.specs.declared.fault.RunFault.{RunFault}
 use Rattle.rtps_records.specs.declared.receive_end.ReceiveEnd.{ReceiveEnd}
 use Rattle.rtps_records.specs.declared.receive_end.ReceiveEnd.TheVariants.{Drained, Fault, More}
 use Rattle.dds_topic.specs.Decoding.{Decoding}
-use Rattle.rtps_run.specs.Standing.{EngineView, run_by}
+use Rattle.rtps_run.specs.Standing.{EngineView}
+use Rattle.rtps_text.specs.Undated.{run_by}
 use Rattle.dds_participant.specs.Ports.{NoneAttached}
 use Rattle.rtps_text.specs.Listened.{IsDrained, LiveRun, SentAt, WaitsInTurn, live_run}
 use Rattle.rtps_text.specs.Replayed.{HasSaid}

@@ -6,9 +6,10 @@ use Rattle.dds_topic.specs.Decoding.{Decoding}
 use Rattle.rtps_discovery.specs.declared.config.Config.{Config}
 use Rattle.rtps_reader.specs.declared.status.Status.{Status}
 use Rattle.rtps_run.specs.World.{ReportView, NoticeOf, AnswerOf, World}
-use Rattle.rtps_run.specs.Run.{run}
+use Rattle.rtps_text.specs.Undated.{run}
 use Rattle.rtps_run.specs.Seen.{matches_seen, reader_count, status_at}
-use Rattle.rtps_run.specs.Standing.{EngineView, StandsAt, run_by}
+use Rattle.rtps_run.specs.Standing.{EngineView}
+use Rattle.rtps_text.specs.Undated.{StandsAt, run_by}
 use Rattle.rtps_lines.specs.Answer.{answer_line}
 use Rattle.rtps_lines.specs.Notice.{heard_line}
 use Rattle.rtps_lines.specs.Summary.{match_line, status_line}

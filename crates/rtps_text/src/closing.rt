@@ -3,7 +3,7 @@
 ghost use Rattle.std.specs.Prelude.{◌≡◌, ◌++◌, List, OnOk, ℕ};
 ghost use Rattle.std.specs.Io.{StartsWith};
 ghost use Rattle.rtps_run.specs.Seen.{reader_count};
-ghost use Rattle.rtps_run.specs.Standing.{StandsAt, run_by};
+ghost use Rattle.rtps_text.specs.Undated.{StandsAt, run_by};
 ghost use Rattle.rtps_text.specs.Replayed.{match_lines, status_lines, status_text, summary_text};
 
 use dds_participant::Participant;

@@ -16,7 +16,7 @@ use crate::sink::Sink;
 use dds_topic::Raw;
 use rtps_lines::push_events;
 use rtps_records::{Batch, Lines, RunFault};
-use rtps_types::GuidPrefix;
+use rtps_types::{Datagram, GuidPrefix};
 use std::alloc::Global;
 use std::io::{Read, Write};
 use std::thread::Threads;
@@ -79,7 +79,7 @@ pub(crate) fn print_batch<W: Write>(
         (count - length (records_in batch.now)) (records_in batch.now))) }
 {
     let first = count - batch.len() as u32;
-    print_events(own, first, &batch.records(alloc)?, lines)
+    print_events(own, first, &batch.datagrams(alloc)?, lines)
 }
 
 /// Adds the lines of the events of these datagrams, and writes the lines out whenever they are
@@ -87,25 +87,26 @@ pub(crate) fn print_batch<W: Write>(
 fn print_events<W: Write>(
     own: GuidPrefix,
     first: u32,
-    datagrams: &[&[u8]],
+    datagrams: &[Datagram<'_>],
     lines: &mut Lines<'_, W>,
 ) -> Result<(), RunFault>
-    requires fit { All (λ d. length d.now ≤ 65507) datagrams.now }
+    requires fit { All (λ d. length d.bytes.now ≤ 65507) datagrams.now }
     requires few { first + length datagrams.now ≤ 4294967295 }
     ensures same_writer { lines.new.writer.ghost_name ≡ lines.old.writer.ghost_name }
     ensures ok { OnOk result (Moves
         (W.contents lines.old.writer.now) (W.contents lines.new.writer.now)
-        (lines.old.text.items ++ text_from (lines_of own) first (map (λ d. d.now) datagrams.now))
+        (lines.old.text.items
+        ++ text_from (lines_of own) first (map (λ d. d.bytes.now) datagrams.now))
         lines.new.text.items) }
     ensures fault { IfErr result (λ fault. (fault ≡ CannotWrite) ⊎ (fault ≡ NoMemory)) }
     ensures front { OnErr result (PutsFront
         (W.contents lines.old.writer.now) (W.contents lines.new.writer.now)
         (lines.old.text.items
-        ++ text_from (lines_of own) first (map (λ d. d.now) datagrams.now))) }
+        ++ text_from (lines_of own) first (map (λ d. d.bytes.now) datagrams.now))) }
 {
     let mut number = first;
-    for octets in datagrams {
-        push_events(&mut lines.text, own, number, octets)?;
+    for datagram in datagrams {
+        push_events(&mut lines.text, own, number, datagram.bytes)?;
         lines.write_if_full()?;
         number += 1;
     }

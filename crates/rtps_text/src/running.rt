@@ -7,6 +7,7 @@ ghost use Rattle.rtps_records.specs.Batches.{records_in};
 ghost use Rattle.rtps_records.specs.RecordFile.{IsRecord};
 ghost use Rattle.rtps_records.specs.Runs.{Closes, ClosesNot};
 ghost use Rattle.rtps_records.specs.Text.{Ends};
+ghost use Rattle.rtps_run.specs.Input.{Input, arrived};
 ghost use Rattle.rtps_run.specs.Standing.{StandsAt, run_by};
 ghost use Rattle.dds_participant.specs.BatchOutput.{HoldsNothing, IsGiven};
 ghost use Rattle.dds_participant.specs.Ports.{NoneAttached};
@@ -19,6 +20,7 @@ use dds_participant::{BatchOutput, Participant, Workers};
 use dds_topic::TextCatalog;
 use rtps_records::{Batch, Lines, RunFault};
 use rtps_shards::NoGate;
+use rtps_types::Datagram;
 use std::alloc::{AllocError, Allocator, Global};
 use std::io::Write;
 use std::thread::Threads;
@@ -74,24 +76,24 @@ where
     pub(crate) fn take<T: Threads + Sync>(
         &mut self,
         rt: &T,
-        datagrams: &[&[u8]],
+        datagrams: &[Datagram<'_>],
     ) -> Result<(), AllocError>
         requires few { length datagrams.now ≤ 4096 }
-        requires fit { All (λ d. length d.now ≤ 65507) datagrams.now }
+        requires fit { All (λ d. length d.bytes.now ≤ 65507) datagrams.now }
         requires alone { NoneAttached self.old.participant.ports }
         ensures same { (self.new.participant.engine.catalog ≡ self.old.participant.engine.catalog)
             × (self.new.participant.engine.config ≡ self.old.participant.engine.config)
             × (self.new.summary ≡ self.old.summary) × (self.new.pace ≡ self.old.pace) }
         ensures alone { NoneAttached self.new.participant.ports }
-        ensures stands { (earlier : List (List ℕ))
+        ensures stands { (earlier : List Input)
             → StandsAt C.decoding earlier self.old.participant.engine → OnOk result
-            (StandsAt C.decoding (earlier ++ map (λ d. d.now) datagrams.now)
+            (StandsAt C.decoding (earlier ++ map arrived datagrams.now)
             self.new.participant.engine) }
-        ensures gives { (earlier : List (List ℕ))
+        ensures gives { (earlier : List Input)
             → StandsAt C.decoding earlier self.old.participant.engine → OnOk result
             (IsGiven C.view (run_by C.decoding self.old.participant.engine earlier)
             (run_by C.decoding self.old.participant.engine
-            (earlier ++ map (λ d. d.now) datagrams.now)) self.new.given) }
+            (earlier ++ map arrived datagrams.now)) self.new.given) }
     {
         let readers = self.participant.readers();
         let workers = Workers {
@@ -120,7 +122,7 @@ where
         ensures takes { OnOk result (TakesRecords C.view C.decoding (records_in batch.now)
             self.old.participant.engine self.new.participant.engine self.new.given) }
     {
-        self.take(rt, &batch.records(self.alloc)?)
+        self.take(rt, &batch.datagrams(self.alloc)?)
     }
 
     /// Adds the summary if it is asked for.

@@ -7,6 +7,7 @@ ghost use Rattle.rtps_text.specs.Entries.{IsHistory-prop};
 
 use dds_cache::History;
 use rtps_discovery::Config;
+use rtps_types::Datagram;
 
 /// How a run is cut into batches, and how many workers share each batch. It changes only how long
 /// the run takes, not its text.
@@ -48,12 +49,12 @@ impl Pace {
     }
 
     /// Returns how many workers run these datagrams for this number of readers.
-    pub(crate) fn runners(&self, datagrams: &[&[u8]], readers: u32) -> usize
+    pub(crate) fn runners(&self, datagrams: &[Datagram<'_>], readers: u32) -> usize
         ensures { (1 ≤ result) × (result ≤ 64) }
     {
         let octets = datagrams.iter().fold(
             0_usize,
-            |octets, datagram| octets.saturating_add(datagram.len()),
+            |octets, datagram| octets.saturating_add(datagram.bytes.len()),
         );
         let steps = datagrams.len().saturating_add(octets / OCTETS);
         self.at_most(steps.saturating_mul(readers as usize) / STEPS)

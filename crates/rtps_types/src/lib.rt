@@ -4,6 +4,7 @@
 //! [`Locators::copied`] takes memory.
 #![tactic(auto)]
 
+mod datagram;
 mod field;
 mod identity;
 pub mod laws;
@@ -21,6 +22,7 @@ mod text;
 mod time;
 mod traffic;
 
+pub use datagram::Datagram;
 pub use field::{
     Endian, get_octets, get_sn, get_u16, get_u32, get_u64, put_octets, put_sn, put_u16, put_u32,
     put_u64,

@@ -2,7 +2,7 @@
 
 use super::outlets::{THIRD, heard};
 use super::publishing::{looks, shown};
-use super::{DATA, HEARTBEAT, LATER, Said, config};
+use super::{DATA, HEARTBEAT, LATER, Said, at_once, config};
 use crate::*;
 use dds_outlet::{Inlet, outlet};
 use dds_topic::{FailingCatalog, Shape, Shapes};
@@ -22,12 +22,13 @@ fn refusal<R: Threads + Sync>(
     participant: &mut Participant<FailingCatalog<Shapes>>,
     datagrams: &[&[u8]],
 ) -> Result<Option<EngineError>, Fail> {
-    if !is_batch(datagrams) {
+    let datagrams = at_once(alloc, datagrams)?;
+    if !is_batch(&datagrams) {
         return Err(Fail::new("the batch is too large"));
     }
     Ok(
         participant
-            .run_batch(rt, alloc, &NoGate, datagrams, 2)
+            .run_batch(rt, alloc, &NoGate, &datagrams, 2)
             .err(),
     )
 }
@@ -49,12 +50,19 @@ fn takes_or_fails<R: Threads + Sync>(
 ) -> Result<bool, Fail> {
     let first = refusal(rt, alloc, participant, &[DATA, HEARTBEAT])?;
     let second = refusal(rt, alloc, participant, &[DATA, HEARTBEAT])?;
+    let tick = participant.tick(alloc, 1).err();
     if !is_refused {
-        return Ok(first.is_none() && second.is_none() && samples(participant) == Some(1));
+        return Ok(
+            first.is_none()
+                && second.is_none()
+                && tick.is_none()
+                && samples(participant) == Some(1),
+        );
     }
     Ok(
         first == Some(EngineError::NoMemory)
             && second == Some(EngineError::Failed)
+            && tick == Some(EngineError::Failed)
             && samples(participant) == Some(0)
             && participant.batches() == 0
             && participant.matches(alloc).err() == Some(EngineError::Failed),

@@ -9,6 +9,7 @@ use dds_topic::{Shape, Shapes};
 use rtps_reader::Notice;
 use rtps_serial::SerialEngine;
 use rtps_shards::NoGate;
+use rtps_types::Datagram;
 use std::alloc::{AllocError, Global};
 use std::test::Fail;
 use std::thread::{Threads, join, yield_now};
@@ -40,7 +41,11 @@ fn take_in_series(
         if octets.len() > 65_507 {
             return Err(Fail::new("a datagram is too long"));
         }
-        let outcome = engine.take(alloc, octets)?;
+        let datagram = Datagram {
+            moment: 0,
+            bytes: octets.as_slice(),
+        };
+        let outcome = engine.take(alloc, datagram)?;
         let Some(notices) = outcome.notices.get(RANK as usize) else {
             return Err(Fail::new("there is no such reader"));
         };
@@ -77,18 +82,21 @@ fn take_one<R: Threads + Sync>(
     batch: &[Vec<u8>],
     given: &mut BatchOutput<Shape>,
 ) -> Result<(), Fail> {
-    let mut slices: Vec<&[u8]> = Vec::new(alloc);
+    let mut datagrams = Vec::new(alloc);
     for octets in batch {
-        slices.push(octets.as_slice())?;
+        datagrams.push(Datagram {
+            moment: 0,
+            bytes: octets.as_slice(),
+        })?;
     }
-    if !is_batch(&slices) {
+    if !is_batch(&datagrams) {
         return Err(Fail::new("the batch is too large"));
     }
     let workers = Workers {
         count: WORKERS,
         gate: &NoGate,
     };
-    participant.run_in_order(rt, alloc, &workers, &slices, given)?;
+    participant.run_in_order(rt, alloc, &workers, &datagrams, given)?;
     participant.deliver(RANK);
     Ok(())
 }

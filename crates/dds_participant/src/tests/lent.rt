@@ -2,7 +2,7 @@
 
 ghost use Rattle.std.specs.Prelude.{◌≤◌};
 
-use super::{DATA, HEARTBEAT, LATER, config};
+use super::{DATA, HEARTBEAT, LATER, at_once, config};
 use crate::*;
 use dds_topic::{Shape, Shapes};
 use rtps_shards::NoGate;
@@ -22,15 +22,15 @@ pub(super) fn lend<R: Threads + Sync>(
 ) -> Result<Vec<(usize, usize)>, Fail>
     requires { (1 ≤ batch.1) × (batch.1 ≤ 64) }
 {
-    let (datagrams, count) = batch;
-    if !is_batch(datagrams) {
+    let datagrams = at_once(alloc, batch.0)?;
+    if !is_batch(&datagrams) {
         return Err(Fail::new("the batch is too large"));
     }
     let workers = Workers {
-        count,
+        count: batch.1,
         gate: &NoGate,
     };
-    participant.run_in_order(rt, alloc, &workers, datagrams, given)?;
+    participant.run_in_order(rt, alloc, &workers, &datagrams, given)?;
     let mut counts = Vec::new(alloc);
     for output in &given.outputs {
         counts.push((output.notices.len(), output.answers.len()))?;

@@ -7,6 +7,7 @@ use crate::*;
 use dds_outlet::{Look, StatusBoard, StatusReader, Told};
 use dds_topic::{Catalog, Shapes};
 use rtps_shards::NoGate;
+use rtps_types::Datagram;
 use std::alloc::Global;
 use std::sync::Wait;
 use std::test::Fail;
@@ -77,7 +78,10 @@ fn takes_and_publishes<R: Threads + Wait + Sync>(
 ) -> bool
     ensures { board.new.board ≡ board.old.board }
 {
-    let batch: [&[u8]; 1] = [HEARTBEAT];
+    let batch = [Datagram {
+        moment: 0,
+        bytes: HEARTBEAT,
+    }];
     if !is_batch(&batch) {
         return false;
     }

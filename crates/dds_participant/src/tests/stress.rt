@@ -1,4 +1,4 @@
-//! Many datagrams, cut in many ways.
+//! Many datagrams and ticks, cut in many ways.
 
 ghost use Rattle.std.specs.Prelude.{◌≤◌};
 
@@ -12,7 +12,7 @@ use rtps_reader::Status;
 use rtps_run::Report;
 use rtps_serial::SerialEngine;
 use rtps_shards::NoGate;
-use rtps_types::{EntityId, Guid, GuidPrefix, Locators};
+use rtps_types::{Datagram, EntityId, Guid, GuidPrefix, Locators};
 use std::alloc::{AllocError, Global};
 use std::collections::BTreeSet;
 use std::test::Fail;
@@ -92,6 +92,55 @@ pub(super) fn datagrams(alloc: Global, count: u32) -> Result<Vec<Vec<u8>>, Alloc
     Ok(all)
 }
 
+/// What a run is over.
+#[derive(Drop)]
+enum Input {
+    /// A datagram that came at this moment.
+    Datagram(u64, Vec<u8>),
+    /// A moment at which none came.
+    Tick(u64),
+}
+
+/// Replaces the lease in the announcement of a participant by 0 to 50 milliseconds.
+fn set_lease(announcement: &mut [u8], dice: &mut Dice) {
+    let lease = u32::from(dice.octet() % 51) * 4_294_967;
+    let Some(field) = announcement.get_mut(128..136) else {
+        return;
+    };
+    let (seconds, fraction) = field.split_at_mut(4);
+    seconds.fill(0);
+    fraction.copy_from_slice(&lease.to_le_bytes());
+}
+
+/// `count` inputs, of which some are ticks. Moments rise, stay and fall, and leases are short, so
+/// that participants leave by datagrams and by ticks.
+fn inputs(alloc: Global, count: u32) -> Result<Vec<Input>, AllocError> {
+    let mut dice = Dice { state: 11 };
+    let mut moment = 1_000_u64;
+    let mut all = Vec::new(alloc);
+    for at in 0..count {
+        moment = match dice.octet() % 4 {
+            0 => moment,
+            1 => moment.saturating_sub(5),
+            _ => moment.saturating_add(u64::from(dice.octet() % 8)),
+        };
+        let mut octets = match at % 25 {
+            3 => Vec::from_slice(alloc, COMES)?,
+            9 => Vec::from_slice(alloc, ROUTED)?,
+            _ => datagram(alloc, &mut dice, at)?,
+        };
+        if at % 25 == 3 {
+            set_lease(&mut octets, &mut dice);
+        }
+        all.push(if at % 97 == 0 {
+            Input::Tick(moment)
+        } else {
+            Input::Datagram(moment, octets)
+        })?;
+    }
+    Ok(all)
+}
+
 /// Three readers: a reliable one of the first writer, and one of each kind of all three writers.
 pub(super) fn config(alloc: Global) -> Result<Config, AllocError> {
     let mut config = Config::new(alloc, GuidPrefix([0x0b; 12]));
@@ -136,18 +185,28 @@ fn push_traces(reports: &[Report<Shape>], traces: &mut Vec<Trace>) -> Result<(),
     Ok(())
 }
 
-/// Has an engine take datagrams, and appends the traces of its reports.
+/// Has an engine take inputs, and appends the traces of its reports.
 fn take_in_series(
     alloc: Global,
     engine: &mut SerialEngine<Shapes>,
-    datagrams: &[Vec<u8>],
+    inputs: &[Input],
     traces: &mut Vec<Trace>,
 ) -> Result<(), Fail> {
-    for octets in datagrams {
-        if octets.len() > 65_507 {
-            return Err(Fail::new("a datagram is too long"));
-        }
-        let reports = engine.take(alloc, octets)?.in_order(alloc)?;
+    for input in inputs {
+        let outcome = match input {
+            Input::Datagram(_, bytes) if bytes.len() > 65_507 => {
+                return Err(Fail::new("a datagram is too long"));
+            }
+            Input::Datagram(moment, bytes) => engine.take(
+                alloc,
+                Datagram {
+                    moment: *moment,
+                    bytes,
+                },
+            )?,
+            Input::Tick(moment) => engine.tick(alloc, *moment)?,
+        };
+        let reports = outcome.in_order(alloc)?;
         push_traces(&reports, traces)?;
     }
     Ok(())
@@ -157,44 +216,70 @@ fn take_in_series(
 fn run_of_engine(
     alloc: Global,
     engine: &mut SerialEngine<Shapes>,
-    datagrams: &[Vec<u8>],
+    inputs: &[Input],
 ) -> Result<Run, Fail> {
     let mut traces = Vec::new(alloc);
-    take_in_series(alloc, engine, datagrams, &mut traces)?;
+    take_in_series(alloc, engine, inputs, &mut traces)?;
     let statuses = [engine.status(0), engine.status(1), engine.status(2)];
     Ok((traces, statuses, engine.matches(alloc)?))
 }
 
 /// The run of one thread.
-fn in_series(alloc: Global, datagrams: &[Vec<u8>]) -> Result<Run, Fail> {
+fn in_series(alloc: Global, inputs: &[Input]) -> Result<Run, Fail> {
     let mut engine = SerialEngine::new(alloc, config(alloc)?, Shapes)?;
-    run_of_engine(alloc, &mut engine, datagrams)
+    run_of_engine(alloc, &mut engine, inputs)
 }
 
-/// Has a participant take these datagrams in one batch, and appends the traces of its reports.
+/// The datagrams at the front of a list of inputs, at most `most`.
+fn front<'a>(
+    alloc: Global,
+    inputs: &'a [Input],
+    most: usize,
+) -> Result<Vec<Datagram<'a>>, AllocError> {
+    let mut datagrams = Vec::new(alloc);
+    for input in inputs {
+        match input {
+            Input::Datagram(moment, bytes) if datagrams.len() < most => {
+                datagrams.push(Datagram {
+                    moment: *moment,
+                    bytes,
+                })?;
+            }
+            _ => break,
+        }
+    }
+    Ok(datagrams)
+}
+
+/// Has a participant take at most `most` datagrams in one batch, or else one tick, appends the
+/// traces of its reports, and returns how many inputs were taken.
 fn take<R: Threads + Sync>(
     rt: &R,
     alloc: Global,
     participant: &mut Participant<Shapes>,
-    batch: (&[Vec<u8>], usize),
+    given: (&[Input], usize, usize),
     traces: &mut Vec<Trace>,
-) -> Result<(), Fail>
-    requires { (1 ≤ batch.1) × (batch.1 ≤ 64) }
+) -> Result<usize, Fail>
+    requires { (1 ≤ given.2) × (given.2 ≤ 64) }
 {
-    let mut slices: Vec<&[u8]> = Vec::new(alloc);
-    for octets in batch.0 {
-        slices.push(octets.as_slice())?;
+    let (inputs, most, workers) = given;
+    if let Some(Input::Tick(moment)) = inputs.first() {
+        let reports = participant.tick(alloc, *moment)?.in_order(alloc)?;
+        push_traces(&reports, traces)?;
+        return Ok(1);
     }
-    if !is_batch(&slices) {
+    let datagrams = front(alloc, inputs, most)?;
+    if !is_batch(&datagrams) {
         return Err(Fail::new("the batch is too large"));
     }
     let reports = participant
-        .run_batch(rt, alloc, &NoGate, &slices, batch.1)?
+        .run_batch(rt, alloc, &NoGate, &datagrams, workers)?
         .in_order(alloc)?;
-    Ok(push_traces(&reports, traces)?)
+    push_traces(&reports, traces)?;
+    Ok(datagrams.len())
 }
 
-/// The number of datagrams in the next batch, where `left` datagrams are left.
+/// The greatest number of datagrams in the next batch, where `left` inputs are left.
 fn length(cut: u32, dice: &mut Dice, left: usize) -> usize {
     match cut {
         0 => 1,
@@ -219,27 +304,28 @@ fn workers(dice: &mut Dice) -> usize
     }
 }
 
-/// Has a participant take datagrams in the batches of a cut, with a number of workers that changes,
-/// and appends the traces of its reports.
+/// Has a participant take inputs in the batches of a cut, with a number of workers that changes,
+/// and appends the traces of its reports. A tick ends a batch.
 fn take_in_batches<R: Threads + Sync>(
     rt: &R,
     alloc: Global,
     participant: &mut Participant<Shapes>,
-    given: (&[Vec<u8>], u32),
+    given: (&[Input], u32),
     traces: &mut Vec<Trace>,
 ) -> Result<(), Fail> {
-    let (datagrams, cut) = given;
+    let (inputs, cut) = given;
     let mut dice = Dice {
         state: u64::from(cut),
     };
-    let mut rest = datagrams;
+    let mut rest = inputs;
     for _batch in 0..100_000 {
         if rest.is_empty() {
             break;
         }
-        let (batch, after) = rest.split_at(length(cut, &mut dice, rest.len()).min(rest.len()));
+        let most = length(cut, &mut dice, rest.len());
         let workers = workers(&mut dice);
-        take(rt, alloc, participant, (batch, workers), traces)?;
+        let taken = take(rt, alloc, participant, (rest, most, workers), traces)?;
+        let (_, after) = rest.split_at(taken.min(rest.len()));
         rest = after;
     }
     Ok(())
@@ -250,7 +336,7 @@ fn run_of_participant<R: Threads + Sync>(
     rt: &R,
     alloc: Global,
     participant: &mut Participant<Shapes>,
-    given: (&[Vec<u8>], u32),
+    given: (&[Input], u32),
 ) -> Result<Run, Fail> {
     let mut traces = Vec::new(alloc);
     take_in_batches(rt, alloc, participant, given, &mut traces)?;
@@ -266,32 +352,36 @@ fn run_of_participant<R: Threads + Sync>(
 fn in_batches<R: Threads + Sync>(
     rt: &R,
     alloc: Global,
-    datagrams: &[Vec<u8>],
+    inputs: &[Input],
     cut: u32,
 ) -> Result<Run, Fail> {
     let mut participant = Participant::new(alloc, config(alloc)?, Shapes)?;
-    run_of_participant(rt, alloc, &mut participant, (datagrams, cut))
+    run_of_participant(rt, alloc, &mut participant, (inputs, cut))
 }
 
 fn are_same(a: &Run, b: &Run) -> bool {
     a.0.as_slice() == b.0.as_slice() && a.1 == b.1 && a.2 == b.2
 }
 
-/// Whether a participant gives the same result for each cut as one thread, with more reports than
-/// datagrams.
+/// The number of reports before the submessages of a datagram, which are those of moments.
+fn ended(run: &Run) -> usize {
+    run.0.iter().filter(|trace| trace.1 == 0).count()
+}
+
+/// Whether a participant gives the same result for each cut as one thread.
 fn give_the_same<R: Threads + Sync>(
     rt: &R,
     alloc: Global,
-    datagrams: &[Vec<u8>],
+    inputs: &[Input],
+    expected: &Run,
     cuts: &[u32],
 ) -> Result<bool, Fail> {
-    let expected = in_series(alloc, datagrams)?;
     for cut in cuts {
-        if !are_same(&in_batches(rt, alloc, datagrams, *cut)?, &expected) {
+        if !are_same(&in_batches(rt, alloc, inputs, *cut)?, expected) {
             return Ok(false);
         }
     }
-    Ok(expected.0.len() > datagrams.len())
+    Ok(true)
 }
 
 /// Each way to cut (see `length`), and ever longer batches.
@@ -302,15 +392,24 @@ const CUTS: [u32; 40] = [
 
 #[test]
 fn batches_give_what_one_thread_gives(rt: HostRuntime) -> Result<(), Fail> {
-    let datagrams = datagrams(rt.alloc(), 2000)?;
-    assert!(rt; give_the_same(&rt, rt.alloc(), &datagrams, &CUTS)?);
+    let alloc = rt.alloc();
+    let inputs = inputs(alloc, 2000)?;
+    let expected = in_series(alloc, &inputs)?;
+    assert!(rt; expected.0.len() > 1000 && ended(&expected) > 20);
+    assert!(rt; give_the_same(&rt, alloc, &inputs, &expected, &CUTS)?);
     Ok(())
 }
 
 #[test]
 fn large_batches_are_decoded_apart(rt: HostRuntime) -> Result<(), Fail> {
+    let alloc = rt.alloc();
     // More than 1,024 datagrams, so that several threads decode.
-    let datagrams = datagrams(rt.alloc(), 2000)?;
-    assert!(rt; give_the_same(&rt, rt.alloc(), &datagrams, &[1])?);
+    let mut inputs = Vec::new(alloc);
+    for octets in datagrams(alloc, 2000)? {
+        inputs.push(Input::Datagram(0, octets))?;
+    }
+    let expected = in_series(alloc, &inputs)?;
+    assert!(rt; expected.0.len() > 2000);
+    assert!(rt; give_the_same(&rt, alloc, &inputs, &expected, &[1])?);
     Ok(())
 }

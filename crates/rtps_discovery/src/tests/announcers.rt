@@ -95,7 +95,7 @@ fn answered(alloc: Global, mut discovery: Discovery) -> Result<Option<u16>, Fail
         reader: ENTITYID_UNKNOWN,
         body: EventBody::Heartbeat(heartbeat),
     };
-    let effects = discovery.step(alloc, &event)?;
+    let effects = discovery.step(alloc, 0, &event)?;
     match &effects.answer {
         Some(answer) => Ok(answer.to.as_slice().first().map(|locator| locator.port)),
         None => Ok(None),

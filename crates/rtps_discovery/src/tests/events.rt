@@ -191,7 +191,7 @@ fn started(alloc: Global, fixed: &[Guid]) -> Result<Discovery, Fail> {
 fn hear(alloc: Global, discovery: &mut Discovery, said: Said) -> Result<Vec<Heard>, Fail> {
     let payload = payload_of(alloc, said.payload)?;
     let event = event_of(said, payload.as_slice())?;
-    let effects = discovery.step(alloc, &event)?;
+    let effects = discovery.step(alloc, 0, &event)?;
     let mut heard = Vec::new(alloc);
     for change in &effects.changes {
         heard.push(heard_of(change))?;

@@ -219,7 +219,7 @@ pub(super) fn step<A: Allocator + Copy>(
     let Some(event) = event_in(input, payload.as_slice())? else {
         return Ok(Ok(Vec::new(heap)));
     };
-    match discovery.step(heap, &event) {
+    match discovery.step(heap, discovery.moment(), &event) {
         Ok(effects) => Ok(Ok(effects.changes)),
         Err(refused) => Ok(Err(refused)),
     }
@@ -509,5 +509,22 @@ fn when_a_participant_was_heard(rt: HostRuntime) -> Result<(), Fail> {
     }
     let heard = discovery.participants().next().map(|(_, one)| one.heard());
     assert_eq!(rt; heard, Some(100_001));
+    Ok(())
+}
+
+#[test]
+fn a_record_is_heard_at_its_moment(rt: HostRuntime) -> Result<(), Fail> {
+    let alloc = rt.alloc();
+    let mut discovery = started(alloc, &[])?;
+    let input = Comes(ONE, ONE_SECOND);
+    let payload = payload_in(alloc, input)?;
+    let Some(event) = event_in(input, payload.as_slice())? else {
+        return Err(Fail::new("no event"));
+    };
+    discovery.step(alloc, 5_000, &event)?;
+    assert_eq!(rt; discovery.moment(), 5_000);
+    // A moment that is below an earlier one counts as the greatest.
+    discovery.step(alloc, 0, &event)?;
+    assert!(rt; !discovery.is_due(6_000) && discovery.is_due(6_001));
     Ok(())
 }

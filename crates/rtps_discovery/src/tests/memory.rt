@@ -19,7 +19,7 @@ fn is_taken<A: Allocator + Copy>(
 ) -> Result<bool, Fail> {
     let payload = payload_of(alloc, said.payload)?;
     let event = event_of(said, payload.as_slice())?;
-    Ok(discovery.step(heap, &event).is_ok())
+    Ok(discovery.step(heap, 0, &event).is_ok())
 }
 
 /// Returns the number of sets of all matches that there is memory for, up to 64; each has the one

@@ -4,7 +4,7 @@ ghost use Rattle.std.specs.Prelude.{◌≡◌, Ok};
 ghost use Rattle.rtps_discovery.specs.Config.{check_of};
 
 use super::outputs::{BOTH, gather_all, is_of_both};
-use super::plans::{six_events, two_readers};
+use super::plans::{at_once, six_events, two_readers};
 use crate::*;
 use linked_list_allocator::LocalHeap;
 use rtps_discovery::{Config, Discovery, check};
@@ -49,7 +49,7 @@ fn jobs_in(alloc: Global, config: &Config, events: &[Event<'_>], size: usize) ->
     let Ok(mut discovery) = Discovery::new(&heap, config) else {
         return Ok(0);
     };
-    match plan(&heap, events, &mut discovery) {
+    match plan(&heap, &at_once(events), &mut discovery) {
         Ok(plan) => Ok(plan.jobs.len()),
         Err(_) => Ok(0),
     }
@@ -75,7 +75,7 @@ fn refused_growths_plan_nothing(rt: HostRuntime) -> Result<(), Fail> {
 /// Allocates what is left of a heap, down to pieces of two octets.
 fn all_of(alloc: Global, heap: &LocalHeap) -> Result<Vec<Vec<u8, &LocalHeap>>, AllocError> {
     let mut taken = Vec::new(alloc);
-    for power in 0..15 {
+    for power in 0..15_u32 {
         for _ in 0..8 {
             let size = 32_768_usize >> power;
             if let Ok(piece) = Vec::<u8, &LocalHeap>::with_capacity(heap, size) {
@@ -93,12 +93,12 @@ fn a_refused_plan_is_the_last(rt: HostRuntime) -> Result<(), Fail> {
     let events = six_events(rt.alloc())?;
     let heap = LocalHeap::new(rt.alloc(), 65_536)?;
     let mut discovery = Discovery::new(&heap, &config)?;
-    assert!(rt; plan(&heap, &events, &mut discovery).is_ok());
+    assert!(rt; plan(&heap, &at_once(&events), &mut discovery).is_ok());
     let mut taken = all_of(rt.alloc(), &heap)?;
-    assert!(rt; plan(&heap, &events, &mut discovery).is_err());
+    assert!(rt; plan(&heap, &at_once(&events), &mut discovery).is_err());
     taken.clear();
     // There is memory again, but the events of the refused plan are lost.
     assert!(rt; discovery.is_spent());
-    assert!(rt; plan(&heap, &events, &mut discovery).is_err());
+    assert!(rt; plan(&heap, &at_once(&events), &mut discovery).is_err());
     Ok(())
 }

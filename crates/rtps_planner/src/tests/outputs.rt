@@ -58,6 +58,7 @@ fn rest<A: Allocator + Copy>(alloc: A) -> Result<Rest<A>, AllocError> {
         readers: 3,
         ranks: Vec::from_slice(alloc, &[0, 2])?,
         answers,
+        places: Vec::new(alloc),
     })
 }
 

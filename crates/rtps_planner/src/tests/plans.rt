@@ -100,11 +100,24 @@ fn is_of_six(plan: Plan) -> bool {
         && plan.rest.readers == 2
         && plan.rest.ranks.as_slice() == [0, 1].as_slice()
         && plan.rest.answers.is_empty()
+        && plan.rest.places.as_slice() == [1, 2, 3, 4, 5, 6].map(place).as_slice()
 }
 
 /// Whether the plan is that of no event.
 fn is_of_none(plan: Plan) -> bool {
-    plan.jobs.is_empty() && plan.rest.readers == 2 && plan.rest.ranks.is_empty()
+    plan.jobs.is_empty()
+        && plan.rest.readers == 2
+        && plan.rest.ranks.is_empty()
+        && plan.rest.places.is_empty()
+}
+
+/// These events as those of one datagram.
+pub(super) fn at_once<'a>(events: &'a [Event<'a>]) -> [Stamped<'a>; 1] {
+    [Stamped {
+        moment: 0,
+        index: 7,
+        events,
+    }]
 }
 
 /// The plan of two readers.
@@ -112,7 +125,7 @@ fn plan_of(alloc: Global, events: &[Event<'_>]) -> Result<Plan, Fail> {
     let config = two_readers(alloc)?;
     check(&config)?;
     let mut discovery = Discovery::new(alloc, &config)?;
-    Ok(plan(alloc, events, &mut discovery)?)
+    Ok(plan(alloc, &at_once(events), &mut discovery)?)
 }
 
 #[test]

@@ -28,12 +28,14 @@ fn a_batch_has_as_many_records_as_are_asked_for(rt: HostRuntime) -> Result<(), F
     let mut batch = Batch::new(rt.alloc())?;
     assert_eq!(rt; records.open(), Ok(()));
     assert_eq!(rt; records.next_batch(&mut batch, 2), Ok(BatchEnd::More));
-    let lent = batch.records(rt.alloc())?;
-    assert!(rt; lent.as_slice() == [b"hi".as_slice(), b""].as_slice());
+    let lent = batch.datagrams(rt.alloc())?;
+    assert_eq!(rt; lent.len(), 2);
+    assert!(rt; (lent[0].moment, lent[0].bytes) == (0, b"hi".as_slice()));
+    assert!(rt; lent[1].bytes.is_empty());
     drop(lent);
     assert_eq!(rt; records.next_batch(&mut batch, 2), Ok(BatchEnd::End));
-    let lent = batch.records(rt.alloc())?;
-    assert!(rt; lent.as_slice() == [b"abc".as_slice()].as_slice());
+    let lent = batch.datagrams(rt.alloc())?;
+    assert!(rt; lent.len() == 1 && lent[0].bytes == b"abc".as_slice());
     assert_eq!(rt; records.count(), 3);
     Ok(())
 }
@@ -41,13 +43,13 @@ fn a_batch_has_as_many_records_as_are_asked_for(rt: HostRuntime) -> Result<(), F
 #[test]
 fn a_batch_is_empty_at_first_and_once_it_is_cleared(rt: HostRuntime) -> Result<(), Fail> {
     let mut batch = Batch::new(rt.alloc())?;
-    assert!(rt; batch.records(rt.alloc())?.is_empty());
+    assert!(rt; batch.datagrams(rt.alloc())?.is_empty());
     let mut file = FILE.as_slice();
     let mut records = Records::new(&mut file);
     assert_eq!(rt; records.open(), Ok(()));
     assert_eq!(rt; records.next_batch(&mut batch, 2), Ok(BatchEnd::More));
     batch.clear();
-    assert!(rt; batch.records(rt.alloc())?.is_empty());
+    assert!(rt; batch.datagrams(rt.alloc())?.is_empty());
     Ok(())
 }
 
@@ -65,7 +67,7 @@ fn longest(alloc: Global) -> Result<usize, Fail> {
     let mut records = Records::new(&mut rest);
     records.open()?;
     records.next_batch(&mut batch, 4096)?;
-    Ok(batch.records(alloc)?.len())
+    Ok(batch.datagrams(alloc)?.len())
 }
 
 #[test]

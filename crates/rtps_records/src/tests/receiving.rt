@@ -45,8 +45,9 @@ fn source_of(lengths: &[usize], fails: bool) -> Coming<'_> {
 /// Returns the length of each datagram of a batch, and its first octet, or 0 if it is empty.
 fn seen(alloc: Global, batch: &Batch) -> Result<Vec<(usize, u8)>, Fail> {
     let mut seen = Vec::new(alloc);
-    for octets in batch.records(alloc)? {
-        seen.push((octets.len(), octets.first().copied().unwrap_or(0)))?;
+    for datagram in batch.datagrams(alloc)? {
+        let first = datagram.bytes.first().copied().unwrap_or(0);
+        seen.push((datagram.bytes.len(), first))?;
     }
     Ok(seen)
 }
@@ -83,7 +84,7 @@ fn a_batch_has_room_for_as_many_of_the_longest_as_fit(rt: HostRuntime) -> Result
     let mut batch = Batch::new(rt.alloc())?;
     let mut source = source_of(&[MAX_LEN; 17], false);
     assert_eq!(rt; batch.receive(&mut source, 4096), Ok(ReceiveEnd::More));
-    assert_eq!(rt; batch.records(rt.alloc())?.len(), 16);
+    assert_eq!(rt; batch.datagrams(rt.alloc())?.len(), 16);
     assert_eq!(rt; batch.receive(&mut source, 4096), Ok(ReceiveEnd::Drained));
     assert_eq!(rt;
         seen(rt.alloc(), &batch)?.as_slice(),

@@ -2,7 +2,7 @@
 
 ghost use Rattle.std.specs.Prelude.{◌≤◌, IfOk, length};
 
-use super::{BLUE, HEADER, Line, SENDER, Said, Sent, are_lines, config, datagram, two};
+use super::{BLUE, HEADER, Line, SENDER, Said, Sent, are_lines, at_start, config, datagram, two};
 use crate::*;
 use dds_qos::Reliability;
 use dds_topic::Shapes;
@@ -38,7 +38,7 @@ pub(super) fn reports(
 ) -> Result<bool, Fail>
     requires { length octets.now ≤ 65507 }
 {
-    let reports = engine.take(alloc, octets)?.in_order(alloc)?;
+    let reports = engine.take(alloc, at_start(octets))?.in_order(alloc)?;
     Ok(are_lines(&reports, lines))
 }
 

@@ -2,7 +2,7 @@
 
 use super::announced::{Offer, Says, WRITERS, datagram_of};
 use super::matching::{Row, Unlike, meets, meets_from_new, status, two_unlike};
-use super::{SENDER, Said};
+use super::{SENDER, Said, at_start};
 use crate::*;
 use dds_topic::Shapes;
 use rtps_discovery::Discovery;
@@ -154,7 +154,7 @@ fn answers_to_metatraffic(
     parts: &[Says],
 ) -> Result<bool, Fail> {
     let octets = datagram_of(alloc, parts)?;
-    let outcome = engine.take(alloc, octets.as_slice())?;
+    let outcome = engine.take(alloc, at_start(octets.as_slice()))?;
     Ok(match outcome.answers.as_slice() {
         [answer] => is_acknack(answer),
         _ => false,

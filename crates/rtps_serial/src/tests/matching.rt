@@ -2,7 +2,7 @@
 //! writers.
 
 use super::announced::{FIRST, Offer, Says, datagram_of, user};
-use super::{Line, SENDER, Said, are_lines, reader_config};
+use super::{Line, SENDER, Said, are_lines, at_start, reader_config};
 use crate::*;
 use dds_qos::{Partitions, Reliability};
 use dds_topic::Shapes;
@@ -78,7 +78,7 @@ pub(super) fn meets(
     for (parts, lines, matches) in rows {
         let octets = datagram_of(alloc, parts)?;
         let mut reports = Vec::new(alloc);
-        engine.take_in_order(alloc, octets.as_slice(), &mut reports)?;
+        engine.take_in_order(alloc, at_start(octets.as_slice()), &mut reports)?;
         if !are_lines(&reports, lines) || !are_matches(alloc, engine, matches)? {
             return Ok(false);
         }

@@ -4,7 +4,8 @@ ghost use Rattle.std.specs.Prelude.{◌≤◌, length};
 
 use super::announced::{FIRST, Offer, Says, WRITERS, datagram_of};
 use super::matching::{Unlike, two_unlike};
-use super::{Sent, datagram, two};
+use super::moments::datagram_from;
+use super::{SENDER, Sent, at_start, config, datagram, two};
 use crate::*;
 use dds_qos::Reliability;
 use dds_topic::Shapes;
@@ -24,7 +25,7 @@ fn has_failed<'a>(
 {
     matches!(engine.status(1), Some(Status { samples: 0, .. }))
         && engine.matches(heap).err() == Some(EngineError::Failed)
-        && engine.take(heap, octets).err() == Some(EngineError::Failed)
+        && engine.take(heap, at_start(octets)).err() == Some(EngineError::Failed)
 }
 
 /// The result of a datagram in a small heap.
@@ -50,7 +51,7 @@ fn take_once(alloc: Global, size: usize, config: Config, octets: &[u8]) -> Resul
         Err(StartError::NoMemory) => return Ok(Met::NoEngine),
         Err(_) => return Err(Fail::new("the configuration is refused")),
     };
-    match engine.take(&heap, octets) {
+    match engine.take(&heap, at_start(octets)) {
         Ok(outcome) => match outcome.in_order(&heap) {
             Ok(reports) => Ok(Met::Reports(reports.len())),
             Err(_) => Ok(Met::Unordered),
@@ -125,5 +126,88 @@ fn an_announcement_out_of_memory_fails_an_engine(rt: HostRuntime) -> Result<(), 
     ];
     let octets = datagram_of(alloc, &parts)?;
     assert!(rt; fails_or_reports(alloc, Given::Announced, octets.as_slice(), 4)?);
+    Ok(())
+}
+
+/// Where memory is refused first.
+#[derive(Clone, Copy, PartialEq, Eq)]
+enum Refused {
+    BeforeTheTick,
+    AtTheTick,
+    Nowhere,
+}
+
+/// Whether an engine takes the records of two peers, each with two writers of squares, one datagram
+/// each.
+fn takes_peers<'a>(
+    alloc: Global,
+    heap: &'a LocalHeap,
+    engine: &mut SerialEngine<Shapes, &'a LocalHeap>,
+) -> Result<bool, Fail> {
+    for peer in [SENDER, 0x0c] {
+        for part in [
+            Says::Comes,
+            Says::Offers(1, 1, Offer::Square),
+            Says::Offers(2, 2, Offer::Square),
+        ] {
+            let octets = datagram_from(alloc, peer, &[part])?;
+            if engine.take(heap, at_start(octets.as_slice())).is_err() {
+                return Ok(false);
+            }
+        }
+    }
+    Ok(true)
+}
+
+/// Whether an engine that has failed refuses a tick and a datagram.
+fn refuses_both<'a>(heap: &'a LocalHeap, engine: &mut SerialEngine<Shapes, &'a LocalHeap>) -> bool {
+    engine.tick(heap, 100_001).err() == Some(EngineError::Failed)
+        && engine.take(heap, at_start(&[])).err() == Some(EngineError::Failed)
+}
+
+/// Returns where memory is refused first as the leases of both peers end at a tick: two readers
+/// have two notices of each peer.
+fn refusal_in<'a>(
+    alloc: Global,
+    heap: &'a LocalHeap,
+    engine: &mut SerialEngine<Shapes, &'a LocalHeap>,
+) -> Result<Refused, Fail> {
+    if !takes_peers(alloc, heap, engine)? {
+        return Ok(Refused::BeforeTheTick);
+    }
+    let before = [engine.status(0), engine.status(1)];
+    match engine.tick(heap, 100_001) {
+        Ok(outcome) if outcome.notices.iter().all(|notices| notices.len() == 4) => {
+            Ok(Refused::Nowhere)
+        }
+        Err(EngineError::NoMemory)
+            if refuses_both(heap, engine) && [engine.status(0), engine.status(1)] == before => {
+            Ok(Refused::AtTheTick)
+        }
+        _ => Err(Fail::new("a tick has another result")),
+    }
+}
+
+/// Like [`refusal_in`], for a heap of this size.
+fn refusal_of(alloc: Global, size: usize) -> Result<Refused, Fail> {
+    let heap = LocalHeap::new(alloc, size)?;
+    let readers = config(alloc, Reliability::Reliable, &[0, 1], &[])?;
+    match SerialEngine::new_in(&heap, alloc, readers, Shapes) {
+        Ok(mut engine) => refusal_in(alloc, &heap, &mut engine),
+        Err(_) => Ok(Refused::BeforeTheTick),
+    }
+}
+
+#[test]
+fn a_tick_out_of_memory_fails_an_engine(rt: HostRuntime) -> Result<(), Fail> {
+    let (mut before, mut at_the_tick, mut nowhere) = (false, false, false);
+    for step in 1..1024 {
+        match refusal_of(rt.alloc(), step * 16)? {
+            Refused::BeforeTheTick => before = true,
+            Refused::AtTheTick => at_the_tick = true,
+            Refused::Nowhere => nowhere = true,
+        }
+    }
+    assert!(rt; before && at_the_tick && nowhere);
     Ok(())
 }

@@ -3,7 +3,7 @@
 ghost use Rattle.std.specs.Prelude.{◌≤◌, length};
 
 use super::edges::reports;
-use super::{Line, SENDER, Said, Sent, are_lines, config, datagram, two, writer};
+use super::{Line, SENDER, Said, Sent, are_lines, at_start, config, datagram, two, writer};
 use crate::*;
 use dds_qos::Reliability;
 use dds_topic::{Shape, Shapes};
@@ -25,7 +25,7 @@ fn reports_at_once(
     requires { length octets.now ≤ 65507 }
 {
     let mut reports = Vec::new(alloc);
-    engine.take_in_order(alloc, octets, &mut reports)?;
+    engine.take_in_order(alloc, at_start(octets), &mut reports)?;
     Ok(are_lines(&reports, lines))
 }
 

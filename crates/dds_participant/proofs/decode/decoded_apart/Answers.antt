@@ -16,7 +16,7 @@ collect-requires g c κs =
     let ends = c.into_par_iter.ensures in
     let all = c.args.datagrams.now in
     let bounds = div_ceil_times (length all) 64 (omega arith) in
-    let inside = nat_range-All (λ i. (i * 64 < length all) × (c.args.first + length all < 2 ^ 64) × All (λ d. length d.now ≤ 65507) all) 0 c.div_ceil.result
+    let inside = nat_range-All (λ i. (i * 64 < length all) × (c.args.first + length all < 2 ^ 64) × All (λ d. length d.bytes.now ≤ 65507) all) 0 c.div_ceil.result
     (λ i low high. (omega (arith, high, bounds.1, c.div_ceil.ensures), c.requires.room, c.requires.fit)) in
     (search (sendable, crosses) depth 60 fits 30000, (search (sendable, crosses) depth 60 fits 30000, (search (sendable, crosses) depth 60 fits 30000, (search (sendable, crosses) depth 60 fits 30000, (search (sendable, crosses) depth 60 fits 30000, (frees, rw (c.map.ensures.base, c.map.ensures.f, ends.0, ends.1) (λ k d lt. (inside k d lt, λ y p. tt))))))))
 

@@ -1,11 +1,11 @@
-use Rattle.std.proofs.Common.{ℕ, List, Some, None, ◌≡◌, ◌-◌, ◌+◌, ◌<◌, ◌≤◌, ◌++◌, ◌∷◌, [], ◌∙◌, All, ap, arith, get_or-set_other, length, length-append, length-set, map, refl, rules, subst, suc, sym}
+use Rattle.std.proofs.Common.{ℕ, List, Some, None, ◌≡◌, ◌-◌, ◌<◌, ◌≤◌, ◌++◌, ◌∷◌, [], ◌∙◌, All, ap, arith, get_or-set_other, length, length-append, length-set, map, subst, suc, sym}
 use Rattle.std.proofs.lemmas.List.{map_push}
 use Rattle.std.proofs.lemmas.List.Elements.{All-push}
 use Rattle.rtps_receiver.specs.Events.{EventView}
 use Rattle.rtps_planner.specs.declared.jobs.Job as plan_job
 use Rattle.rtps_planner.specs.Plan.{job_seen, jobs_by}
 use Rattle.rtps_shards.specs.Results.{IsReady, Share, rank_in}
-use Rattle.dds_participant.specs.Readers.{AreJobs, IsAsked, AreRunAt, IsNoneOf}
+use Rattle.dds_participant.specs.Readers.{AreJobs, IsAsked, IsNoneOf}
 use Rattle.dds_participant.proofs.Pairing.{idle_done, last_asked, ready}
 use Rattle.dds_participant.proofs.Returned.{fewer, rank_idle, rank_lent, share_at}
 use Rattle.dds_participant.proofs.readers.lend.Goals as goal

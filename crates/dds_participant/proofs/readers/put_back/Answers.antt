@@ -1,4 +1,4 @@
-use Rattle.std.proofs.Common.{◌≡◌, ◌<◌, ◌∙◌, ◌∷◌, ℕ, [], All, ap, arith, length, length-set, map, rules, subst, suc}
+use Rattle.std.proofs.Common.{◌≡◌, ◌<◌, ◌∙◌, ◌∷◌, ℕ, All, ap, arith, length, length-set, map, rules, subst, suc}
 use Rattle.rtps_shards.specs.Results.{IsDone, rank_of}
 use Rattle.dds_participant.specs.Readers.{AreRunBut}
 use Rattle.dds_participant.proofs.Returned.{back_more}

@@ -1,10 +1,10 @@
-use Rattle.std.proofs.Common.{ℕ, ◌≡◌, ◌-◌, ◌<◌, ◌≤◌, ◌∙◌, ap, arith, get_or-set_other, length, length-set, map, rules, suc}
+use Rattle.std.proofs.Common.{ℕ, ◌≡◌, ◌-◌, ◌<◌, ◌∙◌, ap, arith, get_or-set_other, length, length-set, map, rules, suc}
 use Rattle.rtps_receiver.specs.Events.{view}
 use Rattle.rtps_planner.specs.Plan.{job_seen, jobs_by}
 use Rattle.rtps_shards.specs.Results.{Share}
 use Rattle.dds_participant.specs.Readers.{AreJobs, IsAsked}
 use Rattle.dds_participant.proofs.Pairing.{last_asked}
-use Rattle.dds_participant.proofs.Returned.{all_run, none_run, rank_run, share_at}
+use Rattle.dds_participant.proofs.Returned.{rank_run, share_at}
 use Rattle.dds_participant.proofs.readers.run_alone.Goals as goal
 
 pub ranks-preserved : goal.ranks-preserved

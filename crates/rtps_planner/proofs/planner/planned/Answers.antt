@@ -1,18 +1,33 @@
-use Rattle.std.proofs.Common.{◌≡◌, ◌∙◌, ap, length, map, rules}
-use Rattle.rtps_receiver.specs.Events.{view}
-use Rattle.rtps_planner.specs.Job.{job_of}
+use Rattle.std.proofs.Common.{◌≡◌, ◌++◌, ◌<◌, ◌∙◌, None, ap, length, map, refl, subst}
+use Rattle.rtps_reader.specs.Notice.{answer_view}
+use Rattle.rtps_planner.specs.Job.{discovery_answers, job_of}
+use Rattle.rtps_planner.specs.Commuting.{spoken}
+use Rattle.rtps_planner.specs.declared.steps.Planning.{Planning}
 use Rattle.rtps_planner.specs.Plan.{jobs_by}
+use Rattle.rtps_planner.specs.Stamped.{all_events, all_occurrences}
+use Rattle.rtps_planner.proofs.Whole.{all_steps, reads_itself}
 use Rattle.rtps_planner.proofs.planner.planned.Goals as goal
 
 pub returns-clause-planned : goal.returns-clause-planned
 returns-clause-planned g c k known =
-    let es = map view c.args.events.now in
-    let planned = c.in_ok-planning.ensures.planned k known in
-    let readers : c.len-readers.result ≡ length c.in_ok-planning.planning.lists.items = search rules in
+    let stamped = c.args.stamped.now in
+    let es = all_events stamped in
+    let os = all_occurrences stamped in
+    let empty : Planning g.row.A.Denot = record { lists = c.in_ok-empty_lists.field-0; answers = c.new.result; places = c.new-2.result; burst = None } in
+    let new = c.plan_all.new.planning in
+    let kept = c.plan_all.new.discovery.kept in
+    let count : length empty.lists.items ≡ length k.readers = c.in_ok-empty_lists.ensures.count ∙ ap length (c.readers.ensures.known ∙ known.readers) in
+    let total : length new.lists.items ≡ length k.readers = c.in_ok-plan_all.ensures.count ∙ count in
+    let planned = c.in_ok-plan_all.ensures.planned k es known (reads_itself es) in
+    let closed : new.burst ≡ None = c.in_ok-plan_all.ensures.closed in
+    let steps = all_steps es k os empty new kept count refl closed
+    (λ rank other less. c.in_ok-empty_lists.ensures.empty rank other (subst (λ n. rank < n) c.in_ok-empty_lists.ensures.count less))
+    (λ hs reads. c.in_ok-plan_all.ensures.planned k hs known reads) in
     record {
       known = planned.known;
-      jobs = c.in_ok-jobs.ensures es (λ rank. job_of rank k es) planned.steps ∙ ap (jobs_by (λ rank. job_of rank k es)) planned.count;
-      readers = readers ∙ planned.count;
-      ranks = c.in_ok-ranks_of.ensures ∙ ap (map (λ job. job.rank)) (search rules);
-      answers = planned.answers;
+      jobs = c.in_ok-plan.ensures.jobs es (λ rank. job_of rank k os) steps ∙ ap (jobs_by (λ rank. job_of rank k os)) total;
+      readers = c.in_ok-plan.ensures.readers ∙ total;
+      ranks = c.in_ok-plan.ensures.ranks;
+      answers = ap (λ v. map answer_view v.items) c.in_ok-plan.ensures.answers ∙ planned.answers ∙ ap (λ l. map answer_view l ++ discovery_answers k os) c.new.ensures.items;
+      places = ap (λ v. v.items) c.in_ok-plan.ensures.places ∙ planned.places ∙ ap (λ l. l ++ spoken k os) c.new-2.ensures.items;
     }

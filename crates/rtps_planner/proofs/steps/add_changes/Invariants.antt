@@ -1,5 +1,4 @@
-use Rattle.std.proofs.Common.{◌≡◌, ◌++◌, List, Some}
-use Rattle.std.specs.List.{slice_get}
+use Rattle.std.proofs.Common.{◌≡◌, ◌++◌, List}
 use Rattle.rtps_receiver.specs.Events.{EventView}
 use Rattle.rtps_planner.specs.Plan.{Grow}
 use Rattle.rtps_planner.proofs.Planned.{changes_asked_at}
@@ -8,6 +7,6 @@ use Rattle.rtps_planner.proofs.steps.add_changes.Given as goal
 -- the steps of the changes so far are added
 abbrev pub invariant-loop-change : goal.invariant-loop-change
 invariant-loop-change g l = record {
-  grows : (es : List EventView) (e : EventView) → slice_get es l.event ≡ Some e → Grow es l.fn.lists.items l.lists.items (changes_asked_at e.place l.yielded);
+  grows : (es : List EventView) → Grow es l.fn.lists.items l.lists.items (changes_asked_at l.place l.yielded);
   left : l.fn.changes.items ≡ l.yielded ++ l.change-iterator.rest.items;
 }

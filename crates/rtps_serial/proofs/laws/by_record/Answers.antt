@@ -1,8 +1,8 @@
-use Rattle.rtps_serial.proofs.ByRecord.{event_alike, run_alike}
+use Rattle.rtps_serial.proofs.ByRecord.{occurrence_alike, run_alike}
 use Rattle.rtps_serial.proofs.laws.by_record.Goals as goal
 
-pub returns-clause-event : goal.returns-clause-event
-returns-clause-event g c = λ decoding w e. event_alike decoding w e
+pub returns-clause-occurrence : goal.returns-clause-occurrence
+returns-clause-occurrence g c = λ decoding w o. occurrence_alike decoding w o
 
 pub returns-clause-run : goal.returns-clause-run
-returns-clause-run g c = λ decoding config datagrams. run_alike decoding config datagrams
+returns-clause-run g c = λ decoding config inputs. run_alike decoding config inputs

@@ -1,5 +1,8 @@
-use Rattle.rtps_serial.proofs.Agreeing.{run_agrees}
+use Rattle.rtps_serial.proofs.Agreeing.{agrees_run, run_agrees}
 use Rattle.rtps_serial.proofs.laws.matches_agree.Goals as goal
 
-pub returns : goal.returns
-returns g c = λ decoding config datagrams. run_agrees decoding config datagrams
+pub returns-clause-run : goal.returns-clause-run
+returns-clause-run g c = λ decoding config inputs. run_agrees decoding config inputs
+
+pub returns-clause-later : goal.returns-clause-later
+returns-clause-later g c = λ decoding w os agrees. agrees_run decoding w os agrees

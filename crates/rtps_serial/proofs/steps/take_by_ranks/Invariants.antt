@@ -1,5 +1,4 @@
 use Rattle.std.proofs.Common.{◌≡◌, List, length, take}
-use Rattle.rtps_discovery.specs.Addressed.{writer_of}
 use Rattle.rtps_receiver.specs.Events.{view}
 use Rattle.rtps_run.specs.Standing.{ReadersStand, WorldStands}
 use Rattle.rtps_run.specs.Steps.{event_steps, steps_run}

@@ -2,7 +2,7 @@ use Rattle.std.proofs.Common.{◌≡◌, ◌<◌, ◌+◌, ◌∷◌, [], ◌++�
 use Rattle.std.proofs.lemmas.List.{map_push, take_all, take_more}
 use Rattle.rtps_discovery.specs.Seen.{change_seen}
 use Rattle.rtps_run.specs.Standing.{ReadersStand}
-use Rattle.rtps_run.specs.Steps.{change_step, step_by, steps_run, world_stepped}
+use Rattle.rtps_run.specs.Steps.{change_step, steps_run, world_stepped}
 use Rattle.rtps_run.proofs.Reached.{steps_run-append}
 use Rattle.rtps_serial.proofs.steps.take_changes.Goals as goal
 

@@ -1,4 +1,4 @@
-use Rattle.std.proofs.Common.{◌≡◌, ◌+◌, ◌<◌, ◌++◌, ◌∷◌, [], ◌∙◌, ap, get_or, length, map, option_to_list, rules, subst, sym, take, Some}
+use Rattle.std.proofs.Common.{◌≡◌, ◌+◌, ◌<◌, ◌++◌, ◌∷◌, [], ◌∙◌, ap, get_or, length, map, rules, subst, sym, take}
 use Rattle.std.proofs.lemmas.List.{map_push, take_all, take_more}
 use Rattle.rtps_receiver.specs.Events.{view}
 use Rattle.rtps_reader.specs.Step.{asked}
@@ -23,8 +23,8 @@ loop-event-preserved g c =
     = ap (λ l. map taken_in (map view l)) (take_more events i event below ∙ ap (λ s. take i events ++ s ∷ []) here)
     ∙ ap (map taken_in) (map_push view (take i events) event)
     ∙ map_push taken_in (map view (take i events)) (view event) in
-    let asks : map (λ s. (s.place, asked s.what)) (option_to_list (Some c.of_event.result)) ≡ one
-    = ap (λ place. (place, asked c.of_event.result.what) ∷ []) c.of_event.ensures.place ∙ ap (λ what. ((view event).place, what) ∷ []) c.of_event.ensures.what in
+    let asks : (c.of_event-step.result.place, asked c.of_event-step.result.what) ∷ [] ≡ one
+    = ap (λ place. (place, asked c.of_event-step.result.what) ∷ []) c.of_event-step.ensures.place ∙ ap (λ what. ((view event).place, what) ∷ []) c.of_event-step.ensures.what in
     let old = c.args.output.now in
     let mid = c.loop-event.output in
     let new = c.take_step.new.output in

@@ -4,6 +4,8 @@ use Rattle.std.specs.Prelude.{drop}
 use Rattle.std.proofs.lemmas.List.{drop-map, take-map, take_all, take_more}
 use Rattle.rtps_receiver.specs.declared.event.Event.{Event}
 use Rattle.rtps_receiver.specs.Events.{view}
+use Rattle.rtps_types.specs.MatchChange.{match_change_view}
+use Rattle.rtps_reader.specs.Step.{Changes}
 use Rattle.rtps_planner.specs.Job.{job_run, job_told}
 use Rattle.rtps_planner.specs.Plan.{step_seen, steps_seen, taken_in}
 use Rattle.rtps_shards.specs.Results.{HasTaken, share}
@@ -50,7 +52,7 @@ loop-planned-preserved g c =
             nothing = rw w.effects-is w.in_ok-take_events-in-TakeIn.ensures.nothing;
           }
       | in-Change+in_ok-take_step-in-Change w ↦
-          let seen = w.change_at-step.ensures ∙ ap (step_seen es) (sym w.in-Change.is) in
+          let seen : (w.in-Change.place, Changes (match_change_view w.in-Change.what)) ∷ [] ≡ step_seen es step = ap (step_seen es) (sym w.in-Change.is) in
           record {
             taken = λ r given stands.
                 let one = c.loop-planned.invariant.taken r given stands in

@@ -1,7 +1,4 @@
-use Rattle.std.proofs.Common.{map}
-use Rattle.rtps_receiver.specs.Events.{view}
 use Rattle.rtps_reader.specs.declared.notice.Output.{Output}
-use Rattle.rtps_planner.specs.Plan.{steps_seen}
 use Rattle.rtps_shards.proofs.Taking.{all_taken}
 use Rattle.rtps_shards.proofs.Together.{on_ok}
 use Rattle.rtps_shards.proofs.workers.run_job.Goals as goal

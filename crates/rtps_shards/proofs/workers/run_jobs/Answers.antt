@@ -1,25 +1,13 @@
 use Rattle.std.proofs.Common.{◌≡◌, ◌∙◌, ◌-◌, ◌<◌, ◌++◌, [], ℕ, All, ap, arith, length, map, rules, subst, sym}
-use Rattle.std.proofs.lemmas.Result.{IfOk-weaker}
-use Rattle.std.proofs.lemmas.List.Sorted.{IsPermutation-refl, length_permutation}
+use Rattle.std.proofs.lemmas.List.Sorted.{length_permutation}
 use Rattle.std.specs.List.Sorted.{IsPermutation}
 use Rattle.rtps_receiver.specs.Events.{view}
 use Rattle.rtps_shards.specs.Board.{hand}
 use Rattle.rtps_shards.specs.Ends.{IsSameBoard, owner_hand}
-use Rattle.rtps_shards.specs.Piles.{IsPileDone}
-use Rattle.rtps_shards.specs.Results.{rank_in}
 use Rattle.rtps_shards.specs.Work.{HasDone, HaveAllDone, Works}
 use Rattle.rtps_shards.specs.declared.board.Hand.{Hand}
 use Rattle.rtps_shards.proofs.Crews.{ended, new_still, ok_is, started}
 use Rattle.rtps_shards.proofs.workers.run_jobs.Goals as goal
-
-pub returns-then-count-eq1-clause-done : goal.returns-then-count-eq1-clause-done
-unfolding IsPileDone
-returns-then-count-eq1-clause-done g c = c.run_pile.ensures.0
-
-pub returns-then-count-eq1-clause-ranks : goal.returns-then-count-eq1-clause-ranks
-unfolding IsPileDone
-returns-then-count-eq1-clause-ranks g c =
-    IfOk-weaker c.run_pile.result _ _ (λ results same. subst (IsPermutation (map rank_in c.args.jobs.items)) (sym same) (IsPermutation-refl (map rank_in c.args.jobs.items))) c.run_pile.ensures.1
 
 pub new-requires-clause-size : goal.new-requires-clause-size
 new-requires-clause-size g c =

@@ -1,6 +1,6 @@
 use Rattle.std.proofs.Common.{◌≡◌, ◌++◌, List, ℕ}
 use Rattle.std.specs.Io.{StartsWith}
-use Rattle.rtps_run.specs.Standing.{StandsAt, run_by}
+use Rattle.rtps_text.specs.Undated.{StandsAt, run_by}
 use Rattle.rtps_text.specs.Replayed.{status_lines}
 use Rattle.rtps_text.proofs.closing.push_statuses.Given as goal
 

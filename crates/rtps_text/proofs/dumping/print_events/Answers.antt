@@ -5,20 +5,20 @@ use Rattle.rtps_text.proofs.Sinks.{record_more}
 use Rattle.rtps_text.proofs.dumping.print_events.Goals as goal
 
 pub returns-in_err-push_events-clause-front : goal.returns-in_err-push_events-clause-front
-returns-in_err-push_events-clause-front g c = on_err _ (printed_stop _ _ _ _ _ c.loop-octets.invariant.so_far)
+returns-in_err-push_events-clause-front g c = on_err _ (printed_stop _ _ _ _ _ c.loop-datagram.invariant.so_far)
 
 pub returns-in_err-write_if_full-clause-front : goal.returns-in_err-write_if_full-clause-front
 returns-in_err-write_if_full-clause-front g c =
-    let next = record_more (lines_of c.args.own) c.loop-octets.number c.args.datagrams.now c.loop-octets.octets-index (record { ref_ptr = (0, 0); now = [] }) (search rules) in
-    let so_far = subst (Printed _ _ _ c.loop-octets.lines.text.items) next c.loop-octets.invariant.so_far in
+    let next = record_more (lines_of c.args.own) c.loop-datagram.number c.args.datagrams.now c.loop-datagram.datagram-index (record { moment = 0; bytes = record { ref_ptr = (0, 0); now = [] } }) (search rules) in
+    let so_far = subst (Printed _ _ _ c.loop-datagram.lines.text.items) next c.loop-datagram.invariant.so_far in
     on_err _ (printed_front _ _ _ _ _ _ (printed_more _ _ _ _ _ _ c.push_events.new.out.items so_far c.in_ok-push_events.ensures.ok) c.in_err-write_if_full.ensures.front)
 
-pub loop-octets-preserved : goal.loop-octets-preserved
-loop-octets-preserved g c =
-    let next = record_more (lines_of c.args.own) c.loop-octets.number c.args.datagrams.now c.loop-octets.octets-index (record { ref_ptr = (0, 0); now = [] }) (search rules) in
-    let so_far = subst (Printed _ _ _ c.loop-octets.lines.text.items) next c.loop-octets.invariant.so_far in
+pub loop-datagram-preserved : goal.loop-datagram-preserved
+loop-datagram-preserved g c =
+    let next = record_more (lines_of c.args.own) c.loop-datagram.number c.args.datagrams.now c.loop-datagram.datagram-index (record { moment = 0; bytes = record { ref_ptr = (0, 0); now = [] } }) (search rules) in
+    let so_far = subst (Printed _ _ _ c.loop-datagram.lines.text.items) next c.loop-datagram.invariant.so_far in
     record {
       same_writer = search rules;
-      counted = omega (arith, c.loop-octets.invariant.counted);
+      counted = omega (arith, c.loop-datagram.invariant.counted);
       so_far = printed_spilled _ _ _ _ _ _ _ (printed_more _ _ _ _ _ _ c.push_events.new.out.items so_far c.in_ok-push_events.ensures.ok) c.in_ok-write_if_full.ensures.ok;
     }

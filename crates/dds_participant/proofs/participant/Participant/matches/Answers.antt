@@ -1,11 +1,9 @@
 use Rattle.std.proofs.Common.{◌∙◌, ap, sym}
 use Rattle.rtps_run.specs.Run.{run}
 use Rattle.rtps_run.specs.Seen.{matches_below}
-use Rattle.rtps_run.proofs.Running.{run_count}
 use Rattle.dds_participant.proofs.participant.Participant.matches.Goals as goal
 
 pub returns-in_ok-all_matches-clause-matches : goal.returns-in_ok-all_matches-clause-matches
-returns-in_ok-all_matches-clause-matches g c = rw (sym c.self.view_is) (λ datagrams kept.
-    let d = g.C.Catalog.decoding c.self.inside.catalog in
-    let world = run d c.self.inside.config datagrams in
-    (rw c.deref.ensures.value at c.in_ok-all_matches.ensures) world kept.readers ∙ ap (matches_below world.readers) (kept.count ∙ sym (run_count d c.self.inside.config datagrams)))
+returns-in_ok-all_matches-clause-matches g c = rw (sym c.self.view_is) (λ inputs kept.
+    let world = run (g.C.Catalog.decoding c.self.inside.catalog) c.self.inside.config inputs in
+    (rw c.deref.ensures.value at c.in_ok-all_matches.ensures) world kept.readers ∙ ap (matches_below world.readers) kept.count)

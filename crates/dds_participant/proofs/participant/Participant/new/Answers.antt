@@ -1,23 +1,14 @@
 use Rattle.std.proofs.Common.{◌≡◌, ◌∙◌, ap, arith, false, length, map, refl, rules, slice_index_or}
 use Rattle.rtps_reader.specs.Standing.{ReaderView, facts_in}
 use Rattle.rtps_run.specs.Run.{fixed_of}
-use Rattle.rtps_run.proofs.Taking.{starts_here, shows_first}
+use Rattle.rtps_run.proofs.Taking.{stands_first}
 use Rattle.dds_participant.proofs.participant.Participant.new.Goals as goal
 
 pub returns-clause-stands : goal.returns-clause-stands
 returns-clause-stands g c =
-    let d = g.C.Catalog.decoding c.args.catalog in
     let states = c.in_ok-readers.readers.items in
     let start = (rw c.deref-2.ensures.value at c.in_ok-readers.ensures.start) (fixed_of c.args.config.fixed.items) (λ rank other below. ap (λ l. map facts_in (slice_index_or l rank other).items) c.deref-3.ensures.value ∙ c.in_ok-fixed.ensures.fixed rank other (omega (arith, below, c.len.ensures)) ∙ ap (λ l. fixed_of l rank) c.deref.ensures.value) in
     let count : length states ≡ length c.args.config.readers.items = search rules in
-    let all = starts_here d c.args.config states start in
     let shown : c.in_ok-statuses.statuses.items ≡ map (λ (s : ReaderView). s.status) states = c.in_ok-statuses.ensures ∙ ap (map (λ (s : ReaderView). s.status)) c.deref-4.ensures.value in
-    record {
-      sound = refl;
-      index = refl;
-      known = c.in_ok-discovery.ensures.known;
-      unspent = c.in_ok-discovery.ensures.ok;
-      count = count;
-      readers = all;
-      shows = shows_first g.C.Catalog.decoding (record { catalog = c.args.catalog; config = c.args.config; index = 0; failed = false; discovery = c.in_ok-discovery.discovery; readers = states; statuses = c.in_ok-statuses.statuses.items }) count shown all;
-    }
+    stands_first g.C.Catalog.decoding (record { catalog = c.args.catalog; config = c.args.config; index = 0; failed = false; discovery = c.in_ok-discovery.discovery; readers = states; statuses = c.in_ok-statuses.statuses.items })
+    refl refl c.in_ok-discovery.ensures.known c.in_ok-discovery.ensures.ok count shown start

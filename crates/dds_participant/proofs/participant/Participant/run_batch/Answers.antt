@@ -1,13 +1,13 @@
 use Rattle.std.proofs.Common.{◌≡◌, ◌∙◌, refl, ap, arith, length, map, subst, sym}
-use Rattle.std.proofs.lemmas.List.{length-map}
 use Rattle.rtps_run.specs.Outcome.{Adds}
+use Rattle.rtps_run.specs.Input.{arrived}
 use Rattle.rtps_run.specs.World.{World}
 use Rattle.dds_participant.specs.Kept.{ParticipantView}
 use Rattle.rtps_run.specs.Standing.{EngineView}
 use Rattle.dds_participant.specs.Ports.{NoneAttached}
 use Rattle.dds_participant.proofs.Finished.{handed_finish}
 use Rattle.dds_participant.proofs.Unattached.{outcome_same}
-use Rattle.dds_participant.proofs.Taken.{adds_after, stands_after}
+use Rattle.dds_participant.proofs.Taken.{adds_after, datagrams_counted, stands_after}
 use Rattle.dds_participant.proofs.Counting.{batch_counted}
 use Rattle.dds_participant.proofs.participant.Participant.run_batch.Goals as goal
 
@@ -41,13 +41,13 @@ hand_lists-requires-after_bounds g c κs outlives =
 pub returns-clause-stands : goal.returns-clause-stands
 returns-clause-stands g c earlier kept =
     let is = c.in_ok-admit.ensures.ok.2 in
-    let batch = map (λ d. d.now) c.args.datagrams.now in
+    let batch = map arrived c.args.datagrams.now in
     let shown = c.in_ok-given.ensures.count
     ∙ ap (λ (p : ParticipantView _ _). length p.engine.readers) is
     ∙ c.in_ok-admit.ensures.few.1
     ∙ sym (ap (λ (p : ParticipantView _ _). length p.engine.statuses) is)
     ∙ sym (ap length c.run.ensures.same.statuses) in
-    stands_after g.C.Catalog.decoding earlier batch c.args.self.now c.admit.new.self c.run.new.self kept is c.finish.new.self (length c.args.datagrams.now) (sym (length-map c.args.datagrams.now (λ d. d.now)))
+    stands_after g.C.Catalog.decoding earlier batch c.args.self.now c.admit.new.self c.run.new.self kept is c.finish.new.self (length c.args.datagrams.now) (λ n. datagrams_counted n c.args.datagrams.now)
     c.run.ensures.same c.in_ok-given.ensures.keeps (handed_finish _ c.run.new.self c.hand_lists.new.self c.finish.new.self c.hand_lists.ensures.same.0 c.hand_lists.ensures.same.1 c.finish.ensures.finished) shown
 
 pub returns-clause-adds : goal.returns-clause-adds
@@ -56,7 +56,7 @@ returns-clause-adds g c earlier kept =
     let old : c.run.new.self.ports ≡ c.args.self.now.ports = c.run.ensures.ports ∙ ap (λ (p : ParticipantView _ _). p.ports) is in
     let new : c.hand_lists.new.self.ports ≡ c.finish.new.self.ports = sym c.finish.ensures.ports in (
       c.in_ok-outcome.outcome,
-      adds_after g.C.Catalog.decoding earlier (map (λ d. d.now) c.args.datagrams.now) c.args.self.now c.admit.new.self c.run.new.self kept is
+      adds_after g.C.Catalog.decoding earlier (map arrived c.args.datagrams.now) c.args.self.now c.admit.new.self c.run.new.self kept is
           (λ (before after : World g.C.Catalog.Meaning). Adds g.C.Catalog.view before after c.in_ok-outcome.outcome) (λ w kept. c.in_ok-outcome.ensures.adds w _ (c.in_ok-given.ensures.gives w kept)),
       record { answers = refl; notices = rw (← old, ← new) c.in_ok-hand_lists.ensures.on },
     )
@@ -71,5 +71,5 @@ returns-clause-alone g c earlier kept none =
     let old : c.run.new.self.ports ≡ c.args.self.now.ports = c.run.ensures.ports ∙ ap (λ (p : ParticipantView _ _). p.ports) is in
     let same = c.hand_lists.ensures.alone (subst NoneAttached (sym old) none) in
     outcome_same g.C.Catalog.view _ _ c.in_ok-outcome.outcome _ same.0 refl
-    (adds_after g.C.Catalog.decoding earlier (map (λ d. d.now) c.args.datagrams.now) c.args.self.now c.admit.new.self c.run.new.self kept is
+    (adds_after g.C.Catalog.decoding earlier (map arrived c.args.datagrams.now) c.args.self.now c.admit.new.self c.run.new.self kept is
     (λ (before after : World g.C.Catalog.Meaning). Adds g.C.Catalog.view before after c.in_ok-outcome.outcome) (λ w kept. c.in_ok-outcome.ensures.adds w _ (c.in_ok-given.ensures.gives w kept)))

@@ -1,5 +1,5 @@
 use Rattle.std.proofs.Common.{◌≡◌, ◌∙◌, ap, length, map, refl, subst, sym}
-use Rattle.std.proofs.lemmas.List.{length-map}
+use Rattle.rtps_run.specs.Input.{arrived}
 use Rattle.rtps_run.specs.World.{World}
 use Rattle.dds_participant.specs.BatchOutput.{HoldsNothing, IsGiven}
 use Rattle.dds_participant.specs.Kept.{ParticipantView}
@@ -8,7 +8,7 @@ use Rattle.dds_participant.specs.Ports.{NoneAttached}
 use Rattle.dds_participant.proofs.Unattached.{given_same}
 use Rattle.dds_participant.proofs.Finished.{handed_finish}
 use Rattle.dds_participant.proofs.Leaving.{left_alone, left_empty}
-use Rattle.dds_participant.proofs.Taken.{adds_after, stands_after}
+use Rattle.dds_participant.proofs.Taken.{adds_after, datagrams_counted, stands_after}
 use Rattle.dds_participant.proofs.Counting.{batch_counted}
 use Rattle.dds_participant.proofs.participant.Participant.run_in_order.Goals as goal
 
@@ -35,13 +35,13 @@ hand-requires-after_bounds g c κs outlives =
 pub returns-clause-stands : goal.returns-clause-stands
 returns-clause-stands g c earlier kept =
     let is = c.in_ok-admit.ensures.ok.2 in
-    let batch = map (λ d. d.now) c.args.datagrams.now in
+    let batch = map arrived c.args.datagrams.now in
     let shown = c.in_ok-whole.ensures.count
     ∙ ap (λ (p : ParticipantView _ _). length p.engine.readers) is
     ∙ c.in_ok-admit.ensures.few.1
     ∙ sym (ap (λ (p : ParticipantView _ _). length p.engine.statuses) is)
     ∙ sym (ap length c.run.ensures.same.statuses) in
-    stands_after g.C.Catalog.decoding earlier batch c.args.self.now c.admit.new.self c.run.new.self kept is c.finish.new.self (length c.args.datagrams.now) (sym (length-map c.args.datagrams.now (λ d. d.now)))
+    stands_after g.C.Catalog.decoding earlier batch c.args.self.now c.admit.new.self c.run.new.self kept is c.finish.new.self (length c.args.datagrams.now) (λ n. datagrams_counted n c.args.datagrams.now)
     c.run.ensures.same c.in_ok-whole.ensures.keeps (handed_finish _ c.run.new.self c.hand.new.self c.finish.new.self c.hand.ensures.same.0 c.hand.ensures.same.1 c.finish.ensures.finished) shown
 
 pub returns-clause-gives : goal.returns-clause-gives
@@ -50,7 +50,7 @@ returns-clause-gives g c earlier kept =
     let old : c.run.new.self.ports ≡ c.args.self.now.ports = c.run.ensures.ports ∙ ap (λ (p : ParticipantView _ _). p.ports) is in
     let new : c.hand.new.self.ports ≡ c.finish.new.self.ports = sym c.finish.ensures.ports in (
       c.in_ok-whole.whole,
-      adds_after g.C.Catalog.decoding earlier (map (λ d. d.now) c.args.datagrams.now) c.args.self.now c.admit.new.self c.run.new.self kept is
+      adds_after g.C.Catalog.decoding earlier (map arrived c.args.datagrams.now) c.args.self.now c.admit.new.self c.run.new.self kept is
           (λ (before after : World g.C.Catalog.Meaning). IsGiven g.C.Catalog.view before after c.in_ok-whole.whole) c.in_ok-whole.ensures.gives,
       record { places = refl; answers = refl; sent = c.hand.ensures.sent; notices = rw (← old, ← new) c.in_ok-hand.ensures.on },
     )
@@ -73,6 +73,6 @@ returns-clause-alone g c earlier kept none =
     let is = c.in_ok-admit.ensures.ok.2 in
     let old : c.run.new.self.ports ≡ c.args.self.now.ports = c.run.ensures.ports ∙ ap (λ (p : ParticipantView _ _). p.ports) is in
     let same = c.hand.ensures.alone (subst NoneAttached (sym old) none) in
-    adds_after g.C.Catalog.decoding earlier (map (λ d. d.now) c.args.datagrams.now) c.args.self.now c.admit.new.self c.run.new.self kept is
+    adds_after g.C.Catalog.decoding earlier (map arrived c.args.datagrams.now) c.args.self.now c.admit.new.self c.run.new.self kept is
     (λ (before after : World g.C.Catalog.Meaning). IsGiven g.C.Catalog.view before after (record { places = c.in_ok-whole.whole.places; answers = c.in_ok-whole.whole.answers; outputs = c.hand.new.outputs }))
     (λ w kept. given_same g.C.Catalog.view w _ c.in_ok-whole.whole c.hand.new.outputs same.0 (c.in_ok-whole.ensures.gives w kept))

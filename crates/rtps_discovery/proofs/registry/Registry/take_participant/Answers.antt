@@ -1,15 +1,10 @@
-use Rattle.std.proofs.Common.{◌≡◌, refl, Some, None, map, true, false, ap, sym, ◌∙◌, subst}
-use Rattle.std.specs.Prelude.{IfOk, OnOk}
-use Rattle.std.specs.Option.{option_map}
-use Rattle.rtps_proxy.specs.Replies.{reply_view}
+use Rattle.std.proofs.Common.{◌≡◌, None, ap, ◌∙◌, subst}
 use Rattle.rtps_receiver.specs.Events.{view}
-use Rattle.rtps_discovery.specs.Addressed.{is_for, writer_of}
+use Rattle.rtps_discovery.specs.Addressed.{writer_of}
 use Rattle.rtps_discovery.specs.Changes.{changes_run, known_run}
-use Rattle.rtps_discovery.specs.Effects.{AreHeard, match_of}
 use Rattle.rtps_discovery.specs.Kept.{IsKnown, kept}
-use Rattle.rtps_discovery.specs.Records.{announcer_of, answer_by, changes_by, detector_of, named_match, participants_in}
-use Rattle.rtps_discovery.specs.Seen.{change_seen}
-use Rattle.rtps_discovery.proofs.Hearing.{named_if, of_endpoints, of_participants, spdp_undetected, undetected, unheard_of}
+use Rattle.rtps_discovery.specs.Records.{announcer_of, named_match, participants_in}
+use Rattle.rtps_discovery.proofs.Hearing.{of_participants, spdp_undetected, undetected}
 use Rattle.rtps_discovery.proofs.registry.Registry.take_participant.Goals as goal
 
 pub returns-clause-known : goal.returns-clause-known

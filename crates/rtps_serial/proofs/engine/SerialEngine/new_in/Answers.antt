@@ -2,26 +2,18 @@ use Rattle.std.proofs.Common.{◌≡◌, ◌≤◌, ◌∙◌, ap, arith, false,
 use Rattle.std.proofs.lemmas.List.{length-map}
 use Rattle.rtps_reader.specs.Standing.{ReaderView, facts_in}
 use Rattle.rtps_run.specs.Run.{fixed_of}
-use Rattle.rtps_run.proofs.Taking.{starts_here, shows_first}
+use Rattle.rtps_run.proofs.Taking.{stands_first}
 use Rattle.rtps_serial.proofs.engine.SerialEngine.new_in.Goals as goal
 
 pub returns-clause-stands : goal.returns-clause-stands
 returns-clause-stands g c =
-    let d = g.C.Catalog.decoding c.args.catalog in
     let states = c.in_ok-states.states.items in
     let start = (rw c.deref-2.ensures.value at c.in_ok-states.ensures.start) (fixed_of c.args.config.fixed.items) (λ rank other below. ap (λ l. map facts_in (slice_index_or l rank other).items) c.deref-3.ensures.value ∙ c.in_ok-fixed.ensures.fixed rank other (omega (arith, below, c.len.ensures)) ∙ ap (λ l. fixed_of l rank) c.deref.ensures.value) in
     let count : length states ≡ length c.args.config.readers.items = search rules in
-    let all = starts_here d c.args.config states start in
     let shown : c.in_ok-statuses.statuses.items ≡ map (λ (s : ReaderView). s.status) states = c.in_ok-statuses.ensures ∙ ap (map (λ (s : ReaderView). s.status)) c.deref-4.ensures.value in
-    rw (c.new-3.ensures.decoder, c.new-3.ensures.states, c.new-2.ensures) (record {
-      sound = refl;
-      index = refl;
-      known = c.in_ok-discovery.ensures.known;
-      unspent = c.in_ok-discovery.ensures.ok;
-      count = count;
-      readers = all;
-      shows = shows_first g.C.Catalog.decoding (record { catalog = c.args.catalog; config = c.args.config; index = 0; failed = false; discovery = c.in_ok-discovery.discovery; readers = states; statuses = c.in_ok-statuses.statuses.items }) count shown all;
-    })
+    rw (c.new-3.ensures.decoder, c.new-3.ensures.states, c.new-2.ensures) (stands_first g.C.Catalog.decoding
+    (record { catalog = c.args.catalog; config = c.args.config; index = 0; failed = false; discovery = c.in_ok-discovery.discovery; readers = states; statuses = c.in_ok-statuses.statuses.items })
+    refl refl c.in_ok-discovery.ensures.known c.in_ok-discovery.ensures.ok count shown start)
 
 pub invariant_of-result : goal.invariant_of-result
 invariant_of-result g c =
@@ -29,4 +21,4 @@ invariant_of-result g c =
     let count : length states ≡ length c.args.config.readers.items = search rules in
     let few : length c.args.config.readers.items ≤ 256 = c.in-Ok.ensures.readers in
     let shown : c.in_ok-statuses.statuses.items ≡ map (λ (s : ReaderView). s.status) states = c.in_ok-statuses.ensures ∙ ap (map (λ (s : ReaderView). s.status)) c.deref-4.ensures.value in
-    rw c.new-3.ensures.states (omega (arith, count, few), ap length shown ∙ length-map states (λ (s : ReaderView). s.status))
+    rw c.new-3.ensures.states (omega (arith, count, few), ap length shown ∙ length-map states (λ (s : ReaderView). s.status), omega arith)

@@ -1,6 +1,7 @@
-use Rattle.std.proofs.Common.{ℕ, ◌*◌, ◌≤◌, List, Bor, All, arith, length, subst, sym, drop, ap, length-drop}
+use Rattle.std.proofs.Common.{ℕ, ◌*◌, ◌≤◌, All, arith, length, subst, sym, drop, ap, length-drop}
 use Rattle.std.proofs.lemmas.List.{length-take}
 use Rattle.std.proofs.lemmas.List.Elements.{All-drop, All-take}
+use Rattle.rtps_types.specs.declared.datagram.Datagram.{Datagram}
 use Rattle.dds_participant.proofs.decode.fn.decoded_apart.map.Goals as goal
 
 pub decoded_alone-requires : goal.decoded_alone-requires
@@ -10,5 +11,5 @@ decoded_alone-requires c =
     let left = drop at all in
     record {
       room = omega (arith, c.requires.0, c.requires.1, ap length c.piece.ensures, length-take 64 left, length-drop at all);
-      fit = subst (All (λ (d : Bor (List ℕ)). length d.now ≤ 65507)) (sym c.piece.ensures) (All-take (λ (d : Bor (List ℕ)). length d.now ≤ 65507) 64 left (All-drop (λ (d : Bor (List ℕ)). length d.now ≤ 65507) at all c.requires.2));
+      fit = subst (All (λ (d : Datagram). length d.bytes.now ≤ 65507)) (sym c.piece.ensures) (All-take (λ (d : Datagram). length d.bytes.now ≤ 65507) 64 left (All-drop (λ (d : Datagram). length d.bytes.now ≤ 65507) at all c.requires.2));
     }

@@ -1,0 +1,76 @@
+use Rattle.std.proofs.Common.{◌≡◌, ◌∷◌, [], ◌∙◌, refl, ap, arith, length, map, subst, sym}
+use Rattle.rtps_run.specs.Outcome.{Adds}
+use Rattle.rtps_run.specs.Input.{Tick}
+use Rattle.rtps_run.specs.World.{World}
+use Rattle.dds_participant.specs.Kept.{ParticipantView}
+use Rattle.rtps_run.specs.Standing.{EngineView}
+use Rattle.dds_participant.specs.Ports.{NoneAttached}
+use Rattle.dds_participant.proofs.Finished.{handed_finish}
+use Rattle.rtps_run.proofs.Taking.{tick_counts}
+use Rattle.dds_participant.proofs.Unattached.{outcome_same}
+use Rattle.dds_participant.proofs.Taken.{adds_after, stands_after}
+use Rattle.dds_participant.proofs.Counting.{batch_counted}
+use Rattle.dds_participant.proofs.participant.Participant.tick.Goals as goal
+
+pub outcome_of-requires-clause-readers : goal.outcome_of-requires-clause-readers
+outcome_of-requires-clause-readers g c κs outlives =
+    let many = c.in_ok-given.ensures.outputs ∙ ap (λ (p : ParticipantView _ _). length p.engine.readers) c.in_ok-admit_tick.ensures.ok.1 in
+    let few = c.in_ok-admit_tick.ensures.few.0 in
+    omega (arith, many, few)
+
+pub end_batch-requires-clause-readers : goal.end_batch-requires-clause-readers
+end_batch-requires-clause-readers g c κs outlives =
+    let is = c.in_ok-admit_tick.ensures.ok.1 in
+    ap (λ (e : EngineView _). length e.readers) c.hand_lists.ensures.same.0
+    ∙ c.in_ok-given.ensures.count
+    ∙ ap (λ (p : ParticipantView _ _). length p.engine.readers) is
+    ∙ c.in_ok-admit_tick.ensures.few.1
+    ∙ sym (ap (λ (p : ParticipantView _ _). length p.engine.statuses) is)
+    ∙ sym (ap length c.pass.ensures.same.statuses)
+    ∙ sym (ap (λ (e : EngineView _). length e.statuses) c.hand_lists.ensures.same.0)
+
+pub hand_lists-requires-after_bounds : goal.hand_lists-requires-after_bounds
+hand_lists-requires-after_bounds g c κs outlives =
+    let is = c.in_ok-admit_tick.ensures.ok.1 in
+    c.in_ok-outcome.ensures.count
+    ∙ c.in_ok-given.ensures.outputs
+    ∙ ap (λ (p : ParticipantView _ _). length p.engine.readers) is
+    ∙ c.in_ok-admit_tick.ensures.few.1
+    ∙ sym (ap (λ (p : ParticipantView _ _). length p.engine.statuses) is)
+    ∙ sym (ap length c.pass.ensures.same.statuses)
+
+pub returns-clause-stands : goal.returns-clause-stands
+returns-clause-stands g c earlier kept =
+    let is = c.in_ok-admit_tick.ensures.ok.1 in
+    let batch = Tick c.args.moment ∷ [] in
+    let shown = c.in_ok-given.ensures.count
+    ∙ ap (λ (p : ParticipantView _ _). length p.engine.readers) is
+    ∙ c.in_ok-admit_tick.ensures.few.1
+    ∙ sym (ap (λ (p : ParticipantView _ _). length p.engine.statuses) is)
+    ∙ sym (ap length c.pass.ensures.same.statuses) in
+    stands_after g.C.Catalog.decoding earlier batch c.args.self.now c.admit_tick.new.self c.pass.new.self kept is c.end_batch.new.self 0 (tick_counts c.args.moment)
+    c.pass.ensures.same c.in_ok-given.ensures.keeps (handed_finish _ c.pass.new.self c.hand_lists.new.self c.end_batch.new.self c.hand_lists.ensures.same.0 c.hand_lists.ensures.same.1 c.end_batch.ensures.finished) shown
+
+pub returns-clause-adds : goal.returns-clause-adds
+returns-clause-adds g c earlier kept =
+    let is = c.in_ok-admit_tick.ensures.ok.1 in
+    let old : c.pass.new.self.ports ≡ c.args.self.now.ports = c.pass.ensures.ports ∙ ap (λ (p : ParticipantView _ _). p.ports) is in
+    let new : c.hand_lists.new.self.ports ≡ c.end_batch.new.self.ports = sym c.end_batch.ensures.ports in (
+      c.in_ok-outcome.outcome,
+      adds_after g.C.Catalog.decoding earlier (Tick c.args.moment ∷ []) c.args.self.now c.admit_tick.new.self c.pass.new.self kept is
+          (λ (before after : World g.C.Catalog.Meaning). Adds g.C.Catalog.view before after c.in_ok-outcome.outcome) (λ w kept. c.in_ok-outcome.ensures.adds w _ (c.in_ok-given.ensures.gives w kept)),
+      record { answers = refl; notices = rw (← old, ← new) c.in_ok-hand_lists.ensures.on },
+    )
+
+pub returns-clause-counts : goal.returns-clause-counts
+returns-clause-counts g c taken was =
+    batch_counted taken 0 c.args.self.now c.admit_tick.new.self c.pass.new.self c.end_batch.new.self was c.in_ok-admit_tick.ensures.ok.1 c.pass.ensures.same (handed_finish _ c.pass.new.self c.hand_lists.new.self c.end_batch.new.self c.hand_lists.ensures.same.0 c.hand_lists.ensures.same.1 c.end_batch.ensures.finished)
+
+pub returns-clause-alone : goal.returns-clause-alone
+returns-clause-alone g c earlier kept none =
+    let is = c.in_ok-admit_tick.ensures.ok.1 in
+    let old : c.pass.new.self.ports ≡ c.args.self.now.ports = c.pass.ensures.ports ∙ ap (λ (p : ParticipantView _ _). p.ports) is in
+    let same = c.hand_lists.ensures.alone (subst NoneAttached (sym old) none) in
+    outcome_same g.C.Catalog.view _ _ c.in_ok-outcome.outcome _ same.0 refl
+    (adds_after g.C.Catalog.decoding earlier (Tick c.args.moment ∷ []) c.args.self.now c.admit_tick.new.self c.pass.new.self kept is
+    (λ (before after : World g.C.Catalog.Meaning). Adds g.C.Catalog.view before after c.in_ok-outcome.outcome) (λ w kept. c.in_ok-outcome.ensures.adds w _ (c.in_ok-given.ensures.gives w kept)))
