@@ -67,9 +67,16 @@ def ended(guid):
     return parameters((0x0070, guid), (0x0071, bytes([0, 0, 0, 3])))
 
 
-def comes(letter, metatraffic=7412, default=7413):
-    """A participant announces itself, with a port of each kind, or none."""
+def duration(millis):
+    """A duration of whole milliseconds: its seconds, and the rest in units of 2^-32 seconds."""
+    return little(millis // 1000) + little((millis % 1000 << 32) // 1000)
+
+
+def comes(letter, metatraffic=7412, default=7413, lease=None):
+    """A participant announces itself, with a port of each kind, or none; with a lease in milliseconds, or that of 100 s that a
+    participant has which names none."""
     named = [(0x0050, peer(letter) + bytes.fromhex("000001c1")), (0x0058, little(0x3F))]
+    named += [] if lease is None else [(0x0002, duration(lease))]
     named += [(0x0032, locator(metatraffic))] if metatraffic else []
     named += [(0x0031, locator(default))] if default else []
     return data(peer(letter), SPDP_READER, SPDP_WRITER, 1, record(*named))
@@ -115,6 +122,11 @@ def matched(datagram, rank, letter, of_writer):
 
 def unmatched(datagram, rank, letter, of_writer):
     return f"{datagram}:1 reader {rank} unmatched {guid(letter, of_writer)}"
+
+
+def expired(datagram, rank, letter, of_writer):
+    """A match ends because the lease of its participant has run out, before a datagram of this number is read."""
+    return f"{datagram}:0 reader {rank} unmatched {guid(letter, of_writer)}"
 
 
 def sample(datagram, rank, letter, of_writer, number):

@@ -1,22 +1,25 @@
 #!/usr/bin/env python3
-"""Runs `replay` on one record file by many sizes of batches and numbers of workers: each gives the same text.
+"""Runs `replay` on two record files by many sizes of batches and numbers of workers: each gives the same text of a file.
 
-    cuts.py PROGRAM          a small file, by some of the cuts
-    cuts.py PROGRAM --all    20,000 datagrams, by all of them, whole and cut at 50 places
+    cuts.py PROGRAM          small files, by some of the cuts
+    cuts.py PROGRAM --all    20,000 datagrams each, by all of them, whole and cut at 50 places
 
-The file is made anew, from a fixed seed: the changes of several writers, some lost, some repeated or late, in one piece or in
-fragments, with their heartbeats and gaps; writers that are announced, withdrawn and announced again; participants that leave;
-datagrams that are cut, changed, or empty. One text per file has to come, with one status and one line on standard error, and
-it has to hold lines of each kind. The last line is 'N passed, M failed', counted by runs.
+The files are made anew, from a fixed seed: the changes of several writers, some lost, some repeated or late, in one piece or
+in fragments, with their heartbeats and gaps; writers that are announced, withdrawn and announced again; participants that
+leave; datagrams that are cut, changed, or empty. The second file has moments and ticks, and its participants have leases of
+some milliseconds, which run out at ticks, at datagrams, and several at once. One text per file has to come, with one status
+and one line on standard error, and it has to hold lines of each kind. The last line is 'N passed, M failed', counted by runs.
 """
 
 import itertools
 import os
 import random
+import re
 import subprocess
 import sys
 from concurrent.futures import ThreadPoolExecutor
 
+import files
 from announced import ALL, BEST_EFFORT, RELIABLE, comes, heartbeat, leaves, little, message, number_octets, offers, peer
 from announced import withdraws, writer
 
@@ -24,11 +27,17 @@ SEED = 20_261
 FIXED = (peer("a") + writer(1)).hex()
 WRITERS = (("a", 1, RELIABLE), ("c", 1, RELIABLE), ("c", 2, BEST_EFFORT), ("d", 1, RELIABLE))
 """Of which the first is matched from the start, and the third can't be by readers that ask again."""
+MORE_WRITERS = (*WRITERS, ("c", 3, RELIABLE), ("d", 2, RELIABLE))
+LEASES = {"a": 30, "c": 12, "d": 8}
+"""In milliseconds."""
 COLOURS = (b"BLUE", b"RED", b"GREEN", b"ORANGE")
-KINDS = ("sample", "unread", "lost", "matched", "unmatched", "incompatible", "answer")
+LINES = {kind: f" {kind} " for kind in ("sample", "unread", "lost", "matched", "unmatched", "incompatible", "answer")}
+LINES_WITH_MOMENTS = {**LINES, "unmatched by a lease": r"(?m)^[0-9]+:0 reader [0-7] unmatched "}
+"""The kinds of lines that the text of a file has to hold, and how each is found."""
 SECONDS = 120
-SOME = (1_200, (1, 2, 3, 255, 4096), (1, 2, 7), 6)
-MOST = (20_000, (1, 2, 3, 255, 256, 1000, 4096), (1, 2, 3, 4, 7, 64), 50)
+SOME = (1_200, (1, 2, 3, 255, 4096), (1, 2, 7), 6, 1)
+MOST = (20_000, (1, 2, 3, 255, 256, 1000, 4096), (1, 2, 3, 4, 7, 64), 50, 50)
+"""Datagrams of a file, sizes of batches, numbers of workers, and the lengths by which each of the two files is run."""
 
 
 def shape(chance):
@@ -101,10 +110,10 @@ def spoiled(datagram, chance):
 
 
 class Announcements:
-    """Participants that announce themselves and their writers by records of rising numbers."""
+    """A participant that announces itself, with its lease if it has one, and its writers by records of rising numbers."""
 
-    def __init__(self):
-        self.number = 0
+    def __init__(self, letter, lease=None):
+        self.letter, self.lease, self.number = letter, lease, 0
 
     def offers(self, each):
         self.number += 1
@@ -115,35 +124,56 @@ class Announcements:
         return withdraws(each.letter, self.number, each.number)
 
     def start(self, writers):
-        yield from (comes(letter) for letter in sorted({each.letter for each in writers}))
-        yield from (self.offers(each) for each in writers)
+        """It and its writers come, by records of numbers from 1 on."""
+        self.number = 0
+        yield comes(self.letter, lease=self.lease)
+        yield from (self.offers(each) for each in writers if each.letter == self.letter)
 
 
-def datagrams(count):
-    """So many datagrams, of this seed the same each time."""
+def datagrams(count, named=WRITERS, leases=None):
+    """The first `count` datagrams, of this seed the same each time. A participant with a lease announces itself anew now and
+    then, mostly with its writers."""
     chance = random.Random(SEED)
-    writers = [Writer(*each) for each in WRITERS]
-    records = {letter: Announcements() for letter in "acd"}
-    for letter, announcements in records.items():
-        yield from announcements.start([each for each in writers if each.letter == letter])
+    writers = [Writer(*each) for each in named]
+    records = {letter: Announcements(letter, leases and leases[letter]) for letter in "acd"}
+    again = 0.08 if leases else 0
+    for announcements in records.values():
+        yield from announcements.start(writers)
     given = 0
     while given < count:
         each = chance.choice(writers)
+        announcements = records[each.letter]
         kind = chance.random()
         if kind < 0.006:
-            new = [records[each.letter].withdraws(each)]
+            new = [announcements.withdraws(each)]
         elif kind < 0.026:
-            new = [records[each.letter].offers(each)]
+            new = [announcements.offers(each)]
         elif kind < 0.03:
-            new = [leaves(each.letter), comes(each.letter)]
-            records[each.letter] = Announcements()
-            new += [records[each.letter].offers(other) for other in writers if other.letter == each.letter]
+            new = [leaves(each.letter), *announcements.start(writers)]
+        elif kind < 0.03 + again:
+            new = list(announcements.start(writers))[:None if chance.random() < 0.7 else 1]
         else:
             new = each.datagrams(chance)
             new = [joined(new)] if len(new) > 1 and chance.random() < 0.5 else new
             new = [spoiled(datagram, chance) if chance.random() < 0.02 else datagram for datagram in new]
         yield from new
         given += len(new)
+
+
+def moments(count):
+    """Datagrams with their moments, and ticks: a millisecond passes now and then, and many where nobody sends for a while.
+    Some datagrams have an earlier moment than those before."""
+    chance = random.Random(SEED)
+    moment = 0
+    for datagram in datagrams(count, MORE_WRITERS, LEASES):
+        kind = chance.random()
+        if kind < 0.01:
+            moment += chance.randrange(10, 40)
+        elif kind < 0.25:
+            moment += 1
+        for _ in range(chance.choice((0,) * 20 + (1, 1, 2))):
+            yield moment, None
+        yield (max(0, moment - 20) if chance.random() < 0.02 else moment), datagram
 
 
 def run(program, data, batch, workers, summary):
@@ -167,14 +197,25 @@ def fault_of(got, wanted):
     return None
 
 
+def cut(whole, lengths):
+    """A file, and the same file cut at places, in all of `lengths` lengths."""
+    return [whole] + [whole[:len(whole) * at // lengths + at % 7] for at in range(1, lengths)]
+
+
+def missing_in(result, lines):
+    """The kinds of lines that the text of a run doesn't hold."""
+    text = result[1].decode() if result else ""
+    return [kind for kind, form in lines.items() if not re.search(form, text)]
+
+
 def main():
     if len(sys.argv) < 2 or sys.argv[2:] not in ([], ["--all"]) or not os.path.isfile(sys.argv[1]):
         print(__doc__, file=sys.stderr)
         return 2
-    program, (count, batches, workers, places) = os.path.abspath(sys.argv[1]), MOST if sys.argv[2:] else SOME
-    whole = b"RDG1" + b"".join(len(each).to_bytes(4, "big") + each for each in datagrams(count))
-    files = [whole] + [whole[:len(whole) * at // places + at % 7] for at in range(1, places)]
-    asked = [(data, summary) for data in files for summary in (False, True)]
+    program, (count, batches, workers, *lengths) = os.path.abspath(sys.argv[1]), MOST if sys.argv[2:] else SOME
+    wholes = (files.of_datagrams(datagrams(count)), files.of_moments(moments(count)))
+    given = [data for whole, each in zip(wholes, lengths) for data in cut(whole, each)]
+    asked = [(data, summary) for data in given for summary in (False, True)]
     with ThreadPoolExecutor(os.cpu_count()) as pool:
         wanted = list(pool.map(lambda each: run(program, each[0], 1, 1, each[1]), asked))
         runs = list(itertools.product(zip(asked, wanted), batches, workers))
@@ -184,13 +225,15 @@ def main():
         fault = fault_of(got.pop(0), first)
         failed += fault is not None
         if fault:
-            print(f"{len(data)} octets, --batch {batch} --workers {worker}{' --summary' if summary else ''}: {fault}")
-    text = wanted[1][1].decode() if wanted[1] else ""
-    missing = [kind for kind in KINDS if f" {kind} " not in text]
-    if missing or not all(wanted):
-        print(f"the text has no line of these: {', '.join(missing)}")
-        failed += 1
-    print(f"{len(runs) + 1 - failed} passed, {failed} failed")
+            cuts = f"--batch {batch} --workers {worker}{' --summary' if summary else ''}"
+            print(f"{data[:4].decode()}, {len(data)} octets, {cuts}: {fault}")
+    for whole, lines in zip(wholes, (LINES, LINES_WITH_MOMENTS)):
+        missing = missing_in(wanted[asked.index((whole, True))], lines)
+        failed += bool(missing)
+        if missing:
+            print(f"{whole[:4].decode()}: the text has no line of these: {', '.join(missing)}")
+    failed += sum(not each for each in wanted)
+    print(f"{len(runs) + len(wholes) - failed} passed, {failed} failed")
     return 1 if failed else 0
 
 

@@ -35,6 +35,8 @@ PUBLISHED = (
     + "1a000c00" + "020000000000000000000000" + "01000000"
 )
 """The peer announces its writer, which is reliable (DDSI-RTPS 8.5.4)."""
+LEASE = "02000800" + "6400000000000000", "02000800" + "00000000cccccc4c"
+"""The lease that it has, of 100 s, and one of 300 ms: 4ccccccc in units of 2^-32 seconds."""
 BEATS = "07011c00" + "000003c7000003c2" + "0000000001000000" + "0000000001000000" + "01000000"
 """Its announcer of writers says that it has number 1."""
 ASKED = (
@@ -204,6 +206,18 @@ def prints_at_once(program):
         running.ends(sample_line(1, 2))
 
 
+def forgets_who_is_silent(program):
+    """A peer with a lease of 300 ms announces itself and its writer, and is silent: within twenty turns the match has ended,
+    and its line can be read before the program ends."""
+    with peer() as own, Running(program, "--count", "2", "--turns", "20", "--summary") as running:
+        wait_until_bound()
+        own.sendto(bytes.fromhex(HEADER + ANNOUNCED.replace(*LEASE) + PUBLISHED), (HOST, DISCOVERY))
+        for line in (f"0:2 reader 0 matched {WRITER}\n", f"1:0 reader 0 unmatched {WRITER}\n"):
+            look("the next line", running.process.stdout.readline().decode(), line)
+        look("its status so far", running.process.poll(), None)
+        running.ends("status 0 1 0 0 - 0 0\n")
+
+
 def ends_after_its_turns(program):
     """Where nothing comes it ends all the same, after turns of a tenth of a second."""
     begun = time.monotonic()
@@ -230,6 +244,7 @@ RUNS = (
     hears_announcements_first,
     prints_what_comes_in_order,
     prints_at_once,
+    forgets_who_is_silent,
     ends_after_its_turns,
     says_that_a_port_is_taken,
     refuses_bad_options_first,

@@ -5,12 +5,14 @@
 
 A row is a folder GROUP/NAME: `args` has the words, one a line, as octets; `input.hex` what is on standard input, in hex,
 where `#` begins a comment; `stdout`, `stderr` and `status` what the run has to give. The word `{file}` is the name of a
-file that holds what is in `file.hex`. A row with too much for that has `long.py` in place of `input.hex` and `stdout`: its
-`records` and `lines` give the datagrams and the lines one by one. Where a row has the file `memory`, a run may take so many
-MiB of address space; it has one worker, since each thread takes some of its own. Where it has the file `output`, standard
-output is the file named there, or is closed where none is. Where the status is 2 and the row has no `stderr`, the text of standard error is the command line's own and free. A row of `replay` or `samples` is run with every
-batch size and worker count below, which change nothing. A row that fails names itself and shows the first difference. The
-last line is 'N passed, M failed', counted by runs.
+file that holds what is in `file.hex`. A row that is longer, or that a script says more clearly, has `long.py` in place of
+`input.hex` and `stdout`: its `records` and `lines` give the datagrams and the lines one by one; where it has `moments` in
+place of `records`, they give the moments of a file with moments, each with its datagram, or with None for a tick. Where a
+row has the file `memory`, a run may take the MiB of address space that it names; it has one worker, since each thread takes
+some of its own. Where it has the file `output`, standard output is the file named there, or is closed where none is. Where
+the status is 2 and the row has no `stderr`, the text of standard error is the command line's own and free. A row of `replay`
+or `samples` is run with every batch size and worker count below, which change nothing. A row that fails names itself and
+shows the first difference. The last line is 'N passed, M failed', counted by runs.
 """
 
 import itertools
@@ -21,6 +23,8 @@ import sys
 import tempfile
 from concurrent.futures import ThreadPoolExecutor
 from pathlib import Path
+
+import files
 
 HERE = Path(__file__).resolve().parent
 BATCHES = (None, "1", "2", "4096")
@@ -42,8 +46,8 @@ def given(row):
     if not (row / "long.py").exists():
         return octets(row / "input.hex"), content(row / "stdout")
     long = runpy.run_path(str(row / "long.py"))
-    framed = (len(datagram).to_bytes(4, "big") + datagram for datagram in long["records"]())
-    return b"RDG1" + b"".join(framed), "".join(line + "\n" for line in long["lines"]()).encode()
+    data = files.of_moments(long["moments"]()) if "moments" in long else files.of_datagrams(long["records"]())
+    return data, "".join(line + "\n" for line in long["lines"]()).encode()
 
 
 def limited(command, row):

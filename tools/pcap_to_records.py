@@ -1,12 +1,15 @@
 #!/usr/bin/env python3
 """Takes the RTPS datagrams out of a network capture, and writes them as a record file for dump and replay.
 
-    tools/pcap_to_records.py [--to ADDRESS]... [--port PORT]... CAPTURE RECORDS
+    tools/pcap_to_records.py [--moments] [--to ADDRESS]... [--port PORT]... CAPTURE RECORDS
 
 CAPTURE is a pcap or pcapng file as tcpdump and Wireshark write them, RECORDS the file to write; '-' is standard input and
 standard output. Written are the UDP datagrams that begin with RTPS, in the order of the capture; with --to only those to
 one of these IPv4 addresses, with --port only those to one of these ports. A datagram that came in IP fragments is put
 together, and takes the place of the fragment that completes it.
+
+With --moments the records have moments (RDG2): the whole milliseconds since the first packet of the capture, and 0 for a
+packet of an earlier time. A packet without a time has the moment of the packet before.
 
 Frames may be Ethernet (with VLAN tags), BSD loopback, Linux cooked (both versions) or raw IPv4. What was left out, and
 why, is counted on standard error. The status is 0; 2 for a bad line; 3 where the capture can't be read to its end: what
@@ -18,9 +21,11 @@ import ipaddress
 import struct
 import sys
 from collections import Counter
+from typing import NamedTuple, Optional, Tuple
 
-RECORDS_MAGIC = b"RDG1"
+RECORDS_MAGIC, RECORDS_WITH_MOMENTS_MAGIC = b"RDG1", b"RDG2"
 LONGEST = 65_507
+GREATEST_MOMENT = (1 << 64) - 1
 
 # Link types, by the registry of tcpdump.
 LOOPBACK, ETHERNET, RAW, RAW_BSD, LOOPBACK_OPENBSD, COOKED, IPV4, COOKED_2 = 0, 1, 101, 12, 108, 113, 228, 276
@@ -29,12 +34,14 @@ VLAN_TAGS = (0x8100, 0x88A8, 0x9100)
 UDP = 17
 
 PCAP = {
-    b"\xa1\xb2\xc3\xd4": ">", b"\xd4\xc3\xb2\xa1": "<",  # times in microseconds
-    b"\xa1\xb2\x3c\x4d": ">", b"\x4d\x3c\xb2\xa1": "<",  # times in nanoseconds
+    b"\xa1\xb2\xc3\xd4": (">", 10**6), b"\xd4\xc3\xb2\xa1": ("<", 10**6),  # times in microseconds
+    b"\xa1\xb2\x3c\x4d": (">", 10**9), b"\x4d\x3c\xb2\xa1": ("<", 10**9),  # times in nanoseconds
 }
 SECTION, INTERFACE, PACKET, SIMPLE_PACKET = 0x0A0D0D0A, 1, 6, 3
 BYTE_ORDERS = {b"\x1a\x2b\x3c\x4d": ">", b"\x4d\x3c\x2b\x1a": "<"}
 LARGEST_BLOCK = 1 << 28
+TIME_RESOLUTION, TIME_OFFSET = 9, 14
+"""Options of an interface."""
 
 
 class Fault(Exception):
@@ -57,35 +64,58 @@ def octets_of(stream, count, where):
     return read
 
 
-# ---- the frames of a capture: (link type, the octets that were captured, how many there were)
+# ---- the frames of a capture
+
+class Frame(NamedTuple):
+    link: int
+    octets: bytes
+    """Those that were captured."""
+    length: int
+    """How many octets there were."""
+    time: Optional[Tuple[int, int]]
+    """A number of units and how many of them a second has, where the capture has a time."""
+
+
+class Interface(NamedTuple):
+    """An interface of a pcapng file: its link type, how many octets of a frame are captured (0 for all), how many units of
+    time a second has, and the seconds that are added to each time."""
+    link: int
+    limit: int
+    units: int
+    offset: int
+
+    def frame(self, octets, length, time=None):
+        """A frame, with its time in units where there is one."""
+        return Frame(self.link, octets, length, None if time is None else (time + self.offset * self.units, self.units))
+
 
 def frames_in(stream):
     """The frames of a pcap or pcapng file."""
     magic = stream.read(4)
     if magic in PCAP:
-        return pcap_frames(stream, PCAP[magic])
+        return pcap_frames(stream, *PCAP[magic])
     if magic == SECTION.to_bytes(4, "big"):
         return pcapng_frames(stream)
     raise Fault("neither pcap nor pcapng")
 
 
-def pcap_frames(stream, order):
+def pcap_frames(stream, order, units):
     link = struct.unpack(order + "I", octets_of(stream, 20, "in the header")[16:])[0] & 0xFFFF
     number = 0
     while header := stream.read(16):
         where = f"in frame {number}"
         if len(header) < 16:
             raise Fault(f"cut {where}")
-        captured, length = struct.unpack(order + "II", header[8:])
+        seconds, fraction, captured, length = struct.unpack(order + "IIII", header)
         if captured > LARGEST_BLOCK:
             raise Fault(f"{captured} octets {where}")
-        yield link, octets_of(stream, captured, where), length
+        yield Frame(link, octets_of(stream, captured, where), length, (seconds * units + fraction, units))
         number += 1
 
 
 def pcapng_frames(stream):
     """The frames of a pcapng file, of which the type of the first block was read."""
-    kind, order, links, block = SECTION.to_bytes(4, "big"), None, [], 0
+    kind, order, interfaces, block = SECTION.to_bytes(4, "big"), None, [], 0
     while kind:
         where = f"in block {block}"
         if len(kind) < 4:
@@ -94,7 +124,7 @@ def pcapng_frames(stream):
         begun = b""
         if kind == SECTION.to_bytes(4, "big"):
             begun = octets_of(stream, 4, where)
-            order, links = BYTE_ORDERS.get(begun), []
+            order, interfaces = BYTE_ORDERS.get(begun), []
             if order is None:
                 raise Fault(f"no byte order {where}")
         length = struct.unpack(order + "I", head)[0]
@@ -103,33 +133,70 @@ def pcapng_frames(stream):
         rest = octets_of(stream, length - 8 - len(begun), where)
         if rest[-4:] != head:
             raise Fault(f"two lengths {where}")
-        yield from block_frames(struct.unpack(order + "I", kind)[0], order, rest[:-4], links, where)
+        yield from block_frames(struct.unpack(order + "I", kind)[0], order, rest[:-4], interfaces, where)
         kind = stream.read(4)
         block += 1
 
 
-def block_frames(kind, order, body, links, where):
-    """The frames of a pcapng block, none or one; an interface is added to the link types."""
+def block_frames(kind, order, body, interfaces, where):
+    """The frames of a pcapng block, none or one; an interface is added to the others."""
     if kind == INTERFACE:
         if len(body) < 8:
             raise Fault(f"no link type {where}")
-        links.append(struct.unpack(order + "HHI", body[:8])[::2])
+        interfaces.append(interface_in(order, body))
     elif kind == PACKET:
         if len(body) < 20:
             raise Fault(f"no packet {where}")
-        interface, _, _, captured, length = struct.unpack(order + "IIIII", body[:20])
-        if interface >= len(links) or captured > len(body) - 20:
+        number, high, low, captured, length = struct.unpack(order + "IIIII", body[:20])
+        if number >= len(interfaces) or captured > len(body) - 20:
             raise Fault(f"a packet that can't be {where}")
-        yield links[interface][0], body[20:20 + captured], length
+        yield interfaces[number].frame(body[20:20 + captured], length, high << 32 | low)
     elif kind == SIMPLE_PACKET:
-        if len(body) < 4 or not links:
+        if len(body) < 4 or not interfaces:
             raise Fault(f"a packet that can't be {where}")
         length = struct.unpack(order + "I", body[:4])[0]
-        link, limit = links[0]
-        captured = min(length, limit or length)
+        captured = min(length, interfaces[0].limit or length)
         if captured > len(body) - 4:
             raise Fault(f"a packet that can't be {where}")
-        yield link, body[4:4 + captured], length
+        yield interfaces[0].frame(body[4:4 + captured], length)
+
+
+def interface_in(order, body):
+    """The interface that a block describes. Its times are in microseconds where it has no option for them."""
+    link, _, limit = struct.unpack(order + "HHI", body[:8])
+    options = options_in(order, body[8:])
+    resolution = (options.get(TIME_RESOLUTION) or b"\x06")[0]
+    units = 2 ** (resolution & 0x7F) if resolution & 0x80 else 10**resolution
+    offset = options.get(TIME_OFFSET, b"")
+    return Interface(link, limit, units, struct.unpack(order + "q", offset)[0] if len(offset) == 8 else 0)
+
+
+def options_in(order, octets):
+    """The options of a block, up to one that is cut."""
+    options, at = {}, 0
+    while at + 4 <= len(octets):
+        code, length = struct.unpack(order + "HH", octets[at:at + 4])
+        if code == 0 or length > len(octets) - at - 4:
+            break
+        options[code] = octets[at + 4:at + 4 + length]
+        at += 4 + length + -length % 4
+    return options
+
+
+class Moments:
+    """The moments of a capture's packets: the whole milliseconds since the first one that has a time."""
+
+    def __init__(self):
+        self.first, self.last = None, 0
+
+    def next(self, time):
+        """The moment of the next packet. One without a time has the moment of the packet before."""
+        if time:
+            count, units = time
+            first, first_units = self.first = self.first or time
+            passed = (count * first_units - first * units) * 1000 // (units * first_units)
+            self.last = min(max(passed, 0), GREATEST_MOMENT)
+        return self.last
 
 
 # ---- from a frame to its IPv4 packet
@@ -239,29 +306,31 @@ class Choice:
 
 
 def datagrams_in(frames, choice, left_out):
-    """The datagrams of frames that are wanted; what else there is is counted by its cause."""
-    packets = Packets()
-    for link, frame, length in frames:
+    """The datagrams of frames that are wanted, with their moments; what else there is is counted by its cause."""
+    packets, moments = Packets(), Moments()
+    for frame in frames:
+        moment = moments.next(frame.time)
         try:
-            if len(frame) < length:
+            if len(frame.octets) < frame.length:
                 raise LeftOut("cut by the capture")
-            to, octets = packets.take(packet_in(link, frame))
+            to, octets = packets.take(packet_in(frame.link, frame.octets))
             port, datagram = datagram_in(octets)
             choice.judge(to, port, datagram)
-            yield datagram
+            yield moment, datagram
         except LeftOut as cause:
             left_out[str(cause)] += 1
         except Awaited:
             continue
 
 
-def convert(stream, out, choice, log):
+def convert(stream, out, choice, log, with_moments=False):
     """Writes a record for each datagram of a capture that is wanted, and returns the status."""
     written, left_out, fault = 0, Counter(), None
-    out.write(RECORDS_MAGIC)
+    out.write(RECORDS_WITH_MOMENTS_MAGIC if with_moments else RECORDS_MAGIC)
     try:
-        for datagram in datagrams_in(frames_in(stream), choice, left_out):
-            out.write(len(datagram).to_bytes(4, "big") + datagram)
+        for moment, datagram in datagrams_in(frames_in(stream), choice, left_out):
+            stamp = moment.to_bytes(8, "big") if with_moments else b""
+            out.write(len(datagram).to_bytes(4, "big") + stamp + datagram)
             written += 1
     except Fault as cause:
         fault = cause
@@ -284,6 +353,7 @@ def main(words):
         prog="pcap_to_records.py", description=about, epilog=more.partition("\n\n")[2],
         formatter_class=argparse.RawDescriptionHelpFormatter,
     )
+    parser.add_argument("--moments", action="store_true", help="write the moment of each datagram too")
     parser.add_argument("--to", type=address, action="append", default=[], metavar="ADDRESS",
                         help="only datagrams to this IPv4 address; may be given several times")
     parser.add_argument("--port", type=int, action="append", default=[], metavar="PORT",
@@ -293,7 +363,7 @@ def main(words):
     line = parser.parse_args(words)
     try:
         with opened(line.capture, "rb", sys.stdin) as stream, opened(line.records, "wb", sys.stdout) as out:
-            return convert(stream, out, Choice(line.to, line.port), sys.stderr)
+            return convert(stream, out, Choice(line.to, line.port), sys.stderr, line.moments)
     except OSError as fault:
         print(f"pcap_to_records: {fault.filename or line.capture}: {fault.strerror or fault}", file=sys.stderr)
         return 3

@@ -40,9 +40,11 @@ def fragments(datagram, size, **how):
         yield ipv4(octets[at:at + size], place=more | at // 8, **how)
 
 
-def pcap(frames, link=1, order="<", magic=0xA1B2C3D4):
+def pcap(frames, link=1, order="<", magic=0xA1B2C3D4, times=()):
+    """A pcap file, whose frames have these times, in seconds and a fraction, or else all the same one."""
     head = struct.pack(order + "IHHiIII", magic, 2, 4, 0, 0, 65_535, link)
-    return head + b"".join(struct.pack(order + "IIII", 7, 8, len(f), len(f)) + f for f in frames)
+    each = zip(frames, times or [(7, 8)] * len(frames))
+    return head + b"".join(struct.pack(order + "IIII", *time, len(f), len(f)) + f for f, time in each)
 
 
 def block(kind, body, order="<"):
@@ -55,12 +57,17 @@ def section(order="<"):
     return block(0x0A0D0D0A, struct.pack(order + "IHHq", 0x1A2B3C4D, 1, 0, -1), order)
 
 
-def interface(link=1, order="<", limit=0):
-    return block(1, struct.pack(order + "HHI", link, 0, limit), order)
+def interface(link=1, order="<", limit=0, options=b""):
+    return block(1, struct.pack(order + "HHI", link, 0, limit) + options, order)
 
 
-def packet(frame, number=0, order="<"):
-    return block(6, struct.pack(order + "IIIII", number, 0, 0, len(frame), len(frame)) + frame, order)
+def option(code, value, order="<"):
+    return struct.pack(order + "HH", code, len(value)) + value + bytes(-len(value) % 4)
+
+
+def packet(frame, number=0, order="<", time=0):
+    head = struct.pack(order + "IIIII", number, time >> 32, time & 0xFFFFFFFF, len(frame), len(frame))
+    return block(6, head + frame, order)
 
 
 def simple_packet(frame, order="<"):
@@ -71,10 +78,10 @@ def records(*datagrams):
     return b"RDG1" + b"".join(len(d).to_bytes(4, "big") + d for d in datagrams)
 
 
-def run(capture, **choice):
+def run(capture, with_moments=False, **choice):
     """What is written of a capture, the status and the lines of the log."""
     out, log = io.BytesIO(), io.StringIO()
-    status = convert(io.BytesIO(capture), out, Choice(**choice), log)
+    status = convert(io.BytesIO(capture), out, Choice(**choice), log, with_moments)
     return out.getvalue(), status, log.getvalue()
 
 
@@ -153,6 +160,63 @@ class Reads(unittest.TestCase):
         self.reads(pcap([parts[0], parts[2]], 101))
 
 
+class Moments(unittest.TestCase):
+    FRAME = ethernet(ipv4(udp(HELLO)))
+
+    def reads(self, capture, *moments, datagram=HELLO):
+        """A capture gives the same datagram at each of these moments."""
+        written, status, log = run(capture, with_moments=True)
+        stamps = b"".join(len(datagram).to_bytes(4, "big") + m.to_bytes(8, "big") + datagram for m in moments)
+        self.assertEqual((written, status), (b"RDG2" + stamps, 0), log)
+
+    def test_a_pcap_file_in_either_byte_order_and_resolution(self):
+        micro = [(10, 999_999), (11, 998), (11, 999), (10, 0), (12, 999_998), (2**32 - 1, 0)]
+        nano = [(10, 999_999_999), (11, 999_998), (11, 999_999), (10, 0), (12, 999_999_998), (2**32 - 1, 0)]
+        for order in "<>":
+            for magic, times in ((0xA1B2C3D4, micro), (0xA1B23C4D, nano)):
+                capture = pcap([self.FRAME] * 6, order=order, magic=magic, times=times)
+                self.reads(capture, 0, 0, 1, 0, 1_999, 4_294_967_284_000)
+
+    def test_a_pcapng_file_by_the_resolution_of_each_interface(self):
+        for order in "<>":
+            # microseconds, where no option says otherwise; nanoseconds; 1024 units a second; seconds, of which 7 are added
+            options = (b"", option(9, b"\x09", order), option(2, b"eth", order) + option(9, b"\x8a", order) + bytes(4),
+                       option(9, b"\x00", order) + option(14, struct.pack(order + "q", 7), order))
+            times = ((0, 20_000_999), (1, 20_001_999_999), (2, 20_483), (3, 13), (3, 14), (0, 20_000_000), (0, 20_001_999))
+            capture = section(order) + b"".join(interface(1, order, options=each) for each in options)
+            capture += b"".join(packet(self.FRAME, at, order, time) for at, time in times)
+            self.reads(capture, 0, 1, 1, 0, 999, 0, 1)
+
+    def test_a_packet_without_a_time_has_the_moment_of_the_one_before(self):
+        timed = [packet(self.FRAME, time=time) for time in (5_000, 12_000, 3_000)]
+        simple = simple_packet(self.FRAME)
+        capture = section() + interface() + simple + b"".join(each + simple for each in timed)
+        self.reads(capture, 0, 0, 0, 7, 7, 0, 0)
+
+    def test_moments_count_from_the_first_packet_of_any_kind(self):
+        frames = [b"short", ethernet(ipv4(udp(b"RTP"))), self.FRAME]
+        self.reads(pcap(frames, times=[(1, 0), (2, 0), (3, 500_000)]), 2_500)
+
+    def test_the_fragment_that_completes_a_datagram_gives_its_moment(self):
+        long = b"RTPS" + bytes(range(100))
+        parts = [ethernet(f) for f in fragments(long, 48)]
+        capture = pcap([parts[2], parts[0], self.FRAME, parts[1]], times=[(1, 0), (2, 0), (9, 0), (3, 0)])
+        written, _, _ = run(capture, with_moments=True)
+        stamped = ((8_000, HELLO), (2_000, long))
+        self.assertEqual(written, b"RDG2" + b"".join(struct.pack(">IQ", len(d), m) + d for m, d in stamped))
+
+    def test_the_greatest_moment(self):
+        seconds = section() + interface(options=option(9, b"\x00"))
+        greatest = (2**64 - 1) // 1_000
+        times = (0, greatest, greatest + 1, 2**64 - 1)
+        capture = seconds + b"".join(packet(self.FRAME, time=time) for time in times)
+        self.reads(capture, 0, greatest * 1_000, 2**64 - 1, 2**64 - 1)
+
+    def test_options_that_are_cut(self):
+        for cut in (b"\x09\0\x05\0\x09\0\0\0", b"\x09\0\0\0", b"\0\0\0\0" + option(9, b"\x09")):
+            self.reads(section() + interface(options=cut) + packet(self.FRAME) + packet(self.FRAME, time=3_000), 0, 3)
+
+
 class Faults(unittest.TestCase):
     def test_a_pcap_file_cut_at_each_octet(self):
         frames = [ethernet(ipv4(udp(HELLO))), ethernet(ipv4(udp(OTHER)))]
@@ -189,6 +253,8 @@ class Faults(unittest.TestCase):
             given.write_bytes(pcap([ethernet(ipv4(udp(HELLO)))]))
             self.assertEqual(pcap_to_records.main([str(given), str(made), "--port", "7400"]), 0)
             self.assertEqual(made.read_bytes(), records(HELLO))
+            self.assertEqual(pcap_to_records.main([str(given), str(made), "--moments"]), 0)
+            self.assertEqual(made.read_bytes(), b"RDG2" + struct.pack(">IQ", len(HELLO), 0) + HELLO)
             self.assertEqual(pcap_to_records.main([str(Path(folder, "none")), str(made)]), 3)
 
 

@@ -115,7 +115,8 @@ impl<C: Catalog> Participant<C> {
     /// until the tick is finished.
     #[tactic(auto, unfolding(crate::specs::Kept::RefusesTick))]
     fn admit_tick(&mut self) -> Result<(), EngineError>
-        ensures ok { OnOk result ((self.old.engine.failed ≡ false) × (self.new ≡ failing self.old)) }
+        ensures ok { OnOk result
+            ((self.old.engine.failed ≡ false) × (self.new ≡ failing self.old)) }
         ensures few { OnOk result ((length self.old.engine.readers ≤ 256)
             × (length self.old.engine.readers ≡ length self.old.engine.statuses)) }
         ensures err { IfErr result (λ e. RefusesTick e self.old) }

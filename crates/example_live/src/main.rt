@@ -37,14 +37,16 @@ const LOOKS: u32 = 3_000;
 fn main(rt: HostRuntime) -> Result<()> {
     // A board with the status of one reader, for one thread that looks at it.
     let mut board = StatusBoard::new(&rt, rt.alloc(), 1, 1)?;
-    let outcome = run(&rt, rt.alloc(), &mut board);
+    let outcome = run(&rt, &rt, rt.alloc(), &mut board);
     board.end(&rt);
     outcome
 }
 
-/// Runs the threads until the application has all samples, and prints the last status.
+/// Runs the threads until the application has all samples, and prints the last status. The host has
+/// the sockets of the receiver, and its clock.
 fn run<R: Threads + Wait + Net + Clock + Print + Sync>(
     rt: &R,
+    host: &HostRuntime,
     alloc: Global,
     board: &mut StatusBoard,
 ) -> Result<()> {
@@ -53,7 +55,7 @@ fn run<R: Threads + Wait + Net + Clock + Print + Sync>(
     };
     let (outlet, mut inlet) = outlet(alloc, 64)?;
     let peer = Peer::bind(rt)?;
-    let mut receiver = Receiver::bind(rt, alloc, outlet, peer.locator()?)?;
+    let mut receiver = Receiver::bind(host, alloc, outlet, peer.locator()?)?;
     let done = AtomicBool::new(false);
 
     let receive = || receiver.run(rt, alloc, board, &done);

@@ -19,23 +19,24 @@ use std::net::Net;
 use std::sync::Wait;
 use std::sync::atomic::{AtomicBool, Ordering};
 use std::thread::Threads;
+use std::time::Clock;
 
 /// The sockets of a participant, and its one reader, of the topic `Square`.
 #[derive(Drop)]
-pub struct Receiver {
-    network: Sockets,
+pub struct Receiver<'a, K> {
+    network: Sockets<'a, K>,
     participant: Participant<Shapes>,
 }
 
-impl Receiver {
+impl<'a, K: Net + Clock> Receiver<'a, K> {
     /// Returns a receiver whose reader has a fixed match with the peer's writer, sends its answers
-    /// to the peer's locator, and reports to an outlet.
+    /// to the peer's locator, and reports to an outlet. The host has the sockets and the clock.
     pub fn bind(
-        net: &impl Net,
+        host: &'a K,
         alloc: Global,
         outlet: Outlet<Shape>,
         peer: Locator,
-    ) -> Result<Receiver> {
+    ) -> Result<Receiver<'a, K>> {
         let mut config = Config::new(alloc, GuidPrefix([0x0b; 12]));
         let reader = ReaderConfig::new(alloc, EntityId([0, 0, 1, 7]), "Square", "ShapeType")?;
         config.add_reader(reader.reliable())?;
@@ -44,7 +45,7 @@ impl Receiver {
         if let Err((_outlet, fault)) = participant.attach(SQUARES, outlet) {
             bail!("the outlet isn't attached: {fault:?}");
         }
-        let network = Sockets::bind(net, alloc, DOMAIN)?;
+        let network = Sockets::bind(host, host, alloc, DOMAIN)?;
         Ok(Receiver {
             network,
             participant,
@@ -70,6 +71,7 @@ impl Receiver {
             gate: &NoGate,
         };
         let mut end = ReceiveEnd::Drained;
+        let mut moment = 0;
         for _ in rt.forever() {
             if done.load(Ordering::SeqCst) {
                 break;
@@ -77,8 +79,9 @@ impl Receiver {
             // After a full batch more datagrams may be there already, so it doesn't wait then.
             if end != ReceiveEnd::More {
                 self.network.wait()?;
+                moment = self.network.moment();
             }
-            end = batch.receive(&mut self.network, 256)?;
+            end = batch.receive(&mut self.network, moment, 256)?;
             let datagrams = batch.datagrams(alloc)?;
             if end == ReceiveEnd::Fault || !is_batch(&datagrams) {
                 bail!("no datagram can be received");

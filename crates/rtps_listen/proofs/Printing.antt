@@ -4,6 +4,7 @@ use Rattle.std.specs.Prelude.{IsErrAnd}
 use Rattle.std.proofs.KnownBytes.{Keeps-refl}
 use Rattle.rtps_types.specs.declared.identity.GuidPrefix.{GuidPrefix}
 use Rattle.rtps_discovery.specs.declared.config.Config.{Config}
+use Rattle.rtps_records.specs.RecordFile.{Record}
 use Rattle.rtps_records.specs.Runs.{Stops, WroteAll}
 use Rattle.rtps_records.specs.Text.{text_of}
 use Rattle.rtps_records.specs.declared.fault.RunFault.{RunFault}
@@ -117,18 +118,18 @@ unfolding Prints
 hears_none o holds old s fault is h = inl (ends IsBefore old s fault is h)
 
 -- all of the text was written, or what a fault leaves
-pub writes_all : (late : Bool) (text : List (List ℕ) → List ℕ) (file all old new : Option (List ℕ)) → file ≡ all
+pub writes_all : (late : Bool) (text : List Record → List ℕ) (file all old new : Option (List ℕ)) → file ≡ all
     → WroteAll text file old new None → Writes late text all old new (Ok tt)
 unfolding Writes
 writes_all late text file all old new e h = subst (λ f. WroteAll text f old new None) e h
 
-pub writes_front : (text : List (List ℕ) → List ℕ) (file all after old new : Option (List ℕ)) (s : Result (Unit {0}) ListenFault) (fault : RunFault)
+pub writes_front : (text : List Record → List ℕ) (file all after old new : Option (List ℕ)) (s : Result (Unit {0}) ListenFault) (fault : RunFault)
     → file ≡ all → IsErrAnd s (λ e. e ≡ Run fault) → Stops text fault file after old new → Writes false text all old new s
 unfolding Writes StopsBy
 writes_front text file all after old new (Ok u) fault e is h = absurd is
 writes_front text file all after old new (Err other) fault e is h = rw is (after, subst (λ f. Stops text fault f after old new) e h)
 
-pub writes_late_front : (text : List (List ℕ) → List ℕ) (file all after old new : Option (List ℕ)) (s : Result (Unit {0}) ListenFault) (fault : RunFault)
+pub writes_late_front : (text : List Record → List ℕ) (file all after old new : Option (List ℕ)) (s : Result (Unit {0}) ListenFault) (fault : RunFault)
     → file ≡ all → IsErrAnd s (λ e. e ≡ Run fault) → StopsLate text fault file after old new → Writes true text all old new s
 unfolding Writes StopsBy
 writes_late_front text file all after old new (Ok u) fault e is h = absurd is

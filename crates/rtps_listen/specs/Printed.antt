@@ -7,6 +7,7 @@ use Rattle.dds_topic.specs.ShapeMeaning.{shape_decoding, shape_text}
 use Rattle.dds_cache.specs.declared.history.History.{History}
 use Rattle.rtps_ascii.specs.Hex.{hex_text}
 use Rattle.rtps_discovery.specs.declared.config.Config.{Config}
+use Rattle.rtps_records.specs.RecordFile.{Record}
 use Rattle.rtps_records.specs.Runs.{WroteAll}
 use Rattle.rtps_records.specs.Text.{text_of}
 use Rattle.rtps_records.specs.declared.fault.RunFault.TheVariants.{CannotRead, NoMemory}
@@ -26,19 +27,19 @@ use Rattle.rtps_listen.specs.declared.request.Request.TheVariants.{Dump, Listen,
 
 -- the text of a run over these records, whose samples are shapes of the Shapes demo, or with
 -- `--raw` octets
-abbrev pub run_text : Bool → Config → Bool → List (List ℕ) → List ℕ
+abbrev pub run_text : Bool → Config → Bool → List Record → List ℕ
 run_text true config summary = replay_text (λ v. hex_text v.body) raw_decoding config summary
 run_text false config summary = replay_text shape_text shape_decoding config summary
 
 -- the text of what readers keep of such a run
-abbrev pub kept_text : Bool → Config → Bool → History → List (List ℕ) → List ℕ
+abbrev pub kept_text : Bool → Config → Bool → History → List Record → List ℕ
 kept_text true config summary keep =
     samples_text (λ v. hex_text v.body) raw_decoding config summary keep
 kept_text false config summary keep = samples_text shape_text shape_decoding config summary keep
 
 -- What is written of a file with these octets, whose records have this text: all of it, or the part
 -- that a run has written when it stops at a fault. A late text is made as it is written, last.
-unfoldable pub Writes : Bool → (List (List ℕ) → List ℕ) → Option (List ℕ) → Option (List ℕ)
+unfoldable pub Writes : Bool → (List Record → List ℕ) → Option (List ℕ) → Option (List ℕ)
     → Option (List ℕ) → Result (Unit {0}) ListenFault → Type 0
 Writes late text file old new (Ok u) = WroteAll text file old new None
 Writes late text file old new (Err (Run fault)) =

@@ -78,7 +78,7 @@ fn words_given(rt: &HostRuntime) -> Result<Vec<String>, ListenFault> {
     }
 }
 
-/// The files and the sockets of this machine.
+/// The files, the sockets and the clock of this machine.
 #[derive(Drop)]
 struct Host<'a> {
     rt: &'a HostRuntime,
@@ -104,11 +104,11 @@ impl RecordFiles for Host<'_> {
     }
 }
 
-impl Domains for Host<'_> {
-    type Network = Sockets;
+impl<'a> Domains for Host<'a> {
+    type Network = Sockets<'a, HostRuntime>;
 
-    fn join(&self, alloc: Global, domain: u16) -> io::Result<Sockets> {
-        Sockets::bind(self.rt, alloc, domain)
+    fn join(&self, alloc: Global, domain: u16) -> io::Result<Sockets<'a, HostRuntime>> {
+        Sockets::bind(self.rt, self.rt, alloc, domain)
     }
 }
 

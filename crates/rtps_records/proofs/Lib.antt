@@ -1,6 +1,7 @@
 pub mod Batching
 pub mod Cuts
 pub mod Filled
+pub mod Frames
 pub mod Received
 pub mod Faults
 pub mod OneReading

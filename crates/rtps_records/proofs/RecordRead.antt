@@ -1,49 +1,90 @@
--- What two reads say of a record: its length, and its octets.
-use Rattle.std.proofs.Common.{◌≡◌, ℕ, ◌<◌, ◌≤◌, inr, List, ◌++◌, Option, None, Some, IfSome, arith, length, take, sym, ap, subst, ◌∙◌, take_all, length-take-le, length-append, append-nil}
-use lib.Seq.{take-append_seam}
-use Rattle.std.specs.Int.{w32, from_be_bytes, to_be_bytes}
+-- What the reads of the parts of a record say of the record.
+use Rattle.std.proofs.Common.{◌≡◌, ℕ, ◌+◌, ◌<◌, ◌≤◌, ◌^◌, ◌==◌, nat_le, true, false, inr, List, [], ◌++◌, Option, None, Some, IfSome, arith, refl, length, sym, ap, subst, ◌∙◌, length-append, append-nil}
+use Rattle.std.proofs.lemmas.Bool.Decides.{nat_tests}
+use Rattle.std.proofs.lemmas.Nat.{from_be_bytes-to_be_bytes_4}
+use Rattle.std.specs.Int.{w32, w64, to_be_bytes}
 use Rattle.std.specs.Io.KnownBytes.{Consumes, IsAtEnd}
 use Rattle.std.proofs.KnownBytes.{Consumes-trans}
-use Rattle.rtps_records.specs.RecordFile.{magic, frame, told_length, IsCut, IsPartial, IsOther}
+use Rattle.rtps_records.specs.Parts.{FaultInside}
+use Rattle.rtps_records.specs.RecordFile.{EndsBy, FaultHere, IsCut, IsOther, IsShort, magic_of, octets_after, stamp, stated_length, tick_length}
+use Rattle.rtps_records.specs.declared.fault.RunFault.{RunFault}
+use Rattle.rtps_records.specs.declared.fault.RunFault.TheVariants.{CannotRead, NotRecordFile, CutRecord, RecordTooLong, TooManyRecords, CannotWrite, NoMemory}
+use Rattle.rtps_records.specs.declared.format.Format.{Format}
+use Rattle.rtps_records.specs.declared.format.Format.TheVariants.{Rdg1, Rdg2}
 
--- the four octets in front
-front_four : (head part : List ℕ) → length head ≡ 4 → take 4 (head ++ part) ≡ head
-front_four head part four = ap (λ k. take k (head ++ part)) (sym four) ∙ take-append_seam head part
+-- octets that were read up to the end of the file are all of it
+all_read : (P : List ℕ → Type 0) (a b : Option (List ℕ)) (bs : List ℕ) → Consumes a b bs → IsAtEnd b → P bs → IfSome a P
+all_read P None b bs read end p = tt
+all_read P (Some x) None bs read end p = absurd read
+all_read P (Some x) (Some y) bs read end p = subst P (sym (read ∙ ap (λ l. bs ++ l) end ∙ append-nil bs)) p
 
-pub cut_record : (head part : List ℕ) → length head ≡ 4 → from_be_bytes w32 head ≤ 65507 → length part < from_be_bytes w32 head → IsCut (head ++ part)
-cut_record head part four small short =
-    let told : told_length (head ++ part) ≡ from_be_bytes w32 head = ap (from_be_bytes w32) (front_four head part four) in
-    let len = length-append head part in
-    (omega arith, inr (omega arith, omega arith))
+stated_front : (stated : ℕ) (rest : List ℕ) → stated < 2 ^ 32 → stated_length (to_be_bytes w32 stated ++ rest) ≡ stated
+stated_front stated rest fits = from_be_bytes-to_be_bytes_4 stated fits
 
--- a read of the length, and one of the octets
-pub whole_record : (a b c : Option (List ℕ)) (head part rest : List ℕ) (m n told : ℕ) → length head ≡ 4 → to_be_bytes w32 told ≡ head → 4 ≤ m
-    → length part ≡ told → told ≤ n → Consumes a b (take m head) → Consumes b c (take n part) → Consumes a c (frame (take told (part ++ rest)))
-whole_record a b c head part rest m n told four spelled enough long all p q =
-    let octets_are : take told (part ++ rest) ≡ part = ap (λ k. take k (part ++ rest)) (sym long) ∙ take-append_seam part rest in
-    let head_is : to_be_bytes w32 (length part) ≡ head = ap (to_be_bytes w32) long ∙ spelled in
-    let frame_is : frame part ≡ take m head ++ take n part =
-    ap (λ l. l ++ part) head_is ∙ ap (λ l. l ++ part) (sym (take_all m head (omega arith))) ∙ ap (λ l. take m head ++ l) (sym (take_all n part (omega arith))) in
-    subst (Consumes a c) (sym frame_is ∙ ap frame (sym octets_are)) (Consumes-trans a b c _ _ p q)
+-- a length, and fewer octets than come after it
+cut_record : (format : Format) (stated n : ℕ) (part : List ℕ) → stated < 2 ^ 32 → octets_after format stated ≡ Some n → length part < n → IsCut format (to_be_bytes w32 stated ++ part)
+cut_record format stated n part fits after short =
+    let long : length (to_be_bytes w32 stated ++ part) ≡ 4 + length part = length-append (to_be_bytes w32 stated) part in
+    let less : length (to_be_bytes w32 stated ++ part) < 4 + n = omega (arith, long, short) in
+    let same : Some n ≡ octets_after format (stated_length (to_be_bytes w32 stated ++ part)) = sym after ∙ ap (octets_after format) (sym (stated_front stated part fits)) in
+    (omega (arith, long), inr (omega (arith, long), subst (IsShort (to_be_bytes w32 stated ++ part)) same less))
 
--- a read of the length, and one of too few octets
-pub part_record : (a b c : Option (List ℕ)) (head part : List ℕ) (m n number : ℕ) → number < 4294967295 → length head ≡ 4 → 4 ≤ m → from_be_bytes w32 head ≤ 65507 → n < from_be_bytes w32 head → n ≤ length part
-    → Consumes a b (take m head) → Consumes b c (take n part) → (x : List ℕ) × Consumes a c x × IsPartial number x
-part_record a b c head part m n number below four enough small short fits p q =
-    let same = take_all m head (omega arith) in
-    let len : length (take n part) ≡ n = length-take-le n part fits in
-    (head ++ take n part, subst (λ l. Consumes a c (l ++ take n part)) same (Consumes-trans a b c _ _ p q), inr (below, cut_record head (take n part) four small (omega arith)))
+-- the fault after a length and some of the octets after it
+inside : (format : Format) (fault : RunFault) (a b c : Option (List ℕ)) (number stated n asked : ℕ) (front : List ℕ) → number < 4294967295 → stated < 2 ^ 32 → octets_after format stated ≡ Some n
+    → length front + asked ≤ n → Consumes a b (to_be_bytes w32 stated ++ front) → FaultInside fault number asked b c → FaultHere format fault number a c
+inside format CannotRead a b c number stated n asked front below fits after within read (taken, part, short) = (
+  to_be_bytes w32 stated ++ (front ++ taken),
+  Consumes-trans a b c (to_be_bytes w32 stated ++ front) taken read part,
+  inr (below, cut_record format stated n (front ++ taken) fits after (omega (arith, within, short, length-append front taken))),
+)
+inside format (CutRecord at) a b c number stated n asked front below fits after within read (same, (taken, part, short), end) =
+    all_read (EndsBy format (Some (CutRecord at)) number) a c (to_be_bytes w32 stated ++ (front ++ taken))
+    (Consumes-trans a b c (to_be_bytes w32 stated ++ front) taken read part) end
+    (same, below, cut_record format stated n (front ++ taken) fits after (omega (arith, within, short, length-append front taken)))
+inside format NotRecordFile a b c number stated n asked front below fits after within read h = absurd h
+inside format (RecordTooLong at) a b c number stated n asked front below fits after within read h = absurd h
+inside format TooManyRecords a b c number stated n asked front below fits after within read h = absurd h
+inside format CannotWrite a b c number stated n asked front below fits after within read h = absurd h
+inside format NoMemory a b c number stated n asked front below fits after within read h = absurd h
 
--- too few octets for the magic, or others
+small : (stated : ℕ) → stated ≤ 65507 → nat_le stated 65507 ≡ true
+small stated le = grind (arith, nat_tests)
+
+other : (stated : ℕ) → ¬ (stated ≡ 4294967295) → (stated == tick_length) ≡ false
+other stated ne = grind (arith, nat_tests)
+
+-- the fault after a tick's length
+pub tick_inside : (format : Format) (fault : RunFault) (a b c : Option (List ℕ)) (number stated : ℕ) → format ≡ Rdg2 → number < 4294967295 → stated ≡ 4294967295 → Consumes a b (to_be_bytes w32 stated)
+    → FaultInside fault number 8 b c → FaultHere format fault number a c
+tick_inside format fault a b c number stated is below tick read h =
+    subst (λ f. FaultHere f fault number a c) (sym is)
+    (inside Rdg2 fault a b c number stated 8 8 [] below (omega (arith, tick)) (ap (octets_after Rdg2) tick) (omega arith) read h)
+
+-- the fault after a datagram's length
+pub moment_inside : (format : Format) (fault : RunFault) (a b c : Option (List ℕ)) (number stated : ℕ) → format ≡ Rdg2 → number < 4294967295 → stated ≤ 65507 → Consumes a b (to_be_bytes w32 stated)
+    → FaultInside fault number 8 b c → FaultHere format fault number a c
+moment_inside format fault a b c number stated is below fits read h =
+    let no_tick = other stated (λ e. absurd (omega (arith, e, fits))) in
+    let le = small stated fits in
+    subst (λ f. FaultHere f fault number a c) (sym is)
+    (inside Rdg2 fault a b c number stated (8 + stated) 8 [] below (omega (arith, fits)) (rw (no_tick, le) refl) (omega arith) read h)
+
+-- the fault after a datagram's moment
+pub octets_inside : (format : Format) (fault : RunFault) (a b c d : Option (List ℕ)) (number stated moment asked : ℕ) → number < 4294967295 → stated ≤ 65507 → Consumes a b (to_be_bytes w32 stated)
+    → Consumes b c (stamp format moment) → FaultInside fault number asked c d → asked ≡ stated → FaultHere format fault number a d
+octets_inside Rdg1 fault a b c d number stated moment asked below fits read next h same =
+    let le = small stated fits in
+    inside Rdg1 fault a c d number stated stated asked [] below (omega (arith, fits)) (rw le refl) (omega (arith, same)) (Consumes-trans a b c (to_be_bytes w32 stated) [] read next) h
+octets_inside Rdg2 fault a b c d number stated moment asked below fits read next h same =
+    let no_tick = other stated (λ e. absurd (omega (arith, e, fits))) in
+    let le = small stated fits in
+    inside Rdg2 fault a c d number stated (8 + stated) asked (to_be_bytes w64 moment) below (omega (arith, fits)) (rw (no_tick, le) refl) (omega (arith, same))
+    (Consumes-trans a b c (to_be_bytes w32 stated) (to_be_bytes w64 moment) read next) h
+
+-- too few octets for a magic
 pub other_short : (a b : Option (List ℕ)) (bs : List ℕ) → Consumes a b bs → IsAtEnd b → length bs < 4 → IfSome a IsOther
-other_short None b bs p q short = tt
-other_short (Some x) None bs p q short = absurd p
-other_short (Some x) (Some y) bs p q short = λ more e.
-    let all : x ≡ bs = p ∙ ap (λ l. bs ++ l) q ∙ append-nil bs in
-    let len = ap length (sym all ∙ e) ∙ length-append magic more in
-    absurd (omega arith)
-
-pub other_head : (a b : Option (List ℕ)) (head : List ℕ) → Consumes a b head → length head ≡ 4 → ¬ (head ≡ magic) → IfSome a IsOther
-other_head None b head p four other = tt
-other_head (Some x) None head p four other = absurd p
-other_head (Some x) (Some y) head p four other = λ more e. other (sym (front_four head y four) ∙ ap (take 4) (sym p ∙ e))
+other_short a b bs read end short = all_read IsOther a b bs read end (λ format more e. absurd (too_short format more e))
+  where
+    too_short : (f : Format) (more : List ℕ) → bs ≡ magic_of f ++ more → ⊥
+    too_short Rdg1 more e = let same = ap length e in omega (arith, same, short)
+    too_short Rdg2 more e = let same = ap length e in omega (arith, same, short)

@@ -1,7 +1,9 @@
--- Octets cut into pieces.
+-- Octets cut into datagrams.
 use Rattle.std.specs.Prelude.{ℕ, List, [], ◌∷◌, take, drop}
+use Rattle.rtps_records.specs.RecordFile.{Datagram, Record}
+use Rattle.rtps_records.specs.declared.piece.Piece.{Piece}
 
--- octets cut into pieces of these lengths
-abbrev pub cut : List ℕ → List ℕ → List (List ℕ)
+-- octets cut into datagrams of these lengths, with their moments
+abbrev pub cut : List Piece → List ℕ → List Record
 cut [] octets = []
-cut (n ∷ ns) octets = take n octets ∷ cut ns (drop n octets)
+cut (p ∷ ps) octets = Datagram p.moment (take p.length octets) ∷ cut ps (drop p.length octets)

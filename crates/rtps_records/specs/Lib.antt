@@ -1,6 +1,8 @@
 pub mod Batches
 pub mod Cuts
 pub mod Faults
+pub mod Heads
+pub mod Parts
 pub mod Traffic
 pub mod RecordFile
 pub mod Runs

@@ -7,6 +7,8 @@ use crate::fault::RunFault;
 pub enum BatchEnd {
     /// More records may follow.
     More,
+    /// A tick at this moment, in milliseconds, follows: it was read, and is a batch of its own.
+    Tick(u64),
     /// The file ends after it.
     End,
     /// The file has this fault after it.

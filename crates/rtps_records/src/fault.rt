@@ -17,7 +17,7 @@ pub enum RunFault {
     NotRecordFile,
     /// The file ends inside this record, which is counted from 0.
     CutRecord(u32),
-    /// The length of this record, which is counted from 0, is above 65,507.
+    /// The length of this record, which is counted from 0, is above 65,507, and marks no tick.
     RecordTooLong(u32),
     /// There are octets after 4,294,967,295 records.
     TooManyRecords,

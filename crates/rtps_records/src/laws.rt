@@ -7,12 +7,12 @@ pub fn one_reading()
     ensures { OneReading }
 {}
 
-/// Octets that begin with the magic of a record file have a reading.
+/// Octets that begin as a record file, of either format, have a reading.
 pub fn some_reading()
     ensures { SomeReading }
 {}
 
-/// Octets that don't begin with the magic have none.
+/// Octets that begin otherwise have none.
 pub fn others_have_none()
     ensures { OthersHaveNone }
 {}

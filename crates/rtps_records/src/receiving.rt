@@ -1,13 +1,12 @@
 //! Receiving datagrams into a batch.
 
-ghost use Rattle.std.specs.Prelude.{◌≡◌, ◌+◌, ◌≤◌, ◌∷◌, ◌++◌, [], IfOk, IfSome, List, None, OnErr, Option, drop, length, take, ℕ};
-ghost use Rattle.std.specs.List.{AllByRecursion};
+ghost use Rattle.std.specs.Prelude.{◌≡◌, ◌+◌, ◌≤◌, ◌∷◌, [], IfOk, IfSome, List, None, OnErr, Option, drop, length, take};
 ghost use Rattle.rtps_records.specs.Batches.{IsFull, records_in};
-ghost use Rattle.rtps_records.specs.RecordFile.{IsRecord};
-ghost use Rattle.rtps_records.specs.Traffic.{Exhausted, Failed, Grows, Received, ReceivesNext, Traffic, last_call, receipts};
+ghost use Rattle.rtps_records.specs.Traffic.{Exhausted, Failed, Grows, Received, ReceivesAll, ReceivesNext, Traffic, last_call};
 ghost use Rattle.rtps_records.specs.declared.receive_end.ReceiveEnd.TheVariants.{More};
 
 use crate::batch::{Batch, MAX_LEN};
+use crate::piece::Piece;
 use crate::receive_end::ReceiveEnd;
 use std::alloc::{AllocError, Allocator};
 use std::io;
@@ -52,22 +51,28 @@ fn receive_after<S: Receive>(
 }
 
 impl<A: Allocator> Batch<A> {
-    /// Receives the next datagram, and appends it: [`ReceiveEnd::More`]. If all datagrams that came
-    /// were received, or at a fault, nothing is appended. An error is a refused growth, and then
-    /// the source is unchanged.
+    /// Receives the next datagram, and appends it with this moment: [`ReceiveEnd::More`]. If all
+    /// datagrams that came were received, or at a fault, nothing is appended. An error is a refused
+    /// growth, and then the source is unchanged.
     #[tactic(auto, unfolding(crate::specs::Traffic::ReceivesNext))]
-    fn receive_next<S: Receive>(&mut self, source: &mut S) -> Result<ReceiveEnd, AllocError>
+    fn receive_next<S: Receive>(
+        &mut self,
+        source: &mut S,
+        moment: u64,
+    ) -> Result<ReceiveEnd, AllocError>
         requires room { self.old.used + 65507 ≤ 1048576 }
-        ensures receives { IfOk result (λ end. ReceivesNext end
+        requires datagrams { self.old.tick ≡ None }
+        ensures datagrams { self.new.tick ≡ None }
+        ensures receives { IfOk result (λ end. ReceivesNext end moment
             (S.traffic source.old) (S.traffic source.new)
             (records_in self.old) (records_in self.new)) }
         ensures same_source { OnErr result (source.new ≡ source.old) }
         ensures same { OnErr result (records_in self.new ≡ records_in self.old) }
     {
-        self.lengths.reserve(1)?;
+        self.pieces.reserve(1)?;
         match receive_after(source, self.octets.as_mut_slice(), self.used) {
             Ok(Some(length)) => {
-                self.lengths.push(length)?;
+                self.pieces.push(Piece { moment, length })?;
                 self.used += length;
                 Ok(ReceiveEnd::More)
             }
@@ -76,28 +81,30 @@ impl<A: Allocator> Batch<A> {
         }
     }
 
-    /// Replaces the records of the batch by the datagrams received. It receives `most` of them;
-    /// fewer if there is no room for one more of the greatest length, if all that came were
-    /// received ([`ReceiveEnd::Drained`]), or if the source fails ([`ReceiveEnd::Fault`]).
+    /// Replaces the records of the batch by the datagrams received, all with this moment, in
+    /// milliseconds. It receives `most` of them; fewer if there is no room for one more of the
+    /// greatest length, if all that came were received ([`ReceiveEnd::Drained`]), or if the source
+    /// fails ([`ReceiveEnd::Fault`]).
     ///
     /// An error is a refused growth. The datagrams that were received until then are in the batch,
     /// and no other one was received.
     pub fn receive<S: Receive>(
         &mut self,
         source: &mut S,
+        moment: u64,
         most: u16,
     ) -> Result<ReceiveEnd, AllocError>
-        ensures receives { IfOk result (λ end. Grows (S.traffic source.old) (S.traffic source.new)
-            (receipts (records_in self.new) ++ last_call end)) }
-        ensures stops { OnErr result (Grows (S.traffic source.old) (S.traffic source.new)
-            (receipts (records_in self.new))) }
-        ensures each { AllByRecursion IsRecord (records_in self.new) }
+        ensures receives { IfOk result (λ end. ReceivesAll
+            (S.traffic source.old) (S.traffic source.new)
+            moment (records_in self.new) (last_call end)) }
+        ensures stops { OnErr result (ReceivesAll
+            (S.traffic source.old) (S.traffic source.new) moment (records_in self.new) []) }
         ensures few { length (records_in self.new) ≤ most }
         ensures full { IfOk result (λ end. end ≡ More → IsFull most self.new) }
     {
         self.clear();
         while self.len() < most as usize && self.has_room() {
-            match self.receive_next(source)? {
+            match self.receive_next(source, moment)? {
                 ReceiveEnd::More => {}
                 end => return Ok(end),
             }

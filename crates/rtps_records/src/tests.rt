@@ -3,7 +3,7 @@
 ghost use Rattle.std.specs.Prelude.{◌≤◌};
 
 use crate::records::read_record;
-use crate::{Batch, BatchEnd, Lines, MAX_LEN, Records, RunFault};
+use crate::{Batch, BatchEnd, Format, Lines, MAX_LEN, Records, RunFault};
 use linked_list_allocator::LocalHeap;
 use std::alloc::{Allocator, Global};
 use std::io::{self, Error, ErrorKind, Read, Write};
@@ -12,9 +12,9 @@ use std::test::Fail;
 mod batches;
 mod receiving;
 
-/// Prints a line with the number and the length of each record of a file, which is read into this
-/// batch, `most` records at a time.
-fn print_lengths<A: Allocator + Copy, R: Read, W: Write>(
+/// Prints a line for each record of a file, which is read into this batch, `most` records at a
+/// time.
+fn print_records<A: Allocator + Copy, R: Read, W: Write>(
     alloc: A,
     batch: &mut Batch<A>,
     most: u16,
@@ -24,18 +24,26 @@ fn print_lengths<A: Allocator + Copy, R: Read, W: Write>(
     requires { 1 ≤ most }
 {
     let mut lines = Lines::new(alloc, writer);
-    let mut records = Records::new(reader);
+    print_all(alloc, batch, most, &mut Records::new(reader), &mut lines)
+}
+
+fn print_all<A: Allocator + Copy, R: Read, W: Write>(
+    alloc: A,
+    batch: &mut Batch<A>,
+    most: u16,
+    records: &mut Records<'_, R>,
+    lines: &mut Lines<'_, W, Vec<u8, A>>,
+) -> Result<(), RunFault>
+    requires { 1 ≤ most }
+{
     records.open()?;
-    let mut number = 0_u64;
+    let mut number = 0;
     for _ in 0..u64::MAX {
         let end = records.next_batch(batch, most)?;
-        for datagram in batch.datagrams(alloc)? {
-            push_length(&mut lines.text, number, datagram.bytes.len())?;
-            lines.write_if_full()?;
-            number = number.saturating_add(1);
-        }
+        number = push_records(alloc, &mut lines.text, batch, end, number)?;
+        lines.write_if_full()?;
         match end {
-            BatchEnd::More => {}
+            BatchEnd::More | BatchEnd::Tick(_) => {}
             BatchEnd::End => return lines.close(),
             BatchEnd::Fault(fault) => {
                 lines.close()?;
@@ -53,15 +61,53 @@ fn print_with<A: Allocator + Copy, R: Read, W: Write>(
     writer: &mut W,
 ) -> Result<(), RunFault> {
     let mut batch = Batch::new(alloc)?;
-    print_lengths(alloc, &mut batch, 4096, reader, writer)
+    print_records(alloc, &mut batch, 1024, reader, writer)
 }
 
-fn push_length<A: Allocator>(
+/// Appends a line for each datagram of a batch, and for the tick that ends it: its number, its
+/// length or `tick`, and its moment, if that isn't 0. Returns the number of the next record.
+fn push_records<A: Allocator + Copy>(
+    alloc: A,
+    text: &mut Vec<u8, A>,
+    batch: &Batch<A>,
+    end: BatchEnd,
+    first: u64,
+) -> Result<u64, RunFault> {
+    let mut number = first;
+    for datagram in batch.datagrams(alloc)? {
+        push_datagram(text, number, datagram.bytes.len(), datagram.moment)?;
+        number = number.saturating_add(1);
+    }
+    if let BatchEnd::Tick(moment) = end {
+        push_tick(text, number, moment)?;
+        number = number.saturating_add(1);
+    }
+    Ok(number)
+}
+
+fn push_datagram<A: Allocator>(
     text: &mut Vec<u8, A>,
     number: u64,
     length: usize,
+    moment: u64,
 ) -> Result<(), RunFault> {
-    match writeln!(text, "{number} {length}") {
+    let written = if moment == 0 {
+        writeln!(text, "{number} {length}")
+    } else {
+        writeln!(text, "{number} {length} at {moment}")
+    };
+    match written {
+        Ok(()) => Ok(()),
+        Err(_) => Err(RunFault::NoMemory),
+    }
+}
+
+fn push_tick<A: Allocator>(
+    text: &mut Vec<u8, A>,
+    number: u64,
+    moment: u64,
+) -> Result<(), RunFault> {
+    match writeln!(text, "{number} tick at {moment}") {
         Ok(()) => Ok(()),
         Err(_) => Err(RunFault::NoMemory),
     }
@@ -76,6 +122,16 @@ struct Failing<'a> {
     fails_at: usize,
     most: usize,
     is_interrupted: bool,
+}
+
+fn slow(octets: &[u8], fails_at: usize, most: usize) -> Failing<'_> {
+    Failing {
+        octets,
+        at: 0,
+        fails_at,
+        most,
+        is_interrupted: false,
+    }
 }
 
 impl Read for Failing<'_> {
@@ -148,14 +204,51 @@ const FILE: &[u8; 21] = b"RDG1\0\0\0\x02hi\0\0\0\0\0\0\0\x03abc";
 
 const TEXT: &[u8; 12] = b"0 2\n1 0\n2 3\n";
 
-/// Returns the length of the text once this many octets of the file were read.
-fn text_len(read: usize) -> usize {
-    match read {
-        0..=9 => 0,
-        10..=13 => 4,
-        14..=20 => 8,
-        _ => 12,
+/// The number of octets of `FILE` and of its text, at first and after each record.
+const STEPS: [(usize, usize); 4] = [(4, 0), (10, 4), (14, 8), (21, 12)];
+
+/// A file with ticks at its start, at its end, two in a row and one between datagrams.
+const TIMED: &[u8; 93] = b"RDG2\
+    \xff\xff\xff\xff\x01\x02\x03\x04\x05\x06\x07\x08\
+    \0\0\0\x02\x11\x12\x13\x14\x15\x16\x17\x18hi\
+    \xff\xff\xff\xff\0\0\0\0\0\0\0\x05\
+    \xff\xff\xff\xff\xff\xff\xff\xff\xff\xff\xff\xff\
+    \0\0\0\0\0\0\0\0\0\0\0\x09\
+    \0\0\0\x03\0\0\0\0\0\0\0\0abc\
+    \xff\xff\xff\xff\x80\0\0\0\0\0\0\0";
+
+const TIMED_TEXT: &[u8; 141] = b"0 tick at 72623859790382856\n\
+    1 2 at 1230066625199609624\n\
+    2 tick at 5\n\
+    3 tick at 18446744073709551615\n\
+    4 0 at 9\n\
+    5 3\n\
+    6 tick at 9223372036854775808\n";
+
+/// The number of octets of `TIMED` and of its text, at first and after each record.
+const TIMED_STEPS: [(usize, usize); 8] = [
+    (4, 0),
+    (16, 28),
+    (30, 55),
+    (42, 67),
+    (54, 98),
+    (66, 107),
+    (81, 111),
+    (93, 141),
+];
+
+/// Returns the number of whole records in the first octets of a file of these steps, whether the
+/// last of them ends there, and the length of their text.
+fn step_at(steps: &[(usize, usize)], octets: usize) -> (u32, bool, usize) {
+    let mut found = (0, false, 0);
+    let mut number = 0_u32;
+    for (end, text) in steps {
+        if *end <= octets {
+            found = (number, *end == octets, *text);
+        }
+        number = number.saturating_add(1);
     }
+    found
 }
 
 /// Returns the result of a run over a file, and the text that it prints.
@@ -167,12 +260,14 @@ fn printed(alloc: Global, file: &[u8]) -> (Result<(), RunFault>, Vec<u8>) {
 }
 
 /// Files, the text that is printed of each, and how the run ends.
-const ENDS: [(&[u8], &[u8], Result<(), RunFault>); 11] = [
+const ENDS: [(&[u8], &[u8], Result<(), RunFault>); 16] = [
     (FILE, TEXT, Ok(())),
+    (TIMED, TIMED_TEXT, Ok(())),
     (b"RDG1", b"", Ok(())),
+    (b"RDG2", b"", Ok(())),
     (b"", b"", Err(RunFault::NotRecordFile)),
     (b"RDG", b"", Err(RunFault::NotRecordFile)),
-    (b"RDG2", b"", Err(RunFault::NotRecordFile)),
+    (b"RDG3", b"", Err(RunFault::NotRecordFile)),
     (b"RDG1\0", b"", Err(RunFault::CutRecord(0))),
     (b"RDG1\xff\xff\xff", b"", Err(RunFault::CutRecord(0))),
     (
@@ -187,6 +282,13 @@ const ENDS: [(&[u8], &[u8], Result<(), RunFault>); 11] = [
         b"0 0\n",
         Err(RunFault::RecordTooLong(1)),
     ),
+    (b"RDG2\0\0\xff\xe3", b"", Err(RunFault::CutRecord(0))),
+    (b"RDG2\0\0\xff\xe4", b"", Err(RunFault::RecordTooLong(0))),
+    (
+        b"RDG2\xff\xff\xff\xfe",
+        b"",
+        Err(RunFault::RecordTooLong(0)),
+    ),
 ];
 
 #[test]
@@ -194,9 +296,10 @@ fn no_record_follows_the_greatest_number(rt: HostRuntime) -> Result<(), Fail> {
     let mut buffer = vec![in rt.alloc(); 0u8; MAX_LEN]?;
     let mut some = b"\0".as_slice();
     let mut none = b"".as_slice();
-    let next = read_record(&mut some, &mut buffer, u32::MAX);
-    assert_eq!(rt; next, Err(RunFault::TooManyRecords));
-    assert_eq!(rt; read_record(&mut none, &mut buffer, u32::MAX), Ok(None));
+    let next = read_record(&mut some, Format::Rdg2, &mut buffer, u32::MAX);
+    assert!(rt; matches!(&next, Err(RunFault::TooManyRecords)));
+    let next = read_record(&mut none, Format::Rdg2, &mut buffer, u32::MAX);
+    assert!(rt; matches!(&next, Ok(None)));
     Ok(())
 }
 
@@ -251,25 +354,43 @@ impl Write for Counting {
     }
 }
 
+/// Returns the result of a run over a file that is read a few octets at a time, and its text.
+fn read_slowly(
+    alloc: Global,
+    batch: &mut Batch,
+    mut reader: Failing<'_>,
+) -> (Result<(), RunFault>, Vec<u8>) {
+    let mut out = Vec::new(alloc);
+    let outcome = print_records(alloc, batch, 1, &mut reader, &mut out);
+    (outcome, out)
+}
+
 #[test]
 fn stops_at_each_octet(rt: HostRuntime) -> Result<(), Fail> {
     let mut batch = Batch::new(rt.alloc())?;
-    for fails_at in 0..22 {
-        for most in 1..6 {
-            let mut out = Vec::new(rt.alloc());
-            let mut reader = Failing {
-                octets: FILE,
-                at: 0,
-                fails_at,
-                most,
-                is_interrupted: false,
+    let files: [(&[u8], &[u8], &[(usize, usize)]); 2] = [
+        (FILE, TEXT, &STEPS),
+        (TIMED, TIMED_TEXT, &TIMED_STEPS),
+    ];
+    for (file, text, steps) in files {
+        for at in 0..file.len() + 1 {
+            let (number, is_end, length) = step_at(steps, at);
+            let ends = match at {
+                0..=3 => Err(RunFault::NotRecordFile),
+                _ if is_end => Ok(()),
+                _ => Err(RunFault::CutRecord(number)),
             };
-            let outcome = print_lengths(rt.alloc(), &mut batch, 1, &mut reader, &mut out);
-            assert_eq!(rt; outcome, Err(RunFault::CannotRead));
-            assert_eq!(rt;
-                out.as_slice(),
-                TEXT.get(..text_len(fails_at)).ok_or("a front")?
-            );
+            let wanted = text.get(..length).ok_or("a front")?;
+            for most in [1, 2, 5] {
+                let cut = slow(file.get(..at).ok_or("a front")?, usize::MAX, most);
+                let (outcome, out) = read_slowly(rt.alloc(), &mut batch, cut);
+                assert_eq!(rt; outcome, ends, "cut at {at}");
+                assert_eq!(rt; out.as_slice(), wanted, "cut at {at}");
+                let fails = slow(file, at, most);
+                let (outcome, out) = read_slowly(rt.alloc(), &mut batch, fails);
+                assert_eq!(rt; outcome, Err(RunFault::CannotRead), "fails at {at}");
+                assert_eq!(rt; out.as_slice(), wanted, "fails at {at}");
+            }
         }
     }
     Ok(())
@@ -282,7 +403,7 @@ fn writes_a_front_at_each_fault(rt: HostRuntime) -> Result<(), Fail> {
     for calls in 0..14 {
         let mut writer = Refusing::new(rt.alloc(), calls, 1);
         let mut file = FILE.as_slice();
-        let outcome = print_lengths(rt.alloc(), &mut batch, 1, &mut file, &mut writer);
+        let outcome = print_records(rt.alloc(), &mut batch, 1, &mut file, &mut writer);
         let wanted = if calls == 13 {
             Ok(())
         } else {
@@ -296,7 +417,7 @@ fn writes_a_front_at_each_fault(rt: HostRuntime) -> Result<(), Fail> {
     }
     let mut writer = Refusing::new(rt.alloc(), 99, 0);
     let mut file = b"RDG1\0\0\0\0\0".as_slice();
-    let outcome = print_lengths(rt.alloc(), &mut batch, 1, &mut file, &mut writer);
+    let outcome = print_records(rt.alloc(), &mut batch, 1, &mut file, &mut writer);
     assert_eq!(rt;
         outcome,
         Err(RunFault::CannotWrite),
@@ -307,21 +428,24 @@ fn writes_a_front_at_each_fault(rt: HostRuntime) -> Result<(), Fail> {
 
 #[test]
 fn stops_where_a_growth_is_refused(rt: HostRuntime) -> Result<(), Fail> {
-    let mut refused = 0;
-    for step in 0..40 {
-        let heap = LocalHeap::new(rt.alloc(), 1_048_500 + step * 8)?;
-        let mut out = Vec::new(rt.alloc());
-        let mut file = FILE.as_slice();
-        let outcome = print_with(&heap, &mut file, &mut out);
-        if outcome.is_ok() {
-            assert_eq!(rt; out.as_slice(), TEXT.as_slice());
-        } else {
-            refused = step;
-            assert_eq!(rt; outcome, Err(RunFault::NoMemory), "at {step}");
-            assert_eq!(rt; out.len(), 0);
+    let files: [(&[u8], &[u8]); 2] = [(FILE, TEXT), (TIMED, TIMED_TEXT)];
+    for (file, text) in files {
+        let mut refused = 0;
+        for step in 0..60 {
+            let heap = LocalHeap::new(rt.alloc(), 1_048_500 + step * 16)?;
+            let mut out = Vec::new(rt.alloc());
+            let mut rest = file;
+            let outcome = print_with(&heap, &mut rest, &mut out);
+            if outcome.is_ok() {
+                assert_eq!(rt; out.as_slice(), text);
+            } else {
+                refused = step;
+                assert_eq!(rt; outcome, Err(RunFault::NoMemory), "at {step}");
+                assert_eq!(rt; out.len(), 0);
+            }
         }
+        assert!(rt; 0 < refused && refused < 59);
     }
-    assert!(rt; 0 < refused && refused < 39);
     Ok(())
 }
 

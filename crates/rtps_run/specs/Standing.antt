@@ -105,9 +105,9 @@ pub record StandsAt {C M : Type 0} (decoding : C → Decoding M) (inputs : List 
 abbrev pub datagram_limit : ℕ
 datagram_limit = 2 ^ 48
 
--- How a datagram is processed, and when each refusal comes: Failed exactly where an earlier
--- datagram ran out of memory, which leaves the engine failed; Spent exactly where one more datagram
--- would pass the limit. Either leaves the engine as it was.
+-- How a datagram is processed, and when each refusal comes: Failed exactly where memory ran out
+-- before, which leaves the engine failed; Spent exactly where one more datagram would pass the
+-- limit. Either leaves the engine as it was.
 unfoldable pub Takes : {C X : Type 0} → Result X EngineError → EngineView C → EngineView C → Type 0
 Takes (Ok x) old new =
     (old.failed ≡ false) × (old.index < datagram_limit)

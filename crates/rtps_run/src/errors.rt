@@ -30,13 +30,13 @@ impl From<AllocError> for StartError {
     }
 }
 
-/// Why an engine refuses a datagram or a query. Failed comes before Spent.
+/// Why an engine refuses a datagram, a tick or a query. Failed comes before Spent.
 #[derive(Clone, Copy, Debug, PartialEq, Eq, Error)]
 pub enum EngineError {
-    /// The allocator refused memory. If it was for a datagram, the engine has failed.
+    /// The allocator refused memory. If it was for a datagram or a tick, the engine has failed.
     #[error("out of memory")]
     NoMemory,
-    /// An earlier datagram ran out of memory.
+    /// An earlier datagram or tick ran out of memory.
     #[error("the engine has failed")]
     Failed,
     /// The run would have more than [`DATAGRAM_LIMIT`] datagrams.

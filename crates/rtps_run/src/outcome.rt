@@ -9,7 +9,7 @@ use std::alloc::{Allocator, Global};
 /// An answer: a datagram that the owner of the sockets has to send.
 #[derive(Debug, Drop)]
 pub struct Answer<A: Allocator = Global> {
-    /// The place of the event that it answers.
+    /// The place of the event that it answers, or of the moment that passed.
     pub place: Place,
     /// The rank of the reader that sends it, or `None` where discovery does.
     pub rank: Option<u32>,
@@ -19,7 +19,7 @@ pub struct Answer<A: Allocator = Global> {
     pub octets: Octets<A>,
 }
 
-/// The result of a datagram or of a batch.
+/// The result of a datagram, of a tick or of a batch.
 #[derive(Debug, Drop)]
 pub struct Outcome<V, A: Allocator = Global> {
     /// The notices of each reader, by its rank, in the order of their causes.
@@ -30,7 +30,7 @@ pub struct Outcome<V, A: Allocator = Global> {
     ghost ranked: { vec_len notices ≤ 2 ^ 32 },
 }
 
-/// One item of the result of a datagram or a batch, for callers that want all items in one order:
+/// One item of the result of an input or a batch, for callers that want all items in one order:
 /// by place, then by rank, and for one reader its notices before its answer.
 #[derive(Debug, Drop)]
 pub enum Report<V, A: Allocator = Global> {

@@ -9,7 +9,7 @@ use Rattle.std.proofs.lemmas.List.{drop-drop, map-append}
 use Rattle.rtps_types.specs.declared.place.Place.{Place}
 use Rattle.rtps_proxy.specs.Replies.{ReplyView}
 use Rattle.rtps_run.specs.Presentation.{not_after}
-use Rattle.rtps_run.specs.World.{ReportView, NoticeOf, AnswerOf, sent_by}
+use Rattle.rtps_run.specs.World.{ReportView, NoticeOf, sent_by}
 use Rattle.rtps_planner.specs.Commuting.{PartsByRank, answers_at, merged, merged_below, notices_at, same_place}
 use Rattle.rtps_planner.specs.Outputs.{AreRising}
 use Rattle.rtps_text.specs.Replayed.{put_line, put_lines}

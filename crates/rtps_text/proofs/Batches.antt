@@ -1,15 +1,13 @@
 -- A run and its text, after one more batch.
-use Rattle.std.proofs.Common.{◌≡◌, ℕ, ◌<◌, ◌≤◌, ◌-◌, List, [], ◌∷◌, ◌++◌, ◌≢◌, Option, Some, None, Result, Ok, Err, OnOk, arith, refl, subst, sym, ap, ◌∙◌, map, length, append-nil, take}
+use Rattle.std.proofs.Common.{◌≡◌, ℕ, ◌+◌, ◌*◌, ◌<◌, ◌≤◌, ◌-◌, true, false, List, [], ◌∷◌, ◌++◌, ◌≢◌, Option, Some, None, Result, Ok, Err, OnOk, arith, refl, subst, sym, ap, ◌∙◌, map, length, append-nil, take}
 use Rattle.std.proofs.lemmas.Grind.{flat_map-append}
 use Rattle.std.specs.Io.KnownBytes.{IsAtEnd}
-use Rattle.rtps_records.specs.Batches.{EndsBatch, ReadsBatch}
-use Rattle.std.specs.Borrow.{Bor}
-use Rattle.std.specs.List.{All, AllByRecursion}
+use Rattle.rtps_records.specs.Batches.{EndsBatch, ticks_in}
 use Rattle.std.proofs.lemmas.List.{map-append}
-use Rattle.std.proofs.lemmas.List.Elements.{All-from_recursion}
-use Rattle.rtps_records.specs.RecordFile.{IsRecord}
+use Rattle.rtps_records.specs.RecordFile.{Record}
 use Rattle.rtps_records.specs.declared.batch_end.BatchEnd.{BatchEnd}
-use Rattle.rtps_records.specs.declared.batch_end.BatchEnd.TheVariants.{End, Fault, More}
+use Rattle.rtps_records.specs.declared.batch_end.BatchEnd.TheVariants.{End, Fault, More, Tick}
+use Rattle.rtps_records.specs.declared.format.Format.{Format}
 use Rattle.rtps_records.specs.declared.fault.RunFault.{RunFault}
 use Rattle.std.specs.Io.KnownBytes.{Appends}
 use Rattle.std.proofs.Math.Seq.{take-append_seam}
@@ -21,14 +19,13 @@ use Rattle.rtps_records.proofs.Progress.{EndsHere}
 use Rattle.dds_topic.specs.Decoding.{Decoding}
 use Rattle.rtps_discovery.specs.declared.config.Config.{Config}
 use Rattle.rtps_reader.specs.Notice.{answer_view}
-use Rattle.rtps_text.specs.Undated.{run}
+use Rattle.rtps_text.specs.Inputs.{run}
 use Rattle.rtps_run.specs.Standing.{EngineView}
-use Rattle.rtps_run.specs.Input.{Input, arrived}
-use Rattle.rtps_run.specs.Input.{Datagram as dated}
+use Rattle.rtps_run.specs.Input.{Input}
 use Rattle.rtps_run.specs.Standing as standing
-use Rattle.rtps_types.specs.declared.datagram.Datagram.{Datagram}
-use Rattle.rtps_text.specs.Undated.{StandsAt, inputs_of, run_by}
-use Rattle.rtps_text.proofs.Undated.{inputs_are, run_count, shown_count}
+use Rattle.rtps_text.specs.Ahead.{ReadsAhead, goes_on}
+use Rattle.rtps_text.specs.Inputs.{input_of, inputs_of, run_by}
+use Rattle.rtps_text.proofs.Inputs.{run_count, shown_count}
 use Rattle.rtps_planner.specs.Commuting.{merged}
 use Rattle.rtps_text.specs.Batched.{MovesBefore, TakesRecords}
 use Rattle.rtps_planner.specs.Outputs.{AreRising, sent_in}
@@ -76,7 +73,7 @@ by_place f before after given is = record { places = is.places; said = is.said; 
 
 -- the output of a batch is what the batch adds to all that the run puts out, so its lines are what
 -- the batch adds to the run's lines
-given_lines : {V M : Type 0} (text : M → List ℕ) (f : V → M) (decoding : Decoding M) (config : Config) (records batch : List (List ℕ)) (given : BatchOutput V) (count : ℕ)
+given_lines : {V M : Type 0} (text : M → List ℕ) (f : V → M) (decoding : Decoding M) (config : Config) (records batch : List Record) (given : BatchOutput V) (count : ℕ)
     → count ≡ length config.readers.items → IsGiven f (run decoding config records) (run decoding config (records ++ batch)) given
     → put_lines text (run decoding config records).put ++ all_lines text f given count ≡ put_lines text (run decoding config (records ++ batch)).put
 given_lines text f decoding config records batch given count counted is =
@@ -89,9 +86,9 @@ given_lines text f decoding config records batch given count counted is =
     ∙ ap (put_lines text) (sym is.put)
 
 -- after a batch, the text is what was said before, followed by the lines of the batch
-said_here : {C V M : Type 0} (text : C → M → List ℕ) (f : V → M) (decoding : C → Decoding M) (before after : EngineView C) (batch : List (List ℕ)) (given : BatchOutput V)
+said_here : {C V M : Type 0} (text : C → M → List ℕ) (f : V → M) (decoding : C → Decoding M) (before after : EngineView C) (batch : List Record) (given : BatchOutput V)
     → (after.catalog ≡ before.catalog) × (after.config ≡ before.config) → TakesRecords f decoding batch before after given
-    → (records : List (List ℕ)) (said : List ℕ) → HasSaid text decoding records said before
+    → (records : List Record) (said : List ℕ) → HasSaid text decoding records said before
     → HasSaid text decoding (records ++ batch) (said ++ all_lines (text after.catalog) f given (length after.statuses)) after
 said_here {C} text f decoding before after batch given same takes records said h =
     let standing = takes.stands records h.stands in
@@ -107,7 +104,7 @@ said_here {C} text f decoding before after batch given same takes records said h
     }
 
 -- the same, with any catalog and number of readers that equal the run's own
-pub said_more : {C V M : Type 0} (text : C → M → List ℕ) (f : V → M) (decoding : C → Decoding M) (records batch : List (List ℕ)) (said : List ℕ) (before next : EngineView C) (given : BatchOutput V) (k : C) (readers : ℕ)
+pub said_more : {C V M : Type 0} (text : C → M → List ℕ) (f : V → M) (decoding : C → Decoding M) (records batch : List Record) (said : List ℕ) (before next : EngineView C) (given : BatchOutput V) (k : C) (readers : ℕ)
     → (next.catalog ≡ before.catalog) × (next.config ≡ before.config) → TakesRecords f decoding batch before next given → next.catalog ≡ k → length next.config.readers.items ≡ readers
     → HasSaid text decoding records said before → HasSaid text decoding (records ++ batch) (said ++ all_lines (text k) f given readers) next
 said_more {C} text f decoding records batch said before next given k readers same takes own counted h =
@@ -116,20 +113,20 @@ said_more {C} text f decoding records batch said before next given k readers sam
     subst (λ l. HasSaid text decoding (records ++ batch) (said ++ l) next)
     (ap (λ (c : C). all_lines (text c) f given (length next.statuses)) own ∙ ap (λ r. all_lines (text k) f given r) count) here
 
--- if a result is Ok, datagrams at moment 0 were processed, whatever records came before them
-pub takes_records : {C V M U E : Type 0} (f : V → M) (decoding : C → Decoding M) (datagrams : List Datagram) (batch : List (List ℕ)) (old new : EngineView C) (given : BatchOutput V) (r : Result U E)
-    → map arrived datagrams ≡ inputs_of batch
-    → ((earlier : List Input) → standing.StandsAt decoding earlier old → OnOk r (standing.StandsAt decoding (earlier ++ map arrived datagrams) new))
-    → ((earlier : List Input) → standing.StandsAt decoding earlier old → OnOk r (IsGiven f (standing.run_by decoding old earlier) (standing.run_by decoding old (earlier ++ map arrived datagrams)) given))
+-- if a result is Ok, the inputs that these records are were processed, whatever records came before
+pub takes_records : {C V M U E : Type 0} (f : V → M) (decoding : C → Decoding M) (inputs : List Input) (batch : List Record) (old new : EngineView C) (given : BatchOutput V) (r : Result U E)
+    → inputs ≡ inputs_of batch
+    → ((earlier : List Input) → standing.StandsAt decoding earlier old → OnOk r (standing.StandsAt decoding (earlier ++ inputs) new))
+    → ((earlier : List Input) → standing.StandsAt decoding earlier old → OnOk r (IsGiven f (standing.run_by decoding old earlier) (standing.run_by decoding old (earlier ++ inputs)) given))
     → OnOk r (TakesRecords f decoding batch old new given)
-takes_records {C} {V} {M} f decoding datagrams batch old new given (Ok x) same stands gives =
-    let whole : (records : List (List ℕ)) → inputs_of records ++ map arrived datagrams ≡ inputs_of (records ++ batch) =
-    λ records. ap (λ l. inputs_of records ++ l) same ∙ sym (map-append (dated 0) records batch) in
+takes_records {C} {V} {M} f decoding inputs batch old new given (Ok x) same stands gives =
+    let whole : (records : List Record) → inputs_of records ++ inputs ≡ inputs_of (records ++ batch) =
+    λ records. ap (λ l. inputs_of records ++ l) same ∙ sym (map-append input_of records batch) in
     record {
       stands = λ records h. subst (λ (l : List Input). standing.StandsAt decoding l new) (whole records) (stands (inputs_of records) h);
       gives = λ records h. subst (λ (l : List Input). IsGiven f (run_by decoding old records) (standing.run_by decoding old l) given) (whole records) (gives (inputs_of records) h);
     }
-takes_records f decoding datagrams batch old new given (Err e) same stands gives = tt
+takes_records f decoding inputs batch old new given (Err e) same stands gives = tt
 
 -- if there is no text, the whole text is empty
 pub all_written : (texts : List (Result (Vec ℕ Global) AllocError)) → texts ≡ [] → AreTexts texts []
@@ -149,37 +146,40 @@ moved_front old new octets left m =
 -- the fault that a batch ends with, if there is one
 abbrev pub fault_in : BatchEnd → Option RunFault
 fault_in More = None
+fault_in (Tick moment) = None
 fault_in End = None
 fault_in (Fault fault) = Some fault
 
-pub ends_here : (end : BatchEnd) (m : ℕ) (records : List (List ℕ)) (here after : Option (List ℕ)) → end ≢ More → m ≤ 4294967295 → EndsBatch end m records here after → EndsHere (fault_in end) m here after
-ends_here More m records here after not few ends = absurd (not refl)
-ends_here End m records here after not few ends = (few, ends)
-ends_here (Fault fault) m records here after not few ends = ends
+pub ends_here : (format : Format) (end : BatchEnd) (m : ℕ) (records : List Record) (here after : Option (List ℕ)) → goes_on end ≡ false → m ≤ 4294967295 → EndsBatch format end m records here after → EndsHere format (fault_in end) m here after
+ends_here format More m records here after not few ends = absurd (let bad : true ≡ false = not in cc)
+ends_here format (Tick moment) m records here after not few ends = absurd (let bad : true ≡ false = not in cc)
+ends_here format End m records here after not few ends = (few, ends)
+ends_here format (Fault fault) m records here after not few ends = ends
 
 -- if nothing may follow a batch and it ends with no fault, the file ends after it
-pub at_end : (end : BatchEnd) (m : ℕ) (records : List (List ℕ)) (here after : Option (List ℕ)) → end ≢ More → ((fault : RunFault) → end ≢ Fault fault) → EndsBatch end m records here after → IsAtEnd here
-at_end More m records here after not none ends = absurd (not refl)
-at_end End m records here after not none ends = ends
-at_end (Fault fault) m records here after not none ends = absurd (none fault refl)
+pub at_end : (format : Format) (end : BatchEnd) (m : ℕ) (records : List Record) (here after : Option (List ℕ)) → goes_on end ≡ false → ((fault : RunFault) → end ≢ Fault fault) → EndsBatch format end m records here after → IsAtEnd here
+at_end format More m records here after not none ends = absurd (let bad : true ≡ false = not in cc)
+at_end format (Tick moment) m records here after not none ends = absurd (let bad : true ≡ false = not in cc)
+at_end format End m records here after not none ends = ends
+at_end format (Fault fault) m records here after not none ends = absurd (none fault refl)
 
--- the number of records that may follow a batch with this end
+-- a number that decreases with each batch: twice the number of records that may follow one with
+-- this end, and one for the tick that was read
 abbrev pub left_of : BatchEnd → ℕ → ℕ
-left_of More count = 4294967296 - count
+left_of More count = 2 * (4294967296 - count)
+left_of (Tick moment) count = 2 * (4294967296 - count) + 1
 left_of End count = 0
 left_of (Fault fault) count = 0
 
--- this number decreases with each batch
-pub fewer_left : (before after : Option (List ℕ)) (n m : ℕ) (records : List (List ℕ)) (end : BatchEnd) → n ≤ 4294967295 → ReadsBatch before after n m records end → left_of end m < left_of More n
-fewer_left before after n m records More few r = let more = r.few few in omega (arith, r.count, r.ends.0, more, few)
-fewer_left before after n m records End few r = omega (arith, few)
-fewer_left before after n m records (Fault fault) few r = omega (arith, few)
-
--- no record is longer than a datagram of a batch may be
-pub all_fit : (datagrams : List Datagram) (records : List (List ℕ)) → map (λ (d : Datagram). d.bytes.now) datagrams ≡ records
-    → AllByRecursion IsRecord records → All (λ (d : Datagram). length d.bytes.now ≤ 65507) datagrams
-all_fit datagrams records e each = All-from_recursion (λ (d : Datagram). length d.bytes.now ≤ 65507) datagrams (fits datagrams (subst (AllByRecursion IsRecord) (sym e) each))
-  where
-    fits : (ds : List Datagram) → AllByRecursion IsRecord (map (λ (d : Datagram). d.bytes.now) ds) → AllByRecursion (λ (d : Datagram). length d.bytes.now ≤ 65507) ds
-    fits [] h = tt
-    fits (d ∷ ds) h = (h.0, fits ds h.1)
+pub fewer_left : (format : Format) (before after : Option (List ℕ)) (last end : BatchEnd) (count n m : ℕ) (records : List Record) → goes_on last ≡ true → n ≤ 4294967295
+    → count ≡ n + ticks_in last → ReadsAhead format last before after n m records end → left_of end m < left_of last count
+fewer_left format before after End end count n m records on few is r = absurd (let bad : false ≡ true = on in cc)
+fewer_left format before after (Fault fault) end count n m records on few is r = absurd (let bad : false ≡ true = on in cc)
+fewer_left format before after More More count n m records on few is r = let more = r.reads.few few in omega (arith, is, r.reads.count, r.reads.ends.0, more, few)
+fewer_left format before after More (Tick moment) count n m records on few is r = let more = r.reads.few few in omega (arith, is, r.reads.count, more, few)
+fewer_left format before after More End count n m records on few is r = omega (arith, is, few)
+fewer_left format before after More (Fault fault) count n m records on few is r = omega (arith, is, few)
+fewer_left format before after (Tick moment) More count n m records on few is r = let more = r.reads.few few in omega (arith, is, r.reads.count, r.reads.ends.0, more, few)
+fewer_left format before after (Tick moment) (Tick next) count n m records on few is r = absurd (let bad : Tick next ≡ More = r.next refl in cc)
+fewer_left format before after (Tick moment) End count n m records on few is r = absurd (let bad : End ≡ More = r.next refl in cc)
+fewer_left format before after (Tick moment) (Fault fault) count n m records on few is r = absurd (let bad : Fault fault ≡ More = r.next refl in cc)

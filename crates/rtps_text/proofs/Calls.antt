@@ -1,8 +1,9 @@
 -- What a list of calls to the network receives and sends, and how many waits and failures it has.
-use Rattle.std.proofs.Common.{◌≡◌, ℕ, ◌+◌, List, [], ◌∷◌, ◌++◌, ◌⊎◌, Option, arith, inl, inr, refl, subst, sym, ap, ◌∙◌, append_assoc, append-nil, length, length-append, map}
-use Rattle.std.proofs.lemmas.List.{map-append}
+use Rattle.std.proofs.Common.{◌≡◌, ℕ, suc, ◌+◌, List, [], ◌∷◌, ◌++◌, ◌⊎◌, Option, arith, inl, inr, refl, subst, sym, ap, ◌∙◌, append_assoc, append-nil, length, length-append, map}
+use Rattle.std.proofs.lemmas.List.{length-map, map-append}
 use Rattle.rtps_types.specs.declared.locator.Locator.{Locator}
-use Rattle.rtps_records.specs.Traffic.{Exhausted, Failed, Grows, Received, Sent, Traffic, Waited, failures_in, last_call, receipts, received_in, sent_in, waits_in}
+use Rattle.rtps_records.specs.RecordFile.{Datagram, Record, Tick}
+use Rattle.rtps_records.specs.Traffic.{Exhausted, Failed, Grows, Passed, Received, Sent, Traffic, Waited, failures_in, heard_after, heard_in, last_call, moment_after, receipts, received_in, sent_in, waits_in}
 use Rattle.rtps_records.specs.declared.receive_end.ReceiveEnd.{ReceiveEnd}
 use Rattle.rtps_records.specs.declared.receive_end.ReceiveEnd.TheVariants.{Drained, Fault, More}
 use Rattle.rtps_records.proofs.Received.{Grows-nil, Grows-trans}
@@ -10,11 +11,32 @@ use Rattle.rtps_text.specs.Listened.{IsDrained, WaitsInTurn}
 use Rattle.rtps_text.specs.Live.{IsLast}
 use Rattle.rtps_text.specs.Sending.{Sends, sendings}
 
+heard-append : (m : ℕ) (xs ys : List Traffic)
+    → heard_after m (xs ++ ys) ≡ heard_after m xs ++ heard_after (moment_after m xs) ys
+heard-append m [] ys = refl
+heard-append m (Waited ∷ xs) ys = heard-append m xs ys
+heard-append m (Passed n ∷ xs) ys = ap (λ l. Tick n ∷ l) (heard-append n xs ys)
+heard-append m (Received o ∷ xs) ys = ap (λ l. Datagram m o ∷ l) (heard-append m xs ys)
+heard-append m (Exhausted ∷ xs) ys = heard-append m xs ys
+heard-append m (Failed ∷ xs) ys = heard-append m xs ys
+heard-append m (Sent to o ∷ xs) ys = heard-append m xs ys
+
+moment-append : (m : ℕ) (xs ys : List Traffic)
+    → moment_after m (xs ++ ys) ≡ moment_after (moment_after m xs) ys
+moment-append m [] ys = refl
+moment-append m (Waited ∷ xs) ys = moment-append m xs ys
+moment-append m (Passed n ∷ xs) ys = moment-append n xs ys
+moment-append m (Received o ∷ xs) ys = moment-append m xs ys
+moment-append m (Exhausted ∷ xs) ys = moment-append m xs ys
+moment-append m (Failed ∷ xs) ys = moment-append m xs ys
+moment-append m (Sent to o ∷ xs) ys = moment-append m xs ys
+
 received-append : (xs ys : List Traffic)
-    → received_in (xs ++ ys) ≡ received_in xs ++ received_in ys
-received-append [] ys = refl
+    → length (received_in (xs ++ ys)) ≡ length (received_in xs) + length (received_in ys)
+received-append [] ys = omega arith
 received-append (Waited ∷ xs) ys = received-append xs ys
-received-append (Received o ∷ xs) ys = ap (λ l. o ∷ l) (received-append xs ys)
+received-append (Passed m ∷ xs) ys = received-append xs ys
+received-append (Received o ∷ xs) ys = omega (arith, received-append xs ys)
 received-append (Exhausted ∷ xs) ys = received-append xs ys
 received-append (Failed ∷ xs) ys = received-append xs ys
 received-append (Sent to o ∷ xs) ys = received-append xs ys
@@ -22,6 +44,7 @@ received-append (Sent to o ∷ xs) ys = received-append xs ys
 sent-append : (xs ys : List Traffic) → sent_in (xs ++ ys) ≡ sent_in xs ++ sent_in ys
 sent-append [] ys = refl
 sent-append (Waited ∷ xs) ys = sent-append xs ys
+sent-append (Passed m ∷ xs) ys = sent-append xs ys
 sent-append (Received o ∷ xs) ys = sent-append xs ys
 sent-append (Exhausted ∷ xs) ys = sent-append xs ys
 sent-append (Failed ∷ xs) ys = sent-append xs ys
@@ -30,6 +53,7 @@ sent-append (Sent to o ∷ xs) ys = ap (λ l. (to, o) ∷ l) (sent-append xs ys)
 waits-append : (xs ys : List Traffic) → waits_in (xs ++ ys) ≡ waits_in xs + waits_in ys
 waits-append [] ys = omega arith
 waits-append (Waited ∷ xs) ys = omega (arith, waits-append xs ys)
+waits-append (Passed m ∷ xs) ys = waits-append xs ys
 waits-append (Received o ∷ xs) ys = waits-append xs ys
 waits-append (Exhausted ∷ xs) ys = waits-append xs ys
 waits-append (Failed ∷ xs) ys = waits-append xs ys
@@ -39,52 +63,126 @@ failures-append : (xs ys : List Traffic)
     → failures_in (xs ++ ys) ≡ failures_in xs + failures_in ys
 failures-append [] ys = omega arith
 failures-append (Waited ∷ xs) ys = failures-append xs ys
+failures-append (Passed m ∷ xs) ys = failures-append xs ys
 failures-append (Received o ∷ xs) ys = failures-append xs ys
 failures-append (Exhausted ∷ xs) ys = failures-append xs ys
 failures-append (Failed ∷ xs) ys = omega (arith, failures-append xs ys)
 failures-append (Sent to o ∷ xs) ys = failures-append xs ys
 
--- these calls receive these datagrams and send these, with this number of waits and of failures
-pub record Comes (calls : List Traffic) (datagrams : List (List ℕ))
+-- By these calls this is heard from one moment on, up to another moment, with this number of
+-- datagrams; these are sent; and this is the number of waits and of failures.
+pub record Comes (from to : ℕ) (calls : List Traffic) (records : List Record) (count : ℕ)
     (sends : List (Locator × List ℕ)) (waited failed : ℕ) : Type 0 where
-  pub received : received_in calls ≡ datagrams
+  pub heard : heard_after from calls ≡ records
+  pub at : moment_after from calls ≡ to
+  pub received : length (received_in calls) ≡ count
   pub sent : sent_in calls ≡ sends
   pub waits : waits_in calls ≡ waited
   pub failures : failures_in calls ≡ failed
 
 -- two lists of calls, one after the other
-pub comes_both : (xs ys : List Traffic) (r s : List (List ℕ)) (t u : List (Locator × List ℕ))
-    (v w f g : ℕ) → Comes xs r t v f → Comes ys s u w g
-    → Comes (xs ++ ys) (r ++ s) (t ++ u) (v + w) (f + g)
-comes_both xs ys r s t u v w f g a b = record {
-  received = received-append xs ys ∙ ap (λ l. l ++ received_in ys) a.received
-      ∙ ap (λ l. r ++ l) b.received;
+pub comes_both : (m n o : ℕ) (xs ys : List Traffic) (r s : List Record) (c d : ℕ)
+    (t u : List (Locator × List ℕ)) (v w f g : ℕ) → Comes m n xs r c t v f
+    → Comes n o ys s d u w g → Comes m o (xs ++ ys) (r ++ s) (c + d) (t ++ u) (v + w) (f + g)
+comes_both m n o xs ys r s c d t u v w f g a b = record {
+  heard = heard-append m xs ys ∙ ap (λ l. l ++ heard_after (moment_after m xs) ys) a.heard
+      ∙ ap (λ k. r ++ heard_after k ys) a.at ∙ ap (λ l. r ++ l) b.heard;
+  at = moment-append m xs ys ∙ ap (λ k. moment_after k ys) a.at ∙ b.at;
+  received = omega (arith, received-append xs ys, a.received, b.received);
   sent = sent-append xs ys ∙ ap (λ l. l ++ sent_in ys) a.sent ∙ ap (λ l. t ++ l) b.sent;
   waits = omega (arith, waits-append xs ys, a.waits, b.waits);
   failures = omega (arith, failures-append xs ys, a.failures, b.failures);
 }
 
-pub comes_receipts : (datagrams : List (List ℕ)) → Comes (receipts datagrams) datagrams [] 0 0
-comes_receipts [] = record { received = refl; sent = refl; waits = refl; failures = refl }
-comes_receipts (d ∷ ds) =
-    let rest = comes_receipts ds in
+-- the clock is read
+pub comes_passed : (m n : ℕ) → Comes m n (Passed n ∷ []) (Tick n ∷ []) 0 [] 0 0
+comes_passed m n = record {
+  heard = refl;
+  at = refl;
+  received = refl;
+  sent = refl;
+  waits = refl;
+  failures = refl;
+}
+
+-- one wait
+pub comes_waited : (m : ℕ) → Comes m m (Waited ∷ []) [] 0 [] 1 0
+comes_waited m = record {
+  heard = refl;
+  at = refl;
+  received = refl;
+  sent = refl;
+  waits = refl;
+  failures = refl;
+}
+
+-- one failure
+pub comes_failed : (m : ℕ) → Comes m m (Failed ∷ []) [] 0 [] 0 1
+comes_failed m = record {
+  heard = refl;
+  at = refl;
+  received = refl;
+  sent = refl;
+  waits = refl;
+  failures = refl;
+}
+
+pub comes_receipts : (m : ℕ) (datagrams : List (List ℕ))
+    → Comes m m (receipts datagrams) (map (Datagram m) datagrams) (length datagrams) [] 0 0
+comes_receipts m [] = record {
+  heard = refl;
+  at = refl;
+  received = refl;
+  sent = refl;
+  waits = refl;
+  failures = refl;
+}
+comes_receipts m (d ∷ ds) =
+    let rest = comes_receipts m ds in
     record {
-      received = ap (λ l. d ∷ l) rest.received;
+      heard = ap (λ l. Datagram m d ∷ l) rest.heard;
+      at = rest.at;
+      received = ap suc rest.received;
       sent = rest.sent;
       waits = rest.waits;
       failures = rest.failures;
     }
 
-comes_last : (end : ReceiveEnd) → Comes (last_call end) [] [] 0 (failures_in (last_call end))
-comes_last More = record { received = refl; sent = refl; waits = refl; failures = refl }
-comes_last Drained = record { received = refl; sent = refl; waits = refl; failures = refl }
-comes_last Fault = record { received = refl; sent = refl; waits = refl; failures = refl }
+comes_last : (m : ℕ) (end : ReceiveEnd)
+    → Comes m m (last_call end) [] 0 [] 0 (failures_in (last_call end))
+comes_last m More = record {
+  heard = refl;
+  at = refl;
+  received = refl;
+  sent = refl;
+  waits = refl;
+  failures = refl;
+}
+comes_last m Drained = record {
+  heard = refl;
+  at = refl;
+  received = refl;
+  sent = refl;
+  waits = refl;
+  failures = refl;
+}
+comes_last m Fault = comes_failed m
 
-pub comes_sendings : (sends : List (Locator × List ℕ)) → Comes (sendings sends) [] sends 0 0
-comes_sendings [] = record { received = refl; sent = refl; waits = refl; failures = refl }
-comes_sendings (s ∷ ss) =
-    let rest = comes_sendings ss in
+pub comes_sendings : (m : ℕ) (sends : List (Locator × List ℕ))
+    → Comes m m (sendings sends) [] 0 sends 0 0
+comes_sendings m [] = record {
+  heard = refl;
+  at = refl;
+  received = refl;
+  sent = refl;
+  waits = refl;
+  failures = refl;
+}
+comes_sendings m (s ∷ ss) =
+    let rest = comes_sendings m ss in
     record {
+      heard = rest.heard;
+      at = rest.at;
       received = rest.received;
       sent = ap (λ l. (s.0, s.1) ∷ l) rest.sent;
       waits = rest.waits;
@@ -92,26 +190,54 @@ comes_sendings (s ∷ ss) =
     }
 
 -- the calls that receive a batch
-pub comes_batch : (datagrams : List (List ℕ)) (end : ReceiveEnd)
-    → Comes (receipts datagrams ++ last_call end) datagrams [] 0 (failures_in (last_call end))
-comes_batch datagrams end =
-    let all = comes_both _ _ _ _ _ _ _ _ _ _ (comes_receipts datagrams) (comes_last end) in
+comes_batch : (m : ℕ) (datagrams : List (List ℕ)) (end : ReceiveEnd)
+    → Comes m m (receipts datagrams ++ last_call end) (map (Datagram m) datagrams)
+    (length datagrams) [] 0 (failures_in (last_call end))
+comes_batch m datagrams end =
+    let all = comes_both m m m _ _ _ _ _ _ _ _ _ _ _ _ (comes_receipts m datagrams)
+    (comes_last m end) in
     record {
-      received = all.received ∙ append-nil datagrams;
+      heard = all.heard ∙ append-nil (map (Datagram m) datagrams);
+      at = all.at;
+      received = omega (arith, all.received);
       sent = all.sent;
       waits = all.waits;
       failures = omega (arith, all.failures);
     }
 
--- the calls that receive a batch, and then those that send its answers
-pub comes_answered : (datagrams : List (List ℕ)) (end : ReceiveEnd)
-    (sends : List (Locator × List ℕ))
-    → Comes ((receipts datagrams ++ last_call end) ++ sendings sends) datagrams sends 0
+-- the same, with the records that the batch has
+pub comes_received : (m : ℕ) (records : List Record) (datagrams : List (List ℕ)) (end : ReceiveEnd)
+    → records ≡ map (Datagram m) datagrams
+    → Comes m m (receipts datagrams ++ last_call end) records (length records) [] 0
     (failures_in (last_call end))
-comes_answered datagrams end sends =
-    let all = comes_both _ _ _ _ _ _ _ _ _ _ (comes_batch datagrams end) (comes_sendings sends) in
+comes_received m records datagrams end are =
+    let many : length records ≡ length datagrams = ap length are ∙ length-map datagrams (Datagram m) in
+    let all = comes_batch m datagrams end in
     record {
-      received = all.received ∙ append-nil datagrams;
+      heard = all.heard ∙ sym are;
+      at = all.at;
+      received = all.received ∙ sym many;
+      sent = all.sent;
+      waits = all.waits;
+      failures = all.failures;
+    }
+
+-- the calls that receive a batch for which memory ran out
+pub comes_begun : (m : ℕ) (records : List Record) (datagrams : List (List ℕ))
+    → records ≡ map (Datagram m) datagrams
+    → Comes m m (receipts datagrams ++ []) records (length records) [] 0 0
+comes_begun m records datagrams are = comes_received m records datagrams More are
+
+-- calls without a send, and then those that send answers
+pub comes_answered : (m n : ℕ) (calls : List Traffic) (records : List Record) (count failed : ℕ)
+    (sends : List (Locator × List ℕ)) → Comes m n calls records count [] 0 failed
+    → Comes m n (calls ++ sendings sends) records count sends 0 failed
+comes_answered m n calls records count failed sends c =
+    let all = comes_both m n n _ _ _ _ _ _ _ _ _ _ _ _ c (comes_sendings n sends) in
+    record {
+      heard = all.heard ∙ append-nil records;
+      at = all.at;
+      received = omega (arith, all.received);
       sent = all.sent;
       waits = all.waits;
       failures = omega (arith, all.failures);
@@ -140,7 +266,7 @@ split (x ∷ xs) ys (p ∷ past) later c e =
           inr (other.0, ap (λ l. p ∷ l) other.1 ∙ ap (λ y. y ∷ (xs ++ other.0)) (sym head), other.2)
     ]
 
-module _ (sends : List (List ℕ) → List (Locator × List ℕ)) where
+module _ (sends : List Record → List (Locator × List ℕ)) where
   -- more calls, without a wait among them
   pub in_turn_more : (calls more : List Traffic) → WaitsInTurn sends calls → waits_in more ≡ 0
       → WaitsInTurn sends (calls ++ more)
@@ -153,7 +279,7 @@ module _ (sends : List (List ℕ) → List (Locator × List ℕ)) where
 
   -- one more wait
   pub in_turn_wait : (calls : List Traffic) → WaitsInTurn sends calls → IsDrained calls
-      → sent_in calls ≡ sends (received_in calls) → WaitsInTurn sends (calls ++ Waited ∷ [])
+      → sent_in calls ≡ sends (heard_in calls) → WaitsInTurn sends (calls ++ Waited ∷ [])
   in_turn_wait calls h drained sent past later e =
       elim (split calls (Waited ∷ []) past later Waited e) [
         | inl one ↦ h past one.0 one.1
@@ -161,10 +287,10 @@ module _ (sends : List (List ℕ) → List (Locator × List ℕ)) where
       ]
     where
       here : (front : List Traffic) → past ≡ calls ++ front → Waited ∷ [] ≡ front ++ Waited ∷ later
-          → IsDrained past × (sent_in past ≡ sends (received_in past))
+          → IsDrained past × (sent_in past ≡ sends (heard_in past))
       here [] is last =
           let same : calls ≡ past = sym (append-nil calls) ∙ sym is in
-          subst (λ c. IsDrained c × (sent_in c ≡ sends (received_in c))) same (drained, sent)
+          subst (λ c. IsDrained c × (sent_in c ≡ sends (heard_in c))) same (drained, sent)
       here (c ∷ front) is last =
           let tail = cons-tail Waited c [] (front ++ Waited ∷ later) last in
           absurd (omega (arith, ap length tail, length-append front (Waited ∷ later)))

@@ -17,7 +17,7 @@ use Rattle.rtps_text.specs.declared.printer.Printer.{Printer}
 use Rattle.rtps_text.specs.declared.running.RunLines.{RunLines}
 use Rattle.rtps_text.specs.declared.sink.Sink.TheVariants.{Lines}
 use Rattle.rtps_text.proofs.Batches.{all_written, shared_lines}
-use Rattle.rtps_text.proofs.Undated.{shown_count}
+use Rattle.rtps_text.proofs.Inputs.{shown_count}
 use Rattle.rtps_types.specs.declared.place.Place.{Place}
 use Rattle.rtps_planner.specs.Commuting.{answers_at, notices_at}
 use Rattle.rtps_planner.specs.Outputs.{AreRising, sent_in}

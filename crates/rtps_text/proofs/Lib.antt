@@ -6,11 +6,12 @@ pub mod Due
 pub mod FileRun
 pub mod Fronts
 pub mod Hearing
+pub mod Held
+pub mod Inputs
 pub mod Run
 pub mod Sampled
 pub mod Sent
 pub mod Sinks
 pub mod Sliced
 pub mod Turns
-pub mod Undated
 pub mod Viewing

@@ -1,5 +1,5 @@
 -- A run and its text, after one more record.
-use Rattle.std.proofs.Common.{◌≡◌, ℕ, suc, ◌+◌, ◌<◌, nat_lt, arith, Option, None, Some, Result, Ok, Err, OnErr, OnOk, IfErr, subst, List, [], ◌∷◌, ◌++◌, Bool, true, false, if◌then◌else◌, sym, ap, ◌∙◌, append-nil, append_assoc, inl, inr, length, refl, take, drop, take-append-drop}
+use Rattle.std.proofs.Common.{◌≡◌, ℕ, suc, ◌+◌, arith, Option, Some, Result, Ok, Err, OnErr, OnOk, IfErr, subst, List, [], ◌∷◌, ◌++◌, Bool, true, false, if◌then◌else◌, sym, ap, ◌∙◌, append-nil, append_assoc, inl, inr, length, refl, take, drop, take-append-drop}
 use Rattle.std.specs.List.{flat_map}
 use Rattle.std.proofs.lemmas.Grind.{flat_map-append}
 use Rattle.std.specs.Io.{StartsWith}
@@ -13,17 +13,17 @@ use Rattle.rtps_records.specs.Runs.{Moves, PutsFront, Spills, Stops}
 use Rattle.rtps_records.specs.Text.{Ends, IsFront}
 use Rattle.rtps_records.specs.declared.fault.RunFault.{RunFault}
 use Rattle.rtps_records.specs.declared.fault.RunFault.TheVariants.{NoMemory}
-use Rattle.std.proofs.lemmas.Bool.Decides.{nat_tests}
 use Rattle.rtps_reader.specs.declared.status.Status.{Status}
-use Rattle.rtps_run.specs.Seen.{reader_count, status_at}
+use Rattle.rtps_run.specs.Seen.{status_at}
 use Rattle.rtps_types.specs.declared.identity.GuidPrefix.{GuidPrefix}
 use Rattle.rtps_run.specs.Occurrence.{Occurrence}
 use Rattle.rtps_run.specs.World.{ReportView, World, count_after, discovery_puts, puts_below, world_after}
-use Rattle.rtps_run.specs.Input.{Datagram, occurrences_from, occurrences_of}
+use Rattle.rtps_run.specs.Input.{index_after, occurrences_from, occurrences_of}
 use Rattle.rtps_run.specs.Run.{first_world, world_run}
 use Rattle.rtps_run.specs.Standing.{EngineView}
-use Rattle.rtps_text.specs.Undated.{StandsAt, inputs_of, run_by}
+use Rattle.rtps_text.specs.Inputs.{StandsAt, input_of, inputs_of, run_by}
 use Rattle.rtps_text.specs.Replayed.{HasSaid, put_line, replay_text, status_lines, status_text, summary_text, text_by}
+use Rattle.rtps_records.specs.RecordFile.{Record}
 
 -- a prefix of a text is a prefix of a longer text
 pub front_more : (a b c x : List ℕ) → IsFront a b → c ≡ b ++ x → IsFront a c
@@ -42,7 +42,7 @@ ends_plain text decoding engine false old e = ([], sym (append-nil old), λ reco
 
 -- with a summary, it is all that is left to say
 pub ends_summed : {C M : Type 0} (text : C → M → List ℕ) (decoding : C → Decoding M) (engine : EngineView C) (summary : Bool) (old new : List ℕ) → summary ≡ true
-    → StartsWith new old → ((records : List (List ℕ)) → StandsAt decoding records engine → new ≡ old ++ summary_text (run_by decoding engine records))
+    → StartsWith new old → ((records : List Record) → StandsAt decoding records engine → new ≡ old ++ summary_text (run_by decoding engine records))
     → Ends (λ records said. HasSaid text decoding records said engine) (text_by text decoding engine summary) old new
 unfolding Ends
 ends_summed text decoding engine false old new e keeps sums = absurd (let bad : false ≡ true = e in cc)
@@ -72,22 +72,23 @@ goes_on_behind : {M : Type 0} (decoding : Decoding M) (those these : List Occurr
 goes_on_behind decoding those these on w [] = on w
 goes_on_behind decoding those these on w (o ∷ os) = goes_on_behind decoding those these on (world_after decoding w o) os
 
-goes_on : {M : Type 0} (decoding : Decoding M) (own : GuidPrefix) (index : ℕ) (records more : List (List ℕ)) (w : World M)
+goes_on : {M : Type 0} (decoding : Decoding M) (own : GuidPrefix) (index : ℕ) (records more : List Record) (w : World M)
     → GoesOn decoding w (occurrences_from own index (inputs_of records)) (occurrences_from own index (inputs_of (records ++ more)))
 goes_on decoding own index [] more w = put_stays decoding w (occurrences_from own index (inputs_of more))
-goes_on decoding own index (octets ∷ records) more w =
-    goes_on_behind decoding (occurrences_from own (index + 1) (inputs_of records)) (occurrences_from own (index + 1) (inputs_of (records ++ more))) (goes_on decoding own (index + 1) records more) w (occurrences_of own index (Datagram 0 octets))
+goes_on decoding own index (r ∷ records) more w =
+    let next = index_after index (input_of r) in
+    goes_on_behind decoding (occurrences_from own next (inputs_of records)) (occurrences_from own next (inputs_of (records ++ more))) (goes_on decoding own next records more) w (occurrences_of own index (input_of r))
 
 -- what a run puts out over more records begins with what it puts out over the first ones
 pub put_on : {C M : Type 0} (decoding : C → Decoding M) (engine : EngineView C)
-    (records more : List (List ℕ)) → (extra : List (ReportView M))
+    (records more : List Record) → (extra : List (ReportView M))
     × ((run_by decoding engine (records ++ more)).put
     ≡ (run_by decoding engine records).put ++ extra)
 put_on decoding engine records more =
     goes_on (decoding engine.catalog) engine.config.own 0 records more (first_world engine.config)
 
 -- what was said for the first records is a prefix of the whole text of all records
-pub fronts : {C M : Type 0} (text : C → M → List ℕ) (decoding : C → Decoding M) (summary : Bool) (engine : EngineView C) (records more : List (List ℕ)) (said : List ℕ)
+pub fronts : {C M : Type 0} (text : C → M → List ℕ) (decoding : C → Decoding M) (summary : Bool) (engine : EngineView C) (records more : List Record) (said : List ℕ)
     → HasSaid text decoding records said engine → IsFront said (text_by text decoding engine summary (records ++ more))
 fronts text decoding summary engine records more said h =
     let line = put_line (text engine.catalog) in
@@ -101,7 +102,7 @@ fronts text decoding summary engine records more said h =
 
 -- engines with the same catalog and configuration have the same text
 pub same_text : {C M : Type 0} (text : C → M → List ℕ) (decoding : C → Decoding M) (a b : EngineView C) (s t : Bool) → a.catalog ≡ b.catalog → a.config ≡ b.config → s ≡ t
-    → (records : List (List ℕ)) → text_by text decoding a s records ≡ text_by text decoding b t records
+    → (records : List Record) → text_by text decoding a s records ≡ text_by text decoding b t records
 same_text text decoding a b s t same e f records =
     ap (λ catalog. replay_text (text catalog) (decoding catalog) a.config s records) same
     ∙ ap (λ (config : Config). replay_text (text b.catalog) (decoding b.catalog) config s records) e
@@ -117,7 +118,7 @@ same_stop text decoding a b k l s t r before after old new e f g h =
     (subst (λ c. IfErr r (λ fault. Stops (replay_text (text c) (decoding c) k s) fault before after old new)) e h))
 
 -- if a result is Ok, what follows from a fact about all lists of records holds
-pub on_ok_all : {X E : Type 0} {Q : Type 0} {S F : List (List ℕ) → Type 0} (r : Result X E) → ((records : List (List ℕ)) → S records → OnOk r (F records)) → (((records : List (List ℕ)) → S records → F records) → Q) → OnOk r Q
+pub on_ok_all : {X E : Type 0} {Q : Type 0} {S F : List Record → Type 0} (r : Result X E) → ((records : List Record) → S records → OnOk r (F records)) → (((records : List Record) → S records → F records) → Q) → OnOk r Q
 on_ok_all (Ok x) f h = h f
 on_ok_all (Err e) f h = tt
 
@@ -183,6 +184,14 @@ pub on_err : {T E P : Type 0} (r : Result T E) → P → OnErr r P
 on_err (Ok x) p = tt
 on_err (Err e) p = p
 
+pub on_ok_both : {T E P Q R : Type 0} (r : Result T E) → (P → Q → R) → OnOk r P → OnOk r Q → OnOk r R
+on_ok_both (Ok x) f p q = f p q
+on_ok_both (Err e) f p q = tt
+
+pub if_err_then : {T E : Type 0} {P Q : E → Type 0} (r : Result T E) → ((e : E) → P e → Q e) → IfErr r P → IfErr r Q
+if_err_then (Ok x) f h = tt
+if_err_then (Err e) f h = f e h
+
 -- a run that stops without memory stops at any fault that equals NoMemory
-pub of_cause : (whole : List (List ℕ) → List ℕ) (fault : RunFault) (before after old new : Option (List ℕ)) → fault ≡ NoMemory → Stops whole NoMemory before after old new → Stops whole fault before after old new
+pub of_cause : (whole : List Record → List ℕ) (fault : RunFault) (before after old new : Option (List ℕ)) → fault ≡ NoMemory → Stops whole NoMemory before after old new → Stops whole fault before after old new
 of_cause whole fault before after old new e stops = subst (λ f. Stops whole f before after old new) (sym e) stops

@@ -16,12 +16,12 @@ use Rattle.rtps_discovery.specs.declared.config.Config.{Config}
 use Rattle.rtps_reader.specs.Notice.{notice_view}
 use Rattle.rtps_reader.specs.declared.notice.Notice.{Notice}
 use Rattle.rtps_reader.specs.declared.notice.Output.{Output}
-use Rattle.rtps_text.specs.Undated.{run}
+use Rattle.rtps_text.specs.Inputs.{run}
 use Rattle.rtps_run.specs.Seen.{notices_by}
 use Rattle.rtps_run.specs.Standing.{EngineView}
-use Rattle.rtps_text.specs.Undated.{StandsAt, run_by}
+use Rattle.rtps_text.specs.Inputs.{StandsAt, run_by}
 use Rattle.rtps_run.specs.World.{World}
-use Rattle.rtps_text.proofs.Undated.{run_count, shown_count}
+use Rattle.rtps_text.proofs.Inputs.{run_count, shown_count}
 use Rattle.dds_participant.specs.BatchOutput.{IsGiven, told_in}
 use Rattle.dds_participant.specs.declared.batch_output.BatchOutput.{BatchOutput}
 use Rattle.rtps_text.specs.Batched.{TakesRecords}
@@ -31,6 +31,7 @@ use Rattle.rtps_text.specs.Replayed.{summary_text}
 use Rattle.rtps_text.proofs.Caching.{moves_printed}
 use Rattle.rtps_text.proofs.Fronts.{told_some}
 use Rattle.rtps_text.proofs.Run.{Printed, printed_front, printed_more}
+use Rattle.rtps_records.specs.RecordFile.{Record}
 
 -- ---- the caches
 
@@ -55,19 +56,19 @@ accepted_both past [] ms = refl
 accepted_both past (n ∷ ns) ms = accepted_both _ ns ms
 
 -- engines with the same catalog and configuration have the same run
-same_run : {C M : Type 0} (decoding : C → Decoding M) (a b : EngineView C) → (b.catalog ≡ a.catalog) × (b.config ≡ a.config) → (records : List (List ℕ)) → run_by decoding a records ≡ run_by decoding b records
+same_run : {C M : Type 0} (decoding : C → Decoding M) (a b : EngineView C) → (b.catalog ≡ a.catalog) × (b.config ≡ a.config) → (records : List Record) → run_by decoding a records ≡ run_by decoding b records
 same_run {C} decoding a b same records =
     ap (λ (k : C). run (decoding k) a.config records) (sym same.0) ∙ ap (λ (config : Config). run (decoding b.catalog) config records) (sym same.1)
 
 -- there is a cache for each reader's output
-pub outputs_many : {C V M : Type 0} (f : V → M) (decoding : C → Decoding M) (history : History) (records batch : List (List ℕ)) (engine : EngineView C) (caches : List (CacheView V)) (given : BatchOutput V)
+pub outputs_many : {C V M : Type 0} (f : V → M) (decoding : C → Decoding M) (history : History) (records batch : List Record) (engine : EngineView C) (caches : List (CacheView V)) (given : BatchOutput V)
     → AreKept f decoding history records engine caches → IsGiven f (run_by decoding engine records) (run_by decoding engine (records ++ batch)) given
     → length given.outputs.items ≡ length caches
 outputs_many f decoding history records batch engine caches given k is =
     is.readers ∙ run_count (decoding engine.catalog) engine.config (records ++ batch) ∙ sym k.count
 
 -- the caches accepted the notices of a batch
-pub kept_more : {C V M : Type 0} (f : V → M) (decoding : C → Decoding M) (history : History) (records batch : List (List ℕ)) (before after : EngineView C) (given : BatchOutput V) (caches next : List (CacheView V))
+pub kept_more : {C V M : Type 0} (f : V → M) (decoding : C → Decoding M) (history : History) (records batch : List Record) (before after : EngineView C) (given : BatchOutput V) (caches next : List (CacheView V))
     → (after.catalog ≡ before.catalog) × (after.config ≡ before.config) → AreKept f decoding history records before caches → StandsAt decoding (records ++ batch) after
     → IsGiven f (run_by decoding before records) (run_by decoding before (records ++ batch)) given → AllAccept given.outputs.items caches next
     → AreKept f decoding history (records ++ batch) after next
@@ -96,7 +97,7 @@ kept_more {C} {V} {M} f decoding history records batch before after given caches
         }
 
 -- one more batch was processed, and its notices were accepted
-pub batch_kept : {C V M : Type 0} (f : V → M) (decoding : C → Decoding M) (history again : History) (records batch : List (List ℕ)) (before next final : EngineView C) (given : BatchOutput V) (caches later : List (CacheView V))
+pub batch_kept : {C V M : Type 0} (f : V → M) (decoding : C → Decoding M) (history again : History) (records batch : List Record) (before next final : EngineView C) (given : BatchOutput V) (caches later : List (CacheView V))
     → (next.catalog ≡ before.catalog) × (next.config ≡ before.config) → final ≡ next → again ≡ history → TakesRecords f decoding batch before next given → AllAccept given.outputs.items caches later
     → AreKept f decoding history records before caches → AreKept f decoding again (records ++ batch) final later
 batch_kept {C} f decoding history again records batch before next final given caches later same is keep takes a k =
@@ -106,7 +107,7 @@ batch_kept {C} f decoding history again records batch before next final given ca
 
 -- runs with the same catalog, configuration, summary setting and history have the same text
 pub same_samples : {C M : Type 0} (text : C → M → List ℕ) (decoding : C → Decoding M) (a b : EngineView C) (s t : Bool) (j k : History) → a.catalog ≡ b.catalog → a.config ≡ b.config → s ≡ t → j ≡ k
-    → (records : List (List ℕ)) → samples_by text decoding a s j records ≡ samples_by text decoding b t k records
+    → (records : List Record) → samples_by text decoding a s j records ≡ samples_by text decoding b t k records
 same_samples {C} text decoding a b s t j k same e f g records =
     ap (λ (catalog : C). samples_text (text catalog) (decoding catalog) a.config s j records) same
     ∙ ap (λ (config : Config). samples_text (text b.catalog) (decoding b.catalog) config s j records) e
@@ -115,7 +116,7 @@ same_samples {C} text decoding a b s t j k same e f g records =
 
 -- ---- how a run stops
 
-pub late : (text : List (List ℕ) → List ℕ) (fault : RunFault) (before after old new : Option (List ℕ)) → Stops text fault before after old new → StopsLate text fault before after old new
+pub late : (text : List Record → List ℕ) (fault : RunFault) (before after old new : Option (List ℕ)) → Stops text fault before after old new → StopsLate text fault before after old new
 unfolding Stops StopsLate
 late text NotRecordFile before after old new h = h
 late text CannotRead before after old new h = h
@@ -128,7 +129,7 @@ late text TooManyRecords before after old new h = h
 -- ---- the last text
 
 -- the text is the lines of the entries, followed by the summary
-pub all_text : {C V M : Type 0} (text : C → M → List ℕ) (f : V → M) (decoding : C → Decoding M) (engine : EngineView C) (summary : Bool) (history : History) (records : List (List ℕ)) (caches : List (CacheView V)) (catalog : C) (rest : List ℕ)
+pub all_text : {C V M : Type 0} (text : C → M → List ℕ) (f : V → M) (decoding : C → Decoding M) (engine : EngineView C) (summary : Bool) (history : History) (records : List Record) (caches : List (CacheView V)) (catalog : C) (rest : List ℕ)
     → AreKept f decoding history records engine caches → catalog ≡ engine.catalog → rest ≡ (if summary then summary_text (run_by decoding engine records) else [])
     → samples_by text decoding engine summary history records ≡ entry_lines (text catalog) history (run_by decoding engine records).put (length caches) ++ rest
 all_text {C} text f decoding engine summary history records caches catalog rest k same e =

@@ -1,7 +1,7 @@
 -- What is sent for a batch, place by place, is what the run sends for it.
 use Rattle.std.proofs.Common.{◌≡◌, ℕ, zero, suc, ◌+◌, ◌<◌, ◌≤◌, List, [], ◌∷◌, ◌++◌, Bool, true, false, not, if◌then◌else◌, Option, None, Some, arith, refl, subst, sym, ap, ◌∙◌, map, length, take, drop, get_or, append-nil, append_assoc, take-append-drop, inl, inr}
 use Rattle.std.specs.Prelude.{◌==◌, filter, vec_len}
-use Rattle.std.specs.List.{AllByRecursion, flat_map}
+use Rattle.std.specs.List.{flat_map}
 use Rattle.std.specs.List.Sorted.{IsPartitionedBy}
 use Rattle.std.specs.declared.alloc.Global.{Global}
 use Rattle.std.specs.declared.vec.Vec.{Vec}

@@ -1,6 +1,6 @@
 -- What each sink does in a step of a run over a file: it processes a batch, or stops; and it
 -- finishes its text, or stops.
-use Rattle.std.proofs.Common.{◌≡◌, ℕ, ◌+◌, ◌-◌, ◌<◌, ◌⊎◌, List, [], ◌∷◌, ◌++◌, Bool, Option, None, Result, Ok, Err, IfErr, OnErr, OnOk, arith, refl, subst, sym, ap, ◌∙◌, length, map, get_or, take, drop, inl, inr, append-nil, append_assoc, take-append-drop, zero-add}
+use Rattle.std.proofs.Common.{◌≡◌, ℕ, ◌+◌, ◌<◌, ◌≤◌, ◌⊎◌, List, [], ◌∷◌, ◌++◌, Bool, Option, None, Result, Ok, Err, IfErr, OnErr, OnOk, arith, refl, subst, sym, ap, ◌∙◌, length, map, get_or, take, drop, inl, inr, length-append, append-nil, append_assoc, take-append-drop}
 use Rattle.std.proofs.lemmas.List.{drop_more}
 use Rattle.std.specs.Io.KnownBytes.{Appends}
 use Rattle.std.proofs.KnownBytes.{Appends-kept, Appends-nil, Appends-trans}
@@ -10,20 +10,20 @@ use Rattle.std.specs.declared.vec.Vec.{Vec}
 use Rattle.rtps_types.specs.declared.datagram.Datagram.{Datagram}
 use Rattle.rtps_types.specs.declared.identity.GuidPrefix.{GuidPrefix}
 use Rattle.rtps_records.specs.Runs.{Closes, ClosesNot, Moves, PutsFront, Stops, WroteAll}
-use Rattle.rtps_records.specs.Text.{IsFront, text_from, text_of}
+use Rattle.rtps_records.specs.Text.{IsFront, datagrams_of, text_from, text_of}
 use Rattle.rtps_records.specs.declared.fault.RunFault.{RunFault}
 use Rattle.rtps_records.specs.declared.fault.RunFault.TheVariants.{CannotWrite, NoMemory}
 use Rattle.rtps_records.proofs.Printed.{text_both, texts_begin}
 use Rattle.dds_topic.specs.Decoding.{Decoding}
 use Rattle.rtps_discovery.specs.declared.config.Config.{Config}
-use Rattle.rtps_text.specs.Undated.{run_by}
+use Rattle.rtps_text.specs.Inputs.{run_by}
 use Rattle.dds_participant.specs.Ports.{NoneAttached}
 use Rattle.rtps_lines.specs.EventLines.{lines_of}
 use Rattle.rtps_text.specs.Batched.{IsDue, IsSameRun, MovesBefore, TakesRecords}
 use Rattle.rtps_text.specs.Caches.{AreKept, StopsLate}
 use Rattle.rtps_text.specs.Entries.{samples_by}
 use Rattle.rtps_text.specs.Replayed.{HasSaid, text_by}
-use Rattle.rtps_text.specs.Sink.{HasTaken, IsKept, IsPrinted, IsTaken, is_late, sink_text}
+use Rattle.rtps_text.specs.Sink.{HasTaken, IsKept, IsPrinted, IsTaken, datagrams_before, is_late, sink_text}
 use Rattle.rtps_text.specs.Slices.{all_lines}
 use Rattle.rtps_text.specs.Taken.{ComesLast, Finishes, FinishesFront, StopsBy, Takes, TakesFront}
 use Rattle.rtps_text.specs.declared.printer.Printer.{Printer}
@@ -34,6 +34,10 @@ use Rattle.rtps_text.specs.declared.sink.Sink.TheVariants.{Caches, Events, Lines
 use Rattle.rtps_text.proofs.Batches.{by_place, said_more}
 use Rattle.rtps_text.proofs.Run.{fronts, same_text}
 use Rattle.rtps_text.proofs.Sampled.{same_samples}
+use Rattle.rtps_records.specs.Batches.{record_of}
+use Rattle.rtps_records.specs.RecordFile.{Datagram as ADatagram, Record, Tick}
+use Rattle.rtps_records.specs.declared.format.Format.{Format}
+use Rattle.rtps_records.proofs.Progress.{Progress}
 
 -- ---- prefixes
 
@@ -60,71 +64,102 @@ empty_right (x ∷ a) b e = absurd (let bad : x ∷ (a ++ b) ≡ [] = e in cc)
 
 -- ---- events
 
--- the text from one record on: that of the record, and then that of the rest
+-- the text from one datagram on: that of the datagram, and then that of the rest
 pub record_more : (line : ℕ → List ℕ → List ℕ) (n : ℕ) (xs : List Datagram) (i : ℕ) (d : Datagram) → i < length xs
-    → text_from line n (map (λ (x : Datagram). x.bytes.now) (drop i xs)) ≡ line n (get_or xs i d).bytes.now ++ text_from line (n + 1) (map (λ (x : Datagram). x.bytes.now) (drop (i + 1) xs))
-record_more line n xs i d below = ap (λ l. text_from line n (map (λ (x : Datagram). x.bytes.now) l)) (drop_more xs i d below)
+    → text_from line n (map record_of (drop i xs)) ≡ line n (get_or xs i d).bytes.now ++ text_from line (n + 1) (map record_of (drop (i + 1) xs))
+record_more line n xs i d below = ap (λ l. text_from line n (map record_of l)) (drop_more xs i d below)
 
 -- the text of a batch comes after that of the records before it
-texts_after : (line : ℕ → List ℕ → List ℕ) (records batch : List (List ℕ)) (n : ℕ) (written kept : List ℕ) → written ++ kept ≡ text_of line records → length records + length batch ≡ n
-    → written ++ (kept ++ text_from line (n - length batch) batch) ≡ text_of line (records ++ batch)
+texts_after : (line : ℕ → List ℕ → List ℕ) (records batch : List Record) (n : ℕ) (written kept : List ℕ) → written ++ kept ≡ text_of line records → n ≡ length (datagrams_of records)
+    → written ++ (kept ++ text_from line n batch) ≡ text_of line (records ++ batch)
 texts_after line records batch n written kept said count =
-    let first : n - length batch ≡ 0 + length records = omega (arith, count) in
-    sym (append_assoc written kept (text_from line (n - length batch) batch)) ∙ ap (λ l. l ++ text_from line (n - length batch) batch) said
+    let first : n ≡ 0 + length (datagrams_of records) = omega (arith, count) in
+    sym (append_assoc written kept (text_from line n batch)) ∙ ap (λ l. l ++ text_from line n batch) said
     ∙ ap (λ k. text_of line records ++ text_from line k batch) first ∙ sym (text_both line 0 records batch)
 
-events_take : {C V M : Type 0} (U : Type 0) (text : C → M → List ℕ) (f : V → M) (decoding : C → Decoding M) (own : GuidPrefix) (alloc : Global) (texts made : List (Result (Vec ℕ Global) AllocError)) (batch : List (List ℕ)) (n : ℕ) (old new : Option (List ℕ)) (kept left : List ℕ)
-    → Moves old new (kept ++ text_from (lines_of own) (n - length batch) batch) left
-    → Takes (IsTaken {C = C} {V = V} {U = U} {M = M} text f decoding (Events own alloc) texts) (IsTaken {C = C} {V = V} {U = U} {M = M} text f decoding (Events own alloc) made) batch n old new kept left
+-- the datagrams of records, and then those of a batch
+datagrams_both : (records batch : List Record) → datagrams_of (records ++ batch) ≡ datagrams_of records ++ datagrams_of batch
+datagrams_both [] batch = refl
+datagrams_both (ADatagram moment octets ∷ records) batch = ap (λ l. octets ∷ l) (datagrams_both records batch)
+datagrams_both (Tick moment ∷ records) batch = datagrams_both records batch
+
+-- there are no more datagrams than records
+pub datagrams_fewer : (records : List Record) → length (datagrams_of records) ≤ length records
+datagrams_fewer [] = omega arith
+datagrams_fewer (ADatagram moment octets ∷ records) = omega (arith, datagrams_fewer records)
+datagrams_fewer (Tick moment ∷ records) = omega (arith, datagrams_fewer records)
+
+-- the number of datagrams so far leaves room for those of a batch
+counted_by : {C V U M : Type 0} (text : C → M → List ℕ) (f : V → M) (decoding : C → Decoding M) (sink : Sink C V U) (texts : List (Result (Vec ℕ Global) AllocError)) (records batch : List Record) (said : List ℕ)
+    → IsTaken text f decoding sink texts records said → length records + length batch ≤ 4294967295 → datagrams_before sink + length batch ≤ 4294967295
+unfolding IsTaken datagrams_before
+counted_by text f decoding (Events own next alloc) texts records batch said taken few =
+    let count = taken.1 in
+    let fewer = datagrams_fewer records in
+    omega (arith, count, fewer, few)
+counted_by text f decoding (Lines run printer) texts records batch said taken few = omega (arith, few)
+counted_by text f decoding (Caches kept) texts records batch said taken few = omega (arith, few)
+
+pub counted_on : {C V U M : Type 0} (text : C → M → List ℕ) (f : V → M) (decoding : C → Decoding M) (sink : Sink C V U) (texts : List (Result (Vec ℕ Global) AllocError)) (n : ℕ) (format : Format) (file now old new : Option (List ℕ)) (kept : List ℕ) (batch : List Record)
+    → n + length batch ≤ 4294967295 → Progress format (IsTaken text f decoding sink texts) file now old new n kept → datagrams_before sink + length batch ≤ 4294967295
+counted_on text f decoding sink texts n format file now old new kept batch few p =
+    counted_by text f decoding sink texts p.records batch (p.written ++ kept) p.says (omega (arith, p.count, few))
+
+events_take : {C V M : Type 0} (U : Type 0) (text : C → M → List ℕ) (f : V → M) (decoding : C → Decoding M) (own : GuidPrefix) (first next : ℕ) (alloc : Global) (texts made : List (Result (Vec ℕ Global) AllocError)) (batch : List Record) (old new : Option (List ℕ)) (kept left : List ℕ)
+    → Moves old new (kept ++ text_from (lines_of own) first batch) left → next ≡ first + length (datagrams_of batch)
+    → Takes (IsTaken {C = C} {V = V} {U = U} {M = M} text f decoding (Events own first alloc) texts) (IsTaken {C = C} {V = V} {U = U} {M = M} text f decoding (Events own next alloc) made) batch old new kept left
 unfolding Takes IsTaken
-events_take U text f decoding own alloc texts made batch n old new kept left m = λ records written said count. (
+events_take U text f decoding own first next alloc texts made batch old new kept left m more = λ records written said. (
   m.0,
   m.1,
-  append_assoc written m.0 left ∙ ap (λ l. written ++ l) (sym m.2) ∙ texts_after (lines_of own) records batch n written kept said count,
+  (
+    append_assoc written m.0 left ∙ ap (λ l. written ++ l) (sym m.2) ∙ texts_after (lines_of own) records batch first written kept said.0 said.1,
+    more ∙ ap (λ k. k + length (datagrams_of batch)) said.1 ∙ sym (length-append (datagrams_of records) (datagrams_of batch)) ∙ ap length (sym (datagrams_both records batch)),
+  ),
 )
 
-events_front : {C V M : Type 0} (U : Type 0) (text : C → M → List ℕ) (f : V → M) (decoding : C → Decoding M) (own : GuidPrefix) (alloc : Global) (texts : List (Result (Vec ℕ Global) AllocError)) (batch : List (List ℕ)) (n : ℕ) (old new : Option (List ℕ)) (kept : List ℕ)
-    → PutsFront old new (kept ++ text_from (lines_of own) (n - length batch) batch)
-    → TakesFront (IsTaken {C = C} {V = V} {U = U} {M = M} text f decoding (Events own alloc) texts) (sink_text {C = C} {V = V} {U = U} {M = M} text decoding (Events own alloc)) batch n old new kept
+events_front : {C V M : Type 0} (U : Type 0) (text : C → M → List ℕ) (f : V → M) (decoding : C → Decoding M) (own : GuidPrefix) (first : ℕ) (alloc : Global) (texts : List (Result (Vec ℕ Global) AllocError)) (batch : List Record) (old new : Option (List ℕ)) (kept : List ℕ)
+    → PutsFront old new (kept ++ text_from (lines_of own) first batch)
+    → TakesFront (IsTaken {C = C} {V = V} {U = U} {M = M} text f decoding (Events own first alloc) texts) (sink_text {C = C} {V = V} {U = U} {M = M} text decoding (Events own first alloc)) batch old new kept
 unfolding TakesFront IsTaken sink_text
-events_front U text f decoding own alloc texts batch n old new kept p = λ records written said count.
-    let octets = kept ++ text_from (lines_of own) (n - length batch) batch in (
+events_front U text f decoding own first alloc texts batch old new kept p = λ records written said.
+    let octets = kept ++ text_from (lines_of own) first batch in (
       take p.0 octets,
       p.1,
-      λ more. front_put written octets _ p.0 (texts_begin (lines_of own) (records ++ batch) more (written ++ octets) (texts_after (lines_of own) records batch n written kept said count)),
+      λ more. front_put written octets _ p.0 (texts_begin (lines_of own) (records ++ batch) more (written ++ octets) (texts_after (lines_of own) records batch first written kept said.0 said.1)),
     )
 
-events_finish : {C V M : Type 0} (U : Type 0) (text : C → M → List ℕ) (f : V → M) (decoding : C → Decoding M) (own : GuidPrefix) (alloc : Global) (texts : List (Result (Vec ℕ Global) AllocError)) (old new : Option (List ℕ)) (kept : List ℕ)
-    → Appends old new kept → Finishes (IsTaken {C = C} {V = V} {U = U} {M = M} text f decoding (Events own alloc) texts) (sink_text {C = C} {V = V} {U = U} {M = M} text decoding (Events own alloc)) old new kept
+events_finish : {C V M : Type 0} (U : Type 0) (text : C → M → List ℕ) (f : V → M) (decoding : C → Decoding M) (own : GuidPrefix) (next : ℕ) (alloc : Global) (texts : List (Result (Vec ℕ Global) AllocError)) (old new : Option (List ℕ)) (kept : List ℕ)
+    → Appends old new kept → Finishes (IsTaken {C = C} {V = V} {U = U} {M = M} text f decoding (Events own next alloc) texts) (sink_text {C = C} {V = V} {U = U} {M = M} text decoding (Events own next alloc)) old new kept
 unfolding Finishes IsTaken sink_text
-events_finish U text f decoding own alloc texts old new kept put = λ records written said. (kept, put, sym said)
+events_finish U text f decoding own next alloc texts old new kept put = λ records written said. (kept, put, sym said.0)
 
-events_stop : {C V M : Type 0} (U : Type 0) (text : C → M → List ℕ) (f : V → M) (decoding : C → Decoding M) (own : GuidPrefix) (alloc : Global) (texts : List (Result (Vec ℕ Global) AllocError)) (late : Bool) (fault : RunFault) (old new : Option (List ℕ)) (kept : List ℕ)
-    → PutsFront old new kept → FinishesFront late fault (IsTaken {C = C} {V = V} {U = U} {M = M} text f decoding (Events own alloc) texts) (sink_text {C = C} {V = V} {U = U} {M = M} text decoding (Events own alloc)) old new kept
+events_stop : {C V M : Type 0} (U : Type 0) (text : C → M → List ℕ) (f : V → M) (decoding : C → Decoding M) (own : GuidPrefix) (next : ℕ) (alloc : Global) (texts : List (Result (Vec ℕ Global) AllocError)) (late : Bool) (fault : RunFault) (old new : Option (List ℕ)) (kept : List ℕ)
+    → PutsFront old new kept → FinishesFront late fault (IsTaken {C = C} {V = V} {U = U} {M = M} text f decoding (Events own next alloc) texts) (sink_text {C = C} {V = V} {U = U} {M = M} text decoding (Events own next alloc)) old new kept
 unfolding FinishesFront IsTaken sink_text
-events_stop U text f decoding own alloc texts late fault old new kept p = λ records written said.
-    (take p.0 kept, p.1, inl (λ more. front_put written kept _ p.0 (texts_begin (lines_of own) records more (written ++ kept) said)))
+events_stop U text f decoding own next alloc texts late fault old new kept p = λ records written said.
+    (take p.0 kept, p.1, inl (λ more. front_put written kept _ p.0 (texts_begin (lines_of own) records more (written ++ kept) said.0)))
 
 -- ---- lines
 
 lines_had : {C V U M : Type 0} (text : C → M → List ℕ) (f : V → M) (decoding : C → Decoding M) (run : RunLines C V U) (printer : Printer C V U) (texts : List (Result (Vec ℕ Global) AllocError)) (left : List ℕ)
-    → HasTaken text f decoding (Lines run printer) texts left → (records : List (List ℕ)) × (said : List ℕ) × IsPrinted text f decoding run printer.catalog.now printer.readers texts records said
+    → HasTaken text f decoding (Lines run printer) texts left → (records : List Record) × (said : List ℕ) × IsPrinted text f decoding run printer.catalog.now printer.readers texts records said
 unfolding IsTaken
 lines_had text f decoding run printer texts left h = (h.0, h.1 ++ left, h.2)
 
 lines_same : {C V U M : Type 0} (text : C → M → List ℕ) (decoding : C → Decoding M) (run next : RunLines C V U) (printer after : Printer C V U) → IsSameRun run next
-    → (those : List (List ℕ)) → sink_text text decoding (Lines next after) those ≡ sink_text text decoding (Lines run printer) those
+    → (those : List Record) → sink_text text decoding (Lines next after) those ≡ sink_text text decoding (Lines run printer) those
 unfolding sink_text
 lines_same text decoding run next printer after same those =
     same_text text decoding next.participant.engine run.participant.engine next.summary run.summary same.catalog same.config same.summary those
 
-lines_take : {C V U M : Type 0} (text : C → M → List ℕ) (f : V → M) (decoding : C → Decoding M) (run next : RunLines C V U) (printer after : Printer C V U) (texts made : List (Result (Vec ℕ Global) AllocError)) (batch : List (List ℕ)) (n : ℕ) (old new : Option (List ℕ)) (kept left : List ℕ)
+lines_take : {C V U M : Type 0} (text : C → M → List ℕ) (f : V → M) (decoding : C → Decoding M) (run next : RunLines C V U) (printer after : Printer C V U) (texts made : List (Result (Vec ℕ Global) AllocError)) (batch : List Record) (old new : Option (List ℕ)) (kept left : List ℕ)
     → IsSameRun run next → after.catalog.now ≡ printer.catalog.now → after.readers ≡ printer.readers
     → TakesRecords f decoding batch run.participant.engine next.participant.engine next.given
     → ((due : List ℕ) → IsDue (text printer.catalog.now) f texts run.given printer.readers due → MovesBefore old new (kept ++ due) left made)
-    → Takes (IsTaken text f decoding (Lines run printer) texts) (IsTaken text f decoding (Lines next after) made) batch n old new kept left
+    → Takes (IsTaken text f decoding (Lines run printer) texts) (IsTaken text f decoding (Lines next after) made) batch old new kept left
 unfolding Takes IsTaken
-lines_take text f decoding run next printer after texts made batch n old new kept left same catalog readers takes moves = λ records written p count.
+lines_take text f decoding run next printer after texts made batch old new kept left same catalog readers takes moves = λ records written p.
     let m = moves p.due p.is_due in
     let own = catalog ∙ p.own ∙ sym same.catalog in
     let counted = readers ∙ p.count ∙ ap (λ (c : Config). length c.readers.items) (sym same.config) in
@@ -153,17 +188,17 @@ lines_take text f decoding run next printer after texts made batch n old new kep
 
 -- what was said, followed by what is due, is a prefix of the text of any records that begin with
 -- these
-due_begins : {C V U M : Type 0} (text : C → M → List ℕ) (f : V → M) (decoding : C → Decoding M) (run : RunLines C V U) (catalog : C) (readers : ℕ) (texts : List (Result (Vec ℕ Global) AllocError)) (records more : List (List ℕ)) (written kept : List ℕ)
+due_begins : {C V U M : Type 0} (text : C → M → List ℕ) (f : V → M) (decoding : C → Decoding M) (run : RunLines C V U) (catalog : C) (readers : ℕ) (texts : List (Result (Vec ℕ Global) AllocError)) (records more : List Record) (written kept : List ℕ)
     → (p : IsPrinted text f decoding run catalog readers texts records (written ++ kept)) → IsFront (written ++ (kept ++ p.due)) (text_by text decoding run.participant.engine run.summary (records ++ more))
 due_begins text f decoding run catalog readers texts records more written kept p =
     subst (λ l. IsFront l (text_by text decoding run.participant.engine run.summary (records ++ more))) (append_assoc written kept p.due)
     (fronts text decoding run.summary run.participant.engine records more ((written ++ kept) ++ p.due) p.says)
 
-lines_front : {C V U M : Type 0} (text : C → M → List ℕ) (f : V → M) (decoding : C → Decoding M) (run : RunLines C V U) (printer : Printer C V U) (texts : List (Result (Vec ℕ Global) AllocError)) (batch : List (List ℕ)) (n : ℕ) (old new : Option (List ℕ)) (kept : List ℕ)
+lines_front : {C V U M : Type 0} (text : C → M → List ℕ) (f : V → M) (decoding : C → Decoding M) (run : RunLines C V U) (printer : Printer C V U) (texts : List (Result (Vec ℕ Global) AllocError)) (batch : List Record) (old new : Option (List ℕ)) (kept : List ℕ)
     → ((due : List ℕ) → IsDue (text printer.catalog.now) f texts run.given printer.readers due → PutsFront old new (kept ++ due))
-    → TakesFront (IsTaken text f decoding (Lines run printer) texts) (sink_text text decoding (Lines run printer)) batch n old new kept
+    → TakesFront (IsTaken text f decoding (Lines run printer) texts) (sink_text text decoding (Lines run printer)) batch old new kept
 unfolding TakesFront IsTaken sink_text
-lines_front text f decoding run printer texts batch n old new kept puts = λ records written p count.
+lines_front text f decoding run printer texts batch old new kept puts = λ records written p.
     let q = puts p.due p.is_due in (
       take q.0 (kept ++ p.due),
       q.1,
@@ -173,7 +208,7 @@ lines_front text f decoding run printer texts batch n old new kept puts = λ rec
     )
 
 -- what is due was said, and a part of it is kept back
-due_said : {C V U M : Type 0} (text : C → M → List ℕ) (f : V → M) (decoding : C → Decoding M) (run : RunLines C V U) (catalog : C) (readers : ℕ) (texts : List (Result (Vec ℕ Global) AllocError)) (records : List (List ℕ)) (written kept put left : List ℕ)
+due_said : {C V U M : Type 0} (text : C → M → List ℕ) (f : V → M) (decoding : C → Decoding M) (run : RunLines C V U) (catalog : C) (readers : ℕ) (texts : List (Result (Vec ℕ Global) AllocError)) (records : List Record) (written kept put left : List ℕ)
     → (p : IsPrinted text f decoding run catalog readers texts records (written ++ kept)) → kept ++ p.due ≡ put ++ left → HasSaid text decoding records ((written ++ put) ++ left) run.participant.engine
 due_said text f decoding run catalog readers texts records written kept put left p e =
     subst (λ l. HasSaid text decoding records l run.participant.engine) (append_assoc written kept p.due ∙ ap (λ l. written ++ l) e ∙ sym (append_assoc written put left)) p.says
@@ -227,38 +262,38 @@ lines_stop_closing text f decoding run printer texts late fault old mid new kept
 -- ---- caches
 
 caches_had : {C V U M : Type 0} (text : C → M → List ℕ) (f : V → M) (decoding : C → Decoding M) (kept : RunCaches C V U) (texts : List (Result (Vec ℕ Global) AllocError)) (left : List ℕ)
-    → HasTaken text f decoding (Caches kept) texts left → (records : List (List ℕ)) × (written : List ℕ) × IsKept f decoding kept records (written ++ left)
+    → HasTaken text f decoding (Caches kept) texts left → (records : List Record) × (written : List ℕ) × IsKept f decoding kept records (written ++ left)
 unfolding IsTaken
 caches_had text f decoding kept texts left h = h
 
 caches_same : {C V U M : Type 0} (text : C → M → List ℕ) (decoding : C → Decoding M) (kept next : RunCaches C V U) → IsSameRun kept.run next.run → next.keep ≡ kept.keep
-    → (those : List (List ℕ)) → sink_text text decoding (Caches next) those ≡ sink_text text decoding (Caches kept) those
+    → (those : List Record) → sink_text text decoding (Caches next) those ≡ sink_text text decoding (Caches kept) those
 unfolding sink_text
 caches_same text decoding kept next same keep those =
     same_samples text decoding next.run.participant.engine kept.run.participant.engine next.run.summary kept.run.summary next.keep kept.keep same.catalog same.config same.summary keep those
 
-caches_take : {C V U M : Type 0} (text : C → M → List ℕ) (f : V → M) (decoding : C → Decoding M) (kept next : RunCaches C V U) (texts made : List (Result (Vec ℕ Global) AllocError)) (batch : List (List ℕ)) (n : ℕ) (old : Option (List ℕ)) (left : List ℕ)
+caches_take : {C V U M : Type 0} (text : C → M → List ℕ) (f : V → M) (decoding : C → Decoding M) (kept next : RunCaches C V U) (texts made : List (Result (Vec ℕ Global) AllocError)) (batch : List Record) (old : Option (List ℕ)) (left : List ℕ)
     → IsSameRun kept.run next.run
-    → ((earlier : List (List ℕ)) → AreKept f decoding kept.keep earlier kept.run.participant.engine kept.caches.by_rank.items → AreKept f decoding next.keep (earlier ++ batch) next.run.participant.engine next.caches.by_rank.items)
-    → Takes (IsTaken text f decoding (Caches kept) texts) (IsTaken text f decoding (Caches next) made) batch n old old left left
+    → ((earlier : List Record) → AreKept f decoding kept.keep earlier kept.run.participant.engine kept.caches.by_rank.items → AreKept f decoding next.keep (earlier ++ batch) next.run.participant.engine next.caches.by_rank.items)
+    → Takes (IsTaken text f decoding (Caches kept) texts) (IsTaken text f decoding (Caches next) made) batch old old left left
 unfolding Takes IsTaken
-caches_take text f decoding kept next texts made batch n old left same takes = λ records written p count. (
+caches_take text f decoding kept next texts made batch old left same takes = λ records written p. (
   [],
   Appends-nil old,
   record { none = ap (λ l. l ++ left) (append-nil written) ∙ p.none; are = takes records p.are; alone = same.alone p.alone },
 )
 
-caches_front : {C V U M : Type 0} (text : C → M → List ℕ) (f : V → M) (decoding : C → Decoding M) (kept : RunCaches C V U) (texts : List (Result (Vec ℕ Global) AllocError)) (whole : List (List ℕ) → List ℕ) (batch : List (List ℕ)) (n : ℕ) (old : Option (List ℕ)) (left : List ℕ)
-    → TakesFront (IsTaken text f decoding (Caches kept) texts) whole batch n old old left
+caches_front : {C V U M : Type 0} (text : C → M → List ℕ) (f : V → M) (decoding : C → Decoding M) (kept : RunCaches C V U) (texts : List (Result (Vec ℕ Global) AllocError)) (whole : List Record → List ℕ) (batch : List Record) (old : Option (List ℕ)) (left : List ℕ)
+    → TakesFront (IsTaken text f decoding (Caches kept) texts) whole batch old old left
 unfolding TakesFront IsTaken
-caches_front text f decoding kept texts whole batch n old left = λ records written p count. (
+caches_front text f decoding kept texts whole batch old left = λ records written p. (
   [],
   Appends-nil old,
   λ more. (whole ((records ++ batch) ++ more), ap (λ w. w ++ whole ((records ++ batch) ++ more)) (sym (append-nil written ∙ empty_left written left p.none))),
 )
 
 caches_finish : {C V U M : Type 0} (text : C → M → List ℕ) (f : V → M) (decoding : C → Decoding M) (kept : RunCaches C V U) (texts : List (Result (Vec ℕ Global) AllocError)) (old new : Option (List ℕ)) (left : List ℕ)
-    → ((records : List (List ℕ)) → AreKept f decoding kept.keep records kept.run.participant.engine kept.caches.by_rank.items
+    → ((records : List Record) → AreKept f decoding kept.keep records kept.run.participant.engine kept.caches.by_rank.items
     → Appends old new (samples_by text decoding kept.run.participant.engine kept.run.summary kept.keep records))
     → Finishes (IsTaken text f decoding (Caches kept) texts) (sink_text text decoding (Caches kept)) old new left
 unfolding Finishes IsTaken sink_text
@@ -268,7 +303,7 @@ caches_finish text f decoding kept texts old new left put = λ records written p
 
 caches_stop : {C V U M : Type 0} (text : C → M → List ℕ) (f : V → M) (decoding : C → Decoding M) (kept : RunCaches C V U) (texts : List (Result (Vec ℕ Global) AllocError)) (fault : RunFault) (old new : Option (List ℕ)) (left : List ℕ)
     → (fault ≡ CannotWrite) ⊎ (fault ≡ NoMemory)
-    → ((records : List (List ℕ)) → AreKept f decoding kept.keep records kept.run.participant.engine kept.caches.by_rank.items
+    → ((records : List Record) → AreKept f decoding kept.keep records kept.run.participant.engine kept.caches.by_rank.items
     → PutsFront old new (samples_by text decoding kept.run.participant.engine kept.run.summary kept.keep records))
     → FinishesFront (is_late (Caches kept)) fault (IsTaken text f decoding (Caches kept) texts) (sink_text text decoding (Caches kept)) old new left
 unfolding FinishesFront IsTaken sink_text is_late
@@ -281,27 +316,42 @@ caches_stop text f decoding kept texts fault old new left cause puts = λ record
 
 -- ---- each kind of sink
 
-pub events_taken : {C V U M : Type 0} (text : C → M → List ℕ) (f : V → M) (decoding : C → Decoding M) (sink : Sink C V U) (own : GuidPrefix) (alloc : Global) (texts made : List (Result (Vec ℕ Global) AllocError)) (batch : List (List ℕ)) (n m : ℕ) (old new : Option (List ℕ)) (kept left : List ℕ)
-    → sink ≡ Events own alloc → m ≡ n → Moves old new (kept ++ text_from (lines_of own) (m - length batch) batch) left
-    → Takes (IsTaken text f decoding sink texts) (IsTaken {U = U} text f decoding (Events own alloc) made) batch n old new kept left
-events_taken {U = U} text f decoding sink own alloc texts made batch n m old new kept left is count moves =
-    rw is (events_take U text f decoding own alloc texts made batch n old new kept left (subst (λ k. Moves old new (kept ++ text_from (lines_of own) (k - length batch) batch) left) count moves))
+pub events_taken : {C V U M : Type 0} (text : C → M → List ℕ) (f : V → M) (decoding : C → Decoding M) (sink : Sink C V U) (own : GuidPrefix) (first next : ℕ) (alloc : Global) (texts made : List (Result (Vec ℕ Global) AllocError)) (batch : List Record) (old new : Option (List ℕ)) (kept left : List ℕ)
+    → sink ≡ Events own first alloc → Moves old new (kept ++ text_from (lines_of own) first batch) left → next ≡ first + length (datagrams_of batch)
+    → Takes (IsTaken text f decoding sink texts) (IsTaken {U = U} text f decoding (Events own next alloc) made) batch old new kept left
+events_taken {U = U} text f decoding sink own first next alloc texts made batch old new kept left is moves more =
+    rw is (events_take U text f decoding own first next alloc texts made batch old new kept left moves more)
 
-pub events_broken : {C V U M : Type 0} (text : C → M → List ℕ) (f : V → M) (decoding : C → Decoding M) (sink : Sink C V U) (own : GuidPrefix) (alloc : Global) (texts : List (Result (Vec ℕ Global) AllocError)) (batch : List (List ℕ)) (n m : ℕ) (old new : Option (List ℕ)) (kept : List ℕ)
-    → sink ≡ Events own alloc → m ≡ n → PutsFront old new (kept ++ text_from (lines_of own) (m - length batch) batch)
-    → TakesFront (IsTaken text f decoding sink texts) (sink_text text decoding sink) batch n old new kept
-events_broken {U = U} text f decoding sink own alloc texts batch n m old new kept is count puts =
-    rw is (events_front U text f decoding own alloc texts batch n old new kept (subst (λ k. PutsFront old new (kept ++ text_from (lines_of own) (k - length batch) batch)) count puts))
+pub events_broken : {C V U M : Type 0} (text : C → M → List ℕ) (f : V → M) (decoding : C → Decoding M) (sink : Sink C V U) (own : GuidPrefix) (first : ℕ) (alloc : Global) (texts : List (Result (Vec ℕ Global) AllocError)) (batch : List Record) (old new : Option (List ℕ)) (kept : List ℕ)
+    → sink ≡ Events own first alloc → PutsFront old new (kept ++ text_from (lines_of own) first batch)
+    → TakesFront (IsTaken text f decoding sink texts) (sink_text text decoding sink) batch old new kept
+events_broken {U = U} text f decoding sink own first alloc texts batch old new kept is puts =
+    rw is (events_front U text f decoding own first alloc texts batch old new kept puts)
 
-pub events_finished : {T : Type 0} {C V U M : Type 0} (text : C → M → List ℕ) (f : V → M) (decoding : C → Decoding M) (sink : Sink C V U) (own : GuidPrefix) (alloc : Global) (texts : List (Result (Vec ℕ Global) AllocError)) (old new : Option (List ℕ)) (kept : List ℕ) (r : Result T RunFault)
-    → sink ≡ Events own alloc → OnOk r (Appends old new kept) → OnOk r (Finishes (IsTaken text f decoding sink texts) (sink_text text decoding sink) old new kept)
-events_finished {U = U} text f decoding sink own alloc texts old new kept (Ok x) is put = rw is (events_finish U text f decoding own alloc texts old new kept put)
-events_finished text f decoding sink own alloc texts old new kept (Err e) is put = tt
+-- an events sink has the text and the lateness of one with another number of datagrams
+pub events_alike : {C V U M : Type 0} (text : C → M → List ℕ) (decoding : C → Decoding M) (sink : Sink C V U) (own : GuidPrefix) (first next : ℕ) (alloc : Global)
+    → sink ≡ Events own first alloc → (those : List Record) → sink_text {C = C} {V = V} {U = U} text decoding (Events own next alloc) those ≡ sink_text text decoding sink those
+unfolding sink_text
+events_alike text decoding sink own first next alloc is those = rw is refl
 
-pub events_unfinished : {T : Type 0} {C V U M : Type 0} (text : C → M → List ℕ) (f : V → M) (decoding : C → Decoding M) (sink : Sink C V U) (own : GuidPrefix) (alloc : Global) (texts : List (Result (Vec ℕ Global) AllocError)) (late : Bool) (old new : Option (List ℕ)) (kept : List ℕ) (r : Result T RunFault)
-    → sink ≡ Events own alloc → OnErr r (PutsFront old new kept) → IfErr r (λ fault. FinishesFront late fault (IsTaken text f decoding sink texts) (sink_text text decoding sink) old new kept)
-events_unfinished text f decoding sink own alloc texts late old new kept (Ok x) is put = tt
-events_unfinished {U = U} text f decoding sink own alloc texts late old new kept (Err e) is put = rw is (events_stop U text f decoding own alloc texts late e old new kept put)
+pub events_late : {C V U : Type 0} (sink : Sink C V U) (own : GuidPrefix) (first next : ℕ) (alloc : Global) → sink ≡ Events own first alloc → is_late {C = C} {V = V} {U = U} (Events own next alloc) ≡ is_late sink
+unfolding is_late
+events_late sink own first next alloc is = sym (ap is_late is)
+
+-- so it leaves room for the datagrams of a batch where the sink does
+pub events_counted : {C V U : Type 0} (sink : Sink C V U) (own : GuidPrefix) (first : ℕ) (alloc : Global) (more : ℕ) → sink ≡ Events own first alloc → datagrams_before sink + more ≤ 4294967295 → first + more ≤ 4294967295
+unfolding datagrams_before
+events_counted sink own first alloc more is few = rw is at few
+
+pub events_finished : {T : Type 0} {C V U M : Type 0} (text : C → M → List ℕ) (f : V → M) (decoding : C → Decoding M) (sink : Sink C V U) (own : GuidPrefix) (next : ℕ) (alloc : Global) (texts : List (Result (Vec ℕ Global) AllocError)) (old new : Option (List ℕ)) (kept : List ℕ) (r : Result T RunFault)
+    → sink ≡ Events own next alloc → OnOk r (Appends old new kept) → OnOk r (Finishes (IsTaken text f decoding sink texts) (sink_text text decoding sink) old new kept)
+events_finished {U = U} text f decoding sink own next alloc texts old new kept (Ok x) is put = rw is (events_finish U text f decoding own next alloc texts old new kept put)
+events_finished text f decoding sink own next alloc texts old new kept (Err e) is put = tt
+
+pub events_unfinished : {T : Type 0} {C V U M : Type 0} (text : C → M → List ℕ) (f : V → M) (decoding : C → Decoding M) (sink : Sink C V U) (own : GuidPrefix) (next : ℕ) (alloc : Global) (texts : List (Result (Vec ℕ Global) AllocError)) (late : Bool) (old new : Option (List ℕ)) (kept : List ℕ) (r : Result T RunFault)
+    → sink ≡ Events own next alloc → OnErr r (PutsFront old new kept) → IfErr r (λ fault. FinishesFront late fault (IsTaken text f decoding sink texts) (sink_text text decoding sink) old new kept)
+events_unfinished text f decoding sink own next alloc texts late old new kept (Ok x) is put = tt
+events_unfinished {U = U} text f decoding sink own next alloc texts late old new kept (Err e) is put = rw is (events_stop U text f decoding own next alloc texts late e old new kept put)
 
 pub lines_alone : {C V U M : Type 0} (text : C → M → List ℕ) (f : V → M) (decoding : C → Decoding M) (sink : Sink C V U) (run : RunLines C V U) (printer : Printer C V U) (texts : List (Result (Vec ℕ Global) AllocError)) (left : List ℕ)
     → sink ≡ Lines run printer → HasTaken text f decoding sink texts left → NoneAttached run.participant.ports
@@ -310,25 +360,25 @@ lines_alone text f decoding sink run printer texts left is h =
     had.2.alone
 
 pub lines_alike : {C V U M : Type 0} (text : C → M → List ℕ) (decoding : C → Decoding M) (sink : Sink C V U) (run next : RunLines C V U) (printer after : Printer C V U)
-    → sink ≡ Lines run printer → IsSameRun run next → (those : List (List ℕ)) → sink_text text decoding (Lines next after) those ≡ sink_text text decoding sink those
+    → sink ≡ Lines run printer → IsSameRun run next → (those : List Record) → sink_text text decoding (Lines next after) those ≡ sink_text text decoding sink those
 lines_alike text decoding sink run next printer after is same those = rw is (lines_same text decoding run next printer after same those)
 
 pub lines_late : {C V U : Type 0} (sink : Sink C V U) (run next : RunLines C V U) (printer after : Printer C V U) → sink ≡ Lines run printer → is_late (Lines next after) ≡ is_late sink
 unfolding is_late
 lines_late sink run next printer after is = sym (ap is_late is)
 
-pub lines_taken : {C V U M : Type 0} (text : C → M → List ℕ) (f : V → M) (decoding : C → Decoding M) (sink : Sink C V U) (run next : RunLines C V U) (printer after : Printer C V U) (texts made : List (Result (Vec ℕ Global) AllocError)) (batch : List (List ℕ)) (n : ℕ) (old new : Option (List ℕ)) (kept left : List ℕ)
+pub lines_taken : {C V U M : Type 0} (text : C → M → List ℕ) (f : V → M) (decoding : C → Decoding M) (sink : Sink C V U) (run next : RunLines C V U) (printer after : Printer C V U) (texts made : List (Result (Vec ℕ Global) AllocError)) (batch : List Record) (old new : Option (List ℕ)) (kept left : List ℕ)
     → sink ≡ Lines run printer → IsSameRun run next → after.catalog.now ≡ printer.catalog.now → after.readers ≡ printer.readers
     → TakesRecords f decoding batch run.participant.engine next.participant.engine next.given
     → ((due : List ℕ) → IsDue (text printer.catalog.now) f texts run.given printer.readers due → MovesBefore old new (kept ++ due) left made)
-    → Takes (IsTaken text f decoding sink texts) (IsTaken text f decoding (Lines next after) made) batch n old new kept left
-lines_taken text f decoding sink run next printer after texts made batch n old new kept left is same catalog readers takes moves =
-    rw is (lines_take text f decoding run next printer after texts made batch n old new kept left same catalog readers takes moves)
+    → Takes (IsTaken text f decoding sink texts) (IsTaken text f decoding (Lines next after) made) batch old new kept left
+lines_taken text f decoding sink run next printer after texts made batch old new kept left is same catalog readers takes moves =
+    rw is (lines_take text f decoding run next printer after texts made batch old new kept left same catalog readers takes moves)
 
-pub lines_broken : {C V U M : Type 0} (text : C → M → List ℕ) (f : V → M) (decoding : C → Decoding M) (sink : Sink C V U) (run : RunLines C V U) (printer : Printer C V U) (texts : List (Result (Vec ℕ Global) AllocError)) (batch : List (List ℕ)) (n : ℕ) (old new : Option (List ℕ)) (kept : List ℕ)
+pub lines_broken : {C V U M : Type 0} (text : C → M → List ℕ) (f : V → M) (decoding : C → Decoding M) (sink : Sink C V U) (run : RunLines C V U) (printer : Printer C V U) (texts : List (Result (Vec ℕ Global) AllocError)) (batch : List Record) (old new : Option (List ℕ)) (kept : List ℕ)
     → sink ≡ Lines run printer → ((due : List ℕ) → IsDue (text printer.catalog.now) f texts run.given printer.readers due → PutsFront old new (kept ++ due))
-    → TakesFront (IsTaken text f decoding sink texts) (sink_text text decoding sink) batch n old new kept
-lines_broken text f decoding sink run printer texts batch n old new kept is puts = rw is (lines_front text f decoding run printer texts batch n old new kept puts)
+    → TakesFront (IsTaken text f decoding sink texts) (sink_text text decoding sink) batch old new kept
+lines_broken text f decoding sink run printer texts batch old new kept is puts = rw is (lines_front text f decoding run printer texts batch old new kept puts)
 
 pub lines_finished : {T : Type 0} {C V U M : Type 0} (text : C → M → List ℕ) (f : V → M) (decoding : C → Decoding M) (sink : Sink C V U) (run : RunLines C V U) (printer : Printer C V U) (texts : List (Result (Vec ℕ Global) AllocError)) (old mid new : Option (List ℕ)) (kept left : List ℕ) (r : Result T RunFault)
     → sink ≡ Lines run printer → ((due : List ℕ) → IsDue (text printer.catalog.now) f texts run.given printer.readers due → Moves old mid (kept ++ due) left)
@@ -350,14 +400,14 @@ lines_unclosed text f decoding sink run printer texts late old mid new kept left
 lines_unclosed text f decoding sink run printer texts late old mid new kept left (Err e) is moves c = rw is (lines_stop_closing text f decoding run printer texts late e old mid new kept left moves c)
 
 -- the faults that may happen at the last lines
-pub closing_faults : {T : Type 0} (said : List (List ℕ) → List ℕ → Type 0) (text : List (List ℕ) → List ℕ) (old new : Option (List ℕ)) (kept : List ℕ) (r : Result T RunFault)
+pub closing_faults : {T : Type 0} (said : List Record → List ℕ → Type 0) (text : List Record → List ℕ) (old new : Option (List ℕ)) (kept : List ℕ) (r : Result T RunFault)
     → IfErr r (λ fault. ClosesNot fault said text old new kept) → IfErr r (λ fault. (fault ≡ CannotWrite) ⊎ (fault ≡ NoMemory))
 unfolding ClosesNot
 closing_faults said text old new kept (Ok x) c = tt
 closing_faults said text old new kept (Err e) c = elim c [ inl none ↦ inr none.0 | inr cannot ↦ inl cannot.0 ]
 
 pub caches_kept : {C V U M : Type 0} (text : C → M → List ℕ) (f : V → M) (decoding : C → Decoding M) (sink : Sink C V U) (kept : RunCaches C V U) (texts : List (Result (Vec ℕ Global) AllocError)) (left : List ℕ)
-    → sink ≡ Caches kept → HasTaken text f decoding sink texts left → (records : List (List ℕ)) × AreKept f decoding kept.keep records kept.run.participant.engine kept.caches.by_rank.items
+    → sink ≡ Caches kept → HasTaken text f decoding sink texts left → (records : List Record) × AreKept f decoding kept.keep records kept.run.participant.engine kept.caches.by_rank.items
 caches_kept text f decoding sink kept texts left is h =
     let had = caches_had text f decoding kept texts left (rw is at h) in
     (had.0, had.2.are)
@@ -376,26 +426,26 @@ caches_silent text f decoding sink kept texts left is h =
     empty_right had.1 left had.2.none
 
 pub caches_alike : {C V U M : Type 0} (text : C → M → List ℕ) (decoding : C → Decoding M) (sink : Sink C V U) (kept next : RunCaches C V U)
-    → sink ≡ Caches kept → IsSameRun kept.run next.run → next.keep ≡ kept.keep → (those : List (List ℕ)) → sink_text text decoding (Caches next) those ≡ sink_text text decoding sink those
+    → sink ≡ Caches kept → IsSameRun kept.run next.run → next.keep ≡ kept.keep → (those : List Record) → sink_text text decoding (Caches next) those ≡ sink_text text decoding sink those
 caches_alike text decoding sink kept next is same keep those = rw is (caches_same text decoding kept next same keep those)
 
 pub caches_late : {C V U : Type 0} (sink : Sink C V U) (kept next : RunCaches C V U) → sink ≡ Caches kept → is_late (Caches next) ≡ is_late sink
 unfolding is_late
 caches_late sink kept next is = sym (ap is_late is)
 
-pub caches_taken : {C V U M : Type 0} (text : C → M → List ℕ) (f : V → M) (decoding : C → Decoding M) (sink : Sink C V U) (kept next : RunCaches C V U) (texts made : List (Result (Vec ℕ Global) AllocError)) (batch : List (List ℕ)) (n : ℕ) (old : Option (List ℕ)) (left : List ℕ)
+pub caches_taken : {C V U M : Type 0} (text : C → M → List ℕ) (f : V → M) (decoding : C → Decoding M) (sink : Sink C V U) (kept next : RunCaches C V U) (texts made : List (Result (Vec ℕ Global) AllocError)) (batch : List Record) (old : Option (List ℕ)) (left : List ℕ)
     → sink ≡ Caches kept → IsSameRun kept.run next.run
-    → ((earlier : List (List ℕ)) → AreKept f decoding kept.keep earlier kept.run.participant.engine kept.caches.by_rank.items → AreKept f decoding next.keep (earlier ++ batch) next.run.participant.engine next.caches.by_rank.items)
-    → Takes (IsTaken text f decoding sink texts) (IsTaken text f decoding (Caches next) made) batch n old old left left
-caches_taken text f decoding sink kept next texts made batch n old left is same takes = rw is (caches_take text f decoding kept next texts made batch n old left same takes)
+    → ((earlier : List Record) → AreKept f decoding kept.keep earlier kept.run.participant.engine kept.caches.by_rank.items → AreKept f decoding next.keep (earlier ++ batch) next.run.participant.engine next.caches.by_rank.items)
+    → Takes (IsTaken text f decoding sink texts) (IsTaken text f decoding (Caches next) made) batch old old left left
+caches_taken text f decoding sink kept next texts made batch old left is same takes = rw is (caches_take text f decoding kept next texts made batch old left same takes)
 
-pub caches_broken : {C V U M : Type 0} (text : C → M → List ℕ) (f : V → M) (decoding : C → Decoding M) (sink : Sink C V U) (kept : RunCaches C V U) (texts : List (Result (Vec ℕ Global) AllocError)) (whole : List (List ℕ) → List ℕ) (batch : List (List ℕ)) (n : ℕ) (old : Option (List ℕ)) (left : List ℕ)
-    → sink ≡ Caches kept → TakesFront (IsTaken text f decoding sink texts) whole batch n old old left
-caches_broken text f decoding sink kept texts whole batch n old left is = rw is (caches_front text f decoding kept texts whole batch n old left)
+pub caches_broken : {C V U M : Type 0} (text : C → M → List ℕ) (f : V → M) (decoding : C → Decoding M) (sink : Sink C V U) (kept : RunCaches C V U) (texts : List (Result (Vec ℕ Global) AllocError)) (whole : List Record → List ℕ) (batch : List Record) (old : Option (List ℕ)) (left : List ℕ)
+    → sink ≡ Caches kept → TakesFront (IsTaken text f decoding sink texts) whole batch old old left
+caches_broken text f decoding sink kept texts whole batch old left is = rw is (caches_front text f decoding kept texts whole batch old left)
 
 pub caches_finished : {T : Type 0} {C V U M : Type 0} (text : C → M → List ℕ) (f : V → M) (decoding : C → Decoding M) (sink : Sink C V U) (kept : RunCaches C V U) (texts : List (Result (Vec ℕ Global) AllocError)) (old new : Option (List ℕ)) (left : List ℕ) (r : Result T RunFault)
     → sink ≡ Caches kept
-    → ((records : List (List ℕ)) → AreKept f decoding kept.keep records kept.run.participant.engine kept.caches.by_rank.items
+    → ((records : List Record) → AreKept f decoding kept.keep records kept.run.participant.engine kept.caches.by_rank.items
     → OnOk r (Appends old new (samples_by text decoding kept.run.participant.engine kept.run.summary kept.keep records)))
     → OnOk r (Finishes (IsTaken text f decoding sink texts) (sink_text text decoding sink) old new left)
 caches_finished text f decoding sink kept texts old new left (Ok x) is put = rw is (caches_finish text f decoding kept texts old new left put)
@@ -403,7 +453,7 @@ caches_finished text f decoding sink kept texts old new left (Err e) is put = tt
 
 pub caches_unfinished : {T : Type 0} {C V U M : Type 0} (text : C → M → List ℕ) (f : V → M) (decoding : C → Decoding M) (sink : Sink C V U) (kept : RunCaches C V U) (texts : List (Result (Vec ℕ Global) AllocError)) (old new : Option (List ℕ)) (left : List ℕ) (r : Result T RunFault)
     → sink ≡ Caches kept → IfErr r (λ fault. (fault ≡ CannotWrite) ⊎ (fault ≡ NoMemory))
-    → ((records : List (List ℕ)) → AreKept f decoding kept.keep records kept.run.participant.engine kept.caches.by_rank.items
+    → ((records : List Record) → AreKept f decoding kept.keep records kept.run.participant.engine kept.caches.by_rank.items
     → OnErr r (PutsFront old new (samples_by text decoding kept.run.participant.engine kept.run.summary kept.keep records)))
     → IfErr r (λ fault. FinishesFront (is_late sink) fault (IsTaken text f decoding sink texts) (sink_text text decoding sink) old new left)
 caches_unfinished text f decoding sink kept texts old new left (Ok x) is cause puts = tt
@@ -411,20 +461,20 @@ caches_unfinished text f decoding sink kept texts old new left (Err e) is cause 
 
 -- ---- whole runs
 
-pub events_begun : {C V M : Type 0} (U : Type 0) (text : C → M → List ℕ) (f : V → M) (decoding : C → Decoding M) (own : GuidPrefix) (alloc : Global) (texts : List (Result (Vec ℕ Global) AllocError)) → IsTaken {U = U} text f decoding (Events own alloc) texts [] []
+pub events_begun : {C V M : Type 0} (U : Type 0) (text : C → M → List ℕ) (f : V → M) (decoding : C → Decoding M) (own : GuidPrefix) (alloc : Global) (texts : List (Result (Vec ℕ Global) AllocError)) → IsTaken {U = U} text f decoding (Events own 0 alloc) texts [] []
 unfolding IsTaken
-events_begun U text f decoding own alloc texts = refl
+events_begun U text f decoding own alloc texts = (refl, refl)
 
-pub events_wrote : {T C M : Type 0} (V U : Type 0) (text : C → M → List ℕ) (decoding : C → Decoding M) (own : GuidPrefix) (alloc : Global) (before old new : Option (List ℕ)) (r : Result T RunFault)
-    → OnOk r (WroteAll (sink_text {C = C} {V = V} {U = U} text decoding (Events own alloc)) before old new None) → OnOk r (WroteAll (text_of (lines_of own)) before old new None)
+pub events_wrote : {T C M : Type 0} (V U : Type 0) (text : C → M → List ℕ) (decoding : C → Decoding M) (own : GuidPrefix) (next : ℕ) (alloc : Global) (before old new : Option (List ℕ)) (r : Result T RunFault)
+    → OnOk r (WroteAll (sink_text {C = C} {V = V} {U = U} text decoding (Events own next alloc)) before old new None) → OnOk r (WroteAll (text_of (lines_of own)) before old new None)
 unfolding sink_text
-events_wrote V U text decoding own alloc before old new r h = h
+events_wrote V U text decoding own next alloc before old new r h = h
 
-pub events_left : {T C M : Type 0} (V U : Type 0) (text : C → M → List ℕ) (decoding : C → Decoding M) (own : GuidPrefix) (alloc : Global) (before after old new : Option (List ℕ)) (r : Result T RunFault)
-    → IfErr r (λ fault. StopsBy (is_late {C = C} {V = V} {U = U} (Events own alloc)) (sink_text {C = C} {V = V} {U = U} text decoding (Events own alloc)) fault before after old new)
+pub events_left : {T C M : Type 0} (V U : Type 0) (text : C → M → List ℕ) (decoding : C → Decoding M) (own : GuidPrefix) (next : ℕ) (alloc : Global) (before after old new : Option (List ℕ)) (r : Result T RunFault)
+    → IfErr r (λ fault. StopsBy (is_late {C = C} {V = V} {U = U} (Events own next alloc)) (sink_text {C = C} {V = V} {U = U} text decoding (Events own next alloc)) fault before after old new)
     → IfErr r (λ fault. Stops (text_of (lines_of own)) fault before after old new)
 unfolding sink_text is_late StopsBy
-events_left V U text decoding own alloc before after old new r h = h
+events_left V U text decoding own next alloc before after old new r h = h
 
 pub lines_wrote : {T C V U M : Type 0} (text : C → M → List ℕ) (decoding : C → Decoding M) (run : RunLines C V U) (printer : Printer C V U) (before old new : Option (List ℕ)) (r : Result T RunFault)
     → OnOk r (WroteAll (sink_text text decoding (Lines run printer)) before old new None) → OnOk r (WroteAll (text_by text decoding run.participant.engine run.summary) before old new None)

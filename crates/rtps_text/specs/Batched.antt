@@ -6,12 +6,13 @@ use Rattle.std.specs.declared.vec.Vec.{Vec}
 use Rattle.rtps_records.specs.Runs.{Moves}
 use Rattle.dds_topic.specs.Decoding.{Decoding}
 use Rattle.rtps_run.specs.Standing.{EngineView}
-use Rattle.rtps_text.specs.Undated.{StandsAt, run_by}
+use Rattle.rtps_text.specs.Inputs.{StandsAt, run_by}
 use Rattle.dds_participant.specs.BatchOutput.{IsGiven}
 use Rattle.dds_participant.specs.Ports.{NoneAttached}
 use Rattle.dds_participant.specs.declared.batch_output.BatchOutput.{BatchOutput}
 use Rattle.rtps_text.specs.Slices.{AreByPlace, AreTexts, all_lines}
 use Rattle.rtps_text.specs.declared.running.RunLines.{RunLines}
+use Rattle.rtps_records.specs.RecordFile.{Record}
 
 -- a run keeps its catalog, its configuration, its summary setting and its pace; if none of its
 -- readers had an outlet, none has one afterwards
@@ -24,10 +25,10 @@ pub record IsSameRun {C V U : Type 0} (old new : RunLines C V U) : Type 0 where
 
 -- an engine processed these records, and this is its output for them
 pub record TakesRecords {C V M : Type 0} (f : V → M) (decoding : C → Decoding M)
-    (records : List (List ℕ)) (old new : EngineView C) (given : BatchOutput V) : Type 0 where
-  pub stands : (earlier : List (List ℕ)) → StandsAt decoding earlier old
+    (records : List Record) (old new : EngineView C) (given : BatchOutput V) : Type 0 where
+  pub stands : (earlier : List Record) → StandsAt decoding earlier old
       → StandsAt decoding (earlier ++ records) new
-  pub gives : (earlier : List (List ℕ)) → StandsAt decoding earlier old
+  pub gives : (earlier : List Record) → StandsAt decoding earlier old
       → IsGiven f (run_by decoding old earlier) (run_by decoding old (earlier ++ records)) given
 
 -- a part of these octets was written; the rest is what is kept back, followed by these texts

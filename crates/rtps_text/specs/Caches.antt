@@ -14,8 +14,9 @@ use Rattle.rtps_reader.specs.declared.notice.Notice.{Notice}
 use Rattle.rtps_reader.specs.declared.notice.Output.{Output}
 use Rattle.rtps_run.specs.Seen.{notices_by}
 use Rattle.rtps_run.specs.Standing.{EngineView}
-use Rattle.rtps_text.specs.Undated.{StandsAt, run_by}
+use Rattle.rtps_text.specs.Inputs.{StandsAt, run_by}
 use Rattle.rtps_run.specs.World.{ReportView}
+use Rattle.rtps_records.specs.RecordFile.{Record}
 
 -- a cache with this history with which nothing was done yet
 pub record IsEmpty {V : Type 0} (history : History) (cache : CacheView V) : Type 0 where
@@ -39,7 +40,7 @@ AllHeard {V} f keep put caches =
 -- the state of an engine is that after these records, and there is a cache for each reader, which
 -- accepted the reader's notices
 pub record AreKept {C V M : Type 0} (f : V → M) (decoding : C → Decoding M) (keep : History)
-    (records : List (List ℕ)) (engine : EngineView C) (caches : List (CacheView V)) : Type 0 where
+    (records : List Record) (engine : EngineView C) (caches : List (CacheView V)) : Type 0 where
   pub stands : StandsAt decoding records engine
   pub count : length caches ≡ length engine.config.readers.items
   pub heard : AllHeard f keep (run_by decoding engine records).put caches
@@ -61,7 +62,7 @@ pub record AllAccept {V : Type 0} (outputs : List (Output V Global)) (old new : 
 -- The outcome of a run that stops at a fault, if text is written while the last lines are made.
 -- Memory may run out then, and a write may fail. Either may happen after a read fault too, and is
 -- reported instead of it.
-unfoldable pub StopsLate : (List (List ℕ) → List ℕ) → RunFault → Option (List ℕ)
+unfoldable pub StopsLate : (List Record → List ℕ) → RunFault → Option (List ℕ)
     → Option (List ℕ) → Option (List ℕ) → Option (List ℕ) → Type 0
 StopsLate text NotRecordFile before after old new = Stops text NotRecordFile before after old new
 StopsLate text CannotRead before after old new = Stops text CannotRead before after old new

@@ -12,12 +12,13 @@ use Rattle.dds_cache.specs.declared.history.History.{History}
 use Rattle.dds_cache.specs.declared.history.History.TheVariants.{KeepLast, KeepAll}
 use Rattle.rtps_discovery.specs.declared.config.Config.{Config}
 use Rattle.rtps_reader.specs.declared.notice.Notice.{Notice}
-use Rattle.rtps_text.specs.Undated.{run}
+use Rattle.rtps_text.specs.Inputs.{run}
 use Rattle.rtps_run.specs.Seen.{notices_by, reader_count}
 use Rattle.rtps_run.specs.Standing.{EngineView}
 use Rattle.rtps_run.specs.World.{ReportView}
 use Rattle.rtps_text.specs.Replayed.{summary_text}
 use Rattle.rtps_lines.specs.Entry.{entry_line}
+use Rattle.rtps_records.specs.RecordFile.{Record}
 
 -- the condition that every entry meets
 abbrev pub any_entry : Condition
@@ -41,14 +42,14 @@ entry_lines text keep put (suc rank) =
 -- the text for these records: the lines of the entries that are taken from the caches of the run's
 -- readers, and then the summary if it is asked for
 abbrev pub samples_text : {M : Type 0} → (M → List ℕ) → Decoding M → Config → Bool → History
-    → List (List ℕ) → List ℕ
+    → List Record → List ℕ
 samples_text text decoding config summary keep records =
     entry_lines text keep (run decoding config records).put (reader_count (run decoding config records))
     ++ (if summary then summary_text (run decoding config records) else [])
 
 -- the same text, with the catalog and the configuration of an engine
 abbrev pub samples_by : {C M : Type 0} → (C → M → List ℕ) → (C → Decoding M) → EngineView C → Bool
-    → History → List (List ℕ) → List ℕ
+    → History → List Record → List ℕ
 samples_by text decoding engine summary keep records =
     samples_text (text engine.catalog) (decoding engine.catalog) engine.config summary keep records
 

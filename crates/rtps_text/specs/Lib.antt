@@ -9,4 +9,4 @@ pub mod Sending
 pub mod Sink
 pub mod Slices
 pub mod Taken
-pub mod Undated
+pub mod Inputs

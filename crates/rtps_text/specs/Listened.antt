@@ -3,31 +3,32 @@
 use Rattle.std.specs.Prelude.{◌≡◌, ◌≤◌, ◌⊎◌, ℕ, Bool, List, [], ◌∷◌, ◌++◌, length, Option, Result, Ok, Err}
 use Rattle.std.specs.Io.KnownBytes.{Appends}
 use Rattle.rtps_types.specs.declared.locator.Locator.{Locator}
+use Rattle.rtps_records.specs.RecordFile.{Record}
 use Rattle.rtps_records.specs.Text.{IsFront}
-use Rattle.rtps_records.specs.Traffic.{Exhausted, Grows, Traffic, Waited, failures_in, received_in, sent_in, waits_in}
+use Rattle.rtps_records.specs.Traffic.{Exhausted, Grows, Traffic, Waited, failures_in, heard_in, received_in, sent_in, waits_in}
 use Rattle.rtps_records.specs.declared.fault.RunFault.{RunFault}
 use Rattle.rtps_records.specs.declared.fault.RunFault.TheVariants.{CannotWrite, NoMemory}
 use Rattle.dds_topic.specs.Decoding.{Decoding}
 use Rattle.rtps_discovery.specs.declared.config.Config.{Config}
-use Rattle.rtps_text.specs.Undated.{run}
+use Rattle.rtps_text.specs.Inputs.{run}
 use Rattle.rtps_text.specs.Replayed.{put_lines, replay_text}
 use Rattle.rtps_text.specs.Sending.{sendings, sends_of}
 use Rattle.rtps_text.specs.declared.live_fault.LiveFault.{LiveFault}
 use Rattle.rtps_text.specs.declared.live_fault.LiveFault.TheVariants.{Run, Socket}
 
--- The results of a run for the datagrams that it processes: the lines of all that it puts out; its
--- text, which is these lines and, if it is asked for, the summary; and what it sends.
+-- The results of a run for the datagrams and ticks that it processes: the lines of all that it puts
+-- out; its text, which is these lines and, if it is asked for, the summary; and what it sends.
 pub record LiveRun : Type 0 where
-  pub lines : List (List ℕ) → List ℕ
-  pub text : List (List ℕ) → List ℕ
-  pub sends : List (List ℕ) → List (Locator × List ℕ)
+  pub lines : List Record → List ℕ
+  pub text : List Record → List ℕ
+  pub sends : List Record → List (Locator × List ℕ)
 
 -- the results of the run of one thread
 abbrev pub live_run : {M : Type 0} → (M → List ℕ) → Decoding M → Config → Bool → LiveRun
 live_run text decoding config summary = record {
-  lines = λ datagrams. put_lines text (run decoding config datagrams).put;
+  lines = λ records. put_lines text (run decoding config records).put;
   text = replay_text text decoding config summary;
-  sends = λ datagrams. sends_of (run decoding config datagrams).put;
+  sends = λ records. sends_of (run decoding config records).put;
 }
 
 -- the maximum number of datagrams to receive, and the maximum number of waits for them
@@ -54,23 +55,22 @@ IsOver limits calls =
     ⊎ ((waits_in calls ≡ limits.turns) × IsDrained calls)
 
 -- at each wait, all datagrams that came before were received, and all answers to them were sent
-abbrev pub WaitsInTurn : (List (List ℕ) → List (Locator × List ℕ)) → List Traffic → Type 0
+abbrev pub WaitsInTurn : (List Record → List (Locator × List ℕ)) → List Traffic → Type 0
 WaitsInTurn sends calls =
     (past later : List Traffic) → calls ≡ past ++ Waited ∷ later
-    → IsDrained past × (sent_in past ≡ sends (received_in past))
+    → IsDrained past × (sent_in past ≡ sends (heard_in past))
 
--- all answers of the run over the received datagrams were sent, in order, and its whole text was
--- written
+-- all answers of the run over what was heard were sent, in order, and its whole text was written
 pub record IsDone (made : LiveRun) (calls : List Traffic) (old new : Option (List ℕ))
     : Type 0 where
-  pub sent : sent_in calls ≡ made.sends (received_in calls)
-  pub wrote : Appends old new (made.text (received_in calls))
+  pub sent : sent_in calls ≡ made.sends (heard_in calls)
+  pub wrote : Appends old new (made.text (heard_in calls))
 
 -- What was sent by a run that stops at a fault. Answers are sent before lines are written, so at a
 -- write fault all of them were sent. If memory runs out, a prefix of them was sent.
 unfoldable pub SentAt : RunFault → LiveRun → List Traffic → Type 0
-SentAt CannotWrite made calls = sent_in calls ≡ made.sends (received_in calls)
-SentAt NoMemory made calls = IsFront (sent_in calls) (made.sends (received_in calls))
+SentAt CannotWrite made calls = sent_in calls ≡ made.sends (heard_in calls)
+SentAt NoMemory made calls = IsFront (sent_in calls) (made.sends (heard_in calls))
 SentAt fault made calls = ⊥
 
 -- A prefix of the lines was written. A part of the summary was written only if the run is complete
@@ -79,9 +79,9 @@ abbrev pub WroteFrontOf : LiveRun → Limits → List Traffic → Option (List �
     → Type 0
 WroteFrontOf made limits calls old new =
     (put : List ℕ) × Appends old new put
-    × (IsFront put (made.lines (received_in calls))
+    × (IsFront put (made.lines (heard_in calls))
     ⊎ ((IsOver limits calls ⊎ (failures_in calls ≡ 1))
-    × IsFront put (made.text (received_in calls))))
+    × IsFront put (made.text (heard_in calls))))
 
 -- what a run with this result has sent and written
 unfoldable pub Leaves : LiveRun → Limits → Result (Unit {0}) LiveFault → List Traffic

@@ -2,18 +2,23 @@
 use Rattle.std.specs.Prelude.{◌≡◌, ◌≤◌, ◌⊎◌, ℕ, ◌+◌, Bool, List, [], length, Option}
 use Rattle.std.specs.Io.KnownBytes.{Appends}
 use Rattle.rtps_types.specs.declared.locator.Locator.{Locator}
+use Rattle.rtps_records.specs.RecordFile.{Record}
+use Rattle.rtps_records.specs.Runs.{PutsFront}
 use Rattle.rtps_records.specs.Text.{IsFront}
-use Rattle.rtps_records.specs.Traffic.{Grows, Traffic, failures_in, last_call, received_in, sent_in, waits_in}
+use Rattle.rtps_records.specs.Traffic.{Grows, Traffic, failures_in, heard_in, last_call, moment_after, received_in, sent_in, waits_in}
 use Rattle.rtps_records.specs.declared.fault.RunFault.{RunFault}
+use Rattle.rtps_records.specs.declared.fault.RunFault.TheVariants.{CannotWrite, NoMemory}
 use Rattle.rtps_records.specs.declared.receive_end.ReceiveEnd.{ReceiveEnd}
 use Rattle.rtps_records.specs.declared.receive_end.ReceiveEnd.TheVariants.{Drained, Fault, More}
 use Rattle.dds_topic.specs.Decoding.{Decoding}
 use Rattle.rtps_run.specs.Standing.{EngineView}
-use Rattle.rtps_text.specs.Undated.{run_by}
+use Rattle.rtps_text.specs.Inputs.{StandsAt, run_by}
 use Rattle.dds_participant.specs.Ports.{NoneAttached}
 use Rattle.rtps_text.specs.Listened.{IsDrained, LiveRun, SentAt, WaitsInTurn, live_run}
 use Rattle.rtps_text.specs.Replayed.{HasSaid}
-use Rattle.rtps_text.specs.Sending.{sends_of}
+use Rattle.rtps_text.specs.Batched.{IsSameRun, TakesRecords}
+use Rattle.rtps_text.specs.Sending.{AreAnswersByPlace, Sends, given_sends, sends_of}
+use Rattle.rtps_text.specs.Slices.{all_lines}
 use Rattle.rtps_text.specs.declared.live.Live.{Live}
 
 -- a live run formats its values with its own catalog and prints the lines of all its readers; no
@@ -30,10 +35,10 @@ abbrev pub live_by : {C M : Type 0} → (C → M → List ℕ) → (C → Decodi
 live_by text decoding engine summary =
     live_run (text engine.catalog) (decoding engine.catalog) engine.config summary
 
--- what the run of an engine sends for these datagrams
-abbrev pub sends_by : {C M : Type 0} → (C → Decoding M) → EngineView C → List (List ℕ)
+-- what the run of an engine sends for these datagrams and ticks
+abbrev pub sends_by : {C M : Type 0} → (C → Decoding M) → EngineView C → List Record
     → List (Locator × List ℕ)
-sends_by decoding engine datagrams = sends_of (run_by decoding engine datagrams).put
+sends_by decoding engine records = sends_of (run_by decoding engine records).put
 
 -- the number of network failures in a batch with this end
 abbrev pub failures_of : ReceiveEnd → ℕ
@@ -46,35 +51,66 @@ IsLast Drained calls = IsDrained calls
 IsLast Fault calls = Unit {0}
 
 -- The state of a live run. The datagrams that were received and those that are left make the
--- maximum number; this number of waits was made, and this is how the last batch ended. An engine
--- processed the datagrams, their answers were sent, and their lines were written.
+-- maximum number; this number of waits was made, the clock gave this moment last, and this is how
+-- the last batch ended. An engine processed what was heard, its answers were sent, and its lines
+-- were written.
 pub record Listens {C M : Type 0} (text : C → M → List ℕ) (decoding : C → Decoding M)
-    (first now : Option (List Traffic)) (old new : Option (List ℕ)) (most left waits : ℕ)
+    (first now : Option (List Traffic)) (old new : Option (List ℕ)) (most left waits moment : ℕ)
     (end : ReceiveEnd) (engine : EngineView C) : Type 0 where
   pub calls : List Traffic
   pub grows : Grows first now calls
-  pub datagrams : List (List ℕ)
-  pub received : received_in calls ≡ datagrams
-  pub count : length datagrams + left ≡ most
+  pub records : List Record
+  pub heard : heard_in calls ≡ records
+  pub at : moment_after 0 calls ≡ moment
+  pub count : length (received_in calls) + left ≡ most
   pub waited : waits_in calls ≡ waits
   pub failed : failures_in calls ≡ failures_of end
   pub last : IsLast end calls
   pub in_turn : WaitsInTurn (sends_by decoding engine) calls
-  pub sent : sent_in calls ≡ sends_by decoding engine datagrams
+  pub sent : sent_in calls ≡ sends_by decoding engine records
   pub written : List ℕ
   pub wrote : Appends old new written
-  pub says : HasSaid text decoding datagrams written engine
+  pub says : HasSaid text decoding records written engine
 
--- more datagrams were received, up to a batch with this end; they were processed, their answers
--- were sent, and their lines were written
+-- The readers of a run processed these records, all their answers were sent, and their lines were
+-- written.
+pub record Processes {C V U M : Type 0} (text : C → M → List ℕ) (f : V → M)
+    (decoding : C → Decoding M) (batch : List Record) (before after : Live C V U)
+    (then now : Option (List Traffic)) (old new : Option (List ℕ)) : Type 0 where
+  pub takes : TakesRecords f decoding batch before.run.participant.engine
+      after.run.participant.engine after.run.given
+  pub sends : Sends (AreAnswersByPlace after.run.given) then now (given_sends after.run.given)
+  pub wrote : (earlier : List Record) → StandsAt decoding earlier before.run.participant.engine
+      → Appends old new (all_lines (text before.printer.catalog.now) f after.run.given
+      before.printer.readers)
+
+-- The run stopped at a fault. Its readers didn't process the records, and nothing was sent or
+-- written; or they did, all answers were sent, and a prefix of the lines was written.
+pub data BreaksOff {C V U M : Type 0} (text : C → M → List ℕ) (f : V → M)
+    (decoding : C → Decoding M) (batch : List Record) (before after : Live C V U)
+    (fault : RunFault) (then now : Option (List Traffic)) (old new : Option (List ℕ)) : Type 0 where
+  Untaken : fault ≡ NoMemory → now ≡ then → new ≡ old
+      → BreaksOff text f decoding batch before after fault then now old new
+  Unwritten : (fault ≡ CannotWrite) ⊎ (fault ≡ NoMemory)
+      → IsSameRun before.run after.run
+      → TakesRecords f decoding batch before.run.participant.engine
+      after.run.participant.engine after.run.given
+      → Sends (AreAnswersByPlace after.run.given) then now (given_sends after.run.given)
+      → ((earlier : List Record) → StandsAt decoding earlier before.run.participant.engine
+      → PutsFront old new (all_lines (text before.printer.catalog.now) f after.run.given
+      before.printer.readers))
+      → BreaksOff text f decoding batch before after fault then now old new
+
+-- more was heard, up to a batch with this end; it was processed, its answers were sent, and its
+-- lines were written
 abbrev pub GoesOn : {C V U M : Type 0} → (C → M → List ℕ) → (C → Decoding M)
     → Live C V U → Live C V U → Option (List Traffic) → Option (List Traffic)
     → Option (List ℕ) → Option (List ℕ) → ReceiveEnd → Type 0
 GoesOn text decoding before after then now old new end =
     (first : Option (List Traffic)) (origin : Option (List ℕ)) (most waits : ℕ)
-    → Listens text decoding first then origin old most before.left waits More
+    → Listens text decoding first then origin old most before.left waits before.moment More
     before.run.participant.engine
-    → Listens text decoding first now origin new most after.left waits end
+    → Listens text decoding first now origin new most after.left waits after.moment end
     after.run.participant.engine
 
 -- what a run did that stopped at a fault before its end: it received no more datagrams and made no
@@ -89,7 +125,7 @@ pub record Stopped (made : LiveRun) (most turns : ℕ) (fault : RunFault)
   pub sent : SentAt fault made calls
   pub put : List ℕ
   pub wrote : Appends old new put
-  pub front : IsFront put (made.lines (received_in calls))
+  pub front : IsFront put (made.lines (heard_in calls))
 
 -- a run went on from this state, and stopped at this fault
 abbrev pub StopsShort : {C V U M : Type 0} → (C → M → List ℕ) → (C → Decoding M)
@@ -97,7 +133,7 @@ abbrev pub StopsShort : {C V U M : Type 0} → (C → M → List ℕ) → (C →
     → Option (List ℕ) → Option (List ℕ) → Type 0
 StopsShort text decoding before fault then now old new =
     (first : Option (List Traffic)) (origin : Option (List ℕ)) (most waits : ℕ)
-    → Listens text decoding first then origin old most before.left waits More
+    → Listens text decoding first then origin old most before.left waits before.moment More
     before.run.participant.engine
     → Stopped (live_by text decoding before.run.participant.engine before.run.summary)
     most waits fault first now origin new
@@ -117,9 +153,9 @@ pub record TakesTurns {C V U M : Type 0} (text : C → M → List ℕ) (decoding
   pub few : waits ≤ turns
   pub ends : EndsTurns end after.left waits turns
   pub goes_on : (first : Option (List Traffic)) (origin : Option (List ℕ)) (most : ℕ)
-      → Listens text decoding first then origin old most before.left 0 Drained
+      → Listens text decoding first then origin old most before.left 0 before.moment Drained
       before.run.participant.engine
-      → Listens text decoding first now origin new most after.left waits end
+      → Listens text decoding first now origin new most after.left waits after.moment end
       after.run.participant.engine
 
 -- a run that had made no wait stopped at this fault, after at most this number of waits
@@ -128,7 +164,7 @@ abbrev pub TurnsStop : {C V U M : Type 0} → (C → M → List ℕ) → (C → 
     → Option (List ℕ) → Option (List ℕ) → Type 0
 TurnsStop text decoding turns before fault then now old new =
     (first : Option (List Traffic)) (origin : Option (List ℕ)) (most : ℕ)
-    → Listens text decoding first then origin old most before.left 0 Drained
+    → Listens text decoding first then origin old most before.left 0 before.moment Drained
     before.run.participant.engine
     → Stopped (live_by text decoding before.run.participant.engine before.run.summary)
     most turns fault first now origin new

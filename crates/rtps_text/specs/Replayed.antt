@@ -6,13 +6,14 @@ use Rattle.dds_topic.specs.Decoding.{Decoding}
 use Rattle.rtps_discovery.specs.declared.config.Config.{Config}
 use Rattle.rtps_reader.specs.declared.status.Status.{Status}
 use Rattle.rtps_run.specs.World.{ReportView, NoticeOf, AnswerOf, World}
-use Rattle.rtps_text.specs.Undated.{run}
+use Rattle.rtps_text.specs.Inputs.{run}
 use Rattle.rtps_run.specs.Seen.{matches_seen, reader_count, status_at}
 use Rattle.rtps_run.specs.Standing.{EngineView}
-use Rattle.rtps_text.specs.Undated.{StandsAt, run_by}
+use Rattle.rtps_text.specs.Inputs.{StandsAt, run_by}
 use Rattle.rtps_lines.specs.Answer.{answer_line}
 use Rattle.rtps_lines.specs.Notice.{heard_line}
 use Rattle.rtps_lines.specs.Summary.{match_line, status_line}
+use Rattle.rtps_records.specs.RecordFile.{Record}
 
 -- the line of a report, which is a notice or an answer
 abbrev pub put_line : {M : Type 0} → (M → List ℕ) → ReportView M → List ℕ
@@ -43,15 +44,15 @@ summary_text w = match_lines (matches_seen w) ++ status_lines w (reader_count w)
 
 -- the text for these records: the lines of all that the run of one thread puts out, and then the
 -- summary if it is asked for
-abbrev pub replay_text : {M : Type 0} → (M → List ℕ) → Decoding M → Config → Bool → List (List ℕ) → List ℕ
+abbrev pub replay_text : {M : Type 0} → (M → List ℕ) → Decoding M → Config → Bool → List Record → List ℕ
 replay_text text decoding config summary records =
     put_lines text (run decoding config records).put ++ (if summary then summary_text (run decoding config records) else [])
 
 -- the same text, with the catalog and the configuration of an engine
-abbrev pub text_by : {C M : Type 0} → (C → M → List ℕ) → (C → Decoding M) → EngineView C → Bool → List (List ℕ) → List ℕ
+abbrev pub text_by : {C M : Type 0} → (C → M → List ℕ) → (C → Decoding M) → EngineView C → Bool → List Record → List ℕ
 text_by text decoding engine summary records = replay_text (text engine.catalog) (decoding engine.catalog) engine.config summary records
 
 -- the state of an engine is that after these records, and their lines were said
-pub record HasSaid {C M : Type 0} (text : C → M → List ℕ) (decoding : C → Decoding M) (records : List (List ℕ)) (said : List ℕ) (engine : EngineView C) : Type 0 where
+pub record HasSaid {C M : Type 0} (text : C → M → List ℕ) (decoding : C → Decoding M) (records : List Record) (said : List ℕ) (engine : EngineView C) : Type 0 where
   pub stands : StandsAt decoding records engine
   pub lines : said ≡ put_lines (text engine.catalog) (run_by decoding engine records).put

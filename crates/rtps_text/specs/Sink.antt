@@ -3,7 +3,7 @@ use Rattle.std.specs.Prelude.{◌≡◌, ℕ, List, [], ◌++◌, Bool, true, fa
 use Rattle.std.specs.declared.alloc.AllocError.{AllocError}
 use Rattle.std.specs.declared.alloc.Global.{Global}
 use Rattle.std.specs.declared.vec.Vec.{Vec}
-use Rattle.rtps_records.specs.Text.{text_of}
+use Rattle.rtps_records.specs.Text.{datagrams_of, text_of}
 use Rattle.dds_topic.specs.Decoding.{Decoding}
 use Rattle.dds_participant.specs.Ports.{NoneAttached}
 use Rattle.rtps_lines.specs.EventLines.{lines_of}
@@ -15,20 +15,27 @@ use Rattle.rtps_text.specs.declared.running.RunLines.{RunLines}
 use Rattle.rtps_text.specs.declared.sampling.RunCaches.{RunCaches}
 use Rattle.rtps_text.specs.declared.sink.Sink.{Sink}
 use Rattle.rtps_text.specs.declared.sink.Sink.TheVariants.{Caches, Events, Lines}
+use Rattle.rtps_records.specs.RecordFile.{Record}
 
 -- the text for these records: the lines of their events, the lines of a run over them, or the lines
 -- of what its readers keep
 unfoldable pub sink_text : {C V U M : Type 0} → (C → M → List ℕ) → (C → Decoding M) → Sink C V U
-    → List (List ℕ) → List ℕ
-sink_text text decoding (Events own alloc) records = text_of (lines_of own) records
+    → List Record → List ℕ
+sink_text text decoding (Events own next alloc) records = text_of (lines_of own) records
 sink_text text decoding (Lines run printer) records =
     text_by text decoding run.participant.engine run.summary records
 sink_text text decoding (Caches kept) records =
     samples_by text decoding kept.run.participant.engine kept.run.summary kept.keep records
 
+-- the number of datagrams whose events were printed
+unfoldable pub datagrams_before : {C V U : Type 0} → Sink C V U → ℕ
+datagrams_before (Events own next alloc) = next
+datagrams_before (Lines run printer) = 0
+datagrams_before (Caches kept) = 0
+
 -- whether text is written while the last lines are made
 unfoldable pub is_late : {C V U : Type 0} → Sink C V U → Bool
-is_late (Events own alloc) = false
+is_late (Events own next alloc) = false
 is_late (Lines run printer) = false
 is_late (Caches kept) = true
 
@@ -37,7 +44,7 @@ is_late (Caches kept) = true
 -- and no reader has an outlet.
 pub record IsPrinted {C V U M : Type 0} (text : C → M → List ℕ) (f : V → M)
     (decoding : C → Decoding M) (run : RunLines C V U) (catalog : C) (readers : ℕ)
-    (texts : List (Result (Vec ℕ Global) AllocError)) (records : List (List ℕ)) (said : List ℕ)
+    (texts : List (Result (Vec ℕ Global) AllocError)) (records : List Record) (said : List ℕ)
     : Type 0 where
   pub own : catalog ≡ run.participant.engine.catalog
   pub count : readers ≡ length run.participant.engine.config.readers.items
@@ -49,7 +56,7 @@ pub record IsPrinted {C V U M : Type 0} (text : C → M → List ℕ) (f : V →
 -- a run processed these records, nothing was said for them, and the notices of its readers are in
 -- its caches; no reader has an outlet
 pub record IsKept {C V U M : Type 0} (f : V → M) (decoding : C → Decoding M)
-    (kept : RunCaches C V U) (records : List (List ℕ)) (said : List ℕ) : Type 0 where
+    (kept : RunCaches C V U) (records : List Record) (said : List ℕ) : Type 0 where
   pub none : said ≡ []
   pub are : AreKept f decoding kept.keep records kept.run.participant.engine
       kept.caches.by_rank.items
@@ -58,8 +65,9 @@ pub record IsKept {C V U M : Type 0} (f : V → M) (decoding : C → Decoding M)
 -- what a sink has said after these records, while these texts that workers made are still to be
 -- written
 unfoldable pub IsTaken : {C V U M : Type 0} → (C → M → List ℕ) → (V → M) → (C → Decoding M)
-    → Sink C V U → List (Result (Vec ℕ Global) AllocError) → List (List ℕ) → List ℕ → Type 0
-IsTaken text f decoding (Events own alloc) texts records said = said ≡ text_of (lines_of own) records
+    → Sink C V U → List (Result (Vec ℕ Global) AllocError) → List Record → List ℕ → Type 0
+IsTaken text f decoding (Events own next alloc) texts records said =
+    (said ≡ text_of (lines_of own) records) × (next ≡ length (datagrams_of records))
 IsTaken text f decoding (Lines run printer) texts records said =
     IsPrinted text f decoding run printer.catalog.now printer.readers texts records said
 IsTaken text f decoding (Caches kept) texts records said = IsKept f decoding kept records said
@@ -68,5 +76,5 @@ IsTaken text f decoding (Caches kept) texts records said = IsKept f decoding kep
 abbrev pub HasTaken : {C V U M : Type 0} → (C → M → List ℕ) → (V → M) → (C → Decoding M)
     → Sink C V U → List (Result (Vec ℕ Global) AllocError) → List ℕ → Type 0
 HasTaken text f decoding sink texts left =
-    (records : List (List ℕ)) × (written : List ℕ)
+    (records : List Record) × (written : List ℕ)
     × IsTaken text f decoding sink texts records (written ++ left)

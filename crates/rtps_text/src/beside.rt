@@ -1,11 +1,10 @@
 //! Writing texts and reading a batch while two other calls are made.
 
-ghost use Rattle.std.specs.Prelude.{◌≡◌, ◌≢◌, ◌⊎◌, ◌++◌, [], IfErr, IfSome, IsSomeAnd, List, OnErr, OnOk, Option, ℕ};
-ghost use Rattle.rtps_records.specs.Batches.{EndsBatch, records_in};
+ghost use Rattle.std.specs.Prelude.{◌≡◌, ◌⊎◌, ◌++◌, [], false, IfErr, IfSome, IsSomeAnd, List, OnErr, OnOk, Option, ℕ};
+ghost use Rattle.rtps_records.specs.Batches.{records_in};
 ghost use Rattle.rtps_records.specs.Runs.{Moves, PutsFront};
-ghost use Rattle.rtps_records.specs.declared.batch_end.BatchEnd.TheVariants.{More};
 ghost use Rattle.rtps_records.specs.declared.fault.RunFault.TheVariants.{CannotWrite, NoMemory};
-ghost use Rattle.rtps_text.specs.Ahead.{ReadsAhead};
+ghost use Rattle.rtps_text.specs.Ahead.{Ended, ReadsAhead, goes_on};
 ghost use Rattle.rtps_text.specs.Slices.{AreTexts};
 
 use crate::pipeline::ReadAhead;
@@ -37,13 +36,15 @@ where
     ensures second { G.post calls.1 result.2 }
     ensures none { ahead.new.texts.made.items ≡ [] }
     ensures same_reader { records.new.reader.ghost_name ≡ records.old.reader.ghost_name }
+    ensures same_format { records.new.format ≡ records.old.format }
     ensures same_writer { lines.new.writer.ghost_name ≡ lines.old.writer.ghost_name }
-    ensures reads { (here : Option (List ℕ)) (earlier : List (List ℕ))
-        → EndsBatch ahead.old.end records.old.count earlier here
-        (R.remaining records.old.reader.now)
-        → OnOk result.0 (ReadsAhead here (R.remaining records.new.reader.now)
-        records.old.count records.new.count (records_in ahead.new.next) ahead.new.end) }
-    ensures still { ahead.old.end ≢ More
+    ensures reads { (here : Option (List ℕ)) (n : ℕ)
+        → Ended records.old.format ahead.old.end records.old.count
+        (R.remaining records.old.reader.now) n here
+        → OnOk result.0 (ReadsAhead records.old.format ahead.old.end
+        here (R.remaining records.new.reader.now) n records.new.count
+        (records_in ahead.new.next) ahead.new.end) }
+    ensures still { goes_on ahead.old.end ≡ false
         → R.remaining records.new.reader.now ≡ R.remaining records.old.reader.now }
     ensures ok { (whole : List ℕ) → AreTexts ahead.old.texts.made.items whole
         → OnOk result.0 (Moves

@@ -3,8 +3,9 @@
 ghost use Rattle.std.specs.Prelude.{◌≡◌, ◌++◌, List, OnOk, ℕ};
 ghost use Rattle.std.specs.Io.{StartsWith};
 ghost use Rattle.rtps_run.specs.Seen.{reader_count};
-ghost use Rattle.rtps_text.specs.Undated.{StandsAt, run_by};
+ghost use Rattle.rtps_text.specs.Inputs.{StandsAt, run_by};
 ghost use Rattle.rtps_text.specs.Replayed.{match_lines, status_lines, status_text, summary_text};
+ghost use Rattle.rtps_records.specs.RecordFile.{Record};
 
 use dds_participant::Participant;
 use dds_topic::Catalog;
@@ -20,7 +21,7 @@ pub(crate) fn push_summary<C: Catalog, A: Allocator>(
     alloc: Global,
     participant: &Participant<C>,
 ) -> Result<(), AllocError>
-    ensures sums { (datagrams : List (List ℕ))
+    ensures sums { (datagrams : List Record)
         → StandsAt C.decoding datagrams participant.now.engine
         → OnOk result (out.new.items ≡ out.old.items ++
         summary_text (run_by C.decoding participant.now.engine datagrams)) }
@@ -52,7 +53,7 @@ fn push_statuses<C: Catalog, A: Allocator>(
     out: &mut Vec<u8, A>,
     participant: &Participant<C>,
 ) -> Result<(), AllocError>
-    ensures lines { (datagrams : List (List ℕ))
+    ensures lines { (datagrams : List Record)
         → StandsAt C.decoding datagrams participant.now.engine
         → OnOk result (out.new.items ≡ out.old.items ++
         status_lines (run_by C.decoding participant.now.engine datagrams)

@@ -1,11 +1,9 @@
 //! Printing the events of a whole record file, one line for each.
 
-ghost use Rattle.std.specs.Prelude.{◌≡◌, ◌≤◌, ◌⊎◌, ◌+◌, ◌-◌, ◌++◌, All, IfErr, None, OnErr, OnOk, length, map};
-ghost use Rattle.std.specs.List.{AllByRecursion};
-ghost use Rattle.rtps_records.specs.Batches.{records_in};
-ghost use Rattle.rtps_records.specs.RecordFile.{IsRecord};
+ghost use Rattle.std.specs.Prelude.{◌≡◌, ◌≤◌, ◌⊎◌, ◌+◌, ◌++◌, All, IfErr, IfOk, None, OnErr, OnOk, length, map};
+ghost use Rattle.rtps_records.specs.Batches.{record_of, records_in};
 ghost use Rattle.rtps_records.specs.Runs.{Moves, PutsFront, Stops, WroteAll};
-ghost use Rattle.rtps_records.specs.Text.{text_from, text_of};
+ghost use Rattle.rtps_records.specs.Text.{datagrams_of, text_from, text_of};
 ghost use Rattle.rtps_records.specs.declared.fault.RunFault.TheVariants.{CannotWrite, NoMemory};
 ghost use Rattle.rtps_lines.specs.EventLines.{lines_of};
 
@@ -32,7 +30,7 @@ const PACE: Pace = Pace {
 /// datagrams, as the participant with the prefix `own` sees them.
 ///
 /// The file is never in memory as a whole. In memory are the records of two batches, at most 1 MiB
-/// each, at most 64 KiB of text, and the lines of one record.
+/// each, at most 64 KiB of text, and the lines of one datagram.
 pub fn dump<R: Read + Send, W: Write + Send, T: Threads + Sync>(
     rt: &T,
     alloc: Global,
@@ -48,61 +46,62 @@ pub fn dump<R: Read + Send, W: Write + Send, T: Threads + Sync>(
 {
     let pipeline = Pipeline::new(alloc, PACE)?;
     // No value is decoded, so any catalog will do.
-    let sink: Sink<'_, Raw> = Sink::Events { own, alloc };
+    let sink: Sink<'_, Raw> = Sink::Events {
+        own,
+        next: 0,
+        alloc,
+    };
     run_file(rt, sink, pipeline, reader, writer)
 }
 
-/// Adds the lines of the events of a batch's records, and writes the lines out whenever they are
-/// full. `count` is the number of records in the file up to the end of the batch.
+/// Adds the lines of the events of a batch's datagrams, of which the first has number `first`, and
+/// writes the lines out whenever they are full. Returns the number of the next datagram.
 ///
 /// Returns `CannotWrite` if a write fails, and `NoMemory` if memory runs out. A prefix of the lines
 /// may have been written by then.
 pub(crate) fn print_batch<W: Write>(
     alloc: Global,
     own: GuidPrefix,
+    first: u32,
     batch: &Batch,
-    count: u32,
     lines: &mut Lines<'_, W>,
-) -> Result<(), RunFault>
-    requires few { length (records_in batch.now) ≤ 4096 }
-    requires fit { AllByRecursion IsRecord (records_in batch.now) }
-    requires counted { length (records_in batch.now) ≤ count }
+) -> Result<u32, RunFault>
+    requires counted { first + length (records_in batch.now) ≤ 4294967295 }
     ensures same_writer { lines.new.writer.ghost_name ≡ lines.old.writer.ghost_name }
     ensures ok { OnOk result (Moves
         (W.contents lines.old.writer.now) (W.contents lines.new.writer.now)
-        (lines.old.text.items ++ text_from (lines_of own)
-        (count - length (records_in batch.now)) (records_in batch.now)) lines.new.text.items) }
+        (lines.old.text.items ++ text_from (lines_of own) first (records_in batch.now))
+        lines.new.text.items) }
+    ensures next { IfOk result (λ next.
+        next ≡ first + length (datagrams_of (records_in batch.now))) }
     ensures fault { IfErr result (λ fault. (fault ≡ CannotWrite) ⊎ (fault ≡ NoMemory)) }
     ensures front { OnErr result (PutsFront
         (W.contents lines.old.writer.now) (W.contents lines.new.writer.now)
-        (lines.old.text.items ++ text_from (lines_of own)
-        (count - length (records_in batch.now)) (records_in batch.now))) }
+        (lines.old.text.items ++ text_from (lines_of own) first (records_in batch.now))) }
 {
-    let first = count - batch.len() as u32;
     print_events(own, first, &batch.datagrams(alloc)?, lines)
 }
 
-/// Adds the lines of the events of these datagrams, and writes the lines out whenever they are
-/// full. `first` is the number of the first datagram.
+/// Adds the lines of the events of these datagrams, of which the first has number `first`, and
+/// writes the lines out whenever they are full. Returns the number of the next datagram.
 fn print_events<W: Write>(
     own: GuidPrefix,
     first: u32,
     datagrams: &[Datagram<'_>],
     lines: &mut Lines<'_, W>,
-) -> Result<(), RunFault>
+) -> Result<u32, RunFault>
     requires fit { All (λ d. length d.bytes.now ≤ 65507) datagrams.now }
     requires few { first + length datagrams.now ≤ 4294967295 }
     ensures same_writer { lines.new.writer.ghost_name ≡ lines.old.writer.ghost_name }
     ensures ok { OnOk result (Moves
         (W.contents lines.old.writer.now) (W.contents lines.new.writer.now)
         (lines.old.text.items
-        ++ text_from (lines_of own) first (map (λ d. d.bytes.now) datagrams.now))
-        lines.new.text.items) }
+        ++ text_from (lines_of own) first (map record_of datagrams.now)) lines.new.text.items) }
+    ensures next { IfOk result (λ next. next ≡ first + length datagrams.now) }
     ensures fault { IfErr result (λ fault. (fault ≡ CannotWrite) ⊎ (fault ≡ NoMemory)) }
     ensures front { OnErr result (PutsFront
         (W.contents lines.old.writer.now) (W.contents lines.new.writer.now)
-        (lines.old.text.items
-        ++ text_from (lines_of own) first (map (λ d. d.bytes.now) datagrams.now))) }
+        (lines.old.text.items ++ text_from (lines_of own) first (map record_of datagrams.now))) }
 {
     let mut number = first;
     for datagram in datagrams {
@@ -110,5 +109,5 @@ fn print_events<W: Write>(
         lines.write_if_full()?;
         number += 1;
     }
-    Ok(())
+    Ok(number)
 }

@@ -69,7 +69,7 @@ where
 {
     records.open()?;
     pipeline.ahead.read(records)?;
-    while pipeline.ahead.end == BatchEnd::More {
+    while pipeline.ahead.goes_on() {
         sink = sink.take_and_read(rt, &mut pipeline, records, lines)?;
     }
     let end = pipeline.ahead.end;

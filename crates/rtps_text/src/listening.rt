@@ -18,10 +18,14 @@ use std::thread::Threads;
 
 /// Receives datagrams, has the readers of a configuration process them as they come, sends the
 /// answers, each once to each of its locators, and writes the lines that [`replay`](crate::replay)
-/// writes for the same datagrams in a file. The answers to the datagrams that came are sent first,
+/// writes for the same datagrams in a file with their moments. With `summary` the matches and the
+/// status of each reader follow at the end, also if no more datagrams can be received.
+///
+/// After each wait the clock is read. Its moment passes first, as a tick of a file does, so that
+/// the matches of participants that fell silent end also while no datagram comes. The datagrams
+/// that are received until the next wait came at this moment. The answers to them are sent first,
 /// so that a slow writer delays none of them. Then their lines are written and flushed, before more
-/// datagrams are received. With `summary` the matches and the status of each reader follow at the
-/// end, also if no more datagrams can be received.
+/// datagrams are received.
 ///
 /// The run ends after the number of datagrams in `setup`, or after its number of waits. Before each
 /// wait, all datagrams that came were received and answered.
@@ -87,6 +91,7 @@ where
     C::Value: Sync,
     requires live { IsLive live }
     requires fresh { HasSaid C.text_of C.decoding [] [] live.run.participant.engine }
+    requires unread { live.moment ≡ 0 }
     ensures { Listened
         (live_by C.text_of C.decoding live.entry.run.participant.engine live.entry.run.summary)
         (limits_of live.entry.left turns) result (N.traffic network.old) (N.traffic network.new)
@@ -108,6 +113,7 @@ where
     C::Value: Sync,
     requires live { IsLive live }
     requires fresh { HasSaid C.text_of C.decoding [] [] live.run.participant.engine }
+    requires unread { live.moment ≡ 0 }
     requires empty { lines.old.text.items ≡ [] }
     ensures same_writer { lines.new.writer.ghost_name ≡ lines.old.writer.ghost_name }
     ensures prints { Listened

@@ -1,9 +1,10 @@
 //! A run over datagrams as they are received, a batch at a time.
 
-ghost use Rattle.std.specs.Prelude.{◌≡◌, ◌<◌, ◌≤◌, [], IfErr, IfOk, OnOk};
+ghost use Rattle.std.specs.Prelude.{◌≡◌, ◌<◌, ◌≤◌, [], IfErr, IfOk, OnOk, length};
+ghost use Rattle.rtps_records.specs.Batches.{records_in};
 ghost use Rattle.rtps_records.specs.declared.receive_end.ReceiveEnd.TheVariants.{More};
 ghost use Rattle.dds_participant.specs.Ports.{NoneAttached};
-ghost use Rattle.rtps_text.specs.Live.{GoesOn, IsLive, StopsShort, TakesTurns, TurnsStop};
+ghost use Rattle.rtps_text.specs.Live.{BreaksOff, GoesOn, IsLive, Processes, StopsShort, TakesTurns, TurnsStop};
 ghost use Rattle.rtps_text.specs.Batched.{IsSameRun};
 ghost use Rattle.rtps_text.specs.Replayed.{HasSaid};
 
@@ -28,6 +29,8 @@ pub(crate) struct Live<'c, C: TextCatalog> {
     texts: Texts,
     /// The number of datagrams that may still be received.
     pub left: u32,
+    /// The moment that the clock gave last, in milliseconds; 0 before it is read.
+    pub moment: u64,
 }
 
 impl<'c, C: TextCatalog> Live<'c, C>
@@ -46,6 +49,7 @@ where
         requires alone { NoneAttached run.participant.ports }
         ensures run { IfOk result (λ live. live.run ≡ run) }
         ensures left { IfOk result (λ live. live.left ≡ datagrams) }
+        ensures moment { IfOk result (λ live. live.moment ≡ 0) }
         ensures live { IfOk result IsLive }
     {
         let alloc = run.alloc;
@@ -56,6 +60,7 @@ where
             batch: Batch::new(alloc)?,
             texts: Texts::none(alloc),
             left: datagrams,
+            moment: 0,
         })
     }
 
@@ -73,9 +78,75 @@ where
         }
     }
 
-    /// Receives the datagrams that have come, at most one batch, has the readers process them,
-    /// sends the answers, and writes the lines. The answers are sent first, so that a slow writer
-    /// delays none of them.
+    /// Has the readers process the batch, sends the answers, and writes the lines. The answers are
+    /// sent first, so that a slow writer delays none of them.
+    ///
+    /// Returns `CannotWrite` if a write fails, which happens after the answers were sent, and
+    /// `NoMemory` if memory runs out. A prefix of the lines may have been written by then.
+    fn process<N: Exchange, W: Write, T: Threads + Sync>(
+        &mut self,
+        rt: &T,
+        network: &mut N,
+        lines: &mut Lines<'_, W>,
+    ) -> Result<(), RunFault>
+        requires live { IsLive self.old }
+        requires few { length (records_in self.old.batch) ≤ 4096 }
+        requires empty { lines.old.text.items ≡ [] }
+        ensures same_writer { lines.new.writer.ghost_name ≡ lines.old.writer.ghost_name }
+        ensures live { OnOk result (IsLive self.new) }
+        ensures empty { OnOk result (lines.new.text.items ≡ []) }
+        ensures same { OnOk result (IsSameRun self.old.run self.new.run) }
+        ensures left { self.new.left ≡ self.old.left }
+        ensures moment { self.new.moment ≡ self.old.moment }
+        ensures processes { OnOk result (Processes C.text_of C.view C.decoding
+            (records_in self.old.batch) self.old self.new
+            (N.traffic network.old) (N.traffic network.new)
+            (W.contents lines.old.writer.now) (W.contents lines.new.writer.now)) }
+        ensures stops { IfErr result (λ fault. BreaksOff C.text_of C.view C.decoding
+            (records_in self.old.batch) self.old self.new fault
+            (N.traffic network.old) (N.traffic network.new)
+            (W.contents lines.old.writer.now) (W.contents lines.new.writer.now)) }
+    {
+        self.run.take_records(rt, &self.batch)?;
+        send_answers(network, &self.run.given);
+        self.printer
+            .print_last(rt, &self.run.given, &mut self.texts, lines)?;
+        lines.close()?;
+        lines.text.clear();
+        Ok(())
+    }
+
+    /// Reads the clock, and has the readers process a tick at that moment: the writers that are
+    /// gone end, and their lines are written.
+    ///
+    /// Returns what [`Live::take`] returns.
+    fn pass<N: Exchange, W: Write, T: Threads + Sync>(
+        &mut self,
+        rt: &T,
+        network: &mut N,
+        lines: &mut Lines<'_, W>,
+    ) -> Result<(), RunFault>
+        requires live { IsLive self.old }
+        requires empty { lines.old.text.items ≡ [] }
+        ensures same_writer { lines.new.writer.ghost_name ≡ lines.old.writer.ghost_name }
+        ensures live { OnOk result (IsLive self.new) }
+        ensures empty { OnOk result (lines.new.text.items ≡ []) }
+        ensures same { OnOk result (IsSameRun self.old.run self.new.run) }
+        ensures left { self.new.left ≡ self.old.left }
+        ensures goes_on { OnOk result (GoesOn C.text_of C.decoding self.old self.new
+            (N.traffic network.old) (N.traffic network.new)
+            (W.contents lines.old.writer.now) (W.contents lines.new.writer.now) More) }
+        ensures stops { IfErr result (λ fault. StopsShort C.text_of C.decoding self.old fault
+            (N.traffic network.old) (N.traffic network.new)
+            (W.contents lines.old.writer.now) (W.contents lines.new.writer.now)) }
+    {
+        self.moment = network.moment();
+        self.batch.hold_tick(self.moment);
+        self.process(rt, network, lines)
+    }
+
+    /// Receives the datagrams that have come, at most one batch, and has the readers process them,
+    /// as [`Live::process`] does. All of them came at the moment that the clock gave last.
     ///
     /// Returns `CannotWrite` if a write fails, which happens after the answers were sent, and
     /// `NoMemory` if memory runs out. A prefix of the lines may have been written by then.
@@ -101,14 +172,9 @@ where
             (W.contents lines.old.writer.now) (W.contents lines.new.writer.now)) }
     {
         let most = self.most();
-        let end = self.batch.receive(network, most)?;
+        let end = self.batch.receive(network, self.moment, most)?;
         self.left -= self.batch.len() as u32;
-        self.run.take_records(rt, &self.batch)?;
-        send_answers(network, &self.run.given);
-        self.printer
-            .print_last(rt, &self.run.given, &mut self.texts, lines)?;
-        lines.close()?;
-        lines.text.clear();
+        self.process(rt, network, lines)?;
         Ok(end)
     }
 
@@ -143,8 +209,9 @@ where
         Ok(ReceiveEnd::More)
     }
 
-    /// Waits for datagrams at most `turns` times, and each time receives and processes all that
-    /// have come. Stops before that if no more datagrams may be received or the network fails.
+    /// Waits for datagrams at most `turns` times. Each time the moment that the clock gives passes,
+    /// and then all datagrams that have come are received and processed. Stops before that if no
+    /// more datagrams may be received or the network fails.
     pub(crate) fn take_turns<N: Exchange, W: Write, T: Threads + Sync>(
         &mut self,
         rt: &T,
@@ -174,6 +241,7 @@ where
                 Ok(()) => {}
                 Err(_) => return Ok(ReceiveEnd::Fault),
             }
+            self.pass(rt, network, lines)?;
             end = self.take_all(rt, network, lines)?;
             match end {
                 ReceiveEnd::Fault => return Ok(end),

@@ -1,11 +1,11 @@
 //! What a run over a file keeps from one batch to the next.
 
-ghost use Rattle.std.specs.Prelude.{◌≡◌, ◌≢◌, ◌⊎◌, ◌++◌, [], IfErr, IfOk, List, OnErr, OnOk, Option, ℕ};
-ghost use Rattle.rtps_records.specs.Batches.{EndsBatch, records_in};
+ghost use Rattle.std.specs.Prelude.{◌≡◌, ◌⊎◌, ◌++◌, [], false, IfErr, IfOk, List, OnErr, OnOk, Option, ℕ};
+ghost use Rattle.rtps_records.specs.Batches.{records_in};
 ghost use Rattle.rtps_records.specs.Runs.{Moves, PutsFront};
 ghost use Rattle.rtps_records.specs.declared.batch_end.BatchEnd.TheVariants.{More};
 ghost use Rattle.rtps_records.specs.declared.fault.RunFault.TheVariants.{CannotWrite, NoMemory};
-ghost use Rattle.rtps_text.specs.Ahead.{ReadsAhead};
+ghost use Rattle.rtps_text.specs.Ahead.{Ended, ReadsAhead, goes_on};
 ghost use Rattle.rtps_text.specs.Slices.{AreTexts};
 
 use crate::setup::Pace;
@@ -21,7 +21,7 @@ pub(crate) struct ReadAhead {
     pub texts: Texts,
     /// The batch that was read last.
     pub next: Batch,
-    /// What follows that batch in the file: more, the end or a fault.
+    /// What follows that batch in the file: more, a tick that was read, the end or a fault.
     pub end: BatchEnd,
     /// How the file is cut into batches.
     pace: Pace,
@@ -62,27 +62,43 @@ impl ReadAhead {
         })
     }
 
-    /// Reads the batch after the one that was read last. After the last batch nothing is read: the
-    /// next batch has no records, and the same end as the last one.
+    /// Whether there is more to process after the batch that was read last.
+    pub(crate) fn goes_on(&self) -> bool
+        ensures { result ≡ goes_on self.now.end }
+    {
+        match self.end {
+            BatchEnd::More | BatchEnd::Tick(_) => true,
+            BatchEnd::End | BatchEnd::Fault(_) => false,
+        }
+    }
+
+    /// Reads the batch after the one that was read last. A tick that ended that one is a batch, and
+    /// was read before. After the last batch nothing is read: the next batch has no records, and
+    /// the same end as the last one.
     ///
     /// The only error is `NoMemory`.
     pub(crate) fn read<R: Read>(&mut self, records: &mut Records<'_, R>) -> Result<(), RunFault>
         ensures same_reader { records.new.reader.ghost_name ≡ records.old.reader.ghost_name }
+        ensures same_format { records.new.format ≡ records.old.format }
         ensures texts { self.new.texts ≡ self.old.texts }
-        ensures reads { (here : Option (List ℕ)) (earlier : List (List ℕ))
-            → EndsBatch self.old.end records.old.count earlier here
-            (R.remaining records.old.reader.now)
-            → OnOk result (ReadsAhead here (R.remaining records.new.reader.now)
-            records.old.count records.new.count (records_in self.new.next) self.new.end) }
-        ensures still { self.old.end ≢ More
+        ensures reads { (here : Option (List ℕ)) (n : ℕ)
+            → Ended records.old.format self.old.end records.old.count
+            (R.remaining records.old.reader.now) n here
+            → OnOk result (ReadsAhead records.old.format self.old.end
+            here (R.remaining records.new.reader.now) n records.new.count
+            (records_in self.new.next) self.new.end) }
+        ensures still { goes_on self.old.end ≡ false
             → R.remaining records.new.reader.now ≡ R.remaining records.old.reader.now }
         ensures fault { IfErr result (λ fault. fault ≡ NoMemory) }
     {
-        if self.end == BatchEnd::More {
-            self.end = records.next_batch(&mut self.next, self.pace.batch)?;
-            return Ok(());
+        match self.end {
+            BatchEnd::More => self.end = records.next_batch(&mut self.next, self.pace.batch)?,
+            BatchEnd::Tick(moment) => {
+                self.next.hold_tick(moment);
+                self.end = BatchEnd::More;
+            }
+            BatchEnd::End | BatchEnd::Fault(_) => self.next.clear(),
         }
-        self.next.clear();
         Ok(())
     }
 
@@ -100,13 +116,15 @@ impl ReadAhead {
     ) -> Result<(), RunFault>
         ensures none { self.new.texts.made.items ≡ [] }
         ensures same_reader { records.new.reader.ghost_name ≡ records.old.reader.ghost_name }
+        ensures same_format { records.new.format ≡ records.old.format }
         ensures same_writer { lines.new.writer.ghost_name ≡ lines.old.writer.ghost_name }
-        ensures reads { (here : Option (List ℕ)) (earlier : List (List ℕ))
-            → EndsBatch self.old.end records.old.count earlier here
-            (R.remaining records.old.reader.now)
-            → OnOk result (ReadsAhead here (R.remaining records.new.reader.now)
-            records.old.count records.new.count (records_in self.new.next) self.new.end) }
-        ensures still { self.old.end ≢ More
+        ensures reads { (here : Option (List ℕ)) (n : ℕ)
+            → Ended records.old.format self.old.end records.old.count
+            (R.remaining records.old.reader.now) n here
+            → OnOk result (ReadsAhead records.old.format self.old.end
+            here (R.remaining records.new.reader.now) n records.new.count
+            (records_in self.new.next) self.new.end) }
+        ensures still { goes_on self.old.end ≡ false
             → R.remaining records.new.reader.now ≡ R.remaining records.old.reader.now }
         ensures ok { (whole : List ℕ) → AreTexts self.old.texts.made.items whole
             → OnOk result (Moves

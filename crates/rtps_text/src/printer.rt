@@ -1,14 +1,11 @@
 //! Printing a run: the output of a batch is formatted, and the formatted text is written.
 
-ghost use Rattle.std.specs.Prelude.{◌≡◌, ◌≢◌, ◌≤◌, ◌⊎◌, ◌++◌, [], IfErr, IfOk, List, OnErr, OnOk, Option, length, ℕ};
-ghost use Rattle.std.specs.List.{AllByRecursion};
-ghost use Rattle.rtps_records.specs.Batches.{EndsBatch, records_in};
-ghost use Rattle.rtps_records.specs.RecordFile.{IsRecord};
+ghost use Rattle.std.specs.Prelude.{◌≡◌, ◌≤◌, ◌⊎◌, ◌++◌, [], false, IfErr, IfOk, List, OnErr, OnOk, Option, length, ℕ};
+ghost use Rattle.rtps_records.specs.Batches.{records_in};
 ghost use Rattle.rtps_records.specs.Runs.{Moves, PutsFront};
-ghost use Rattle.rtps_records.specs.declared.batch_end.BatchEnd.TheVariants.{More};
 ghost use Rattle.rtps_records.specs.declared.fault.RunFault.TheVariants.{CannotWrite, NoMemory};
 ghost use Rattle.dds_participant.specs.Ports.{NoneAttached};
-ghost use Rattle.rtps_text.specs.Ahead.{ReadsAhead};
+ghost use Rattle.rtps_text.specs.Ahead.{Ended, ReadsAhead, goes_on};
 ghost use Rattle.rtps_text.specs.Batched.{IsDue, IsSameRun, MovesBefore, TakesRecords};
 ghost use Rattle.rtps_text.specs.Slices.{AreByPlace, AreTexts, all_lines, merged_lines};
 
@@ -84,23 +81,23 @@ where
         lines: &mut Lines<'_, W>,
     ) -> Result<RunLines<C>, RunFault>
         requires few { length (records_in pipeline.old.ahead.next) ≤ 4096 }
-        requires fit { AllByRecursion IsRecord (records_in pipeline.old.ahead.next) }
         requires alone { NoneAttached run.participant.ports }
         ensures same { IfOk result (IsSameRun run) }
         ensures takes { IfOk result (λ now. TakesRecords C.view C.decoding
             (records_in pipeline.old.ahead.next)
             run.participant.engine now.participant.engine now.given) }
-        ensures reads { (here : Option (List ℕ)) (earlier : List (List ℕ))
-            → EndsBatch pipeline.old.ahead.end records.old.count earlier here
-            (R.remaining records.old.reader.now)
-            → OnOk result (ReadsAhead here (R.remaining records.new.reader.now)
-            records.old.count records.new.count
+        ensures reads { (here : Option (List ℕ)) (n : ℕ)
+            → Ended records.old.format pipeline.old.ahead.end records.old.count
+            (R.remaining records.old.reader.now) n here
+            → OnOk result (ReadsAhead records.old.format pipeline.old.ahead.end
+            here (R.remaining records.new.reader.now) n records.new.count
             (records_in pipeline.new.ahead.next) pipeline.new.ahead.end) }
-        ensures still { pipeline.old.ahead.end ≢ More
+        ensures still { goes_on pipeline.old.ahead.end ≡ false
             → R.remaining records.new.reader.now ≡ R.remaining records.old.reader.now }
         ensures catalog { self.new.catalog.now ≡ self.old.catalog.now }
         ensures readers { self.new.readers ≡ self.old.readers }
         ensures same_reader { records.new.reader.ghost_name ≡ records.old.reader.ghost_name }
+        ensures same_format { records.new.format ≡ records.old.format }
         ensures same_writer { lines.new.writer.ghost_name ≡ lines.old.writer.ghost_name }
         ensures ok { (due : List ℕ) → IsDue (C.text_of self.old.catalog.now) C.view
             pipeline.old.ahead.texts.made.items run.given self.old.readers due
@@ -187,23 +184,23 @@ where
         lines: &mut Lines<'_, W>,
     ) -> Result<RunLines<C>, RunFault>
         requires few { length (records_in pipeline.old.ahead.next) ≤ 4096 }
-        requires fit { AllByRecursion IsRecord (records_in pipeline.old.ahead.next) }
         requires alone { NoneAttached run.participant.ports }
         ensures same { IfOk result (IsSameRun run) }
         ensures takes { IfOk result (λ now. TakesRecords C.view C.decoding
             (records_in pipeline.old.ahead.next)
             run.participant.engine now.participant.engine now.given) }
-        ensures reads { (here : Option (List ℕ)) (earlier : List (List ℕ))
-            → EndsBatch pipeline.old.ahead.end records.old.count earlier here
-            (R.remaining records.old.reader.now)
-            → OnOk result (ReadsAhead here (R.remaining records.new.reader.now)
-            records.old.count records.new.count
+        ensures reads { (here : Option (List ℕ)) (n : ℕ)
+            → Ended records.old.format pipeline.old.ahead.end records.old.count
+            (R.remaining records.old.reader.now) n here
+            → OnOk result (ReadsAhead records.old.format pipeline.old.ahead.end
+            here (R.remaining records.new.reader.now) n records.new.count
             (records_in pipeline.new.ahead.next) pipeline.new.ahead.end) }
-        ensures still { pipeline.old.ahead.end ≢ More
+        ensures still { goes_on pipeline.old.ahead.end ≡ false
             → R.remaining records.new.reader.now ≡ R.remaining records.old.reader.now }
         ensures catalog { self.new.catalog.now ≡ self.old.catalog.now }
         ensures readers { self.new.readers ≡ self.old.readers }
         ensures same_reader { records.new.reader.ghost_name ≡ records.old.reader.ghost_name }
+        ensures same_format { records.new.format ≡ records.old.format }
         ensures same_writer { lines.new.writer.ghost_name ≡ lines.old.writer.ghost_name }
         ensures ok { (due : List ℕ) → IsDue (C.text_of self.old.catalog.now) C.view
             pipeline.old.ahead.texts.made.items run.given self.old.readers due
@@ -227,7 +224,6 @@ where
         let batch = &*batch;
         let take = move || -> Result<RunLines<C>, AllocError>
             requires few { length (records_in batch.now) ≤ 4096 }
-            requires fit { AllByRecursion IsRecord (records_in batch.now) }
             requires alone { NoneAttached run.participant.ports }
             ensures same { IfOk result (IsSameRun run) }
             ensures takes { IfOk result (λ now. TakesRecords C.view C.decoding

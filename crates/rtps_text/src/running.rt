@@ -1,15 +1,12 @@
 //! A run of a participant, in batches.
 
-ghost use Rattle.std.specs.Prelude.{◌≡◌, ◌≤◌, ◌++◌, [], All, IfErr, IfOk, List, OnOk, length, map, ℕ};
+ghost use Rattle.std.specs.Prelude.{◌≡◌, ◌≤◌, [], ◌∷◌, All, IfErr, IfOk, OnOk, length, map};
 ghost use Rattle.std.specs.Io.{StartsWith};
-ghost use Rattle.std.specs.List.{AllByRecursion};
-ghost use Rattle.rtps_records.specs.Batches.{records_in};
-ghost use Rattle.rtps_records.specs.RecordFile.{IsRecord};
+ghost use Rattle.rtps_records.specs.Batches.{record_of, records_in};
+ghost use Rattle.rtps_records.specs.RecordFile.{Tick};
 ghost use Rattle.rtps_records.specs.Runs.{Closes, ClosesNot};
 ghost use Rattle.rtps_records.specs.Text.{Ends};
-ghost use Rattle.rtps_run.specs.Input.{Input, arrived};
-ghost use Rattle.rtps_run.specs.Standing.{StandsAt, run_by};
-ghost use Rattle.dds_participant.specs.BatchOutput.{HoldsNothing, IsGiven};
+ghost use Rattle.dds_participant.specs.BatchOutput.{HoldsNothing};
 ghost use Rattle.dds_participant.specs.Ports.{NoneAttached};
 ghost use Rattle.rtps_text.specs.Replayed.{HasSaid, text_by};
 ghost use Rattle.rtps_text.specs.Batched.{IsSameRun, TakesRecords};
@@ -72,8 +69,26 @@ where
         })
     }
 
-    /// Has the participant process the datagrams of a batch.
-    pub(crate) fn take<T: Threads + Sync>(
+    /// Has the participant process the records of a batch: its datagrams, or its tick.
+    pub(crate) fn take_records<T: Threads + Sync>(
+        &mut self,
+        rt: &T,
+        batch: &Batch,
+    ) -> Result<(), AllocError>
+        requires few { length (records_in batch.now) ≤ 4096 }
+        requires alone { NoneAttached self.old.participant.ports }
+        ensures same { IsSameRun self.old self.new }
+        ensures takes { OnOk result (TakesRecords C.view C.decoding (records_in batch.now)
+            self.old.participant.engine self.new.participant.engine self.new.given) }
+    {
+        match batch.tick() {
+            Some(moment) => self.pass(moment),
+            None => self.take(rt, &batch.datagrams(self.alloc)?),
+        }
+    }
+
+    /// Has the participant process datagrams.
+    fn take<T: Threads + Sync>(
         &mut self,
         rt: &T,
         datagrams: &[Datagram<'_>],
@@ -81,19 +96,9 @@ where
         requires few { length datagrams.now ≤ 4096 }
         requires fit { All (λ d. length d.bytes.now ≤ 65507) datagrams.now }
         requires alone { NoneAttached self.old.participant.ports }
-        ensures same { (self.new.participant.engine.catalog ≡ self.old.participant.engine.catalog)
-            × (self.new.participant.engine.config ≡ self.old.participant.engine.config)
-            × (self.new.summary ≡ self.old.summary) × (self.new.pace ≡ self.old.pace) }
-        ensures alone { NoneAttached self.new.participant.ports }
-        ensures stands { (earlier : List Input)
-            → StandsAt C.decoding earlier self.old.participant.engine → OnOk result
-            (StandsAt C.decoding (earlier ++ map arrived datagrams.now)
-            self.new.participant.engine) }
-        ensures gives { (earlier : List Input)
-            → StandsAt C.decoding earlier self.old.participant.engine → OnOk result
-            (IsGiven C.view (run_by C.decoding self.old.participant.engine earlier)
-            (run_by C.decoding self.old.participant.engine
-            (earlier ++ map arrived datagrams.now)) self.new.given) }
+        ensures same { IsSameRun self.old self.new }
+        ensures takes { OnOk result (TakesRecords C.view C.decoding (map record_of datagrams.now)
+            self.old.participant.engine self.new.participant.engine self.new.given) }
     {
         let readers = self.participant.readers();
         let workers = Workers {
@@ -109,20 +114,20 @@ where
         }
     }
 
-    /// Has the participant process the records of a batch.
-    pub(crate) fn take_records<T: Threads + Sync>(
-        &mut self,
-        rt: &T,
-        batch: &Batch,
-    ) -> Result<(), AllocError>
-        requires few { length (records_in batch.now) ≤ 4096 }
-        requires fit { AllByRecursion IsRecord (records_in batch.now) }
+    /// Has a moment pass for the participant, at which no datagram came.
+    fn pass(&mut self, moment: u64) -> Result<(), AllocError>
         requires alone { NoneAttached self.old.participant.ports }
         ensures same { IsSameRun self.old self.new }
-        ensures takes { OnOk result (TakesRecords C.view C.decoding (records_in batch.now)
+        ensures takes { OnOk result (TakesRecords C.view C.decoding (Tick moment ∷ [])
             self.old.participant.engine self.new.participant.engine self.new.given) }
     {
-        self.take(rt, &batch.datagrams(self.alloc)?)
+        match self
+            .participant
+            .tick_in_order(self.alloc, moment, &mut self.given)
+        {
+            Ok(()) => Ok(()),
+            Err(_) => Err(AllocError),
+        }
     }
 
     /// Adds the summary if it is asked for.

@@ -6,10 +6,10 @@ ghost use Rattle.std.specs.Io.{StartsWith};
 ghost use Rattle.std.specs.Io.KnownBytes.{Appends};
 ghost use Rattle.std.specs.List.{AllByRecursion};
 ghost use Rattle.rtps_records.specs.Batches.{records_in};
-ghost use Rattle.rtps_records.specs.RecordFile.{IsRecord};
+ghost use Rattle.rtps_records.specs.RecordFile.{IsRecord, Record};
 ghost use Rattle.rtps_records.specs.Runs.{PutsFront, WroteAll};
 ghost use Rattle.rtps_records.specs.declared.fault.RunFault.TheVariants.{CannotWrite, NoMemory};
-ghost use Rattle.rtps_text.specs.Undated.{StandsAt, run_by};
+ghost use Rattle.rtps_text.specs.Inputs.{StandsAt, run_by};
 ghost use Rattle.dds_participant.specs.Ports.{NoneAttached};
 ghost use Rattle.rtps_text.specs.Batched.{IsSameRun};
 ghost use Rattle.rtps_text.specs.Caches.{AllAccept, AreKept, StopsLate};
@@ -120,7 +120,7 @@ fn push_asked<C: TextCatalog, A: Allocator>(
 ) -> Result<(), AllocError>
 where
     C::Value: Sync,
-    ensures ok { (records : List (List ℕ))
+    ensures ok { (records : List Record)
         → StandsAt C.decoding records run.now.participant.engine
         → OnOk result (out.new.items ≡ out.old.items ++ (if run.now.summary
         then summary_text (run_by C.decoding run.now.participant.engine records) else [])) }
@@ -161,12 +161,11 @@ where
         batch: &Batch,
     ) -> Result<(), AllocError>
         requires few { length (records_in batch.now) ≤ 4096 }
-        requires fit { AllByRecursion IsRecord (records_in batch.now) }
-        requires kept { (earlier : List (List ℕ)) × AreKept C.view C.decoding self.old.keep earlier
+        requires kept { (earlier : List Record) × AreKept C.view C.decoding self.old.keep earlier
             self.old.run.participant.engine self.old.caches.by_rank.items }
         requires alone { NoneAttached self.old.run.participant.ports }
         ensures same { IsSameRun self.old.run self.new.run × (self.new.keep ≡ self.old.keep) }
-        ensures takes { (earlier : List (List ℕ)) → AreKept C.view C.decoding self.old.keep earlier
+        ensures takes { (earlier : List Record) → AreKept C.view C.decoding self.old.keep earlier
             self.old.run.participant.engine self.old.caches.by_rank.items → OnOk result
             (AreKept C.view C.decoding self.new.keep (earlier ++ records_in batch.now)
             self.new.run.participant.engine self.new.caches.by_rank.items) }
@@ -197,13 +196,13 @@ where
     pub(crate) fn close<W: Write>(&mut self, lines: &mut Lines<'_, W>) -> Result<(), RunFault>
         requires empty { lines.old.text.items ≡ [] }
         ensures same_writer { lines.new.writer.ghost_name ≡ lines.old.writer.ghost_name }
-        ensures ok { (records : List (List ℕ)) → AreKept C.view C.decoding self.old.keep records
+        ensures ok { (records : List Record) → AreKept C.view C.decoding self.old.keep records
             self.old.run.participant.engine self.old.caches.by_rank.items → OnOk result (Appends
             (W.contents lines.old.writer.now) (W.contents lines.new.writer.now)
             (samples_by C.text_of C.decoding self.old.run.participant.engine
             self.old.run.summary self.old.keep records)) }
         ensures fault { IfErr result (λ fault. (fault ≡ CannotWrite) ⊎ (fault ≡ NoMemory)) }
-        ensures front { (records : List (List ℕ)) → AreKept C.view C.decoding self.old.keep
+        ensures front { (records : List Record) → AreKept C.view C.decoding self.old.keep
             records self.old.run.participant.engine self.old.caches.by_rank.items
             → OnErr result (PutsFront
             (W.contents lines.old.writer.now) (W.contents lines.new.writer.now)

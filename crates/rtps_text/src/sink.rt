@@ -1,13 +1,11 @@
 //! The sinks of a run over a file, which process its records and print their text.
 
-ghost use Rattle.std.specs.Prelude.{◌≡◌, ◌≢◌, ◌≤◌, ◌⊎◌, IfErr, IfOk, List, OnErr, OnOk, Option, length, ℕ};
-ghost use Rattle.std.specs.List.{AllByRecursion};
-ghost use Rattle.rtps_records.specs.Batches.{EndsBatch, records_in};
-ghost use Rattle.rtps_records.specs.RecordFile.{IsRecord};
-ghost use Rattle.rtps_records.specs.declared.batch_end.BatchEnd.TheVariants.{More};
+ghost use Rattle.std.specs.Prelude.{◌≡◌, ◌+◌, ◌≤◌, ◌⊎◌, false, IfErr, IfOk, List, OnErr, OnOk, Option, length, ℕ};
+ghost use Rattle.rtps_records.specs.Batches.{records_in};
+ghost use Rattle.rtps_records.specs.RecordFile.{Record};
 ghost use Rattle.rtps_records.specs.declared.fault.RunFault.TheVariants.{CannotWrite, NoMemory};
-ghost use Rattle.rtps_text.specs.Ahead.{ReadsAhead};
-ghost use Rattle.rtps_text.specs.Sink.{HasTaken, IsTaken, is_late, sink_text};
+ghost use Rattle.rtps_text.specs.Ahead.{Ended, ReadsAhead, goes_on};
+ghost use Rattle.rtps_text.specs.Sink.{HasTaken, IsTaken, datagrams_before, is_late, sink_text};
 ghost use Rattle.rtps_text.specs.Taken.{Finishes, FinishesFront, Takes, TakesFront};
 
 use crate::dumping::print_batch;
@@ -26,10 +24,12 @@ use std::thread::Threads;
 /// The sink of a run over a file: what processes the records and prints their text.
 #[derive(Drop)]
 pub(crate) enum Sink<'c, C: TextCatalog> {
-    /// The events of each record, as the participant with the prefix `own` sees them. Their lines
+    /// The events of each datagram, as the participant with the prefix `own` sees them. Their lines
     /// are added at once.
     Events {
         own: GuidPrefix,
+        /// The number of the next datagram.
+        next: u32,
         alloc: Global,
     },
     /// What readers report and answer. Its lines are formatted while the next batch is run.
@@ -57,43 +57,44 @@ where
         lines: &mut Lines<'_, W>,
     ) -> Result<Sink<'c, C>, RunFault>
         requires few { length (records_in pipeline.old.ahead.next) ≤ 4096 }
-        requires fit { AllByRecursion IsRecord (records_in pipeline.old.ahead.next) }
-        requires counted { length (records_in pipeline.old.ahead.next) ≤ records.old.count }
+        requires counted { datagrams_before self
+            + length (records_in pipeline.old.ahead.next) ≤ 4294967295 }
         requires taken { HasTaken C.text_of C.view C.decoding self
             pipeline.old.ahead.texts.made.items lines.old.text.items }
-        ensures text { IfOk result (λ now. (those : List (List ℕ))
+        ensures text { IfOk result (λ now. (those : List Record)
             → sink_text C.text_of C.decoding now those
             ≡ sink_text C.text_of C.decoding self.entry those) }
         ensures late { IfOk result (λ now. is_late now ≡ is_late self.entry) }
         ensures takes { IfOk result (λ now. Takes
             (IsTaken C.text_of C.view C.decoding self.entry pipeline.old.ahead.texts.made.items)
             (IsTaken C.text_of C.view C.decoding now pipeline.new.ahead.texts.made.items)
-            (records_in pipeline.old.ahead.next) records.old.count
+            (records_in pipeline.old.ahead.next)
             (W.contents lines.old.writer.now) (W.contents lines.new.writer.now)
             lines.old.text.items lines.new.text.items) }
-        ensures reads { (here : Option (List ℕ)) (earlier : List (List ℕ))
-            → EndsBatch pipeline.old.ahead.end records.old.count earlier here
-            (R.remaining records.old.reader.now)
-            → OnOk result (ReadsAhead here (R.remaining records.new.reader.now)
-            records.old.count records.new.count
+        ensures reads { (here : Option (List ℕ)) (n : ℕ)
+            → Ended records.old.format pipeline.old.ahead.end records.old.count
+            (R.remaining records.old.reader.now) n here
+            → OnOk result (ReadsAhead records.old.format pipeline.old.ahead.end
+            here (R.remaining records.new.reader.now) n records.new.count
             (records_in pipeline.new.ahead.next) pipeline.new.ahead.end) }
-        ensures still { pipeline.old.ahead.end ≢ More
+        ensures still { goes_on pipeline.old.ahead.end ≡ false
             → R.remaining records.new.reader.now ≡ R.remaining records.old.reader.now }
         ensures same_reader { records.new.reader.ghost_name ≡ records.old.reader.ghost_name }
+        ensures same_format { records.new.format ≡ records.old.format }
         ensures same_writer { lines.new.writer.ghost_name ≡ lines.old.writer.ghost_name }
         ensures fault { IfErr result (λ fault. (fault ≡ CannotWrite) ⊎ (fault ≡ NoMemory)) }
         ensures front { OnErr result (TakesFront
             (IsTaken C.text_of C.view C.decoding self.entry pipeline.old.ahead.texts.made.items)
             (sink_text C.text_of C.decoding self.entry)
-            (records_in pipeline.old.ahead.next) records.old.count
+            (records_in pipeline.old.ahead.next)
             (W.contents lines.old.writer.now) (W.contents lines.new.writer.now)
             lines.old.text.items) }
     {
         match self {
-            Sink::Events { own, alloc } => {
-                print_batch(alloc, own, &pipeline.ahead.next, records.count(), lines)?;
+            Sink::Events { own, next, alloc } => {
+                let next = print_batch(alloc, own, next, &pipeline.ahead.next, lines)?;
                 pipeline.ahead.read(records)?;
-                Ok(Sink::Events { own, alloc })
+                Ok(Sink::Events { own, next, alloc })
             }
             Sink::Lines { run, mut printer } => {
                 let run = printer.print_and_take(rt, run, pipeline, records, lines)?;

@@ -5,6 +5,7 @@ mod entries;
 mod fragments;
 mod listening;
 mod matches;
+mod moments;
 mod runs;
 mod sending;
 

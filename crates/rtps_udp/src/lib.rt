@@ -6,5 +6,6 @@ mod receiving;
 mod sockets;
 #[cfg(test)]
 mod tests;
+mod timer;
 
 pub use sockets::Sockets;

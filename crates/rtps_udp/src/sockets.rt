@@ -5,6 +5,7 @@ ghost use Rattle.std.specs.Duration.{as_nanos};
 
 use crate::addresses::{Purpose, address_of, is_answered};
 use crate::receiving::{outcome_of, receive_first};
+use crate::timer::Timer;
 use mio::net::UdpSocket;
 use mio::{Events, Interest, Poll, Token};
 use rtps_records::{Exchange, Receive};
@@ -12,7 +13,7 @@ use rtps_types::Locator;
 use std::alloc::Global;
 use std::io;
 use std::net::{Net, SocketAddr, SocketAddrV4};
-use std::time::Duration;
+use std::time::{Clock, Duration};
 
 /// The longest time of one wait: long enough that waiting costs next to nothing while nobody sends.
 fn turn() -> Duration
@@ -47,23 +48,34 @@ impl Receive for Port {
     }
 }
 
-/// The two sockets of a participant.
+/// The two sockets of a participant, with a clock.
 #[derive(Drop)]
-pub struct Sockets {
+pub struct Sockets<'a, K> {
     poll: Poll,
     events: Events<Global>,
     /// Receives the datagrams of discovery, and sends all answers.
     metatraffic: Port,
     /// Receives user data.
     user: Port,
+    /// Counts from the moment that the sockets were bound.
+    timer: Timer<'a, K>,
+    /// The moment at which the last wait ended, in milliseconds; 0 before the first one.
+    moment: u64,
 }
 
-impl Sockets {
-    /// Binds the sockets of a domain's first participant. An error is the system's, for example if
-    /// another program has one of the ports.
-    pub fn bind(net: &impl Net, alloc: Global, domain: u16) -> io::Result<Sockets>
+impl<'a, K: Clock> Sockets<'a, K> {
+    /// Binds the sockets of a domain's first participant, and starts to count milliseconds by the
+    /// clock. An error is the system's, for example if another program has one of the ports, or if
+    /// the clock can't be read.
+    pub fn bind(
+        net: &impl Net,
+        clock: &'a K,
+        alloc: Global,
+        domain: u16,
+    ) -> io::Result<Sockets<'a, K>>
         requires { domain ≤ 232 }
     {
+        let timer = Timer::start(clock)?;
         let poll = Poll::new(net)?;
         let mut metatraffic = Port::bind(net, domain, Purpose::Metatraffic)?;
         let mut user = Port::bind(net, domain, Purpose::UserData)?;
@@ -76,11 +88,13 @@ impl Sockets {
             events: Events::with_capacity(alloc, 2)?,
             metatraffic,
             user,
+            timer,
+            moment: 0,
         })
     }
 }
 
-impl Receive for Sockets {
+impl<K: Clock> Receive for Sockets<'_, K> {
     ghost traffic = { λ _. None };
 
     /// Discovery's datagrams come first, so that a writer is known before its samples come.
@@ -89,9 +103,17 @@ impl Receive for Sockets {
     }
 }
 
-impl Exchange for Sockets {
+impl<K: Clock> Exchange for Sockets<'_, K> {
+    /// A clock that can't be read is an error too.
     fn wait(&mut self) -> io::Result<()> {
-        self.poll.poll(&mut self.events, Some(turn()))
+        self.poll.poll(&mut self.events, Some(turn()))?;
+        self.moment = self.timer.read()?;
+        Ok(())
+    }
+
+    /// The clock was read at the end of the last wait.
+    fn moment(&mut self) -> u64 {
+        self.moment
     }
 
     fn send(&mut self, to: Locator, octets: &[u8]) {

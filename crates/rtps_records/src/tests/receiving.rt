@@ -42,12 +42,13 @@ fn source_of(lengths: &[usize], fails: bool) -> Coming<'_> {
     }
 }
 
-/// Returns the length of each datagram of a batch, and its first octet, or 0 if it is empty.
-fn seen(alloc: Global, batch: &Batch) -> Result<Vec<(usize, u8)>, Fail> {
+/// Returns the moment and the length of each datagram of a batch, and its first octet, or 0 if it is
+/// empty.
+fn seen(alloc: Global, batch: &Batch) -> Result<Vec<(u64, usize, u8)>, Fail> {
     let mut seen = Vec::new(alloc);
     for datagram in batch.datagrams(alloc)? {
         let first = datagram.bytes.first().copied().unwrap_or(0);
-        seen.push((datagram.bytes.len(), first))?;
+        seen.push((datagram.moment, datagram.bytes.len(), first))?;
     }
     Ok(seen)
 }
@@ -56,17 +57,20 @@ fn seen(alloc: Global, batch: &Batch) -> Result<Vec<(usize, u8)>, Fail> {
 fn a_batch_has_the_datagrams_that_came_in_order(rt: HostRuntime) -> Result<(), Fail> {
     let mut batch = Batch::new(rt.alloc())?;
     let mut source = source_of(&[2, 0, 3], false);
-    assert_eq!(rt; batch.receive(&mut source, 2), Ok(ReceiveEnd::More));
+    assert_eq!(rt; batch.receive(&mut source, 20, 2), Ok(ReceiveEnd::More));
     assert_eq!(rt;
         seen(rt.alloc(), &batch)?.as_slice(),
-        [(2, 7), (0, 0)].as_slice()
+        [(20, 2, 7), (20, 0, 0)].as_slice()
     );
-    assert_eq!(rt; batch.receive(&mut source, 2), Ok(ReceiveEnd::Drained));
-    assert_eq!(rt; seen(rt.alloc(), &batch)?.as_slice(), [(3, 9)].as_slice());
+    assert_eq!(rt; batch.receive(&mut source, 25, 2), Ok(ReceiveEnd::Drained));
+    assert_eq!(rt;
+        seen(rt.alloc(), &batch)?.as_slice(),
+        [(25, 3, 9)].as_slice()
+    );
     assert!(rt; batch.len() == 1 && !batch.is_empty());
-    assert_eq!(rt; batch.receive(&mut source, 2), Ok(ReceiveEnd::Drained));
+    assert_eq!(rt; batch.receive(&mut source, 25, 2), Ok(ReceiveEnd::Drained));
     assert!(rt; batch.len() == 0 && batch.is_empty());
-    assert_eq!(rt; batch.receive(&mut source, 0), Ok(ReceiveEnd::More));
+    assert_eq!(rt; batch.receive(&mut source, 25, 0), Ok(ReceiveEnd::More));
     Ok(())
 }
 
@@ -74,8 +78,11 @@ fn a_batch_has_the_datagrams_that_came_in_order(rt: HostRuntime) -> Result<(), F
 fn a_batch_keeps_what_came_before_a_fault(rt: HostRuntime) -> Result<(), Fail> {
     let mut batch = Batch::new(rt.alloc())?;
     let mut source = source_of(&[5], true);
-    assert_eq!(rt; batch.receive(&mut source, 9), Ok(ReceiveEnd::Fault));
-    assert_eq!(rt; seen(rt.alloc(), &batch)?.as_slice(), [(5, 7)].as_slice());
+    assert_eq!(rt; batch.receive(&mut source, 25, 9), Ok(ReceiveEnd::Fault));
+    assert_eq!(rt;
+        seen(rt.alloc(), &batch)?.as_slice(),
+        [(25, 5, 7)].as_slice()
+    );
     Ok(())
 }
 
@@ -83,12 +90,15 @@ fn a_batch_keeps_what_came_before_a_fault(rt: HostRuntime) -> Result<(), Fail> {
 fn a_batch_has_room_for_as_many_of_the_longest_as_fit(rt: HostRuntime) -> Result<(), Fail> {
     let mut batch = Batch::new(rt.alloc())?;
     let mut source = source_of(&[MAX_LEN; 17], false);
-    assert_eq!(rt; batch.receive(&mut source, 4096), Ok(ReceiveEnd::More));
+    assert_eq!(rt; batch.receive(&mut source, 25, 4096), Ok(ReceiveEnd::More));
     assert_eq!(rt; batch.datagrams(rt.alloc())?.len(), 16);
-    assert_eq!(rt; batch.receive(&mut source, 4096), Ok(ReceiveEnd::Drained));
+    assert_eq!(rt;
+        batch.receive(&mut source, 25, 4096),
+        Ok(ReceiveEnd::Drained)
+    );
     assert_eq!(rt;
         seen(rt.alloc(), &batch)?.as_slice(),
-        [(MAX_LEN, 23)].as_slice()
+        [(25, MAX_LEN, 23)].as_slice()
     );
     Ok(())
 }

@@ -19,7 +19,7 @@ use std::thread::Threads;
 
 /// What a network does after its last datagram.
 #[derive(Clone, Copy, PartialEq, Eq)]
-enum After {
+pub(super) enum After {
     /// No more datagrams come.
     Nothing,
     /// The next wait fails.
@@ -30,7 +30,7 @@ enum After {
 
 /// A network on which these datagrams come, `each` of them with each wait.
 #[derive(Drop)]
-struct Wire<'a> {
+pub(super) struct Wire<'a> {
     datagrams: &'a [&'a [u8]],
     each: usize,
     after: After,
@@ -40,11 +40,20 @@ struct Wire<'a> {
     standing: usize,
     /// The datagrams that were sent, each with its destination.
     sent: Vec<(Locator, Vec<u8>)>,
+    /// The moment that the clock gives after each wait; 0 after those of the list.
+    pub(super) moments: &'a [u64],
+    /// The number of times that the clock was read.
+    pub(super) read: usize,
     alloc: Global,
 }
 
 impl<'a> Wire<'a> {
-    fn new(alloc: Global, datagrams: &'a [&'a [u8]], each: usize, after: After) -> Wire<'a> {
+    pub(super) fn new(
+        alloc: Global,
+        datagrams: &'a [&'a [u8]],
+        each: usize,
+        after: After,
+    ) -> Wire<'a> {
         Wire {
             datagrams,
             each,
@@ -52,6 +61,8 @@ impl<'a> Wire<'a> {
             taken: 0,
             standing: 0,
             sent: Vec::new(alloc),
+            moments: &[],
+            read: 0,
             alloc,
         }
     }
@@ -90,6 +101,12 @@ impl Exchange for Wire<'_> {
         Ok(())
     }
 
+    fn moment(&mut self) -> u64 {
+        let moment = self.moments.get(self.read).copied().unwrap_or(0);
+        self.read = self.read.saturating_add(1);
+        moment
+    }
+
     fn send(&mut self, to: Locator, octets: &[u8]) {
         if let Ok(octets) = octets.to_vec(self.alloc) {
             let _kept = self.sent.push((to, octets));
@@ -98,7 +115,12 @@ impl Exchange for Wire<'_> {
 }
 
 /// Returns settings for at most `datagrams` datagrams and at most `turns` waits, without a summary.
-fn live_setup(config: Config, pace: Pace, datagrams: u32, turns: u32) -> LiveSetup<Shapes>
+pub(super) fn live_setup(
+    config: Config,
+    pace: Pace,
+    datagrams: u32,
+    turns: u32,
+) -> LiveSetup<Shapes>
     requires { check_of config ≡ Ok tt }
 {
     let run = Setup {

@@ -4,10 +4,10 @@ use super::runs::{Given, prints_and_refuses};
 use std::test::Fail;
 
 /// The RTPS header: version 2.5, no vendor, and the prefix of the participant.
-const HEADER: &str = "52545053020500000a0a0a0a0a0a0a0a0a0a0a0a";
+pub(super) const HEADER: &str = "52545053020500000a0a0a0a0a0a0a0a0a0a0a0a";
 
 /// DATA in which the participant appears, with both of its announcers.
-const COMES: &str = "15057c0000001000000100c7000100c20000000001000000\
+pub(super) const COMES: &str = "15057c0000001000000100c7000100c20000000001000000\
     00030000500010000a0a0a0a0a0a0a0a0a0a0a0a000001c1\
     3200180001000000f41c00000000000000000000000000007f000001\
     3100180001000000f51c00000000000000000000000000007f000001\
@@ -19,17 +19,17 @@ const LEAVES: &str = "1503340000001000000100c7000100c20000000002000000\
     700010000a0a0a0a0a0a0a0a0a0a0a0a000001c1710004000000000101000000";
 
 /// The beginning of a DATA of the announcer of writers, up to the low half of its sequence number.
-const ANNOUNCES: &str = "1505640000001000000003c7000003c200000000";
+pub(super) const ANNOUNCES: &str = "1505640000001000000003c7000003c200000000";
 
 /// The beginning of a writer's discovery data, up to the entity id of the writer.
-const RECORD: &str = "000300005a0010000a0a0a0a0a0a0a0a0a0a0a0a";
+pub(super) const RECORD: &str = "000300005a0010000a0a0a0a0a0a0a0a0a0a0a0a";
 
 /// The end of that data, for a reliable writer of squares: its topic, its type and its reliability.
-const OFFERS: &str = "05000c00070000005371756172650000\
+pub(super) const OFFERS: &str = "05000c00070000005371756172650000\
     070010000a0000005368617065547970650000001a000c0002000000000000000000000001000000";
 
 /// DATA of the writer 00000202 with number 1: a BLUE shape at 10, 20 of size 30.
-const BLUE: &str = "150530000000100000000107000002020000000001000000\
+pub(super) const BLUE: &str = "150530000000100000000107000002020000000001000000\
     0001000005000000424c5545000000000a000000140000001e000000";
 
 /// `RDG1`, and datagrams in which a participant and its writer appear, the participant leaves, and

@@ -31,6 +31,10 @@ impl Exchange for Kept {
         Ok(())
     }
 
+    fn moment(&mut self) -> u64 {
+        0
+    }
+
     fn send(&mut self, to: Locator, octets: &[u8]) {
         let first = octets.first().copied().unwrap_or(0);
         let _kept = self.sent.push((to.port, first));

@@ -1,8 +1,8 @@
-use Rattle.std.proofs.Common.{◌≡◌, ◌++◌, ◌<◌, ◌∙◌, append_assoc, ap, arith, length, rules, sym}
+use Rattle.std.proofs.Common.{◌≡◌, ◌++◌, ◌<◌, ◌∙◌, append_assoc, ap, arith, length, rules}
 use Rattle.rtps_ascii.proofs.Kept.{still_starts}
 use Rattle.rtps_run.proofs.Running.{seen_known}
 use Rattle.rtps_run.specs.Seen.{reader_count}
-use Rattle.rtps_text.specs.Undated.{inputs_of, run_by}
+use Rattle.rtps_text.specs.Inputs.{inputs_of, run_by}
 use Rattle.rtps_text.specs.Replayed.{status_lines, status_text}
 use Rattle.rtps_text.proofs.Run.{statuses_more}
 use Rattle.rtps_text.proofs.closing.push_statuses.Goals as goal

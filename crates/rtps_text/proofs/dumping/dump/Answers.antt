@@ -10,7 +10,7 @@ pub run_file-requires-clause-begun : goal.run_file-requires-clause-begun
 run_file-requires-clause-begun g c κs within = events_begun _ _ _ _ c.args.own c.args.alloc c.in_ok-pipeline.pipeline.ahead.texts.made.items
 
 pub returns-clause-ok : goal.returns-clause-ok
-returns-clause-ok g c = events_wrote _ _ _ _ c.args.own c.args.alloc _ _ _ c.run_file.result c.run_file.ensures.ok
+returns-clause-ok g c = events_wrote _ _ _ _ c.args.own 0 c.args.alloc _ _ _ c.run_file.result c.run_file.ensures.ok
 
 pub returns-clause-fault : goal.returns-clause-fault
-returns-clause-fault g c = events_left _ _ _ _ c.args.own c.args.alloc _ _ _ _ c.run_file.result c.run_file.ensures.fault
+returns-clause-fault g c = events_left _ _ _ _ c.args.own 0 c.args.alloc _ _ _ _ c.run_file.result c.run_file.ensures.fault

@@ -1,5 +1,5 @@
-use Rattle.std.proofs.Common.{◌≡◌, ◌+◌, ◌++◌, List, drop, map, ℕ}
-use Rattle.rtps_types.specs.declared.datagram.Datagram.{Datagram}
+use Rattle.std.proofs.Common.{◌≡◌, ◌+◌, ◌++◌, drop, map}
+use Rattle.rtps_records.specs.Batches.{record_of}
 use Rattle.rtps_records.specs.Text.{text_from}
 use Rattle.rtps_lines.specs.EventLines.{lines_of}
 use Rattle.rtps_text.proofs.Run.{Printed}
@@ -10,7 +10,7 @@ invariant-loop-datagram g l = record {
   same_writer : l.lines.writer.ghost_name ≡ l.fn.lines.writer.ghost_name;
   counted : l.number ≡ l.fn.first + l.datagram-index;
   so_far : Printed (g.W.Write.contents l.fn.lines.writer.now) (g.W.Write.contents l.lines.writer.now)
-      (l.fn.lines.text.items ++ text_from (lines_of l.own) l.fn.first (map (λ (d : Datagram). d.bytes.now) l.datagrams))
+      (l.fn.lines.text.items ++ text_from (lines_of l.own) l.fn.first (map record_of l.datagrams))
       l.lines.text.items
-      (text_from (lines_of l.own) l.number (map (λ (d : Datagram). d.bytes.now) (drop l.datagram-index l.datagrams)));
+      (text_from (lines_of l.own) l.number (map record_of (drop l.datagram-index l.datagrams)));
 }

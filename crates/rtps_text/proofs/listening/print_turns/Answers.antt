@@ -11,8 +11,8 @@ returns-in_err-end-clause-prints g c =
     let decoding = g.C.Catalog.decoding in
     let run = c.args.live.run in
     let l = listens_none text decoding (g.N.Receive.traffic c.args.network.now)
-    (g.W.Write.contents c.args.lines.now.writer.now) c.args.live.left run.participant.engine
-    c.requires.fresh in
+    (g.W.Write.contents c.args.lines.now.writer.now) c.args.live.left c.args.live.moment run.participant.engine
+    c.requires.unread c.requires.fresh in
     at_run _ _ (λ (r : Result (Unit {0}) LiveFault). Listened
     (live_by text decoding run.participant.engine run.summary) (limits_of c.args.live.left c.args.turns) r
     (g.N.Receive.traffic c.args.network.now) (g.N.Receive.traffic c.take_turns.new.network)
@@ -32,14 +32,14 @@ returns-in_err-close-clause-prints g c =
     let turns = c.in_ok-end.ensures.takes in
     let l = turns.goes_on _ _ c.args.live.left
     (listens_none text decoding (g.N.Receive.traffic c.args.network.now)
-    (g.W.Write.contents c.args.lines.now.writer.now) c.args.live.left run.participant.engine
-    c.requires.fresh) in
+    (g.W.Write.contents c.args.lines.now.writer.now) c.args.live.left c.args.live.moment run.participant.engine
+    c.requires.unread c.requires.fresh) in
     at_run _ _ (λ (r : Result (Unit {0}) LiveFault). Listened
     (live_by text decoding run.participant.engine run.summary) (limits_of c.args.live.left c.args.turns) r
     (g.N.Receive.traffic c.args.network.now) (g.N.Receive.traffic c.take_turns.new.network)
     (g.W.Write.contents c.args.lines.now.writer.now) (g.W.Write.contents c.close.new.lines.writer.now))
     c.from_residual-in_err-close.ensures.1
-    (listened_unclosed text decoding _ _ _ _ _ _ _ _ _ _ next.participant.engine next.summary
+    (listened_unclosed text decoding _ _ _ _ _ _ _ _ _ _ _ next.participant.engine next.summary
     c.in_ok-end.end _ _ made c.in_ok-end.ensures.empty c.in_err-close.ensures.fault turns.few
     turns.ends l)
 
@@ -55,11 +55,11 @@ returns-in-Fault-clause-prints g c =
     let turns = c.in_ok-end.ensures.takes in
     let l = turns.goes_on _ _ c.args.live.left
     (listens_none text decoding (g.N.Receive.traffic c.args.network.now)
-    (g.W.Write.contents c.args.lines.now.writer.now) c.args.live.left run.participant.engine
-    c.requires.fresh) in
-    let done = listens_done text decoding _ _ _ _ _ _ _ _ _ _ next.participant.engine next.summary
+    (g.W.Write.contents c.args.lines.now.writer.now) c.args.live.left c.args.live.moment run.participant.engine
+    c.requires.unread c.requires.fresh) in
+    let done = listens_done text decoding _ _ _ _ _ _ _ _ _ _ _ next.participant.engine next.summary
     _ made c.in_ok-end.ensures.empty c.in_ok-close.ensures.ok l in
-    listened_socket text decoding _ _ _ _ _ _ _ _ _ _ next.participant.engine next.summary
+    listened_socket text decoding _ _ _ _ _ _ _ _ _ _ _ next.participant.engine next.summary
     c.in_ok-end.end made (ap failures_of c.in-Fault.is) turns.few l done
 
 pub returns-clause-prints : goal.returns-clause-prints
@@ -74,10 +74,10 @@ returns-clause-prints g c =
     let turns = c.in_ok-end.ensures.takes in
     let l = turns.goes_on _ _ c.args.live.left
     (listens_none text decoding (g.N.Receive.traffic c.args.network.now)
-    (g.W.Write.contents c.args.lines.now.writer.now) c.args.live.left run.participant.engine
-    c.requires.fresh) in
-    let done = listens_done text decoding _ _ _ _ _ _ _ _ _ _ next.participant.engine next.summary
+    (g.W.Write.contents c.args.lines.now.writer.now) c.args.live.left c.args.live.moment run.participant.engine
+    c.requires.unread c.requires.fresh) in
+    let done = listens_done text decoding _ _ _ _ _ _ _ _ _ _ _ next.participant.engine next.summary
     _ made c.in_ok-end.ensures.empty c.in_ok-close.ensures.ok l in
-    listened_ok text decoding _ _ _ _ _ _ _ _ _ _ next.participant.engine next.summary
+    listened_ok text decoding _ _ _ _ _ _ _ _ _ _ _ next.participant.engine next.summary
     c.in_ok-end.end _ made (no_failure c.in_ok-end.end c.in_default.not-Fault) turns.few
     turns.ends l done

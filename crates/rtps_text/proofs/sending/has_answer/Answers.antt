@@ -1,4 +1,3 @@
-use Rattle.std.proofs.Common.{◌≡◌}
 use Rattle.rtps_text.proofs.Sent.{is_yes, no_items, none_below, none_more, none_past}
 use Rattle.rtps_text.proofs.sending.has_answer.Goals as goal
 

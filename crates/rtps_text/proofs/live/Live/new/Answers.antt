@@ -1,5 +1,5 @@
 use Rattle.std.proofs.Common.{◌∙◌, []}
-use Rattle.rtps_text.proofs.Undated.{shown_count}
+use Rattle.rtps_text.proofs.Inputs.{shown_count}
 use Rattle.rtps_text.proofs.live.Live.new.Goals as goal
 
 pub returns-clause-live : goal.returns-clause-live

@@ -19,13 +19,13 @@ returns-in-Err-clause-takes g c = record {
   few = omega arith;
   ends = tt;
   goes_on = λ first origin most l.
-      listens_failed g.C.Catalog.text_of g.C.Catalog.decoding first _ _ origin _ most _ _
+      listens_failed g.C.Catalog.text_of g.C.Catalog.decoding first _ _ origin _ most _ _ _
       c.loop-turn.end _ (no_failure c.loop-turn.end c.loop-turn.invariant.none)
       c.in-Err.ensures.fault (c.loop-turn.invariant.goes_on first origin most l);
 }
 
-pub returns-in_err-end-clause-stops : goal.returns-in_err-end-clause-stops
-returns-in_err-end-clause-stops g c =
+pub returns-in_err-pass-clause-stops : goal.returns-in_err-pass-clause-stops
+returns-in_err-pass-clause-stops g c =
     let text = g.C.Catalog.text_of in
     let decoding = g.C.Catalog.decoding in
     let inv = c.loop-turn.invariant in
@@ -35,15 +35,38 @@ returns-in_err-end-clause-stops g c =
     let same = same_live text decoding run.participant.engine first_run.participant.engine
     run.summary first_run.summary inv.same.catalog inv.same.config inv.same.summary in
     at_fault _ _ (λ (fault : RunFault). TurnsStop text decoding c.args.turns c.args.self.now fault
+    (g.N.Receive.traffic c.args.network.now) (g.N.Receive.traffic c.pass.new.network)
+    (g.W.Write.contents c.args.lines.now.writer.now)
+    (g.W.Write.contents c.pass.new.lines.writer.now))
+    c.from_residual.ensures.1
+    (λ first origin most l. stopped_same _ _ most _ _ _ _ _ _ _ same within
+    (c.in_err-pass.ensures.stops first origin most (c.loop-turn._turn + 1)
+    (listens_waited text decoding first _ _ origin _ most _ _ _ c.loop-turn.end _
+    (is_drained c.loop-turn.end _ inv.none inv.all (λ none. omega (arith, none)))
+    c.in-Ok.ensures.waited (inv.goes_on first origin most l))))
+
+pub returns-in_err-end-clause-stops : goal.returns-in_err-end-clause-stops
+returns-in_err-end-clause-stops g c =
+    let text = g.C.Catalog.text_of in
+    let decoding = g.C.Catalog.decoding in
+    let inv = c.loop-turn.invariant in
+    let run = c.pass.new.self.run in
+    let first_run = c.args.self.now.run in
+    let within : c.loop-turn._turn + 1 ≤ c.args.turns = omega arith in
+    let stays = same_run _ _ _ inv.same c.in_ok-pass.ensures.same in
+    let same = same_live text decoding run.participant.engine first_run.participant.engine
+    run.summary first_run.summary stays.catalog stays.config stays.summary in
+    at_fault _ _ (λ (fault : RunFault). TurnsStop text decoding c.args.turns c.args.self.now fault
     (g.N.Receive.traffic c.args.network.now) (g.N.Receive.traffic c.take_all.new.network)
     (g.W.Write.contents c.args.lines.now.writer.now)
     (g.W.Write.contents c.take_all.new.lines.writer.now))
-    c.from_residual.ensures.1
+    c.from_residual-in_err-end.ensures.1
     (λ first origin most l. stopped_same _ _ most _ _ _ _ _ _ _ same within
     (c.in_err-end.ensures.stops first origin most (c.loop-turn._turn + 1)
-    (listens_waited text decoding first _ _ origin _ most _ _ c.loop-turn.end _
+    (c.in_ok-pass.ensures.goes_on first origin most (c.loop-turn._turn + 1)
+    (listens_waited text decoding first _ _ origin _ most _ _ _ c.loop-turn.end _
     (is_drained c.loop-turn.end _ inv.none inv.all (λ none. omega (arith, none)))
-    c.in-Ok.ensures.waited (inv.goes_on first origin most l))))
+    c.in-Ok.ensures.waited (inv.goes_on first origin most l)))))
 
 pub returns-in-Fault-clause-takes : goal.returns-in-Fault-clause-takes
 returns-in-Fault-clause-takes g c =
@@ -56,9 +79,10 @@ returns-in-Fault-clause-takes g c =
       ends = ends_failed c.in_ok-end.end _ _ _ c.in-Fault.is;
       goes_on = λ first origin most l.
           c.in_ok-end.ensures.goes_on first origin most (c.loop-turn._turn + 1)
-          (listens_waited text decoding first _ _ origin _ most _ _ c.loop-turn.end _
+          (c.in_ok-pass.ensures.goes_on first origin most (c.loop-turn._turn + 1)
+          (listens_waited text decoding first _ _ origin _ most _ _ _ c.loop-turn.end _
           (is_drained c.loop-turn.end _ inv.none inv.all (λ none. omega (arith, none)))
-          c.in-Ok.ensures.waited (inv.goes_on first origin most l));
+          c.in-Ok.ensures.waited (inv.goes_on first origin most l)));
     }
 
 pub loop-turn-preserved : goal.loop-turn-preserved
@@ -69,15 +93,17 @@ loop-turn-preserved g c =
     record {
       live = c.in_ok-end.ensures.live;
       empty = c.in_ok-end.ensures.empty;
-      same_writer = c.take_all.ensures.same_writer ∙ inv.same_writer;
-      same = same_run _ _ _ inv.same c.in_ok-end.ensures.same;
+      same_writer = c.take_all.ensures.same_writer ∙ c.pass.ensures.same_writer ∙ inv.same_writer;
+      same = same_run _ _ _ (same_run _ _ _ inv.same c.in_ok-pass.ensures.same)
+          c.in_ok-end.ensures.same;
       all = c.in_ok-end.ensures.all;
       none = c.in_default.not-Fault;
       goes_on = λ first origin most l.
           c.in_ok-end.ensures.goes_on first origin most (c.loop-turn._turn + 1)
-          (listens_waited text decoding first _ _ origin _ most _ _ c.loop-turn.end _
+          (c.in_ok-pass.ensures.goes_on first origin most (c.loop-turn._turn + 1)
+          (listens_waited text decoding first _ _ origin _ most _ _ _ c.loop-turn.end _
           (is_drained c.loop-turn.end _ inv.none inv.all (λ none. omega (arith, none)))
-          c.in-Ok.ensures.waited (inv.goes_on first origin most l));
+          c.in-Ok.ensures.waited (inv.goes_on first origin most l)));
     }
 
 pub returns-clause-takes : goal.returns-clause-takes

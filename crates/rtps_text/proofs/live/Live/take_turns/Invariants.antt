@@ -15,9 +15,9 @@ invariant-loop-turn g l = record {
   none : ¬ (l.end ≡ Fault);
   goes_on : (first : Option (List Traffic)) (origin : Option (List ℕ)) (most : ℕ)
       → Listens g.C.Catalog.text_of g.C.Catalog.decoding first (g.N.Receive.traffic l.fn.network)
-      origin (g.W.Write.contents l.fn.lines.writer.now) most l.fn.self.left 0 Drained
+      origin (g.W.Write.contents l.fn.lines.writer.now) most l.fn.self.left 0 l.fn.self.moment Drained
       l.fn.self.run.participant.engine
       → Listens g.C.Catalog.text_of g.C.Catalog.decoding first (g.N.Receive.traffic l.network)
-      origin (g.W.Write.contents l.lines.writer.now) most l.self.left l._turn l.end
+      origin (g.W.Write.contents l.lines.writer.now) most l.self.left l._turn l.self.moment l.end
       l.self.run.participant.engine;
 }

@@ -1,7 +1,5 @@
 use Rattle.std.proofs.Common.{◌≤◌, ◌++◌, List, length, refl, rules, ℕ}
-use Rattle.std.specs.List.{AllByRecursion}
 use Rattle.rtps_records.specs.Batches.{records_in}
-use Rattle.rtps_records.specs.RecordFile.{IsRecord}
 use Rattle.rtps_records.specs.Runs.{Moves, PutsFront}
 use Rattle.rtps_text.specs.Slices.{AreByPlace, AreTexts, merged_lines}
 use Rattle.rtps_text.proofs.Batches.{moved_front}
@@ -12,8 +10,7 @@ use Rattle.rtps_text.proofs.printer.Printer.format_and_take.Goals as goal
 pub write_and_read_beside-done-requires-clause-first : goal.write_and_read_beside-done-requires-clause-first
 write_and_read_beside-done-requires-clause-first g c κs within =
     let few : length (records_in c.swap.new.x) ≤ 4096 = search rules in
-    let fit : AllByRecursion IsRecord (records_in c.swap.new.x) = search rules in
-    (few, (fit, (c.requires.alone, search rules)))
+    (few, (c.requires.alone, search rules))
 
 pub returns-in_err-done-clause-front : goal.returns-in_err-done-clause-front
 returns-in_err-done-clause-front g c = λ due d.
@@ -50,3 +47,8 @@ returns-clause-ok g c = λ due d.
     let made : AreByPlace g.C.Catalog.view s.given.now → AreTexts c.in_ok-ahead.field-0.items (merged_lines (g.C.Catalog.text_of s.catalog.now) g.C.Catalog.view s.given.now s.readers s.given.now.places.items) = λ by. search rules in
     due_formatted _ _ _ _ _ _ here _ _ _ _ _ (moved here.made here.are)
     (formatted_lines g.C.Catalog.text_of g.C.Catalog.view c.in_ok-ahead.field-0.items _ _ _ _ _ _ is.0 is.1 is.2 here.by_place made)
+
+pub returns-clause-reads : goal.returns-clause-reads
+returns-clause-reads g c here n ended =
+    let reads = c.write_and_read_beside-done.ensures.reads here n ended in
+    search (rules, reads)

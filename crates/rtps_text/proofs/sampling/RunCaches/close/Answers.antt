@@ -1,6 +1,6 @@
 use Rattle.std.proofs.Common.{refl}
 use Rattle.rtps_run.proofs.Answered.{on_ok_then}
-use Rattle.rtps_text.specs.Undated.{run_by}
+use Rattle.rtps_text.specs.Inputs.{run_by}
 use Rattle.rtps_text.proofs.Run.{on_err, printed_stop}
 use Rattle.rtps_text.proofs.Sampled.{all_text, all_written, entries_front, entries_printed, front_written, on_err_then}
 use Rattle.rtps_text.proofs.sampling.RunCaches.close.Goals as goal

@@ -13,11 +13,11 @@ close-requires-in-Caches-clause-empty g c κs within =
 
 pub returns-in-Events-clause-ok : goal.returns-in-Events-clause-ok
 returns-in-Events-clause-ok g c =
-    events_finished g.C.Catalog.text_of g.C.Catalog.view g.C.Catalog.decoding c.args.self c.in-Events.own c.in-Events.alloc _ _ _ _ c.close.result c.in-Events.is c.close.ensures.ok
+    events_finished g.C.Catalog.text_of g.C.Catalog.view g.C.Catalog.decoding c.args.self c.in-Events.own _ c.in-Events.alloc _ _ _ _ c.close.result c.in-Events.is c.close.ensures.ok
 
 pub returns-in-Events-clause-front : goal.returns-in-Events-clause-front
 returns-in-Events-clause-front g c =
-    events_unfinished g.C.Catalog.text_of g.C.Catalog.view g.C.Catalog.decoding c.args.self c.in-Events.own c.in-Events.alloc _ _ _ _ _ c.close.result c.in-Events.is c.close.ensures.front
+    events_unfinished g.C.Catalog.text_of g.C.Catalog.view g.C.Catalog.decoding c.args.self c.in-Events.own _ c.in-Events.alloc _ _ _ _ _ c.close.result c.in-Events.is c.close.ensures.front
 
 pub returns-in_ok-print_last-in-Lines-clause-ok : goal.returns-in_ok-print_last-in-Lines-clause-ok
 returns-in_ok-print_last-in-Lines-clause-ok g c =

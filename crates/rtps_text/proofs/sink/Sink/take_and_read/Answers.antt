@@ -1,15 +1,20 @@
 use Rattle.rtps_text.proofs.Batches.{moved_front}
 use Rattle.rtps_text.proofs.Run.{on_err}
-use Rattle.rtps_text.proofs.Sinks.{caches_alike, caches_alone, caches_broken, caches_kept, caches_late, caches_taken, events_broken, events_taken, lines_alike, lines_alone, lines_broken, lines_late, lines_taken}
+use Rattle.rtps_text.proofs.Sinks.{caches_alike, caches_alone, caches_broken, caches_kept, caches_late, caches_taken, events_alike, events_broken, events_counted, events_late, events_taken, lines_alike, lines_alone, lines_broken, lines_late, lines_taken}
 use Rattle.rtps_text.proofs.sink.Sink.take_and_read.Goals as goal
 
-pub returns-in_err-print_batch-in-Events-clause-front : goal.returns-in_err-print_batch-in-Events-clause-front
-returns-in_err-print_batch-in-Events-clause-front g c =
-    on_err _ (events_broken g.C.Catalog.text_of g.C.Catalog.view g.C.Catalog.decoding c.args.self c.in-Events.own c.in-Events.alloc _ _ _ _ _ _ _ c.in-Events.is c.count.ensures c.in_err-print_batch-in-Events.ensures.front)
+pub returns-in_err-next-in-Events-clause-front : goal.returns-in_err-next-in-Events-clause-front
+returns-in_err-next-in-Events-clause-front g c =
+    on_err _ (events_broken g.C.Catalog.text_of g.C.Catalog.view g.C.Catalog.decoding c.args.self c.in-Events.own c.in-Events.next c.in-Events.alloc _ _ _ _ _ c.in-Events.is c.in_err-next-in-Events.ensures.front)
 
 pub returns-in_err-read-in-Events-clause-front : goal.returns-in_err-read-in-Events-clause-front
 returns-in_err-read-in-Events-clause-front g c =
-    on_err _ (events_broken g.C.Catalog.text_of g.C.Catalog.view g.C.Catalog.decoding c.args.self c.in-Events.own c.in-Events.alloc _ _ _ _ _ _ _ c.in-Events.is c.count.ensures (moved_front _ _ _ _ c.in_ok-print_batch-in-Events.ensures.ok))
+    on_err _ (events_broken g.C.Catalog.text_of g.C.Catalog.view g.C.Catalog.decoding c.args.self c.in-Events.own c.in-Events.next c.in-Events.alloc _ _ _ _ _ c.in-Events.is (moved_front _ _ _ _ c.in_ok-next-in-Events.ensures.ok))
+
+pub print_batch-requires : goal.print_batch-requires
+print_batch-requires g c = record {
+  counted = events_counted c.args.self c.in-Events.own c.in-Events.next c.in-Events.alloc _ c.in-Events.is c.requires.counted;
+}
 
 pub print_and_take-requires-clause-alone : goal.print_and_take-requires-clause-alone
 print_and_take-requires-clause-alone g c κs within =
@@ -17,7 +22,7 @@ print_and_take-requires-clause-alone g c κs within =
 
 pub returns-in_err-run-in-Lines-clause-front : goal.returns-in_err-run-in-Lines-clause-front
 returns-in_err-run-in-Lines-clause-front g c =
-    on_err _ (lines_broken g.C.Catalog.text_of g.C.Catalog.view g.C.Catalog.decoding c.args.self c.in-Lines.run' c.in-Lines.printer _ _ _ _ _ _ c.in-Lines.is c.in_err-run-in-Lines.ensures.front)
+    on_err _ (lines_broken g.C.Catalog.text_of g.C.Catalog.view g.C.Catalog.decoding c.args.self c.in-Lines.run' c.in-Lines.printer _ _ _ _ _ c.in-Lines.is c.in_err-run-in-Lines.ensures.front)
 
 pub take-requires-clause-kept : goal.take-requires-clause-kept
 take-requires-clause-kept g c κs within =
@@ -29,15 +34,23 @@ take-requires-clause-alone g c κs within =
 
 pub returns-in_err-take-in-Caches-clause-front : goal.returns-in_err-take-in-Caches-clause-front
 returns-in_err-take-in-Caches-clause-front g c =
-    on_err _ (caches_broken g.C.Catalog.text_of g.C.Catalog.view g.C.Catalog.decoding c.args.self c.in-Caches.kept _ _ _ _ _ _ c.in-Caches.is)
+    on_err _ (caches_broken g.C.Catalog.text_of g.C.Catalog.view g.C.Catalog.decoding c.args.self c.in-Caches.kept _ _ _ _ _ c.in-Caches.is)
 
 pub returns-in_err-read-in-Caches-clause-front : goal.returns-in_err-read-in-Caches-clause-front
 returns-in_err-read-in-Caches-clause-front g c =
-    on_err _ (caches_broken g.C.Catalog.text_of g.C.Catalog.view g.C.Catalog.decoding c.args.self c.in-Caches.kept _ _ _ _ _ _ c.in-Caches.is)
+    on_err _ (caches_broken g.C.Catalog.text_of g.C.Catalog.view g.C.Catalog.decoding c.args.self c.in-Caches.kept _ _ _ _ _ c.in-Caches.is)
 
 pub returns-in_ok-read-in-Events-clause-takes : goal.returns-in_ok-read-in-Events-clause-takes
 returns-in_ok-read-in-Events-clause-takes g c =
-    events_taken g.C.Catalog.text_of g.C.Catalog.view g.C.Catalog.decoding c.args.self c.in-Events.own c.in-Events.alloc _ _ _ _ _ _ _ _ _ c.in-Events.is c.count.ensures c.in_ok-print_batch-in-Events.ensures.ok
+    events_taken g.C.Catalog.text_of g.C.Catalog.view g.C.Catalog.decoding c.args.self c.in-Events.own c.in-Events.next _ c.in-Events.alloc _ _ _ _ _ _ _ c.in-Events.is c.in_ok-next-in-Events.ensures.ok c.in_ok-next-in-Events.ensures.next
+
+pub returns-in_ok-read-in-Events-clause-text : goal.returns-in_ok-read-in-Events-clause-text
+returns-in_ok-read-in-Events-clause-text g c =
+    events_alike g.C.Catalog.text_of g.C.Catalog.decoding c.args.self c.in-Events.own c.in-Events.next _ c.in-Events.alloc c.in-Events.is
+
+pub returns-in_ok-read-in-Events-clause-late : goal.returns-in_ok-read-in-Events-clause-late
+returns-in_ok-read-in-Events-clause-late g c =
+    events_late c.args.self c.in-Events.own c.in-Events.next _ c.in-Events.alloc c.in-Events.is
 
 pub returns-in_ok-run-in-Lines-clause-text : goal.returns-in_ok-run-in-Lines-clause-text
 returns-in_ok-run-in-Lines-clause-text g c =
@@ -49,7 +62,7 @@ returns-in_ok-run-in-Lines-clause-late g c =
 
 pub returns-in_ok-run-in-Lines-clause-takes : goal.returns-in_ok-run-in-Lines-clause-takes
 returns-in_ok-run-in-Lines-clause-takes g c =
-    lines_taken g.C.Catalog.text_of g.C.Catalog.view g.C.Catalog.decoding c.args.self c.in-Lines.run' _ c.in-Lines.printer c.print_and_take.new.self _ _ _ _ _ _ _ _ c.in-Lines.is c.in_ok-run-in-Lines.ensures.same
+    lines_taken g.C.Catalog.text_of g.C.Catalog.view g.C.Catalog.decoding c.args.self c.in-Lines.run' _ c.in-Lines.printer c.print_and_take.new.self _ _ _ _ _ _ _ c.in-Lines.is c.in_ok-run-in-Lines.ensures.same
     c.print_and_take.ensures.catalog c.print_and_take.ensures.readers c.in_ok-run-in-Lines.ensures.takes c.in_ok-run-in-Lines.ensures.ok
 
 pub returns-in_ok-read-in-Caches-clause-text : goal.returns-in_ok-read-in-Caches-clause-text
@@ -62,4 +75,8 @@ returns-in_ok-read-in-Caches-clause-late g c =
 
 pub returns-in_ok-read-in-Caches-clause-takes : goal.returns-in_ok-read-in-Caches-clause-takes
 returns-in_ok-read-in-Caches-clause-takes g c =
-    caches_taken g.C.Catalog.text_of g.C.Catalog.view g.C.Catalog.decoding c.args.self c.in-Caches.kept c.take.new.self _ _ _ _ _ _ c.in-Caches.is c.take.ensures.same.0 c.in_ok-take-in-Caches.ensures.takes
+    caches_taken g.C.Catalog.text_of g.C.Catalog.view g.C.Catalog.decoding c.args.self c.in-Caches.kept c.take.new.self _ _ _ _ _ c.in-Caches.is c.take.ensures.same.0 c.in_ok-take-in-Caches.ensures.takes
+
+pub returns-in_ok-run-in-Lines-clause-reads : goal.returns-in_ok-run-in-Lines-clause-reads
+returns-in_ok-run-in-Lines-clause-reads g c here n ended =
+    c.in_ok-run-in-Lines.ensures.reads here n ended
