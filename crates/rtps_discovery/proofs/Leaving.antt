@@ -38,14 +38,14 @@ has_filter f (e ∷ es) q = by_tests (f e) (is_at e.0 q) refl (has (keys_of es) 
     by_tests true false v true h = refl
     by_tests true false v false h = rw v h
 
-abbrev Found : List (Guid × Offer) → List (Guid × Offer) → Type 0
+abbrev pub Found : List (Guid × Offer) → List (Guid × Offer) → Type 0
 Found all es = AllByRecursion (λ (e : Guid × Offer). lookup (is_at e.0) all ≡ Some e.1) es
 
 found_more : (x : Guid × Offer) (all es : List (Guid × Offer)) → AllByRecursion (λ y. guid_order x.0 y ≡ Less) (keys_of es) → Found all es → Found (x ∷ all) es
 found_more x all [] below found = tt
 found_more x all (e ∷ es) (less, below) (here, rest) = (rw (flipped e.0 x.0 Less less) here, found_more x all es below rest)
 
-all_found : (es : List (Guid × Offer)) → InOrder (keys_of es) → Found es es
+pub all_found : (es : List (Guid × Offer)) → InOrder (keys_of es) → Found es es
 all_found [] sorted = tt
 all_found (e ∷ es) sorted = (rw (at_itself e.0) refl, found_more e es es (sorted_head guid_order e.0 (keys_of es) sorted) (all_found es (sorted_tail guid_order e.0 (keys_of es) sorted)))
 

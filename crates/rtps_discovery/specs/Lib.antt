@@ -14,9 +14,11 @@ pub mod Kept
 pub mod Known
 pub mod Leases
 pub mod Leave
+pub mod Moving
 pub mod OneWriter
 pub mod Pairs
 pub mod Ranked
+pub mod ReaderFaults
 pub mod Records
 pub mod Seen
 pub mod Silence

@@ -6,7 +6,6 @@ ghost use Rattle.rtps_discovery.specs.Known as known;
 ghost use Rattle.rtps_discovery.specs.OneWriter.{column, has_rank, matched_from, met};
 ghost use Rattle.rtps_discovery.specs.Seen.{change_seen, lent, standing_seen};
 
-use crate::faults::READER_LIMIT;
 use crate::known::{Ranks, Reader, Writer};
 use crate::pair_state::{PairState, standing_between};
 use rtps_types::{Guid, Locator, Locators, MatchChangeKind, PolicyId, WriterFacts};
@@ -144,19 +143,32 @@ pub(crate) fn meet<A: Allocator + Copy>(
     Ok(is_joined(after))
 }
 
-/// Returns an array that says for each rank whether it is among `ranks`.
-fn marked(ranks: &[u32]) -> [bool; READER_LIMIT]
-    ensures { (rank : ℕ) → rank < 256
-        → slice_index_or result rank false ≡ has_rank ranks.now rank }
+/// Returns marks by rank, up to a number of ranks: whether a rank is among `ranks`. There are no
+/// marks, and no memory is taken, if `ranks` is empty.
+fn marked<A: Allocator>(alloc: A, ranks: &[u32], number: usize) -> Result<Vec<bool, A>, AllocError>
+    ensures { IfOk result (λ marks. (rank : ℕ) → rank < number
+        → slice_index_or marks.items rank false ≡ has_rank ranks.now rank) }
 {
-    let mut marks = [false; READER_LIMIT];
+    if ranks.is_empty() {
+        return Ok(Vec::new(alloc));
+    }
+    let mut marks = Vec::from_elem(alloc, false, number)?;
     for rank in ranks {
         let at = *rank as usize;
-        if at < READER_LIMIT {
+        if at < number {
             marks[at] = true;
         }
     }
-    marks
+    Ok(marks)
+}
+
+fn is_marked(marks: &[bool], rank: u32) -> bool
+    ensures { result ≡ slice_index_or marks.now rank false }
+{
+    match marks.get(rank as usize) {
+        Some(mark) => *mark,
+        None => false,
+    }
 }
 
 /// Appends the changes of our readers' matches with a writer, by rank. The readers of the ranks
@@ -169,7 +181,7 @@ pub(crate) fn rematch<A: Allocator + Copy>(
     update: &WriterUpdate<'_, A>,
     changes: &mut Vec<MatchChange<A>, A>,
 ) -> Result<Ranks<A>, AllocError>
-    requires { length readers.now ≤ 256 }
+    requires { length readers.now ≤ 4096 }
     ensures changes { OnOk result (map change_seen changes.new.items
         ≡ map change_seen changes.old.items ++ column (has_rank fixed.now)
         update.now.writer update.now.locators.now (lent update.now.before) (lent update.now.after) 0
@@ -177,11 +189,11 @@ pub(crate) fn rematch<A: Allocator + Copy>(
     ensures ranks { IfOk result (λ ranks. ranks ≡ matched_from (has_rank fixed.now)
         (lent update.now.after) 0 readers.now) }
 {
-    let marks = marked(fixed);
+    let marks = marked(alloc, fixed, readers.len())?;
     let mut matched = Vec::new(alloc);
     let mut rank = 0;
     for reader in readers {
-        let is_fixed = marks[rank as usize];
+        let is_fixed = is_marked(&marks, rank);
         if meet(alloc, Seat { rank, is_fixed }, reader, update, changes)? {
             matched.push(rank)?;
         }

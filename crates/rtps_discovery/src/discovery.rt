@@ -1,23 +1,27 @@
 //! The discovery of a participant, event by event.
 
-ghost use Rattle.std.specs.Prelude.{◌≡◌, ◌≤◌, IfOk, IsErr, IsOk, Ok, OnErr, OnOk, false, length, map, true};
+ghost use Rattle.std.specs.Prelude.{◌≡◌, ◌≤◌, IfErr, IfOk, IfSome, IsErr, IsOk, Ok, OnErr, OnOk, false, length, map, true};
 ghost use Rattle.rtps_receiver.specs.Events.{view};
 ghost use Rattle.rtps_discovery.specs.Config.{check_of};
 ghost use Rattle.rtps_discovery.specs.Changes.{changes};
 ghost use Rattle.rtps_discovery.specs.Effects.{AreHeard};
+ghost use Rattle.rtps_discovery.specs.Joining.{joined, parted, without_fixed, without_reader};
 ghost use Rattle.rtps_discovery.specs.Kept.{IsKnown, matched_ranks};
 ghost use Rattle.rtps_discovery.specs.Known.{Known, has_expired, moved, passed};
 ghost use Rattle.rtps_discovery.specs.Pairs.{AreKeptPairs, ArePairs};
+ghost use Rattle.rtps_discovery.specs.ReaderFaults.{adding_fault, removing_fault};
 ghost use Rattle.rtps_discovery.specs.Records.{answered, changes_by, known_by};
 ghost use Rattle.rtps_discovery.specs.Seen.{change_seen};
-ghost use Rattle.rtps_discovery.specs.Start.{first_known};
+ghost use Rattle.rtps_discovery.specs.Start.{first_known, wish_of};
+ghost use Rattle.rtps_discovery.specs.declared.reader_faults.ReaderFault.TheVariants.{NoMemory};
 
 use crate::changes::MatchChange;
-use crate::config::Config;
+use crate::config::{Config, ReaderConfig};
 use crate::effects::DiscoveryEffects;
 use crate::hear::ranks_at;
 use crate::known::{Reader, RemoteParticipant, Writer};
 use crate::pairs::pairs_of;
+use crate::reader_faults::{ReaderFault, adding_fault, has_reader};
 use crate::registry::Registry;
 use rtps_receiver::Event;
 use rtps_types::{Guid, GuidPrefix};
@@ -30,7 +34,7 @@ use std::marker::Model;
 /// writers and their readers, and the matches of its own readers with writers.
 #[derive(Drop)]
 pub struct Discovery<A: Allocator = Global> {
-    /// Whether memory was refused, so that an event may be processed only in part.
+    /// Whether memory was refused, so that a call may have done its work only in part.
     spent: bool,
     held: Registry<A>,
 }
@@ -61,8 +65,8 @@ impl<A: Allocator + Copy> Discovery<A> {
     /// readers' matches and the answer to send (DDSI-RTPS 8.5.3, 8.5.4). The records of an announcer
     /// are applied one by one; any other event changes nothing but the moment. A moment below an
     /// earlier one counts as the greatest so far; a participant's record counts as heard at it, and
-    /// no lease ends here. `AllocError` where memory is refused; from then on each call of this and
-    /// of [`expire`](Discovery::expire) returns `AllocError` and changes nothing.
+    /// no lease ends here. `AllocError` where memory is refused; from then on each call that changes
+    /// discovery is refused, and changes nothing.
     pub fn step(
         &mut self,
         alloc: A,
@@ -104,8 +108,8 @@ impl<A: Allocator + Copy> Discovery<A> {
     /// leases have ended, all together, and returns the changes of our readers' matches, by rank
     /// and then by writer. A moment below an earlier one counts as the greatest so far. If no lease
     /// has ended, it takes no memory; it takes no step for a participant that stays. `AllocError`
-    /// where memory is refused; from then on each call of this and of [`step`](Discovery::step)
-    /// returns `AllocError` and changes nothing.
+    /// where memory is refused; from then on each call that changes discovery is refused, and
+    /// changes nothing.
     pub fn expire(&mut self, alloc: A, moment: u64) -> Result<Vec<MatchChange<A>, A>, AllocError>
         ensures known { (k : Known) → IsKnown k self.old.kept
             → OnOk result (IsKnown (passed moment k) self.new.kept) }
@@ -128,17 +132,105 @@ impl<A: Allocator + Copy> Discovery<A> {
         Ok(ended)
     }
 
-    /// Whether memory was refused, so that [`step`](Discovery::step) and
-    /// [`expire`](Discovery::expire) return `AllocError` from now on.
+    /// Adds a reader of ours. Returns its rank, which is the number of ranks that were given before,
+    /// and the changes of its matches: a match or a refusal for each known writer that it has to do
+    /// with, in the order of the octets of the writers' guids. It has no fixed matches.
+    ///
+    /// A reader that isn't added is dropped. `Full` and `BadReader` change nothing. After `NoMemory`
+    /// each call that changes discovery is refused, and changes nothing.
+    pub fn add_reader(
+        &mut self,
+        alloc: A,
+        reader: ReaderConfig,
+    ) -> Result<(u32, Vec<MatchChange<A>, A>), ReaderFault>
+        ensures known { (k : Known) → IsKnown k self.old.kept
+            → OnOk result (IsKnown (joined (wish_of reader) k) self.new.kept) }
+        ensures rank { (k : Known) → IsKnown k self.old.kept
+            → IfOk result (λ added. added.0 ≡ length k.readers) }
+        ensures changes { (k : Known) → IsKnown k self.old.kept
+            → IfOk result (λ added. map change_seen added.1.items
+            ≡ changes (without_fixed (length k.readers) k) (joined (wish_of reader) k)) }
+        ensures refused { self.old.spent ≡ false
+            → IfSome (adding_fault self.old.kept.readers (wish_of reader))
+            (λ fault. (result ≡ Err fault) × (self.new ≡ self.old)) }
+        ensures taken { self.old.spent ≡ false
+            → adding_fault self.old.kept.readers (wish_of reader) ≡ None
+            → IfErr result (λ fault. fault ≡ NoMemory) }
+        ensures ok { OnOk result (self.new.spent ≡ false) }
+        ensures err { result ≡ Err NoMemory → self.new.spent ≡ true }
+        ensures spent { self.old.spent ≡ true
+            → (result ≡ Err NoMemory) × (self.new ≡ self.old) }
+    {
+        if self.spent {
+            return Err(ReaderFault::NoMemory);
+        }
+        if let Some(fault) = adding_fault(&self.held.readers, &reader) {
+            return Err(fault);
+        }
+        // Spent until the reader is added.
+        self.spent = true;
+        match self.held.join(alloc, &reader) {
+            Ok(added) => {
+                self.spent = false;
+                Ok(added)
+            }
+            Err(_) => Err(ReaderFault::NoMemory),
+        }
+    }
+
+    /// Removes our reader of a rank. Returns the ends of its matches, in the order of the octets of
+    /// the writers' guids; its fixed matches end too, and aren't among them. The rank isn't given
+    /// again, but another reader may have its entity. `NoReader` changes nothing. After `NoMemory`
+    /// each call that changes discovery is refused, and changes nothing.
+    pub fn remove_reader(
+        &mut self,
+        alloc: A,
+        rank: u32,
+    ) -> Result<Vec<MatchChange<A>, A>, ReaderFault>
+        ensures known { (k : Known) → IsKnown k self.old.kept
+            → OnOk result (IsKnown (parted rank k) self.new.kept) }
+        ensures changes { (k : Known) → IsKnown k self.old.kept
+            → IfOk result (λ ended. map change_seen ended.items
+            ≡ changes k (without_reader rank k)) }
+        ensures refused { self.old.spent ≡ false
+            → IfSome (removing_fault self.old.kept.readers rank)
+            (λ fault. (result ≡ Err fault) × (self.new ≡ self.old)) }
+        ensures taken { self.old.spent ≡ false
+            → removing_fault self.old.kept.readers rank ≡ None
+            → IfErr result (λ fault. fault ≡ NoMemory) }
+        ensures ok { OnOk result (self.new.spent ≡ false) }
+        ensures err { result ≡ Err NoMemory → self.new.spent ≡ true }
+        ensures spent { self.old.spent ≡ true
+            → (result ≡ Err NoMemory) × (self.new ≡ self.old) }
+    {
+        if self.spent {
+            return Err(ReaderFault::NoMemory);
+        }
+        if !has_reader(&self.held.readers, rank) {
+            return Err(ReaderFault::NoReader);
+        }
+        // Spent until the reader is removed.
+        self.spent = true;
+        match self.held.part(alloc, rank) {
+            Ok(ended) => {
+                self.spent = false;
+                Ok(ended)
+            }
+            Err(_) => Err(ReaderFault::NoMemory),
+        }
+    }
+
+    /// Whether memory was refused, so that each later call that changes discovery is refused, and
+    /// changes nothing.
     pub fn is_spent(&self) -> bool
         ensures { result ≡ self.now.spent }
     {
         self.spent // and stays so
     }
 
-    /// Makes each later call of [`step`](Discovery::step) and [`expire`](Discovery::expire) return
-    /// `AllocError` and change nothing. It is for a caller that was refused memory for the results
-    /// of an event, which was therefore processed only in part.
+    /// Makes each later call that changes discovery be refused, and change nothing. It is for a
+    /// caller that was refused memory for the results of an event, which was therefore processed
+    /// only in part.
     pub fn spend(&mut self)
         ensures { self.new ≡ record self.old { spent = true } }
     {
@@ -162,8 +254,8 @@ impl<A: Allocator + Copy> Discovery<A> {
 
     /// Returns all matches: the rank of a reader of ours and a writer each, by rank and then by the
     /// octets of the writer's guid. They are those that [`matched`](Discovery::matched) returns for
-    /// each writer, also after [`step`](Discovery::step) was refused memory, when an event may be
-    /// processed only in part. `AllocError` where memory is refused; nothing changes.
+    /// each writer, also after a call was refused memory, when its work may be done only in
+    /// part. `AllocError` where memory is refused; nothing changes.
     pub fn matches(&self, alloc: A) -> Result<BTreeSet<(u32, Guid), A>, AllocError>
         ensures matches { (k : Known) → IsKnown k self.now.kept
             → IfOk result (λ matches. ArePairs k matches.keys) }
@@ -173,11 +265,11 @@ impl<A: Allocator + Copy> Discovery<A> {
         Ok(pairs)
     }
 
-    /// Our readers by rank, at most 256. `None` stands for a reader that was removed; no call
-    /// removes one today.
+    /// Our readers by rank: one place for each rank that was given, at most 4,096. It is `None`
+    /// where the reader was removed.
     pub fn readers(&self) -> &[Option<Reader<A>>]
         ensures known { result.now ≡ self.now.kept.readers }
-        ensures few { length result.now ≤ 256 }
+        ensures few { length result.now ≤ 4096 }
     {
         self.held.readers.as_slice()
     }

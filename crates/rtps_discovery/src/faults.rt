@@ -56,7 +56,7 @@ pub(crate) fn is_writer(entity: EntityId) -> bool
     entity.0[3] == 0x02 || entity.0[3] == 0x03
 }
 
-fn is_bad_reader(reader: &ReaderConfig) -> bool
+pub(crate) fn is_bad_reader(reader: &ReaderConfig) -> bool
     ensures { result ≡ is_bad_reader reader.now }
 {
     !is_reader(reader.entity) || matches!(reader.requested.policies.ownership, Ownership::Exclusive)

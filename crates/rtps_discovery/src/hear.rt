@@ -45,7 +45,7 @@ pub(crate) fn put_ranks<A: Allocator + Copy>(
 
 /// Returns the locators that answers to a writer are sent to: its own, else the default ones of its
 /// participant.
-fn locators_for<'a, A: Allocator>(
+pub(crate) fn locators_for<'a, A: Allocator>(
     participants: &'a BTreeMap<GuidPrefix, RemoteParticipant<A>, A>,
     prefix: GuidPrefix,
     own: &'a [Locator],

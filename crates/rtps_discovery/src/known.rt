@@ -1,6 +1,7 @@
 //! Our readers, and the participants and writers that were announced (DDSI-RTPS 8.5).
 
-ghost use Rattle.std.specs.Prelude.{◌≡◌, ◌++◌, ◌∷◌, [], IfOk, IfErr};
+ghost use Rattle.std.specs.Prelude.{◌≡◌, ◌++◌, ◌∷◌, [], IfOk, IfErr, OnOk, false};
+ghost use Rattle.rtps_discovery.specs.Moving.{without_rank};
 ghost use Rattle.rtps_discovery.specs.OneWriter.{has_rank};
 ghost use Rattle.rtps_discovery.specs.Seen.{offer_seen};
 
@@ -211,6 +212,23 @@ impl<A: Allocator> Ranks<A> {
         let mut items = Vec::from_slice(alloc, ranks)?;
         items.push(rank)?;
         Ok(Ranks::new(items))
+    }
+
+    /// Appends a rank, which is above the others.
+    pub fn add(&mut self, rank: u32) -> Result<(), AllocError>
+        ensures { OnOk result (self.new ≡ self.old ++ rank ∷ []) }
+    {
+        self.items.push(rank)?;
+        Ok(())
+    }
+
+    /// Removes a rank, if it is among them. Returns whether others are left.
+    pub fn forget(&mut self, rank: u32) -> bool
+        ensures left { self.new ≡ without_rank rank self.old }
+        ensures none { result ≡ false → self.new ≡ [] }
+    {
+        self.items.retain(|one| *one != rank);
+        !self.items.is_empty()
     }
 
     /// The ranks, rising.

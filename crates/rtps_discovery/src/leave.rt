@@ -180,7 +180,7 @@ fn hear_all_ends<A: Allocator + Copy>(
     gone: &[Gone<A>],
     changes: &mut Vec<MatchChange<A>, A>,
 ) -> Result<(), AllocError>
-    requires { length readers.now ≤ 256 }
+    requires { length readers.now ≤ 4096 }
     ensures { OnOk result (map change_seen changes.new.items
         ≡ map change_seen changes.old.items ++ endings gone.now 0 readers.now) }
 {

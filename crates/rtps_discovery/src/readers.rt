@@ -24,7 +24,7 @@ fn copied_names<A: Allocator + Copy>(
 }
 
 /// Returns a copy of a reader.
-fn copied_reader<A: Allocator + Copy>(
+pub(crate) fn copied_reader<A: Allocator + Copy>(
     alloc: A,
     reader: &ReaderConfig,
 ) -> Result<Reader<A>, AllocError>

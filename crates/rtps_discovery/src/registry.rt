@@ -34,7 +34,7 @@ pub(crate) struct Registry<A: Allocator> {
     /// For each writer, the ranks of the readers that are matched with it; no entry is empty.
     pub ranks: BTreeMap<Guid, Ranks<A>, A>,
 
-    ghost few: { length readers.items ≤ 256 },
+    ghost few: { length readers.items ≤ 4096 },
 
     // Each entity id has four octets.
     ghost writers_sized: { are_sized (keys_of writers.entries) ≡ true },

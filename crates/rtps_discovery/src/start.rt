@@ -43,7 +43,7 @@ fn rising<A: Allocator + Copy>(
     writer: Guid,
     ranks: &[u32],
 ) -> Result<Ranks<A>, AllocError>
-    requires { length readers.now ≤ 256 }
+    requires { length readers.now ≤ 4096 }
     ensures { IfOk result (λ rising.
         rising ≡ matched_from (has_rank ranks.now) None 0 readers.now) }
 {
@@ -63,7 +63,7 @@ fn index_of<A: Allocator + Copy>(
     readers: &[Option<Reader<A>>],
     pairs: &[FixedMatch],
 ) -> Result<BTreeMap<Guid, Ranks<A>, A>, AllocError>
-    requires { length readers.now ≤ 256 }
+    requires { length readers.now ≤ 4096 }
     ensures { IfOk result (λ index. (g : Guid)
         → ranks_at g index.entries ≡ fixed_ranks (map pair_of pairs.now) readers.now g) }
 {

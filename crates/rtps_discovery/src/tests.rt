@@ -5,6 +5,7 @@ mod announcers;
 mod events;
 mod leases;
 mod memory;
+mod readers;
 mod start;
 
 use crate::*;

@@ -183,7 +183,7 @@ fn jobs_of<A: Allocator + Copy>(
     alloc: A,
     lists: Vec<Vec<PlannedStep<A>, A>, A>,
 ) -> Result<Vec<Job<A>, A>, AllocError>
-    requires { length lists.items ≤ 256 }
+    requires { length lists.items ≤ 4096 }
     ensures { (es : List EventView) (asked : ℕ → _) → AreSteps es lists.items asked
         → IfOk result (λ jobs. map (job_seen es) jobs.items ≡ jobs_by asked (length lists.items)) }
 {
@@ -210,7 +210,7 @@ fn ranks_of<A: Allocator + Copy>(alloc: A, jobs: &[Job<A>]) -> Result<Vec<u32, A
 
 /// Returns the jobs of the readers that have steps, and the rest of the plan.
 fn plan_from<A: Allocator + Copy>(alloc: A, planning: Planning<A>) -> Result<Plan<A>, AllocError>
-    requires { length planning.lists.items ≤ 256 }
+    requires { length planning.lists.items ≤ 4096 }
     ensures jobs { (es : List EventView) (asked : ℕ → _) → AreSteps es planning.lists.items asked
         → IfOk result (λ plan. map (job_seen es) plan.jobs.items
         ≡ jobs_by asked (length planning.lists.items)) }

@@ -3,3 +3,4 @@ pub mod Following
 pub mod Telling
 pub mod Counting
 pub mod Stepping
+pub mod Stopping

@@ -6,7 +6,7 @@ use Rattle.rtps_types.specs.declared.identity.GuidPrefix.{GuidPrefix}
 use Rattle.rtps_types.specs.declared.traffic.WriterFacts.{WriterFacts}
 use Rattle.rtps_proxy.specs.declared.effects.Effects.{Effects}
 use Rattle.rtps_proxy.specs.Kept.{ProxyView}
-use Rattle.rtps_proxy.specs.Matches.{AllStand}
+use Rattle.rtps_proxy.specs.Matches.{AllStand, Match}
 use Rattle.rtps_reader.specs.declared.notice.Notice.{Notice}
 use Rattle.rtps_reader.specs.declared.notice.Output.{Output}
 use Rattle.rtps_reader.specs.declared.stateful.StatefulReader.{StatefulReader}
@@ -62,6 +62,18 @@ pub record StandsAt {M : Type 0} (r : Reader) (given : List (Notice M)) (state :
 -- the state of a reader that has given no notice yet
 abbrev pub StartsAt : Reader → ReaderView → Type 0
 StartsAt r state = StandsAt {M = Unit {0}} r [] state
+
+-- The state of a reader that is stopped (DDSI-RTPS 8.4.10): none of its matches is left, and all
+-- else is as before.
+pub record IsStopped (old new : ReaderView) : Type 0 where
+  pub rank : new.rank ≡ old.rank
+  pub spent : new.spent ≡ old.spent
+  pub own : new.own ≡ old.own
+  pub entity : new.entity ≡ old.entity
+  pub reliable : new.reliable ≡ old.reliable
+  -- if its proxies were those of matches
+  pub matches : (ms : List Match) → AllStand ms old.matches → new.matches ≡ []
+  pub status : new.status ≡ record old.status { matched_now = length new.matches }
 
 -- at most the matches and the totals have changed
 pub record IsSameReader {A : Type 0} (old new : StatefulReader A) : Type 0 where

@@ -11,8 +11,12 @@ ghost use Rattle.rtps_types.specs.declared.locator.Locator.{Locator};
 ghost use Rattle.rtps_types.specs.Order.{guid_order};
 ghost use Rattle.rtps_proxy.specs.History.{MatchEvent};
 ghost use Rattle.rtps_proxy.specs.Matches.{match_with, same_guid};
+ghost use Rattle.rtps_reader.specs.declared.notice.Notice.{Notice};
 ghost use Rattle.rtps_reader.specs.Reader.{Facts, Reader, extended_by, first_reader, fresh_with, reader_after, reader_run};
+ghost use Rattle.rtps_reader.specs.Standing.{IsStopped, ReaderView, StandsAt};
 ghost use Rattle.rtps_reader.specs.Step.{StepView, Takes, Changes, Starts, Stops};
+
+use dds_topic::Catalog;
 
 /// How a step changes the match with each writer. An event of a writer extends the history of its
 /// match, if there is one. A match that begins has no history, even if it replaces one. A match
@@ -44,4 +48,11 @@ pub fn matches_in_order()
         (doings : List StepView)
         → IsStrictlySortedBy guid_order (map (λ m. m.pairing.writer) (reader_run (first_reader own
         entity is_reliable fixed) doings).matches) }
+{}
+
+/// The state of a stopped reader is that of the reader after it stops: if a state follows from a
+/// reader's steps, then the stopped one follows from them and from the stop, which gives no notice.
+pub fn stopping_follows<C: Catalog>()
+    ensures { (r : Reader) (given : List (Notice C.Meaning)) (old new : ReaderView)
+        → StandsAt r given old → IsStopped old new → StandsAt (reader_after r Stops) given new }
 {}

@@ -8,7 +8,7 @@ ghost use Rattle.rtps_reader.specs.declared.notice.Notice.{Notice};
 ghost use Rattle.rtps_reader.specs.Listed.{match_order, with_writers};
 ghost use Rattle.rtps_reader.specs.Notice.{answer_view, notice_view};
 ghost use Rattle.rtps_reader.specs.Reader.{Reader, first_reader, reader_after, sends, tells};
-ghost use Rattle.rtps_reader.specs.Standing.{KeepsFront, StandsAt, StartsAt, facts_in};
+ghost use Rattle.rtps_reader.specs.Standing.{IsStopped, KeepsFront, StandsAt, StartsAt, facts_in};
 ghost use Rattle.rtps_reader.specs.Step.{asked};
 
 use crate::notice::Output;
@@ -143,6 +143,14 @@ impl<A: Allocator + Copy> ReaderState<A> {
         self.reader.step(alloc, decoder, step, effects, output)?;
         self.spent = false;
         Ok(())
+    }
+
+    /// Stops the reader: all its matches end, the fixed ones too, and no notice tells of it. Its
+    /// status is that of before, without matches. No memory is taken.
+    pub fn stop(&mut self)
+        ensures { IsStopped self.old self.new }
+    {
+        self.reader.stop();
     }
 
     /// Returns the reader's index among the readers of its participant, counted from 0.

@@ -1,6 +1,6 @@
 //! A reader that keeps the state of each matched writer.
 
-ghost use Rattle.std.specs.Prelude.{◌≡◌, ◌++◌, List, IfOk, OnOk, false, length, map, take};
+ghost use Rattle.std.specs.Prelude.{◌≡◌, ◌++◌, [], List, IfOk, OnOk, false, length, map, take};
 ghost use Rattle.rtps_proxy.specs.Effects.{GivesNothing, match_event};
 ghost use Rattle.rtps_proxy.specs.Matches.{AllStand, AreTaken, Match, begun, extended, fresh, given_where, match_with};
 ghost use Rattle.rtps_types.specs.MatchChange.{match_change_view};
@@ -143,6 +143,21 @@ impl<A: Allocator + Copy> StatefulReader<A> {
                 self.counts = self.counts.with_refusal(*policy);
                 let what = NoticeKind::Incompatible { policy: *policy };
                 tell::<C, A>(place, *writer, what, notices)
+            }
+        }
+    }
+
+    /// Ends all matches, the fixed ones too. No memory is taken.
+    pub(crate) fn stop(&mut self)
+        ensures matches { (ms : List Match) → AllStand ms self.old.matches
+            → self.new.matches ≡ [] }
+        ensures counts { self.new.counts ≡ self.old.counts }
+        ensures reader { IsSameReader self.old self.new }
+    {
+        for _ in 0..self.matches.len() {
+            if let Some(first) = self.matches.writers().next() {
+                let writer = *first;
+                self.matches.end(writer);
             }
         }
     }

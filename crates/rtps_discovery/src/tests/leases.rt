@@ -42,6 +42,10 @@ pub(super) enum Input {
     Comes(Peer, &'static str),
     /// The record with this number of a participant's writer of squares, by its entity.
     Offers(Peer, u64, &'static str),
+    /// The same, where the writer is best-effort.
+    OffersBestEffort(Peer, u64, &'static str),
+    /// The same, where the writer is one of circles.
+    OffersCircles(Peer, u64, &'static str),
     /// A record that a participant sends and that names another one.
     Misnames(Peer, Peer),
     /// The end of a participant.
@@ -50,7 +54,7 @@ pub(super) enum Input {
     Moment(u64),
 }
 
-use Input::{Comes, Leaves, Misnames, Moment, Offers};
+use Input::{Comes, Leaves, Misnames, Moment, Offers, OffersBestEffort, OffersCircles};
 
 /// A lease, little-endian: seconds, then units of 2^-32 seconds.
 const NO_TIME: &str = "02000800 00000000 00000000";
@@ -67,7 +71,7 @@ const THREE_SECONDS: &str = "02000800 03000000 00000000";
 /// A negative lease, which counts as zero whatever its fraction.
 const MINUS_ONE_SECOND: &str = "02000800 ffffffff ffffffff";
 
-const INFINITE: &str = "02000800 ffffff7f ffffffff";
+pub(super) const INFINITE: &str = "02000800 ffffff7f ffffffff";
 
 /// One unit less than infinite: 2147483648 seconds, rounded up.
 const ALMOST_INFINITE: &str = "02000800 ffffff7f feffffff";
@@ -94,9 +98,15 @@ const ENDPOINT_GUID: &str = "5a001000";
 const SQUARES: &str = "05000c00 07000000 53717561 72650000 \
     07001000 0a000000 53686170 65547970 65000000";
 
+/// Topic Circle, type ShapeType.
+const CIRCLES: &str = "05000c00 07000000 43697263 6c650000 \
+    07001000 0a000000 53686170 65547970 65000000";
+
+const BEST_EFFORT: &str = "1a000c00 01000000 00000000 00000000";
+
 /// A change of the match of a reader and a writer.
 #[derive(Clone, Copy, Debug, PartialEq)]
-enum Became {
+pub(super) enum Became {
     Matched,
     Unmatched,
     Refused,
@@ -106,9 +116,9 @@ use Became::{Matched, Unmatched};
 
 /// A change: the rank, the octet of the participant, the third octet of its writer's entity, and
 /// the kind of the change.
-type Heard = (u32, u8, u8, Became);
+pub(super) type Heard = (u32, u8, u8, Became);
 
-fn heard_of(change: &MatchChange) -> Heard {
+pub(super) fn heard_of(change: &MatchChange) -> Heard {
     let (writer, became) = match &change.what {
         MatchChangeKind::Match(facts) => (&facts.writer, Matched),
         MatchChangeKind::Unmatch(writer) => (writer, Unmatched),
@@ -125,6 +135,19 @@ pub(super) fn two_readers(alloc: Global) -> Result<Config, Fail> {
         config.add_reader(reader)?;
     }
     Ok(config)
+}
+
+/// Returns the record of a participant's writer with this entity, which offers this.
+fn offer_of(
+    alloc: Global,
+    peer: Peer,
+    entity: &'static str,
+    offers: &[&'static str],
+) -> Result<Vec<u8>, Fail> {
+    let mut record = payload_of(alloc, &[LITTLE, ENDPOINT_GUID, peer.prefix, entity])?;
+    record.extend_from_slice(payload_of(alloc, offers)?.as_slice())?;
+    record.extend_from_slice(payload_of(alloc, &[SENTINEL])?.as_slice())?;
+    Ok(record)
 }
 
 /// Returns the payload of an input.
@@ -151,17 +174,11 @@ fn payload_in(alloc: Global, input: Input) -> Result<Vec<u8>, Fail> {
                 SENTINEL,
             ],
         ),
-        Offers(peer, _, entity) => payload_of(
-            alloc,
-            &[
-                LITTLE,
-                ENDPOINT_GUID,
-                peer.prefix,
-                entity,
-                SQUARES,
-                SENTINEL,
-            ],
-        ),
+        Offers(peer, _, entity) => offer_of(alloc, peer, entity, &[SQUARES]),
+        OffersBestEffort(peer, _, entity) => {
+            offer_of(alloc, peer, entity, &[SQUARES, BEST_EFFORT])
+        }
+        OffersCircles(peer, _, entity) => offer_of(alloc, peer, entity, &[CIRCLES]),
         Leaves(_) | Moment(_) => Ok(Vec::new(alloc)),
     }
 }
@@ -172,7 +189,9 @@ fn event_in(input: Input, payload: &[u8]) -> Result<Option<Event<'_>>, Fail> {
     let of_writers = ENTITYID_SEDP_BUILTIN_PUBLICATIONS_ANNOUNCER;
     let (peer, writer, number, form, status) = match input {
         Comes(peer, _) | Misnames(peer, _) => (peer, of_participants, 1, Form::Value, 0),
-        Offers(peer, number, _) => (peer, of_writers, number, Form::Value, 0),
+        Offers(peer, number, _)
+        | OffersBestEffort(peer, number, _)
+        | OffersCircles(peer, number, _) => (peer, of_writers, number, Form::Value, 0),
         Leaves(peer) => (peer, of_participants, 1, Form::Nothing, 1),
         Moment(_) => return Ok(None),
     };
@@ -226,7 +245,11 @@ pub(super) fn step<A: Allocator + Copy>(
 }
 
 /// Processes an input, and returns the changes of our readers' matches.
-fn take(alloc: Global, discovery: &mut Discovery, input: Input) -> Result<Vec<MatchChange>, Fail> {
+pub(super) fn take(
+    alloc: Global,
+    discovery: &mut Discovery,
+    input: Input,
+) -> Result<Vec<MatchChange>, Fail> {
     if let Moment(moment) = input {
         return expire(alloc, discovery, moment);
     }
@@ -256,7 +279,7 @@ fn first_unheard(
 }
 
 /// Discovery at its start, with these fixed matches of the first reader.
-fn started(alloc: Global, fixed: &[Guid]) -> Result<Discovery, Fail> {
+pub(super) fn started(alloc: Global, fixed: &[Guid]) -> Result<Discovery, Fail> {
     let mut config = two_readers(alloc)?;
     for writer in fixed {
         config.add_fixed(0, *writer, Locators::new(Vec::new(alloc)))?;

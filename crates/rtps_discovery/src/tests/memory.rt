@@ -5,7 +5,8 @@ ghost use Rattle.rtps_discovery.specs.Config.{check_of};
 
 use super::events::{COMES, OFFERS, SQUARES, Said, event_of, payload_of, two_readers};
 use super::leases::{self, FIRST, Input, ONE, ONE_SECOND, SECOND, TWO, step};
-use crate::{Config, Discovery, check};
+use super::readers::reader_of_squares;
+use crate::{Config, Discovery, ReaderFault, check};
 use linked_list_allocator::LocalHeap;
 use std::alloc::{Allocator, Global};
 use std::test::Fail;
@@ -102,20 +103,34 @@ enum Refused {
     AtTheStart,
     AtAnInput,
     AsLeasesEnd,
+    AsAReaderComes,
+    AsAReaderGoes,
     Nowhere,
 }
 
-/// Returns the greatest moment, and the numbers of known participants and writers.
-fn amount_of<A: Allocator + Copy>(discovery: &Discovery<A>) -> (u64, usize, usize) {
+/// Returns the greatest moment, and the numbers of ranks and of known participants and writers.
+fn amount_of<A: Allocator + Copy>(discovery: &Discovery<A>) -> (u64, usize, usize, usize) {
     let participants = discovery.participants().count();
     (
         discovery.moment(),
+        discovery.readers().len(),
         participants,
         discovery.writers().count(),
     )
 }
 
-/// Whether a record and a moment are refused, and change nothing.
+/// Whether a reader that comes and one that goes are refused for want of memory.
+fn refuses_readers<A: Allocator + Copy>(
+    alloc: Global,
+    heap: A,
+    discovery: &mut Discovery<A>,
+) -> Result<bool, Fail> {
+    let added = discovery.add_reader(heap, reader_of_squares(alloc, 9)?);
+    let removed = discovery.remove_reader(heap, 0);
+    Ok(matches!(added, Err(ReaderFault::NoMemory)) && matches!(removed, Err(ReaderFault::NoMemory)))
+}
+
+/// Whether a record, a moment and readers are refused, and change nothing.
 fn stays_spent<A: Allocator + Copy>(
     alloc: Global,
     heap: A,
@@ -125,7 +140,101 @@ fn stays_spent<A: Allocator + Copy>(
     let comes = Input::Comes(ONE, ONE_SECOND);
     let is_taken = step(alloc, heap, discovery, comes)?.is_ok();
     let expires = discovery.expire(heap, 9000).is_ok();
-    Ok(!is_taken && !expires && amount_of(discovery) == amount)
+    let refuses = refuses_readers(alloc, heap, discovery)?;
+    Ok(!is_taken && !expires && refuses && amount_of(discovery) == amount)
+}
+
+/// Whether there is memory for the inputs.
+fn hears_all<A: Allocator + Copy>(
+    alloc: Global,
+    heap: A,
+    discovery: &mut Discovery<A>,
+) -> Result<bool, Fail> {
+    for input in TWO_BY_TWO {
+        if step(alloc, heap, discovery, input)?.is_err() {
+            return Ok(false);
+        }
+    }
+    Ok(true)
+}
+
+/// Takes memory in small blocks until it is refused, or 4,096 are taken, and returns them.
+fn blocks_in<A: Allocator + Copy>(alloc: Global, heap: A) -> Result<Vec<Vec<u8, A>>, Fail> {
+    let mut blocks = Vec::new(alloc);
+    for _ in 0..4096 {
+        match Vec::with_capacity(heap, 16) {
+            Ok(block) => blocks.push(block)?,
+            Err(_) => break,
+        }
+    }
+    Ok(blocks)
+}
+
+/// Returns where memory is refused first as a reader comes and goes: four writers are matched with
+/// it and unmatched. `full` is where no memory is left.
+fn reader_refusal<A: Allocator + Copy>(
+    alloc: Global,
+    heap: A,
+    discovery: &mut Discovery<A>,
+    full: Refused,
+) -> Result<Refused, Fail> {
+    if !hears_all(alloc, heap, discovery)? {
+        return Ok(Refused::AtAnInput);
+    }
+    let mut blocks = Vec::new(alloc);
+    if full == Refused::AsAReaderComes {
+        blocks = blocks_in(alloc, heap)?;
+    }
+    let Ok((rank, begun)) = discovery.add_reader(heap, reader_of_squares(alloc, 3)?) else {
+        drop(blocks);
+        return Ok(Refused::AsAReaderComes);
+    };
+    if full == Refused::AsAReaderGoes {
+        blocks = blocks_in(alloc, heap)?;
+    }
+    let Ok(ended) = discovery.remove_reader(heap, rank) else {
+        drop(blocks);
+        return Ok(Refused::AsAReaderGoes);
+    };
+    if begun.len() != 4 || ended.len() != 4 {
+        return Err(Fail::new("not all begins and ends"));
+    }
+    Ok(Refused::Nowhere)
+}
+
+/// Like [`reader_refusal`], for a heap of this size.
+fn reader_refusal_of(
+    alloc: Global,
+    config: &Config,
+    size: usize,
+    full: Refused,
+) -> Result<Refused, Fail>
+    requires { check_of config.now ≡ Ok tt }
+{
+    let heap = LocalHeap::new(alloc, size)?;
+    let Ok(mut discovery) = Discovery::new(&heap, config) else {
+        return Ok(Refused::AtTheStart);
+    };
+    let refused = reader_refusal(alloc, &heap, &mut discovery, full)?;
+    if refused == Refused::Nowhere || stays_spent(alloc, &heap, &mut discovery)? {
+        return Ok(refused);
+    }
+    Err(Fail::new("something is taken after a refused growth"))
+}
+
+#[test]
+fn refused_growths_as_a_reader_comes_and_goes(rt: HostRuntime) -> Result<(), Fail> {
+    let config = leases::two_readers(rt.alloc())?;
+    check(&config)?;
+    for full in [
+        Refused::AsAReaderComes,
+        Refused::AsAReaderGoes,
+        Refused::Nowhere,
+    ] {
+        let refused = reader_refusal_of(rt.alloc(), &config, 16384, full)?;
+        assert_eq!(rt; refused, full);
+    }
+    Ok(())
 }
 
 /// Returns where memory is refused first as the leases of both participants end: four writers are
@@ -136,11 +245,8 @@ fn refusal_in<A: Allocator + Copy>(
     mut discovery: Discovery<A>,
 ) -> Result<Refused, Fail> {
     let mut refused = Refused::Nowhere;
-    for input in TWO_BY_TWO {
-        if step(alloc, heap, &mut discovery, input)?.is_err() {
-            refused = Refused::AtAnInput;
-            break;
-        }
+    if !hears_all(alloc, heap, &mut discovery)? {
+        refused = Refused::AtAnInput;
     }
     if refused == Refused::Nowhere {
         match discovery.expire(heap, 1001) {
@@ -173,10 +279,10 @@ fn refused_growths_as_leases_end(rt: HostRuntime) -> Result<(), Fail> {
     let (mut at_an_input, mut as_leases_end, mut nowhere) = (false, false, false);
     for step in 1..512 {
         match refusal_of(rt.alloc(), &config, step * 32)? {
-            Refused::AtTheStart => {}
             Refused::AtAnInput => at_an_input = true,
             Refused::AsLeasesEnd => as_leases_end = true,
             Refused::Nowhere => nowhere = true,
+            _ => {}
         }
     }
     assert!(rt; at_an_input && as_leases_end && nowhere);

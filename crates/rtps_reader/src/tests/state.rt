@@ -154,3 +154,33 @@ fn the_status_counts_the_notices(rt: HostRuntime) -> Result<(), Fail> {
     assert!(rt; counts_rising(rt.alloc(), &mut reader)?);
     Ok(())
 }
+
+/// Whether a reader that is stopped after these changes has no match, keeps its totals, and presents
+/// nothing more.
+fn is_stopped(alloc: Global, reader: &mut ReaderState) -> Result<bool, Fail> {
+    let earlier = given(alloc, reader)?;
+    reader.stop();
+    let mut output: Output<Shape> = Output {
+        notices: Vec::new(alloc),
+        answers: Vec::new(alloc),
+    };
+    let mut decoder = Decoder::new(alloc, Shapes);
+    let event = event(4, THEIRS, 10)?;
+    reader.step(alloc, &mut decoder, &Step::of_event(&event), &mut output)?;
+    let status = Status {
+        matched_total: 1,
+        matched_now: 0,
+        incompatible_total: 0,
+        last_policy: None,
+        lost_total: 2,
+        samples: 2,
+    };
+    Ok(earlier.notices.len() == 3 && output.notices.is_empty() && reader.status() == status)
+}
+
+#[test]
+fn a_stopped_reader_has_no_match(rt: HostRuntime) -> Result<(), Fail> {
+    let mut reader = reader(rt.alloc())?;
+    assert!(rt; is_stopped(rt.alloc(), &mut reader)?);
+    Ok(())
+}

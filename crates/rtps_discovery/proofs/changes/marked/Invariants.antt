@@ -4,7 +4,7 @@ use Rattle.rtps_discovery.proofs.changes.marked.Given as goal
 
 -- the marks so far are those of the ranks so far
 abbrev pub invariant-loop-rank : goal.invariant-loop-rank
-invariant-loop-rank l = record {
-  size : length l.marks ≡ 256;
-  marks : (n : ℕ) → n < 256 → get_or l.marks n false ≡ has_rank (take l.rank-index l.ranks) n;
+invariant-loop-rank g l = record {
+  size : length l.marks.items ≡ l.number;
+  marks : (n : ℕ) → n < l.number → get_or l.marks.items n false ≡ has_rank (take l.rank-index l.ranks) n;
 }

@@ -1,4 +1,4 @@
-use Rattle.std.proofs.Common.{◌≡◌, ◌<◌, ◌||◌, get_or, arith, ◌+◌, ◌∷◌, ◌++◌, [], List, ℕ, Bool, true, false, Option, drop, map, append_assoc, if◌then◌else◌, refl, sym, ap, ◌∙◌}
+use Rattle.std.proofs.Common.{◌≡◌, ◌<◌, ◌||◌, get_or, arith, ◌+◌, ◌∷◌, ◌++◌, [], List, ℕ, length, Bool, true, false, Option, drop, map, append_assoc, if◌then◌else◌, refl, sym, ap, ◌∙◌}
 use Rattle.std.proofs.lemmas.List.{drop_more}
 use Rattle.rtps_discovery.specs.Known.{Wish, is_joined, standing}
 use Rattle.rtps_discovery.specs.OneWriter.{column, has_rank, matched_from, met}
@@ -24,8 +24,9 @@ loop-reader-preserved g c =
     let ranks = matched_from (has_rank c.args.fixed.now) (lent update.after) in
     let here = met (has_rank c.args.fixed.now) update.writer update.locators.now rank (standing reader (lent update.before)) (standing reader (lent update.after)) in
     let earlier = map change_seen c.loop-reader.changes.items in
-    let low : rank < 256 = omega (arith, c.loop-reader.invariant.rank, c.requires) in
-    let same : get_or c.marked-marks.result rank false ≡ has_rank c.args.fixed.now rank = c.marked-marks.ensures rank low in
+    let low : rank < length c.args.readers.now = omega (arith, c.loop-reader.invariant.rank, c.loop-reader-test.true) in
+    let same : c.is_marked-is_fixed.result ≡ has_rank c.args.fixed.now rank =
+    c.is_marked-is_fixed.ensures ∙ ap (λ l. get_or l rank false) c.deref.ensures.value ∙ c.in_ok-marks.ensures rank low in
     let met_now : map change_seen c.meet.new.changes.items ≡ earlier ++ here =
     c.in_ok-meet.ensures.changes ∙ ap (λ (b : Bool). earlier ++ met (λ _. b) update.writer update.locators.now rank (standing reader (lent update.before)) (standing reader (lent update.after))) same in
     let joined : c.in_ok-meet.field-0 ≡ (has_rank c.args.fixed.now rank || is_joined (standing reader (lent update.after))) =
