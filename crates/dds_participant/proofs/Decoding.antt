@@ -1,5 +1,5 @@
 -- The events of one datagram more, and the events of datagrams, cut by datagram.
-use Rattle.std.proofs.Common.{◌≡◌, ◌==◌, ℕ, zero, suc, ◌+◌, ◌<◌, ◌≤◌, List, [], ◌∷◌, ◌++◌, true, false, length, map, take, get_or, refl, sym, ap, ◌∙◌, subst, arith, append-nil, length-take}
+use Rattle.std.proofs.Common.{◌≡◌, ◌==◌, ℕ, zero, suc, ◌+◌, ◌<◌, ◌≤◌, List, [], ◌∷◌, ◌++◌, false, length, map, take, get_or, refl, sym, ap, ◌∙◌, subst, arith, append-nil, length-take}
 use Rattle.std.specs.Prelude.{drop}
 use Rattle.std.specs.List.{AllByRecursion}
 use Rattle.std.proofs.lemmas.Bool.Decides.{nat_tests}
@@ -7,7 +7,7 @@ use Rattle.std.proofs.lemmas.List.{drop_more, map-append, take_more}
 use Rattle.rtps_types.specs.declared.datagram.Datagram.{Datagram}
 use Rattle.rtps_types.specs.declared.identity.GuidPrefix.{GuidPrefix}
 use Rattle.rtps_receiver.specs.Events.{EventView, events_of}
-use Rattle.rtps_run.specs.Input.{Input, arrived, events_from, index_after_all}
+use Rattle.rtps_run.specs.Input.{arrived, events_from, index_after_all}
 use Rattle.rtps_run.proofs.Running.{events_more}
 use Rattle.rtps_planner.specs.Stamped.{AreStamped, IsStamped, events_in}
 use Rattle.rtps_planner.proofs.Stamping.{arrived_from, of_one}

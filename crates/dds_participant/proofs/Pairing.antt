@@ -1,8 +1,8 @@
 -- Jobs and their readers, from the last rank down.
-use Rattle.std.proofs.Common.{◌≡◌, Option, Some, None, MatchOption, option_to_list, ℕ, zero, suc, ◌+◌, ◌-◌, ◌<◌, ◌==◌, List, [], ◌∷◌, ◌++◌, length, map, All, Global, get_or, false, true≢false, refl, sym, ap, ◌∙◌, subst, arith, append_assoc, append-nil, length-append}
+use Rattle.std.proofs.Common.{◌≡◌, Option, Some, None, MatchOption, option_to_list, ℕ, zero, suc, ◌+◌, ◌-◌, ◌<◌, ◌==◌, List, [], ◌∷◌, ◌++◌, length, map, All, Global, get_or, false, true≢false, refl, sym, ap, ◌∙◌, subst, arith, append-nil, length-append}
 use Rattle.std.proofs.Math.Seq.{get_or-append_seam}
 use Rattle.std.proofs.lemmas.Bool.{eq-eqb}
-use Rattle.std.proofs.lemmas.List.{append_cancel_right, get_or-map, get_or_append_left, length-map, map_push}
+use Rattle.std.proofs.lemmas.List.{append_cancel_right, get_or-map, length-map, map_push}
 use Rattle.std.proofs.lemmas.List.Elements.{All-append, All-cons, All-nil}
 use Rattle.rtps_receiver.specs.Events.{EventView}
 use Rattle.dds_topic.specs.Decoding.{Decoding}

@@ -1,16 +1,14 @@
 -- The readers of a participant, in their places.
-use Rattle.std.proofs.Common.{◌≡◌, ℕ, zero, suc, ◌+◌, ◌<◌, ◌≤◌, ◌==◌, List, [], ◌∷◌, ◌++◌, length, map, All, Bool, true, false, Global, get_or, set, refl, sym, ap, ◌∙◌, subst, arith, length-set, get_or-set_other, get_or-set_same}
+use Rattle.std.proofs.Common.{◌≡◌, ℕ, zero, suc, ◌<◌, ◌≤◌, ◌==◌, List, [], ◌∷◌, ◌++◌, length, Bool, true, false, Global, get_or, set, refl, sym, ◌∙◌, subst, arith, length-set, get_or-set_other, get_or-set_same}
 use Rattle.std.specs.List.Sorted.{IsPermutation}
 use Rattle.std.proofs.lemmas.Bool.{eqb-false, eqb-true}
-use Rattle.std.proofs.lemmas.List.{get_or_default, length-append, map_push, set-get_or}
-use Rattle.std.proofs.lemmas.List.Elements.{All-push}
 use Rattle.std.proofs.lemmas.List.Sorted.{All-permutation, IsPermutation-sym}
 use Rattle.dds_topic.specs.Decoding.{Decoding}
 use Rattle.rtps_reader.specs.declared.notice.Output.{Output}
 use Rattle.rtps_reader.specs.Standing.{ReaderView}
 use Rattle.rtps_run.specs.Standing.{StandsFor}
 use Rattle.rtps_shards.specs.declared.jobs.JobResult.{JobResult}
-use Rattle.rtps_shards.specs.Results.{IsDone, IsOutput, Share, given_done, rank_of, reader_done}
+use Rattle.rtps_shards.specs.Results.{IsDone, IsOutput, Share, given_done, reader_done}
 use Rattle.dds_participant.specs.declared.readers.Readers.{Readers}
 use Rattle.dds_participant.specs.Readers.{AllShare, AreRun, AreRunAt, AreRunBut, IsNoneOf}
 

@@ -8,7 +8,7 @@ use Rattle.rtps_reader.specs.declared.notice.Notice.{Notice}
 use Rattle.rtps_reader.specs.declared.notice.Output.{Output}
 use Rattle.rtps_reader.specs.Notice as reader
 use Rattle.rtps_run.specs.declared.errors.EngineError.{EngineError}
-use Rattle.rtps_run.specs.declared.errors.EngineError.TheVariants.{NoMemory, Failed, Spent}
+use Rattle.rtps_run.specs.declared.errors.EngineError.TheVariants.{NoMemory, Failed, Spent, Full, BadReader, NoReader}
 use Rattle.rtps_run.specs.Seen.{notices_by, reader_count}
 use Rattle.rtps_run.specs.World.{World}
 use Rattle.rtps_planner.specs.Commuting.{PartsByRank, answers_at, merged, notices_at}
@@ -62,3 +62,6 @@ unfoldable pub LeavesLists : {V : Type 0} → EngineError → BatchOutput V → 
 LeavesLists Failed old new = new ≡ old
 LeavesLists Spent old new = new ≡ old
 LeavesLists NoMemory old new = HoldsNothing new
+LeavesLists Full old new = ⊥
+LeavesLists BadReader old new = ⊥
+LeavesLists NoReader old new = ⊥

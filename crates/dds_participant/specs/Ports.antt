@@ -1,8 +1,9 @@
 -- Outlets that are attached to readers, and the backlogs of notices that wait for them.
-use Rattle.std.specs.Prelude.{◌≡◌, ◌⊎◌, ◌+◌, ◌≤◌, ℕ, zero, suc, List, [], ◌∷◌, ◌++◌, length, map, Option, Some, None, option_map}
+use Rattle.std.specs.Prelude.{◌≡◌, ◌⊎◌, ◌+◌, ◌≤◌, ℕ, List, [], ◌∷◌, ◌++◌, length, map, Option, Some, None, option_map, slice_index_or}
 use Rattle.std.specs.VecDeque.{deque_capacity}
 use Rattle.std.specs.declared.alloc.Global.{Global}
 use Rattle.rtps_reader.specs.declared.notice.Notice.{Notice}
+use Rattle.rtps_reader.specs.declared.status.Status.{Status}
 use Rattle.dds_outlet.specs.Ring.{Sending}
 use Rattle.dds_participant.specs.declared.ports.Port.{Port}
 use Rattle.dds_participant.specs.declared.ports.AttachFault.{AttachFault}
@@ -24,12 +25,17 @@ ports_view ports = map (option_map port_view) ports
 abbrev pub new_port : {V : Type 0} → Sending V Global → PortView V
 new_port o = record { outlet = o; backlog = [] }
 
--- why no outlet can be attached to the reader of a rank; `None` if one can
-abbrev pub fault_at : {V : Type 0} → List (Option (PortView V)) → ℕ → Option AttachFault
-fault_at [] rank = Some NoReader
-fault_at (None ∷ ports) zero = None
-fault_at (Some port ∷ ports) zero = Some Attached
-fault_at (port ∷ ports) (suc rank) = fault_at ports rank
+-- why no outlet can be attached to a reader, given its status and its outlet; `None` if one can
+abbrev pub fault_of : {V : Type 0} → Option Status → Option (PortView V) → Option AttachFault
+fault_of None port = Some NoReader
+fault_of (Some status) None = None
+fault_of (Some status) (Some port) = Some Attached
+
+-- the same for the reader of a rank; a rank that wasn't given has no status
+abbrev pub fault_at : {V : Type 0} → List (Option Status) → List (Option (PortView V)) → ℕ
+    → Option AttachFault
+fault_at statuses ports rank =
+    fault_of (slice_index_or statuses rank None) (slice_index_or ports rank None)
 
 -- nothing is attached to any reader
 abbrev pub NoneAttached : {V : Type 0} → List (Option (PortView V)) → Type 0

@@ -16,8 +16,9 @@ impl<C: Catalog> Participant<C> {
     /// sends; they are in no outcome. No memory is taken. It may be called at any time, also when
     /// the participant has failed; so may `deliver` and `detach`.
     ///
-    /// An outlet that isn't attached is returned with the error: [`AttachFault::NoReader`] where no
-    /// reader has the rank, else [`AttachFault::Attached`] where the reader has an outlet.
+    /// An outlet that isn't attached is returned with the error: [`AttachFault::NoReader`] where
+    /// the rank wasn't given or its reader went, else [`AttachFault::Attached`] where the reader
+    /// has an outlet.
     pub fn attach(
         &mut self,
         rank: u32,
@@ -25,13 +26,13 @@ impl<C: Catalog> Participant<C> {
     ) -> Result<(), (Outlet<C::Value>, AttachFault)>
         ensures same { (self.new.engine ≡ self.old.engine) × (self.new.batches ≡ self.old.batches) }
         ensures ports { MatchResult result
-            (λ _. (fault_at self.old.ports rank ≡ None)
+            (λ _. (fault_at self.old.engine.statuses self.old.ports rank ≡ None)
             × (self.new.ports ≡ slice_set self.old.ports rank (Some (new_port outlet))))
-            (λ e. (fault_at self.old.ports rank ≡ Some e.1) × (self.new.ports ≡ self.old.ports)
-            × (e.0 ≡ outlet)) }
+            (λ e. (fault_at self.old.engine.statuses self.old.ports rank ≡ Some e.1)
+            × (self.new.ports ≡ self.old.ports) × (e.0 ≡ outlet)) }
     {
         let rank = rank as usize;
-        if rank >= self.ports.len() {
+        if rank >= self.statuses.len() || self.statuses[rank].is_none() {
             return Err((outlet, AttachFault::NoReader));
         }
         put(&mut self.ports[rank], self.alloc, outlet)
@@ -39,7 +40,8 @@ impl<C: Catalog> Participant<C> {
 
     /// Sends the backlog of a rank through its outlet, the oldest notice first, until it is empty
     /// or the outlet's ring is full. Returns the number of notices that still wait, 0 where nothing
-    /// is attached. It takes no memory and doesn't wait.
+    /// is attached. It may be called also after the reader went. It takes no memory and doesn't
+    /// wait.
     pub fn deliver(&mut self, rank: u32) -> usize
         ensures same { (self.new.engine ≡ self.old.engine) × (self.new.batches ≡ self.old.batches) }
         ensures ports { MatchOption (slice_index_or self.old.ports rank None)
@@ -57,7 +59,8 @@ impl<C: Catalog> Participant<C> {
 
     /// Detaches the outlet of a rank, and returns it with the notices that still wait for it, the
     /// oldest first; `None` where nothing is attached. From the next batch on, the notices of the
-    /// reader are in the outcome again. No memory is taken.
+    /// reader are in the outcome again. When a reader goes its outlet stays, until this call. No
+    /// memory is taken.
     pub fn detach(&mut self, rank: u32) -> Option<(Outlet<C::Value>, VecDeque<Notice<C::Value>>)>
         ensures same { (self.new.engine ≡ self.old.engine) × (self.new.batches ≡ self.old.batches) }
         ensures ports { MatchOption result

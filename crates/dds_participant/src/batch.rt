@@ -1,17 +1,17 @@
 //! A batch of datagrams.
 
-ghost use Rattle.std.specs.Prelude.{◌≡◌, ◌+◌, ◌^◌, ◌≤◌, ◌<◌, ◌++◌, ℕ, All, IfErr, IfOk, List, OnErr, OnOk, false, true, length, map};
+ghost use Rattle.std.specs.Prelude.{◌≡◌, ◌+◌, ◌^◌, ◌≤◌, ◌<◌, ◌++◌, ℕ, All, IfErr, IfOk, List, OnErr, OnOk, false, true, length, map, slice_index_or};
 ghost use Rattle.std.specs.declared.alloc.Global.{Global};
 ghost use Rattle.rtps_run.specs.declared.outcome.Outcome.{Outcome};
 ghost use Rattle.rtps_run.specs.Input.{Input, arrived, occurrences_from};
 ghost use Rattle.rtps_run.specs.Outcome.{Adds};
 ghost use Rattle.rtps_run.specs.Run.{world_run};
-ghost use Rattle.rtps_run.specs.Standing.{ShowsAt, StandsAt, datagram_limit, run_by};
+ghost use Rattle.rtps_run.specs.Standing.{ShowsAt, StandsAt, datagram_limit, run_by, status_shown};
 ghost use Rattle.rtps_run.specs.World.{World};
 ghost use Rattle.dds_participant.specs.Batch.{IsFinishedBy, Keeps, OnlyRuns, failing};
 ghost use Rattle.dds_participant.specs.BatchOutput.{IsGiven, LeavesLists};
 ghost use Rattle.dds_participant.specs.Handing.{IsHandedOn, IsOutcomeHandedOn};
-ghost use Rattle.dds_participant.specs.Kept.{RefusesBatch, TakesBatch, counted};
+ghost use Rattle.dds_participant.specs.Kept.{ParticipantView, RefusesBatch, TakesBatch, counted};
 ghost use Rattle.dds_participant.specs.Ports.{NoneAttached};
 ghost use Rattle.dds_participant.specs.declared.batch_output.BatchOutput.{BatchOutput};
 
@@ -181,7 +181,9 @@ impl<C: Catalog> Participant<C> {
         requires { count ≤ 4096 }
         ensures ok { OnOk result ((self.old.engine.failed ≡ false)
             × (self.old.engine.index + count ≤ datagram_limit) × (self.new ≡ failing self.old)) }
-        ensures few { OnOk result ((length self.old.engine.readers ≤ 256)
+        ensures there { OnOk result ((inputs : List Input)
+            × StandsAt C.decoding inputs self.old.engine) }
+        ensures few { OnOk result ((length self.old.engine.readers ≤ 4096)
             × (length self.old.engine.readers ≡ length self.old.engine.statuses)) }
         ensures err { IfErr result (λ e. RefusesBatch count e self.old) }
         ensures still { OnErr result (self.new ≡ self.old) }
@@ -209,7 +211,7 @@ impl<C: Catalog> Participant<C> {
         requires room { self.old.engine.index + length datagrams.now < 2 ^ 64 }
         requires fit { All (λ d. length d.bytes.now ≤ 65507) datagrams.now }
         requires workers { (1 ≤ workers.now.count) × (workers.now.count ≤ 64) }
-        requires readers { length self.old.engine.readers ≤ 256 }
+        requires readers { length self.old.engine.readers ≤ 4096 }
         requires failed { self.old.engine.failed ≡ true }
         ensures same { OnlyRuns self.old self.new }
         ensures ports { self.new.ports ≡ self.old.ports }
@@ -254,24 +256,35 @@ impl<C: Catalog> Participant<C> {
     }
 
     /// Counts `count` datagrams and one batch as taken, and updates the statuses from the readers.
-    fn finish(&mut self, count: usize)
-        requires room { self.old.engine.index + count ≤ datagram_limit }
+    pub(crate) fn finish(&mut self, count: usize)
+        requires room { 0 < count → self.old.engine.index + count ≤ datagram_limit }
         requires readers { length self.old.engine.readers ≡ length self.old.engine.statuses }
+        requires failed { self.old.engine.failed ≡ true }
+        requires there { (new : ParticipantView C C.Value) → IsFinishedBy count self.old new
+            → (inputs : List Input) × StandsAt C.decoding inputs new.engine }
         ensures finished { IsFinishedBy count self.old self.new }
         ensures ports { self.new.ports ≡ self.old.ports }
     {
-        self.end_batch();
+        self.show();
         self.index += count as u64;
-    }
-
-    /// Counts one batch as taken, and updates the statuses from the readers.
-    pub(crate) fn end_batch(&mut self)
-        requires readers { length self.old.engine.readers ≡ length self.old.engine.statuses }
-        ensures finished { IsFinishedBy 0 self.old self.new }
-        ensures ports { self.new.ports ≡ self.old.ports }
-    {
-        show_all(&self.readers, &mut self.statuses);
         self.batches = self.batches.saturating_add(1);
         self.failed = false;
+    }
+
+    /// Updates the statuses from the readers.
+    fn show(&mut self)
+        requires readers { length self.old.engine.readers ≡ length self.old.engine.statuses }
+        requires failed { self.old.engine.failed ≡ true }
+        ensures same { self.new.engine
+            ≡ record self.old.engine { statuses = self.new.engine.statuses } }
+        ensures batches { self.new.batches ≡ self.old.batches }
+        ensures ports { self.new.ports ≡ self.old.ports }
+        ensures count { length self.new.engine.statuses ≡ length self.old.engine.statuses }
+        ensures statuses { (rank : ℕ) (s : _) (r : _) → rank < length self.old.engine.readers
+            → slice_index_or self.new.engine.statuses rank s
+            ≡ status_shown (slice_index_or self.old.engine.statuses rank s)
+            (slice_index_or self.old.engine.readers rank r) }
+    {
+        show_all(&self.readers, &mut self.statuses);
     }
 }

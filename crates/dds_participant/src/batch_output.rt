@@ -49,7 +49,7 @@ pub(crate) fn outcome_of<C: Catalog>(
     alloc: Global,
     given: BatchOutput<C::Value>,
 ) -> Result<Outcome<C::Value>, AllocError>
-    requires readers { length given.outputs.items ≤ 256 }
+    requires readers { length given.outputs.items ≤ 4096 }
     ensures adds { (before after : World C.Meaning) → IsGiven C.view before after given
         → IfOk result (Adds C.view before after) }
     ensures count { IfOk result (λ o. length o.notices.items ≡ length given.outputs.items) }

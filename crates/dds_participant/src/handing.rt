@@ -1,6 +1,6 @@
 //! Moving the notices of a batch to backlogs.
 
-ghost use Rattle.std.specs.Prelude.{◌≡◌, OnErr, OnOk, true, length, map};
+ghost use Rattle.std.specs.Prelude.{◌≡◌, ◌≤◌, OnErr, OnOk, true, length, map};
 ghost use Rattle.dds_participant.specs.Handing.{AreHandedOn, HaveRoomFor, listed, reported};
 ghost use Rattle.dds_participant.specs.Ports.{NoneAttached, ports_view};
 
@@ -54,12 +54,12 @@ pub(crate) fn hand_on<V: Drop>(ports: &mut Vec<Option<Port<V>>>, outputs: &mut V
     }
 }
 
-/// Reserves room in each backlog for the list of its rank.
+/// Reserves room in each backlog for the list of its rank. There may be more lists than backlogs.
 pub(crate) fn make_room_for_lists<V: Drop>(
     ports: &mut Vec<Option<Port<V>>>,
     lists: &[Vec<Notice<V>>],
 ) -> Result<(), AllocError>
-    requires { length ports.old.items ≡ length lists.now }
+    requires { length ports.old.items ≤ length lists.now }
     ensures same { ports_view ports.new.items ≡ ports_view ports.old.items }
     ensures count { length ports.new.items ≡ length ports.old.items }
     ensures room { OnOk result (HaveRoomFor ports.new.items (listed lists.now)) }

@@ -8,6 +8,7 @@ mod batch_output;
 mod decode;
 mod handing;
 pub mod laws;
+mod moving;
 mod participant;
 mod ports;
 mod publish;

@@ -4,7 +4,7 @@ ghost use Rattle.std.specs.Prelude.{◌≡◌, [], IfOk, List, ℕ, false, lengt
 ghost use Rattle.rtps_discovery.specs.Config.{check_of};
 ghost use Rattle.rtps_discovery.specs.Kept.{IsKnown};
 ghost use Rattle.rtps_run.specs.Input.{Input};
-ghost use Rattle.rtps_run.specs.Seen.{matches_seen, status_seen};
+ghost use Rattle.rtps_run.specs.Seen.{matches_seen, reader_count, status_seen};
 ghost use Rattle.rtps_run.specs.Standing.{Answers, ShowsAt, StandsAt, Starts, run_by};
 ghost use Rattle.dds_participant.specs.Ports.{NoneAttached};
 
@@ -21,10 +21,11 @@ use std::collections::BTreeSet;
 use std::marker::Model;
 
 /// A participant with its discovery and its readers. It processes the datagrams of a batch
-/// together, and runs the jobs of its readers on several threads.
+/// together, and runs the jobs of its readers on several threads. Between batches readers come and
+/// go ([`Participant::add_reader`], [`Participant::remove_reader`]).
 ///
-/// Its state is that of a [`rtps_serial::SerialEngine`] after the same datagrams, however they are
-/// cut into batches.
+/// Its state is that of a [`rtps_serial::SerialEngine`] after the same inputs, however the
+/// datagrams are cut into batches.
 ///
 /// An outlet can be attached to each reader ([`Participant::attach`]), through which another thread
 /// receives the reader's notices:
@@ -47,22 +48,25 @@ pub struct Participant<C: Catalog> {
     pub(crate) index: u64,
     /// The number of batches taken.
     pub(crate) batches: u64,
-    /// Whether a batch ran out of memory. It is also set while a batch runs, so that an error
-    /// leaves it set.
+    /// Whether a batch ran out of memory, or a tick, or a reader that came or went. It is also set
+    /// while one of them is processed, so that an error leaves it set.
     pub(crate) failed: bool,
     pub(crate) discovery: Discovery,
-    /// By rank; empty while their jobs run.
+    /// By rank; empty while their jobs run. The state of a reader that went stays in its place,
+    /// stopped.
     pub(crate) readers: Vec<ReaderState>,
-    /// By rank, as they were after the last batch that was taken.
-    pub(crate) statuses: Vec<Status>,
-    /// By rank, the outlet that is attached, if one is.
+    /// By rank, as they were after the last batch that was taken; `None` where a reader went.
+    pub(crate) statuses: Vec<Option<Status>>,
+    /// By rank, the outlet that is attached, if one is. It stays when its reader goes.
     pub(crate) ports: Vec<Option<Port<C::Value>>>,
     /// The allocator of the backlogs.
     pub(crate) alloc: Global,
 }
 
 impl<C: Catalog> Model for Participant<C> {
-    ghost use Rattle.std.specs.Prelude.{◌≡◌, ◌≤◌, false, length};
+    ghost use Rattle.std.specs.Prelude.{◌≡◌, ◌≤◌, List, false, length};
+    ghost use Rattle.rtps_run.specs.Input.{Input};
+    ghost use Rattle.rtps_run.specs.Standing.{StandsAt};
     ghost use Rattle.dds_participant.specs.Kept.{ParticipantView};
     ghost use Rattle.dds_participant.specs.Ports.{ports_view};
 
@@ -82,9 +86,18 @@ impl<C: Catalog> Model for Participant<C> {
       ports = ports_view p.ports.items;
     } };
 
-    ghost invariant = { λ p. (length p.statuses.items ≤ 256)
+    // A participant that hasn't failed is that after some inputs.
+    ghost invariant = { λ p. (length p.statuses.items ≤ 4096)
         × (length p.ports.items ≡ length p.statuses.items)
-        × (p.failed ≡ false → length p.readers.items ≡ length p.statuses.items) };
+        × (p.failed ≡ false → (inputs : List Input) × StandsAt C.decoding inputs (record {
+          catalog = p.catalog;
+          config = p.config;
+          index = p.index;
+          failed = p.failed;
+          discovery = p.discovery;
+          readers = p.readers.items;
+          statuses = p.statuses.items;
+        })) };
 }
 
 impl<C: Catalog> Participant<C> {
@@ -122,7 +135,7 @@ impl<C: Catalog> Participant<C> {
         })
     }
 
-    /// The number of readers, 1 to 256. Their ranks are the numbers below it.
+    /// The number of ranks that were given, at most 4,096: the numbers below it.
     pub fn readers(&self) -> u32
         ensures { result ≡ length self.now.engine.statuses }
     {
@@ -137,12 +150,12 @@ impl<C: Catalog> Participant<C> {
     }
 
     /// Returns the status of the reader of a rank, after the last batch that was taken, or `None`
-    /// where no reader has the rank. No memory is taken.
+    /// where the rank wasn't given or its reader went. No memory is taken.
     pub fn status(&self, rank: u32) -> Option<Status>
         ensures { (inputs : List Input) → ShowsAt C.decoding inputs self.now.engine
             → result ≡ status_seen (run_by C.decoding self.now.engine inputs) rank }
     {
-        self.statuses.get(rank as usize).copied()
+        self.statuses.get(rank as usize).copied().flatten()
     }
 
     /// Returns the current matches, each with the rank of its reader and its writer. The error is

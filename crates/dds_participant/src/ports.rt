@@ -20,7 +20,7 @@ pub(crate) struct Port<V> {
 /// Why an outlet isn't attached.
 #[derive(Debug, Clone, Copy, PartialEq, Eq)]
 pub enum AttachFault {
-    /// No reader has the rank.
+    /// The rank wasn't given, or its reader went.
     NoReader,
     /// The reader has an outlet already.
     Attached,

@@ -22,14 +22,16 @@ pub enum PublishFault {
 }
 
 impl<C: Catalog> Participant<C> {
-    /// Returns the row of the last batch that was taken.
+    /// Returns the row of the last batch that was taken: it has the readers that are there.
     fn row(&self, alloc: Global) -> Result<Row, AllocError>
         ensures { IfOk result (λ row. row_view row
             ≡ row_of self.now.batches self.now.engine.statuses) }
     {
         let mut statuses = Vec::with_capacity(alloc, self.statuses.len())?;
         for (rank, status) in self.statuses.iter().enumerate() {
-            statuses.push((rank as u32, *status))?;
+            if let Some(status) = status {
+                statuses.push((rank as u32, *status))?;
+            }
         }
         Ok(Row {
             batch: self.batches,
@@ -37,9 +39,9 @@ impl<C: Catalog> Participant<C> {
         })
     }
 
-    /// Publishes one row: the number of batches taken, and the status of each reader after the last
-    /// of them, by rank. Once a batch has run out of memory, the row is that of the last batch
-    /// before it. After an error the board's rows are unchanged.
+    /// Publishes one row: the number of batches taken, and, by rank, the status of each reader that
+    /// is there after the last of them. Once a batch has run out of memory, the row is that of the
+    /// last batch before it. After an error the board's rows are unchanged.
     ///
     /// It takes memory for the row, and like [`StatusBoard::publish`] it waits for readers that
     /// still look at the row before the last one.

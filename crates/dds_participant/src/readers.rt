@@ -107,7 +107,7 @@ pub(crate) fn run_alone<C: Catalog, G: Gate>(
     batch: &SharedBatch<'_, C, G>,
     assigned: Assigned<C::Value>,
 ) -> Result<Readers<C::Value>, AllocError>
-    requires few { length assigned.readers.states.items ≤ 256 }
+    requires few { length assigned.readers.states.items ≤ 4096 }
     requires same { length assigned.readers.outputs.items ≡ length assigned.readers.states.items }
     ensures count { IfOk result (λ p. length p.states.items
         ≡ length assigned.readers.states.items) }
@@ -167,7 +167,7 @@ fn lend<C: Catalog>(
     jobs: Vec<Job>,
     readers: &mut Readers<C::Value>,
 ) -> Result<Vec<Posted<C::Value>>, AllocError>
-    requires few { length readers.old.states.items ≤ 256 }
+    requires few { length readers.old.states.items ≤ 4096 }
     requires same { length readers.old.outputs.items ≡ length readers.old.states.items }
     ensures count { length readers.new.states.items ≡ length readers.old.states.items }
     ensures outputs { length readers.new.outputs.items ≡ length readers.old.states.items }
@@ -230,7 +230,7 @@ fn run_shared<C: Catalog, G: Gate, R: Threads + Sync>(
     assigned: Assigned<C::Value>,
     workers: usize,
 ) -> Result<Readers<C::Value>, AllocError>
-    requires few { length assigned.readers.states.items ≤ 256 }
+    requires few { length assigned.readers.states.items ≤ 4096 }
     requires same { length assigned.readers.outputs.items ≡ length assigned.readers.states.items }
     requires workers { (1 ≤ workers) × (workers ≤ 64) }
     ensures count { IfOk result (λ p. length p.states.items
@@ -260,7 +260,7 @@ pub(crate) fn run_assigned<C: Catalog, G: Gate, R: Threads + Sync>(
     assigned: Assigned<C::Value>,
     workers: usize,
 ) -> Result<Readers<C::Value>, AllocError>
-    requires few { length assigned.readers.states.items ≤ 256 }
+    requires few { length assigned.readers.states.items ≤ 4096 }
     requires same { length assigned.readers.outputs.items ≡ length assigned.readers.states.items }
     requires workers { (1 ≤ workers) × (workers ≤ 64) }
     ensures count { IfOk result (λ p. length p.states.items

@@ -2,12 +2,14 @@
 
 ghost use Rattle.std.specs.Prelude.{◌≤◌};
 
+mod coming;
 mod failing;
 mod hand_off;
 mod lent;
 mod moments;
 mod outlets;
 mod publishing;
+mod refused;
 mod routed;
 mod stress;
 

@@ -64,7 +64,7 @@ impl<C: Catalog> Participant<C> {
         let given = self.pass(alloc, moment, BatchOutput::new(alloc))?;
         let mut outcome = outcome_of::<C>(alloc, given)?;
         self.hand_lists(&mut outcome.notices)?;
-        self.end_batch();
+        self.finish(0);
         Ok(outcome)
     }
 
@@ -107,17 +107,19 @@ impl<C: Catalog> Participant<C> {
         let mut whole = self.pass(alloc, moment, lent)?;
         self.hand(&mut whole.outputs)?;
         *given = whole;
-        self.end_batch();
+        self.finish(0);
         Ok(())
     }
 
-    /// Refuses a tick of a participant that has failed, or else marks the participant as failed
-    /// until the tick is finished.
+    /// Refuses a tick, or a reader that comes or goes, where the participant has failed, or else
+    /// marks the participant as failed until it is processed.
     #[tactic(auto, unfolding(crate::specs::Kept::RefusesTick))]
-    fn admit_tick(&mut self) -> Result<(), EngineError>
+    pub(crate) fn admit_tick(&mut self) -> Result<(), EngineError>
         ensures ok { OnOk result
             ((self.old.engine.failed ≡ false) × (self.new ≡ failing self.old)) }
-        ensures few { OnOk result ((length self.old.engine.readers ≤ 256)
+        ensures there { OnOk result ((inputs : List Input)
+            × StandsAt C.decoding inputs self.old.engine) }
+        ensures few { OnOk result ((length self.old.engine.readers ≤ 4096)
             × (length self.old.engine.readers ≡ length self.old.engine.statuses)) }
         ensures err { IfErr result (λ e. RefusesTick e self.old) }
         ensures still { OnErr result (self.new ≡ self.old) }
@@ -137,7 +139,7 @@ impl<C: Catalog> Participant<C> {
         moment: u64,
         lists: BatchOutput<C::Value>,
     ) -> Result<BatchOutput<C::Value>, AllocError>
-        requires readers { length self.old.engine.readers ≤ 256 }
+        requires readers { length self.old.engine.readers ≤ 4096 }
         requires failed { self.old.engine.failed ≡ true }
         ensures same { OnlyRuns self.old self.new }
         ensures ports { self.new.ports ≡ self.old.ports }

@@ -169,13 +169,9 @@ impl<A: Allocator + Copy> Discovery<A> {
         }
         // Spent until the reader is added.
         self.spent = true;
-        match self.held.join(alloc, &reader) {
-            Ok(added) => {
-                self.spent = false;
-                Ok(added)
-            }
-            Err(_) => Err(ReaderFault::NoMemory),
-        }
+        let added = self.held.join(alloc, &reader)?;
+        self.spent = false;
+        Ok(added)
     }
 
     /// Removes our reader of a rank. Returns the ends of its matches, in the order of the octets of
@@ -211,13 +207,9 @@ impl<A: Allocator + Copy> Discovery<A> {
         }
         // Spent until the reader is removed.
         self.spent = true;
-        match self.held.part(alloc, rank) {
-            Ok(ended) => {
-                self.spent = false;
-                Ok(ended)
-            }
-            Err(_) => Err(ReaderFault::NoMemory),
-        }
+        let ended = self.held.part(alloc, rank)?;
+        self.spent = false;
+        Ok(ended)
     }
 
     /// Whether memory was refused, so that each later call that changes discovery is refused, and
@@ -235,6 +227,13 @@ impl<A: Allocator + Copy> Discovery<A> {
         ensures { self.new ≡ record self.old { spent = true } }
     {
         self.spent = true; // for good
+    }
+
+    /// The prefix of our own participant.
+    pub fn own(&self) -> GuidPrefix
+        ensures { result ≡ self.now.kept.own }
+    {
+        self.held.own
     }
 
     /// The greatest moment so far, in milliseconds; 0 at the start.

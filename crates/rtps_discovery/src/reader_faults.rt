@@ -5,12 +5,13 @@ ghost use Rattle.std.specs.List.{list_any};
 ghost use Rattle.rtps_discovery.specs.Known.{reader_at};
 ghost use Rattle.rtps_discovery.specs.ReaderFaults.{adding_fault, has_entity, is_bad, is_full, name_of};
 ghost use Rattle.rtps_discovery.specs.Start.{wish_of};
+ghost use Rattle.rtps_discovery.specs.declared.reader_faults.ReaderFault.TheVariants.{NoMemory};
 
 use crate::config::ReaderConfig;
 use crate::faults::{READER_LIMIT, is_bad_reader};
 use crate::known::Reader;
 use rtps_types::EntityId;
-use std::alloc::Allocator;
+use std::alloc::{AllocError, Allocator};
 use thiserror::Error;
 
 /// Why a reader can't be added or removed: the first of its faults in this order.
@@ -29,6 +30,14 @@ pub enum ReaderFault {
     /// Memory was refused, now or at an earlier call.
     #[error("out of memory")]
     NoMemory,
+}
+
+impl From<AllocError> for ReaderFault {
+    ghost from_gives = { λ _ fault. fault ≡ NoMemory };
+
+    fn from(_failed: AllocError) -> ReaderFault {
+        ReaderFault::NoMemory
+    }
 }
 
 impl ReaderFault {

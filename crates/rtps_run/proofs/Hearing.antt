@@ -2,15 +2,13 @@
 use Rattle.std.proofs.Common.{◌≡◌, ◌≢◌, ℕ, zero, suc, ◌+◌, ◌<◌, ◌≤◌, ◌==◌, nat_lt, List, [], ◌∷◌, length, map, Bool, true, false, not, ◌&&◌, ◌||◌, if◌then◌else◌, Option, Some, None, refl, sym, ap, ◌∙◌, subst, arith, eq-eqb}
 use Rattle.std.specs.Prelude.{filter}
 use Rattle.std.specs.List.{AllByRecursion}
-use Rattle.std.specs.Option.{option_map}
 use Rattle.std.specs.Ordering.{is_lt, nat_cmp}
 use Rattle.std.specs.declared.cmp.Ordering.TheVariants.{Less, Equal, Greater}
 use Rattle.std.proofs.lemmas.Bool.Decides.{nat_tests}
 use Rattle.std.proofs.lemmas.Cmp.{nat_cmp_total}
 use Rattle.std.proofs.lemmas.List.Sorted.{ranks_by}
-use Rattle.rtps_types.specs.declared.identity.EntityId.{EntityId}
 use Rattle.rtps_receiver.specs.Events.{EventView}
-use Rattle.rtps_discovery.specs.Addressed.{is_discovery, is_for, writer_of}
+use Rattle.rtps_discovery.specs.Addressed.{is_discovery, writer_of}
 use Rattle.rtps_discovery.specs.Announcement.{Offer}
 use Rattle.rtps_discovery.specs.Changes.{ChangeAt}
 use Rattle.rtps_discovery.specs.Kept.{IsKnown, RegistryView, matched_ranks}
@@ -24,13 +22,14 @@ use Rattle.rtps_reader.specs.Reader.{placed}
 use Rattle.rtps_reader.specs.Standing.{ReaderView}
 use Rattle.rtps_reader.specs.Step.{Changes, StepView, asks_of}
 use Rattle.rtps_run.specs.declared.outcome.Report.{Report}
+use Rattle.rtps_run.specs.Addressed.{is_named}
 use Rattle.rtps_run.specs.Seen.{reader_count}
-use Rattle.rtps_run.specs.Standing.{AllKnown, ReadersStand, WorldStands}
+use Rattle.rtps_run.specs.Standing.{ReadersStand, WorldStands}
 use Rattle.rtps_run.specs.Steps.{AreByRank, ReaderStep, change_step, event_steps, step_by, steps_run}
 use Rattle.rtps_run.specs.Occurrence.{Came}
 use Rattle.rtps_run.specs.World.{ReportView, World, addressed_to, asked_by, changes_for, discovery_puts, doings, event_puts, known_after_event, sent_by, world_after}
 use Rattle.rtps_run.proofs.OneOrder.{Rises, filter-map, rises_map, rises_sorted, stable_by}
-use Rattle.rtps_run.proofs.Routed.{asks_for, comes_before, discovered, named_after, not_before, occurrence_stands, readers_stay}
+use Rattle.rtps_run.proofs.Routed.{asks_for, comes_before, discovered, not_before, occurrence_stands, readers_stay}
 
 -- ---- changes by rank
 
@@ -149,22 +148,27 @@ module _ (p : ℕ → Bool) (f : ℕ → Bool) (o : Option Offer) (what : StepVi
       by_test true false e = rw e refl
       by_test false named e = refl
 
-pub event_rises : {M : Type 0} (w : World M) (e : EventView) → Rises comes_before (event_steps w e (matched_ranks w.known (writer_of e)))
-event_rises w e = rise_from (λ rank. is_for e.reader (w.readers rank).entity) (λ rank. is_fixed w.known.fixed rank (writer_of e)) (writer_at w.known (writer_of e)) (asks_of e) 0 w.known.readers
+pub event_rises : (k : Known) (e : EventView) → Rises comes_before (event_steps k e (matched_ranks k (writer_of e)))
+event_rises k e = rise_from (λ rank. is_named e.reader (reader_at k.readers rank)) (λ rank. is_fixed k.fixed rank (writer_of e)) (writer_at k (writer_of e)) (asks_of e) 0 k.readers
 
-addressed : (k : Known) (rank : ℕ) (e : EventView) (o : Option Wish) (entity : EntityId) → is_discovery e.writer ≡ false → option_map (λ (r : Wish). r.entity) o ≡ Some entity
-    → addressed_to k rank e o ≡ (if is_matched k rank (writer_of e) && is_for e.reader entity then asks_of e ∷ [] else [])
-addressed k rank e None entity others named = absurd cc
-addressed k rank e (Some r) entity others named = let is : r.entity ≡ entity = cc in rw (others, is) refl
+-- an event is addressed to a reader that is there and that it names
+addressed : (k : Known) (rank : ℕ) (e : EventView) (o : Option Wish) → is_discovery e.writer ≡ false
+    → addressed_to k rank e o ≡ (if is_matched k rank (writer_of e) && is_named e.reader o then asks_of e ∷ [] else [])
+addressed k rank e None others = none (is_matched k rank (writer_of e))
+  where
+    none : (b : Bool) → [] ≡ (if b && false then asks_of e ∷ [] else [])
+    none true = refl
+    none false = refl
+addressed k rank e (Some r) others = rw others refl
 
-pub event_asked : {M : Type 0} (w : World M) (e : EventView) (rank : ℕ) → is_discovery e.writer ≡ false → AllKnown w → rank < reader_count w
-    → asks_for rank (event_steps w e (matched_ranks w.known (writer_of e))) ≡ doings w.known rank (Came e)
-event_asked w e rank others named less =
-    asked_from (λ rank. is_for e.reader (w.readers rank).entity) (λ rank. is_fixed w.known.fixed rank (writer_of e)) (writer_at w.known (writer_of e)) (asks_of e) rank rank 0 w.known.readers less (omega arith)
-    ∙ sym (addressed w.known rank e (reader_at w.known.readers rank) (w.readers rank).entity others (named rank less))
+pub event_asked : (k : Known) (e : EventView) (rank : ℕ) → is_discovery e.writer ≡ false → rank < length k.readers
+    → asks_for rank (event_steps k e (matched_ranks k (writer_of e))) ≡ doings k rank (Came e)
+event_asked k e rank others less =
+    asked_from (λ rank. is_named e.reader (reader_at k.readers rank)) (λ rank. is_fixed k.fixed rank (writer_of e)) (writer_at k (writer_of e)) (asks_of e) rank rank 0 k.readers less (omega arith)
+    ∙ sym (addressed k rank e (reader_at k.readers rank) others)
     ∙ by_rank others
   where
-    by_rank : is_discovery e.writer ≡ false → addressed_to w.known rank e (reader_at w.known.readers rank) ≡ asked_by w.known rank e
+    by_rank : is_discovery e.writer ≡ false → addressed_to k rank e (reader_at k.readers rank) ≡ asked_by k rank e
     by_rank h = rw h refl
 
 -- ---- the whole event
@@ -190,11 +194,10 @@ announced_puts k e is = announced_answer k e is
 
 -- an announcer's event
 pub announcement_stands : {V M A : Type 0} (view : V → M) (d : Decoding M) (w : World M) (e : EventView) (earlier : List (ReportView M)) (kept : RegistryView) (changes sorted : List (MatchChange A)) (states : List ReaderView) (reports : List (Report V A))
-    → is_discovery e.writer ≡ true → AllKnown w → IsKnown (known_by w.known e) kept → map change_seen changes ≡ changes_by w.known e → AreByRank changes sorted
+    → is_discovery e.writer ≡ true → IsKnown (known_by w.known e) kept → map change_seen changes ≡ changes_by w.known e → AreByRank changes sorted
     → ReadersStand view (steps_run d e.place (discovered w (Came e)) (map change_step (map change_seen sorted))) earlier states reports → WorldStands view (world_after d w (Came e)) earlier kept states reports
-announcement_stands view d w e earlier kept changes sorted states reports is named known heard by_rank stands = record {
+announcement_stands view d w e earlier kept changes sorted states reports is known heard by_rank stands = record {
   known = subst (λ k. IsKnown k kept) (sym (announced_known w.known e is)) known;
-  named = named_after d w e named;
   readers = occurrence_stands view d w (Came e) (map change_step (map change_seen sorted)) earlier states reports (changes_rise changes sorted by_rank)
       (λ rank less. changes_asked changes sorted rank by_rank ∙ ap (changes_for rank) heard ∙ sym (announced_doings w.known rank e is)) stands;
 }
@@ -203,10 +206,6 @@ announcement_stands view d w e earlier kept changes sorted states reports is nam
 pub other_known : (k : Known) (e : EventView) → is_discovery e.writer ≡ false → known_after_event k e ≡ k
 other_known k e others = rw others refl
 
-pub named_discovered : {M : Type 0} (w : World M) (e : EventView) → is_discovery e.writer ≡ false → AllKnown w → AllKnown (discovered w (Came e))
-named_discovered w e others named =
-    subst (λ (k : Known). (rank : ℕ) → rank < length k.readers → option_map (λ r. r.entity) (reader_at k.readers rank) ≡ Some (w.readers rank).entity) (sym (other_known w.known e others)) named
-
 no_answer : {M : Type 0} (k : Known) (e : EventView) → is_discovery e.writer ≡ false → event_puts {M = M} k e ≡ []
 no_answer k e others = rw others refl
 
@@ -214,10 +213,10 @@ pub no_puts : {M : Type 0} (k : Known) (e : EventView) → is_discovery e.writer
 no_puts k e others = no_answer k e others
 
 pub user_stands : {V M A : Type 0} (view : V → M) (d : Decoding M) (w : World M) (e : EventView) (earlier : List (ReportView M)) (kept : RegistryView) (states : List ReaderView) (reports : List (Report V A))
-    → is_discovery e.writer ≡ false → AllKnown w → IsKnown w.known kept
-    → ReadersStand view (steps_run d e.place (discovered w (Came e)) (event_steps w e (matched_ranks w.known (writer_of e)))) earlier states reports → WorldStands view (world_after d w (Came e)) earlier kept states reports
-user_stands view d w e earlier kept states reports others named known stands = record {
+    → is_discovery e.writer ≡ false → IsKnown w.known kept
+    → ReadersStand view (steps_run d e.place (discovered w (Came e)) (event_steps w.known e (matched_ranks w.known (writer_of e)))) earlier states reports → WorldStands view (world_after d w (Came e)) earlier kept states reports
+user_stands view d w e earlier kept states reports others known stands = record {
   known = subst (λ k. IsKnown k kept) (sym (other_known w.known e others)) known;
-  named = named_after d w e named;
-  readers = occurrence_stands view d w (Came e) (event_steps w e (matched_ranks w.known (writer_of e))) earlier states reports (event_rises w e) (λ rank less. event_asked w e rank others named (below_now w e rank less)) stands;
+  readers = occurrence_stands view d w (Came e) (event_steps w.known e (matched_ranks w.known (writer_of e))) earlier states reports (event_rises w.known e)
+      (λ rank less. event_asked w.known e rank others (below_now w e rank less)) stands;
 }

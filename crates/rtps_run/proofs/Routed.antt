@@ -2,7 +2,6 @@
 use Rattle.std.proofs.Common.{◌≡◌, ◌≢◌, ℕ, zero, suc, ◌<◌, ◌≤◌, ◌==◌, nat_lt, List, [], ◌∷◌, ◌++◌, length, map, get_or, Bool, true, false, if◌then◌else◌, Option, Some, None, refl, sym, ap, ◌∙◌, subst, arith, append-nil, append_assoc, eq-eqb, true≢false}
 use Rattle.std.specs.Prelude.{filter}
 use Rattle.std.specs.List.{AllByRecursion}
-use Rattle.std.specs.Option.{option_map}
 use Rattle.std.specs.Ordering.{is_lt, nat_cmp}
 use Rattle.std.specs.declared.cmp.Ordering.TheVariants.{Less, Equal, Greater}
 use Rattle.std.proofs.lemmas.Bool.Decides.{nat_tests}
@@ -10,8 +9,8 @@ use Rattle.rtps_types.specs.declared.place.Place.{Place}
 use Rattle.rtps_receiver.specs.Events.{EventView}
 use Rattle.rtps_discovery.specs.Addressed.{is_discovery}
 use Rattle.rtps_discovery.specs.Announcement.{Announcement, Comes, Leave, Offers, Withdraws, Asks, AsksNoMore}
-use Rattle.rtps_discovery.specs.Changes.{ChangeAt, changes, known_run}
-use Rattle.rtps_discovery.specs.Known.{Known, Wish, known_after, moved, passed, reader_at}
+use Rattle.rtps_discovery.specs.Changes.{known_run}
+use Rattle.rtps_discovery.specs.Known.{Known, known_after}
 use Rattle.rtps_discovery.specs.Records.{announcements, answered, known_by, noted}
 use Rattle.rtps_proxy.specs.Replies.{ReplyView}
 use Rattle.dds_topic.specs.Decoding.{Decoding}
@@ -21,13 +20,12 @@ use Rattle.rtps_reader.specs.Step.{StepView}
 use Rattle.rtps_run.specs.declared.outcome.Report.{Report}
 use Rattle.rtps_run.specs.Outcome.{report_view}
 use Rattle.rtps_run.specs.Seen.{notices_by, reader_count}
-use Rattle.rtps_run.specs.Standing.{AllKnown, ReadersStand, StandsFor}
+use Rattle.rtps_run.specs.Standing.{ReadersStand, StandsFor}
 use Rattle.rtps_run.specs.Steps.{ReaderStep, step_puts, steps_run, world_stepped}
 use Rattle.rtps_run.specs.Occurrence.{Occurrence, Passes, Came, Joins, Parts as Goes, place_of}
 use Rattle.rtps_run.specs.World.{ReportView, World, count_after, discovery_puts, doings, known_after_event, known_then, puts_at, puts_below, puts_run, sent_by, world_after}
 use Rattle.rtps_run.proofs.Dealt.{notices_by-append}
 use Rattle.rtps_run.proofs.OneOrder.{Rises, filter_none}
-use Rattle.rtps_run.proofs.Reached.{same_by_changes, same_by_event}
 
 -- ---- sums over the ranks below a count
 
@@ -237,14 +235,3 @@ discovered_stands {V} {M} {A} view w o earlier states reports more same stands p
       rw given (stands.readers rank other less);
   put = ap (λ l. l ++ discovery_puts w.known o) stands.put ∙ append_assoc earlier (map (report_view view) reports) (discovery_puts w.known o) ∙ ap (λ l. earlier ++ l) (sym put);
 }
-
--- the readers stay known at an event, and by the same entities
-pub named_after : {M : Type 0} (d : Decoding M) (w : World M) (e : EventView) → AllKnown w → AllKnown (world_after d w (Came e))
-named_after d w e named rank below =
-    let less : rank < reader_count w = omega (arith, below, ap length (readers_stay w.known e)) in
-    ap (λ l. option_map (λ (r : Wish). r.entity) (reader_at l rank)) (readers_stay w.known e) ∙ named rank less ∙ ap Some (sym (same_by_event w.known rank (w.readers rank) e))
-
--- and when a moment passes
-pub named_passes : {M : Type 0} (d : Decoding M) (w : World M) (index moment : ℕ) → AllKnown w → AllKnown (world_after d w (Passes index moment))
-named_passes d w index moment named rank below =
-    named rank below ∙ ap Some (sym (same_by_changes (w.readers rank) (filter (λ (c : ChangeAt). c.rank == rank) (changes (moved moment w.known) (passed moment w.known)))))

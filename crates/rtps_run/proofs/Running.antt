@@ -1,9 +1,8 @@
 -- The run, one occurrence and one input more.
-use Rattle.std.proofs.Common.{◌≡◌, ℕ, zero, suc, ◌+◌, ◌<◌, ◌≤◌, List, [], ◌∷◌, ◌++◌, length, map, take, Option, None, Some, get_or, refl, sym, ap, ◌∙◌, append_assoc, append-nil, arith}
+use Rattle.std.proofs.Common.{◌≡◌, ℕ, zero, suc, ◌+◌, ◌<◌, ◌≤◌, List, [], ◌∷◌, ◌++◌, length, map, take, None, Some, get_or, refl, sym, ap, ◌∙◌, append_assoc, append-nil, arith}
 use Rattle.std.proofs.Math.Seq.{take-append_seam}
 use Rattle.std.specs.Option.{option_map}
 use Rattle.std.proofs.lemmas.List.{length-map, map-append, take_more}
-use Rattle.rtps_types.specs.declared.identity.EntityId.{EntityId}
 use Rattle.rtps_types.specs.declared.identity.GuidPrefix.{GuidPrefix}
 use Rattle.rtps_receiver.specs.Events.{EventView, events_of}
 use Rattle.rtps_discovery.specs.declared.config.Config.{Config}
@@ -11,16 +10,14 @@ use Rattle.rtps_discovery.specs.declared.config.ReaderConfig.{ReaderConfig}
 use Rattle.rtps_discovery.specs.Known.{Wish, reader_at}
 use Rattle.rtps_discovery.specs.Start.{reader_of, wish_of}
 use Rattle.dds_topic.specs.Decoding.{Decoding}
-use Rattle.rtps_reader.specs.declared.status.Status.{Status}
 use Rattle.rtps_run.specs.Input.{Input, Datagram, Tick, AddReader, RemoveReader, added, events_at, events_from, index_after, index_after_all, occurrences_from, occurrences_of}
 use Rattle.rtps_run.specs.Occurrence.{Occurrence, Passes, Came, Parts}
 use Rattle.rtps_run.specs.World.{World, world_after}
 use Rattle.rtps_run.specs.Run.{entity_of, first_world, run, world_run}
 use Rattle.rtps_run.specs.Seen.{reader_count, status_at, status_seen}
-use Rattle.rtps_run.specs.Standing.{AllKnown}
 use Rattle.rtps_run.proofs.Naming.{reader_past}
 use Rattle.rtps_run.proofs.Counting.{vacated_length}
-use Rattle.rtps_run.proofs.Routed.{named_after, readers_stay}
+use Rattle.rtps_run.proofs.Routed.{readers_stay}
 
 pub world_run-append : {M : Type 0} (decoding : Decoding M) (w : World M) (xs ys : List Occurrence) → world_run decoding w (xs ++ ys) ≡ world_run decoding (world_run decoding w xs) ys
 world_run-append decoding w [] ys = refl
@@ -106,27 +103,9 @@ wish_at (r ∷ readers) (suc rank) below =
     let rest = wish_at readers rank (omega (arith, below)) in
     record { wish = rest.wish; found = rest.found; named = rest.named }
 
-first_named : (readers : List ReaderConfig) (rank : ℕ) → rank < length (map reader_of readers) → option_map (λ (r : Wish). r.entity) (reader_at (map reader_of readers) rank) ≡ Some (entity_of readers rank)
-first_named readers rank below =
-    let there = wish_at readers rank (omega (arith, below, length-map readers reader_of)) in
-    ap (option_map (λ (r : Wish). r.entity)) there.found ∙ ap (λ (e : EntityId). Some e) there.named
-
--- and so they are at the start
-pub first_known_named : (M : Type 0) (config : Config) → AllKnown (first_world {M = M} config)
-first_known_named M config rank below = first_named config.readers.items rank below
-
--- and after events
-pub events_named : {M : Type 0} (decoding : Decoding M) (w : World M) (es : List EventView) → AllKnown w → AllKnown (world_run decoding w (map Came es))
-events_named decoding w [] named = named
-events_named decoding w (e ∷ es) named = events_named decoding (world_after decoding w (Came e)) es (named_after decoding w e named)
-
--- so there is a status for each rank that was given, and for no other
-some_known : (o : Option Wish) (entity : EntityId) (s : Status) → option_map (λ (r : Wish). r.entity) o ≡ Some entity → option_map (λ (r : Wish). s) o ≡ Some s
-some_known None entity s h = absurd cc
-some_known (Some r) entity s h = refl
-
-pub seen_known : {M : Type 0} (w : World M) (rank : ℕ) → AllKnown w → rank < reader_count w → status_seen w rank ≡ Some (status_at w rank)
-seen_known w rank named below = some_known (reader_at w.known.readers rank) (w.readers rank).entity (status_at w rank) (named rank below)
+-- so each of them has a status at the start
+pub seen_first : (M : Type 0) (config : Config) (rank : ℕ) → rank < length config.readers.items → status_seen (first_world {M = M} config) rank ≡ Some (status_at (first_world {M = M} config) rank)
+seen_first M config rank below = ap (option_map (λ (r : Wish). status_at (first_world {M = M} config) rank)) (wish_at config.readers.items rank below).found
 
 pub seen_past : {M : Type 0} (w : World M) (rank : ℕ) → reader_count w ≤ rank → status_seen w rank ≡ None
 seen_past w rank past = ap (option_map (λ (r : Wish). status_at w rank)) (reader_past w.known.readers rank past)

@@ -6,6 +6,7 @@ pub mod Run
 pub mod Seen
 pub mod Steps
 pub mod Standing
+pub mod Moving
 pub mod Outcome
 pub mod Turn
 pub mod Presentation

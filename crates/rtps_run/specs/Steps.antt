@@ -4,12 +4,13 @@ use Rattle.std.specs.List.Sorted.{IsSortedByKey, IsStableByKey}
 use Rattle.std.specs.Ordering.{nat_cmp}
 use Rattle.rtps_types.specs.declared.place.Place.{Place}
 use Rattle.rtps_receiver.specs.Events.{EventView}
-use Rattle.rtps_discovery.specs.Addressed.{is_for}
 use Rattle.rtps_discovery.specs.Changes.{ChangeAt}
+use Rattle.rtps_discovery.specs.Known.{Known, reader_at}
 use Rattle.rtps_discovery.specs.declared.changes.MatchChange.{MatchChange}
 use Rattle.dds_topic.specs.Decoding.{Decoding}
 use Rattle.rtps_reader.specs.Reader.{reader_after}
 use Rattle.rtps_reader.specs.Step.{Changes, StepView, asks_of}
+use Rattle.rtps_run.specs.Addressed.{is_named}
 use Rattle.rtps_run.specs.Seen.{reader_count}
 use Rattle.rtps_run.specs.World.{ReportView, World, puts_at}
 
@@ -43,10 +44,10 @@ steps_run decoding place w [] = w
 steps_run decoding place w (s ∷ ss) = steps_run decoding place (world_stepped decoding place w s) ss
 
 -- the steps for a user's event: one for each reader of these ranks that the event names
-abbrev pub event_steps : {M : Type 0} → World M → EventView → List ℕ → List ReaderStep
-event_steps w e ranks =
+abbrev pub event_steps : Known → EventView → List ℕ → List ReaderStep
+event_steps k e ranks =
     map (λ rank. step_by rank (asks_of e))
-    (filter (λ rank. is_for e.reader (w.readers rank).entity) ranks)
+    (filter (λ rank. is_named e.reader (reader_at k.readers rank)) ranks)
 
 -- the step for a change of a match, which is one of its reader
 abbrev pub change_step : ChangeAt → ReaderStep

@@ -16,5 +16,5 @@ pub use errors::{DATAGRAM_LIMIT, EngineError, StartError};
 pub use lists::{empty_lists, push_by};
 pub use outcome::{Answer, Outcome, Report};
 pub use readers::{all_matches, show_all};
-pub use start::{first_readers, first_statuses, fixed_by_rank};
+pub use start::{first_readers, first_statuses, fixed_by_rank, is_reliable};
 pub use turn::{ReportKind, Turn};

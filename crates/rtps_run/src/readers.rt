@@ -1,10 +1,10 @@
 //! The matches and statuses that an engine shows of its readers.
 
-ghost use Rattle.std.specs.Prelude.{◌≡◌, ℕ, ◌<◌, IfOk, length, slice_index_or};
+ghost use Rattle.std.specs.Prelude.{◌≡◌, ℕ, ◌<◌, IfOk, Option, length, slice_index_or};
 ghost use Rattle.rtps_reader.specs.declared.status.Status as status;
 ghost use Rattle.rtps_reader.specs.Standing.{ReaderView};
 ghost use Rattle.rtps_run.specs.Seen.{matches_below};
-ghost use Rattle.rtps_run.specs.Standing.{AllStand};
+ghost use Rattle.rtps_run.specs.Standing.{AllStand, status_shown};
 ghost use Rattle.rtps_run.specs.World.{World};
 
 use dds_topic::Catalog;
@@ -29,13 +29,17 @@ pub fn all_matches<C: Catalog, A: Allocator + Copy>(
     Ok(matches)
 }
 
-/// Replaces `statuses` by the status of each reader, by rank.
-pub fn show_all<A: Allocator + Copy>(readers: &[ReaderState<A>], statuses: &mut [Status])
+/// Replaces each status by that of the reader of its rank. Where there is none, since the reader
+/// went, there is none afterwards.
+pub fn show_all<A: Allocator + Copy>(readers: &[ReaderState<A>], statuses: &mut [Option<Status>])
     requires { length statuses.old ≡ length readers.now }
-    ensures { (rank : ℕ) (s : status.Status) (r : ReaderView) → rank < length readers.now
-        → slice_index_or statuses.new rank s ≡ (slice_index_or readers.now rank r).status }
+    ensures { (rank : ℕ) (s : Option status.Status) (r : ReaderView) → rank < length readers.now
+        → slice_index_or statuses.new rank s
+        ≡ status_shown (slice_index_or statuses.old rank s) (slice_index_or readers.now rank r) }
 {
     for at in 0..readers.len() {
-        statuses[at] = readers[at].status();
+        if statuses[at].is_some() {
+            statuses[at] = Some(readers[at].status());
+        }
     }
 }

@@ -1,6 +1,6 @@
 //! The readers of a configuration at the start of a run.
 
-ghost use Rattle.std.specs.Prelude.{◌≡◌, List, ℕ, ◌<◌, ◌≤◌, IfOk, length, map, slice_index_or};
+ghost use Rattle.std.specs.Prelude.{◌≡◌, List, ℕ, ◌<◌, ◌≤◌, IfOk, Some, length, map, slice_index_or};
 ghost use Rattle.rtps_reader.specs.Reader.{Facts};
 ghost use Rattle.rtps_reader.specs.Standing.{facts_in};
 ghost use Rattle.rtps_run.specs.Run.{fixed_of, reader_first};
@@ -38,7 +38,7 @@ pub fn fixed_by_rank<A: Allocator + Copy>(
 }
 
 /// Whether a reader is reliable, so that it asks for missing changes.
-fn is_reliable(reader: &ReaderConfig) -> bool
+pub fn is_reliable(reader: &ReaderConfig) -> bool
     ensures { result ≡ is_reliable reader.now.requested.policies.reliability }
 {
     matches!(reader.requested.policies.reliability, Reliability::Reliable)
@@ -71,16 +71,16 @@ pub fn first_readers<A: Allocator + Copy>(
     Ok(states)
 }
 
-/// Returns the statuses of these readers. An error is a refused growth.
+/// Returns the statuses of these readers, which are all there. An error is a refused growth.
 pub fn first_statuses<A: Allocator + Copy>(
     alloc: A,
     readers: &[ReaderState<A>],
-) -> Result<Vec<Status, A>, AllocError>
-    ensures { IfOk result (λ statuses. statuses.items ≡ map (λ r. r.status) readers.now) }
+) -> Result<Vec<Option<Status>, A>, AllocError>
+    ensures { IfOk result (λ statuses. statuses.items ≡ map (λ r. Some r.status) readers.now) }
 {
     let mut statuses = Vec::new(alloc);
     for reader in readers {
-        statuses.push(reader.status())?;
+        statuses.push(Some(reader.status()))?;
     }
     Ok(statuses)
 }

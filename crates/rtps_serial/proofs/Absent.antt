@@ -1,5 +1,5 @@
 -- A reader that went hears nothing more.
-use Rattle.std.proofs.Common.{◌≡◌, ℕ, zero, suc, ◌<◌, ◌==◌, Bool, true, false, if◌then◌else◌, List, [], ◌∷◌, ◌++◌, length, map, Option, Some, None, Contains, refl, sym, ap, ◌∙◌, subst, arith, append-nil}
+use Rattle.std.proofs.Common.{◌≡◌, ℕ, ◌<◌, ◌==◌, Bool, true, false, if◌then◌else◌, List, [], ◌∷◌, ◌++◌, length, map, Option, Some, None, Contains, refl, sym, ap, ◌∙◌, subst, arith, append-nil}
 use Rattle.std.specs.List.{AllByRecursion}
 use Rattle.std.proofs.lemmas.Bool.Decides.{nat_tests}
 use Rattle.rtps_types.specs.MatchChange.{MatchChange, Matches, Unmatches, Refuses}
@@ -19,11 +19,12 @@ use Rattle.rtps_reader.specs.Step.{StepView, Changes, Starts, Stops}
 use Rattle.rtps_run.specs.Occurrence.{Occurrence, Passes, Came, Joins, Parts as Goes, head_of, place_of}
 use Rattle.rtps_run.specs.Seen.{notices_by, reader_count}
 use Rattle.rtps_run.specs.World.{World, addressed_to, changes_for, count_after, doings, is_reliable, known_then, stops, world_after}
+use Rattle.rtps_run.proofs.ByRank.{front_there, other_vacated, vacated_none}
 use Rattle.rtps_run.proofs.Counting.{no_fewer, within}
 use Rattle.rtps_run.proofs.Matched.{told_more, told_run}
 use Rattle.rtps_run.proofs.OneOrder.{filter_none}
 use Rattle.rtps_run.proofs.Routed.{readers_after, readers_stay}
-use Rattle.rtps_serial.proofs.Agreeing.{fixed_kept, fixed_stay, noted_alike, other_fixed, own_fixed, vacated_none}
+use Rattle.rtps_serial.proofs.Agreeing.{fixed_kept, fixed_stay, noted_alike, other_fixed, own_fixed}
 use Rattle.rtps_serial.proofs.Told.{both_for, told_both}
 
 -- ---- changes of a rank that has no reader
@@ -72,27 +73,6 @@ none_run k (a ∷ more) rank none free =
 pub told_stop : {M : Type 0} (decoding : Decoding M) (place : Place) (r : Reader) (b : Bool) → told_run decoding place r (if b then Stops ∷ [] else []) ≡ []
 told_stop decoding place r true = refl
 told_stop decoding place r false = refl
-
--- ---- readers by rank
-
-pub front_there : (rs : List (Option Wish)) (r : Option Wish) (rank : ℕ) → rank < length rs → reader_at (rs ++ r ∷ []) rank ≡ reader_at rs rank
-front_there [] r rank below = absurd (omega (arith, below))
-front_there (x ∷ rs) r zero below = refl
-front_there (x ∷ rs) r (suc rank) below = front_there rs r rank (omega (arith, below))
-
-pub last_there : (rs : List (Option Wish)) (r : Option Wish) → reader_at (rs ++ r ∷ []) (length rs) ≡ r
-last_there [] r = refl
-last_there (x ∷ rs) r = last_there rs r
-
-pub other_vacated : (gone rank : ℕ) (rs : List (Option Wish)) → (rank == gone) ≡ false → reader_at (vacated gone rs) rank ≡ reader_at rs rank
-other_vacated gone rank [] other = refl
-other_vacated zero zero (r ∷ rs) other = absurd cc
-other_vacated zero (suc rank) (r ∷ rs) other = refl
-other_vacated (suc gone) zero (r ∷ rs) other = refl
-other_vacated (suc gone) (suc rank) (r ∷ rs) other = other_vacated gone rank rs (less gone rank other)
-  where
-    less : (m n : ℕ) → (suc n == suc m) ≡ false → (n == m) ≡ false
-    less m n h = grind (arith, nat_tests)
 
 -- ---- a reader that went
 

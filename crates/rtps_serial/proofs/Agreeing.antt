@@ -1,6 +1,6 @@
 -- In a run each reader is matched with just the writers that it matches by what is known, also where
 -- leases end and readers come and go.
-use Rattle.std.proofs.Common.{◌≡◌, ℕ, zero, suc, ◌+◌, ◌<◌, ◌==◌, Bool, true, false, not, ◌&&◌, ◌||◌, if◌then◌else◌, List, [], ◌∷◌, ◌++◌, length, map, filter, Option, Some, None, is_some, Contains, ◌⊎◌, inl, inr, refl, sym, ap, ◌∙◌, subst, true≢false, arith}
+use Rattle.std.proofs.Common.{◌≡◌, ℕ, ◌+◌, ◌<◌, ◌==◌, Bool, true, false, not, ◌&&◌, ◌||◌, if◌then◌else◌, List, [], ◌∷◌, ◌++◌, length, map, filter, Option, Some, None, is_some, Contains, ◌⊎◌, inl, inr, refl, sym, ap, ◌∙◌, subst, true≢false, arith}
 use Rattle.std.specs.List.{list_any}
 use Rattle.std.specs.Option.{option_map}
 use Rattle.std.proofs.Math.Bool.{or-false}
@@ -35,6 +35,7 @@ use Rattle.rtps_run.specs.Occurrence.{Occurrence, Passes, Came, Joins, Parts as 
 use Rattle.rtps_run.specs.Run.{entity_of, first_world, fixed_of, is_reliable_at, run, world_run}
 use Rattle.rtps_run.specs.Seen.{Agrees}
 use Rattle.rtps_run.specs.World.{World, addressed_to, asked_by, changes_for, doings, is_reliable, known_after_event, known_then, stops, world_after}
+use Rattle.rtps_run.proofs.ByRank.{vacated_none}
 use Rattle.rtps_run.proofs.Counting.{vacated_length}
 use Rattle.rtps_run.proofs.Matched.{ended_match, extend, extended_match}
 use Rattle.rtps_run.proofs.Routed.{readers_stay}
@@ -293,11 +294,6 @@ own_fixed (p ∷ ps) gone g = by_gone (p.0 == gone) refl (own_fixed ps gone g)
 past_none : (rs : List (Option Wish)) → reader_at rs (length rs) ≡ None
 past_none [] = refl
 past_none (r ∷ rs) = past_none rs
-
-pub vacated_none : (rs : List (Option Wish)) (gone : ℕ) → reader_at (vacated gone rs) gone ≡ None
-vacated_none [] gone = refl
-vacated_none (r ∷ rs) zero = refl
-vacated_none (r ∷ rs) (suc gone) = vacated_none rs gone
 
 apart_matched : (fixed : Bool) (o : Option Wish) (w : Option Offer) → fixed ≡ false → o ≡ None → (fixed || is_joined (standing o w)) ≡ false
 apart_matched fixed o w e f = rw (e, f) refl

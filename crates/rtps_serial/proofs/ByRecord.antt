@@ -27,8 +27,9 @@ use Rattle.rtps_run.proofs.Dealt.{answers_in-append, notices_by-append}
 use Rattle.rtps_run.proofs.Hearing.{announced_doings, announced_known, announced_puts}
 use Rattle.rtps_run.proofs.Matched.{heard_at, other_at, told_more, told_run}
 use Rattle.rtps_run.proofs.Routed.{asks_for, known_of_steps, reader_of_steps, readers_after, readers_if, readers_stay}
-use Rattle.rtps_serial.proofs.Passing.{change_asks}
-use Rattle.rtps_serial.proofs.Told.{both_for, heard_past, run_both, told_both}
+use Rattle.rtps_run.proofs.Moving.{change_asks}
+use Rattle.rtps_run.proofs.Unheard.{heard_past}
+use Rattle.rtps_serial.proofs.Told.{both_for, run_both, told_both}
 
 -- ---- the notices of one reader, whatever the order of the ranks
 

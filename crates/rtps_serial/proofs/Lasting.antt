@@ -34,12 +34,13 @@ use Rattle.rtps_proxy.specs.History.{match_event_of}
 use Rattle.rtps_run.specs.Run.{first_world, run, world_run}
 use Rattle.rtps_run.specs.Seen.{notices_by, reader_count}
 use Rattle.rtps_run.specs.World.{World, addressed_to, changes_for, count_after, doings, is_reliable, stops, world_after}
+use Rattle.rtps_run.proofs.ByRank.{vacated_none}
 use Rattle.rtps_run.proofs.Counting.{no_fewer, within}
 use Rattle.rtps_run.proofs.Matched.{told_more, told_run}
 use Rattle.rtps_run.proofs.Places.{all_append}
 use Rattle.rtps_run.proofs.Routed.{readers_stay}
 use Rattle.rtps_serial.proofs.Absent.{IsAbsent, absent_silent, still_absent, told_stop}
-use Rattle.rtps_serial.proofs.Agreeing.{first_fixed, fixed_kept, fixed_stay, is_paired, noted_alike, other_fixed, own_fixed, touches, vacated_none}
+use Rattle.rtps_serial.proofs.Agreeing.{first_fixed, fixed_kept, fixed_stay, is_paired, noted_alike, other_fixed, own_fixed, touches}
 use Rattle.rtps_serial.proofs.Stretching.{is_cut, told_uncut, uncut}
 use Rattle.rtps_serial.proofs.Told.{told_both}
 

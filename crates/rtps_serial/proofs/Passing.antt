@@ -1,6 +1,6 @@
 -- A moment passes: each change of a match is a step of its reader, by rising rank.
 use Rattle.std.proofs.Common.{◌≡◌, ℕ, suc, ◌≤◌, ◌==◌, nat_lt, List, [], ◌∷◌, map, get_or, Bool, true, false, if◌then◌else◌, AllPairs, IsTrue, refl, sym, ap, ◌∙◌, subst, arith, true≢false}
-use Rattle.std.specs.Prelude.{filter, max}
+use Rattle.std.specs.Prelude.{max}
 use Rattle.std.specs.List.Sorted.{IsStrictlySortedBy}
 use Rattle.std.specs.Map.{keys_of}
 use Rattle.std.specs.Ordering.{is_lt, nat_cmp}
@@ -20,12 +20,12 @@ use Rattle.dds_topic.specs.Decoding.{Decoding}
 use Rattle.rtps_reader.specs.Standing.{ReaderView}
 use Rattle.rtps_run.specs.declared.outcome.Report.{Report}
 use Rattle.rtps_run.specs.Occurrence.{Passes, head_of}
-use Rattle.rtps_run.specs.Standing.{AllKnown, ReadersStand, WorldStands}
-use Rattle.rtps_run.specs.Steps.{ReaderStep, change_step, steps_run}
+use Rattle.rtps_run.specs.Standing.{ReadersStand, WorldStands}
+use Rattle.rtps_run.specs.Steps.{change_step, steps_run}
 use Rattle.rtps_run.specs.World.{ReportView, World, changes_for, world_after}
-use Rattle.rtps_run.proofs.Hearing.{map_map}
-use Rattle.rtps_run.proofs.OneOrder.{Rises, filter-map, rises_map}
-use Rattle.rtps_run.proofs.Routed.{asks_for, comes_before, discovered, discovered_stands, named_passes, not_before, occurrence_stands}
+use Rattle.rtps_run.proofs.Moving.{change_asks}
+use Rattle.rtps_run.proofs.OneOrder.{Rises, rises_map}
+use Rattle.rtps_run.proofs.Routed.{comes_before, discovered, discovered_stands, not_before, occurrence_stands}
 
 -- a moment that is there already changes nothing
 pub still_moved : (k : Known) (moment : ℕ) → moment ≡ k.moment → moved moment k ≡ k
@@ -63,11 +63,6 @@ changes_rise ended before after up same =
     rises_map lower comes_before change_step (λ a b. refl) (map change_seen ended)
     (subst (Rises lower) (sym same) (pairs_rise (changes before after) (in_order before after up)))
 
-pub change_asks : (rank : ℕ) (cs : List ChangeAt) → asks_for rank (map change_step cs) ≡ changes_for rank cs
-change_asks rank cs =
-    ap (map (λ (s : ReaderStep). s.what)) (filter-map (λ (s : ReaderStep). s.rank == rank) change_step cs)
-    ∙ map_map change_step (λ (s : ReaderStep). s.what) (filter (λ (c : ChangeAt). c.rank == rank) cs)
-
 -- ---- the whole moment
 
 -- before the readers' part
@@ -76,12 +71,11 @@ pub before_stands : {V M A : Type 0} (view : V → M) (w : World M) (index momen
 before_stands view w index moment earlier states stands = discovered_stands view w (Passes index moment) earlier states [] [] refl stands refl
 
 pub passes_stand : {V M A B : Type 0} (view : V → M) (d : Decoding M) (w : World M) (index moment : ℕ) (earlier : List (ReportView M)) (kept : RegistryView) (ended : List (MatchChange B)) (states : List ReaderView) (reports : List (Report V A))
-    → AllKnown w → IsKnown (passed moment w.known) kept → map change_seen ended ≡ changes (moved moment w.known) (passed moment w.known)
+    → IsKnown (passed moment w.known) kept → map change_seen ended ≡ changes (moved moment w.known) (passed moment w.known)
     → ReadersStand view (steps_run d (head_of index) (discovered w (Passes index moment)) (map change_step (map change_seen ended))) earlier states reports
     → WorldStands view (world_after d w (Passes index moment)) earlier kept states reports
-passes_stand view d w index moment earlier kept ended states reports named known same stands = record {
+passes_stand view d w index moment earlier kept ended states reports known same stands = record {
   known = known;
-  named = named_passes d w index moment named;
   readers = occurrence_stands view d w (Passes index moment) (map change_step (map change_seen ended)) earlier states reports (changes_rise ended (moved moment w.known) (passed moment w.known) known.ordered same)
       (λ rank below. change_asks rank (map change_seen ended) ∙ ap (changes_for rank) same) stands;
 }

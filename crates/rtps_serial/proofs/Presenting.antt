@@ -33,17 +33,19 @@ use Rattle.rtps_run.specs.Presentation.{IsPresented, Since, TheStart, Never, Str
 use Rattle.rtps_run.specs.Run.{entity_of, first_world, fixed_of, is_reliable_at, run, world_run}
 use Rattle.rtps_run.specs.Seen.{Agrees, notices_by, reader_count}
 use Rattle.rtps_run.specs.World.{World, addressed_to, asked_by, changes_for, count_after, doings, is_reliable, stops, world_after}
+use Rattle.rtps_run.proofs.ByRank.{front_there, last_there, other_vacated, vacated_none}
 use Rattle.rtps_run.proofs.Counting.{vacated_length}
 use Rattle.rtps_run.proofs.Matched.{told_more, told_run}
 use Rattle.rtps_run.proofs.Places.{PlacesFall, PlacesRise, all_weaker, events_since, places_fall, places_rise}
 use Rattle.rtps_run.proofs.Routed.{readers_stay}
 use Rattle.rtps_run.proofs.Running.{wish_at}
-use Rattle.rtps_serial.proofs.Absent.{IsAbsent, absent_silent, front_there, last_there, other_vacated, still_absent, told_stop}
-use Rattle.rtps_serial.proofs.Agreeing.{agrees_after, agrees_first, first_has, has, is_paired, own_fixed, vacated_none}
+use Rattle.rtps_run.proofs.Unheard.{heard_past}
+use Rattle.rtps_serial.proofs.Absent.{IsAbsent, absent_silent, still_absent, told_stop}
+use Rattle.rtps_serial.proofs.Agreeing.{agrees_after, agrees_first, first_has, has, is_paired, own_fixed}
 use Rattle.rtps_serial.proofs.Progress.{IsPast, Progresses, came, came_append, came_from, run_progresses, since_head}
 use Rattle.rtps_serial.proofs.Stretching.{Follows, IsNow, IsSettled, all_settled, follows_changes, follows_missed, follows_other, follows_taken, nothing_first}
 use Rattle.rtps_serial.proofs.Taken.{HasNumber, all_have_numbers}
-use Rattle.rtps_serial.proofs.Told.{heard_past, told_both}
+use Rattle.rtps_serial.proofs.Told.{told_both}
 
 -- ---- one event
 

@@ -1,5 +1,5 @@
--- Steps one after the other, and what is put out of ranks that were not given.
-use Rattle.std.proofs.Common.{◌≡◌, ℕ, ◌≤◌, ◌==◌, List, [], ◌∷◌, ◌++◌, map, refl, ap, ◌∙◌, append-nil, append_assoc}
+-- Steps one after the other.
+use Rattle.std.proofs.Common.{◌≡◌, ℕ, ◌==◌, List, [], ◌∷◌, ◌++◌, map, refl, ap, ◌∙◌, append_assoc}
 use Rattle.std.specs.Prelude.{filter}
 use Rattle.std.proofs.lemmas.List.{map-append}
 use Rattle.std.proofs.lemmas.List.Elements.{filter-append}
@@ -8,11 +8,8 @@ use Rattle.rtps_discovery.specs.Changes.{ChangeAt}
 use Rattle.dds_topic.specs.Decoding.{Decoding}
 use Rattle.rtps_reader.specs.Reader.{Reader, reader_after, reader_run, tells}
 use Rattle.rtps_reader.specs.Step.{Changes, StepView}
-use Rattle.rtps_run.specs.Occurrence.{Occurrence}
-use Rattle.rtps_run.specs.Seen.{notices_by}
-use Rattle.rtps_run.specs.World.{World, changes_for, count_after, discovery_puts, puts_below, world_after}
-use Rattle.rtps_run.proofs.Dealt.{notices_by-append}
-use Rattle.rtps_run.proofs.Matched.{heard_then, none_below, told_run}
+use Rattle.rtps_run.specs.World.{changes_for}
+use Rattle.rtps_run.proofs.Matched.{told_run}
 
 pub run_both : (r : Reader) (xs ys : List StepView) → reader_run (reader_run r xs) ys ≡ reader_run r (xs ++ ys)
 run_both r [] ys = refl
@@ -28,11 +25,3 @@ pub both_for : (rank : ℕ) (xs ys : List ChangeAt) → changes_for rank (xs ++ 
 both_for rank xs ys =
     ap (map (λ (c : ChangeAt). Changes c.what)) (filter-append (λ (c : ChangeAt). c.rank == rank) xs ys)
     ∙ map-append (λ (c : ChangeAt). Changes c.what) (filter (λ (c : ChangeAt). c.rank == rank) xs) (filter (λ (c : ChangeAt). c.rank == rank) ys)
-
--- an occurrence puts out no notice of a rank that was not given by then
-pub heard_past : {M : Type 0} (d : Decoding M) (w : World M) (rank : ℕ) (o : Occurrence) → count_after w o ≤ rank → notices_by rank (world_after d w o).put ≡ notices_by rank w.put
-heard_past d w rank o past =
-    let n = count_after w o in
-    notices_by-append rank w.put (discovery_puts w.known o ++ puts_below d w.known o w.readers n)
-    ∙ ap (λ l. notices_by rank w.put ++ l) (heard_then d w rank o n ∙ none_below d w.known o w.readers rank n past)
-    ∙ append-nil (notices_by rank w.put)

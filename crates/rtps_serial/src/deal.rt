@@ -9,7 +9,7 @@ use rtps_run::{Answer, Outcome, Report, empty_lists, push_by};
 use std::alloc::{AllocError, Allocator};
 
 /// Makes an outcome of reports: the notices of each reader in its own list, and the answers.
-pub(crate) fn dealt<C: Catalog, A: Allocator + Copy>(
+pub fn dealt<C: Catalog, A: Allocator + Copy>(
     alloc: A,
     count: usize,
     reports: Vec<Report<C::Value, A>, A>,

@@ -8,11 +8,15 @@
 mod deal;
 mod engine;
 pub mod laws;
+mod moving;
 mod readers;
 mod steps;
 #[cfg(test)]
 mod tests;
 
+pub use deal::dealt;
 pub use engine::SerialEngine;
+pub use moving::{has_begun, join, part};
+pub use readers::Readers;
 pub use rtps_run::{Answer, EngineError, Outcome, Report, ReportKind, StartError, Turn};
 pub use rtps_types::Datagram;

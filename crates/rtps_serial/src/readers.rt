@@ -1,9 +1,11 @@
 //! The readers of a participant, by rank.
 
 ghost use Rattle.std.specs.Prelude.{◌≡◌, ◌++◌, [], ◌∷◌, List, OnOk, Some, length, map};
+ghost use Rattle.dds_topic.specs.Decoding.{Decoding};
 ghost use Rattle.rtps_proxy.specs.Replies.{reply_view};
 ghost use Rattle.rtps_reader.specs.Notice.{answer_view, notice_view};
-ghost use Rattle.rtps_reader.specs.Step.{asked};
+ghost use Rattle.rtps_reader.specs.Step.{Stops, asked};
+ghost use Rattle.rtps_run.specs.declared.outcome.Report as report;
 ghost use Rattle.rtps_run.specs.Outcome.{report_view};
 ghost use Rattle.rtps_run.specs.Standing.{ReadersStand};
 ghost use Rattle.rtps_run.specs.Steps.{step_by, world_stepped};
@@ -17,7 +19,7 @@ use std::alloc::{AllocError, Allocator};
 
 /// The readers of a participant, and the data that their steps need.
 #[derive(Drop)]
-pub(crate) struct Readers<C: Catalog, A: Allocator> {
+pub struct Readers<C: Catalog, A: Allocator> {
     pub decoder: Decoder<C>,
     /// The states of the readers, by rank.
     pub states: Vec<ReaderState<A>, A>,
@@ -44,7 +46,7 @@ impl<C: Catalog, A: Allocator + Copy> Readers<C, A> {
 
     /// Runs one step of the reader of a rank, and appends its output to the reports: its notices,
     /// and then its answers. A rank without a reader changes nothing.
-    pub fn step(
+    pub(crate) fn step(
         &mut self,
         alloc: A,
         rank: u32,
@@ -67,6 +69,32 @@ impl<C: Catalog, A: Allocator + Copy> Readers<C, A> {
         self.output.answers.clear();
         self.states[at].step(alloc, &mut self.decoder, step, &mut self.output)?;
         report_all::<C, A>(rank, &mut self.output, reports)
+    }
+
+    /// Adds the state of a reader that comes, whose rank is the next one.
+    pub(crate) fn start(&mut self, state: ReaderState<A>) -> Result<(), AllocError>
+        ensures same { self.new.decoder ≡ self.old.decoder }
+        ensures states { OnOk result
+            (self.new.states.items ≡ self.old.states.items ++ state ∷ []) }
+    {
+        self.states.push(state)?;
+        Ok(())
+    }
+
+    /// Stops the reader of a rank. A rank without a reader changes nothing.
+    pub(crate) fn stop(&mut self, rank: u32)
+        ensures same { self.new.decoder ≡ self.old.decoder }
+        ensures count { length self.new.states.items ≡ length self.old.states.items }
+        ensures stands { (decoding : Decoding C.Meaning) (place : _) (w : World C.Meaning)
+            (earlier : List (ReportView C.Meaning)) (reports : List (report.Report C.Value A))
+            → ReadersStand C.view w earlier self.old.states.items reports
+            → ReadersStand C.view (world_stepped decoding place w (step_by rank Stops)) earlier
+            self.new.states.items reports }
+    {
+        let at = rank as usize;
+        if at < self.states.len() {
+            self.states[at].stop();
+        }
     }
 }
 

@@ -39,7 +39,7 @@ fn take_by_ranks<C: Catalog, A: Allocator + Copy>(
     ensures stands { (w : World C.Meaning) (earlier : List (ReportView C.Meaning))
         → WorldStands C.view w earlier discovery.now.kept readers.old.states.items reports.old.items
         → OnOk result (ReadersStand C.view (steps_run (C.decoding readers.old.decoder)
-        event.now.place w (event_steps w (view event.now) (matched_ranks w.known
+        event.now.place w (event_steps w.known (view event.now) (matched_ranks w.known
         (writer_of (view event.now))))) earlier readers.new.states.items reports.new.items) }
 {
     let writer = Guid {

@@ -3,12 +3,14 @@
 ghost use Rattle.std.specs.Prelude.{◌≡◌, ◌≤◌, IfOk, length};
 
 mod announced;
+mod coming;
 mod edges;
 mod known;
 mod matching;
 mod memory;
 mod moments;
 mod order;
+mod refused;
 mod runs;
 
 use crate::*;
@@ -16,7 +18,7 @@ use dds_qos::Reliability;
 use dds_topic::{Shape, Shapes};
 use rtps_discovery::{Config, ReaderConfig};
 use rtps_reader::{Body, Notice, NoticeKind};
-use rtps_types::{EntityId, Guid, GuidPrefix, Locators};
+use rtps_types::{EntityId, Guid, GuidPrefix, Locators, PolicyId};
 use std::alloc::{AllocError, Allocator, Global};
 use std::test::Fail;
 
@@ -56,6 +58,8 @@ enum Said {
     Matched(u8),
     /// A match with the writer whose entity has this third octet ends.
     Unmatched(u8),
+    /// The writer whose entity has this third octet offers less reliability than is requested.
+    Refused(u8),
     /// An answer is sent.
     Answer,
     Other,
@@ -172,6 +176,9 @@ fn said_by(notice: &Notice<Shape>) -> Said {
     match &notice.what {
         NoticeKind::Matched => Said::Matched(key),
         NoticeKind::Unmatched => Said::Unmatched(key),
+        NoticeKind::Incompatible {
+            policy: PolicyId::Reliability,
+        } => Said::Refused(key),
         NoticeKind::Lost { count } => Said::Lost(*count),
         NoticeKind::Sample {
             number,

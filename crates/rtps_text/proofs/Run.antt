@@ -14,7 +14,7 @@ use Rattle.rtps_records.specs.Text.{Ends, IsFront}
 use Rattle.rtps_records.specs.declared.fault.RunFault.{RunFault}
 use Rattle.rtps_records.specs.declared.fault.RunFault.TheVariants.{NoMemory}
 use Rattle.rtps_reader.specs.declared.status.Status.{Status}
-use Rattle.rtps_run.specs.Seen.{status_at}
+use Rattle.rtps_run.specs.Seen.{status_seen}
 use Rattle.rtps_types.specs.declared.identity.GuidPrefix.{GuidPrefix}
 use Rattle.rtps_run.specs.Occurrence.{Occurrence}
 use Rattle.rtps_run.specs.World.{ReportView, World, count_after, discovery_puts, puts_below, world_after}
@@ -123,7 +123,7 @@ on_ok_all (Ok x) f h = h f
 on_ok_all (Err e) f h = tt
 
 -- the status lines, with that of one more rank
-pub statuses_more : {M : Type 0} (w : World M) (n : ℕ) (status : Option Status) → status ≡ Some (status_at w n) → status_lines w n ++ status_text n status ≡ status_lines w (n + 1)
+pub statuses_more : {M : Type 0} (w : World M) (n : ℕ) (status : Option Status) → status ≡ status_seen w n → status_lines w n ++ status_text n status ≡ status_lines w (n + 1)
 statuses_more w n status seen =
     let next : n + 1 ≡ suc n = omega arith in
     ap (λ s. status_lines w n ++ status_text n s) seen ∙ sym (ap (status_lines w) next)

@@ -7,7 +7,7 @@ use Rattle.rtps_discovery.specs.declared.config.Config.{Config}
 use Rattle.rtps_reader.specs.declared.status.Status.{Status}
 use Rattle.rtps_run.specs.World.{ReportView, NoticeOf, AnswerOf, World}
 use Rattle.rtps_text.specs.Inputs.{run}
-use Rattle.rtps_run.specs.Seen.{matches_seen, reader_count, status_at}
+use Rattle.rtps_run.specs.Seen.{matches_seen, reader_count, status_seen}
 use Rattle.rtps_run.specs.Standing.{EngineView}
 use Rattle.rtps_text.specs.Inputs.{StandsAt, run_by}
 use Rattle.rtps_lines.specs.Answer.{answer_line}
@@ -36,7 +36,7 @@ status_text rank (Some status) = status_line rank status
 -- the lines of the statuses of the readers with a rank below a count, by rank
 abbrev pub status_lines : {M : Type 0} → World M → ℕ → List ℕ
 status_lines w zero = []
-status_lines w (suc rank) = status_lines w rank ++ status_line rank (status_at w rank)
+status_lines w (suc rank) = status_lines w rank ++ status_text rank (status_seen w rank)
 
 -- the lines of the matches, and then those of the statuses of all readers
 abbrev pub summary_text : {M : Type 0} → World M → List ℕ

@@ -1,8 +1,10 @@
 //! Batches that run out of memory.
 
+use super::moments::ANNOUNCES;
 use super::outlets::{THIRD, heard};
 use super::publishing::{looks, shown};
-use super::{DATA, HEARTBEAT, LATER, Said, at_once, config};
+use super::routed::COMES;
+use super::{DATA, HEARTBEAT, LATER, Said, at_once, config, reader_config};
 use crate::*;
 use dds_outlet::{Inlet, outlet};
 use dds_topic::{FailingCatalog, Shape, Shapes};
@@ -122,5 +124,89 @@ fn a_batch_out_of_memory_adds_nothing_to_a_backlog(rt: HostRuntime) -> Result<()
         assert_eq!(rt; refusal(&rt, alloc, &mut participant, &batch)?, Some(fault));
     }
     assert!(rt; stands_after_the_first(&rt, alloc, &mut participant, &mut inlet)?);
+    Ok(())
+}
+
+/// Whether readers are refused for this error alone, also one that is bad and one that isn't there,
+/// and the statuses stay as they are.
+fn refuses_readers(
+    alloc: Global,
+    participant: &mut Participant<FailingCatalog<Shapes>>,
+) -> Result<bool, Fail> {
+    let before = [participant.status(0), participant.status(1)];
+    let ranks = participant.readers();
+    let batches = participant.batches();
+    let mut refused = true;
+    for rank in [0, 1, 2] {
+        let added = participant
+            .add_reader(alloc, reader_config(alloc, rank)?)
+            .err();
+        let removed = participant.remove_reader(alloc, u32::from(rank)).err();
+        refused = refused
+            && added == Some(EngineError::Failed)
+            && removed == Some(EngineError::Failed);
+    }
+    Ok(
+        refused
+            && [participant.status(0), participant.status(1)] == before
+            && participant.readers() == ranks
+            && participant.batches() == batches,
+    )
+}
+
+#[test]
+fn a_failed_participant_takes_no_readers(rt: HostRuntime) -> Result<(), Fail> {
+    let alloc = rt.alloc();
+    let mut participant = starving(alloc, 0)?;
+    let fault = refusal(&rt, alloc, &mut participant, &[DATA])?;
+    assert_eq!(rt; fault, Some(EngineError::NoMemory));
+    assert!(rt; refuses_readers(alloc, &mut participant)?);
+    Ok(())
+}
+
+/// The number of ranks, the number of batches, and the statuses of the first three ranks.
+fn shown_by(participant: &Participant<FailingCatalog<Shapes>>) -> (u32, u64, [Option<Status>; 3]) {
+    let statuses = [
+        participant.status(0),
+        participant.status(1),
+        participant.status(2),
+    ];
+    (participant.readers(), participant.batches(), statuses)
+}
+
+/// Whether a reader comes and goes, or the first call that finds no memory fails a participant, which
+/// shows what it showed before.
+fn comes_and_goes_or_fails(
+    alloc: Global,
+    participant: &mut Participant<FailingCatalog<Shapes>>,
+) -> Result<bool, Fail> {
+    let before = shown_by(participant);
+    let added = participant.add_reader(alloc, reader_config(alloc, 2)?);
+    match added.map(|(rank, outcome)| (rank, outcome.notices.len())) {
+        Ok((2, 3)) => {}
+        Err(EngineError::NoMemory) => {
+            return Ok(shown_by(participant) == before && refuses_readers(alloc, participant)?);
+        }
+        _ => return Ok(false),
+    }
+    let before = shown_by(participant);
+    let removed = participant.remove_reader(alloc, 2);
+    match removed.map(|outcome| outcome.notices.len()) {
+        Ok(3) => Ok(participant.status(2).is_none()),
+        Err(EngineError::NoMemory) => {
+            Ok(shown_by(participant) == before && refuses_readers(alloc, participant)?)
+        }
+        _ => Ok(false),
+    }
+}
+
+/// `rt try --test --fail-alloc N` refuses one growth, at one of both calls or elsewhere.
+#[test]
+fn a_reader_has_an_outcome_or_fails_a_participant(rt: HostRuntime) -> Result<(), Fail> {
+    let alloc = rt.alloc();
+    let mut participant = starving(alloc, 1000)?;
+    let fault = refusal(&rt, alloc, &mut participant, &[COMES, ANNOUNCES])?;
+    assert_eq!(rt; fault, None);
+    assert!(rt; comes_and_goes_or_fails(alloc, &mut participant)?);
     Ok(())
 }

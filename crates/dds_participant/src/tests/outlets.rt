@@ -3,7 +3,12 @@
 ghost use Rattle.std.specs.Prelude.{◌≤◌};
 
 use super::lent::lend;
-use super::{ALL, DATA, HEARTBEAT, LATER, Line, Said, config, said_by, take};
+use super::moments::ANNOUNCES;
+use super::routed::COMES;
+use super::{
+    ALL, DATA, HEARTBEAT, LATER, Line, Said, config, push_lines, reader_config, said_by, take,
+    unmatched,
+};
 use crate::*;
 use dds_outlet::{Inlet, outlet};
 use dds_topic::{Shape, Shapes};
@@ -183,5 +188,107 @@ fn what_comes_while_nothing_is_attached_is_in_the_outcome(rt: HostRuntime) -> Re
     lend(&rt, alloc, &mut participant, (&[THIRD], 2), &mut given)?;
     assert_eq!(rt; participant.deliver(1), 0);
     assert!(rt; heard(alloc, &mut inlet)?.as_slice() == [(3, Said::Blue(3))].as_slice());
+    Ok(())
+}
+
+/// The second reader, which has an outlet, goes while one notice waits. What is heard after that is
+/// what came before, and the end of its match.
+fn goes_with_an_outlet<R: Threads + Sync>(
+    rt: &R,
+    alloc: Global,
+    participant: &mut Participant<Shapes>,
+    lines: &mut Vec<Line>,
+) -> Result<Vec<Heard>, Fail> {
+    let (outlet, mut inlet) = outlet(alloc, 4)?;
+    let added = participant.add_reader(alloc, reader_config(alloc, 1)?)?;
+    push_lines(&added.1.in_order(alloc)?, lines)?;
+    if participant.attach(1, outlet).is_err() {
+        return Err(Fail::new("the outlet isn't attached"));
+    }
+    take(rt, alloc, &NoGate, participant, (&[DATA], 2), lines)?;
+    let last = participant.remove_reader(alloc, 1)?.in_order(alloc)?;
+    push_lines(&last, lines)?;
+    take(rt, alloc, &NoGate, participant, (&[THIRD], 2), lines)?;
+    if participant.deliver(1) != 0 {
+        return Err(Fail::new("the ring is full"));
+    }
+    Ok(heard(alloc, &mut inlet)?)
+}
+
+/// The lines of the outcomes meanwhile: the new reader comes when nothing is attached to it, and the
+/// first reader waits for number 2.
+const WITHOUT_THE_LAST: [Line; 3] = [
+    (Some(0), 1, Said::Matched(1)),
+    (Some(1), 2, Said::Matched(1)),
+    (Some(0), 2, Said::Blue(1)),
+];
+
+#[test]
+fn an_outlet_takes_the_last_notices_of_its_reader(rt: HostRuntime) -> Result<(), Fail> {
+    let alloc = rt.alloc();
+    let mut participant = Participant::new(alloc, unmatched(alloc, 1)?, Shapes)?;
+    let mut lines = Vec::new(alloc);
+    take(
+        &rt,
+        alloc,
+        &NoGate,
+        &mut participant,
+        (&[COMES, ANNOUNCES], 2),
+        &mut lines,
+    )?;
+    let told = goes_with_an_outlet(&rt, alloc, &mut participant, &mut lines)?;
+    assert!(rt; told.as_slice() == [(2, Said::Blue(1)), (3, Said::Unmatched(1))].as_slice());
+    assert!(rt; lines.as_slice() == WITHOUT_THE_LAST.as_slice());
+    Ok(())
+}
+
+#[test]
+fn an_outlet_stays_when_its_reader_goes(rt: HostRuntime) -> Result<(), Fail> {
+    let alloc = rt.alloc();
+    let (mut participant, mut inlet) = attached(alloc, 2)?;
+    let _last = participant.remove_reader(alloc, 1)?;
+    // Both while the outlet is attached and after that.
+    for is_attached in [true, false] {
+        let (second, _inlet) = outlet(alloc, 2)?;
+        let Err((_second, fault)) = participant.attach(1, second) else {
+            return Err(Fail::new("the reader is gone"));
+        };
+        assert_eq!(rt; fault, AttachFault::NoReader);
+        assert_eq!(rt; participant.deliver(1), 0);
+        assert_eq!(rt; participant.detach(1).is_some(), is_attached);
+    }
+    // A fixed match ends untold.
+    assert!(rt; heard(alloc, &mut inlet)?.is_empty());
+    let (rank, _begun) = participant.add_reader(alloc, reader_config(alloc, 1)?)?;
+    let (third, _inlet) = outlet(alloc, 2)?;
+    assert!(rt; participant.attach(rank, third).is_ok());
+    Ok(())
+}
+
+#[test]
+fn a_backlog_keeps_the_last_notices_until_it_is_detached(rt: HostRuntime) -> Result<(), Fail> {
+    let alloc = rt.alloc();
+    let mut participant = Participant::new(alloc, unmatched(alloc, 1)?, Shapes)?;
+    let mut lines = Vec::new(alloc);
+    let (outlet, mut inlet) = outlet(alloc, 1)?;
+    assert!(rt; participant.attach(0, outlet).is_ok());
+    take(
+        &rt,
+        alloc,
+        &NoGate,
+        &mut participant,
+        (&[COMES, ANNOUNCES, DATA], 2),
+        &mut lines,
+    )?;
+    assert_eq!(rt; participant.deliver(0), 1);
+    let last = participant.remove_reader(alloc, 0)?;
+    assert!(rt; last.notices.len() == 1 && last.notices[0].is_empty());
+    assert_eq!(rt; participant.deliver(0), 2);
+    let Some((_outlet, backlog)) = participant.detach(0) else {
+        return Err(Fail::new("the outlet is gone"));
+    };
+    assert_eq!(rt; backlog.len(), 2);
+    let first = heard(alloc, &mut inlet)?;
+    assert!(rt; first.as_slice() == [(1, Said::Matched(1))].as_slice());
     Ok(())
 }

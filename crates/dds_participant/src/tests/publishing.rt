@@ -2,7 +2,8 @@
 
 ghost use Rattle.std.specs.Prelude.{◌≡◌};
 
-use super::{DATA, HEARTBEAT, LATER, config, status, take};
+use super::coming::add_up_to_300;
+use super::{DATA, HEARTBEAT, LATER, config, reader_config, status, take, unmatched};
 use crate::*;
 use dds_outlet::{Look, StatusBoard, StatusReader, Told};
 use dds_topic::{Catalog, Shapes};
@@ -110,5 +111,68 @@ fn a_look_shows_no_batch_before_what_was_learnt(rt: HostRuntime) -> Result<(), F
     board.end(&rt);
     assert!(rt; first && second);
     assert!(rt; seen == Some(1) || seen == Some(2));
+    Ok(())
+}
+
+/// The ranks of which a look shows something, with the number of the batch and of the samples.
+fn samples_of(looks: &Looks) -> [Option<(u64, u32)>; 3] {
+    let of = |look: &Option<Look>| match look {
+        Some(look) => Some((look.batch, look.status.samples)),
+        None => None,
+    };
+    [of(&looks[0]), of(&looks[1]), of(&looks[2])]
+}
+
+#[test]
+fn a_row_has_the_readers_that_are_there(rt: HostRuntime) -> Result<(), Fail> {
+    let alloc = rt.alloc();
+    let mut participant = Participant::new(alloc, config(alloc)?, Shapes)?;
+    let mut lines = Vec::new(alloc);
+    take(
+        &rt,
+        alloc,
+        &NoGate,
+        &mut participant,
+        (&[DATA], 1),
+        &mut lines,
+    )?;
+    let before = shown(&rt, alloc, &participant)?;
+    assert_eq!(rt; samples_of(&before), [Some((1, 1)), Some((1, 1)), None]);
+    let _last = participant.remove_reader(alloc, 0)?;
+    let without = shown(&rt, alloc, &participant)?;
+    assert_eq!(rt; samples_of(&without), [None, Some((2, 1)), None]);
+    let _begun = participant.add_reader(alloc, reader_config(alloc, 0)?)?;
+    let after = shown(&rt, alloc, &participant)?;
+    assert_eq!(rt; samples_of(&after), [None, Some((3, 1)), Some((3, 0))]);
+    Ok(())
+}
+
+/// Whether a look shows the reader of rank 300 and the first one, and none of the ranks between.
+fn shows_300<R: Wait>(
+    rt: &R,
+    alloc: Global,
+    participant: &Participant<Shapes>,
+) -> Result<bool, Fail> {
+    let mut board = StatusBoard::new(rt, alloc, 1, 1)?;
+    let published = participant.publish(rt, alloc, &mut board);
+    let mut is_shown = false;
+    if let Some(mut reader) = board.reader() {
+        is_shown = reader.look(0).is_some()
+            && reader.look(1).is_none()
+            && reader.look(299).is_none()
+            && reader.look(300).is_some()
+            && reader.look(301).is_none();
+    }
+    board.end(rt);
+    published?;
+    Ok(is_shown)
+}
+
+#[test]
+fn a_row_has_ranks_above_256(rt: HostRuntime) -> Result<(), Fail> {
+    let alloc = rt.alloc();
+    let mut participant = Participant::new(alloc, unmatched(alloc, 1)?, Shapes)?;
+    add_up_to_300(alloc, &mut participant)?;
+    assert!(rt; shows_300(&rt, alloc, &participant)?);
     Ok(())
 }

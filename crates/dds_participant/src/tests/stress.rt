@@ -3,13 +3,13 @@
 ghost use Rattle.std.specs.Prelude.{◌≤◌};
 
 use super::routed::{COMES, ROUTED};
-use super::{DATA, Line, line, reader_config};
+use super::{DATA, Line, Said, line, reader_config};
 use crate::*;
 use dds_qos::Reliability;
 use dds_topic::{Shape, Shapes};
-use rtps_discovery::Config;
+use rtps_discovery::{Config, ReaderConfig};
 use rtps_reader::Status;
-use rtps_run::Report;
+use rtps_run::{EngineError, Outcome, Report};
 use rtps_serial::SerialEngine;
 use rtps_shards::NoGate;
 use rtps_types::{Datagram, EntityId, Guid, GuidPrefix, Locators};
@@ -99,6 +99,50 @@ enum Input {
     Datagram(u64, Vec<u8>),
     /// A moment at which none came.
     Tick(u64),
+    /// A reader with this third octet of its entity comes.
+    Adds(u8),
+    /// The reader of this rank goes.
+    Removes(u32),
+}
+
+/// The readers that are there while inputs are made up.
+#[derive(Drop)]
+struct Present {
+    /// The rank of the reader by the third octet of its entity.
+    ranks: [Option<u32>; 8],
+    /// The number of ranks that were given.
+    given: u32,
+}
+
+impl Present {
+    /// The three readers of the start, whose entities have the third octets 1 to 3.
+    fn at_the_start() -> Present {
+        Present {
+            ranks: [None, Some(0), Some(1), Some(2), None, None, None, None],
+            given: 3,
+        }
+    }
+
+    /// A reader comes if none with its entity is there, or else goes. One time in eight it is the
+    /// other way round, and refused.
+    fn next(&mut self, dice: &mut Dice) -> Input {
+        let third = dice.octet() % 8;
+        let is_refused = dice.octet() % 8 == 0;
+        let place = &mut self.ranks[third as usize];
+        match (*place, is_refused) {
+            (Some(rank), false) => {
+                *place = None;
+                Input::Removes(rank)
+            }
+            (None, true) => Input::Removes(self.given),
+            (Some(_), true) => Input::Adds(third),
+            (None, false) => {
+                *place = Some(self.given);
+                self.given = self.given.wrapping_add(1);
+                Input::Adds(third)
+            }
+        }
+    }
 }
 
 /// Replaces the lease in the announcement of a participant by 0 to 50 milliseconds.
@@ -112,10 +156,11 @@ fn set_lease(announcement: &mut [u8], dice: &mut Dice) {
     fraction.copy_from_slice(&lease.to_le_bytes());
 }
 
-/// `count` inputs, of which some are ticks. Moments rise, stay and fall, and leases are short, so
-/// that participants leave by datagrams and by ticks.
+/// `count` inputs, of which some are ticks, and at some readers come and go. Moments rise, stay and
+/// fall, and leases are short, so that participants leave by datagrams and by ticks.
 fn inputs(alloc: Global, count: u32) -> Result<Vec<Input>, AllocError> {
     let mut dice = Dice { state: 11 };
+    let mut present = Present::at_the_start();
     let mut moment = 1_000_u64;
     let mut all = Vec::new(alloc);
     for at in 0..count {
@@ -134,6 +179,8 @@ fn inputs(alloc: Global, count: u32) -> Result<Vec<Input>, AllocError> {
         }
         all.push(if at % 97 == 0 {
             Input::Tick(moment)
+        } else if at % 11 == 5 {
+            present.next(&mut dice)
         } else {
             Input::Datagram(moment, octets)
         })?;
@@ -174,40 +221,85 @@ fn trace(report: &Report<Shape>) -> Trace {
     (line(report), report.turn().place.submessage, sum)
 }
 
-/// The result of a run: its reports in order, the status of each reader, and the matches.
-type Run = (Vec<Trace>, [Option<Status>; 3], BTreeSet<(u32, Guid)>);
-
-/// Appends the traces of reports.
-fn push_traces(reports: &[Report<Shape>], traces: &mut Vec<Trace>) -> Result<(), AllocError> {
-    for report in reports {
-        traces.push(trace(report))?;
-    }
-    Ok(())
+/// What is told while inputs are taken: the traces of the reports, in order, and of each reader that
+/// came or went its rank, or why not.
+#[derive(Drop)]
+struct Telling {
+    traces: Vec<Trace>,
+    moves: Vec<Result<u32, EngineError>>,
 }
 
-/// Has an engine take inputs, and appends the traces of its reports.
-fn take_in_series(
+impl Telling {
+    fn new(alloc: Global) -> Telling {
+        Telling {
+            traces: Vec::new(alloc),
+            moves: Vec::new(alloc),
+        }
+    }
+
+    /// Appends the traces of the reports of an outcome.
+    fn push(&mut self, alloc: Global, outcome: Outcome<Shape>) -> Result<(), AllocError> {
+        for report in &outcome.in_order(alloc)? {
+            self.traces.push(trace(report))?;
+        }
+        Ok(())
+    }
+
+    /// Appends the result for a reader that came or went, and its traces.
+    fn push_move(
+        &mut self,
+        alloc: Global,
+        moved: Result<(u32, Outcome<Shape>), EngineError>,
+    ) -> Result<(), AllocError> {
+        match moved {
+            Ok((rank, outcome)) => {
+                self.moves.push(Ok(rank))?;
+                self.push(alloc, outcome)
+            }
+            Err(fault) => Ok(self.moves.push(Err(fault))?),
+        }
+    }
+}
+
+/// The result of a run: what is told, the status of each rank that was given, and the matches.
+type Run = (Telling, Vec<Option<Status>>, BTreeSet<(u32, Guid)>);
+
+/// The reader that comes with this third octet of its entity: a best-effort one where it is odd.
+fn comer(alloc: Global, third: u8) -> Result<ReaderConfig, AllocError> {
+    let mut reader = reader_config(alloc, third.wrapping_sub(1))?;
+    if third % 2 == 1 {
+        reader.requested.policies.reliability = Reliability::BestEffort;
+    }
+    Ok(reader)
+}
+
+/// Has an engine take one input.
+fn take_one(
     alloc: Global,
     engine: &mut SerialEngine<Shapes>,
-    inputs: &[Input],
-    traces: &mut Vec<Trace>,
+    input: &Input,
+    telling: &mut Telling,
 ) -> Result<(), Fail> {
-    for input in inputs {
-        let outcome = match input {
-            Input::Datagram(_, bytes) if bytes.len() > 65_507 => {
-                return Err(Fail::new("a datagram is too long"));
-            }
-            Input::Datagram(moment, bytes) => engine.take(
-                alloc,
-                Datagram {
-                    moment: *moment,
-                    bytes,
-                },
-            )?,
-            Input::Tick(moment) => engine.tick(alloc, *moment)?,
-        };
-        let reports = outcome.in_order(alloc)?;
-        push_traces(&reports, traces)?;
+    match input {
+        Input::Datagram(_, bytes) if bytes.len() > 65_507 => {
+            return Err(Fail::new("a datagram is too long"));
+        }
+        Input::Datagram(moment, bytes) => {
+            let datagram = Datagram {
+                moment: *moment,
+                bytes,
+            };
+            telling.push(alloc, engine.take(alloc, datagram)?)?;
+        }
+        Input::Tick(moment) => telling.push(alloc, engine.tick(alloc, *moment)?)?,
+        Input::Adds(third) => {
+            let added = engine.add_reader(alloc, comer(alloc, *third)?);
+            telling.push_move(alloc, added)?;
+        }
+        Input::Removes(rank) => {
+            let removed = engine.remove_reader(alloc, *rank);
+            telling.push_move(alloc, removed.map(|outcome| (*rank, outcome)))?;
+        }
     }
     Ok(())
 }
@@ -218,10 +310,15 @@ fn run_of_engine(
     engine: &mut SerialEngine<Shapes>,
     inputs: &[Input],
 ) -> Result<Run, Fail> {
-    let mut traces = Vec::new(alloc);
-    take_in_series(alloc, engine, inputs, &mut traces)?;
-    let statuses = [engine.status(0), engine.status(1), engine.status(2)];
-    Ok((traces, statuses, engine.matches(alloc)?))
+    let mut telling = Telling::new(alloc);
+    for input in inputs {
+        take_one(alloc, engine, input, &mut telling)?;
+    }
+    let mut statuses = Vec::new(alloc);
+    for rank in 0..engine.readers() {
+        statuses.push(engine.status(rank))?;
+    }
+    Ok((telling, statuses, engine.matches(alloc)?))
 }
 
 /// The run of one thread.
@@ -251,31 +348,51 @@ fn front<'a>(
     Ok(datagrams)
 }
 
-/// Has a participant take at most `most` datagrams in one batch, or else one tick, appends the
-/// traces of its reports, and returns how many inputs were taken.
+/// Has a participant take an input that is no datagram. Returns whether it is none.
+fn take_alone(
+    alloc: Global,
+    participant: &mut Participant<Shapes>,
+    input: &Input,
+    telling: &mut Telling,
+) -> Result<bool, Fail> {
+    match input {
+        Input::Datagram(_, _) => return Ok(false),
+        Input::Tick(moment) => telling.push(alloc, participant.tick(alloc, *moment)?)?,
+        Input::Adds(third) => {
+            let added = participant.add_reader(alloc, comer(alloc, *third)?);
+            telling.push_move(alloc, added)?;
+        }
+        Input::Removes(rank) => {
+            let removed = participant.remove_reader(alloc, *rank);
+            telling.push_move(alloc, removed.map(|outcome| (*rank, outcome)))?;
+        }
+    }
+    Ok(true)
+}
+
+/// Has a participant take at most `most` datagrams in one batch, or else one other input, and
+/// returns how many inputs were taken.
 fn take<R: Threads + Sync>(
     rt: &R,
     alloc: Global,
     participant: &mut Participant<Shapes>,
     given: (&[Input], usize, usize),
-    traces: &mut Vec<Trace>,
+    telling: &mut Telling,
 ) -> Result<usize, Fail>
     requires { (1 ≤ given.2) × (given.2 ≤ 64) }
 {
     let (inputs, most, workers) = given;
-    if let Some(Input::Tick(moment)) = inputs.first() {
-        let reports = participant.tick(alloc, *moment)?.in_order(alloc)?;
-        push_traces(&reports, traces)?;
+    if let Some(input) = inputs.first()
+        && take_alone(alloc, participant, input, telling)?
+    {
         return Ok(1);
     }
     let datagrams = front(alloc, inputs, most)?;
     if !is_batch(&datagrams) {
         return Err(Fail::new("the batch is too large"));
     }
-    let reports = participant
-        .run_batch(rt, alloc, &NoGate, &datagrams, workers)?
-        .in_order(alloc)?;
-    push_traces(&reports, traces)?;
+    let outcome = participant.run_batch(rt, alloc, &NoGate, &datagrams, workers)?;
+    telling.push(alloc, outcome)?;
     Ok(datagrams.len())
 }
 
@@ -304,14 +421,14 @@ fn workers(dice: &mut Dice) -> usize
     }
 }
 
-/// Has a participant take inputs in the batches of a cut, with a number of workers that changes,
-/// and appends the traces of its reports. A tick ends a batch.
+/// Has a participant take inputs in the batches of a cut, with a number of workers that changes.
+/// Each input that is no datagram ends a batch.
 fn take_in_batches<R: Threads + Sync>(
     rt: &R,
     alloc: Global,
     participant: &mut Participant<Shapes>,
     given: (&[Input], u32),
-    traces: &mut Vec<Trace>,
+    telling: &mut Telling,
 ) -> Result<(), Fail> {
     let (inputs, cut) = given;
     let mut dice = Dice {
@@ -324,7 +441,7 @@ fn take_in_batches<R: Threads + Sync>(
         }
         let most = length(cut, &mut dice, rest.len());
         let workers = workers(&mut dice);
-        let taken = take(rt, alloc, participant, (rest, most, workers), traces)?;
+        let taken = take(rt, alloc, participant, (rest, most, workers), telling)?;
         let (_, after) = rest.split_at(taken.min(rest.len()));
         rest = after;
     }
@@ -338,14 +455,13 @@ fn run_of_participant<R: Threads + Sync>(
     participant: &mut Participant<Shapes>,
     given: (&[Input], u32),
 ) -> Result<Run, Fail> {
-    let mut traces = Vec::new(alloc);
-    take_in_batches(rt, alloc, participant, given, &mut traces)?;
-    let statuses = [
-        participant.status(0),
-        participant.status(1),
-        participant.status(2),
-    ];
-    Ok((traces, statuses, participant.matches(alloc)?))
+    let mut telling = Telling::new(alloc);
+    take_in_batches(rt, alloc, participant, given, &mut telling)?;
+    let mut statuses = Vec::new(alloc);
+    for rank in 0..participant.readers() {
+        statuses.push(participant.status(rank))?;
+    }
+    Ok((telling, statuses, participant.matches(alloc)?))
 }
 
 /// The run of a new participant in the batches of a cut.
@@ -360,12 +476,38 @@ fn in_batches<R: Threads + Sync>(
 }
 
 fn are_same(a: &Run, b: &Run) -> bool {
-    a.0.as_slice() == b.0.as_slice() && a.1 == b.1 && a.2 == b.2
+    a.0.traces.as_slice() == b.0.traces.as_slice()
+        && a.0.moves.as_slice() == b.0.moves.as_slice()
+        && a.1.as_slice() == b.1.as_slice()
+        && a.2 == b.2
 }
 
-/// The number of reports before the submessages of a datagram, which are those of moments.
+/// The number of matches that ended before the submessages of a datagram.
 fn ended(run: &Run) -> usize {
-    run.0.iter().filter(|trace| trace.1 == 0).count()
+    run.0
+        .traces
+        .iter()
+        .filter(|trace| trace.1 == 0 && matches!(trace.0.2, Said::Unmatched(_)))
+        .count()
+}
+
+/// The number of matches that began before the submessages of a datagram, which are those of
+/// readers that came.
+fn begun(run: &Run) -> usize {
+    run.0
+        .traces
+        .iter()
+        .filter(|trace| trace.1 == 0 && matches!(trace.0.2, Said::Matched(_)))
+        .count()
+}
+
+/// The number of readers that came or went with this result.
+fn moved(run: &Run, is_ok: bool) -> usize {
+    run.0
+        .moves
+        .iter()
+        .filter(|moved| moved.is_ok() == is_ok)
+        .count()
 }
 
 /// Whether a participant gives the same result for each cut as one thread.
@@ -395,7 +537,9 @@ fn batches_give_what_one_thread_gives(rt: HostRuntime) -> Result<(), Fail> {
     let alloc = rt.alloc();
     let inputs = inputs(alloc, 2000)?;
     let expected = in_series(alloc, &inputs)?;
-    assert!(rt; expected.0.len() > 1000 && ended(&expected) > 20);
+    assert!(rt; expected.0.traces.len() > 1000 && ended(&expected) > 20);
+    assert!(rt; begun(&expected) > 20 && moved(&expected, true) > 100);
+    assert!(rt; moved(&expected, false) > 10);
     assert!(rt; give_the_same(&rt, alloc, &inputs, &expected, &CUTS)?);
     Ok(())
 }
@@ -409,7 +553,7 @@ fn large_batches_are_decoded_apart(rt: HostRuntime) -> Result<(), Fail> {
         inputs.push(Input::Datagram(0, octets))?;
     }
     let expected = in_series(alloc, &inputs)?;
-    assert!(rt; expected.0.len() > 2000);
+    assert!(rt; expected.0.traces.len() > 2000);
     assert!(rt; give_the_same(&rt, alloc, &inputs, &expected, &[1])?);
     Ok(())
 }

@@ -22,12 +22,16 @@ pub(super) enum Says {
     Blue(u8, u8),
     /// HEARTBEAT of this entity: the first number, the last one and the count.
     Heartbeat([u8; 4], [u8; 3]),
+    /// The same, which asks for no answer.
+    FinalHeartbeat([u8; 4], [u8; 3]),
 }
 
-/// The topic and partition of a reliable writer of type ShapeType.
+/// The topic and partition of a writer of type ShapeType. It is reliable if nothing else is said.
 #[derive(Clone, Copy)]
 pub(super) enum Offer {
     Square,
+    /// Topic Square, best-effort.
+    BestEffortSquare,
     Circle,
     /// Topic Square, in the partition with this letter.
     SquareIn(u8),
@@ -63,9 +67,13 @@ const DISPOSED: &str = "71000400 00000001 01000000";
 /// The record of a writer up to its entity.
 const WRITER: &str = "00030000 5a001000 0a0a0a0a 0a0a0a0a 0a0a0a0a";
 
-/// The type name, and the reliability policy: reliable.
-const OFFERED: &str = "07001000 0a000000 53686170 65547970 65000000 \
-    1a000c00 02000000 00000000 00000000";
+/// The type name.
+const TYPE: &str = "07001000 0a000000 53686170 65547970 65000000";
+
+/// The reliability policy: reliable, or best-effort.
+const RELIABLE: &str = "1a000c00 02000000 00000000 00000000";
+
+const BEST_EFFORT: &str = "1a000c00 01000000 00000000 00000000";
 
 const SQUARE: &str = "05000c00 07000000 53717561 72650000";
 
@@ -121,16 +129,18 @@ fn push_offer(
     writer: u8,
     offer: Offer,
 ) -> Result<(), Fail> {
-    let (length, topic) = match offer {
-        Offer::Square => (100, SQUARE),
-        Offer::Circle => (100, CIRCLE),
-        Offer::SquareIn(_) => (116, SQUARE),
+    let (length, topic, reliability) = match offer {
+        Offer::Square => (100, SQUARE, RELIABLE),
+        Offer::BestEffortSquare => (100, SQUARE, BEST_EFFORT),
+        Offer::Circle => (100, CIRCLE, RELIABLE),
+        Offer::SquareIn(_) => (116, SQUARE, RELIABLE),
     };
     push_data(octets, [5, length], WRITERS, number)?;
     push_hex(alloc, octets, WRITER)?;
     octets.extend_from_slice(&user(writer))?;
     push_hex(alloc, octets, topic)?;
-    push_hex(alloc, octets, OFFERED)?;
+    push_hex(alloc, octets, TYPE)?;
+    push_hex(alloc, octets, reliability)?;
     if let Offer::SquareIn(letter) = offer {
         push_hex(alloc, octets, PARTITION)?;
         octets.extend_from_slice(&[letter, 0, 0, 0])?;
@@ -139,13 +149,15 @@ fn push_offer(
     Ok(())
 }
 
+/// Appends HEARTBEAT for every reader. Its flags are 1, or 3 where it asks for no answer.
 fn push_heartbeat(
     octets: &mut Vec<u8>,
+    flags: u8,
     writer: [u8; 4],
     numbers: [u8; 3],
 ) -> Result<(), AllocError> {
     let [first, last, count] = numbers;
-    octets.extend_from_slice(&[7, 1, 28, 0, 0, 0, 0, 0])?;
+    octets.extend_from_slice(&[7, flags, 28, 0, 0, 0, 0, 0])?;
     octets.extend_from_slice(&writer)?;
     octets.extend_from_slice(&[0, 0, 0, 0, first, 0, 0, 0])?;
     octets.extend_from_slice(&[0, 0, 0, 0, last, 0, 0, 0])?;
@@ -167,7 +179,8 @@ fn push(alloc: Global, octets: &mut Vec<u8>, part: Says) -> Result<(), Fail> {
             push_data(octets, [5, 48], user(writer), number)?;
             octets.extend_from_slice(BLUE)?;
         }
-        Says::Heartbeat(writer, numbers) => push_heartbeat(octets, writer, numbers)?,
+        Says::Heartbeat(writer, numbers) => push_heartbeat(octets, 1, writer, numbers)?,
+        Says::FinalHeartbeat(writer, numbers) => push_heartbeat(octets, 3, writer, numbers)?,
     }
     Ok(())
 }

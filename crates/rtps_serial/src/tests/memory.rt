@@ -3,6 +3,7 @@
 ghost use Rattle.std.specs.Prelude.{◌≤◌, length};
 
 use super::announced::{FIRST, Offer, Says, WRITERS, datagram_of};
+use super::coming::reader_of_squares;
 use super::matching::{Unlike, two_unlike};
 use super::moments::datagram_from;
 use super::{SENDER, Sent, at_start, config, datagram, two};
@@ -209,5 +210,167 @@ fn a_tick_out_of_memory_fails_an_engine(rt: HostRuntime) -> Result<(), Fail> {
         }
     }
     assert!(rt; before && at_the_tick && nowhere);
+    Ok(())
+}
+
+/// Which call meets a heap that is full but for some room.
+#[derive(Clone, Copy, PartialEq, Eq)]
+enum Call {
+    /// A reader comes.
+    Comes,
+    /// The reader that came goes.
+    Goes,
+}
+
+/// Takes memory in small blocks until it is refused, and returns them.
+fn blocks_in<'a>(alloc: Global, heap: &'a LocalHeap) -> Result<Vec<Vec<u8, &'a LocalHeap>>, Fail> {
+    let mut blocks = Vec::new(alloc);
+    for _ in 0..4096 {
+        match Vec::with_capacity(heap, 16) {
+            Ok(block) => blocks.push(block)?,
+            Err(_) => return Ok(blocks),
+        }
+    }
+    Err(Fail::new("the heap is too large"))
+}
+
+/// Fills a heap but for this number of blocks at its end, and returns the others.
+fn blocks_but<'a>(
+    alloc: Global,
+    heap: &'a LocalHeap,
+    room: usize,
+) -> Result<Vec<Vec<u8, &'a LocalHeap>>, Fail> {
+    let mut blocks = blocks_in(alloc, heap)?;
+    for _ in 0..room {
+        blocks.pop();
+    }
+    Ok(blocks)
+}
+
+/// Has an engine add the third reader, of squares, and returns the number of its notices.
+fn added<'a>(
+    alloc: Global,
+    heap: &'a LocalHeap,
+    engine: &mut SerialEngine<Shapes, &'a LocalHeap>,
+) -> Result<Result<usize, EngineError>, Fail> {
+    match engine.add_reader(heap, reader_of_squares(alloc, 3)?) {
+        Ok((2, outcome)) if outcome.notices.len() == 3 => Ok(Ok(outcome.notices[2].len())),
+        Ok(_) => Err(Fail::new("another rank")),
+        Err(fault) => Ok(Err(fault)),
+    }
+}
+
+/// Has an engine remove the third reader, and returns the number of its notices.
+fn removed<'a>(
+    heap: &'a LocalHeap,
+    engine: &mut SerialEngine<Shapes, &'a LocalHeap>,
+) -> Result<Result<usize, EngineError>, Fail> {
+    match engine.remove_reader(heap, 2) {
+        Ok(outcome) if outcome.notices.len() == 3 => Ok(Ok(outcome.notices[2].len())),
+        Ok(_) => Err(Fail::new("another number of ranks")),
+        Err(fault) => Ok(Err(fault)),
+    }
+}
+
+/// The number of ranks, and the statuses of the first four.
+fn shown_by<'a>(engine: &SerialEngine<Shapes, &'a LocalHeap>) -> (u32, [Option<Status>; 4]) {
+    let statuses = [
+        engine.status(0),
+        engine.status(1),
+        engine.status(2),
+        engine.status(3),
+    ];
+    (engine.readers(), statuses)
+}
+
+/// Whether an engine that has failed refuses readers, a tick and a datagram.
+fn refuses_all<'a>(
+    alloc: Global,
+    heap: &'a LocalHeap,
+    engine: &mut SerialEngine<Shapes, &'a LocalHeap>,
+) -> Result<bool, Fail> {
+    let (added, removed) = (added(alloc, heap, engine)?, removed(heap, engine)?);
+    let matches = engine.matches(heap).err();
+    let mut reports = Vec::new(heap);
+    let tick = engine.tick_in_order(heap, 1, &mut reports);
+    Ok(
+        added == Err(EngineError::Failed)
+            && removed == Err(EngineError::Failed)
+            && matches == Some(EngineError::Failed)
+            && tick == Err(EngineError::Failed)
+            && refuses_both(heap, engine),
+    )
+}
+
+/// Whether there is memory for a call, where the heap has room for this number of blocks. Without
+/// it the engine has failed, with the statuses of before, also when there is memory again.
+fn has_room_for<'a>(
+    alloc: Global,
+    heap: &'a LocalHeap,
+    engine: &mut SerialEngine<Shapes, &'a LocalHeap>,
+    call: Call,
+    room: usize,
+) -> Result<bool, Fail> {
+    if !takes_peers(alloc, heap, engine)? {
+        return Err(Fail::new("no memory for the peers"));
+    }
+    if call == Call::Goes && added(alloc, heap, engine)? != Ok(4) {
+        return Err(Fail::new("no memory for the reader"));
+    }
+    let before = shown_by(engine);
+    let blocks = blocks_but(alloc, heap, room)?;
+    let result = match call {
+        Call::Comes => added(alloc, heap, engine)?,
+        Call::Goes => removed(heap, engine)?,
+    };
+    drop(blocks);
+    if result == Ok(4) {
+        return Ok(true);
+    }
+    let is_as_before = shown_by(engine) == before;
+    let is_refused = refuses_all(alloc, heap, engine)? && shown_by(engine) == before;
+    if result == Err(EngineError::NoMemory) && is_as_before && is_refused {
+        return Ok(false);
+    }
+    Err(Fail::new("a call has another result"))
+}
+
+/// Like [`has_room_for`], for a new engine of two readers.
+fn has_room_in_new(alloc: Global, call: Call, room: usize) -> Result<bool, Fail> {
+    let heap = LocalHeap::new(alloc, 32_768)?;
+    let readers = config(alloc, Reliability::Reliable, &[0, 1], &[])?;
+    let mut engine = SerialEngine::new_in(&heap, alloc, readers, Shapes)?;
+    has_room_for(alloc, &heap, &mut engine, call, room)
+}
+
+/// Returns the least room, in blocks, in which a call succeeds, where it succeeds in each larger one
+/// up to 256 blocks.
+fn least_room(alloc: Global, call: Call) -> Result<Option<usize>, Fail> {
+    let mut least = None;
+    for room in 0..256 {
+        match (has_room_in_new(alloc, call, room)?, least) {
+            (true, None) => least = Some(room),
+            (false, Some(_)) => return Ok(None),
+            _ => {}
+        }
+    }
+    Ok(least)
+}
+
+#[test]
+fn a_reader_that_comes_out_of_memory_fails_an_engine(rt: HostRuntime) -> Result<(), Fail> {
+    let Some(least) = least_room(rt.alloc(), Call::Comes)? else {
+        return Err(Fail::new("no room is enough"));
+    };
+    assert!(rt; 1 < least);
+    Ok(())
+}
+
+#[test]
+fn a_reader_that_goes_out_of_memory_fails_an_engine(rt: HostRuntime) -> Result<(), Fail> {
+    let Some(least) = least_room(rt.alloc(), Call::Goes)? else {
+        return Err(Fail::new("no room is enough"));
+    };
+    assert!(rt; 1 < least);
     Ok(())
 }

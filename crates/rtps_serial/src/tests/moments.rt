@@ -83,7 +83,8 @@ fn reports_of_tick(
     Ok(reports)
 }
 
-fn reports_of(
+/// Returns the reports of an input, in one of both ways.
+pub(super) fn reports_of(
     alloc: Global,
     engine: &mut SerialEngine<Shapes>,
     given: Given,
@@ -104,7 +105,7 @@ fn reports_of(
 }
 
 /// Whether the matches are exactly these.
-fn are_matches(
+pub(super) fn are_matches(
     alloc: Global,
     engine: &SerialEngine<Shapes>,
     expected: &[(u32, u8)],

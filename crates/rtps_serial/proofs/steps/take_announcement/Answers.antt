@@ -34,6 +34,6 @@ returns-clause-stands g c is w earlier old =
     ∙ ap (λ o. map (report_view f) c.args.reports.now.items ++ map (sent_by None) (placed event.place o)) heard.said
     ∙ ap (λ l. map (report_view f) c.args.reports.now.items ++ l) (sym (announced_puts w.known event is)) in
     on_ok_then c.take_changes.result
-    (λ stands. announcement_stands f d w event earlier c.step.new.self.kept changes sorted states reports is old.named known heard.heard c.in_ok-changes.ensures
+    (λ stands. announcement_stands f d w event earlier c.step.new.self.kept changes sorted states reports is known heard.heard c.in_ok-changes.ensures
     (subst (λ l. ReadersStand f (steps_run d event.place (discovered w (Came event)) (map change_step (map change_seen l))) earlier states reports) c.deref.ensures.value stands))
     (c.take_changes.ensures.stands (discovered w (Came event)) earlier (discovered_stands f w (Came event) earlier c.args.readers.now.states.items c.args.reports.now.items c.report_discovery.new.reports.items (ap length (readers_stay w.known event)) old.readers reported))

@@ -11,5 +11,5 @@ invariant-loop-rank g l = record {
   same : l.readers.decoder ≡ l.fn.readers.decoder;
   count : length l.readers.states.items ≡ length l.fn.readers.states.items;
   stands : (w : World g.C.Catalog.Meaning) (earlier : List (ReportView g.C.Catalog.Meaning)) → WorldStands g.C.Catalog.view w earlier l.fn.discovery.kept l.fn.readers.states.items l.fn.reports.items
-      → ReadersStand g.C.Catalog.view (steps_run (g.C.Catalog.decoding l.fn.readers.decoder) l.event.place w (event_steps w (view l.event) (take l.rank-index l.ranks))) earlier l.readers.states.items l.reports.items;
+      → ReadersStand g.C.Catalog.view (steps_run (g.C.Catalog.decoding l.fn.readers.decoder) l.event.place w (event_steps w.known (view l.event) (take l.rank-index l.ranks))) earlier l.readers.states.items l.reports.items;
 }

@@ -1,6 +1,5 @@
 use Rattle.std.proofs.Common.{◌≡◌, ◌++◌, ◌<◌, ◌∙◌, append_assoc, ap, arith, length, rules}
 use Rattle.rtps_ascii.proofs.Kept.{still_starts}
-use Rattle.rtps_run.proofs.Running.{seen_known}
 use Rattle.rtps_run.specs.Seen.{reader_count}
 use Rattle.rtps_text.specs.Inputs.{inputs_of, run_by}
 use Rattle.rtps_text.specs.Replayed.{status_lines, status_text}
@@ -13,11 +12,9 @@ loop-rank-preserved g c = record {
       let engine = c.args.participant.now.engine in
       let world = run_by g.C.Catalog.decoding engine datagrams in
       let rank = c.loop-rank.rank in
-      let less : rank < length c.args.participant.now.engine.statuses = search rules in
-      let below : rank < reader_count world = omega (arith, less, stands.shows.count) in
       c.in_ok-push_status_of.ensures.ok ∙ ap (λ l. l ++ status_text rank c.status.result) (c.loop-rank.invariant.tells datagrams stands)
       ∙ append_assoc c.args.out.now.items (status_lines world rank) (status_text rank c.status.result)
-      ∙ ap (λ l. c.args.out.now.items ++ l) (statuses_more world rank c.status.result (c.status.ensures (inputs_of datagrams) stands.shows ∙ seen_known world rank stands.named below));
+      ∙ ap (λ l. c.args.out.now.items ++ l) (statuses_more world rank c.status.result (c.status.ensures (inputs_of datagrams) stands.shows));
   keeps = still_starts _ _ _ c.in_ok-push_status_of.ensures.keeps c.loop-rank.invariant.keeps;
 }
 

@@ -11,11 +11,11 @@ use Rattle.rtps_run.proofs.Heads.{batch_rises}
 use Rattle.dds_participant.specs.Batch.{shares_in}
 use Rattle.dds_participant.specs.Kept.{ParticipantView}
 use Rattle.dds_participant.proofs.Giving.{run_gives}
-use Rattle.dds_participant.proofs.Taken.{run_keeps, stamped_named}
+use Rattle.dds_participant.proofs.Taken.{run_keeps}
 use Rattle.dds_participant.proofs.participant.Participant.pass.Goals as goal
 
 pub run_alone-requires-clause-few : goal.run_alone-requires-clause-few
-run_alone-requires-clause-few g c κs outlives = rw c.replace-states.ensures.value (subst (λ (p : ParticipantView _ _). length p.engine.readers ≤ 256) (sym c.self.view_is) c.requires.readers)
+run_alone-requires-clause-few g c κs outlives = rw c.replace-states.ensures.value (subst (λ (p : ParticipantView _ _). length p.engine.readers ≤ 4096) (sym c.self.view_is) c.requires.readers)
 
 pub returns-clause-count : goal.returns-clause-count
 returns-clause-count g c = rw (sym c.self.view_is) (c.in_ok-readers.ensures.count ∙ ap (λ (v : Vec ReaderView Global). length v.items) c.replace-states.ensures.value)
@@ -35,7 +35,7 @@ returns-clause-keeps g c = rw (sym c.self.view_is) (λ w kept.
     let new : EngineView _ = record old { discovery = c.plan.new.discovery; readers = c.in_ok-readers.readers.states.items } in
     let planned : IsPlan w.known [] os c.in_ok-plan.plan c.plan.new.discovery.kept = c.in_ok-plan.ensures.planned w.known kept.known in
     let ran = (rw c.replace-states.ensures.value at c.in_ok-readers.ensures.run) (shares_in w os) kept.readers (planned.jobs ∙ ap (jobs_by (λ rank. job_of rank w.known os)) (sym kept.count)) in
-    run_keeps f d w [] os os c.in_ok-plan.plan c.in_ok-readers.readers old new refl (stamped_steady all) (stamped_named d w all kept.named) kept planned c.in_ok-plan.ensures.ok ran refl)
+    run_keeps f d w [] os os c.in_ok-plan.plan c.in_ok-readers.readers old new refl (stamped_steady all) kept planned c.in_ok-plan.ensures.ok ran refl)
 
 pub returns-clause-gives : goal.returns-clause-gives
 returns-clause-gives g c = rw (sym c.self.view_is) (λ w kept.

@@ -1,4 +1,4 @@
-use Rattle.std.proofs.Common.{◌≡◌, ◌∙◌, ap, length, map, refl, subst, sym}
+use Rattle.std.proofs.Common.{◌≡◌, ◌++◌, ◌∙◌, ap, length, map, refl, subst, sym}
 use Rattle.rtps_run.specs.Input.{arrived}
 use Rattle.rtps_run.specs.World.{World}
 use Rattle.dds_participant.specs.BatchOutput.{HoldsNothing, IsGiven}
@@ -8,7 +8,7 @@ use Rattle.dds_participant.specs.Ports.{NoneAttached}
 use Rattle.dds_participant.proofs.Unattached.{given_same}
 use Rattle.dds_participant.proofs.Finished.{handed_finish}
 use Rattle.dds_participant.proofs.Leaving.{left_alone, left_empty}
-use Rattle.dds_participant.proofs.Taken.{adds_after, datagrams_counted, stands_after}
+use Rattle.dds_participant.proofs.Taken.{adds_after, datagrams_counted, datagrams_stay, stands_after}
 use Rattle.dds_participant.proofs.Counting.{batch_counted}
 use Rattle.dds_participant.proofs.participant.Participant.run_in_order.Goals as goal
 
@@ -32,6 +32,23 @@ hand-requires-after_bounds g c κs outlives =
     ∙ sym (ap (λ (p : ParticipantView _ _). length p.engine.statuses) is)
     ∙ sym (ap length c.run.ensures.same.statuses)
 
+pub finish-requires-clause-there : goal.finish-requires-clause-there
+finish-requires-clause-there g c κs outlives new finished =
+    let earlier = c.in_ok-admit.ensures.there.0 in
+    let kept = c.in_ok-admit.ensures.there.1 in
+    let is = c.in_ok-admit.ensures.ok.2 in
+    let batch = map arrived c.args.datagrams.now in
+    let shown = c.in_ok-whole.ensures.count
+    ∙ ap (λ (p : ParticipantView _ _). length p.engine.readers) is
+    ∙ c.in_ok-admit.ensures.few.1
+    ∙ sym (ap (λ (p : ParticipantView _ _). length p.engine.statuses) is)
+    ∙ sym (ap length c.run.ensures.same.statuses) in (
+      earlier ++ batch,
+      stands_after g.C.Catalog.decoding earlier batch c.args.self.now c.admit.new.self c.run.new.self kept is new (length c.args.datagrams.now) (λ n. datagrams_counted n c.args.datagrams.now)
+          (λ w. datagrams_stay (g.C.Catalog.decoding c.args.self.now.engine.catalog) c.args.self.now.engine.config.own w c.args.self.now.engine.index c.args.datagrams.now)
+          c.run.ensures.same c.in_ok-whole.ensures.keeps (handed_finish _ c.run.new.self c.hand.new.self new c.hand.ensures.same.0 c.hand.ensures.same.1 finished) shown,
+    )
+
 pub returns-clause-stands : goal.returns-clause-stands
 returns-clause-stands g c earlier kept =
     let is = c.in_ok-admit.ensures.ok.2 in
@@ -42,6 +59,7 @@ returns-clause-stands g c earlier kept =
     ∙ sym (ap (λ (p : ParticipantView _ _). length p.engine.statuses) is)
     ∙ sym (ap length c.run.ensures.same.statuses) in
     stands_after g.C.Catalog.decoding earlier batch c.args.self.now c.admit.new.self c.run.new.self kept is c.finish.new.self (length c.args.datagrams.now) (λ n. datagrams_counted n c.args.datagrams.now)
+    (λ w. datagrams_stay (g.C.Catalog.decoding c.args.self.now.engine.catalog) c.args.self.now.engine.config.own w c.args.self.now.engine.index c.args.datagrams.now)
     c.run.ensures.same c.in_ok-whole.ensures.keeps (handed_finish _ c.run.new.self c.hand.new.self c.finish.new.self c.hand.ensures.same.0 c.hand.ensures.same.1 c.finish.ensures.finished) shown
 
 pub returns-clause-gives : goal.returns-clause-gives

@@ -1,4 +1,4 @@
-use Rattle.std.proofs.Common.{◌≡◌, ◌∷◌, [], ◌∙◌, refl, ap, arith, length, map, subst, sym}
+use Rattle.std.proofs.Common.{◌≡◌, ◌++◌, ◌∷◌, [], ◌∙◌, refl, ap, arith, length, subst, sym}
 use Rattle.rtps_run.specs.Outcome.{Adds}
 use Rattle.rtps_run.specs.Input.{Tick}
 use Rattle.rtps_run.specs.World.{World}
@@ -18,8 +18,8 @@ outcome_of-requires-clause-readers g c κs outlives =
     let few = c.in_ok-admit_tick.ensures.few.0 in
     omega (arith, many, few)
 
-pub end_batch-requires-clause-readers : goal.end_batch-requires-clause-readers
-end_batch-requires-clause-readers g c κs outlives =
+pub finish-requires-clause-readers : goal.finish-requires-clause-readers
+finish-requires-clause-readers g c κs outlives =
     let is = c.in_ok-admit_tick.ensures.ok.1 in
     ap (λ (e : EngineView _). length e.readers) c.hand_lists.ensures.same.0
     ∙ c.in_ok-given.ensures.count
@@ -39,6 +39,22 @@ hand_lists-requires-after_bounds g c κs outlives =
     ∙ sym (ap (λ (p : ParticipantView _ _). length p.engine.statuses) is)
     ∙ sym (ap length c.pass.ensures.same.statuses)
 
+pub finish-requires-clause-there : goal.finish-requires-clause-there
+finish-requires-clause-there g c κs outlives new finished =
+    let earlier = c.in_ok-admit_tick.ensures.there.0 in
+    let kept = c.in_ok-admit_tick.ensures.there.1 in
+    let is = c.in_ok-admit_tick.ensures.ok.1 in
+    let batch = Tick c.args.moment ∷ [] in
+    let shown = c.in_ok-given.ensures.count
+    ∙ ap (λ (p : ParticipantView _ _). length p.engine.readers) is
+    ∙ c.in_ok-admit_tick.ensures.few.1
+    ∙ sym (ap (λ (p : ParticipantView _ _). length p.engine.statuses) is)
+    ∙ sym (ap length c.pass.ensures.same.statuses) in (
+      earlier ++ batch,
+      stands_after g.C.Catalog.decoding earlier batch c.args.self.now c.admit_tick.new.self c.pass.new.self kept is new 0 (tick_counts c.args.moment) (λ w. refl)
+          c.pass.ensures.same c.in_ok-given.ensures.keeps (handed_finish _ c.pass.new.self c.hand_lists.new.self new c.hand_lists.ensures.same.0 c.hand_lists.ensures.same.1 finished) shown,
+    )
+
 pub returns-clause-stands : goal.returns-clause-stands
 returns-clause-stands g c earlier kept =
     let is = c.in_ok-admit_tick.ensures.ok.1 in
@@ -48,14 +64,14 @@ returns-clause-stands g c earlier kept =
     ∙ c.in_ok-admit_tick.ensures.few.1
     ∙ sym (ap (λ (p : ParticipantView _ _). length p.engine.statuses) is)
     ∙ sym (ap length c.pass.ensures.same.statuses) in
-    stands_after g.C.Catalog.decoding earlier batch c.args.self.now c.admit_tick.new.self c.pass.new.self kept is c.end_batch.new.self 0 (tick_counts c.args.moment)
-    c.pass.ensures.same c.in_ok-given.ensures.keeps (handed_finish _ c.pass.new.self c.hand_lists.new.self c.end_batch.new.self c.hand_lists.ensures.same.0 c.hand_lists.ensures.same.1 c.end_batch.ensures.finished) shown
+    stands_after g.C.Catalog.decoding earlier batch c.args.self.now c.admit_tick.new.self c.pass.new.self kept is c.finish.new.self 0 (tick_counts c.args.moment) (λ w. refl)
+    c.pass.ensures.same c.in_ok-given.ensures.keeps (handed_finish _ c.pass.new.self c.hand_lists.new.self c.finish.new.self c.hand_lists.ensures.same.0 c.hand_lists.ensures.same.1 c.finish.ensures.finished) shown
 
 pub returns-clause-adds : goal.returns-clause-adds
 returns-clause-adds g c earlier kept =
     let is = c.in_ok-admit_tick.ensures.ok.1 in
     let old : c.pass.new.self.ports ≡ c.args.self.now.ports = c.pass.ensures.ports ∙ ap (λ (p : ParticipantView _ _). p.ports) is in
-    let new : c.hand_lists.new.self.ports ≡ c.end_batch.new.self.ports = sym c.end_batch.ensures.ports in (
+    let new : c.hand_lists.new.self.ports ≡ c.finish.new.self.ports = sym c.finish.ensures.ports in (
       c.in_ok-outcome.outcome,
       adds_after g.C.Catalog.decoding earlier (Tick c.args.moment ∷ []) c.args.self.now c.admit_tick.new.self c.pass.new.self kept is
           (λ (before after : World g.C.Catalog.Meaning). Adds g.C.Catalog.view before after c.in_ok-outcome.outcome) (λ w kept. c.in_ok-outcome.ensures.adds w _ (c.in_ok-given.ensures.gives w kept)),
@@ -64,7 +80,7 @@ returns-clause-adds g c earlier kept =
 
 pub returns-clause-counts : goal.returns-clause-counts
 returns-clause-counts g c taken was =
-    batch_counted taken 0 c.args.self.now c.admit_tick.new.self c.pass.new.self c.end_batch.new.self was c.in_ok-admit_tick.ensures.ok.1 c.pass.ensures.same (handed_finish _ c.pass.new.self c.hand_lists.new.self c.end_batch.new.self c.hand_lists.ensures.same.0 c.hand_lists.ensures.same.1 c.end_batch.ensures.finished)
+    batch_counted taken 0 c.args.self.now c.admit_tick.new.self c.pass.new.self c.finish.new.self was c.in_ok-admit_tick.ensures.ok.1 c.pass.ensures.same (handed_finish _ c.pass.new.self c.hand_lists.new.self c.finish.new.self c.hand_lists.ensures.same.0 c.hand_lists.ensures.same.1 c.finish.ensures.finished)
 
 pub returns-clause-alone : goal.returns-clause-alone
 returns-clause-alone g c earlier kept none =

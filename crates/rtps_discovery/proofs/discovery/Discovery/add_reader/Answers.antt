@@ -22,8 +22,8 @@ returns-in-Some-clause-err g c = λ e.
     let memory : c.in-Some.fault ≡ NoMemory = cc in
     absurd (not_memory c.deref.result.now (wish_of c.args.reader) c.in-Some.fault c.in-Some.ensures.fault memory)
 
-pub returns-in-Ok-clause-known : goal.returns-in-Ok-clause-known
-returns-in-Ok-clause-known g c = λ k is. c.in-Ok.ensures.known k (subst (λ (d : DiscoveryView). IsKnown k d.kept) (sym c.self.view_is) is)
+pub returns-clause-known : goal.returns-clause-known
+returns-clause-known g c = λ k is. c.in_ok-added.ensures.known k (subst (λ (d : DiscoveryView). IsKnown k d.kept) (sym c.self.view_is) is)
 
-pub returns-in-Ok-clause-changes : goal.returns-in-Ok-clause-changes
-returns-in-Ok-clause-changes g c = λ k is. c.in-Ok.ensures.told k (subst (λ (d : DiscoveryView). IsKnown k d.kept) (sym c.self.view_is) is)
+pub returns-clause-changes : goal.returns-clause-changes
+returns-clause-changes g c = λ k is. c.in_ok-added.ensures.told k (subst (λ (d : DiscoveryView). IsKnown k d.kept) (sym c.self.view_is) is)

@@ -18,7 +18,7 @@ returns-clause-stands g c = rw (sym c.self.view_is) (λ w old.
     let states = c.take_changes.new.readers.states.items in
     let reports = c.take_changes.new.reports.items in
     on_ok_then c.take_changes.result
-    (λ stands. passes_stand f d w index moment w.put c.expire.new.self.kept c.in_ok-ended.ended.items states reports old.named (c.in_ok-ended.ensures.known w.known old.known) (c.in_ok-ended.ensures.changes w.known old.known)
+    (λ stands. passes_stand f d w index moment w.put c.expire.new.self.kept c.in_ok-ended.ended.items states reports (c.in_ok-ended.ensures.known w.known old.known) (c.in_ok-ended.ensures.changes w.known old.known)
     (subst (λ l. ReadersStand f (steps_run d (head_of index) v (map change_step (map change_seen l))) w.put states reports) c.deref.ensures.value stands))
     (c.take_changes.ensures.stands v w.put
     (subst (λ l. ReadersStand f v w.put c.self.inside.readers.states.items l) (sym c.clear.ensures.items) (before_stands f w index moment w.put c.self.inside.readers.states.items old.readers))))

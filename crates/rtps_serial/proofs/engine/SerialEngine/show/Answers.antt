@@ -12,4 +12,4 @@ pub returns-clause-statuses : goal.returns-clause-statuses
 returns-clause-statuses g c = rw (sym c.self.view_is) (
     let whole : length c.show_all.new.statuses ≡ c.self.inside.statuses.len = omega (arith, c.show_all.auto.statuses, c.deref_mut.ensures.len) in
     let front = front_back c.self.inside.statuses.len c.show_all.new.statuses (drop (length c.show_all.new.statuses) c.self.inside.statuses.items) whole in
-    λ rank s r below. ap (λ l. get_or l rank s) front ∙ (rw c.deref.ensures.value at c.show_all.ensures) rank s r below)
+    λ rank s r below. ap (λ l. get_or l rank s) front ∙ (rw (c.deref.ensures.value, c.deref_mut.ensures.value) at c.show_all.ensures) rank s r below)
