@@ -9,6 +9,8 @@ from pathlib import Path
 
 TOP = Path(__file__).resolve().parent.parent
 PARTS = ("src", "specs", "proofs")
+TESTS = ("tests", "tests.rt")
+"""What of src has the tests of a crate. No check or build is given it, so no proof hangs on it."""
 HIDDEN = ("format", "toolchain", "lang/antt/made.json")
 """What of a built library holds bodies, or sums of them: the crates above it prove nothing by these."""
 
@@ -35,6 +37,11 @@ class Crate:
         """Its files in these folders, in order."""
         found = (path for part in parts or PARTS for path in (self.folder / part).rglob("*"))
         return sorted(path for path in found if path.is_file())
+
+    def code(self):
+        """Its files but for its tests."""
+        tests = [self.folder / "src" / name for name in TESTS]
+        return [path for path in self.files() if not {path, *path.parents} & set(tests)]
 
     def has_tests(self):
         return any("#[test]" in path.read_text(encoding="utf-8") for path in self.files("src"))
@@ -97,8 +104,8 @@ def joined_sum(*parts):
 
 
 def sources_sum(crate, toolchain):
-    """A sum of all that a crate is built from: its files, those of the crates below it, the toolchain."""
-    return joined_sum(toolchain, *(f"{each.line}\n{sum_of(each.files(), each.folder)}" for each in (*crate.below, crate)))
+    """A sum of all that a crate is built from: its code, that of the crates below it, the toolchain."""
+    return joined_sum(toolchain, *(f"{each.line}\n{sum_of(each.code(), each.folder)}" for each in (*crate.below, crate)))
 
 
 def shown_sum(crate):

@@ -82,20 +82,33 @@ class Kept:
         return [crate.name for crate, is_taken in zip(crates, took) if is_taken]
 
     def keep(self, crate):
-        """Keeps a crate's work in the place of what is kept of it. Where that can't be done, as on a full disk or while
-        the work changes, nothing is kept of the crate, so it is proved from nothing next time."""
-        if not (crate.out / "incremental").is_dir():
-            return
+        """Keeps a crate's work in the place of what is kept of it."""
+        self.keep_all([crate])
+
+    def keep_all(self, crates):
+        """Keeps the work of each crate that has any, and returns the names of those of which it is kept now."""
+        with self.locked(), ThreadPoolExecutor() as pool:
+            seals = list(pool.map(self.placed, crates))
+            for crate, seal in zip(crates, seals):
+                if seal:
+                    self.note_locked(f"{crate.name}: kept", seal, 1)
+        return [crate.name for crate, seal in zip(crates, seals) if seal]
+
+    def placed(self, crate):
+        """Puts a crate's work in the place of what is kept of it, and returns its seal. Where that can't be done, as on a
+        full disk or while the work changes, nothing is kept of the crate, so it is proved from nothing next time."""
         made, kept = self.folder / f"{crate.name}.new", self.folder / crate.name
-        with self.locked():
+        if not (crate.out / "incremental").is_dir():
+            return None
+        shutil.rmtree(made, ignore_errors=True)
+        shutil.rmtree(kept, ignore_errors=True)
+        try:
+            link_tree(crate.out, made / "out")
+            os.rename(made, kept)
+            return self.seal(kept)
+        except OSError:
             shutil.rmtree(made, ignore_errors=True)
-            shutil.rmtree(kept, ignore_errors=True)
-            try:
-                link_tree(crate.out, made / "out")
-                os.rename(made, kept)
-                self.note_locked(f"{crate.name}: kept", self.seal(kept), 1)
-            except OSError:
-                shutil.rmtree(made, ignore_errors=True)
+            return None
 
     def record(self):
         """By name of a task, the sum of all that it hung on when it passed, and how much it passed with."""

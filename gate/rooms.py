@@ -10,7 +10,7 @@ import threading
 from collections import defaultdict
 from contextlib import contextmanager
 
-from gate.crates import PARTS, Crate, shown_sum
+from gate.crates import PARTS, TESTS, Crate, shown_sum
 from gate.kept import link_tree
 
 BESIDE = ("data", "stdin", "stdout", "args", "status")
@@ -44,16 +44,16 @@ class Rooms:
         shutil.rmtree(folder, ignore_errors=True)
 
     @contextmanager
-    def room(self, crate, texts=None):
-        """A copy of a crate with the work that it has so far and with the libraries below it, some of its files with
-        texts of their own."""
+    def room(self, crate, texts=None, has_tests=False):
+        """A copy of a crate, with its tests or without, with the work that it has so far and with the libraries below it,
+        some of its files with texts of their own."""
         with self.locks[""]:
             self.count += 1
             at = self.folder / str(self.count)
         try:
             for each in (*crate.below, crate):
                 is_last = each is crate
-                copied(each, at / "crates" / each.name, PARTS + BESIDE * is_last)
+                copied(each, at / "crates" / each.name, PARTS + BESIDE * is_last, is_last and has_tests)
                 for part in ("rlib", "incremental") if is_last else ("rlib",):
                     with self.locks[each.name]:
                         if (each.out / part).is_dir():
@@ -88,11 +88,12 @@ class Rooms:
                     path.replace(crate.out / path.name)
 
 
-def copied(crate, to, parts):
-    """Copies these files and folders of a crate."""
+def copied(crate, to, parts, has_tests):
+    """Copies these files and folders of a crate, with its tests or without."""
+    left_out = lambda at, names: TESTS if at == str(crate.folder / "src") and not has_tests else ()
     to.mkdir(parents=True)
     for part in parts:
         if (crate.folder / part).is_dir():
-            shutil.copytree(crate.folder / part, to / part)
+            shutil.copytree(crate.folder / part, to / part, ignore=left_out)
         elif (crate.folder / part).is_file():
             shutil.copyfile(crate.folder / part, to / part)

@@ -17,8 +17,13 @@ LISTENER = "rtps_listen"
 """The program of the conformance rows, and of ./run."""
 SCRIPTS = (
     ("conformance rows", "run.py"),
-    ("one file by many cuts", "cuts.py"),
+    ("files by many cuts", "cuts.py"),
     ("a peer on loopback", "live.py"),
+    ("datagrams cut at each octet", "truncated.py"),
+    ("memory that is refused", "starved.py"),
+    ("files and pipes that fail", "failing.py"),
+    ("random octets", "fuzzed.py"),
+    ("floods", "floods.py"),
 )
 """What is run on it: its name, and its file in conformance/."""
 TEST_SECONDS = "300"
@@ -83,10 +88,10 @@ def once(gate, name, total, call, is_there=True):
 
 
 def shown_total(gate, crate):
-    """A sum of all that a crate's proof hangs on but for what judges it: its files, what the libraries below it show to
+    """A sum of all that a crate's proof hangs on but for what judges it: its code, what the libraries below it show to
     it, the toolchain. No body of a crate below is among them: proofs here see its contracts alone."""
     below = (f"{each.line}\n{gate.rooms.shown(each)}" for each in crate.below)
-    return joined_sum(gate.kept.toolchain, *below, crate.line, sum_of(crate.files(), crate.folder))
+    return joined_sum(gate.kept.toolchain, *below, crate.line, sum_of(crate.code(), crate.folder))
 
 
 def run_total(gate, crate, beside=()):
@@ -142,7 +147,7 @@ def passes(name, words, folder, pattern):
 
 def test(gate, crate):
     """Runs the tests of a crate by a build that stops at a sum that wraps, and at an index or an access out of bounds."""
-    with gate.rooms.room(crate) as inside:
+    with gate.rooms.room(crate, has_tests=True) as inside:
         words = ["rt", "try", "--test", "--seconds", TEST_SECONDS]
         return passes(f"{crate.name}: tests", words, inside.folder, r"^test result: ok\..*")
 
@@ -270,9 +275,9 @@ def other_tasks(gate):
 
     yield Task("layout", lambda jobs: layout(gate), work=FIRST)
     for crate in gate.crates:
-        sources = partial(run_total, gate, crate)
         if crate.has_tests():
-            yield task(f"{crate.name}: tests", sources, lambda jobs, it=crate: test(gate, it), work=crate.lines() / 10)
+            total = partial(run_total, gate, crate, [crate.folder / "src"])
+            yield task(f"{crate.name}: tests", total, lambda jobs, it=crate: test(gate, it), work=crate.lines() / 10)
         if crate.is_program:
             total = partial(run_total, gate, crate, [crate.folder / part for part in BESIDE])
             call = lambda jobs, it=crate: build(gate, it, jobs)

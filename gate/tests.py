@@ -92,7 +92,11 @@ class Repository(unittest.TestCase):
         self.gate.rooms.shows.clear()
         self.assertNotEqual(shown, totals()[0])
         self.write("crates/low/src/lib.rt", SOURCE)
+        self.write("crates/low/src/tests/one.rt", "a test")
         self.assertEqual((sources, False), (totals()[1], sources == sources_sum(self.high, "kit 2")))
+        for has_tests in (False, True):
+            with self.gate.rooms.room(self.low, has_tests=has_tests) as inside:
+                self.assertEqual(has_tests, (inside.folder / "src/tests").is_dir())
         shutil.rmtree(self.low.out)
         self.assertRaises(FileNotFoundError, shown_sum, self.low)
 
@@ -102,7 +106,7 @@ class Repository(unittest.TestCase):
         file = self.kept.folder / "low/out/incremental/a/proof"
         for spoil in (None, lambda: file.unlink(), lambda: file.write_text("another"), lambda: shutil.rmtree(file.parents[2])):
             self.write("crates/low/out/incremental/a/proof", "a proof")
-            self.kept.keep(self.low)
+            self.assertEqual(["low"], self.kept.keep_all([self.low, self.high]))
             shutil.rmtree(self.low.out)
             self.assertFalse(Kept(self.kept.folder, "kit 2").take(self.low))
             if spoil:

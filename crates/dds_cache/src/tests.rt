@@ -19,7 +19,7 @@ const ALL: Condition = Condition {
 };
 
 /// The kind of a notice.
-#[derive(Clone, Copy)]
+#[derive(Clone, Copy, Debug)]
 enum What {
     Value(KeyHash),
     Dispose(KeyHash),

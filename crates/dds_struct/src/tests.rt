@@ -1,6 +1,7 @@
 //! A struct of many members and one with a short key, with octets written by hand.
 
 mod log;
+mod memory;
 mod point;
 
 use crate::{Member, Structs, Text};

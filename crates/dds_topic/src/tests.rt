@@ -3,16 +3,15 @@
 ghost use Rattle.std.specs.Prelude.{Ok};
 ghost use Rattle.dds_topic.specs.Answer.{Gives};
 
+mod memory;
+
 use crate::example::{Sensor, Sensors};
-use crate::raw::raw_value;
-use crate::shapes::{key_octets, read_shape};
 use crate::{
     Catalog, CatalogError, ColorKeys, Raw, Shape, Shapes, TextCatalog, Unread, byte_order,
 };
-use linked_list_allocator::LocalHeap;
-use rtps_cdr::{CdrReader, CdrWriter};
+use rtps_cdr::CdrWriter;
 use rtps_types::{Endian, KeyHash};
-use std::alloc::{AllocError, Global};
+use std::alloc::Global;
 use std::test::Fail;
 
 const ENCAPSULATION: CatalogError = CatalogError::Unread(Unread::Encapsulation);
@@ -262,31 +261,4 @@ fn causes_have_numbers_and_names(rt: HostRuntime) {
     for (cause, code, name) in causes {
         assert_eq!(rt; (cause.code(), cause.name()), (code, name));
     }
-}
-
-#[test]
-fn refused_growths(rt: HostRuntime) -> Result<(), Fail> {
-    let alloc = rt.alloc();
-    let body = b"\x19\0\0\0abcdefghijklmnopqrstuvwx\0\0\0\0\x0a\0\0\0\x14\0\0\0\x1e\0\0\0";
-    let shape = Shapes.decode(alloc, 1, body)?;
-    let mut refused = [false; 4];
-    let mut made = [false; 4];
-    for size in 0..24 {
-        let heap = LocalHeap::new(alloc, size * 16)?;
-        let decoded = read_shape(&heap, &mut CdrReader::new(body, Endian::Little));
-        refused[0] |= matches!(decoded, Err(CatalogError::NoMemory));
-        made[0] |= decoded.is_ok();
-        let key = key_octets(&heap, "BLUE");
-        refused[1] |= key == Err(AllocError);
-        made[1] |= key.is_ok();
-        let text = Shapes.push_text(&mut Vec::new(&heap), &shape);
-        refused[2] |= text.is_err();
-        made[2] |= text.is_ok();
-        let value = raw_value(&heap, 1, body);
-        refused[3] |= matches!(value, Err(AllocError));
-        made[3] |= value.is_ok();
-    }
-    assert_eq!(rt; refused, [true; 4]);
-    assert_eq!(rt; made, [true; 4]);
-    Ok(())
 }

@@ -1,7 +1,8 @@
 //! Values, with octets from other sources.
 
+mod memory;
+
 use crate::{CdrFault, CdrReader, CdrWriter};
-use linked_list_allocator::LocalHeap;
 use rtps_types::Endian;
 use std::alloc::{AllocError, Allocator};
 use std::test::Fail;
@@ -255,28 +256,5 @@ fn what_is_written_is_read(rt: HostRuntime) -> Result<(), Fail> {
         assert_eq!(rt; reader.read_len()?, 2);
         assert_eq!(rt; reader.position(), octets.len());
     }
-    Ok(())
-}
-
-#[test]
-fn a_refused_growth_leaves_the_writer(rt: HostRuntime) -> Result<(), Fail> {
-    let mut refused = false;
-    let mut whole = false;
-    for size in 0..12 {
-        let heap = LocalHeap::new(rt.alloc(), size * 32)?;
-        let mut writer = CdrWriter::new(&heap, Endian::Big);
-        let written = write_each(&mut writer);
-        let octets = writer.finish();
-        if written.is_ok() {
-            assert!(rt; octets.as_slice() == EACH);
-            whole = true;
-        } else {
-            assert_eq!(rt; written, Err(AllocError));
-            assert!(rt; EACH.starts_with(octets.as_slice()));
-            assert!(rt; octets.len() < EACH.len());
-            refused = true;
-        }
-    }
-    assert!(rt; refused && whole);
     Ok(())
 }

@@ -87,20 +87,42 @@ fn serves<A: Allocator + Copy>(alloc: A, sample: &mut Assembly<A>) -> Option<boo
     Some(sample.is_whole())
 }
 
-/// Whether later calls are refused, and the sample isn't complete.
+/// Fragments that a sample is asked to add once memory was refused: missing ones, all at once, and
+/// one with a fault.
+const LATER: [(u32, u16, &[u8]); 5] = [
+    (1, 1, b"ab"),
+    (2, 1, b"cd"),
+    (3, 1, b"ef"),
+    (1, 3, b"abcdef"),
+    (0, 0, b""),
+];
+
+/// Whether later calls are refused with the memory that there is, and change nothing: the sample
+/// isn't complete, and lacks what it lacked.
 fn refuses<A: Allocator + Copy>(alloc: A, sample: &mut Assembly<A>) -> bool {
-    let again = sample.add(alloc, 1, 1, b"ab") == Err(AddError::NoMemory);
-    let faulty = sample.add(alloc, 0, 0, b"") == Err(AddError::NoMemory);
-    again && faulty && !sample.is_whole()
+    let missing = sample.missing_up_to(3);
+    for (start, count, payload) in LATER {
+        let added = sample.add(alloc, start, count, payload);
+        if added != Err(AddError::NoMemory)
+            || sample.missing_up_to(3) != missing
+            || sample.is_whole()
+        {
+            return false;
+        }
+    }
+    true
 }
 
 #[test]
 fn a_refused_growth_is_out_of_memory(rt: HostRuntime) -> Result<(), Fail> {
     let (mut refused, mut served) = (false, false);
     for step in 1..128 {
-        let heap = LocalHeap::new(rt.alloc(), step * 16)?;
+        let heap = LocalHeap::new(rt.alloc(), 4096)?;
+        let others = Vec::<u8, _>::with_capacity(&heap, 4096 - step * 16)?;
         let mut sample = Assembly::new(&heap, 6, 2);
-        match serves(&heap, &mut sample) {
+        let outcome = serves(&heap, &mut sample);
+        drop(others);
+        match outcome {
             Some(whole) => {
                 assert!(rt; whole);
                 served = true;

@@ -2,6 +2,7 @@
 
 mod edges;
 mod matching;
+mod memory;
 mod reliable;
 mod state;
 

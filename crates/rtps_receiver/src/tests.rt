@@ -1,9 +1,12 @@
 //! Events of datagrams written by hand.
 
+ghost use Rattle.std.specs.Prelude.{◌≤◌, length};
+
 use crate::*;
 use linked_list_allocator::LocalHeap;
 use rtps_types::{EntityId, GuidPrefix, Timestamp};
 use rtps_wire::Form;
+use std::alloc::Global;
 use std::test::Fail;
 
 const OURS: GuidPrefix = GuidPrefix([0x0b; 12]);
@@ -22,7 +25,7 @@ const DATA: [u8; 28] = [
 ];
 
 /// Returns a message with these submessages after its header.
-fn message(alloc: std::alloc::Global, parts: &[&[u8]]) -> Result<Vec<u8>, Fail> {
+fn message(alloc: Global, parts: &[&[u8]]) -> Result<Vec<u8>, Fail> {
     let mut octets = HEADER.to_vec(alloc)?;
     for part in parts {
         octets.extend_from_slice(part)?;
@@ -183,26 +186,77 @@ fn bad_headers_give_none(rt: HostRuntime) -> Result<(), Fail> {
     Ok(())
 }
 
-#[test]
-fn refused_growths(rt: HostRuntime) -> Result<(), Fail> {
-    let octets = message(rt.alloc(), &[&DATA, &DATA, &DATA, &DATA, &DATA])?;
-    assert!(rt; octets.len() < 200);
-    let mut refused = false;
-    let mut succeeded = false;
-    for size in [64, 256, 1024, 4096, 16384] {
-        let heap = LocalHeap::new(rt.alloc(), size)?;
-        match events(&heap, OURS, 0, &octets) {
-            Ok(found) => {
-                assert_eq!(rt; found.len(), 5);
-                succeeded = true;
-            }
-            Err(_) => {
-                assert!(rt; !succeeded);
-                refused = true;
-            }
+/// The calls that list events.
+#[derive(Clone, Copy, Debug)]
+enum Call {
+    /// Lists the events of a datagram.
+    Events,
+    /// Appends them to a list that has one event.
+    AddEvents,
+}
+
+/// Whether a list has `count` events, the last of them at this submessage of datagram 8.
+fn ends_at(events: &[Event<'_>], count: usize, submessage: u32) -> bool {
+    let last = events.last().map(|event| event.place);
+    events.len() == count
+        && last.is_some_and(|place| (place.datagram, place.submessage) == (8, submessage))
+}
+
+/// Lists five events in a heap of this size. Returns the number of refusals; what is refused leaves
+/// the list, and succeeds once there is memory.
+fn refusals(alloc: Global, call: Call, size: usize, octets: &[u8]) -> Result<usize, Fail>
+    requires { length octets.now ≤ 65507 }
+{
+    let heap = LocalHeap::new(alloc, 65_536)?;
+    let mut list = Vec::new(&heap);
+    let one = octets.get(..48).ok_or("one event")?;
+    if matches!(call, Call::AddEvents) {
+        add_events(&mut list, OURS, 8, one)?;
+    }
+    let before = list.len();
+    let mut others = Some(Vec::<u8, _>::with_capacity(&heap, heap.free().saturating_sub(size))?);
+    let mut refused = 0;
+    for _ in 0..2 {
+        let is_listed = match call {
+            Call::Events => match events(&heap, OURS, 8, octets) {
+                Ok(found) => {
+                    list = found;
+                    true
+                }
+                Err(_) => false,
+            },
+            Call::AddEvents => add_events(&mut list, OURS, 8, octets).is_ok(),
+        };
+        if is_listed {
+            break;
+        }
+        refused += 1;
+        others = None;
+        if list.len() != before || (before == 1 && !ends_at(list.as_slice(), 1, 1)) {
+            return Err(Fail::new("a refused call leaves events"));
         }
     }
-    assert!(rt; refused && succeeded);
+    drop(others);
+    if !ends_at(list.as_slice(), before.saturating_add(5), 5) {
+        return Err(Fail::new("not all events"));
+    }
+    Ok(refused)
+}
+
+#[test]
+fn lists_again_what_was_refused(rt: HostRuntime) -> Result<(), Fail> {
+    let octets = message(rt.alloc(), &[&DATA, &DATA, &DATA, &DATA, &DATA])?;
+    assert!(rt; octets.len() < 200);
+    for call in [Call::Events, Call::AddEvents] {
+        let (mut refused, mut listed) = (0, 0);
+        for step in 1..256 {
+            match refusals(rt.alloc(), call, step * 16, &octets)? {
+                0 => listed += 1,
+                _ => refused += 1,
+            }
+        }
+        assert!(rt; 0 < refused && 0 < listed, "of {call:?}");
+    }
     Ok(())
 }
 

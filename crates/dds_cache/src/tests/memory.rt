@@ -1,14 +1,14 @@
 //! Tests with too little memory.
 
-use super::What::{Dispose, Value};
-use super::{ALL, Row, notice, reads, takes, takes_next};
+use super::What::{Dispose, Incompatible, Lost, Matched, Unmatched, Unread, Unregister, Value};
+use super::{ALL, Row, What, is_taken, notice, reads, takes, takes_next};
 use crate::InstanceState::{Alive, Disposed};
 use crate::SampleState::{NotRead, Read};
 use crate::ViewState::{New, NotNew};
 use crate::{DataReader, History};
 use linked_list_allocator::LocalHeap;
 use rtps_types::KeyHash;
-use std::alloc::Allocator;
+use std::alloc::{Allocator, Global};
 use std::test::Fail;
 
 /// The size of a heap in octets.
@@ -55,11 +55,15 @@ fn accepts_again_what_was_refused(rt: HostRuntime) -> Result<(), Fail> {
     Ok(())
 }
 
+/// The instance of the two entries that are there.
+const BLUE: KeyHash = KeyHash([1; 16]);
+
 /// A value and the disposal of its instance, before a call returns them.
-const BEFORE: [Row; 2] = [
-    (1, true, NotRead, New, Disposed),
-    (2, false, NotRead, New, Disposed),
-];
+const BEFORE: [Row; 2] = [FIRST, SECOND];
+
+const FIRST: Row = (1, true, NotRead, New, Disposed);
+
+const SECOND: Row = (2, false, NotRead, New, Disposed);
 
 /// The same two entries, after a call returned them.
 const AFTER: [Row; 2] = [
@@ -69,10 +73,9 @@ const AFTER: [Row; 2] = [
 
 /// Whether a cache accepts the notices of these two entries.
 fn has_two<A: Allocator + Copy>(alloc: A, cache: &mut DataReader<u64, A>) -> Result<bool, Fail> {
-    let blue = KeyHash([1; 16]);
     Ok(
-        cache.accept(alloc, notice(1, 1, Value(blue))?).is_ok()
-            && cache.accept(alloc, notice(1, 2, Dispose(blue))?).is_ok(),
+        cache.accept(alloc, notice(1, 1, Value(BLUE))?).is_ok()
+            && cache.accept(alloc, notice(1, 2, Dispose(BLUE))?).is_ok(),
     )
 }
 
@@ -132,5 +135,182 @@ fn takes_again_what_was_refused(rt: HostRuntime) -> Result<(), Fail> {
         assert!(rt; takes(&heap, &mut cache, 10, ALL, rest)?);
     }
     assert!(rt; refused && answered);
+    Ok(())
+}
+
+/// An instance that isn't there.
+const RED: KeyHash = KeyHash([2; 16]);
+
+/// A notice that comes to a cache with these two entries: whether it makes an entry, for which
+/// alone memory may be refused, and the entries after it.
+type Coming = (History, What, bool, &'static [Row]);
+
+const COMING: [Coming; 12] = [
+    (
+        History::KeepAll,
+        Value(RED),
+        true,
+        &[FIRST, SECOND, (3, true, NotRead, New, Alive)],
+    ),
+    (
+        History::KeepAll,
+        Dispose(RED),
+        true,
+        &[FIRST, SECOND, (3, false, NotRead, New, Disposed)],
+    ),
+    (
+        History::KeepLast(1),
+        Value(RED),
+        true,
+        &[SECOND, (3, true, NotRead, New, Alive)],
+    ),
+    (
+        History::KeepLast(1),
+        Dispose(RED),
+        true,
+        &[SECOND, (3, false, NotRead, New, Disposed)],
+    ),
+    (History::KeepAll, Unregister(BLUE), false, &BEFORE),
+    (History::KeepAll, Unregister(RED), false, &BEFORE),
+    (History::KeepAll, Unread, false, &BEFORE),
+    (History::KeepAll, Matched, false, &BEFORE),
+    (History::KeepAll, Unmatched, false, &BEFORE),
+    (History::KeepAll, Incompatible, false, &BEFORE),
+    (History::KeepAll, Lost, false, &BEFORE),
+    (History::KeepLast(1), Unregister(BLUE), false, &[SECOND]),
+];
+
+/// Takes memory in small blocks until it is refused, but for this number of blocks at its end, and
+/// returns them.
+fn blocks_but<A: Allocator + Copy>(
+    alloc: Global,
+    heap: A,
+    room: usize,
+) -> Result<Vec<Vec<u8, A>>, Fail> {
+    let mut blocks = Vec::new(alloc);
+    for _ in 0..1024 {
+        match Vec::with_capacity(heap, 16) {
+            Ok(block) => blocks.push(block)?,
+            Err(_) => break,
+        }
+    }
+    for _ in 0..room {
+        blocks.pop();
+    }
+    Ok(blocks)
+}
+
+/// Whether a notice is refused that finds room for this number of blocks. A refused notice comes
+/// back and changes nothing, and where it is tried again with more memory, it is accepted.
+fn is_refused(
+    alloc: Global,
+    (keep, what, _, after): Coming,
+    room: usize,
+    is_tried_again: bool,
+) -> Result<bool, Fail> {
+    let heap = LocalHeap::new(alloc, 4096)?;
+    let mut cache = DataReader::new(&heap, keep);
+    if !has_two(&heap, &mut cache)? {
+        return Err(Fail::new("no memory for two entries"));
+    }
+    let before: &[Row] = match keep {
+        History::KeepAll => &BEFORE,
+        History::KeepLast(_) => &BEFORE[1..],
+    };
+    let blocks = blocks_but(alloc, &heap, room)?;
+    let refused = cache.accept(&heap, notice(1, 3, what)?).err();
+    drop(blocks);
+    let is_refused = refused.is_some();
+    let mut entries = after;
+    if let Some(back) = refused {
+        entries = before;
+        if cache.len() != before.len() {
+            return Err(Fail::new("a refused notice leaves an entry"));
+        }
+        if is_tried_again {
+            entries = after;
+            if cache.accept(&heap, back.value).is_err() {
+                return Err(Fail::new("a notice is refused that has memory"));
+            }
+        }
+    }
+    if !reads(&heap, &mut cache, 10, ALL, entries)? {
+        return Err(Fail::new("other entries"));
+    }
+    Ok(is_refused)
+}
+
+#[test]
+fn accepts_again_each_notice_that_was_refused(rt: HostRuntime) -> Result<(), Fail> {
+    let mut refused = 0;
+    for coming in COMING {
+        let (mut of_these, mut accepted) = (0, 0);
+        for room in 0..64 {
+            for is_tried_again in [false, true] {
+                if is_refused(rt.alloc(), coming, room, is_tried_again)? {
+                    of_these += 1;
+                } else {
+                    accepted += 1;
+                }
+            }
+        }
+        let (_, what, makes_entry, _) = coming;
+        assert!(rt; makes_entry || of_these == 0, "of {what:?}");
+        assert!(rt; 0 < accepted, "of {what:?}");
+        refused += of_these;
+    }
+    assert!(rt; 0 < refused);
+    Ok(())
+}
+
+/// Whether a value is refused that finds room for this number of blocks, behind `count` values of
+/// its instance. A refused value changes nothing, and is accepted where it is tried again.
+fn is_next_refused(alloc: Global, count: u64, room: usize) -> Result<bool, Fail> {
+    let heap = LocalHeap::new(alloc, 8192)?;
+    let mut cache = DataReader::new(&heap, History::KeepAll);
+    for number in 1..count.saturating_add(1) {
+        if cache
+            .accept(&heap, notice(1, number, Value(BLUE))?)
+            .is_err()
+        {
+            return Err(Fail::new("no memory for the values before"));
+        }
+    }
+    let before = cache.len();
+    let blocks = blocks_but(alloc, &heap, room)?;
+    let next = count.saturating_add(1);
+    let refused = cache.accept(&heap, notice(1, next, Value(BLUE))?).err();
+    drop(blocks);
+    let is_refused = refused.is_some();
+    if let Some(back) = refused {
+        if cache.len() != before || cache.accept(&heap, back.value).is_err() {
+            return Err(Fail::new("a refused value leaves something"));
+        }
+    }
+    let values = cache.take(&heap, 64, ALL)?;
+    for (value, number) in values.iter().zip(1..65) {
+        if !is_taken(value, (number, true, NotRead, New, Alive)) {
+            return Err(Fail::new("another value"));
+        }
+    }
+    if values.len() as u64 != next {
+        return Err(Fail::new("not all values"));
+    }
+    Ok(is_refused)
+}
+
+#[test]
+fn accepts_again_a_value_of_a_known_instance(rt: HostRuntime) -> Result<(), Fail> {
+    let (mut refused, mut accepted) = (0, 0);
+    for count in 1..10 {
+        for room in 0..48 {
+            if is_next_refused(rt.alloc(), count, room)? {
+                refused += 1;
+            } else {
+                accepted += 1;
+            }
+        }
+    }
+    assert!(rt; 0 < refused && 0 < accepted);
     Ok(())
 }

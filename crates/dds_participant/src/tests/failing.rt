@@ -210,3 +210,167 @@ fn a_reader_has_an_outcome_or_fails_a_participant(rt: HostRuntime) -> Result<(),
     assert!(rt; comes_and_goes_or_fails(alloc, &mut participant)?);
     Ok(())
 }
+
+/// The calls that take an input.
+#[derive(Clone, Copy, Debug)]
+enum Call {
+    RunBatch,
+    RunInOrder,
+    Tick,
+    TickInOrder,
+    AddReader,
+    RemoveReader,
+}
+
+const CALLS: [Call; 6] = [
+    Call::RunBatch,
+    Call::RunInOrder,
+    Call::Tick,
+    Call::TickInOrder,
+    Call::AddReader,
+    Call::RemoveReader,
+];
+
+/// Returns why a participant refuses a call, or `None` where it has an outcome. A batch has these
+/// datagrams, and results in order replace the lists.
+fn fault_of<R: Threads + Sync>(
+    (rt, alloc): (&R, Global),
+    participant: &mut Participant<FailingCatalog<Shapes>>,
+    call: Call,
+    datagrams: &[&[u8]],
+    given: &mut BatchOutput<Shape>,
+) -> Result<Option<EngineError>, Fail> {
+    let datagrams = at_once(alloc, datagrams)?;
+    if !is_batch(&datagrams) {
+        return Err(Fail::new("the batch is too large"));
+    }
+    let workers = Workers {
+        count: 2,
+        gate: &NoGate,
+    };
+    Ok(match call {
+        Call::RunBatch => participant
+            .run_batch(rt, alloc, &NoGate, &datagrams, 2)
+            .err(),
+        Call::RunInOrder => participant
+            .run_in_order(rt, alloc, &workers, &datagrams, given)
+            .err(),
+        Call::Tick => participant.tick(alloc, 1).err(),
+        Call::TickInOrder => participant.tick_in_order(alloc, 1, given).err(),
+        Call::AddReader => participant
+            .add_reader(alloc, reader_config(alloc, 2)?)
+            .err(),
+        Call::RemoveReader => participant.remove_reader(alloc, 0).err(),
+    })
+}
+
+/// Whether a participant that has failed refuses each call, shows what it showed, and leaves the
+/// lists of a batch of one event.
+fn refuses_each<R: Threads + Sync>(
+    (rt, alloc): (&R, Global),
+    participant: &mut Participant<FailingCatalog<Shapes>>,
+    given: &mut BatchOutput<Shape>,
+) -> Result<bool, Fail> {
+    let before = shown_by(participant);
+    for call in CALLS {
+        let fault = fault_of((rt, alloc), participant, call, &[DATA], given)?;
+        if fault != Some(EngineError::Failed) {
+            return Ok(false);
+        }
+    }
+    Ok(
+        shown_by(participant) == before
+            && given.places.len() == 1
+            && participant.matches(alloc).err() == Some(EngineError::Failed),
+    )
+}
+
+/// Whether a call that finds no memory for the third value empties the lists that are lent to it,
+/// and leaves a participant that refuses each call, and whose outlet goes on.
+fn fails_for_good<R: Threads + Sync>(rt: &R, alloc: Global, call: Call) -> Result<bool, Fail> {
+    let mut participant = starving(alloc, 2)?;
+    let (outlet, mut inlet) = outlet(alloc, 4)?;
+    let is_attached = participant.attach(1, outlet).is_ok();
+    let (mut earlier, mut given) = (BatchOutput::new(alloc), BatchOutput::new(alloc));
+    let one = Call::RunInOrder;
+    let first = fault_of((rt, alloc), &mut participant, one, &[DATA], &mut earlier)?;
+    let second = fault_of((rt, alloc), &mut participant, one, &[DATA], &mut given)?;
+    let before = shown_by(&participant);
+    let batch: [&[u8]; 3] = [HEARTBEAT, LATER, THIRD];
+    let fault = fault_of((rt, alloc), &mut participant, call, &batch, &mut given)?;
+    let is_emptied = given.places.is_empty() && given.outputs.is_empty();
+    Ok(
+        is_attached
+            && first.is_none()
+            && second.is_none()
+            && fault == Some(EngineError::NoMemory)
+            && is_emptied == matches!(call, Call::RunInOrder)
+            && shown_by(&participant) == before
+            && refuses_each((rt, alloc), &mut participant, &mut earlier)?
+            && participant.deliver(1) == 0
+            && heard(alloc, &mut inlet)?.as_slice() == [(0, Said::Blue(1))].as_slice()
+            && participant.detach(1).is_some()
+            && participant.detach(1).is_none(),
+    )
+}
+
+#[test]
+fn a_failed_participant_refuses_each_call(rt: HostRuntime) -> Result<(), Fail> {
+    for call in [Call::RunBatch, Call::RunInOrder] {
+        assert!(rt; fails_for_good(&rt, rt.alloc(), call)?, "by {call:?}");
+    }
+    Ok(())
+}
+
+/// Whether a call has an outcome, or finds no memory and leaves a participant that refuses each
+/// call. The participant knows a writer, which both readers are matched with.
+fn has_outcome_or_fails<R: Threads + Sync>(
+    rt: &R,
+    alloc: Global,
+    call: Call,
+) -> Result<bool, Fail> {
+    let mut participant = starving(alloc, 1000)?;
+    let mut given = BatchOutput::new(alloc);
+    let known = [COMES, ANNOUNCES].as_slice();
+    let first = fault_of(
+        (rt, alloc),
+        &mut participant,
+        Call::RunBatch,
+        known,
+        &mut given,
+    )?;
+    let second = fault_of(
+        (rt, alloc),
+        &mut participant,
+        Call::RunInOrder,
+        &[DATA],
+        &mut given,
+    )?;
+    let before = shown_by(&participant);
+    let mut lists = BatchOutput::new(alloc);
+    let fault = fault_of(
+        (rt, alloc),
+        &mut participant,
+        call,
+        &[HEARTBEAT],
+        &mut lists,
+    )?;
+    let is_right = match fault {
+        None => participant.batches() == 3,
+        Some(fault) => {
+            fault == EngineError::NoMemory
+                && shown_by(&participant) == before
+                && refuses_each((rt, alloc), &mut participant, &mut given)?
+        }
+    };
+    Ok(first.is_none() && second.is_none() && is_right)
+}
+
+/// `rt try --test --fail-alloc N` refuses one growth, at one of these calls or elsewhere.
+#[test]
+fn each_call_has_an_outcome_or_fails_a_participant(rt: HostRuntime) -> Result<(), Fail> {
+    for call in CALLS {
+        assert!(rt; has_outcome_or_fails(&rt, rt.alloc(), call)?, "by {call:?}");
+    }
+    Ok(())
+}

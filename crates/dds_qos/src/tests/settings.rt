@@ -5,7 +5,7 @@ use crate::*;
 use linked_list_allocator::LocalHeap;
 use rtps_params::ParamList;
 use rtps_types::{Duration, Endian, EntityId, Guid, GuidPrefix, Locator};
-use std::alloc::Allocator;
+use std::alloc::{Allocator, Global};
 use std::test::Fail;
 
 /// Whether a record with this one parameter, in little-endian order, is well-formed.
@@ -307,26 +307,66 @@ fn a_bad_value_is_no_record_though_another_follows(rt: HostRuntime) -> Result<()
     Ok(())
 }
 
+/// The calls that copy what a record names.
+#[derive(Clone, Copy, Debug)]
+enum Call {
+    OfferedFrom,
+    PartitionsIn,
+}
+
+/// Returns the names of a record's partitions as a call copies them into this heap, each before a
+/// `|`; `None` where a growth is refused.
+fn copied<A: Allocator + Copy>(
+    alloc: Global,
+    heap: A,
+    call: Call,
+    list: &ParamList<'_>,
+) -> Result<Option<String>, Fail> {
+    let partitions = match call {
+        Call::OfferedFrom => match offered_from(heap, list) {
+            Ok(offered) => offered.partitions,
+            Err(QosFault::NoMemory) => return Ok(None),
+            Err(QosFault::Malformed) => return Err(Fail::new("the record is refused")),
+        },
+        Call::PartitionsIn => match partitions_in(heap, Settings::read(list)?.partitions) {
+            Ok(partitions) => partitions,
+            Err(_) => return Ok(None),
+        },
+    };
+    let mut names = String::new(alloc);
+    for name in partitions.names() {
+        names.push_str(name.as_str())?;
+        names.push_str("|")?;
+    }
+    Ok(Some(names))
+}
+
 #[test]
-fn refused_growths(rt: HostRuntime) -> Result<(), Fail> {
+fn copies_again_what_was_refused(rt: HostRuntime) -> Result<(), Fail> {
     let octets = octets_of(rt.alloc(), WRITER)?;
     let list = ParamList::new(octets.as_slice(), Endian::Little)?;
-    let mut refused = false;
-    let mut taken = false;
-    for size in 1..32 {
-        let heap = LocalHeap::new(rt.alloc(), size * 16)?;
-        match offered_from(&heap, &list) {
-            Ok(offered) => {
-                assert_eq!(rt; offered.partitions.names().len(), 2);
-                taken = true;
-            }
-            Err(fault) => {
-                assert_eq!(rt; fault, QosFault::NoMemory);
-                refused = true;
-            }
+    for call in [Call::OfferedFrom, Call::PartitionsIn] {
+        let (mut refused, mut made) = (0, 0);
+        for size in 1..32 {
+            let heap = LocalHeap::new(rt.alloc(), size * 16)?;
+            let found = match copied(rt.alloc(), &heap, call, &list)? {
+                Some(names) => {
+                    made += 1;
+                    Some(names)
+                }
+                None => {
+                    refused += 1;
+                    assert_eq!(rt; heap.used(), 0, "of {call:?}");
+                    copied(rt.alloc(), rt.alloc(), call, &list)?
+                }
+            };
+            assert!(rt;
+                found.is_some_and(|names| names.as_str() == "left2||"),
+                "of {call:?}"
+            );
         }
+        assert!(rt; 0 < refused && 0 < made, "of {call:?}");
     }
-    assert!(rt; refused && taken);
     Ok(())
 }
 

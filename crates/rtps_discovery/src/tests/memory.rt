@@ -24,7 +24,7 @@ fn is_taken<A: Allocator + Copy>(
 }
 
 /// Returns the number of sets of all matches that there is memory for, up to 64; each has the one
-/// match.
+/// match. A set that was refused is made once there is memory again.
 fn count_sets<A: Allocator + Copy>(
     alloc: Global,
     heap: A,
@@ -38,7 +38,12 @@ fn count_sets<A: Allocator + Copy>(
             Err(_) => break,
         }
     }
-    Ok(sets.len())
+    let count = sets.len();
+    drop(sets);
+    if count > 0 && !discovery.matches(heap)?.contains(&(0, SQUARES)) {
+        return Err(Fail::new("no match"));
+    }
+    Ok(count)
 }
 
 /// Whether there is memory for a participant, its writer and some sets of all matches, but not for
@@ -158,8 +163,13 @@ fn hears_all<A: Allocator + Copy>(
     Ok(true)
 }
 
-/// Takes memory in small blocks until it is refused, or 4,096 are taken, and returns them.
-fn blocks_in<A: Allocator + Copy>(alloc: Global, heap: A) -> Result<Vec<Vec<u8, A>>, Fail> {
+/// Takes memory in small blocks until it is refused, or 4,096 are taken, but for this number of
+/// blocks at its end, and returns them.
+fn blocks_but<A: Allocator + Copy>(
+    alloc: Global,
+    heap: A,
+    room: usize,
+) -> Result<Vec<Vec<u8, A>>, Fail> {
     let mut blocks = Vec::new(alloc);
     for _ in 0..4096 {
         match Vec::with_capacity(heap, 16) {
@@ -167,30 +177,34 @@ fn blocks_in<A: Allocator + Copy>(alloc: Global, heap: A) -> Result<Vec<Vec<u8, 
             Err(_) => break,
         }
     }
+    for _ in 0..room {
+        blocks.pop();
+    }
     Ok(blocks)
 }
 
 /// Returns where memory is refused first as a reader comes and goes: four writers are matched with
-/// it and unmatched. `full` is where no memory is left.
+/// it and unmatched. At `full` there is room for this number of blocks alone.
 fn reader_refusal<A: Allocator + Copy>(
     alloc: Global,
     heap: A,
     discovery: &mut Discovery<A>,
-    full: Refused,
+    (full, room): (Refused, usize),
 ) -> Result<Refused, Fail> {
     if !hears_all(alloc, heap, discovery)? {
         return Ok(Refused::AtAnInput);
     }
     let mut blocks = Vec::new(alloc);
     if full == Refused::AsAReaderComes {
-        blocks = blocks_in(alloc, heap)?;
+        blocks = blocks_but(alloc, heap, room)?;
     }
     let Ok((rank, begun)) = discovery.add_reader(heap, reader_of_squares(alloc, 3)?) else {
         drop(blocks);
         return Ok(Refused::AsAReaderComes);
     };
+    blocks.clear();
     if full == Refused::AsAReaderGoes {
-        blocks = blocks_in(alloc, heap)?;
+        blocks = blocks_but(alloc, heap, room)?;
     }
     let Ok(ended) = discovery.remove_reader(heap, rank) else {
         drop(blocks);
@@ -202,16 +216,15 @@ fn reader_refusal<A: Allocator + Copy>(
     Ok(Refused::Nowhere)
 }
 
-/// Like [`reader_refusal`], for a heap of this size.
+/// Like [`reader_refusal`], for a new discovery.
 fn reader_refusal_of(
     alloc: Global,
     config: &Config,
-    size: usize,
-    full: Refused,
+    full: (Refused, usize),
 ) -> Result<Refused, Fail>
     requires { check_of config.now ≡ Ok tt }
 {
-    let heap = LocalHeap::new(alloc, size)?;
+    let heap = LocalHeap::new(alloc, 16_384)?;
     let Ok(mut discovery) = Discovery::new(&heap, config) else {
         return Ok(Refused::AtTheStart);
     };
@@ -226,13 +239,18 @@ fn reader_refusal_of(
 fn refused_growths_as_a_reader_comes_and_goes(rt: HostRuntime) -> Result<(), Fail> {
     let config = leases::two_readers(rt.alloc())?;
     check(&config)?;
-    for full in [
-        Refused::AsAReaderComes,
-        Refused::AsAReaderGoes,
-        Refused::Nowhere,
-    ] {
-        let refused = reader_refusal_of(rt.alloc(), &config, 16384, full)?;
-        assert_eq!(rt; refused, full);
+    for full in [Refused::AsAReaderComes, Refused::AsAReaderGoes] {
+        let (mut refused, mut done) = (0, 0);
+        for room in 0..128 {
+            match reader_refusal_of(rt.alloc(), &config, (full, room))? {
+                Refused::Nowhere => done += 1,
+                at => {
+                    assert_eq!(rt; at, full);
+                    refused += 1;
+                }
+            }
+        }
+        assert!(rt; 1 < refused && 0 < done, "{full:?}");
     }
     Ok(())
 }

@@ -41,18 +41,43 @@ fn refused_growths_gather_nothing(rt: HostRuntime) -> Result<(), Fail> {
     Ok(())
 }
 
-/// The number of jobs planned in a heap of this size; 0 where memory is refused.
-fn jobs_in(alloc: Global, config: &Config, events: &[Event<'_>], size: usize) -> Result<usize, Fail>
+/// What comes of a plan.
+#[derive(Clone, Copy, Debug, PartialEq)]
+enum Met {
+    /// There was no memory for discovery.
+    NoDiscovery,
+    /// The plan was refused, and each later one is.
+    Refused,
+    /// This number of jobs is planned.
+    Jobs(usize),
+}
+
+/// Plans in a heap of this size.
+fn met_in(alloc: Global, config: &Config, events: &[Event<'_>], size: usize) -> Result<Met, Fail>
     requires { check_of config.now ≡ Ok tt }
 {
-    let heap = LocalHeap::new(alloc, size)?;
+    let heap = LocalHeap::new(alloc, 65_536)?;
+    let others = Vec::<u8, _>::with_capacity(&heap, 65_536_usize.saturating_sub(size))?;
     let Ok(mut discovery) = Discovery::new(&heap, config) else {
-        return Ok(0);
+        return Ok(Met::NoDiscovery);
     };
-    match plan(&heap, &at_once(events), &mut discovery) {
-        Ok(plan) => Ok(plan.jobs.len()),
-        Err(_) => Ok(0),
+    let outcome = plan(&heap, &at_once(events), &mut discovery);
+    drop(others);
+    if let Ok(plan) = outcome {
+        return Ok(Met::Jobs(plan.jobs.len()));
     }
+    let moment = discovery.moment();
+    let (again, nothing) = (at_once(events), at_once(&[]));
+    let later: [&[Stamped<'_>]; 3] = [&again, &nothing, &[]];
+    for stamped in later {
+        if !discovery.is_spent() || plan(&heap, stamped, &mut discovery).is_ok() {
+            return Err(Fail::new("something is planned after a refused plan"));
+        }
+    }
+    if discovery.moment() != moment {
+        return Err(Fail::new("a refused plan passes a moment"));
+    }
+    Ok(Met::Refused)
 }
 
 #[test]
@@ -60,15 +85,18 @@ fn refused_growths_plan_nothing(rt: HostRuntime) -> Result<(), Fail> {
     let config = two_readers(rt.alloc())?;
     check(&config)?;
     let events = six_events(rt.alloc())?;
-    let (mut refused, mut planned) = (false, false);
-    for step in 1..65 {
-        match jobs_in(rt.alloc(), &config, &events, step * 256)? {
-            0 => refused = true,
-            2 => planned = true,
-            _ => return Err(Fail::new("a job is lost")),
+    let (mut refused, mut planned) = (0, 0);
+    for step in 1..256 {
+        match met_in(rt.alloc(), &config, &events, step * 64)? {
+            Met::NoDiscovery => {}
+            Met::Refused => refused += 1,
+            jobs => {
+                planned += 1;
+                assert_eq!(rt; jobs, Met::Jobs(2));
+            }
         }
     }
-    assert!(rt; refused && planned);
+    assert!(rt; 1 < refused && 0 < planned);
     Ok(())
 }
 

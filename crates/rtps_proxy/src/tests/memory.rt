@@ -46,10 +46,15 @@ const EACH: [What; 5] = [
     What::HeartbeatFrag(1),
 ];
 
-/// Whether each kind of event is refused.
-fn refuses<A: Allocator + Copy>(alloc: A, proxy: &mut WriterProxy<A>) -> Result<bool, Fail> {
+/// Whether each kind of event is refused, and changes nothing.
+fn refuses<A: Allocator + Copy>(
+    alloc: Global,
+    heap: A,
+    proxy: &mut WriterProxy<A>,
+) -> Result<bool, Fail> {
+    let runs = proxy.runs().to_vec(alloc)?;
     for what in EACH {
-        if bring(alloc, proxy, what)?.is_ok() {
+        if bring(heap, proxy, what)?.is_ok() || proxy.runs() != runs.as_slice() {
             return Ok(false);
         }
     }
@@ -58,26 +63,34 @@ fn refuses<A: Allocator + Copy>(alloc: A, proxy: &mut WriterProxy<A>) -> Result<
 
 #[test]
 fn a_refused_growth_is_out_of_memory(rt: HostRuntime) -> Result<(), Fail> {
-    let (mut refused, mut served) = (false, false);
+    let (mut unbegun, mut refused, mut served) = (false, false, false);
     for step in 1..64 {
-        let heap = LocalHeap::new(rt.alloc(), step * 16)?;
+        let heap = LocalHeap::new(rt.alloc(), 4096)?;
+        let others = Vec::<u8, _>::with_capacity(&heap, 4096 - step * 16)?;
         let Ok(mut proxy) = new_proxy(&heap, true) else {
+            // A proxy that could not begin leaves nothing, and begins once there is memory.
+            drop(others);
+            assert_eq!(rt; heap.used(), 0);
+            let mut proxy = new_proxy(&heap, true)?;
+            assert_eq!(rt; serves(&heap, &mut proxy)?, Some(true));
+            unbegun = true;
             continue;
         };
-        match serves(&heap, &mut proxy)? {
+        let outcome = serves(&heap, &mut proxy)?;
+        drop(others);
+        match outcome {
             Some(right) => {
                 assert!(rt; right);
                 served = true;
             }
             None => {
-                // From then on each call is refused.
-                assert!(rt; refuses(&heap, &mut proxy)?);
+                // From then on each call is refused, also when there is memory again.
+                assert!(rt; refuses(rt.alloc(), &heap, &mut proxy)?);
                 refused = true;
             }
         }
     }
-    assert!(rt; refused);
-    assert!(rt; served);
+    assert!(rt; unbegun && refused && served);
     Ok(())
 }
 
@@ -117,7 +130,7 @@ fn gives_or_refuses(alloc: Global, reliable: bool, all: (usize, bool)) -> Result
             }
             None => {
                 refused = true;
-                refuses(&heap, &mut proxy)?
+                refuses(alloc, &heap, &mut proxy)?
             }
         };
         if !right {

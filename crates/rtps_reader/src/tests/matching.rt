@@ -2,7 +2,6 @@
 
 use crate::*;
 use dds_topic::{Decoder, Shape, Shapes};
-use linked_list_allocator::LocalHeap;
 use rtps_receiver::{EventBody, Heartbeat, Whole};
 use rtps_types::{
     EntityId, Guid, GuidPrefix, Locator, Locators, MatchChangeKind, Number, Place, PolicyId,
@@ -12,7 +11,7 @@ use rtps_wire::{ChangeInfo, Form};
 use std::alloc::{AllocError, Allocator, Global};
 use std::test::Fail;
 
-const WRITER: Guid = Guid {
+pub(super) const WRITER: Guid = Guid {
     prefix: GuidPrefix([10; 12]),
     entity: EntityId([0, 0, 1, 2]),
 };
@@ -23,8 +22,8 @@ const PLACE: Place = Place {
 };
 
 /// A step of the reader.
-#[derive(Clone, Copy)]
-enum Asks {
+#[derive(Clone, Copy, Debug)]
+pub(super) enum Asks {
     /// Handle the change with this number.
     Change(u64),
     /// Handle a HEARTBEAT from the first to the last number, with this count.
@@ -134,7 +133,7 @@ const STEPS: [Row; 15] = [
 ];
 
 /// A reader without matches.
-fn reader<A: Allocator + Copy>(alloc: A) -> Result<ReaderState<A>, ReaderError> {
+pub(super) fn reader<A: Allocator + Copy>(alloc: A) -> Result<ReaderState<A>, ReaderError> {
     let fixed = Vec::new(alloc);
     let entity = EntityId([0, 0, 1, 7]);
     ReaderState::new(
@@ -154,7 +153,7 @@ fn number_of(number: u64) -> Result<Number, Fail> {
     }
 }
 
-fn change(number: u64) -> Result<EventBody<'static>, Fail> {
+pub(super) fn change(number: u64) -> Result<EventBody<'static>, Fail> {
     Ok(EventBody::Whole(Whole {
         number: number_of(number)?,
         info: ChangeInfo {
@@ -166,7 +165,7 @@ fn change(number: u64) -> Result<EventBody<'static>, Fail> {
     }))
 }
 
-fn heartbeat(first: u64, last: u64, count: i32) -> Result<EventBody<'static>, Fail> {
+pub(super) fn heartbeat(first: u64, last: u64, count: i32) -> Result<EventBody<'static>, Fail> {
     if last > 7 {
         return Err(Fail::new("no last number"));
     }
@@ -180,7 +179,7 @@ fn heartbeat(first: u64, last: u64, count: i32) -> Result<EventBody<'static>, Fa
 }
 
 /// Returns the output of a step.
-fn stepped<A: Allocator + Copy>(
+pub(super) fn stepped<A: Allocator + Copy>(
     alloc: A,
     values: Global,
     reader: &mut ReaderState<A>,
@@ -305,31 +304,5 @@ fn first_unmet(
 fn begin_end_and_begin_again(rt: HostRuntime) -> Result<(), Fail> {
     let mut reader = reader(rt.alloc())?;
     assert_eq!(rt; first_unmet(rt.alloc(), &mut reader, &STEPS)?, None);
-    Ok(())
-}
-
-#[test]
-fn a_match_without_memory(rt: HostRuntime) -> Result<(), Fail> {
-    let (mut refused, mut begun) = (false, false);
-    for step in 0..64 {
-        let heap = LocalHeap::new(rt.alloc(), 64 + step * 160)?;
-        let mut reader = reader(&heap)?;
-        match given(&heap, rt.alloc(), &mut reader, Asks::Match(7411))? {
-            Ok(output) => {
-                begun = true;
-                assert_eq!(rt; said(&output)?, Told::Matched);
-            }
-            Err(error) => {
-                refused = true;
-                assert_eq!(rt; error, AllocError);
-                // A spent reader refuses all later steps, even where memory is left.
-                for asks in [Asks::Unmatch, Asks::Refuse(PolicyId::Durability)] {
-                    let again = given(&heap, rt.alloc(), &mut reader, asks)?;
-                    assert!(rt; again.is_err());
-                }
-            }
-        }
-    }
-    assert!(rt; refused && begun);
     Ok(())
 }

@@ -9,7 +9,7 @@ use super::moments::datagram_from;
 use super::{SENDER, Sent, at_start, config, datagram, two};
 use crate::*;
 use dds_qos::Reliability;
-use dds_topic::Shapes;
+use dds_topic::{Shape, Shapes};
 use linked_list_allocator::LocalHeap;
 use rtps_discovery::Config;
 use rtps_reader::Status;
@@ -214,17 +214,37 @@ fn a_tick_out_of_memory_fails_an_engine(rt: HostRuntime) -> Result<(), Fail> {
 }
 
 /// Which call meets a heap that is full but for some room.
-#[derive(Clone, Copy, PartialEq, Eq)]
+#[derive(Clone, Copy, Debug, PartialEq, Eq)]
 enum Call {
+    Take,
+    TakeInOrder,
+    Tick,
+    TickInOrder,
     /// A reader comes.
     Comes,
     /// The reader that came goes.
     Goes,
 }
 
-/// Takes memory in small blocks until it is refused, and returns them.
+/// The calls of a datagram, with the number of their reports: a sample and an answer of each of two
+/// readers.
+const DATAGRAMS: [(Call, usize); 2] = [(Call::Take, 4), (Call::TakeInOrder, 4)];
+
+/// The calls of a tick: both readers are unmatched from four writers.
+const TICKS: [(Call, usize); 2] = [(Call::Tick, 8), (Call::TickInOrder, 8)];
+
+/// The calls by which a third reader comes and goes: it is matched with the four writers and
+/// unmatched.
+const READERS: [(Call, usize); 2] = [(Call::Comes, 4), (Call::Goes, 4)];
+
+/// Takes memory in blocks until it is refused, the last 4,096 octets in blocks of 16, and returns
+/// them.
 fn blocks_in<'a>(alloc: Global, heap: &'a LocalHeap) -> Result<Vec<Vec<u8, &'a LocalHeap>>, Fail> {
     let mut blocks = Vec::new(alloc);
+    // One large block, where there is room for it, and then small ones in all that is left.
+    if let Ok(block) = Vec::with_capacity(heap, heap.free().saturating_sub(6144)) {
+        blocks.push(block)?;
+    }
     for _ in 0..4096 {
         match Vec::with_capacity(heap, 16) {
             Ok(block) => blocks.push(block)?,
@@ -272,6 +292,50 @@ fn removed<'a>(
     }
 }
 
+/// The reports of a datagram or a tick.
+type Reports<'a> = Vec<Report<Shape, &'a LocalHeap>, &'a LocalHeap>;
+
+/// The number of reports of an outcome.
+fn count_in<'a>(outcome: Outcome<Shape, &'a LocalHeap>) -> usize {
+    let mut count = outcome.answers.len();
+    for notices in &outcome.notices {
+        count = count.saturating_add(notices.len());
+    }
+    count
+}
+
+/// Has an engine do a call, and returns the number of its reports. Those in order replace
+/// `reports`.
+fn done<'a>(
+    alloc: Global,
+    heap: &'a LocalHeap,
+    engine: &mut SerialEngine<Shapes, &'a LocalHeap>,
+    call: Call,
+    reports: &mut Reports<'a>,
+) -> Result<Result<usize, EngineError>, Fail> {
+    let parts = [Says::Blue(1, 1), Says::Heartbeat(FIRST, [1, 1, 1])];
+    let octets = datagram_from(alloc, SENDER, &parts)?;
+    let datagram = at_start(octets.as_slice());
+    let outcome = match call {
+        Call::Comes => return added(alloc, heap, engine),
+        Call::Goes => return removed(heap, engine),
+        Call::TakeInOrder => {
+            let taken = engine.take_in_order(heap, datagram, reports);
+            return Ok(taken.map(|_| reports.len()));
+        }
+        Call::TickInOrder => {
+            let ticked = engine.tick_in_order(heap, 100_001, reports);
+            return Ok(ticked.map(|_| reports.len()));
+        }
+        Call::Take => engine.take(heap, datagram),
+        Call::Tick => engine.tick(heap, 100_001),
+    };
+    match outcome {
+        Ok(outcome) => Ok(Ok(count_in(outcome))),
+        Err(fault) => Ok(Err(fault)),
+    }
+}
+
 /// The number of ranks, and the statuses of the first four.
 fn shown_by<'a>(engine: &SerialEngine<Shapes, &'a LocalHeap>) -> (u32, [Option<Status>; 4]) {
     let statuses = [
@@ -283,23 +347,22 @@ fn shown_by<'a>(engine: &SerialEngine<Shapes, &'a LocalHeap>) -> (u32, [Option<S
     (engine.readers(), statuses)
 }
 
-/// Whether an engine that has failed refuses readers, a tick and a datagram.
+/// Whether an engine that has failed refuses each call, and leaves the reports that are lent to it.
 fn refuses_all<'a>(
     alloc: Global,
     heap: &'a LocalHeap,
     engine: &mut SerialEngine<Shapes, &'a LocalHeap>,
+    reports: &mut Reports<'a>,
 ) -> Result<bool, Fail> {
-    let (added, removed) = (added(alloc, heap, engine)?, removed(heap, engine)?);
-    let matches = engine.matches(heap).err();
-    let mut reports = Vec::new(heap);
-    let tick = engine.tick_in_order(heap, 1, &mut reports);
-    Ok(
-        added == Err(EngineError::Failed)
-            && removed == Err(EngineError::Failed)
-            && matches == Some(EngineError::Failed)
-            && tick == Err(EngineError::Failed)
-            && refuses_both(heap, engine),
-    )
+    let count = reports.len();
+    for rows in [DATAGRAMS, TICKS, READERS] {
+        for (call, _) in rows {
+            if done(alloc, heap, engine, call, reports)? != Err(EngineError::Failed) {
+                return Ok(false);
+            }
+        }
+    }
+    Ok(reports.len() == count && engine.matches(heap).err() == Some(EngineError::Failed))
 }
 
 /// Whether there is memory for a call, where the heap has room for this number of blocks. Without
@@ -308,7 +371,7 @@ fn has_room_for<'a>(
     alloc: Global,
     heap: &'a LocalHeap,
     engine: &mut SerialEngine<Shapes, &'a LocalHeap>,
-    call: Call,
+    (call, count): (Call, usize),
     room: usize,
 ) -> Result<bool, Fail> {
     if !takes_peers(alloc, heap, engine)? {
@@ -317,39 +380,40 @@ fn has_room_for<'a>(
     if call == Call::Goes && added(alloc, heap, engine)? != Ok(4) {
         return Err(Fail::new("no memory for the reader"));
     }
+    // Both readers have a sample of the second writer.
+    let octets = datagram_from(alloc, SENDER, &[Says::Blue(2, 1)])?;
+    let (mut earlier, mut reports) = (Vec::new(heap), Vec::new(heap));
+    engine.take_in_order(heap, at_start(octets.as_slice()), &mut earlier)?;
     let before = shown_by(engine);
     let blocks = blocks_but(alloc, heap, room)?;
-    let result = match call {
-        Call::Comes => added(alloc, heap, engine)?,
-        Call::Goes => removed(heap, engine)?,
-    };
+    let result = done(alloc, heap, engine, call, &mut reports)?;
     drop(blocks);
-    if result == Ok(4) {
+    if result == Ok(count) {
         return Ok(true);
     }
-    let is_as_before = shown_by(engine) == before;
-    let is_refused = refuses_all(alloc, heap, engine)? && shown_by(engine) == before;
-    if result == Err(EngineError::NoMemory) && is_as_before && is_refused {
+    let is_as_before = shown_by(engine) == before && reports.is_empty();
+    let is_refused = refuses_all(alloc, heap, engine, &mut earlier)? && shown_by(engine) == before;
+    if result == Err(EngineError::NoMemory) && is_as_before && is_refused && !earlier.is_empty() {
         return Ok(false);
     }
     Err(Fail::new("a call has another result"))
 }
 
 /// Like [`has_room_for`], for a new engine of two readers.
-fn has_room_in_new(alloc: Global, call: Call, room: usize) -> Result<bool, Fail> {
+fn has_room_in_new(alloc: Global, row: (Call, usize), room: usize) -> Result<bool, Fail> {
     let heap = LocalHeap::new(alloc, 32_768)?;
     let readers = config(alloc, Reliability::Reliable, &[0, 1], &[])?;
     let mut engine = SerialEngine::new_in(&heap, alloc, readers, Shapes)?;
-    has_room_for(alloc, &heap, &mut engine, call, room)
+    has_room_for(alloc, &heap, &mut engine, row, room)
 }
 
-/// Returns the least room, in blocks, in which a call succeeds, where it succeeds in each larger one
-/// up to 256 blocks.
-fn least_room(alloc: Global, call: Call) -> Result<Option<usize>, Fail> {
+/// Returns the least room, in pairs of blocks, in which a call succeeds, where it succeeds in each
+/// larger one up to 128 pairs.
+fn least_room(alloc: Global, row: (Call, usize)) -> Result<Option<usize>, Fail> {
     let mut least = None;
-    for room in 0..256 {
-        match (has_room_in_new(alloc, call, room)?, least) {
-            (true, None) => least = Some(room),
+    for pairs in 0..128 {
+        match (has_room_in_new(alloc, row, pairs * 2)?, least) {
+            (true, None) => least = Some(pairs),
             (false, Some(_)) => return Ok(None),
             _ => {}
         }
@@ -357,20 +421,31 @@ fn least_room(alloc: Global, call: Call) -> Result<Option<usize>, Fail> {
     Ok(least)
 }
 
+/// Whether each of these calls succeeds in some room, and not in one pair of blocks.
+fn needs_room(alloc: Global, rows: &[(Call, usize)]) -> Result<bool, Fail> {
+    for row in rows {
+        match least_room(alloc, *row)? {
+            Some(least) if 1 < least => {}
+            _ => return Ok(false),
+        }
+    }
+    Ok(true)
+}
+
 #[test]
-fn a_reader_that_comes_out_of_memory_fails_an_engine(rt: HostRuntime) -> Result<(), Fail> {
-    let Some(least) = least_room(rt.alloc(), Call::Comes)? else {
-        return Err(Fail::new("no room is enough"));
-    };
-    assert!(rt; 1 < least);
+fn a_datagram_out_of_memory_fails_an_engine(rt: HostRuntime) -> Result<(), Fail> {
+    assert!(rt; needs_room(rt.alloc(), &DATAGRAMS)?);
     Ok(())
 }
 
 #[test]
-fn a_reader_that_goes_out_of_memory_fails_an_engine(rt: HostRuntime) -> Result<(), Fail> {
-    let Some(least) = least_room(rt.alloc(), Call::Goes)? else {
-        return Err(Fail::new("no room is enough"));
-    };
-    assert!(rt; 1 < least);
+fn a_tick_in_a_full_heap_fails_an_engine(rt: HostRuntime) -> Result<(), Fail> {
+    assert!(rt; needs_room(rt.alloc(), &TICKS)?);
+    Ok(())
+}
+
+#[test]
+fn a_reader_that_comes_or_goes_out_of_memory_fails_an_engine(rt: HostRuntime) -> Result<(), Fail> {
+    assert!(rt; needs_room(rt.alloc(), &READERS)?);
     Ok(())
 }
