@@ -10,9 +10,6 @@ mod peer;
 mod receiver;
 
 use anyhow::{Result, bail};
-use dds_cache::{Condition, Content, DataReader, History, Taken};
-use dds_outlet::{Inlet, StatusBoard, StatusReader, outlet};
-use dds_topic::Shape;
 use peer::Peer;
 use receiver::Receiver;
 use std::alloc::Global;
@@ -21,6 +18,9 @@ use std::sync::Wait;
 use std::sync::atomic::{AtomicBool, Ordering};
 use std::thread::{self, Threads};
 use std::time::{Clock, Duration};
+use thrushpodium::{
+    Condition, Content, DataReader, History, Inlet, Shape, StatusBoard, StatusReader, Taken, outlet,
+};
 
 /// A domain of its own, so that the program runs beside others.
 const DOMAIN: u16 = 101;

@@ -1,10 +1,10 @@
 //! A peer on loopback, with a writer of squares.
 
 use crate::DOMAIN;
-use rtps_types::{EntityId, Guid, GuidPrefix, Locator};
 use std::io::{self, ErrorKind};
 use std::net::{Net, SocketAddr, UdpSocket};
 use std::time::Duration;
+use thrushpodium::{EntityId, Guid, GuidPrefix, Locator};
 
 /// The peer's writer.
 pub const WRITER: Guid = Guid {

@@ -5,21 +5,17 @@ ghost use Rattle.std.specs.Prelude.{◌≡◌, IfOk};
 use crate::peer::WRITER;
 use crate::{DOMAIN, SQUARES};
 use anyhow::{Result, bail};
-use dds_outlet::{Outlet, StatusBoard, Told};
-use dds_participant::{BatchOutput, Participant, Workers, is_batch};
-use dds_topic::{Shape, Shapes};
-use rtps_discovery::{Config, ReaderConfig};
-use rtps_records::{Batch, Exchange, ReceiveEnd};
-use rtps_shards::NoGate;
-use rtps_text::send_answers;
-use rtps_types::{EntityId, GuidPrefix, Locator, Locators};
-use rtps_udp::Sockets;
 use std::alloc::Global;
 use std::net::Net;
 use std::sync::Wait;
 use std::sync::atomic::{AtomicBool, Ordering};
 use std::thread::Threads;
 use std::time::Clock;
+use thrushpodium::{
+    Batch, BatchOutput, Config, EntityId, Exchange, GuidPrefix, Locator, Locators, NoGate, Outlet,
+    Participant, ReceiveEnd, Shape, Shapes, Sockets, StatusBoard, Subscription, Told, Workers,
+    is_batch, send_answers,
+};
 
 /// The sockets of a participant, and its one reader, of the topic `Square`.
 #[derive(Drop)]
@@ -38,8 +34,9 @@ impl<'a, K: Net + Clock> Receiver<'a, K> {
         peer: Locator,
     ) -> Result<Receiver<'a, K>> {
         let mut config = Config::new(alloc, GuidPrefix([0x0b; 12]));
-        let reader = ReaderConfig::new(alloc, EntityId([0, 0, 1, 7]), "Square", "ShapeType")?;
-        config.add_reader(reader.reliable())?;
+        let entity = EntityId([0, 0, 1, 7]);
+        let squares = Subscription::topic(alloc, entity, "Square", "ShapeType")?.reliable();
+        config.add_reader(squares.reader)?;
         config.add_fixed(SQUARES, WRITER, Locators::one(alloc, peer))?;
         let mut participant = Participant::new(alloc, config, Shapes)?;
         if let Err((_outlet, fault)) = participant.attach(SQUARES, outlet) {

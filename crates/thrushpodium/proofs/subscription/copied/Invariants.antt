@@ -1,0 +1,7 @@
+use Rattle.std.proofs.Common.{◌≡◌, map, take}
+use Rattle.std.specs.String.{string_bytes}
+use Rattle.thrushpodium.proofs.subscription.copied.Given as goal
+
+-- those so far were copied
+abbrev pub invariant-loop-text : goal.invariant-loop-text
+invariant-loop-text l = map string_bytes l.copies.items ≡ map (λ t. t.now) (take l.text-index l.texts)

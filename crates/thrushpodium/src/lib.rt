@@ -1,0 +1,84 @@
+//! The receiving half of a DDS peer (OMG DDS 1.4, DDSI-RTPS 2.5): datagrams in; each reader's
+//! samples in order, its statuses, and the datagrams that answer. All that an application needs is
+//! named here; each contract is that of the crate below which has the type.
+//!
+//! It receives: there is no writer, and nothing is announced. The application has the sockets, the
+//! clock and the threads, and passes on what comes.
+//!
+//! A participant with one reader of shapes, which are a type that is there already
+//! ([`Structs`] makes one of a struct of your own):
+//!
+//! ```
+//! let squares = Subscription::topic(alloc, EntityId([0, 0, 1, 7]), "Square", "ShapeType")?
+//!     .reliable()
+//!     .history(History::KeepLast(8));
+//! let mut cache = squares.cache(alloc);
+//! let mut config = Config::new(alloc, GuidPrefix([0x0b; 12]));
+//! config.add_reader(squares.reader)?;
+//! let mut participant = Participant::new(alloc, config, Shapes)?;
+//! ```
+//!
+//! A batch of datagrams, each with the moment in milliseconds at which it came, on up to 64 threads;
+//! for each rank the notices of its reader, which go into the cache; and the answers, each with the
+//! addresses that it is sent to:
+//!
+//! ```
+//! let outcome = participant.run_batch(&rt, alloc, &NoGate, &datagrams, 4)?;
+//! for answer in &outcome.answers {
+//!     // Send answer.octets to each of answer.to.
+//! }
+//! for notice in outcome.notices.into_iter().flatten() {
+//!     cache.accept(alloc, notice)?;
+//! }
+//! for sample in &cache.take(alloc, 100, Condition::default())? {
+//!     // sample.writer, number, time, its states, and sample.body: a value, or that it was disposed.
+//! }
+//! ```
+//!
+//! While nothing comes, [`Participant::tick`] has time pass, so that participants which keep silent
+//! are forgotten. Readers come and go by [`Participant::add_reader`] and `remove_reader`.
+//!
+//! **Threads.** A participant belongs to one thread. An [`Outlet`] that is attached to a reader
+//! hands its notices to another thread, whose [`Inlet`] a cache pulls from; a [`StatusBoard`] shows
+//! statuses to any thread, and no look waits. [`SerialEngine`] is the same on one thread.
+//!
+//! **Memory.** Whatever takes memory takes an allocator, and answers `NoMemory` or `AllocError`
+//! where a growth is refused. A participant has failed then, and says so from then on; what it
+//! showed before stands. A cache can be asked again.
+//!
+//! [`Sockets`] are those of a domain on this machine; `crates/example_live` is a whole program.
+#![tactic(auto)]
+
+mod subscription;
+#[cfg(test)]
+mod tests;
+
+pub use dds_cache::{
+    Answers, Condition, Content, DataReader, History, InstanceState, Sample, SampleState, Taken,
+    ViewState,
+};
+pub use dds_outlet::{Inlet, Look, Outlet, Row, Sent, StatusBoard, StatusReader, Told, outlet};
+pub use dds_participant::{AttachFault, BatchOutput, Participant, PublishFault, Workers, is_batch};
+pub use dds_qos::{
+    AccessScope, DestinationOrder, Durability, INFINITE, Liveliness, LivelinessKind, Ownership,
+    Policies, Presentation, Reliability,
+};
+pub use dds_struct::{KeyMember, Member, Structs, Structure, Text, copy_member};
+pub use dds_topic::{
+    Catalog, CatalogError, Color, NoMemory, Raw, RawValue, Shape, Shapes, TextCatalog, Unread,
+};
+pub use rtps_discovery::{
+    Config, ConfigFault, Discovery, FixedMatch, ReaderConfig, ReaderFault, check,
+};
+pub use rtps_reader::{Body, Notice, NoticeKind, Status};
+pub use rtps_records::{Batch, Exchange, Receive, ReceiveEnd};
+pub use rtps_run::{Answer, EngineError, Outcome, StartError};
+pub use rtps_serial::SerialEngine;
+pub use rtps_shards::NoGate;
+pub use rtps_text::send_answers;
+pub use rtps_types::{
+    Datagram, Duration, EntityId, Guid, GuidPrefix, KeyHash, Locator, Locators, Place, PolicyId,
+    SequenceNumber, Timestamp,
+};
+pub use rtps_udp::Sockets;
+pub use subscription::Subscription;
