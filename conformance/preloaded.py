@@ -1,4 +1,4 @@
-"""A library that is loaded before a program starts, and makes growths of the heap, reads and writes fail as it is told.
+"""A library that is loaded before a program starts, and makes growths of the heap, starts of threads, reads and writes fail.
 
 It is built by the C compiler of the system. By the environment of a run:
 
@@ -133,6 +133,15 @@ def built(folder):
     if done.returncode:
         raise NoCompiler(f"{compiler} can't build the library, so nothing was run: {done.stderr[-500:]}")
     return library
+
+
+def status_of(main):
+    """The status of a script that builds the library: it fails where the library can't be built."""
+    try:
+        return main()
+    except NoCompiler as fault:
+        print(f"{fault}\n0 passed, 1 failed")
+        return 1
 
 
 class Run:

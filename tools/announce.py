@@ -330,7 +330,7 @@ class Announcer:
         return sent
 
     def take_announced(self, prefix, announced, now):
-        """A peer announces itself, or leaves. A new one is told of the participant first, and then of the readers."""
+        """A peer announces itself, or leaves. A new one gets the participant first, and then the readers."""
         if not announced:
             return []
         if not (announced.here and announced.hears_readers and announced.addresses):

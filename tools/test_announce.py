@@ -96,7 +96,7 @@ class Announces(unittest.TestCase):
         self.sends(own.hear(bytes.fromhex(octets), now), *wanted)
 
     def met(self, readers=1, **how):
-        """An announcer that has told a peer of its readers."""
+        """An announcer that has announced its readers to a peer."""
         own = announcer(readers, **how)
         own.hear(bytes.fromhex(hello()), 100.0)
         return own

@@ -18,9 +18,9 @@
 //! let mut participant = Participant::new(alloc, config, Shapes)?;
 //! ```
 //!
-//! A batch of datagrams, each with the moment in milliseconds at which it came, on up to 64 threads;
-//! for each rank the notices of its reader, which go into the cache; and the answers, each with the
-//! addresses that it is sent to:
+//! A batch of datagrams, each with the moment in milliseconds at which it came, on up to 64
+//! threads. The result has for each rank the notices of its reader, which go into the cache, and
+//! the answers, each with the addresses that it is sent to:
 //!
 //! ```
 //! let outcome = participant.run_batch(&rt, alloc, &NoGate, &datagrams, 4)?;
@@ -31,7 +31,7 @@
 //!     cache.accept(alloc, notice)?;
 //! }
 //! for sample in &cache.take(alloc, 100, Condition::default())? {
-//!     // sample.writer, number, time, its states, and sample.body: a value, or that it was disposed.
+//!     // sample.writer, number, time, its states, and sample.body: a value, or a disposal.
 //! }
 //! ```
 //!
@@ -43,8 +43,8 @@
 //! statuses to any thread, and no look waits. [`SerialEngine`] is the same on one thread.
 //!
 //! **Memory.** Whatever takes memory takes an allocator, and answers `NoMemory` or `AllocError`
-//! where a growth is refused. A participant has failed then, and says so from then on; what it
-//! showed before stands. A cache can be asked again.
+//! where a growth is refused. A participant has failed then, and says so from then on; its
+//! statuses stay as they were. A cache can be asked again.
 //!
 //! [`Sockets`] are those of a domain on this machine; `crates/example_live` is a whole program.
 #![tactic(auto)]

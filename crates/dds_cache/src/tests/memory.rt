@@ -263,7 +263,7 @@ fn accepts_again_each_notice_that_was_refused(rt: HostRuntime) -> Result<(), Fai
     Ok(())
 }
 
-/// Whether a value is refused that finds room for this number of blocks, behind `count` values of
+/// Whether a value is refused that finds room for this number of blocks, after `count` values of
 /// its instance. A refused value changes nothing, and is accepted where it is tried again.
 fn is_next_refused(alloc: Global, count: u64, room: usize) -> Result<bool, Fail> {
     let heap = LocalHeap::new(alloc, 8192)?;

@@ -354,7 +354,7 @@ fn a_fixed_match_ends_untold_with_its_reader(rt: HostRuntime) -> Result<(), Fail
     Ok(())
 }
 
-/// A reader comes after the last tick at which the lease of the peer, 100 seconds, stands. The tick
+/// A reader comes after the last tick within the lease of the peer, which is 100 seconds. The tick
 /// that ends it has the same place.
 const BETWEEN_TICKS: [Row; 5] = [
     (Takes(&[COMES]), Ok((None, &[]))),

@@ -285,8 +285,8 @@ fn refuses_each<R: Threads + Sync>(
     )
 }
 
-/// Whether a call that finds no memory for the third value empties the lists that are lent to it,
-/// and leaves a participant that refuses each call, and whose outlet goes on.
+/// Whether a call that finds no memory for the third value empties the lists of its caller, and
+/// leaves a participant that refuses each call, and whose outlet goes on.
 fn fails_for_good<R: Threads + Sync>(rt: &R, alloc: Global, call: Call) -> Result<bool, Fail> {
     let mut participant = starving(alloc, 2)?;
     let (outlet, mut inlet) = outlet(alloc, 4)?;

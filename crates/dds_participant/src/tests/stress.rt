@@ -221,8 +221,8 @@ fn trace(report: &Report<Shape>) -> Trace {
     (line(report), report.turn().place.submessage, sum)
 }
 
-/// What is told while inputs are taken: the traces of the reports, in order, and of each reader that
-/// came or went its rank, or why not.
+/// The reports while inputs are taken: their traces, in order, and of each reader that came or went
+/// its rank, or why not.
 #[derive(Drop)]
 struct Telling {
     traces: Vec<Trace>,
@@ -261,7 +261,7 @@ impl Telling {
     }
 }
 
-/// The result of a run: what is told, the status of each rank that was given, and the matches.
+/// The result of a run: the reports, the status of each rank that was given, and the matches.
 type Run = (Telling, Vec<Option<Status>>, BTreeSet<(u32, Guid)>);
 
 /// The reader that comes with this third octet of its entity: a best-effort one where it is odd.

@@ -10,7 +10,7 @@ use rtps_types::Endian;
 use std::alloc::{Allocator, Global};
 use std::test::Fail;
 
-/// The calls that allocate where they are told to.
+/// The calls that take the allocator to use.
 #[derive(Clone, Copy, Debug)]
 enum Call {
     Color,

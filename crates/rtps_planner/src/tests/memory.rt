@@ -41,7 +41,7 @@ fn refused_growths_gather_nothing(rt: HostRuntime) -> Result<(), Fail> {
     Ok(())
 }
 
-/// What comes of a plan.
+/// The result of a plan.
 #[derive(Clone, Copy, Debug, PartialEq)]
 enum Met {
     /// There was no memory for discovery.

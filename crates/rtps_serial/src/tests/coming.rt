@@ -259,7 +259,7 @@ fn a_reader_has_what_comes_while_it_is_there(rt: HostRuntime) -> Result<(), Fail
 }
 
 /// Three writers, announced in falling order of their octets: one of circles, one of squares, and
-/// one of squares that offers too little. A reader that goes is told of no refusal again.
+/// one of squares that offers too little. A reader that goes reports no refusal again.
 const THREE_WRITERS: [Row; 6] = [
     (
         Takes(&[Says::Comes, Says::Offers(1, 3, Offer::Circle)]),
@@ -436,7 +436,7 @@ fn a_reader_that_goes_takes_no_match_of_another_with_it(rt: HostRuntime) -> Resu
     Ok(())
 }
 
-/// A reader comes after the last tick at which the lease of the peer, 100 seconds, stands. The tick
+/// A reader comes after the last tick within the lease of the peer, which is 100 seconds. The tick
 /// that ends it has the same place.
 const BETWEEN_TICKS: [Row; 5] = [
     PEER,

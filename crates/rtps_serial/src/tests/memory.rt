@@ -347,7 +347,7 @@ fn shown_by<'a>(engine: &SerialEngine<Shapes, &'a LocalHeap>) -> (u32, [Option<S
     (engine.readers(), statuses)
 }
 
-/// Whether an engine that has failed refuses each call, and leaves the reports that are lent to it.
+/// Whether an engine that has failed refuses each call, and leaves the reports of the caller alone.
 fn refuses_all<'a>(
     alloc: Global,
     heap: &'a LocalHeap,

@@ -4,4 +4,5 @@ use Rattle.thrushpodium.proofs.subscription.copied.Given as goal
 
 -- those so far were copied
 abbrev pub invariant-loop-text : goal.invariant-loop-text
-invariant-loop-text l = map string_bytes l.copies.items ≡ map (λ t. t.now) (take l.text-index l.texts)
+invariant-loop-text l =
+    map string_bytes l.copies.items ≡ map (λ t. t.now) (take l.text-index l.texts)
