@@ -24,7 +24,7 @@ from run import HERE, octets
 
 ROWS = ("event_line/each_kind_of_event", "moments/lease_ends", "cache/keep_last")
 OPTIONS = ["--topic", "Square", "--fixed", "0a" * 12 + "00000102", "--summary"]
-COMMANDS = (["dump", "-"], ["replay", "-", *OPTIONS], ["samples", "-", *OPTIONS])
+COMMANDS = (["dump", "-"], ["explain", "-"], ["replay", "-", *OPTIONS], ["samples", "-", *OPTIONS])
 CANNOT_READ, CANNOT_WRITE = b"rtps_listen: cannot read the file\n", b"rtps_listen: cannot write\n"
 NO_FILE = b"rtps_listen: not an RDG1 file\n"
 ALL = 1 << 30
@@ -120,7 +120,7 @@ def faults_of_places(program, room):
     own = shutil.copy(program, room / "program")
     room.chmod(0o755)
     someone = {"user": NOBODY, "group": NOBODY} if os.geteuid() == 0 else {}
-    for command in (["dump"], ["replay", *OPTIONS[2:]], ["samples", *OPTIONS[2:]]):
+    for command in (["dump"], ["explain"], ["replay", *OPTIONS[2:]], ["samples", *OPTIONS[2:]]):
         words = lambda path, by=program, command=command: [by, command[0], str(path), *command[1:]]
         for name, path in (("a folder", room), ("a file that isn't there", room / "missing.rdg")):
             yield f"{command[0]} of {name}", ended(started(words(path))) == (3, b"", CANNOT_READ)

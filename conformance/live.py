@@ -105,6 +105,11 @@ class Running:
         look("status", self.process.returncode, status)
 
 
+def in_table(address):
+    """An address as /proc/net/udp has it."""
+    return socket.inet_aton(address)[::-1].hex().upper()
+
+
 def peer(port=0):
     """A socket of the peer."""
     made = socket.socket(socket.AF_INET, socket.SOCK_DGRAM)
@@ -128,11 +133,11 @@ def addresses(port):
     return [address for address, at in bound if int(at, 16) == port]
 
 
-def wait_until_bound():
-    """Waits until the program has both of its ports, on the loopback interface alone; the one for user data is the second."""
+def wait_until_bound(address=HOST):
+    """Waits until the program has both of its ports, at one address alone; the one for user data is the second."""
     for _ in range(SECONDS * 50):
         if addresses(USER):
-            look("the addresses of its sockets", addresses(DISCOVERY) + addresses(USER), ["0100007F"] * 2)
+            look("the addresses of its sockets", addresses(DISCOVERY) + addresses(USER), [in_table(address)] * 2)
             return
         time.sleep(0.02)
     raise Unlike("the program binds no port")
@@ -150,6 +155,19 @@ def answers_a_peer(program):
                 break
         look("the answer", (answer or b"").hex(), ASKED)
         running.ends(f"0:2 answer 127.0.0.1:7412 {ASKED}\n")
+
+
+def receives_at_another_address(program):
+    """A datagram arrives at the address that is asked for, and the answer goes to the peer's locator, from the port of discovery."""
+    for address, reached in (("127.0.0.2", "127.0.0.2"), ("0.0.0.0", HOST)):
+        with peer(PEER) as own, Running(program, "--count", "1", "--address", address) as running:
+            wait_until_bound(address)
+            own.settimeout(SECONDS)
+            own.sendto(bytes.fromhex(HEADER + ANNOUNCED + BEATS), (reached, DISCOVERY))
+            answer, sender = own.recvfrom(65_536)
+            look("the answer", answer.hex(), ASKED)
+            look("where it comes from", sender, (reached, DISCOVERY))
+            running.ends(f"0:2 answer 127.0.0.1:7412 {ASKED}\n")
 
 
 def announce(own):
@@ -231,15 +249,25 @@ def says_that_a_port_is_taken(program):
         running.ends("", 4, "rtps_listen: socket fault\n")
 
 
+def refuses_an_address_of_another_machine(program):
+    """An address for documentation, which no machine has (RFC 5737), and a multicast group."""
+    for address in ("192.0.2.1", "239.255.0.1"):
+        with Running(program, "--count", "1", "--address", address) as running:
+            running.ends("", 4, "rtps_listen: socket fault\n")
+
+
 def refuses_bad_options_first(program):
     with peer(USER), Running(program, "--count", "1", "--own", "0b") as running:
         running.ends("", 2, "rtps_listen: bad prefix\n")
     with peer(USER), Running(program, "--count", "1", "--fixed", "0b") as running:
         running.ends("", 2, "rtps_listen: bad writer\n")
+    with peer(USER), Running(program, "--count", "1", "--address", "127.0.0") as running:
+        running.ends("", 2, "rtps_listen: bad address\n")
 
 
 RUNS = (
     answers_a_peer,
+    receives_at_another_address,
     repairs_a_lost_sample,
     hears_announcements_first,
     prints_what_comes_in_order,
@@ -247,6 +275,7 @@ RUNS = (
     forgets_who_is_silent,
     ends_after_its_turns,
     says_that_a_port_is_taken,
+    refuses_an_address_of_another_machine,
     refuses_bad_options_first,
 )
 

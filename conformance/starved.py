@@ -4,12 +4,13 @@
     starved.py PROGRAM          each growth of short files, and some of long ones
     starved.py PROGRAM --all    each growth of long files too, which takes an hour
 
-`dump`, `replay` and `samples` run over the files of some rows, by several workers and sizes of batches. A run in which a growth
-was refused has to end with status 5 and `rtps_listen: out of memory`, and what it wrote has to be a front of the text that it
-writes with ample memory. It may end as with ample memory in two cases: with several workers, where a growth was refused to one
-that should have started, and the others did its work; and where a growth was refused that the program can do without. There are
-two of these before the file is read: a large block, which is freed at once, and room for the words of the command line in
-advance. A run in which a thread didn't start has to end as any other. The last line is 'N passed, M failed', counted by runs.
+`dump`, `explain`, `replay` and `samples` run over the files of some rows, by several workers and sizes of batches. A
+run in which a growth was refused has to end with status 5 and `rtps_listen: out of memory`, and what it wrote has to be
+a front of the text that it writes with ample memory. It may end as with ample memory in two cases: with several
+workers, where a growth was refused to one that should have started, and the others did its work; and where a growth was
+refused that the program can do without. There are two of these before the file is read: a large block, which is freed
+at once, and room for the words of the command line in advance. A run in which a thread didn't start has to end as any
+other. The last line is 'N passed, M failed', counted by runs.
 """
 
 import itertools
@@ -50,6 +51,7 @@ def short_files():
     for row in ROWS:
         data = octets(HERE / row / "input.hex")
         yield ["dump", "-"], 1, data
+        yield ["explain", "-"], 1, data
         for command, (workers, batch) in itertools.product(("replay", "samples"), PACES):
             yield [command, "-", *OPTIONS, "--workers", str(workers), "--batch", str(batch)], workers, data
 

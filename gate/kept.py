@@ -10,7 +10,7 @@ import json
 import os
 import shutil
 import tempfile
-from concurrent.futures import ThreadPoolExecutor
+from concurrent.futures import ProcessPoolExecutor
 from contextlib import contextmanager
 from pathlib import Path
 
@@ -49,6 +49,14 @@ def linked(source, target):
         shutil.copy2(source, target)
 
 
+def of_each(call, crates):
+    """What a call gives for each crate, by processes, since threads of the interpreter don't sum small files at once."""
+    if len(crates) < 2:
+        return [call(crate) for crate in crates]
+    with ProcessPoolExecutor() as pool:
+        return list(pool.map(call, crates))
+
+
 class Kept:
     def __init__(self, folder, toolchain):
         self.folder = folder
@@ -77,8 +85,8 @@ class Kept:
 
     def take_all(self, crates):
         """Gives each crate the work that is kept, and returns the names of those that took it."""
-        with self.locked(), ThreadPoolExecutor() as pool:
-            took = list(pool.map(self.take, crates))
+        with self.locked():
+            took = of_each(self.take, crates)
         return [crate.name for crate, is_taken in zip(crates, took) if is_taken]
 
     def keep(self, crate):
@@ -87,8 +95,8 @@ class Kept:
 
     def keep_all(self, crates):
         """Keeps the work of each crate that has any, and returns the names of those of which it is kept now."""
-        with self.locked(), ThreadPoolExecutor() as pool:
-            seals = list(pool.map(self.placed, crates))
+        with self.locked():
+            seals = of_each(self.placed, crates)
             for crate, seal in zip(crates, seals):
                 if seal:
                     self.note_locked(f"{crate.name}: kept", seal, 1)

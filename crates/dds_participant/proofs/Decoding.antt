@@ -6,7 +6,11 @@ use Rattle.std.proofs.lemmas.Bool.Decides.{nat_tests}
 use Rattle.std.proofs.lemmas.List.{drop_more, map-append, take_more}
 use Rattle.rtps_types.specs.declared.datagram.Datagram.{Datagram}
 use Rattle.rtps_types.specs.declared.identity.GuidPrefix.{GuidPrefix}
+use Rattle.rtps_receiver.specs.declared.counters.Counters.{Counters}
+use Rattle.rtps_receiver.specs.Counters.{all_counted, counted}
 use Rattle.rtps_receiver.specs.Events.{EventView, events_of}
+use Rattle.rtps_receiver.proofs.Summing.{all_counted_apart}
+use Rattle.dds_participant.specs.Decode.{octets_of}
 use Rattle.rtps_run.specs.Input.{arrived, events_from, index_after_all}
 use Rattle.rtps_run.proofs.Running.{events_more}
 use Rattle.rtps_planner.specs.Stamped.{AreStamped, IsStamped, events_in}
@@ -26,6 +30,14 @@ decoded_more own first at ds d new old below added before =
     ∙ ap (λ l. events_from own first (map arrived front) ++ l) (sym (append-nil (events_of own (first + at) x.bytes.now)) ∙ ap (λ k. events_of own k x.bytes.now ++ []) (sym count))
     ∙ sym (events_more own first (map arrived front) (arrived x ∷ []))
     ∙ ap (events_from own first) (sym (map-append arrived front (x ∷ [])) ∙ ap (map arrived) (sym (take_more ds at d below)))
+
+-- one datagram more is counted
+pub counted_more : (own : GuidPrefix) (at : ℕ) (ds : List Datagram) (d : Datagram) (c : Counters) → at < length ds
+    → all_counted own (octets_of (take (at + 1) ds)) c ≡ counted own (get_or ds at d).bytes.now (all_counted own (octets_of (take at ds)) c)
+counted_more own at ds d c below =
+    ap (λ l. all_counted own (octets_of l) c) (take_more ds at d below)
+    ∙ ap (λ l. all_counted own l c) (map-append (λ (e : Datagram). e.bytes.now) (take at ds) (get_or ds at d ∷ []))
+    ∙ all_counted_apart own (octets_of (take at ds)) ((get_or ds at d).bytes.now ∷ []) c
 
 -- ---- the events of one datagram, before those of later ones
 

@@ -13,3 +13,4 @@ pub mod Onward
 mod Finished
 mod HandingOff
 mod Publishing
+pub mod Shown

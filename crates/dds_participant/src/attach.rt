@@ -25,6 +25,7 @@ impl<C: Catalog> Participant<C> {
         outlet: Outlet<C::Value>,
     ) -> Result<(), (Outlet<C::Value>, AttachFault)>
         ensures same { (self.new.engine ≡ self.old.engine) × (self.new.batches ≡ self.old.batches) }
+        ensures counters { self.new.counters ≡ self.old.counters }
         ensures ports { MatchResult result
             (λ _. (fault_at self.old.engine.statuses self.old.ports rank ≡ None)
             × (self.new.ports ≡ slice_set self.old.ports rank (Some (new_port outlet))))
@@ -44,6 +45,7 @@ impl<C: Catalog> Participant<C> {
     /// wait.
     pub fn deliver(&mut self, rank: u32) -> usize
         ensures same { (self.new.engine ≡ self.old.engine) × (self.new.batches ≡ self.old.batches) }
+        ensures counters { self.new.counters ≡ self.old.counters }
         ensures ports { MatchOption (slice_index_or self.old.ports rank None)
             ((self.new.ports ≡ self.old.ports) × (result ≡ 0))
             (λ port. (after : PortView _) × Delivers port after
@@ -63,6 +65,7 @@ impl<C: Catalog> Participant<C> {
     /// memory is taken.
     pub fn detach(&mut self, rank: u32) -> Option<(Outlet<C::Value>, VecDeque<Notice<C::Value>>)>
         ensures same { (self.new.engine ≡ self.old.engine) × (self.new.batches ≡ self.old.batches) }
+        ensures counters { self.new.counters ≡ self.old.counters }
         ensures ports { MatchOption result
             ((self.new.ports ≡ self.old.ports) × (slice_index_or self.old.ports rank None ≡ None))
             (λ r. (slice_index_or self.old.ports rank None

@@ -2,6 +2,7 @@
 
 ghost use Rattle.std.specs.Prelude.{◌≡◌, ◌+◌, ◌^◌, ◌≤◌, ◌<◌, ◌++◌, ℕ, All, IfErr, IfOk, List, OnErr, OnOk, false, true, length, map, slice_index_or};
 ghost use Rattle.std.specs.declared.alloc.Global.{Global};
+ghost use Rattle.rtps_receiver.specs.Counters.{AreCounts, all_counted};
 ghost use Rattle.rtps_run.specs.declared.outcome.Outcome.{Outcome};
 ghost use Rattle.rtps_run.specs.Input.{Input, arrived, occurrences_from};
 ghost use Rattle.rtps_run.specs.Outcome.{Adds};
@@ -10,6 +11,7 @@ ghost use Rattle.rtps_run.specs.Standing.{ShowsAt, StandsAt, datagram_limit, run
 ghost use Rattle.rtps_run.specs.World.{World};
 ghost use Rattle.dds_participant.specs.Batch.{IsFinishedBy, Keeps, OnlyRuns, failing};
 ghost use Rattle.dds_participant.specs.BatchOutput.{IsGiven, LeavesLists};
+ghost use Rattle.dds_participant.specs.Decode.{octets_of};
 ghost use Rattle.dds_participant.specs.Handing.{IsHandedOn, IsOutcomeHandedOn};
 ghost use Rattle.dds_participant.specs.Kept.{ParticipantView, RefusesBatch, TakesBatch, counted};
 ghost use Rattle.dds_participant.specs.Ports.{NoneAttached};
@@ -21,6 +23,7 @@ use crate::participant::Participant;
 use crate::readers::{Assigned, Readers, lists_for, run_assigned};
 use dds_topic::Catalog;
 use rtps_planner::plan;
+use rtps_receiver::Counters;
 use rtps_run::{DATAGRAM_LIMIT, EngineError, Outcome, show_all};
 use rtps_shards::{Gate, SharedBatch};
 use rtps_types::Datagram;
@@ -51,6 +54,13 @@ pub fn is_batch(datagrams: &[Datagram<'_>]) -> bool
         && datagrams
             .iter()
             .all(|datagram| datagram.bytes.len() <= 65_507)
+}
+
+/// What a batch gave, and the counters after it.
+#[derive(Drop)]
+struct Ran<V: Drop> {
+    given: BatchOutput<V>,
+    counters: Counters,
 }
 
 impl<C: Catalog> Participant<C> {
@@ -88,6 +98,9 @@ impl<C: Catalog> Participant<C> {
         ensures takes { TakesBatch (length datagrams.now) result self.old self.new }
         ensures counts { (taken : ℕ) → self.old.batches ≡ counted taken
             → OnOk result (self.new.batches ≡ counted (taken + 1)) }
+        ensures counters { OnOk result (self.new.counters ≡ all_counted
+            self.old.engine.config.own (octets_of datagrams.now) self.old.counters) }
+        ensures uncounted { OnErr result (self.new.counters ≡ self.old.counters) }
         ensures same { (self.new.engine.catalog ≡ self.old.engine.catalog)
             × (self.new.engine.config ≡ self.old.engine.config) }
         ensures stands { (earlier : List Input) → StandsAt C.decoding earlier self.old.engine
@@ -112,10 +125,10 @@ impl<C: Catalog> Participant<C> {
             count: workers,
             gate,
         };
-        let given = self.run(rt, alloc, &workers, datagrams, BatchOutput::new(alloc))?;
-        let mut outcome = outcome_of::<C>(alloc, given)?;
+        let ran = self.run(rt, alloc, &workers, datagrams, BatchOutput::new(alloc))?;
+        let mut outcome = outcome_of::<C>(alloc, ran.given)?;
         self.hand_lists(&mut outcome.notices)?;
-        self.finish(datagrams.len());
+        self.finish_batch(datagrams.len(), ran.counters);
         Ok(outcome)
     }
 
@@ -144,6 +157,9 @@ impl<C: Catalog> Participant<C> {
         ensures takes { TakesBatch (length datagrams.now) result self.old self.new }
         ensures counts { (taken : ℕ) → self.old.batches ≡ counted taken
             → OnOk result (self.new.batches ≡ counted (taken + 1)) }
+        ensures counters { OnOk result (self.new.counters ≡ all_counted
+            self.old.engine.config.own (octets_of datagrams.now) self.old.counters) }
+        ensures uncounted { OnErr result (self.new.counters ≡ self.old.counters) }
         ensures same { (self.new.engine.catalog ≡ self.old.engine.catalog)
             × (self.new.engine.config ≡ self.old.engine.config) }
         ensures stands { (earlier : List Input) → StandsAt C.decoding earlier self.old.engine
@@ -167,10 +183,10 @@ impl<C: Catalog> Participant<C> {
     {
         self.admit(datagrams.len())?;
         let lent = mem::replace(given, BatchOutput::new(alloc));
-        let mut whole = self.run(rt, alloc, workers, datagrams, lent)?;
-        self.hand(&mut whole.outputs)?;
-        *given = whole;
-        self.finish(datagrams.len());
+        let mut ran = self.run(rt, alloc, workers, datagrams, lent)?;
+        self.hand(&mut ran.given.outputs)?;
+        *given = ran.given;
+        self.finish_batch(datagrams.len(), ran.counters);
         Ok(())
     }
 
@@ -207,7 +223,7 @@ impl<C: Catalog> Participant<C> {
         workers: &Workers<'_, G>,
         datagrams: &[Datagram<'_>],
         lists: BatchOutput<C::Value>,
-    ) -> Result<BatchOutput<C::Value>, AllocError>
+    ) -> Result<Ran<C::Value>, AllocError>
         requires room { self.old.engine.index + length datagrams.now < 2 ^ 64 }
         requires fit { All (λ d. length d.bytes.now ≤ 65507) datagrams.now }
         requires workers { (1 ≤ workers.now.count) × (workers.now.count ≤ 64) }
@@ -217,23 +233,27 @@ impl<C: Catalog> Participant<C> {
         ensures ports { self.new.ports ≡ self.old.ports }
         ensures count { OnOk result
             (length self.new.engine.readers ≡ length self.old.engine.readers) }
-        ensures outputs { IfOk result (λ given.
-            length given.outputs.items ≡ length self.old.engine.readers) }
+        ensures outputs { IfOk result (λ ran.
+            length ran.given.outputs.items ≡ length self.old.engine.readers) }
+        ensures counters { IfOk result (λ ran. ran.counters ≡ all_counted
+            self.old.engine.config.own (octets_of datagrams.now) self.old.counters) }
+        ensures counts { IfOk result (λ ran. AreCounts ran.counters) }
         ensures keeps { (w : World C.Meaning) → Keeps w self.old.engine → OnOk result
             (Keeps (world_run (C.decoding self.old.engine.catalog) w (occurrences_from
             self.old.engine.config.own self.old.engine.index (map arrived datagrams.now)))
             self.new.engine) }
-        ensures gives { (w : World C.Meaning) → Keeps w self.old.engine → IfOk result
-            (IsGiven C.view w (world_run (C.decoding self.old.engine.catalog) w (occurrences_from
-            self.old.engine.config.own self.old.engine.index (map arrived datagrams.now)))) }
+        ensures gives { (w : World C.Meaning) → Keeps w self.old.engine → IfOk result (λ ran.
+            IsGiven C.view w (world_run (C.decoding self.old.engine.catalog) w (occurrences_from
+            self.old.engine.config.own self.old.engine.index (map arrived datagrams.now)))
+            ran.given) }
     {
         let from = Arrived {
             own: self.config.own,
             first: self.index,
             datagrams,
         };
-        let events = decoded(rt, alloc, from, workers.count)?;
-        let stamped = stamped(alloc, self.index, datagrams, &events)?;
+        let decoded = decoded(rt, alloc, from, self.counters, workers.count)?;
+        let stamped = stamped(alloc, self.index, datagrams, &decoded.events)?;
         let plan = plan(alloc, &stamped, &mut self.discovery)?;
         let states = mem::replace(&mut self.readers, Vec::new(alloc));
         let outputs = lists_for(alloc, lists.outputs, states.len())?;
@@ -244,15 +264,34 @@ impl<C: Catalog> Participant<C> {
         let batch = SharedBatch {
             catalog: &self.catalog,
             gate: workers.gate,
-            events: &events,
+            events: &decoded.events,
         };
         let readers = run_assigned(rt, alloc, &batch, assigned, workers.count)?;
         self.readers = readers.states;
-        Ok(BatchOutput {
-            places: plan.rest.places,
-            answers: plan.rest.answers,
-            outputs: readers.outputs,
+        Ok(Ran {
+            given: BatchOutput {
+                places: plan.rest.places,
+                answers: plan.rest.answers,
+                outputs: readers.outputs,
+            },
+            counters: decoded.counters,
         })
+    }
+
+    /// Finishes a batch of `count` datagrams, after which the counters are these.
+    fn finish_batch(&mut self, count: usize, counters: Counters)
+        requires room { 0 < count → self.old.engine.index + count ≤ datagram_limit }
+        requires readers { length self.old.engine.readers ≡ length self.old.engine.statuses }
+        requires failed { self.old.engine.failed ≡ true }
+        requires there { (new : ParticipantView C C.Value) → IsFinishedBy count self.old new
+            → (inputs : List Input) × StandsAt C.decoding inputs new.engine }
+        requires counts { AreCounts counters }
+        ensures finished { IsFinishedBy count self.old self.new }
+        ensures ports { self.new.ports ≡ self.old.ports }
+        ensures counters { self.new.counters ≡ counters }
+    {
+        self.finish(count);
+        self.counters = counters;
     }
 
     /// Counts `count` datagrams and one batch as taken, and updates the statuses from the readers.
@@ -264,6 +303,7 @@ impl<C: Catalog> Participant<C> {
             → (inputs : List Input) × StandsAt C.decoding inputs new.engine }
         ensures finished { IsFinishedBy count self.old self.new }
         ensures ports { self.new.ports ≡ self.old.ports }
+        ensures counters { self.new.counters ≡ self.old.counters }
     {
         self.show();
         self.index += count as u64;
@@ -279,6 +319,7 @@ impl<C: Catalog> Participant<C> {
             ≡ record self.old.engine { statuses = self.new.engine.statuses } }
         ensures batches { self.new.batches ≡ self.old.batches }
         ensures ports { self.new.ports ≡ self.old.ports }
+        ensures counters { self.new.counters ≡ self.old.counters }
         ensures count { length self.new.engine.statuses ≡ length self.old.engine.statuses }
         ensures statuses { (rank : ℕ) (s : _) (r : _) → rank < length self.old.engine.readers
             → slice_index_or self.new.engine.statuses rank s

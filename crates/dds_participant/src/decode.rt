@@ -1,18 +1,18 @@
 //! Decoding the events of a batch, and cutting them by datagram.
 
 ghost use Rattle.std.specs.Prelude.{◌≡◌, ◌==◌, ◌+◌, ◌*◌, ◌^◌, ◌<◌, ◌≤◌, ◌++◌, ◌∷◌, [], All, IfOk, OnOk, drop, false, length, map, slice_index_or, take};
-ghost use Rattle.std.specs.List.{AllByRecursion, AllZip, range_with_len};
+ghost use Rattle.std.specs.List.{AllByRecursion, AllZip, flat_map, range_with_len};
 ghost use Rattle.std.specs.Int.{div_ceil};
 ghost use Rattle.rtps_types.specs.declared.identity.GuidPrefix as types;
+ghost use Rattle.rtps_receiver.specs.Counters.{AreCounts};
 ghost use Rattle.rtps_receiver.specs.Events.{view};
 ghost use Rattle.rtps_run.specs.Input.{arrived, events_from};
 ghost use Rattle.rtps_planner.specs.Stamped.{AreStamped};
-ghost use Rattle.dds_participant.specs.Decode.{IsPiece};
+ghost use Rattle.dds_participant.specs.Decode.{AllOk, IsDecoded, IsPiece, all_added, events_given};
 
 use rayon::prelude::*;
 use rtps_planner::Stamped;
-use rtps_receiver::{Event, add_events};
-use rtps_shards::joined;
+use rtps_receiver::{Counters, Event, add_events};
 use rtps_types::{Datagram, GuidPrefix};
 use std::alloc::{AllocError, Global};
 use std::thread::Threads;
@@ -34,25 +34,34 @@ pub(crate) struct Arrived<'a, 'b> {
     pub datagrams: &'b [Datagram<'a>],
 }
 
-/// Returns the events of these datagrams, in order, for the participant `own`. `first` is the index
-/// of the first of them in the run, counted from 0. The initial capacity is one event for each
-/// datagram. An error is a refused growth.
+/// The events of datagrams, in order, and the counters after them.
+#[derive(Drop)]
+pub(crate) struct Received<'a> {
+    pub events: Vec<Event<'a>>,
+    pub counters: Counters,
+}
+
+/// Returns the events of these datagrams, in order, for the participant `own`, and the counters,
+/// which are `counters` before them. `first` is the index of the first of them in the run, counted
+/// from 0. The initial capacity is one event for each datagram. An error is a refused growth.
 fn decoded_alone<'a>(
     alloc: Global,
     own: GuidPrefix,
     first: u64,
     datagrams: &[Datagram<'a>],
-) -> Result<Vec<Event<'a>>, AllocError>
+    counters: Counters,
+) -> Result<Received<'a>, AllocError>
     requires room { first + length datagrams.now < 2 ^ 64 }
     requires fit { All (λ d. length d.bytes.now ≤ 65507) datagrams.now }
-    ensures { IfOk result (λ all. map view all.items
-        ≡ events_from own first (map arrived datagrams.now)) }
+    ensures { IfOk result (IsDecoded own first datagrams.now counters) }
 {
-    let mut all = Vec::with_capacity(alloc, datagrams.len())?;
+    let mut events = Vec::with_capacity(alloc, datagrams.len())?;
+    let mut counters = counters;
     for (at, datagram) in datagrams.iter().enumerate() {
-        add_events(&mut all, own, first + at as u64, datagram.bytes)?;
+        let index = first + at as u64;
+        add_events(&mut events, &mut counters, own, index, datagram.bytes)?;
     }
-    Ok(all)
+    Ok(Received { events, counters })
 }
 
 /// Returns the piece of this index, counted from 0. The last piece may be shorter than the others.
@@ -65,15 +74,15 @@ fn piece<'a, 'b>(datagrams: &'b [Datagram<'a>], index: usize) -> &'b [Datagram<'
     piece
 }
 
-/// Returns the events of each piece of the datagrams. At any time one piece is decoded for each
-/// processor.
+/// Returns the events of each piece of the datagrams, counted alone. At any time one piece is
+/// decoded for each processor.
 fn decoded_apart<'a, R: Threads + Sync>(
     rt: &R,
     alloc: Global,
     own: GuidPrefix,
     first: u64,
     datagrams: &[Datagram<'a>],
-) -> Result<Vec<Result<Vec<Event<'a>>, AllocError>>, AllocError>
+) -> Result<Vec<Result<Received<'a>, AllocError>>, AllocError>
     requires room { first + length datagrams.now < 2 ^ 64 }
     requires fit { All (λ d. length d.bytes.now ≤ 65507) datagrams.now }
     ensures { IfOk result (λ pieces. AllZip (IsPiece own first datagrams.now)
@@ -82,30 +91,57 @@ fn decoded_apart<'a, R: Threads + Sync>(
     (0..datagrams.len().div_ceil(PIECE))
         .into_par_iter()
         .map(
-            |index: usize| -> Result<Vec<Event<'_>>, AllocError>
+            |index: usize| -> Result<Received<'_>, AllocError>
                 requires { (index * 64 < length datagrams.now)
                     × (first + length datagrams.now < 2 ^ 64)
                     × All (λ d. length d.bytes.now ≤ 65507) datagrams.now }
                 ensures { IsPiece own first datagrams.entry.now index result }
             {
                 let start = first + (index * PIECE) as u64;
-                decoded_alone(alloc, own, start, piece(datagrams, index))
+                decoded_alone(alloc, own, start, piece(datagrams, index), Counters::new())
             },
         )
         .collect(rt, alloc)
 }
 
-/// Returns the events of these datagrams, in order. An error is a refused growth.
+/// Joins the events of pieces, in order, and adds up what they counted. An error is one of a piece,
+/// or a refused growth.
+fn joined<'a>(
+    alloc: Global,
+    pieces: Vec<Result<Received<'a>, AllocError>>,
+    counters: Counters,
+) -> Result<Received<'a>, AllocError>
+    ensures ok { OnOk result (AllOk pieces.entry.items) }
+    ensures events { IfOk result (λ all.
+        all.events.items ≡ flat_map events_given pieces.entry.items) }
+    ensures counters { IfOk result (λ all. all.counters ≡ all_added pieces.entry.items counters) }
+{
+    let mut events = Vec::new(alloc);
+    let mut counters = counters;
+    for piece in pieces {
+        let mut piece = piece?;
+        events.append(&mut piece.events)?;
+        counters.add(&piece.counters);
+    }
+    Ok(Received { events, counters })
+}
+
+/// Returns the events of these datagrams, in order, and the counters, which are `counters` before
+/// them. An error is a refused growth.
+#[tactic(auto, using(rtps_receiver::proofs::Summing::counts_after))]
 pub(crate) fn decoded<'a, R: Threads + Sync>(
     rt: &R,
     alloc: Global,
     from: Arrived<'a, '_>,
+    counters: Counters,
     workers: usize,
-) -> Result<Vec<Event<'a>>, AllocError>
+) -> Result<Received<'a>, AllocError>
     requires room { from.first + length from.datagrams.now < 2 ^ 64 }
     requires fit { All (λ d. length d.bytes.now ≤ 65507) from.datagrams.now }
-    ensures { IfOk result (λ all. map view all.items ≡ events_from from.entry.own
-        from.entry.first (map arrived from.entry.datagrams.now)) }
+    requires counts { AreCounts counters }
+    ensures decoded { IfOk result (IsDecoded from.entry.own from.entry.first
+        from.entry.datagrams.now counters) }
+    ensures counts { IfOk result (λ all. AreCounts all.counters) }
 {
     let Arrived {
         own,
@@ -113,9 +149,13 @@ pub(crate) fn decoded<'a, R: Threads + Sync>(
         datagrams,
     } = from;
     if workers == 1 || datagrams.len() <= ALONE {
-        return decoded_alone(alloc, own, first, datagrams);
+        return decoded_alone(alloc, own, first, datagrams, counters);
     }
-    joined(alloc, decoded_apart(rt, alloc, own, first, datagrams)?)
+    joined(
+        alloc,
+        decoded_apart(rt, alloc, own, first, datagrams)?,
+        counters,
+    )
 }
 
 /// The number of events at the front of the list that came in the datagram of this index.

@@ -93,6 +93,7 @@ impl<C: Catalog> Participant<C> {
         requires { length outputs.old.items ≡ length self.old.engine.statuses }
         ensures same { (self.new.engine ≡ self.old.engine)
             × (self.new.batches ≡ self.old.batches) }
+        ensures counters { self.new.counters ≡ self.old.counters }
         ensures sent { map (λ o. o.answers) outputs.new.items
             ≡ map (λ o. o.answers) outputs.old.items }
         ensures on { OnOk result (AreHandedOn self.old.ports (reported outputs.old.items)
@@ -119,6 +120,7 @@ impl<C: Catalog> Participant<C> {
         requires { length lists.old.items ≡ length self.old.engine.statuses }
         ensures same { (self.new.engine ≡ self.old.engine)
             × (self.new.batches ≡ self.old.batches) }
+        ensures counters { self.new.counters ≡ self.old.counters }
         ensures on { OnOk result (AreHandedOn self.old.ports (listed lists.old.items)
             self.new.ports (listed lists.new.items)) }
         ensures err { OnErr result (self.new.ports ≡ self.old.ports) }

@@ -65,6 +65,7 @@ impl<C: Catalog> Participant<C> {
             self.new }
         ensures counts { (taken : ℕ) → self.old.batches ≡ counted taken
             → OnOk result (self.new.batches ≡ counted (taken + 1)) }
+        ensures counters { self.new.counters ≡ self.old.counters }
         ensures same { (self.new.engine.catalog ≡ self.old.engine.catalog)
             × (self.new.engine.config ≡ self.old.engine.config) }
         ensures rank { (earlier : List Input) → StandsAt C.decoding earlier self.old.engine
@@ -116,6 +117,7 @@ impl<C: Catalog> Participant<C> {
             (removing_fault self.old.engine.discovery.kept.readers rank) result self.old self.new }
         ensures counts { (taken : ℕ) → self.old.batches ≡ counted taken
             → OnOk result (self.new.batches ≡ counted (taken + 1)) }
+        ensures counters { self.new.counters ≡ self.old.counters }
         ensures same { (self.new.engine.catalog ≡ self.old.engine.catalog)
             × (self.new.engine.config ≡ self.old.engine.config) }
         ensures stands { (earlier : List Input) → StandsAt C.decoding earlier self.old.engine
@@ -167,6 +169,7 @@ impl<C: Catalog> Participant<C> {
             × (self.new.engine.statuses ≡ self.old.engine.statuses) }
         ensures others { (self.new.batches ≡ self.old.batches)
             × (self.new.ports ≡ self.old.ports) }
+        ensures counters { self.new.counters ≡ self.old.counters }
         ensures rank { (inputs : List Input) → StandsAt C.decoding inputs self.old.engine
             → IfOk result (λ joined.
             joined.0 ≡ reader_count (run_by C.decoding self.old.engine inputs)) }
@@ -212,6 +215,7 @@ impl<C: Catalog> Participant<C> {
             × (self.new.engine.statuses ≡ self.old.engine.statuses) }
         ensures others { (self.new.batches ≡ self.old.batches)
             × (self.new.ports ≡ self.old.ports) }
+        ensures counters { self.new.counters ≡ self.old.counters }
         ensures stands { (inputs : List Input) → StandsAt C.decoding inputs self.old.engine
             → IfOk result (λ reports. WorldStands C.view
             (run_by C.decoding self.old.engine (inputs ++ RemoveReader rank ∷ []))
@@ -244,6 +248,7 @@ impl<C: Catalog> Participant<C> {
         ensures same { self.new.engine
             ≡ record self.old.engine { statuses = self.new.engine.statuses } }
         ensures batches { self.new.batches ≡ self.old.batches }
+        ensures counters { self.new.counters ≡ self.old.counters }
         ensures shown { OnOk result ((status : _)
             × (self.new.engine.statuses ≡ self.old.engine.statuses ++ Some status ∷ [])) }
         ensures on { OnOk result (AreHandedOn (self.old.ports ++ None ∷ []) (listed lists.old.items)
@@ -265,6 +270,7 @@ impl<C: Catalog> Participant<C> {
           statuses = slice_set self.old.engine.statuses rank None;
         } }
         ensures batches { self.new.batches ≡ self.old.batches }
+        ensures counters { self.new.counters ≡ self.old.counters }
         ensures ports { self.new.ports ≡ self.old.ports }
     {
         self.statuses[rank as usize] = None;

@@ -3,6 +3,7 @@
 ghost use Rattle.std.specs.Prelude.{◌≡◌, [], IfOk, List, ℕ, false, length, map};
 ghost use Rattle.rtps_discovery.specs.Config.{check_of};
 ghost use Rattle.rtps_discovery.specs.Kept.{IsKnown};
+ghost use Rattle.rtps_receiver.specs.Counters.{none_counted};
 ghost use Rattle.rtps_run.specs.Input.{Input};
 ghost use Rattle.rtps_run.specs.Seen.{matches_seen, reader_count, status_seen};
 ghost use Rattle.rtps_run.specs.Standing.{Answers, ShowsAt, StandsAt, Starts, run_by};
@@ -12,6 +13,7 @@ use crate::ports::{Port, no_ports};
 use dds_topic::Catalog;
 use rtps_discovery::{Config, Discovery, check};
 use rtps_reader::{ReaderState, Status};
+use rtps_receiver::Counters;
 use rtps_run::{
     EngineError, StartError, all_matches, first_readers, first_statuses, fixed_by_rank,
 };
@@ -59,12 +61,15 @@ pub struct Participant<C: Catalog> {
     pub(crate) statuses: Vec<Option<Status>>,
     /// By rank, the outlet that is attached, if one is. It stays when its reader goes.
     pub(crate) ports: Vec<Option<Port<C::Value>>>,
+    /// What was counted of the datagrams of the batches taken.
+    pub(crate) counters: Counters,
     /// The allocator of the backlogs.
     pub(crate) alloc: Global,
 }
 
 impl<C: Catalog> Model for Participant<C> {
     ghost use Rattle.std.specs.Prelude.{◌≡◌, ◌≤◌, List, false, length};
+    ghost use Rattle.rtps_receiver.specs.Counters.{AreCounts};
     ghost use Rattle.rtps_run.specs.Input.{Input};
     ghost use Rattle.rtps_run.specs.Standing.{StandsAt};
     ghost use Rattle.dds_participant.specs.Kept.{ParticipantView};
@@ -84,9 +89,10 @@ impl<C: Catalog> Model for Participant<C> {
       };
       batches = p.batches;
       ports = ports_view p.ports.items;
+      counters = p.counters;
     } };
 
-    // A participant that hasn't failed is that after some inputs.
+    // A participant that hasn't failed is that after some inputs. Each counter fits.
     ghost invariant = { λ p. (length p.statuses.items ≤ 4096)
         × (length p.ports.items ≡ length p.statuses.items)
         × (p.failed ≡ false → (inputs : List Input) × StandsAt C.decoding inputs (record {
@@ -97,7 +103,8 @@ impl<C: Catalog> Model for Participant<C> {
           discovery = p.discovery;
           readers = p.readers.items;
           statuses = p.statuses.items;
-        })) };
+        }))
+        × AreCounts p.counters };
 }
 
 impl<C: Catalog> Participant<C> {
@@ -108,7 +115,7 @@ impl<C: Catalog> Participant<C> {
     pub fn new(alloc: Global, config: Config, catalog: C) -> Result<Participant<C>, StartError>
         ensures starts { Starts (check_of config) result }
         ensures same { IfOk result (λ p. (p.engine.catalog ≡ catalog)
-            × (p.engine.config ≡ config) × (p.batches ≡ 0)) }
+            × (p.engine.config ≡ config) × (p.batches ≡ 0) × (p.counters ≡ none_counted)) }
         ensures none { IfOk result (λ p. NoneAttached p.ports) }
         ensures stands { IfOk result (λ p. StandsAt C.decoding [] p.engine) }
     {
@@ -131,6 +138,7 @@ impl<C: Catalog> Participant<C> {
             readers,
             statuses,
             ports,
+            counters: Counters::new(),
             alloc,
         })
     }
@@ -147,6 +155,15 @@ impl<C: Catalog> Participant<C> {
         ensures { result ≡ self.now.batches }
     {
         self.batches
+    }
+
+    /// What was counted of all datagrams of the batches taken: how many there were, how many of their
+    /// submessages gave an event, and how many of either were passed over, by reason. Ticks, and
+    /// readers that come or go, count nothing.
+    pub fn counters(&self) -> &Counters
+        ensures { result.now ≡ self.now.counters }
+    {
+        &self.counters
     }
 
     /// Returns the status of the reader of a rank, after the last batch that was taken, or `None`

@@ -3,6 +3,7 @@
 ghost use Rattle.std.specs.Prelude.{◌≤◌};
 
 mod coming;
+mod counters;
 mod failing;
 mod hand_off;
 mod lent;

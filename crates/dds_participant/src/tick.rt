@@ -42,6 +42,7 @@ impl<C: Catalog> Participant<C> {
         ensures takes { TakesTick result self.old self.new }
         ensures counts { (taken : ℕ) → self.old.batches ≡ counted taken
             → OnOk result (self.new.batches ≡ counted (taken + 1)) }
+        ensures counters { self.new.counters ≡ self.old.counters }
         ensures same { (self.new.engine.catalog ≡ self.old.engine.catalog)
             × (self.new.engine.config ≡ self.old.engine.config) }
         ensures stands { (earlier : List Input) → StandsAt C.decoding earlier self.old.engine
@@ -83,6 +84,7 @@ impl<C: Catalog> Participant<C> {
         ensures takes { TakesTick result self.old self.new }
         ensures counts { (taken : ℕ) → self.old.batches ≡ counted taken
             → OnOk result (self.new.batches ≡ counted (taken + 1)) }
+        ensures counters { self.new.counters ≡ self.old.counters }
         ensures same { (self.new.engine.catalog ≡ self.old.engine.catalog)
             × (self.new.engine.config ≡ self.old.engine.config) }
         ensures stands { (earlier : List Input) → StandsAt C.decoding earlier self.old.engine

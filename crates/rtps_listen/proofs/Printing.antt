@@ -10,6 +10,7 @@ use Rattle.rtps_records.specs.Text.{text_of}
 use Rattle.rtps_records.specs.declared.fault.RunFault.{RunFault}
 use Rattle.rtps_records.specs.declared.fault.RunFault.TheVariants.{CannotRead, NotRecordFile, CutRecord, RecordTooLong, TooManyRecords, CannotWrite, NoMemory}
 use Rattle.rtps_lines.specs.EventLines.{lines_of}
+use Rattle.rtps_explain.specs.Explained.{explained_text}
 use Rattle.rtps_text.specs.Caches.{StopsLate}
 use Rattle.rtps_text.specs.Listened.{Limits, LiveRun, limits_of}
 use Rattle.rtps_text.specs.Taken.{StopsBy}
@@ -18,6 +19,7 @@ use Rattle.rtps_text.specs.declared.live_fault.LiveFault.TheVariants as live_fau
 use Rattle.rtps_text.specs.declared.setup.CacheSetup.{CacheSetup}
 use Rattle.rtps_text.specs.declared.setup.LiveSetup.{LiveSetup}
 use Rattle.rtps_text.specs.declared.setup.Setup.{Setup}
+use Rattle.rtps_listen.specs.Addresses.{IsJoinCause}
 use Rattle.rtps_listen.specs.Configs.{IsCause, IsConfigOf}
 use Rattle.rtps_listen.specs.Domain.{Ends, ListensBy, live_run_of}
 use Rattle.rtps_listen.specs.Identities.{WritesPrefix}
@@ -25,9 +27,9 @@ use Rattle.rtps_listen.specs.Printed.{EndsBy, IsBefore, IsFirst, IsUnopened, Pri
 use Rattle.rtps_listen.specs.Setup.{IsCacheSetupOf, IsLiveSetupOf, IsSetupOf, history_of}
 use Rattle.rtps_listen.specs.Status.{live_fault_of}
 use Rattle.rtps_listen.specs.declared.fault.ListenFault.{ListenFault}
-use Rattle.rtps_listen.specs.declared.fault.ListenFault.TheVariants.{NoText, BadPrefix, BadWriter, Socket, Run}
+use Rattle.rtps_listen.specs.declared.fault.ListenFault.TheVariants.{NoText, BadPrefix, BadWriter, BadAddress, Socket, Run}
 use Rattle.rtps_listen.specs.declared.options.Options.{Options}
-use Rattle.rtps_listen.specs.declared.request.Request.TheVariants.{Dump, Listen, Replay, Samples}
+use Rattle.rtps_listen.specs.declared.request.Request.TheVariants.{Dump, Explain, Listen, Replay, Samples}
 use Rattle.rtps_listen.proofs.Refused.{IsLive, IsRun}
 
 -- what is wrong with options is found before a domain is joined
@@ -35,6 +37,7 @@ pub cause_before : (o : Options) (fault : ListenFault) → IsCause o fault → I
 cause_before o NoText h = tt
 cause_before o BadPrefix h = tt
 cause_before o BadWriter h = tt
+cause_before o BadAddress h = tt
 cause_before o Socket h = tt
 cause_before o (Run NoMemory) h = refl
 cause_before o (Run CannotRead) h = absurd h
@@ -49,6 +52,7 @@ before_first NoText h = tt
 before_first Socket h = tt
 before_first BadPrefix h = tt
 before_first BadWriter h = tt
+before_first BadAddress h = tt
 before_first (Run fault) h = rw h tt
 
 -- and before a file is read
@@ -67,6 +71,7 @@ unopened_first (Run CannotWrite) h = absurd h
 unopened_first NoText h = absurd h
 unopened_first BadPrefix h = absurd h
 unopened_first BadWriter h = absurd h
+unopened_first BadAddress h = absurd h
 unopened_first Socket h = absurd h
 
 -- it is a fault of the run
@@ -79,6 +84,7 @@ unopened_run (Err e) fault is h = rw is (go fault h)
     go NoText h = absurd h
     go BadPrefix h = absurd h
     go BadWriter h = absurd h
+    go BadAddress h = absurd h
     go Socket h = absurd h
 
 -- a fault of the run, as it is passed on
@@ -101,6 +107,11 @@ pub dumps_none : (o : Options) (holds : List ℕ → Option (List ℕ)) (old : O
     → IsErrAnd s (λ e. e ≡ fault) → IsFirst fault → Prints (Dump o) holds old old s
 unfolding Prints
 dumps_none o holds old s fault is h = inl (ends IsFirst old s fault is h)
+
+pub explains_none : (o : Options) (holds : List ℕ → Option (List ℕ)) (old : Option (List ℕ)) (s : Result (Unit {0}) ListenFault) (fault : ListenFault)
+    → IsErrAnd s (λ e. e ≡ fault) → IsFirst fault → Prints (Explain o) holds old old s
+unfolding Prints
+explains_none o holds old s fault is h = inl (ends IsFirst old s fault is h)
 
 pub replays_none : (o : Options) (holds : List ℕ → Option (List ℕ)) (old : Option (List ℕ)) (s : Result (Unit {0}) ListenFault) (fault : ListenFault)
     → IsErrAnd s (λ e. e ≡ fault) → IsFirst fault → Prints (Replay o) holds old old s
@@ -141,6 +152,11 @@ pub dumps : (o : Options) (own : GuidPrefix) (holds : List ℕ → Option (List 
 unfolding Prints
 dumps o own holds old new s is w = inr (own, is, w)
 
+pub explains : (o : Options) (own : GuidPrefix) (holds : List ℕ → Option (List ℕ)) (old new : Option (List ℕ)) (s : Result (Unit {0}) ListenFault)
+    → WritesPrefix o.own.now own → Writes false (explained_text own) (holds o.file.now) old new s → Prints (Explain o) holds old new s
+unfolding Prints
+explains o own holds old new s is w = inr (own, is, w)
+
 pub replays : {C : Type 0} (o : Options) (config : Config) (catalog : C) (setup : Setup C) (raw : Bool) (holds : List ℕ → Option (List ℕ)) (old new : Option (List ℕ))
     (s : Result (Unit {0}) ListenFault) → IsConfigOf o config → o.raw ≡ raw → IsSetupOf o config catalog setup
     → Writes false (run_text raw setup.config setup.summary) (holds o.file.now) old new s → Prints (Replay o) holds old new s
@@ -166,10 +182,14 @@ keeps o config catalog setup raw holds old new s is same by w = inr (
       (subst (λ n. Writes true (kept_text raw setup.run.config setup.run.summary n) (holds o.file.now) old new s) by.keep w))),
 )
 
--- a domain that can't be joined leaves nothing written
-pub not_joined : (o : Options) (config : Config) (holds : List ℕ → Option (List ℕ)) (old : Option (List ℕ)) → IsConfigOf o config → Prints (Listen o) holds old old (Err Socket)
-unfolding Prints ListensBy
-not_joined o config holds old is = inr (config, is, inl (Keeps-refl old))
+-- a domain that isn't joined leaves nothing written
+pub join_before : (o : Options) (fault : ListenFault) → IsJoinCause o fault → IsBefore fault
+join_before o BadAddress h = tt
+join_before o Socket h = tt
+join_before o NoText h = absurd h
+join_before o BadPrefix h = absurd h
+join_before o BadWriter h = absurd h
+join_before o (Run fault) h = absurd h
 
 -- how the run ends is how the program ends
 abbrev pub IsPassed : Result (Unit {0}) LiveFault → Result (Unit {0}) ListenFault → Type 0

@@ -1,14 +1,15 @@
 -- What is refused before a file is opened or a domain is joined.
-use Rattle.std.proofs.Common.{◌≡◌, List, ℕ, ◌∙◌, ap, inl, inr, refl, Result, Ok, Err, IfErr}
+use Rattle.std.proofs.Common.{◌≡◌, ◌⊎◌, List, ℕ, ◌∙◌, ap, inl, inr, refl, subst, sym, Result, Ok, Err, IfErr}
 use Rattle.std.specs.Prelude.{IsErrAnd}
 use Rattle.rtps_records.specs.declared.fault.RunFault.TheVariants.{NoMemory}
-use Rattle.rtps_listen.specs.Configs.{IsCause, IsLiveCause, IsReplayCause, Refuses}
+use Rattle.rtps_listen.specs.Addresses.{IsAddressText, IsJoinCause, IsLiveCause}
+use Rattle.rtps_listen.specs.Configs.{IsCause, IsReplayCause, Refuses}
 use Rattle.rtps_listen.specs.Identities.{IsPrefixText}
 use Rattle.rtps_listen.specs.Request.{IsDumpCause, RefusesFirst}
 use Rattle.rtps_listen.specs.declared.fault.ListenFault.{ListenFault}
-use Rattle.rtps_listen.specs.declared.fault.ListenFault.TheVariants.{NoText, BadPrefix, BadWriter, Socket, Run}
+use Rattle.rtps_listen.specs.declared.fault.ListenFault.TheVariants.{NoText, BadPrefix, BadWriter, BadAddress, Socket, Run}
 use Rattle.rtps_listen.specs.declared.options.Options.{Options}
-use Rattle.rtps_listen.specs.declared.request.Request.TheVariants.{Dump, Listen, Replay, Samples}
+use Rattle.rtps_listen.specs.declared.request.Request.TheVariants.{Dump, Explain, Listen, Replay, Samples}
 
 -- a fault of the run
 abbrev pub IsRun : ListenFault → Type 0
@@ -53,6 +54,7 @@ replay_cause : (o : Options) (fault : ListenFault) → IsCause o fault → IsRep
 replay_cause o (Run fault) h = tt
 replay_cause o BadPrefix h = h
 replay_cause o BadWriter h = h
+replay_cause o BadAddress h = h
 replay_cause o NoText h = h
 replay_cause o Socket h = h
 
@@ -60,6 +62,7 @@ live_cause : (o : Options) (fault : ListenFault) → IsCause o fault → IsLiveC
 live_cause o (Run fault) h = tt
 live_cause o BadPrefix h = h
 live_cause o BadWriter h = h
+live_cause o BadAddress h = absurd h
 live_cause o NoText h = h
 live_cause o Socket h = tt
 
@@ -70,6 +73,7 @@ run_cause o (Err NoText) k = absurd k
 run_cause o (Err Socket) k = absurd k
 run_cause o (Err BadPrefix) k = absurd k
 run_cause o (Err BadWriter) k = absurd k
+run_cause o (Err BadAddress) k = absurd k
 
 heard_cause : (o : Options) (s : Result (Unit {0}) ListenFault) → IfErr s IsLive → IfErr s (IsLiveCause o)
 heard_cause o (Ok u) k = tt
@@ -78,6 +82,7 @@ heard_cause o (Err Socket) k = tt
 heard_cause o (Err NoText) k = absurd k
 heard_cause o (Err BadPrefix) k = absurd k
 heard_cause o (Err BadWriter) k = absurd k
+heard_cause o (Err BadAddress) k = absurd k
 
 dumped_cause : (own : List ℕ) (s : Result (Unit {0}) ListenFault) → IfErr s IsRun → IfErr s (IsDumpCause own)
 dumped_cause own (Ok u) k = tt
@@ -86,9 +91,16 @@ dumped_cause own (Err NoText) k = absurd k
 dumped_cause own (Err Socket) k = absurd k
 dumped_cause own (Err BadPrefix) k = absurd k
 dumped_cause own (Err BadWriter) k = absurd k
+dumped_cause own (Err BadAddress) k = absurd k
 
 passed : (P Q : ListenFault → Type 0) (s : Result (Unit {0}) ListenFault) (fault : ListenFault) → s ≡ Err fault → P fault → ((e : ListenFault) → P e → Q e) → IfErr s Q
 passed P Q s fault e p to = rw e (to fault p)
+
+-- a fault that is found before the address is judged
+refused_before : (o : Options) (s : Result (Unit {0}) ListenFault) (fault : ListenFault) → IsErrAnd s (λ e. e ≡ fault) → IsCause o fault
+    → IsErrAnd s (λ e. (e ≡ BadAddress) ⊎ IsCause o e)
+refused_before o (Ok u) fault is cause = absurd is
+refused_before o (Err e) fault is cause = inr (subst (IsCause o) (sym is) cause)
 
 -- a refusal of the options
 pub replay_refused : {T : Type 0} (o : Options) (r : Result T ListenFault) (s : Result (Unit {0}) ListenFault) (fault : ListenFault)
@@ -106,18 +118,29 @@ samples_refused o r s fault e is h cause =
 pub listen_refused : {T : Type 0} (o : Options) (r : Result T ListenFault) (s : Result (Unit {0}) ListenFault) (fault : ListenFault)
     → r ≡ Err fault → IsErrAnd s (λ e. e ≡ fault) → Refuses o r → IsCause o fault → RefusesFirst (Listen o) s
 unfolding RefusesFirst
-listen_refused o r s fault e is h cause =
-    (refuses_again o r s fault e (is_err s fault is) h, passed (IsCause o) _ s fault (is_err s fault is) cause (live_cause o))
+listen_refused o r s fault e is h cause = (
+  refuses_again o r s fault e (is_err s fault is) h,
+  λ bad. refused_before o s fault is cause,
+  passed (IsCause o) _ s fault (is_err s fault is) cause (live_cause o),
+)
 
 -- a prefix that is none
 pub dump_refused : (o : Options) → ¬ IsPrefixText o.own.now → RefusesFirst (Dump o) (Err BadPrefix)
 unfolding RefusesFirst
 dump_refused o bad = (λ _. refl, bad)
 
+pub explain_refused : (o : Options) → ¬ IsPrefixText o.own.now → RefusesFirst (Explain o) (Err BadPrefix)
+unfolding RefusesFirst
+explain_refused o bad = (λ _. refl, bad)
+
 -- where nothing is refused, the run alone can fail
 pub dump_runs : (o : Options) (s : Result (Unit {0}) ListenFault) → IsPrefixText o.own.now → IfErr s IsRun → RefusesFirst (Dump o) s
 unfolding RefusesFirst
 dump_runs o s good k = (λ bad. absurd (bad good), dumped_cause o.own.now s k)
+
+pub explain_runs : (o : Options) (s : Result (Unit {0}) ListenFault) → IsPrefixText o.own.now → IfErr s IsRun → RefusesFirst (Explain o) s
+unfolding RefusesFirst
+explain_runs o s good k = (λ bad. absurd (bad good), dumped_cause o.own.now s k)
 
 pub replay_runs : {T : Type 0} (o : Options) (t : T) (s : Result (Unit {0}) ListenFault) → Refuses {T = T} o (Ok t) → IfErr s IsRun → RefusesFirst (Replay o) s
 unfolding RefusesFirst
@@ -127,6 +150,35 @@ pub samples_run : {T : Type 0} (o : Options) (t : T) (s : Result (Unit {0}) List
 unfolding RefusesFirst
 samples_run o t s h k = (refuses_none o t s h, run_cause o s k)
 
-pub listen_runs : {T : Type 0} (o : Options) (t : T) (s : Result (Unit {0}) ListenFault) → Refuses {T = T} o (Ok t) → IfErr s IsLive → RefusesFirst (Listen o) s
+pub listen_runs : {T : Type 0} (o : Options) (t : T) (s : Result (Unit {0}) ListenFault) → Refuses {T = T} o (Ok t) → IsAddressText o.address.now
+    → IfErr s IsLive → RefusesFirst (Listen o) s
 unfolding RefusesFirst
-listen_runs o t s h k = (refuses_none o t s h, heard_cause o s k)
+listen_runs o t s h good k = (refuses_none o t s h, λ bad. absurd (bad good), heard_cause o s k)
+
+joined_cause : (o : Options) (fault : ListenFault) → IsJoinCause o fault → IsLiveCause o fault
+joined_cause o BadAddress h = h
+joined_cause o Socket h = tt
+joined_cause o NoText h = absurd h
+joined_cause o BadPrefix h = absurd h
+joined_cause o BadWriter h = absurd h
+joined_cause o (Run fault) h = absurd h
+
+not_joined : (o : Options) (fault : ListenFault) → IsJoinCause o fault → ¬ IsAddressText o.address.now → fault ≡ BadAddress
+not_joined o BadAddress h bad = refl
+not_joined o Socket h bad = absurd (bad h)
+not_joined o NoText h bad = absurd h
+not_joined o BadPrefix h bad = absurd h
+not_joined o BadWriter h bad = absurd h
+not_joined o (Run fault) h bad = absurd h
+
+refused_at : (o : Options) (s : Result (Unit {0}) ListenFault) (fault : ListenFault) → IsErrAnd s (λ e. e ≡ fault) → IsJoinCause o fault
+    → ¬ IsAddressText o.address.now → IsErrAnd s (λ e. (e ≡ BadAddress) ⊎ IsCause o e)
+refused_at o (Ok u) fault is cause bad = absurd is
+refused_at o (Err e) fault is cause bad = inl (is ∙ not_joined o fault cause bad)
+
+-- a domain that isn't joined
+pub listen_joins : {T : Type 0} (o : Options) (t : T) (s : Result (Unit {0}) ListenFault) (fault : ListenFault)
+    → Refuses {T = T} o (Ok t) → IsErrAnd s (λ e. e ≡ fault) → IsJoinCause o fault → RefusesFirst (Listen o) s
+unfolding RefusesFirst
+listen_joins o t s fault h is cause =
+    (refuses_none o t s h, refused_at o s fault is cause, passed (IsJoinCause o) _ s fault (is_err s fault is) cause (joined_cause o))

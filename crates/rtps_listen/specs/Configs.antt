@@ -19,7 +19,7 @@ use Rattle.rtps_records.specs.declared.fault.RunFault.TheVariants.{NoMemory}
 use Rattle.rtps_listen.specs.Identities.{IsGuidText, IsPrefixText, WritesGuid, WritesPrefix}
 use Rattle.rtps_listen.specs.declared.options.Options.{Options}
 use Rattle.rtps_listen.specs.declared.fault.ListenFault.{ListenFault}
-use Rattle.rtps_listen.specs.declared.fault.ListenFault.TheVariants.{BadPrefix, BadWriter, Run, Socket}
+use Rattle.rtps_listen.specs.declared.fault.ListenFault.TheVariants.{BadPrefix, BadWriter, Run}
 
 -- the entity of the reader of a rank: readers with a key (DDSI-RTPS 9.3.1.2) that are counted
 -- from 1
@@ -117,9 +117,3 @@ IsCause options _ = ⊥
 abbrev pub IsReplayCause : Options → ListenFault → Type 0
 IsReplayCause options (Run fault) = Unit {0}
 IsReplayCause options fault = IsCause options fault
-
--- what is wrong if `listen` ends with this fault: its options, a socket, or its run
-abbrev pub IsLiveCause : Options → ListenFault → Type 0
-IsLiveCause options Socket = Unit {0}
-IsLiveCause options (Run fault) = Unit {0}
-IsLiveCause options fault = IsCause options fault

@@ -1,3 +1,4 @@
+pub mod Addresses
 pub mod Configs
 pub mod Domain
 pub mod Identities

@@ -75,6 +75,22 @@ count_rule = record (new_rule (codes "count")) { value_names = 1; long = Some (c
 abbrev pub turns_rule : Rule
 turns_rule = record (new_rule (codes "turns")) { value_names = 1; long = Some (codes "turns"); parser = Some (Signed (pos 1) (pos 100000)); defaults = codes "600" ∷ [] }
 
+-- the address if none is given
+abbrev pub address_text : List ℕ
+address_text = codes "127.0.0.1"
+
+-- `--address ADDRESS`
+abbrev pub address_rule : Rule
+address_rule = record (new_rule (codes "address")) { value_names = 1; long = Some (codes "address"); defaults = address_text ∷ [] }
+
+-- the options for the domain and the address
+unfoldable pub with_place : App → App
+with_place a = with_rule (with_rule a domain_rule) address_rule
+
+-- the options for the end of the run
+unfoldable pub with_ends : App → App
+with_ends a = with_rule (with_rule a count_rule) turns_rule
+
 -- the options for the workers, the batches and the number of readers
 unfoldable pub with_sizes : App → App
 with_sizes a = with_rule (with_rule (with_rule a workers_rule) batch_rule) readers_rule
@@ -95,6 +111,10 @@ with_options a = with_flags (with_names (with_sizes a))
 unfoldable pub dump_app : App
 dump_app = with_rule (with_rule (new_app (codes "dump")) file_rule) own_rule
 
+-- `explain FILE [--own HEX]`
+unfoldable pub explain_app : App
+explain_app = with_rule (with_rule (new_app (codes "explain")) file_rule) own_rule
+
 -- `replay FILE` and the options
 unfoldable pub replay_app : App
 replay_app = with_options (with_rule (new_app (codes "replay")) file_rule)
@@ -103,13 +123,13 @@ replay_app = with_options (with_rule (new_app (codes "replay")) file_rule)
 unfoldable pub samples_app : App
 samples_app = with_options (with_rule (with_rule (new_app (codes "samples")) file_rule) keep_rule)
 
--- `listen --domain D --count N [--turns T]` and the options
+-- `listen --domain D --count N [--turns T] [--address A]` and the options
 unfoldable pub live_app : App
-live_app = with_options (with_rule (with_rule (with_rule (new_app (codes "listen")) domain_rule) count_rule) turns_rule)
+live_app = with_options (with_ends (with_place (new_app (codes "listen"))))
 
--- the program with `dump` and `replay`
+-- the program with `dump`, `explain` and `replay`
 unfoldable pub printing_app : App
-printing_app = with_subcommand (with_subcommand (new_app (codes "rtps_listen")) dump_app.top) replay_app.top
+printing_app = with_subcommand (with_subcommand (with_subcommand (new_app (codes "rtps_listen")) dump_app.top) explain_app.top) replay_app.top
 
 -- the program
 unfoldable pub listen_app : App

@@ -7,7 +7,7 @@ use Rattle.std.specs.Str.{bytes_eq}
 use Rattle.std.specs.Str.Parse.{digits_value, without_leading_plus}
 use Rattle.clap.specs.Words.{Row, Text, first_of, one_of}
 use Rattle.rtps_listen.specs.declared.options.Options.{Options}
-use Rattle.rtps_listen.specs.Line.{own_text, topic_text}
+use Rattle.rtps_listen.specs.Line.{address_text, own_text, topic_text}
 
 -- the text after this name, or else this one
 abbrev pub text_or : Text → Text → List Row → Text
@@ -52,5 +52,6 @@ pub record AreOptions (options : Options) (rows : List Row) : Type 0 where
   pub summary : options.summary ≡ is_set (codes "summary") rows
   pub keep : options.keep ≡ up_to 65536 (number_in (codes "keep") rows)
   pub domain : options.domain ≡ up_to 232 (number_in (codes "domain") rows)
+  pub address : options.address.now ≡ text_or (codes "address") address_text rows
   pub count : options.count ≡ one_to 65536 (number_in (codes "count") rows)
   pub turns : options.turns ≡ one_to 100000 (number_in (codes "turns") rows)

@@ -12,6 +12,7 @@ use Rattle.rtps_records.specs.Runs.{WroteAll}
 use Rattle.rtps_records.specs.Text.{text_of}
 use Rattle.rtps_records.specs.declared.fault.RunFault.TheVariants.{CannotRead, NoMemory}
 use Rattle.rtps_lines.specs.EventLines.{lines_of}
+use Rattle.rtps_explain.specs.Explained.{explained_text}
 use Rattle.rtps_text.specs.Entries.{samples_text}
 use Rattle.rtps_text.specs.Listened.{limits_of}
 use Rattle.rtps_text.specs.Replayed.{replay_text}
@@ -23,7 +24,7 @@ use Rattle.rtps_listen.specs.Setup.{history_of}
 use Rattle.rtps_listen.specs.declared.fault.ListenFault.{ListenFault}
 use Rattle.rtps_listen.specs.declared.fault.ListenFault.TheVariants.{Run}
 use Rattle.rtps_listen.specs.declared.request.Request.{Request}
-use Rattle.rtps_listen.specs.declared.request.Request.TheVariants.{Dump, Listen, Replay, Samples}
+use Rattle.rtps_listen.specs.declared.request.Request.TheVariants.{Dump, Explain, Listen, Replay, Samples}
 
 -- the text of a run over these records, whose samples are shapes of the Shapes demo, or with
 -- `--raw` octets
@@ -78,6 +79,10 @@ Prints (Dump options) holds old new result =
     EndsBy IsFirst old new result
     ⊎ ((own : GuidPrefix) × WritesPrefix options.own.now own
     × Writes false (text_of (lines_of own)) (holds options.file.now) old new result)
+Prints (Explain options) holds old new result =
+    EndsBy IsFirst old new result
+    ⊎ ((own : GuidPrefix) × WritesPrefix options.own.now own
+    × Writes false (explained_text own) (holds options.file.now) old new result)
 Prints (Replay options) holds old new result =
     EndsBy IsFirst old new result
     ⊎ ((config : Config) × IsConfigOf options config

@@ -3,10 +3,11 @@
 use Rattle.std.specs.Prelude.{◌≡◌, List, [], Option, Some, None, codes, Result, Err, IfErr}
 use Rattle.clap.specs.Words.{Row, Text}
 use Rattle.rtps_listen.specs.declared.request.Request.{Request}
-use Rattle.rtps_listen.specs.declared.request.Request.TheVariants.{Dump, Listen, Replay, Samples}
+use Rattle.rtps_listen.specs.declared.request.Request.TheVariants.{Dump, Explain, Listen, Replay, Samples}
 use Rattle.rtps_listen.specs.declared.fault.ListenFault.{ListenFault}
 use Rattle.rtps_listen.specs.declared.fault.ListenFault.TheVariants.{BadPrefix, Run}
-use Rattle.rtps_listen.specs.Configs.{IsLiveCause, IsReplayCause, Refuses}
+use Rattle.rtps_listen.specs.Addresses.{IsLiveCause, RefusesAddress}
+use Rattle.rtps_listen.specs.Configs.{IsReplayCause, Refuses}
 use Rattle.rtps_listen.specs.Identities.{IsPrefixText}
 use Rattle.rtps_listen.specs.Options.{AreOptions}
 
@@ -14,6 +15,11 @@ use Rattle.rtps_listen.specs.Options.{AreOptions}
 abbrev pub IsDump : Option (Text × List Row) → Type 0
 IsDump None = Unit {0}
 IsDump (Some found) = found.0 ≡ codes "dump"
+
+-- the subcommand is `explain`
+abbrev pub IsExplain : Option (Text × List Row) → Type 0
+IsExplain None = ⊥
+IsExplain (Some found) = found.0 ≡ codes "explain"
 
 -- the subcommand is `replay`
 abbrev pub IsReplay : Option (Text × List Row) → Type 0
@@ -33,12 +39,14 @@ rows_behind (Some found) = found.1
 -- this is what the words ask for; the only other subcommand is `listen`
 unfoldable pub Asks : Request → Option (Text × List Row) → Type 0
 Asks (Dump options) found = IsDump found × AreOptions options (rows_behind found)
+Asks (Explain options) found = IsExplain found × AreOptions options (rows_behind found)
 Asks (Replay options) found = IsReplay found × AreOptions options (rows_behind found)
 Asks (Samples options) found = IsSamples found × AreOptions options (rows_behind found)
 Asks (Listen options) found =
-    ¬ IsDump found × ¬ IsReplay found × ¬ IsSamples found × AreOptions options (rows_behind found)
+    ¬ IsDump found × ¬ IsExplain found × ¬ IsReplay found × ¬ IsSamples found
+    × AreOptions options (rows_behind found)
 
--- what is wrong if `dump` ends with this fault: its prefix, or its run
+-- what is wrong if `dump` or `explain` ends with this fault: its prefix, or its run
 abbrev pub IsDumpCause : Text → ListenFault → Type 0
 IsDumpCause own BadPrefix = ¬ IsPrefixText own
 IsDumpCause own (Run fault) = Unit {0}
@@ -49,6 +57,10 @@ unfoldable pub RefusesFirst : Request → Result (Unit {0}) ListenFault → Type
 RefusesFirst (Dump options) result =
     (¬ IsPrefixText options.own.now → result ≡ Err BadPrefix)
     × IfErr result (IsDumpCause options.own.now)
+RefusesFirst (Explain options) result =
+    (¬ IsPrefixText options.own.now → result ≡ Err BadPrefix)
+    × IfErr result (IsDumpCause options.own.now)
 RefusesFirst (Replay options) result = Refuses options result × IfErr result (IsReplayCause options)
 RefusesFirst (Samples options) result = Refuses options result × IfErr result (IsReplayCause options)
-RefusesFirst (Listen options) result = Refuses options result × IfErr result (IsLiveCause options)
+RefusesFirst (Listen options) result =
+    Refuses options result × RefusesAddress options result × IfErr result (IsLiveCause options)

@@ -7,7 +7,7 @@ use Rattle.rtps_text.specs.declared.live_fault.LiveFault.TheVariants as live_fau
 use Rattle.rtps_listen.specs.declared.program.Failure.{Failure}
 use Rattle.rtps_listen.specs.declared.program.Failure.TheVariants.{Line, Fault}
 use Rattle.rtps_listen.specs.declared.fault.ListenFault.{ListenFault}
-use Rattle.rtps_listen.specs.declared.fault.ListenFault.TheVariants.{NoText, BadPrefix, BadWriter, Socket, Run}
+use Rattle.rtps_listen.specs.declared.fault.ListenFault.TheVariants.{NoText, BadPrefix, BadWriter, BadAddress, Socket, Run}
 
 -- the fault of the program that a run over a domain ends with
 abbrev pub live_fault_of : LiveFault → ListenFault
@@ -19,6 +19,7 @@ abbrev pub status_of : ListenFault → ℕ
 status_of NoText = 2
 status_of BadPrefix = 2
 status_of BadWriter = 2
+status_of BadAddress = 2
 status_of Socket = 4
 status_of (Run CannotRead) = 3
 status_of (Run NotRecordFile) = 3
@@ -38,6 +39,7 @@ abbrev pub fault_text : ListenFault → List ℕ
 fault_text NoText = codes "a word is not text"
 fault_text BadPrefix = codes "bad prefix"
 fault_text BadWriter = codes "bad writer"
+fault_text BadAddress = codes "bad address"
 fault_text Socket = codes "socket fault"
 fault_text (Run fault) = records.fault_text fault
 

@@ -18,6 +18,8 @@ pub enum ListenFault {
     BadPrefix,
     /// The value of `--fixed` isn't 32 hex digits, or names no writer that can be matched.
     BadWriter,
+    /// The value of `--address` isn't an IPv4 address in dotted notation.
+    BadAddress,
     /// The sockets of a domain can't be opened, or one of them fails.
     Socket,
     /// The run over the records or datagrams ended early.
@@ -51,7 +53,10 @@ impl ListenFault {
         ensures { result ≡ status_of self }
     {
         match self {
-            ListenFault::NoText | ListenFault::BadPrefix | ListenFault::BadWriter => 2,
+            ListenFault::NoText
+            | ListenFault::BadPrefix
+            | ListenFault::BadWriter
+            | ListenFault::BadAddress => 2,
             ListenFault::Socket => 4,
             ListenFault::Run(RunFault::NoMemory) => 5,
             ListenFault::Run(_) => 3,
@@ -67,6 +72,7 @@ impl fmt::Display for ListenFault {
             ListenFault::NoText => write!(f, "a word is not text"),
             ListenFault::BadPrefix => write!(f, "bad prefix"),
             ListenFault::BadWriter => write!(f, "bad writer"),
+            ListenFault::BadAddress => write!(f, "bad address"),
             ListenFault::Socket => write!(f, "socket fault"),
             ListenFault::Run(fault) => write!(f, "{fault}"),
         }

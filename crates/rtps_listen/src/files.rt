@@ -4,13 +4,14 @@ ghost use Rattle.std.specs.Prelude.{◌≡◌, ℕ, IfErr, IfOk, List, Option};
 ghost use Rattle.std.specs.Io.Buffered.{reader_remaining};
 ghost use Rattle.rtps_listen.specs.Printed.{IsUnopened, Prints};
 ghost use Rattle.rtps_listen.specs.Request.{RefusesFirst};
-ghost use Rattle.rtps_listen.specs.declared.request.Request.TheVariants.{Dump, Replay, Samples};
+ghost use Rattle.rtps_listen.specs.declared.request.Request.TheVariants.{Dump, Explain, Replay, Samples};
 
 use crate::config::config_of;
 use crate::fault::ListenFault;
 use crate::options::Options;
 use crate::setup::{cache_setup_of, setup_of};
 use dds_topic::{Raw, Shapes};
+use rtps_explain::explain;
 use rtps_records::RunFault;
 use rtps_text::{dump, replay, samples};
 use rtps_types::GuidPrefix;
@@ -72,6 +73,26 @@ pub fn dump_file<F: RecordFiles, W: Write + Send, T: Threads + Sync>(
     };
     let mut file = open(alloc, files, options.file)?;
     Ok(dump(rt, alloc, own, &mut file, writer)?)
+}
+
+/// Does what `explain` is asked for: prints what becomes of each submessage in a file.
+///
+/// Faults are those of [`dump_file`].
+pub fn explain_file<F: RecordFiles, W: Write>(
+    alloc: Global,
+    files: &F,
+    options: &Options<'_>,
+    writer: &mut W,
+) -> Result<(), ListenFault>
+    ensures refused { RefusesFirst (Explain options.now) result }
+    ensures prints { Prints (Explain options.now) (F.holds files.now)
+        (W.contents writer.old) (W.contents writer.new) result }
+{
+    let Ok(own) = options.own.parse::<GuidPrefix>() else {
+        return Err(ListenFault::BadPrefix);
+    };
+    let mut file = open(alloc, files, options.file)?;
+    Ok(explain(alloc, own, &mut file, writer)?)
 }
 
 /// Does what `replay` is asked for: prints what readers report and answer of a file.

@@ -6,6 +6,7 @@ ghost use Rattle.std.specs.Prelude.{◌≡◌, None, OnOk};
 ghost use Rattle.std.specs.Io.KnownBytes.{Appends};
 ghost use Rattle.std.specs.Process.{exit_status};
 ghost use Rattle.rtps_listen.specs.Status.{fault_line, status_after};
+ghost use Rattle.rtps_udp.specs.Bound.{bound_address};
 
 mod config;
 mod domain;
@@ -22,7 +23,7 @@ use fault::ListenFault;
 use files::RecordFiles;
 use program::{Failure, run};
 use rtps_records::RunFault;
-use rtps_udp::Sockets;
+use rtps_udp::{Binding, SocketFault, Sockets};
 use std::alloc::Global;
 use std::fs::File;
 use std::io::{self, Read, Stdin, Write};
@@ -107,8 +108,14 @@ impl RecordFiles for Host<'_> {
 impl<'a> Domains for Host<'a> {
     type Network = Sockets<'a, HostRuntime>;
 
-    fn join(&self, alloc: Global, domain: u16) -> io::Result<Sockets<'a, HostRuntime>> {
-        Sockets::bind(self.rt, self.rt, alloc, domain)
+    ghost joins = { λ sockets binding. bound_address sockets ≡ binding.address };
+
+    fn join(
+        &self,
+        alloc: Global,
+        binding: Binding,
+    ) -> Result<Sockets<'a, HostRuntime>, SocketFault> {
+        Sockets::bind_at(self.rt, self.rt, alloc, binding)
     }
 }
 

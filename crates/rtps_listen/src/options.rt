@@ -5,6 +5,9 @@ ghost use Rattle.std.specs.Prelude.{◌≤◌};
 /// The prefix of the participant if `--own` isn't given, in hex.
 pub const OWN: &str = "0b0b0b0b0b0b0b0b0b0b0b0b";
 
+/// The address of the sockets if `--address` isn't given.
+pub const ADDRESS: &str = "127.0.0.1";
+
 /// The topic of the readers if `--topic` isn't given.
 pub const TOPIC: &str = "Square";
 
@@ -35,6 +38,8 @@ pub struct Options<'a> {
     pub keep: u32,
     /// The domain that `listen` takes part in, 0 to 232.
     pub domain: u16,
+    /// The address that `listen` receives at, in dotted notation.
+    pub address: &'a str,
     /// After how many datagrams `listen` ends, 1 to 65,536.
     pub count: u32,
     /// After how many waits for datagrams `listen` ends, 1 to 100,000.
@@ -72,6 +77,7 @@ impl Options<'_> {
             summary: false,
             keep: 0,
             domain: 0,
+            address: ADDRESS,
             count: 1,
             turns: 1,
         }

@@ -5,7 +5,7 @@ ghost use Rattle.rtps_listen.specs.Program.{Does, Leaves};
 
 use crate::domain::{Domains, listen_in};
 use crate::fault::ListenFault;
-use crate::files::{RecordFiles, dump_file, replay_file, samples_file};
+use crate::files::{RecordFiles, dump_file, explain_file, replay_file, samples_file};
 use crate::request::Request;
 use crate::words::read_words;
 use clap::Error;
@@ -67,6 +67,7 @@ fn perform<H: RecordFiles + Domains, W: Write + Send, T: Threads + Sync>(
 {
     match request {
         Request::Dump(options) => dump_file(rt, alloc, host, options, writer),
+        Request::Explain(options) => explain_file(alloc, host, options, writer),
         Request::Replay(options) => replay_file(rt, alloc, host, options, writer),
         Request::Samples(options) => samples_file(rt, alloc, host, options, writer),
         Request::Listen(options) => listen_in(rt, alloc, host, options, writer),

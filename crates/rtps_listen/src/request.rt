@@ -5,7 +5,7 @@ ghost use Rattle.clap.specs.Words.{found_of, rows_of};
 ghost use Rattle.rtps_listen.specs.Options.{AreOptions, is_set, number_in, one_to, text_or, up_to};
 ghost use Rattle.rtps_listen.specs.Request.{Asks};
 
-use crate::options::{OWN, Options, TOPIC};
+use crate::options::{ADDRESS, OWN, Options, TOPIC};
 use clap::ArgMatches;
 
 /// What the words ask for, with the options of the subcommand.
@@ -13,6 +13,8 @@ use clap::ArgMatches;
 pub enum Request<'a> {
     /// The events in a record file, as a participant sees them.
     Dump(Options<'a>),
+    /// What becomes of each submessage in a record file.
+    Explain(Options<'a>),
     /// What readers report and answer of a record file.
     Replay(Options<'a>),
     /// What readers keep of a record file.
@@ -90,6 +92,7 @@ fn options_in<'a>(matches: &ArgMatches<'a>) -> Options<'a>
         summary: flag_in(matches, "summary"),
         keep: up_to(65_536, number_in(matches, "keep")),
         domain: up_to(232, number_in(matches, "domain")) as u16,
+        address: text_in(matches, "address", ADDRESS),
         count: one_to(65_536, number_in(matches, "count")),
         turns: one_to(100_000, number_in(matches, "turns")),
     }
@@ -107,6 +110,8 @@ pub fn request_of<'a>(found: Option<(&'a str, &ArgMatches<'a>)>) -> Request<'a>
     let options = options_in(matches);
     if name == "dump" {
         Request::Dump(options)
+    } else if name == "explain" {
+        Request::Explain(options)
     } else if name == "replay" {
         Request::Replay(options)
     } else if name == "samples" {

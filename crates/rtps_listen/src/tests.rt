@@ -22,6 +22,17 @@ fn words(alloc: Global, line: &[&'static str]) -> Result<Vec<&'static str>, Fail
 }
 
 #[test]
+fn lines_of_explain(rt: HostRuntime) -> Result<(), Fail> {
+    let mut options = Options::unset();
+    options.file = "a b";
+    options.own = "0b";
+    let words = words(rt.alloc(), &["explain", "--own", "0b", "a b"])?;
+    let request = read_words(rt.alloc(), words.as_slice())?;
+    assert_eq!(rt; request, Request::Explain(options));
+    Ok(())
+}
+
+#[test]
 fn lines_of_dump(rt: HostRuntime) -> Result<(), Fail> {
     let nothing = Options::unset();
     let mut other = nothing;
@@ -41,7 +52,7 @@ fn lines_of_dump(rt: HostRuntime) -> Result<(), Fail> {
 }
 
 /// Options of `listen` with these, and else those where none is given.
-fn live(domain: u16, count: u32, turns: u32) -> Options<'static>
+fn live(domain: u16, count: u32, turns: u32, address: &'static str) -> Options<'static>
     requires domain { domain ≤ 232 }
     requires count { 1 ≤ count }
     requires turns { 1 ≤ turns }
@@ -50,6 +61,7 @@ fn live(domain: u16, count: u32, turns: u32) -> Options<'static>
     options.domain = domain;
     options.count = count;
     options.turns = turns;
+    options.address = address;
     options
 }
 
@@ -58,14 +70,27 @@ fn lines_of_listen(rt: HostRuntime) -> Result<(), Fail> {
     for (line, options) in [
         (
             ["listen", "--domain", "0", "--count", "1"].as_slice(),
-            live(0, 1, 600),
+            live(0, 1, 600, "127.0.0.1"),
+        ),
+        (
+            [
+                "listen",
+                "--domain",
+                "0",
+                "--address",
+                "0.0.0.0",
+                "--count",
+                "1",
+            ]
+            .as_slice(),
+            live(0, 1, 600, "0.0.0.0"),
         ),
         (
             [
                 "listen", "--count", "65536", "--turns", "100000", "--domain", "232",
             ]
             .as_slice(),
-            live(232, 65_536, 100_000),
+            live(232, 65_536, 100_000, "127.0.0.1"),
         ),
     ] {
         let words = words(rt.alloc(), line)?;
@@ -76,7 +101,7 @@ fn lines_of_listen(rt: HostRuntime) -> Result<(), Fail> {
 }
 
 /// Bad lines, and what is bad of each.
-const BAD: [(&[&str], ErrorKind); 21] = [
+const BAD: [(&[&str], ErrorKind); 22] = [
     (&["dump"], ErrorKind::MissingRequiredArgument),
     (&["dump", "-", "-"], ErrorKind::UnknownArgument),
     (&["dump", "-", "--raw"], ErrorKind::UnknownArgument),
@@ -117,6 +142,10 @@ const BAD: [(&[&str], ErrorKind); 21] = [
         ErrorKind::ArgumentConflict,
     ),
     (
+        &["replay", "-", "--address", "127.0.0.1"],
+        ErrorKind::UnknownArgument,
+    ),
+    (
         &["listen", "--count", "1"],
         ErrorKind::MissingRequiredArgument,
     ),
@@ -148,6 +177,7 @@ fn lines_of_faults(rt: HostRuntime) -> Result<(), Fail> {
         (ListenFault::NoText, "a word is not text", 2u8),
         (ListenFault::BadPrefix, "bad prefix", 2),
         (ListenFault::BadWriter, "bad writer", 2),
+        (ListenFault::BadAddress, "bad address", 2),
         (ListenFault::Socket, "socket fault", 4),
         (
             ListenFault::Run(RunFault::CannotRead),

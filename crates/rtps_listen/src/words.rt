@@ -7,7 +7,7 @@ ghost use Rattle.rtps_listen.specs.Line as line;
 ghost use Rattle.rtps_listen.specs.Line.{IsPlainApp, IsPlainRule};
 ghost use Rattle.rtps_listen.specs.Request.{Asks};
 
-use crate::options::{OWN, TOPIC};
+use crate::options::{ADDRESS, OWN, TOPIC};
 use crate::request::{Request, request_of};
 use clap::{Arg, ArgAction, ArgMatches, Command, Error, value_parser};
 use std::alloc::{AllocError, Global};
@@ -29,6 +29,7 @@ fn printing_command<'a>(alloc: Global) -> Result<Command<'a>, AllocError>
 {
     Command::new(alloc, "rtps_listen")
         .subcommand(dump_command(alloc)?)?
+        .subcommand(explain_command(alloc)?)?
         .subcommand(replay_command(alloc)?)
 }
 
@@ -38,6 +39,16 @@ fn dump_command<'a>(alloc: Global) -> Result<Command<'a>, AllocError>
 {
     Command::new(alloc, "dump")
         .about("Prints a line for each event in a record file")
+        .arg(file(alloc))?
+        .arg(own(alloc))
+}
+
+#[tactic(auto, unfolding(crate::specs::Line::explain_app))]
+fn explain_command<'a>(alloc: Global) -> Result<Command<'a>, AllocError>
+    ensures { IfOk result (λ c. IsPlainApp c line.explain_app) }
+{
+    Command::new(alloc, "explain")
+        .about("Prints a line for each submessage in a record file, and counts them")
         .arg(file(alloc))?
         .arg(own(alloc))
 }
@@ -71,14 +82,29 @@ fn samples_command<'a>(alloc: Global) -> Result<Command<'a>, AllocError>
 fn live_command<'a>(alloc: Global) -> Result<Command<'a>, AllocError>
     ensures { IfOk result (λ c. IsPlainApp c line.live_app) }
 {
-    let command = Command::new(alloc, "listen")
-        .about(
-            "Runs readers on the datagrams of a domain of this machine, and sends what they answer",
-        )
-        .arg(domain(alloc))?
-        .arg(count(alloc))?
-        .arg(turns(alloc))?;
+    let command = Command::new(alloc, "listen").about(
+        "Runs readers on the datagrams of a domain, and sends what they answer",
+    );
+    let command = with_ends(alloc, with_place(alloc, command)?)?;
     with_options(alloc, command)
+}
+
+/// Adds the options for the domain and the address.
+#[tactic(auto, unfolding(crate::specs::Line::with_place))]
+fn with_place<'a>(alloc: Global, command: Command<'a>) -> Result<Command<'a>, AllocError>
+    requires { (out-Command command).has_globals ≡ false }
+    ensures { IfOk result (λ c. IsPlainApp c (line.with_place (app_of command.entry))) }
+{
+    command.arg(domain(alloc))?.arg(address(alloc))
+}
+
+/// Adds the options for the end of the run.
+#[tactic(auto, unfolding(crate::specs::Line::with_ends))]
+fn with_ends<'a>(alloc: Global, command: Command<'a>) -> Result<Command<'a>, AllocError>
+    requires { (out-Command command).has_globals ≡ false }
+    ensures { IfOk result (λ c. IsPlainApp c (line.with_ends (app_of command.entry))) }
+{
+    command.arg(count(alloc))?.arg(turns(alloc))
 }
 
 /// Adds the options of a subcommand that runs readers.
@@ -265,6 +291,16 @@ fn turns<'a>(alloc: Global) -> Arg<'a>
         .long("turns")
         .value_parser(value_parser!(u32).range(1..100_001))
         .default_value("600")
+}
+
+fn address<'a>(alloc: Global) -> Arg<'a>
+    ensures { IsPlainRule result line.address_rule }
+{
+    Arg::new(alloc, "address")
+        .value_name("ADDRESS")
+        .help("The address to receive at: one of this machine, or 0.0.0.0 for all of them")
+        .long("address")
+        .default_value(ADDRESS)
 }
 
 /// Returns what clap finds in the words. This, or the error if the line is a bad one, depends on

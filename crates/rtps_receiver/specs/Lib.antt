@@ -3,4 +3,6 @@ pub mod Views
 pub mod Addressed
 pub mod Context
 pub mod Events
+pub mod Outcomes
+pub mod Counters
 pub mod Running

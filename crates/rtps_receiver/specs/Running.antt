@@ -1,5 +1,5 @@
 -- The context as it is updated from one submessage to the next (DDSI-RTPS 8.3.4).
-use Rattle.std.specs.Prelude.{◌+◌, List, [], ◌∷◌, ◌++◌, Option, None, if◌then◌else◌, option_to_list}
+use Rattle.std.specs.Prelude.{◌+◌, List, [], ◌∷◌, ◌++◌, Option, None, Result, if◌then◌else◌, option_to_list}
 use Rattle.std.specs.Str.{bytes_eq}
 use Rattle.rtps_types.specs.declared.place.Place.{Place}
 use Rattle.rtps_types.specs.declared.identity.GuidPrefix.{GuidPrefix}
@@ -7,6 +7,8 @@ use Rattle.rtps_wire.specs.Submessage.{PartsView, Item, Pad, Heartbeat, Gap, Inf
 use Rattle.rtps_receiver.specs.declared.context.Context.{Context}
 use Rattle.rtps_receiver.specs.Addressed.{addressed, taken_of}
 use Rattle.rtps_receiver.specs.Events.{EventView, happening}
+use Rattle.rtps_receiver.specs.Outcomes.{OutcomeView, outcome}
+use Rattle.rtps_receiver.specs.declared.outcome.Reason.{Reason}
 use Rattle.rtps_receiver.specs.Context.{destination_of, resolved, source_of, time_of}
 
 -- the context after these submessages, the nearest first
@@ -43,3 +45,13 @@ next_place p = record p { submessage = p.submessage + 1 }
 abbrev pub events_left : Context → Place → List Item → List EventView
 events_left c before [] = []
 events_left c before (i ∷ left) = option_to_list (event_in c (next_place before) i.content) ++ events_left (after c i.content) (next_place before) left
+
+-- the outcome of a submessage in a context
+abbrev pub outcome_in : Context → Place → PartsView → Result EventView Reason
+outcome_in c place content = outcome (bytes_eq c.destination.0 c.own.0) place c.source c.time (addressed content)
+
+-- the outcomes of the remaining submessages, in a context, after the submessage at a place
+abbrev pub outcomes_left : Context → Place → List Item → List OutcomeView
+outcomes_left c before [] = []
+outcomes_left c before (i ∷ left) =
+    record { place = next_place before; item = i; event = outcome_in c (next_place before) i.content } ∷ outcomes_left (after c i.content) (next_place before) left

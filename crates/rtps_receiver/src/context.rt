@@ -3,12 +3,14 @@
 
 ghost use Rattle.std.specs.Prelude.{◌≡◌};
 ghost use Rattle.std.specs.Option.{option_map};
+ghost use Rattle.std.specs.Result.{result_map_both};
 ghost use Rattle.rtps_wire.specs.Submessage.{parts_view};
 ghost use Rattle.rtps_receiver.specs.Events.{view};
-ghost use Rattle.rtps_receiver.specs.Running.{after, event_in, first_context};
+ghost use Rattle.rtps_receiver.specs.Running.{after, event_in, first_context, outcome_in};
 
 use crate::brought::{fragment_of, gap_of, heartbeat_frag_of, heartbeat_of, whole_of};
 use crate::event::Event;
+use crate::outcome::Reason;
 use rtps_types::{GuidPrefix, Place, Timestamp};
 use rtps_wire::Parts;
 
@@ -63,9 +65,14 @@ impl Context {
     pub(crate) fn event<'a>(&self, place: Place, parts: &Parts<'a>) -> Option<Event<'a>>
         ensures { option_map view result ≡ event_in self.now place (parts_view parts.now) }
     {
-        if self.destination != self.own {
-            return None;
-        }
+        self.outcome(place, parts).ok()
+    }
+
+    /// Returns the event of a submessage, or the first reason why it gives none.
+    pub(crate) fn outcome<'a>(&self, place: Place, parts: &Parts<'a>) -> Result<Event<'a>, Reason>
+        ensures { result_map_both view (λ r. r) result
+            ≡ outcome_in self.now place (parts_view parts.now) }
+    {
         let (writer, reader, body) = match parts {
             Parts::Data(data) => (data.writer, data.reader, whole_of(data)),
             Parts::DataFrag(data) => (data.writer, data.reader, fragment_of(data)),
@@ -76,15 +83,21 @@ impl Context {
             | Parts::InfoTimestamp(_)
             | Parts::InfoSource(_)
             | Parts::InfoDestination(_)
-            | Parts::Skipped => return None,
+            | Parts::Skipped => return Err(Reason::NotForReaders),
         };
-        Some(Event {
+        if self.destination != self.own {
+            return Err(Reason::OtherDestination);
+        }
+        let Some(body) = body else {
+            return Err(Reason::NumberTooGreat);
+        };
+        Ok(Event {
             place,
             source: self.source,
             time: self.time,
             writer,
             reader,
-            body: body?,
+            body,
         })
     }
 }

@@ -1,22 +1,26 @@
 //! From octets to events.
 
-ghost use Rattle.std.specs.Prelude.{◌≡◌, ◌≤◌, ◌++◌, length, map, IfOk, OnErr, OnOk};
+ghost use Rattle.std.specs.Prelude.{◌≡◌, ◌≤◌, ◌++◌, length, map, take, IfOk, OnErr, OnOk};
+ghost use Rattle.rtps_receiver.specs.Counters.{all_noted, counted, ended};
 ghost use Rattle.rtps_receiver.specs.Events.{events_of, view};
+ghost use Rattle.rtps_receiver.specs.Outcomes.{events_among};
 
-use crate::datagram::Events;
+use crate::counters::Counters;
 use crate::event::Event;
+use crate::outcomes::Outcomes;
 use rtps_types::GuidPrefix;
 use std::alloc::{AllocError, Allocator};
 
 /// Why the events of a datagram could not be listed: the allocator refused a growth.
 pub type ReceiverError = AllocError;
 
-/// Appends the events of one datagram, as [`events`] lists them. A refused growth leaves `events`
-/// as it was.
+/// Appends the events of one datagram, as [`events`] lists them, and counts the datagram and its
+/// submessages. A refused growth leaves `events` and `counters` as they were.
 ///
 /// Payloads are borrowed from the datagram, which has at most 65,507 octets.
 pub fn add_events<'a, A: Allocator>(
     events: &mut Vec<Event<'a>, A>,
+    counters: &mut Counters,
     own: GuidPrefix,
     index: u64,
     octets: &'a [u8],
@@ -24,15 +28,48 @@ pub fn add_events<'a, A: Allocator>(
     requires { length octets.now ≤ 65507 }
     ensures added { OnOk result (map view events.new.items
         ≡ map view events.old.items ++ events_of own index octets.now) }
+    ensures counted { OnOk result (counters.new ≡ counted own octets.now counters.old) }
     ensures same { OnErr result (events.new.items ≡ events.old.items) }
+    ensures uncounted { OnErr result (counters.new ≡ counters.old) }
 {
-    let before = events.len();
-    for event in Events::new(own, index, octets) {
-        if events.push(event).is_err() {
+    let (before, counted) = (events.len(), *counters);
+    counters.begin();
+    let outcomes = match Outcomes::new(own, index, octets) {
+        Ok(outcomes) => outcomes,
+        Err(fault) => {
+            counters.refuse(fault);
+            return Ok(());
+        }
+    };
+    match add_outcomes(events, counters, outcomes) {
+        Ok(()) => Ok(()),
+        Err(refused) => {
             events.truncate(before);
-            return Err(AllocError);
+            *counters = counted;
+            Err(refused)
         }
     }
+}
+
+/// Appends the events among these outcomes, and counts each outcome and the fault after them.
+fn add_outcomes<'a, A: Allocator>(
+    events: &mut Vec<Event<'a>, A>,
+    counters: &mut Counters,
+    mut outcomes: Outcomes<'a>,
+) -> Result<(), AllocError>
+    ensures added { OnOk result (map view events.new.items
+        ≡ map view events.old.items ++ events_among outcomes.entry.left) }
+    ensures counted { OnOk result (counters.new
+        ≡ ended outcomes.entry.fault (all_noted outcomes.entry.left counters.old)) }
+    ensures front { take (length events.old.items) events.new.items ≡ events.old.items }
+{
+    while let Some(outcome) = outcomes.next() {
+        counters.note(&outcome.event);
+        if let Ok(event) = outcome.event {
+            events.push(event)?;
+        }
+    }
+    counters.end(outcomes.fault());
     Ok(())
 }
 
@@ -53,6 +90,6 @@ pub fn events<A: Allocator>(
     ensures { IfOk result (λ events. map view events.items ≡ events_of own index octets.now) }
 {
     let mut events = Vec::new(alloc);
-    add_events(&mut events, own, index, octets)?;
+    add_events(&mut events, &mut Counters::new(), own, index, octets)?;
     Ok(events)
 }

@@ -5,7 +5,7 @@ ghost use Rattle.std.specs.Prelude.{◌≤◌, length};
 use crate::*;
 use linked_list_allocator::LocalHeap;
 use rtps_types::{EntityId, GuidPrefix, Timestamp};
-use rtps_wire::Form;
+use rtps_wire::{Form, SubmessageFault};
 use std::alloc::Global;
 use std::test::Fail;
 
@@ -78,8 +78,9 @@ fn two_datagrams_in_one_list(rt: HostRuntime) -> Result<(), Fail> {
     let octets = message(rt.alloc(), &[&DATA])?;
     assert!(rt; octets.len() < 200);
     let mut found = Vec::new(rt.alloc());
-    add_events(&mut found, OURS, 7, &octets)?;
-    add_events(&mut found, OURS, 8, &octets)?;
+    let mut counters = Counters::new();
+    add_events(&mut found, &mut counters, OURS, 7, &octets)?;
+    add_events(&mut found, &mut counters, OURS, 8, &octets)?;
     assert_eq!(rt; found.len(), 2);
     assert_eq!(rt; (found[0].place.datagram, found[1].place.datagram), (7, 8));
     Ok(())
@@ -186,6 +187,93 @@ fn bad_headers_give_none(rt: HostRuntime) -> Result<(), Fail> {
     Ok(())
 }
 
+/// Whether there is no event for this reason.
+fn is_for(event: &Result<Event<'_>, Reason>, reason: Reason) -> bool {
+    match event {
+        Ok(_) => false,
+        Err(found) => *found == reason,
+    }
+}
+
+/// An unknown kind, INFO_DST for another participant, DATA, INFO_DST for every participant, DATA of
+/// a number above 2^62, DATA, and three octets of a header.
+fn one_of_each(alloc: Global) -> Result<Vec<u8>, Fail> {
+    let unknown = [0x80, 1, 4, 0, 1, 2, 3, 4];
+    let others = [0x0e, 1, 12, 0, 9, 9, 9, 9, 9, 9, 9, 9, 9, 9, 9, 9];
+    let anyone = [0x0e, 1, 12, 0, 0, 0, 0, 0, 0, 0, 0, 0, 0, 0, 0, 0];
+    let mut above = DATA;
+    above[16..24].copy_from_slice(&[0, 0, 0, 0x40, 1, 0, 0, 0]);
+    let rest = [0x15, 1, 0];
+    let parts: [&[u8]; 7] = [&unknown, &others, &DATA, &anyone, &above, &DATA, &rest];
+    message(alloc, &parts)
+}
+
+#[test]
+fn tells_why_there_is_no_event(rt: HostRuntime) -> Result<(), Fail> {
+    let each = one_of_each(rt.alloc())?;
+    assert!(rt; each.len() < 300);
+    let mut outcomes = match Outcomes::new(OURS, 4, &each) {
+        Ok(outcomes) => outcomes,
+        Err(_) => return Err(Fail::new("no message")),
+    };
+    for (submessage, reason) in [
+        (1, Reason::NotForReaders),
+        (2, Reason::NotForReaders),
+        (3, Reason::OtherDestination),
+        (4, Reason::NotForReaders),
+        (5, Reason::NumberTooGreat),
+    ] {
+        let outcome = outcomes.next().ok_or("an outcome")?;
+        assert_eq!(rt;
+            (outcome.place.datagram, outcome.place.submessage),
+            (4, submessage)
+        );
+        assert!(rt; is_for(&outcome.event, reason), "{submessage}");
+    }
+    let last = outcomes.next().ok_or("an event")?;
+    assert!(rt; last.event.is_ok() && last.submessage.id == 0x15);
+    assert!(rt; outcomes.next().is_none());
+    assert_eq!(rt; outcomes.fault(), Some(SubmessageFault::Rest));
+    Ok(())
+}
+
+#[test]
+fn counts_each_by_its_reason(rt: HostRuntime) -> Result<(), Fail> {
+    // The first number of a HEARTBEAT is at least 1.
+    let invalid = [
+        0x07, 1, 28, 0, 0, 0, 1, 7, 0, 0, 1, 2, 0, 0, 0, 0, 0, 0, 0, 0,
+    ];
+    let each = one_of_each(rt.alloc())?;
+    let past_end = message(rt.alloc(), &[&DATA[..24]])?;
+    let bad = message(rt.alloc(), &[&invalid, &[0; 12], &DATA])?;
+    let (mut other, mut later) = (HEADER, HEADER);
+    other[3] = 0x58;
+    later[4] = 3;
+    let datagrams: [&[u8]; 6] = [&HEADER[..19], &other, &later, &each, &past_end, &bad];
+    let mut counters = Counters::new();
+    let mut found = Vec::new(rt.alloc());
+    for datagram in datagrams {
+        assert!(rt; datagram.len() < 300);
+        add_events(&mut found, &mut counters, OURS, 0, datagram)?;
+    }
+    let due = Counters {
+        datagrams: 6,
+        short: 1,
+        not_rtps: 1,
+        other_version: 1,
+        cut_headers: 1,
+        past_end: 1,
+        invalid: 1,
+        events: 1,
+        not_for_readers: 3,
+        other_destination: 1,
+        number_too_great: 1,
+    };
+    assert_eq!(rt; counters, due);
+    assert_eq!(rt; found.len(), 1);
+    Ok(())
+}
+
 /// The calls that list events.
 #[derive(Clone, Copy, Debug)]
 enum Call {
@@ -210,10 +298,11 @@ fn refusals(alloc: Global, call: Call, size: usize, octets: &[u8]) -> Result<usi
     let heap = LocalHeap::new(alloc, 65_536)?;
     let mut list = Vec::new(&heap);
     let one = octets.get(..48).ok_or("one event")?;
+    let mut counters = Counters::new();
     if matches!(call, Call::AddEvents) {
-        add_events(&mut list, OURS, 8, one)?;
+        add_events(&mut list, &mut counters, OURS, 8, one)?;
     }
-    let before = list.len();
+    let (before, counted) = (list.len(), counters);
     let mut others = Some(Vec::<u8, _>::with_capacity(&heap, heap.free().saturating_sub(size))?);
     let mut refused = 0;
     for _ in 0..2 {
@@ -225,14 +314,17 @@ fn refusals(alloc: Global, call: Call, size: usize, octets: &[u8]) -> Result<usi
                 }
                 Err(_) => false,
             },
-            Call::AddEvents => add_events(&mut list, OURS, 8, octets).is_ok(),
+            Call::AddEvents => add_events(&mut list, &mut counters, OURS, 8, octets).is_ok(),
         };
         if is_listed {
             break;
         }
         refused += 1;
         others = None;
-        if list.len() != before || (before == 1 && !ends_at(list.as_slice(), 1, 1)) {
+        if counters != counted
+            || list.len() != before
+            || (before == 1 && !ends_at(list.as_slice(), 1, 1))
+        {
             return Err(Fail::new("a refused call leaves events"));
         }
     }

@@ -7,7 +7,6 @@ mod board;
 mod ends;
 mod gate;
 mod jobs;
-mod piles;
 mod steps;
 #[cfg(test)]
 mod tests;
@@ -18,5 +17,4 @@ pub use apart::map_apart;
 pub use board::{Board, Stolen, Thief};
 pub use gate::{Gate, NoGate};
 pub use jobs::{JobResult, Posted, SharedBatch, Worker};
-pub use piles::joined;
 pub use workers::{run_alone, run_job, run_jobs};

@@ -1,5 +1,6 @@
 -- The addresses of a participant's sockets, and of those that it answers.
-use Rattle.std.specs.Prelude.{ℕ, ◌+◌, ◌*◌, ◌==◌, Bool, false, List, [], ◌∷◌}
+use Rattle.std.specs.Prelude.{ℕ, ◌+◌, ◌*◌, ◌==◌, nat_le, Bool, false, not, ◌&&◌, ◌||◌, if◌then◌else◌, List, [], ◌∷◌}
+use Rattle.std.specs.Str.{bytes_eq}
 use Rattle.std.specs.declared.net.ipv4_addr.Ipv4Addr.{Ipv4Addr}
 use Rattle.rtps_types.specs.declared.locator.Locator.{Locator}
 use Rattle.rtps_udp.specs.declared.addresses.Purpose.{Purpose}
@@ -15,11 +16,32 @@ abbrev pub port_of : ℕ → Purpose → ℕ
 port_of domain Metatraffic = 7400 + 250 * domain + 10
 port_of domain UserData = 7400 + 250 * domain + 11
 
--- the first octet of an address is this one
-abbrev pub begins_with : ℕ → List ℕ → Bool
-begins_with octet [] = false
-begins_with octet (first ∷ rest) = first == octet
+-- the first octet of an address is one of these
+abbrev pub begins_within : ℕ → ℕ → List ℕ → Bool
+begins_within low high [] = false
+begins_within low high (first ∷ rest) = nat_le low first && nat_le first high
 
--- a locator is an address of this machine: one of 127.0.0.0/8
-abbrev pub is_loopback : Locator → Bool
-is_loopback to = begins_with 127 to.address
+-- 127.0.0.0/8, the addresses of the loopback interface
+abbrev pub is_loopback : List ℕ → Bool
+is_loopback address = begins_within 127 127 address
+
+-- 224.0.0.0/4, the addresses of multicast groups
+abbrev pub is_multicast : List ℕ → Bool
+is_multicast address = begins_within 224 239 address
+
+-- The addresses that one interface can have: not 0.0.0.0/8, which says no more than "this machine",
+-- no multicast group, and not the broadcast address.
+abbrev pub is_unicast : List ℕ → Bool
+is_unicast address =
+    not (begins_within 0 0 address) && not (is_multicast address)
+    && not (bytes_eq address (255 ∷ 255 ∷ 255 ∷ 255 ∷ []))
+
+-- sockets may be bound to one interface, or by 0.0.0.0 to all of this machine
+abbrev pub is_bindable : List ℕ → Bool
+is_bindable address = bytes_eq address (0 ∷ 0 ∷ 0 ∷ 0 ∷ []) || is_unicast address
+
+-- Which locators are answered by sockets that are bound to an address: on loopback those of this
+-- machine, whatever a peer claims; elsewhere those of any one interface.
+abbrev pub is_answered : List ℕ → Locator → Bool
+is_answered bound to =
+    if is_loopback bound then is_loopback to.address else is_unicast to.address

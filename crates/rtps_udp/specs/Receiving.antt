@@ -1,8 +1,9 @@
 -- The results of the calls of sockets.
-use Rattle.std.specs.Prelude.{◌≡◌, ℕ, List, [], ◌∷◌, take, Option, None, Some, ◌⊎◌, Result, Ok, Err}
+use Rattle.std.specs.Prelude.{◌≡◌, ℕ, List, [], ◌∷◌, map, take, Option, None, Some, ◌⊎◌, Result, Ok, Err}
 use Rattle.std.specs.IoError.{error_kind}
 use Rattle.std.specs.declared.io.Error.{Error}
 use Rattle.std.specs.declared.io.ErrorKind.TheVariants.{WouldBlock}
+use Rattle.rtps_records.specs.RecordFile.{Datagram, Record}
 use Rattle.rtps_records.specs.Traffic.{Traffic, Exhausted, Failed, Grows, Received}
 
 -- the result of a receive call: the length of a datagram; none if the call would have to wait; or
@@ -11,6 +12,11 @@ unfoldable pub Comes : Result ℕ Error → Result (Option ℕ) Error → Type 0
 Comes (Ok length) outcome = outcome ≡ Ok (Some length)
 Comes (Err e) (Ok next) = (error_kind e ≡ WouldBlock) × (next ≡ None)
 Comes (Err e) (Err other) = ¬ (error_kind e ≡ WouldBlock) × (other ≡ e)
+
+-- these records are datagrams that came at a moment
+abbrev pub AreReceivedAt : ℕ → List Record → Type 0
+AreReceivedAt moment records =
+    (datagrams : List (List ℕ)) × (records ≡ map (Datagram moment) datagrams)
 
 -- the result is that of the first source, and the second was not tried; or the first had none left,
 -- and the result is that of the second

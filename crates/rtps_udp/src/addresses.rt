@@ -2,9 +2,11 @@
 //! to.
 
 ghost use Rattle.std.specs.Prelude.{◌≡◌, ◌≤◌};
+ghost use Rattle.std.specs.Net.Addr.{ipv4_octets};
 ghost use Rattle.std.specs.Net.Socket.{v4_ip, v4_port};
-ghost use Rattle.rtps_udp.specs.Addresses.{is_loopback, localhost, port_of};
+ghost use Rattle.rtps_udp.specs.Addresses as addresses;
 
+use crate::binding::Binding;
 use rtps_types::Locator;
 use std::net::{Ipv4Addr, SocketAddrV4};
 
@@ -18,22 +20,55 @@ pub(crate) enum Purpose {
 }
 
 /// Returns the address of a socket of a domain's first participant: the default port of the UDP
-/// mapping (DDSI-RTPS 9.6.1.1), on the loopback interface, so that no other machine reaches it.
-pub(crate) fn address_of(domain: u16, purpose: Purpose) -> SocketAddrV4
-    requires { domain ≤ 232 }
-    ensures host { v4_ip result ≡ localhost }
-    ensures port { v4_port result ≡ port_of domain purpose }
+/// mapping (DDSI-RTPS 9.6.1.1), at the address of the binding.
+pub(crate) fn address_of(binding: Binding, purpose: Purpose) -> SocketAddrV4
+    ensures host { v4_ip result ≡ binding.address }
+    ensures port { v4_port result ≡ addresses.port_of binding.domain purpose }
 {
     let offset = match purpose {
         Purpose::Metatraffic => 10,
         Purpose::UserData => 11,
     };
-    SocketAddrV4::new(Ipv4Addr::LOCALHOST, 7400 + 250 * domain + offset)
+    SocketAddrV4::new(binding.address, 7400 + 250 * binding.domain + offset)
 }
 
-/// Whether an answer may be sent to a locator: only to one of this machine, whatever a peer claims.
-pub(crate) fn is_answered(to: Locator) -> bool
-    ensures { result ≡ is_loopback to }
+/// Whether an address is one of the loopback interface, 127.0.0.0/8.
+fn is_loopback(address: [u8; 4]) -> bool
+    ensures { result ≡ addresses.is_loopback address }
 {
-    to.address[0] == 127
+    address[0] == 127
+}
+
+/// Whether an address is that of a multicast group, 224.0.0.0/4.
+fn is_multicast(address: [u8; 4]) -> bool
+    ensures { result ≡ addresses.is_multicast address }
+{
+    224 <= address[0] && address[0] <= 239
+}
+
+/// Whether an address can be that of one interface: it isn't one of 0.0.0.0/8, of a multicast
+/// group, or the broadcast address.
+fn is_unicast(address: [u8; 4]) -> bool
+    ensures { result ≡ addresses.is_unicast address }
+{
+    address[0] != 0 && !is_multicast(address) && address != [255; 4]
+}
+
+/// Whether sockets may be bound to an address: a unicast one, or 0.0.0.0.
+pub(crate) fn is_bindable(address: Ipv4Addr) -> bool
+    ensures { result ≡ addresses.is_bindable (ipv4_octets address) }
+{
+    address.octets() == [0; 4] || is_unicast(address.octets())
+}
+
+/// Whether sockets that are bound to an address send an answer to a locator: on loopback only to
+/// this machine, whatever a peer claims, and elsewhere to any unicast address.
+pub(crate) fn is_answered(bound: Ipv4Addr, to: Locator) -> bool
+    ensures { result ≡ addresses.is_answered (ipv4_octets bound) to }
+{
+    if is_loopback(bound.octets()) {
+        is_loopback(to.address)
+    } else {
+        is_unicast(to.address)
+    }
 }

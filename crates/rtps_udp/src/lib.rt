@@ -2,10 +2,15 @@
 #![tactic(auto)]
 
 mod addresses;
+mod binding;
+mod fault;
+mod ports;
 mod receiving;
 mod sockets;
 #[cfg(test)]
 mod tests;
 mod timer;
 
+pub use binding::Binding;
+pub use fault::SocketFault;
 pub use sockets::Sockets;

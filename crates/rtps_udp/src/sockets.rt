@@ -1,19 +1,29 @@
 //! The sockets of a domain's first participant on this machine.
 
-ghost use Rattle.std.specs.Prelude.{◌≡◌, ◌*◌, ◌≤◌, None};
+ghost use Rattle.std.specs.Prelude.{◌≡◌, ◌*◌, ◌≤◌, Err, IfErr, IfOk, None, Ok, false, length, true};
 ghost use Rattle.std.specs.Duration.{as_nanos};
+ghost use Rattle.std.specs.Net.Addr.{ipv4_octets};
+ghost use Rattle.rtps_records.specs.Batches.{records_in};
+ghost use Rattle.rtps_udp.specs.Addresses.{is_answered as is_answered_by, is_bindable as is_bindable_at, localhost};
+ghost use Rattle.rtps_udp.specs.Faults.{IsBindFault, IsReceiveFault, IsSendFault};
+ghost use Rattle.rtps_udp.specs.Receiving.{AreReceivedAt};
+ghost use Rattle.rtps_udp.specs.Bound.{bound_address, moment_of};
 
-use crate::addresses::{Purpose, address_of, is_answered};
-use crate::receiving::{outcome_of, receive_first};
+use crate::addresses::{is_answered, is_bindable};
+use crate::binding::Binding;
+use crate::fault::{SocketFault, other_fault};
+use crate::ports::Ports;
 use crate::timer::Timer;
-use mio::net::UdpSocket;
-use mio::{Events, Interest, Poll, Token};
-use rtps_records::{Exchange, Receive};
+use mio::{Events, Poll};
+use rtps_records::{Batch, Exchange, Receive, ReceiveEnd};
 use rtps_types::Locator;
 use std::alloc::Global;
 use std::io;
-use std::net::{Net, SocketAddr, SocketAddrV4};
+use std::net::{Ipv4Addr, Net};
 use std::time::{Clock, Duration};
+
+/// The most datagrams of a batch: those that a participant takes at a time.
+const MOST: u16 = 4_096;
 
 /// The longest time of one wait: long enough that waiting costs next to nothing while nobody sends.
 fn turn() -> Duration
@@ -22,75 +32,199 @@ fn turn() -> Duration
     Duration::from_millis(100)
 }
 
-/// A socket whose calls never wait.
-#[derive(Drop)]
-struct Port(UdpSocket);
-
-impl Port {
-    /// Binds the socket of a domain's first participant that has this purpose.
-    fn bind(net: &impl Net, domain: u16, purpose: Purpose) -> io::Result<Port>
-        requires { domain ≤ 232 }
-    {
-        let address = address_of(domain, purpose);
-        Ok(Port(UdpSocket::bind(net, SocketAddr::V4(address))?))
-    }
-}
-
-impl Receive for Port {
-    ghost traffic = { λ _. None };
-
-    #[tactic(auto, unfolding(crate::specs::Receiving::Comes))]
-    fn receive(&mut self, room: &mut [u8]) -> io::Result<Option<usize>> {
-        match self.0.recv_from(room) {
-            Ok((length, _)) => outcome_of(Ok(length)),
-            Err(e) => outcome_of(Err(e)),
-        }
-    }
-}
-
 /// The two sockets of a participant, with a clock.
+///
+/// A turn of a receiver: it waits at most a tenth of a second, runs what has come, and sends the
+/// answers.
+///
+/// ```
+/// let mut sockets = Sockets::bind(&rt, &rt, alloc, 0)?;
+/// let mut batch = Batch::new(alloc)?;
+/// let moment = sockets.receive_batch(&mut batch, Duration::from_millis(100))?;
+/// let left = participant.tick(alloc, moment)?;
+/// let datagrams = batch.datagrams(alloc)?;
+/// let outcome = participant.run_batch(&rt, alloc, &NoGate, &datagrams, 4)?;
+/// for answer in &outcome.answers {
+///     for to in answer.to.as_slice() {
+///         match sockets.send_answer(*to, answer.octets.as_slice()) {
+///             // What a network loses is asked for again.
+///             Ok(()) | Err(SocketFault::NotAnswered) | Err(SocketFault::Send(_)) => {}
+///             Err(fault) => return Err(fault.into()),
+///         }
+///     }
+/// }
+/// ```
 #[derive(Drop)]
 pub struct Sockets<'a, K> {
     poll: Poll,
     events: Events<Global>,
-    /// Receives the datagrams of discovery, and sends all answers.
-    metatraffic: Port,
-    /// Receives user data.
-    user: Port,
+    ports: Ports,
+    /// The address that both sockets are bound to.
+    bound: Ipv4Addr,
     /// Counts from the moment that the sockets were bound.
     timer: Timer<'a, K>,
-    /// The moment at which the last wait ended, in milliseconds; 0 before the first one.
+    /// The moment at which the clock was read last, in milliseconds; 0 before that.
     moment: u64,
 }
 
 impl<'a, K: Clock> Sockets<'a, K> {
-    /// Binds the sockets of a domain's first participant, and starts to count milliseconds by the
-    /// clock. An error is the system's, for example if another program has one of the ports, or if
-    /// the clock can't be read.
+    /// Binds the sockets of a domain's first participant on the loopback interface, 127.0.0.1, so
+    /// that no other machine reaches it, and starts to count milliseconds by the clock.
+    ///
+    /// The faults are those of [`Sockets::bind_at`], but for a foreign address.
     pub fn bind(
         net: &impl Net,
         clock: &'a K,
         alloc: Global,
         domain: u16,
-    ) -> io::Result<Sockets<'a, K>>
+    ) -> Result<Sockets<'a, K>, SocketFault>
         requires { domain ≤ 232 }
+        ensures bound { IfOk result (λ sockets. bound_address sockets ≡ localhost) }
+        ensures fault { IfErr result IsBindFault }
     {
-        let timer = Timer::start(clock)?;
-        let poll = Poll::new(net)?;
-        let mut metatraffic = Port::bind(net, domain, Purpose::Metatraffic)?;
-        let mut user = Port::bind(net, domain, Purpose::UserData)?;
-        poll.registry()
-            .register(&mut metatraffic.0, Token(0), Interest::READABLE)?;
-        poll.registry()
-            .register(&mut user.0, Token(1), Interest::READABLE)?;
+        Sockets::bind_at(net, clock, alloc, Binding::loopback(domain))
+    }
+
+    /// Binds the sockets of a domain's first participant at an address of this machine, or by
+    /// 0.0.0.0 at all of them, and starts to count milliseconds by the clock. The ports are the
+    /// default ones of the UDP mapping (DDSI-RTPS 9.6.1.1). No multicast group is joined.
+    ///
+    /// The faults, in the order in which they are found: `ForeignAddress` for a multicast or the
+    /// broadcast address, or one of 0.0.0.0/8 other than 0.0.0.0; `Clock` if the clock can't be
+    /// read; for the socket of discovery and then for that of user data `DiscoveryPortTaken` or
+    /// `UserPortTaken` if another socket has its port, `ForeignAddress` if the address isn't one of
+    /// this machine, and `Bind` for any other error of the system. `NoMemory` may come instead.
+    pub fn bind_at(
+        net: &impl Net,
+        clock: &'a K,
+        alloc: Global,
+        binding: Binding,
+    ) -> Result<Sockets<'a, K>, SocketFault>
+        ensures bound { IfOk result (λ sockets. bound_address sockets ≡ binding.address) }
+        ensures foreign { is_bindable_at (ipv4_octets binding.address) ≡ false
+            → result ≡ Err SocketFault.ForeignAddress }
+        ensures fault { IfErr result IsBindFault }
+    {
+        if !is_bindable(binding.address) {
+            return Err(SocketFault::ForeignAddress);
+        }
+        let timer = match Timer::start(clock) {
+            Ok(timer) => timer,
+            Err(e) => return Err(SocketFault::Clock(e.kind())),
+        };
+        let mut ports = Ports::bind(net, binding)?;
+        let poll = match ports.poll(net) {
+            Ok(poll) => poll,
+            Err(e) => return Err(other_fault(e.kind())),
+        };
+        let Ok(events) = Events::with_capacity(alloc, 2) else {
+            return Err(SocketFault::NoMemory);
+        };
         Ok(Sockets {
             poll,
-            events: Events::with_capacity(alloc, 2)?,
-            metatraffic,
-            user,
+            events,
+            ports,
+            bound: binding.address,
             timer,
             moment: 0,
         })
+    }
+}
+
+impl<K: Clock> Sockets<'_, K> {
+    /// Returns the address that the sockets are bound to.
+    pub fn address(&self) -> Ipv4Addr
+        ensures { result ≡ bound_address self.now }
+    {
+        self.bound
+    }
+
+    /// Replaces the records of the batch by the datagrams that have come, at most 4,096 of them and
+    /// as far as the batch has room, and returns their moment: the milliseconds from the bind, by
+    /// the clock. If none has come it waits for one, but at most the time `within`; if none comes
+    /// in that time the batch is empty. The datagrams of discovery come first, so that a writer is
+    /// known before its samples come. What the batch has no room for is received by the next call,
+    /// which doesn't wait then.
+    ///
+    /// `Clock` if the clock can't be read, `Receive` if no datagram can be waited for or received,
+    /// `NoMemory` if a growth of the batch is refused. The datagrams that were received until then
+    /// are in the batch, and no other one was received.
+    pub fn receive_batch(&mut self, batch: &mut Batch, within: Duration) -> Result<u64, SocketFault>
+        ensures moment { IfOk result (λ moment. moment ≡ moment_of self.new) }
+        ensures received { AreReceivedAt (moment_of self.new) (records_in batch.new) }
+        ensures few { length (records_in batch.new) ≤ 4096 }
+        ensures same { bound_address self.new ≡ bound_address self.old }
+        ensures fault { IfErr result IsReceiveFault }
+    {
+        batch.clear();
+        self.read_clock()?;
+        self.fill(batch)?;
+        if batch.is_empty() {
+            self.wait_for(within)?;
+            self.read_clock()?;
+            self.fill(batch)?;
+        }
+        Ok(self.moment)
+    }
+
+    /// Sends an answer to a locator, from the socket for discovery. That it is sent doesn't say
+    /// that it arrives.
+    ///
+    /// `NotAnswered` for a locator that no answer is sent to, whatever a peer claims: from sockets
+    /// on loopback (127.0.0.0/8) one that isn't on loopback too; from others a multicast address
+    /// (224.0.0.0/4), the broadcast address 255.255.255.255, or one of 0.0.0.0/8. `Send` if the
+    /// system refuses it, for example where there is no way to that network.
+    pub fn send_answer(&self, to: Locator, octets: &[u8]) -> Result<(), SocketFault>
+        ensures refused { is_answered_by (ipv4_octets (bound_address self.now)) to ≡ false
+            → result ≡ Err SocketFault.NotAnswered }
+        ensures fault { is_answered_by (ipv4_octets (bound_address self.now)) to ≡ true
+            → IfErr result IsSendFault }
+    {
+        if !is_answered(self.bound, to) {
+            return Err(SocketFault::NotAnswered);
+        }
+        self.ports.send(to, octets)
+    }
+
+    /// Waits until a datagram has come, but at most this time.
+    fn wait_for(&mut self, within: Duration) -> Result<(), SocketFault>
+        ensures moment { self.new.moment ≡ self.old.moment }
+        ensures same { self.new.bound ≡ self.old.bound }
+        ensures fault { IfErr result IsReceiveFault }
+    {
+        match self.poll.poll(&mut self.events, Some(within)) {
+            Ok(()) => Ok(()),
+            Err(e) => Err(SocketFault::Receive(e.kind())),
+        }
+    }
+
+    /// Reads the clock.
+    fn read_clock(&mut self) -> Result<(), SocketFault>
+        ensures same { self.new.bound ≡ self.old.bound }
+        ensures fault { IfErr result IsReceiveFault }
+    {
+        match self.timer.read() {
+            Ok(moment) => {
+                self.moment = moment;
+                Ok(())
+            }
+            Err(e) => Err(SocketFault::Clock(e.kind())),
+        }
+    }
+
+    /// Replaces the records of the batch by the datagrams that have come, without waiting.
+    fn fill(&mut self, batch: &mut Batch) -> Result<(), SocketFault>
+        ensures received { AreReceivedAt self.new.moment (records_in batch.new) }
+        ensures few { length (records_in batch.new) ≤ 4096 }
+        ensures moment { self.new.moment ≡ self.old.moment }
+        ensures same { self.new.bound ≡ self.old.bound }
+        ensures fault { IfErr result IsReceiveFault }
+    {
+        match batch.receive(&mut self.ports, self.moment, MOST) {
+            Ok(ReceiveEnd::Fault) => Err(SocketFault::Receive(self.ports.failure())),
+            Ok(_) => Ok(()),
+            Err(_) => Err(SocketFault::NoMemory),
+        }
     }
 }
 
@@ -99,12 +233,12 @@ impl<K: Clock> Receive for Sockets<'_, K> {
 
     /// Discovery's datagrams come first, so that a writer is known before its samples come.
     fn receive(&mut self, room: &mut [u8]) -> io::Result<Option<usize>> {
-        receive_first(&mut self.metatraffic, &mut self.user, room)
+        self.ports.receive(room)
     }
 }
 
 impl<K: Clock> Exchange for Sockets<'_, K> {
-    /// A clock that can't be read is an error too.
+    /// Waits at most a tenth of a second. A clock that can't be read is an error too.
     fn wait(&mut self) -> io::Result<()> {
         self.poll.poll(&mut self.events, Some(turn()))?;
         self.moment = self.timer.read()?;
@@ -116,12 +250,8 @@ impl<K: Clock> Exchange for Sockets<'_, K> {
         self.moment
     }
 
+    /// As [`Sockets::send_answer`] sends it, but a fault isn't reported.
     fn send(&mut self, to: Locator, octets: &[u8]) {
-        if is_answered(to) {
-            let _sent = self
-                .metatraffic
-                .0
-                .send_to(octets, SocketAddr::V4(SocketAddrV4::from(to)));
-        }
+        let _sent = self.send_answer(to, octets);
     }
 }

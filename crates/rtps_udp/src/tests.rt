@@ -2,8 +2,8 @@
 
 ghost use Rattle.std.specs.Prelude.{◌≤◌, IfOk};
 
-use crate::Sockets;
-use rtps_records::{Exchange, Receive};
+use crate::{Binding, SocketFault, Sockets};
+use rtps_records::{Batch, Exchange, Receive};
 use rtps_types::Locator;
 use std::cell::Cell;
 use std::io::{self, ErrorKind};
@@ -13,30 +13,49 @@ use std::time::{Clock, Duration};
 
 /// Domains that nothing else here uses, and the port for datagrams of discovery in each, which is
 /// 7410 + 250 times the domain. The next port is for user data. There are several domains, so that
-/// several runs of this test find free sockets at the same time.
-const DOMAINS: [(u16, u16); 4] = [(100, 32_410), (99, 32_160), (98, 31_910), (97, 31_660)];
+/// several runs of these tests find free sockets at the same time.
+const DOMAINS: [(u16, u16); 6] = [
+    (100, 32_410),
+    (99, 32_160),
+    (98, 31_910),
+    (97, 31_660),
+    (96, 31_410),
+    (95, 31_160),
+];
 
-/// Returns the sockets of the first of these domains whose ports are free, the domain, and its
-/// first port.
+/// Returns the sockets at an address of the first of these domains whose ports are free, the
+/// domain, and its first port.
 fn free_sockets<'a, K: Clock>(
     rt: &HostRuntime,
     clock: &'a K,
+    address: Ipv4Addr,
 ) -> Result<(Sockets<'a, K>, u16, u16), Fail>
     ensures { IfOk result (λ free. free.1 ≤ 232) }
 {
     for (domain, port) in DOMAINS {
-        if let Ok(sockets) = Sockets::bind(rt, clock, rt.alloc(), domain) {
+        let binding = Binding { domain, address };
+        if let Ok(sockets) = Sockets::bind_at(rt, clock, rt.alloc(), binding) {
             return Ok((sockets, domain, port));
         }
     }
     Err(Fail::new("the ports of each domain are taken"))
 }
 
+/// Returns a socket of a peer, which waits at most half a minute, and its locator.
+fn peer(rt: &HostRuntime) -> Result<(UdpSocket, Locator), Fail> {
+    let peer = UdpSocket::bind(rt, "127.0.0.1:0")?;
+    peer.set_read_timeout(Some(Duration::from_secs(30)))?;
+    let to = Locator {
+        port: peer.local_addr()?.port(),
+        address: [127, 0, 0, 1],
+    };
+    Ok((peer, to))
+}
+
 #[test]
 fn exchanges_datagrams_with_a_peer(rt: HostRuntime) -> Result<(), Fail> {
-    let (mut sockets, domain, discovery) = free_sockets(&rt, &rt)?;
-    let peer = UdpSocket::bind(&rt, "127.0.0.1:0")?;
-    peer.set_read_timeout(Some(Duration::from_secs(30)))?;
+    let (mut sockets, domain, discovery) = free_sockets(&rt, &rt, Ipv4Addr::LOCALHOST)?;
+    let (peer, to) = peer(&rt)?;
     let mut room = [0; 4];
     sockets.wait()?;
     assert_eq!(rt; sockets.receive(&mut room)?, None);
@@ -52,20 +71,127 @@ fn exchanges_datagrams_with_a_peer(rt: HostRuntime) -> Result<(), Fail> {
     assert_eq!(rt; room, *b"user");
     assert_eq!(rt; sockets.receive(&mut room)?, None);
 
-    let to = Locator {
-        port: peer.local_addr()?.port(),
-        address: [127, 0, 0, 1],
-    };
     sockets.send(to, b"ask");
     let (length, from) = peer.recv_from(&mut room)?;
     assert_eq!(rt; (length, room), (3, *b"askr"));
     assert_eq!(rt; from, SocketAddr::from((Ipv4Addr::LOCALHOST, discovery)));
 
-    let Err(fault) = Sockets::bind(&rt, &rt, rt.alloc(), domain) else {
-        return Err(Fail::new("the ports are free"));
-    };
-    assert_eq!(rt; fault.kind(), ErrorKind::AddrInUse);
+    match Sockets::bind(&rt, &rt, rt.alloc(), domain) {
+        Ok(_) => assert!(rt; false, "the ports are free"),
+        Err(fault) => assert_eq!(rt; fault, SocketFault::DiscoveryPortTaken),
+    }
     Ok(())
+}
+
+#[test]
+fn receives_batches_at_another_address(rt: HostRuntime) -> Result<(), Fail> {
+    let address = Ipv4Addr::new(127, 0, 0, 2);
+    let (mut sockets, _, discovery) = free_sockets(&rt, &rt, address)?;
+    assert_eq!(rt; sockets.address(), address);
+    let (peer, to) = peer(&rt)?;
+    let mut batch = Batch::new(rt.alloc())?;
+    sockets.receive_batch(&mut batch, Duration::from_millis(1))?;
+    assert_eq!(rt; batch.len(), 0);
+
+    let user = discovery.saturating_add(1);
+    peer.send_to(b"user", ("127.0.0.2", user))?;
+    peer.send_to(b"found", ("127.0.0.2", discovery))?;
+    let moment = sockets.receive_batch(&mut batch, Duration::from_secs(30))?;
+    assert_eq!(rt; moment, sockets.moment());
+    let datagrams = batch.datagrams(rt.alloc())?;
+    assert_eq!(rt; datagrams.len(), 2);
+    for (datagram, bytes) in datagrams
+        .iter()
+        .zip([b"found".as_slice(), b"user".as_slice()])
+    {
+        assert_eq!(rt; (datagram.moment, datagram.bytes), (moment, bytes));
+    }
+
+    sockets.send_answer(to, b"ask")?;
+    let mut room = [0; 4];
+    let (length, from) = peer.recv_from(&mut room)?;
+    assert_eq!(rt; (length, room), (3, *b"ask\0"));
+    assert_eq!(rt; from, SocketAddr::from((address, discovery)));
+    Ok(())
+}
+
+#[test]
+fn answers_by_the_address_that_is_bound(rt: HostRuntime) -> Result<(), Fail> {
+    let (sockets, _, _) = free_sockets(&rt, &rt, Ipv4Addr::LOCALHOST)?;
+    let elsewhere = Locator {
+        port: 7410,
+        address: [192, 0, 2, 1],
+    };
+    assert_eq!(rt;
+        sockets.send_answer(elsewhere, b"ask"),
+        Err(SocketFault::NotAnswered)
+    );
+    drop(sockets);
+
+    let (sockets, _, discovery) = free_sockets(&rt, &rt, Ipv4Addr::UNSPECIFIED)?;
+    let (peer, to) = peer(&rt)?;
+    sockets.send_answer(to, b"ask")?;
+    let mut room = [0; 4];
+    let (_, from) = peer.recv_from(&mut room)?;
+    assert_eq!(rt; from, SocketAddr::from((Ipv4Addr::LOCALHOST, discovery)));
+    for address in [[239, 255, 0, 1], [255; 4], [0; 4]] {
+        let nobody = Locator {
+            port: 7410,
+            address,
+        };
+        assert_eq!(rt;
+            sockets.send_answer(nobody, b"ask"),
+            Err(SocketFault::NotAnswered)
+        );
+    }
+    // No UDP datagram over IPv4 has more than 65,507 octets.
+    let long = vec![in rt.alloc(); 0u8; 65_508]?;
+    match sockets.send_answer(to, long.as_slice()) {
+        Ok(()) | Err(SocketFault::NotAnswered) => assert!(rt; false, "it is sent"),
+        Err(fault) => {
+            let text = format!(in rt.alloc(); "{fault}")?;
+            assert!(rt; text.as_str().starts_with("the datagram can't be sent: "));
+        }
+    }
+    Ok(())
+}
+
+#[test]
+fn names_what_is_wrong_with_a_binding(rt: HostRuntime) -> Result<(), Fail> {
+    // An address for documentation, which no machine has (RFC 5737), and a multicast group.
+    for address in [[192, 0, 2, 1], [239, 255, 0, 1]] {
+        let binding = Binding {
+            domain: 94,
+            address: Ipv4Addr::from(address),
+        };
+        match Sockets::bind_at(&rt, &rt, rt.alloc(), binding) {
+            Ok(_) => assert!(rt; false, "an address of this machine"),
+            Err(fault) => {
+                assert_eq!(rt; fault, SocketFault::ForeignAddress);
+                let text = format!(in rt.alloc(); "{fault}")?;
+                assert_eq!(rt; text.as_str(), "the address isn't one of this machine");
+            }
+        }
+    }
+    Ok(())
+}
+
+/// Domains of one test alone, and the port for user data in each.
+const TAKEN: [(u16, u16); 3] = [(93, 30_661), (92, 30_411), (91, 30_161)];
+
+#[test]
+fn names_the_port_that_is_taken(rt: HostRuntime) -> Result<(), Fail> {
+    for (domain, port) in TAKEN {
+        let Ok(_taken) = UdpSocket::bind(&rt, ("127.0.0.1", port)) else {
+            continue;
+        };
+        match Sockets::bind(&rt, &rt, rt.alloc(), domain) {
+            Ok(_) => assert!(rt; false, "the port is free"),
+            Err(fault) => assert_eq!(rt; fault, SocketFault::UserPortTaken),
+        }
+        return Ok(());
+    }
+    Err(Fail::new("the port of each domain is taken"))
 }
 
 /// A clock that a test sets. It can't be read where there is no time.
@@ -85,7 +211,7 @@ impl Clock for SetClock {
 #[test]
 fn counts_milliseconds_from_the_bind(rt: HostRuntime) -> Result<(), Fail> {
     let clock = SetClock(Cell::new(Some(Duration::new(7, 600_000))));
-    let (mut sockets, domain, _) = free_sockets(&rt, &clock)?;
+    let (mut sockets, domain, _) = free_sockets(&rt, &clock, Ipv4Addr::LOCALHOST)?;
     assert_eq!(rt; sockets.moment(), 0);
     for (time, moment) in [
         (Duration::new(7, 1_599_999), 0),
@@ -100,13 +226,17 @@ fn counts_milliseconds_from_the_bind(rt: HostRuntime) -> Result<(), Fail> {
         assert_eq!(rt; sockets.moment(), moment);
     }
     clock.0.set(None);
+    let fault = SocketFault::Clock(ErrorKind::Unsupported);
     match sockets.wait() {
         Ok(()) => assert!(rt; false, "the clock was read"),
-        Err(fault) => assert_eq!(rt; fault.kind(), ErrorKind::Unsupported),
+        Err(error) => assert_eq!(rt; error.kind(), ErrorKind::Unsupported),
     }
+    let mut batch = Batch::new(rt.alloc())?;
+    let received = sockets.receive_batch(&mut batch, Duration::ZERO);
+    assert_eq!(rt; received, Err(fault));
     match Sockets::bind(&rt, &clock, rt.alloc(), domain) {
         Ok(_) => assert!(rt; false, "the clock was read"),
-        Err(fault) => assert_eq!(rt; fault.kind(), ErrorKind::Unsupported),
+        Err(other) => assert_eq!(rt; other, fault),
     }
     Ok(())
 }

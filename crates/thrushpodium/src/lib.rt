@@ -18,6 +18,10 @@
 //! let mut participant = Participant::new(alloc, config, Shapes)?;
 //! ```
 //!
+//! Its reader is matched with the writers of its topic and type that others announce, as soon as
+//! their announcements come as datagrams, or with a writer that is named from the start
+//! ([`Config::add_fixed`]).
+//!
 //! A batch of datagrams, each with the moment in milliseconds at which it came, on up to 64
 //! threads. The result has for each rank the notices of its reader, which go into the cache, and
 //! the answers, each with the addresses that it is sent to:
@@ -28,11 +32,25 @@
 //!     // Send answer.octets to each of answer.to.
 //! }
 //! for notice in outcome.notices.into_iter().flatten() {
-//!     cache.accept(alloc, notice)?;
+//!     cache.accept(alloc, notice).map_err(AllocError::from)?;
 //! }
 //! for sample in &cache.take(alloc, 100, Condition::default())? {
 //!     // sample.writer, number, time, its states, and sample.body: a value, or a disposal.
 //! }
+//! ```
+//!
+//! [`Participant::counters`] tells what came and what was passed over, by reason.
+//!
+//! A cache is read and taken from by conditions (DDS 1.4, 2.2.2.5.3): a [`Condition`] asks for
+//! entries by the states of samples, views and instances, and `read` leaves in the cache what it
+//! returns.
+//!
+//! ```
+//! let unread = Condition {
+//!     not_read: true,
+//!     ..Condition::default()
+//! };
+//! let seen = receiver.cache.read(alloc, 100, unread)?;
 //! ```
 //!
 //! While nothing comes, [`Participant::tick`] has time pass, so that participants which keep silent
@@ -46,7 +64,10 @@
 //! where a growth is refused. A participant has failed then, and says so from then on; its
 //! statuses stay as they were. A cache can be asked again.
 //!
-//! [`Sockets`] are those of a domain on this machine; `crates/example_live` is a whole program.
+//! **Sockets.** [`Sockets`] are those of a domain on this machine, on loopback or by a [`Binding`] at
+//! another address. Their `receive_batch` waits for datagrams and fills a [`Batch`], and
+//! `send_answer` sends an answer to a locator. `crates/example_live` is a whole program on sockets,
+//! and `crates/example_cache` one over a record file, which [`Records`] reads.
 #![tactic(auto)]
 
 mod subscription;
@@ -54,8 +75,8 @@ mod subscription;
 mod tests;
 
 pub use dds_cache::{
-    Answers, Condition, Content, DataReader, History, InstanceState, Sample, SampleState, Taken,
-    ViewState,
+    Answers, Condition, Content, DataReader, History, InstanceState, Sample, SampleState, Seen,
+    Taken, ViewState,
 };
 pub use dds_outlet::{Inlet, Look, Outlet, Row, Sent, StatusBoard, StatusReader, Told, outlet};
 pub use dds_participant::{AttachFault, BatchOutput, Participant, PublishFault, Workers, is_batch};
@@ -71,7 +92,8 @@ pub use rtps_discovery::{
     Config, ConfigFault, Discovery, FixedMatch, ReaderConfig, ReaderFault, check,
 };
 pub use rtps_reader::{Body, Notice, NoticeKind, Status};
-pub use rtps_records::{Batch, Exchange, Receive, ReceiveEnd};
+pub use rtps_receiver::{Counters, Event, EventBody, Events};
+pub use rtps_records::{Batch, BatchEnd, Exchange, Format, Receive, ReceiveEnd, Records, RunFault};
 pub use rtps_run::{Answer, EngineError, Outcome, StartError};
 pub use rtps_serial::SerialEngine;
 pub use rtps_shards::NoGate;
@@ -80,5 +102,5 @@ pub use rtps_types::{
     Datagram, Duration, EntityId, Guid, GuidPrefix, KeyHash, Locator, Locators, Place, PolicyId,
     SequenceNumber, Timestamp,
 };
-pub use rtps_udp::Sockets;
+pub use rtps_udp::{Binding, SocketFault, Sockets};
 pub use subscription::Subscription;

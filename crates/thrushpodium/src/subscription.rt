@@ -22,7 +22,9 @@ use std::alloc::{AllocError, Global};
 /// let squares = Subscription::topic(alloc, EntityId([0, 0, 1, 7]), "Square", "ShapeType")?
 ///     .reliable()
 ///     .durability(Durability::TransientLocal)
-///     .history(History::KeepLast(8));
+///     .deadline(deadline)
+///     .history(History::KeepAll)
+///     .partitions(alloc, &["north", ""])?;
 /// let mut cache = squares.cache(alloc);
 /// config.add_reader(squares.reader)?;
 /// ```

@@ -18,6 +18,13 @@ const DATA: &[u8] = b"RTPS\x02\x05\x00\x00\
     \x00\x01\x00\x00\x05\x00\x00\x00BLUE\x00\x00\x00\x00\
     \x0a\x00\x00\x00\x14\x00\x00\x00\x1e\x00\x00\x00";
 
+/// HEARTBEAT for every reader: the writer has the numbers 1 and 2, and asks for an answer.
+const HEARTBEAT: &[u8] = b"RTPS\x02\x05\x00\x00\
+    \x0a\x0a\x0a\x0a\x0a\x0a\x0a\x0a\x0a\x0a\x0a\x0a\
+    \x07\x01\x1c\x00\x00\x00\x00\x00\x00\x00\x01\x02\
+    \x00\x00\x00\x00\x01\x00\x00\x00\x00\x00\x00\x00\x02\x00\x00\x00\
+    \x01\x00\x00\x00";
+
 fn squares(alloc: Global) -> Result<Subscription, AllocError> {
     Subscription::topic(alloc, EntityId([0, 0, 1, 7]), "Square", "ShapeType")
 }
@@ -43,12 +50,13 @@ fn each_policy_is_requested_as_it_was_given(rt: HostRuntime) -> Result<(), Fail>
         seconds: 2,
         fraction: 0x8000_0000,
     };
-    let squares = squares(rt.alloc())?
+    let alloc = rt.alloc();
+    let squares = Subscription::topic(alloc, EntityId([0, 0, 1, 7]), "Square", "ShapeType")?
         .reliable()
         .durability(Durability::TransientLocal)
         .deadline(deadline)
         .history(History::KeepAll)
-        .partitions(rt.alloc(), &["north", ""])?;
+        .partitions(alloc, &["north", ""])?;
     let requested = &squares.reader.requested;
     assert_eq!(rt; squares.reader.topic.as_str(), "Square");
     assert_eq!(rt; requested.policies.reliability, Reliability::Reliable);
@@ -84,27 +92,78 @@ fn a_sample_goes_from_a_datagram_into_a_cache(rt: HostRuntime) -> Result<(), Fai
     config.add_reader(squares.reader)?;
     config.add_fixed(0, WRITER, Locators::new(Vec::new(alloc)))?;
     let mut participant = Participant::new(alloc, config, Shapes)?;
-    let datagrams = [Datagram {
-        moment: 0,
-        bytes: DATA,
-    }];
+    let datagrams = [
+        Datagram {
+            moment: 0,
+            bytes: DATA,
+        },
+        Datagram {
+            moment: 0,
+            bytes: HEARTBEAT,
+        },
+    ];
     let outcome = participant.run_batch(&rt, alloc, &NoGate, &datagrams, 4)?;
-    assert_eq!(rt; outcome.answers.len(), 0);
-    for notice in outcome.notices.into_iter().flatten() {
-        if cache.accept(alloc, notice).is_err() {
-            return Err(Fail::new("a notice was refused"));
-        }
+    assert_eq!(rt; outcome.answers.len(), 1);
+    for answer in &outcome.answers {
+        assert!(rt; answer.octets.as_slice().starts_with(b"RTPS"));
     }
-    let taken = cache.take(alloc, 100, Condition::default())?;
-    let mut blue = 0;
-    for sample in &taken {
+    let mut blue = None;
+    for notice in outcome.notices.into_iter().flatten() {
+        cache.accept(alloc, notice).map_err(AllocError::from)?;
+    }
+    for sample in &cache.take(alloc, 100, Condition::default())? {
         assert_eq!(rt; sample.writer, WRITER);
         if let Content::Value(shape) = &sample.body {
             assert_eq!(rt; shape.color.as_str(), "BLUE");
-            assert_eq!(rt; (shape.x, shape.y, shape.size), (10, 20, 30));
-            blue += 1;
+            blue = Some((shape.x, shape.y, shape.size));
         }
     }
-    assert_eq!(rt; blue, 1);
+    assert_eq!(rt; blue, Some((10, 20, 30)));
+    Ok(())
+}
+
+#[test]
+fn a_datagram_has_events(rt: HostRuntime) -> Result<(), Fail> {
+    let own = GuidPrefix([0x0b; 12]);
+    let place: Place = "3:1".parse()?;
+    let mut number = 0;
+    for event in Events::new(own, 3, DATA) {
+        assert_eq!(rt; event.place, place);
+        assert_eq!(rt; event.source, WRITER.prefix);
+        if let EventBody::Whole(change) = event.body {
+            number = change.number.get();
+        }
+    }
+    assert_eq!(rt; number, 1);
+    Ok(())
+}
+
+#[test]
+fn one_thread_takes_a_datagram_at_a_time(rt: HostRuntime) -> Result<(), Fail> {
+    let alloc = rt.alloc();
+    let squares = Subscription::topic(alloc, EntityId([0, 0, 1, 7]), "Square", "ShapeType")?;
+    let circles = Subscription::topic(alloc, EntityId([0, 0, 2, 7]), "Circle", "ShapeType")?;
+    let mut config = Config::new(alloc, GuidPrefix([0x0b; 12]));
+    config.add_reader(squares.reader)?;
+    let writer: Guid = "0a0a0a0a0a0a0a0a0a0a0a0a00000102".parse()?;
+    config.add_fixed(0, writer, Locators::new(Vec::new(alloc)))?;
+    let mut engine = SerialEngine::new(alloc, config, Shapes)?;
+    let datagram = Datagram {
+        moment: 1_000,
+        bytes: DATA,
+    };
+    let outcome = engine.take(alloc, datagram)?;
+    assert_eq!(rt; outcome.notices.len(), 1);
+    for (rank, notices) in outcome.notices.iter().enumerate() {
+        assert_eq!(rt; (rank, notices.len()), (0, 1));
+    }
+    let outcome = engine.tick(alloc, 2_000)?;
+    assert_eq!(rt; outcome.answers.len(), 0);
+    let (rank, _matches) = engine.add_reader(alloc, circles.reader)?;
+    assert_eq!(rt; rank, 1);
+    let _ends = engine.remove_reader(alloc, 0)?;
+    assert!(rt; engine.status(0).is_none());
+    assert!(rt; engine.status(1).is_some());
+    assert!(rt; engine.discovery().writers().next().is_none());
     Ok(())
 }

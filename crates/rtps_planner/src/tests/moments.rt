@@ -2,7 +2,7 @@
 
 use crate::*;
 use rtps_discovery::{Config, Discovery, ReaderConfig, check};
-use rtps_receiver::{Event, add_events};
+use rtps_receiver::{Counters, Event, add_events};
 use rtps_types::{EntityId, GuidPrefix, MatchChangeKind, Place};
 use std::alloc::Global;
 use std::test::Fail;
@@ -41,10 +41,10 @@ const SENDS: [u8; 52] = [
 
 /// The events of the three datagrams, one of each.
 fn three(alloc: Global) -> Result<Vec<Event<'static>>, Fail> {
-    let mut all = Vec::new(alloc);
-    add_events(&mut all, OURS, 0, &COMES)?;
-    add_events(&mut all, OURS, 1, &OFFERS)?;
-    add_events(&mut all, OURS, 2, &SENDS)?;
+    let (mut all, mut counters) = (Vec::new(alloc), Counters::new());
+    add_events(&mut all, &mut counters, OURS, 0, &COMES)?;
+    add_events(&mut all, &mut counters, OURS, 1, &OFFERS)?;
+    add_events(&mut all, &mut counters, OURS, 2, &SENDS)?;
     Ok(all)
 }
 

@@ -1,7 +1,6 @@
 use Rattle.std.proofs.Common.{false, refl, rules, true, Ok, Err}
-use Rattle.rtps_listen.specs.declared.fault.ListenFault.TheVariants.{Socket}
-use Rattle.rtps_listen.proofs.Printing.{cause_before, heard_fault, hears, hears_none, not_joined}
-use Rattle.rtps_listen.proofs.Refused.{is_err, listen_refused, listen_runs}
+use Rattle.rtps_listen.proofs.Printing.{cause_before, heard_fault, hears, hears_none, join_before}
+use Rattle.rtps_listen.proofs.Refused.{is_err, listen_joins, listen_refused, listen_runs}
 use Rattle.rtps_listen.proofs.domain.listen_in.Goals as goal
 
 pub returns-in_err-config-clause-refused : goal.returns-in_err-config-clause-refused
@@ -14,18 +13,19 @@ returns-in_err-config-clause-prints g c =
     λ holds.
     hears_none _ holds _ _ _ c.from_residual.ensures.1 (cause_before c.args.options.now _ c.in_err-config.ensures.cause)
 
-pub returns-in_default-clause-refused : goal.returns-in_default-clause-refused
-returns-in_default-clause-refused g c =
-    listen_runs c.args.options.now c.in_ok-config.config (Err Socket) c.in_ok-config.ensures.refused tt
+pub returns-in_err-network-clause-refused : goal.returns-in_err-network-clause-refused
+returns-in_err-network-clause-refused g c =
+    listen_joins c.args.options.now c.in_ok-config.config c.from_residual-in_err-network.result _ c.in_ok-config.ensures.refused
+    c.from_residual-in_err-network.ensures.1 c.in_err-network.ensures.fault
 
-pub returns-in_default-clause-prints : goal.returns-in_default-clause-prints
-returns-in_default-clause-prints g c =
+pub returns-in_err-network-clause-prints : goal.returns-in_err-network-clause-prints
+returns-in_err-network-clause-prints g c =
     λ holds.
-    not_joined c.args.options.now c.in_ok-config.config holds _ c.in_ok-config.ensures.config
+    hears_none _ holds _ _ _ c.from_residual-in_err-network.ensures.1 (join_before c.args.options.now _ c.in_err-network.ensures.fault)
 
 pub returns-in_err-listen-clause-refused : goal.returns-in_err-listen-clause-refused
 returns-in_err-listen-clause-refused g c =
-    listen_runs c.args.options.now c.in_ok-config.config _ c.in_ok-config.ensures.refused
+    listen_runs c.args.options.now c.in_ok-config.config _ c.in_ok-config.ensures.refused c.in_ok-network.ensures.address
     (heard_fault _ _ c.from_residual-in_err-listen.ensures.1)
 
 pub returns-in_err-listen-clause-prints : goal.returns-in_err-listen-clause-prints
@@ -36,7 +36,7 @@ returns-in_err-listen-clause-prints g c =
 
 pub returns-then-options-clause-refused : goal.returns-then-options-clause-refused
 returns-then-options-clause-refused g c =
-    listen_runs c.args.options.now c.in_ok-config.config (Ok tt) c.in_ok-config.ensures.refused tt
+    listen_runs c.args.options.now c.in_ok-config.config (Ok tt) c.in_ok-config.ensures.refused c.in_ok-network.ensures.address tt
 
 pub returns-then-options-clause-prints : goal.returns-then-options-clause-prints
 returns-then-options-clause-prints g c =
@@ -46,7 +46,7 @@ returns-then-options-clause-prints g c =
 
 pub returns-in_err-listen-2-clause-refused : goal.returns-in_err-listen-2-clause-refused
 returns-in_err-listen-2-clause-refused g c =
-    listen_runs c.args.options.now c.in_ok-config.config _ c.in_ok-config.ensures.refused
+    listen_runs c.args.options.now c.in_ok-config.config _ c.in_ok-config.ensures.refused c.in_ok-network.ensures.address
     (heard_fault _ _ c.from_residual-in_err-listen-2.ensures.1)
 
 pub returns-in_err-listen-2-clause-prints : goal.returns-in_err-listen-2-clause-prints
@@ -57,7 +57,7 @@ returns-in_err-listen-2-clause-prints g c =
 
 pub returns-clause-refused : goal.returns-clause-refused
 returns-clause-refused g c =
-    listen_runs c.args.options.now c.in_ok-config.config (Ok tt) c.in_ok-config.ensures.refused tt
+    listen_runs c.args.options.now c.in_ok-config.config (Ok tt) c.in_ok-config.ensures.refused c.in_ok-network.ensures.address tt
 
 pub returns-clause-prints : goal.returns-clause-prints
 returns-clause-prints g c =

@@ -18,6 +18,7 @@ returns c = record {
   summary = c.flag_in-3.ensures;
   keep = c.up_to.ensures.value ∙ ap (up_to 65536) c.number_in-4.ensures;
   domain = c.up_to-2.ensures.value ∙ ap (up_to 232) c.number_in-5.ensures;
+  address = c.text_in-4.ensures;
   count = c.one_to-4.ensures.value ∙ ap (one_to 65536) c.number_in-6.ensures;
   turns = c.one_to-5.ensures.value ∙ ap (one_to 100000) c.number_in-7.ensures;
 }

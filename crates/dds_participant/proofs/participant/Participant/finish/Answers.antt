@@ -10,6 +10,7 @@ invariant_of-self g c =
       engine = record { catalog = p.catalog; config = p.config; index = p.index + c.args.count; failed = false; discovery = p.discovery; readers = p.readers.items; statuses = p.statuses.items };
       batches = c.saturating_add-self-inside.result;
       ports = c.show.new.self.ports;
+      counters = c.show.new.self.counters;
     } in (
       c.self.invariant.0,
       c.self.invariant.1,
@@ -26,4 +27,5 @@ invariant_of-self g c =
         };
         batches = c.saturating_add-self-inside.ensures ∙ ap one_more (ap (λ (v : ParticipantView _ _). v.batches) c.self.view_is ∙ c.show.ensures.batches);
       }),
+      c.self.invariant.3,
     )

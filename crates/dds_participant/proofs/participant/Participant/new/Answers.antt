@@ -1,5 +1,6 @@
-use Rattle.std.proofs.Common.{[], ◌≡◌, ◌≤◌, ◌∙◌, Some, ap, arith, false, length, map, refl, rules, slice_index_or}
+use Rattle.std.proofs.Common.{[], ◌≡◌, ◌≤◌, ◌∙◌, Some, ap, arith, false, length, map, refl, rules, slice_index_or, subst, sym}
 use Rattle.std.proofs.lemmas.List.{length-map}
+use Rattle.rtps_receiver.specs.Counters.{AreCounts}
 use Rattle.rtps_reader.specs.Standing.{ReaderView, facts_in}
 use Rattle.rtps_run.specs.Run.{fixed_of}
 use Rattle.rtps_run.proofs.Taking.{stands_first}
@@ -30,4 +31,5 @@ invariant_of-result g c =
         stands_first g.C.Catalog.decoding (record { catalog = c.args.catalog; config = c.args.config; index = 0; failed = false; discovery = c.in_ok-discovery.discovery; readers = states; statuses = c.in_ok-statuses.statuses.items })
             refl refl c.in_ok-discovery.ensures.known c.in_ok-discovery.ensures.ok count shown start,
       ),
+      subst AreCounts (sym c.new-2.ensures) refl,
     )

@@ -12,11 +12,11 @@ use Rattle.dds_participant.proofs.Taken.{adds_after, datagrams_counted, datagram
 use Rattle.dds_participant.proofs.Counting.{batch_counted}
 use Rattle.dds_participant.proofs.participant.Participant.run_in_order.Goals as goal
 
-pub finish-requires-clause-readers : goal.finish-requires-clause-readers
-finish-requires-clause-readers g c κs outlives =
+pub finish_batch-requires-clause-readers : goal.finish_batch-requires-clause-readers
+finish_batch-requires-clause-readers g c κs outlives =
     let is = c.in_ok-admit.ensures.ok.2 in
     ap (λ (e : EngineView _). length e.readers) c.hand.ensures.same.0
-    ∙ c.in_ok-whole.ensures.count
+    ∙ c.in_ok-ran.ensures.count
     ∙ ap (λ (p : ParticipantView _ _). length p.engine.readers) is
     ∙ c.in_ok-admit.ensures.few.1
     ∙ sym (ap (λ (p : ParticipantView _ _). length p.engine.statuses) is)
@@ -26,19 +26,19 @@ finish-requires-clause-readers g c κs outlives =
 pub hand-requires-after_bounds : goal.hand-requires-after_bounds
 hand-requires-after_bounds g c κs outlives =
     let is = c.in_ok-admit.ensures.ok.2 in
-    c.in_ok-whole.ensures.outputs
+    c.in_ok-ran.ensures.outputs
     ∙ ap (λ (p : ParticipantView _ _). length p.engine.readers) is
     ∙ c.in_ok-admit.ensures.few.1
     ∙ sym (ap (λ (p : ParticipantView _ _). length p.engine.statuses) is)
     ∙ sym (ap length c.run.ensures.same.statuses)
 
-pub finish-requires-clause-there : goal.finish-requires-clause-there
-finish-requires-clause-there g c κs outlives new finished =
+pub finish_batch-requires-clause-there : goal.finish_batch-requires-clause-there
+finish_batch-requires-clause-there g c κs outlives new finished =
     let earlier = c.in_ok-admit.ensures.there.0 in
     let kept = c.in_ok-admit.ensures.there.1 in
     let is = c.in_ok-admit.ensures.ok.2 in
     let batch = map arrived c.args.datagrams.now in
-    let shown = c.in_ok-whole.ensures.count
+    let shown = c.in_ok-ran.ensures.count
     ∙ ap (λ (p : ParticipantView _ _). length p.engine.readers) is
     ∙ c.in_ok-admit.ensures.few.1
     ∙ sym (ap (λ (p : ParticipantView _ _). length p.engine.statuses) is)
@@ -46,42 +46,42 @@ finish-requires-clause-there g c κs outlives new finished =
       earlier ++ batch,
       stands_after g.C.Catalog.decoding earlier batch c.args.self.now c.admit.new.self c.run.new.self kept is new (length c.args.datagrams.now) (λ n. datagrams_counted n c.args.datagrams.now)
           (λ w. datagrams_stay (g.C.Catalog.decoding c.args.self.now.engine.catalog) c.args.self.now.engine.config.own w c.args.self.now.engine.index c.args.datagrams.now)
-          c.run.ensures.same c.in_ok-whole.ensures.keeps (handed_finish _ c.run.new.self c.hand.new.self new c.hand.ensures.same.0 c.hand.ensures.same.1 finished) shown,
+          c.run.ensures.same c.in_ok-ran.ensures.keeps (handed_finish _ c.run.new.self c.hand.new.self new c.hand.ensures.same.0 c.hand.ensures.same.1 finished) shown,
     )
 
 pub returns-clause-stands : goal.returns-clause-stands
 returns-clause-stands g c earlier kept =
     let is = c.in_ok-admit.ensures.ok.2 in
     let batch = map arrived c.args.datagrams.now in
-    let shown = c.in_ok-whole.ensures.count
+    let shown = c.in_ok-ran.ensures.count
     ∙ ap (λ (p : ParticipantView _ _). length p.engine.readers) is
     ∙ c.in_ok-admit.ensures.few.1
     ∙ sym (ap (λ (p : ParticipantView _ _). length p.engine.statuses) is)
     ∙ sym (ap length c.run.ensures.same.statuses) in
-    stands_after g.C.Catalog.decoding earlier batch c.args.self.now c.admit.new.self c.run.new.self kept is c.finish.new.self (length c.args.datagrams.now) (λ n. datagrams_counted n c.args.datagrams.now)
+    stands_after g.C.Catalog.decoding earlier batch c.args.self.now c.admit.new.self c.run.new.self kept is c.finish_batch.new.self (length c.args.datagrams.now) (λ n. datagrams_counted n c.args.datagrams.now)
     (λ w. datagrams_stay (g.C.Catalog.decoding c.args.self.now.engine.catalog) c.args.self.now.engine.config.own w c.args.self.now.engine.index c.args.datagrams.now)
-    c.run.ensures.same c.in_ok-whole.ensures.keeps (handed_finish _ c.run.new.self c.hand.new.self c.finish.new.self c.hand.ensures.same.0 c.hand.ensures.same.1 c.finish.ensures.finished) shown
+    c.run.ensures.same c.in_ok-ran.ensures.keeps (handed_finish _ c.run.new.self c.hand.new.self c.finish_batch.new.self c.hand.ensures.same.0 c.hand.ensures.same.1 c.finish_batch.ensures.finished) shown
 
 pub returns-clause-gives : goal.returns-clause-gives
 returns-clause-gives g c earlier kept =
     let is = c.in_ok-admit.ensures.ok.2 in
     let old : c.run.new.self.ports ≡ c.args.self.now.ports = c.run.ensures.ports ∙ ap (λ (p : ParticipantView _ _). p.ports) is in
-    let new : c.hand.new.self.ports ≡ c.finish.new.self.ports = sym c.finish.ensures.ports in (
-      c.in_ok-whole.whole,
+    let new : c.hand.new.self.ports ≡ c.finish_batch.new.self.ports = sym c.finish_batch.ensures.ports in (
+      c.in_ok-ran.ran.given,
       adds_after g.C.Catalog.decoding earlier (map arrived c.args.datagrams.now) c.args.self.now c.admit.new.self c.run.new.self kept is
-          (λ (before after : World g.C.Catalog.Meaning). IsGiven g.C.Catalog.view before after c.in_ok-whole.whole) c.in_ok-whole.ensures.gives,
+          (λ (before after : World g.C.Catalog.Meaning). IsGiven g.C.Catalog.view before after c.in_ok-ran.ran.given) c.in_ok-ran.ensures.gives,
       record { places = refl; answers = refl; sent = c.hand.ensures.sent; notices = rw (← old, ← new) c.in_ok-hand.ensures.on },
     )
 
 pub returns-in_err-admit-clause-lists : goal.returns-in_err-admit-clause-lists
 returns-in_err-admit-clause-lists g c = left_alone c.from_residual.result c.in_err-admit.field-0.0 (length c.args.datagrams.now) c.args.self.now c.args.given.now c.from_residual.ensures.1 c.in_err-admit.ensures.err
 
-pub returns-in_err-whole-clause-lists : goal.returns-in_err-whole-clause-lists
-returns-in_err-whole-clause-lists g c = left_empty c.from_residual-in_err-whole.result c.args.given.now _ c.from_residual-in_err-whole.ensures.1 (subst HoldsNothing (sym c.replace-lent.ensures.after) c.new.ensures)
+pub returns-in_err-ran-clause-lists : goal.returns-in_err-ran-clause-lists
+returns-in_err-ran-clause-lists g c = left_empty c.from_residual-in_err-ran.result c.args.given.now _ c.from_residual-in_err-ran.ensures.1 (subst HoldsNothing (sym c.replace-lent.ensures.after) c.new.ensures)
 
 pub returns-clause-counts : goal.returns-clause-counts
 returns-clause-counts g c taken was =
-    batch_counted taken (length c.args.datagrams.now) c.args.self.now c.admit.new.self c.run.new.self c.finish.new.self was c.in_ok-admit.ensures.ok.2 c.run.ensures.same (handed_finish _ c.run.new.self c.hand.new.self c.finish.new.self c.hand.ensures.same.0 c.hand.ensures.same.1 c.finish.ensures.finished)
+    batch_counted taken (length c.args.datagrams.now) c.args.self.now c.admit.new.self c.run.new.self c.finish_batch.new.self was c.in_ok-admit.ensures.ok.2 c.run.ensures.same (handed_finish _ c.run.new.self c.hand.new.self c.finish_batch.new.self c.hand.ensures.same.0 c.hand.ensures.same.1 c.finish_batch.ensures.finished)
 
 pub returns-in_err-hand-clause-lists : goal.returns-in_err-hand-clause-lists
 returns-in_err-hand-clause-lists g c = left_empty c.from_residual-in_err-hand.result c.args.given.now _ c.from_residual-in_err-hand.ensures.1 (subst HoldsNothing (sym c.replace-lent.ensures.after) c.new.ensures)
@@ -92,5 +92,5 @@ returns-clause-alone g c earlier kept none =
     let old : c.run.new.self.ports ≡ c.args.self.now.ports = c.run.ensures.ports ∙ ap (λ (p : ParticipantView _ _). p.ports) is in
     let same = c.hand.ensures.alone (subst NoneAttached (sym old) none) in
     adds_after g.C.Catalog.decoding earlier (map arrived c.args.datagrams.now) c.args.self.now c.admit.new.self c.run.new.self kept is
-    (λ (before after : World g.C.Catalog.Meaning). IsGiven g.C.Catalog.view before after (record { places = c.in_ok-whole.whole.places; answers = c.in_ok-whole.whole.answers; outputs = c.hand.new.outputs }))
-    (λ w kept. given_same g.C.Catalog.view w _ c.in_ok-whole.whole c.hand.new.outputs same.0 (c.in_ok-whole.ensures.gives w kept))
+    (λ (before after : World g.C.Catalog.Meaning). IsGiven g.C.Catalog.view before after (record { places = c.in_ok-ran.ran.given.places; answers = c.in_ok-ran.ran.given.answers; outputs = c.hand.new.outputs }))
+    (λ w kept. given_same g.C.Catalog.view w _ c.in_ok-ran.ran.given c.hand.new.outputs same.0 (c.in_ok-ran.ensures.gives w kept))

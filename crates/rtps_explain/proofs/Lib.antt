@@ -1,0 +1,4 @@
+pub mod Batches
+pub mod Printed
+pub mod Rows
+pub mod Run
