@@ -1,8 +1,8 @@
 #!/usr/bin/env python3
-"""Measures the program over loads that it makes, and prints a table.
+"""Measures the program over loads that it makes, and prints a table; and of the engine alone another one.
 
-    tools/bench.py PROGRAM [--against PROGRAM] [--scale N] [--repeat N] [--load NAME..] [--command NAME..]
-        [--workers N,N]
+    tools/bench.py PROGRAM [--against PROGRAM] [--engine BENCH] [--scale N] [--repeat N] [--load NAME..]
+        [--command [NAME..]] [--workers N,N]
 
 Each command reads each load from standard input, and its output is thrown away. A row has the median and the least of
 the seconds by the clock, the median of the seconds of processor time, the greatest memory in MiB, which shows only
@@ -10,8 +10,14 @@ where it is above that of this script, and the datagrams a second by the median 
 program of the same commands runs in turn with this one: its output has to be the same, octet for octet, and two more
 columns have the seconds of this program divided by the other's. The first run of a row is not measured.
 
-Before a load is measured, what `replay --summary` counts of it is compared with what its making says. The status is 0;
-2 for a bad line; 1 for a count or an output that differs or a run that fails, which is named on standard error.
+With --engine the program `rtps_bench` runs the engine over the same loads, and over one of more readers than the
+program has, without reading and printing; it measures itself. Its table has the median and the least of the
+milliseconds of its runs, and by the median the datagrams a second and the nanoseconds for each sample. After --command
+without names it is measured alone.
+
+Before a load is measured, what `replay --summary` counts of it is compared with what its making says, and so is what
+the engine counts. The status is 0; 2 for a bad line; 1 for a count or an output that differs or a run that fails,
+which is named on standard error.
 """
 
 import argparse
@@ -33,6 +39,7 @@ COMMANDS = ("replay", "dump", "samples", "explain")
 COLUMNS = ("load", "command", "workers", "datagrams", "median clock", "least clock", "processor", "memory",
            "datagrams/s")
 RATIOS = ("processor ratio", "clock ratio")
+ENGINE_COLUMNS = ("load", "workers", "datagrams", "samples", "median ms", "least ms", "datagrams/s", "ns/sample")
 STATUS = (None, None, None, "matched", "incompatible", None, "lost", "samples")
 """What the words of a `status` line of the summary count."""
 
@@ -94,11 +101,38 @@ def counted(lines):
 
 def check_counts(job, program, due):
     """A load has to give the counts that its making says."""
-    found = job.run(program, counted)[1]
+    differ(job.named(program), job.run(program, counted)[1], due)
+
+
+def differ(named, found, due):
+    """What was found has to be what is due."""
     names = sorted({*found, *due})
     wrong = [f"{name} {found[name]}, due {due[name]}" for name in names if found[name] != due[name]]
     if wrong:
-        raise Difference(f"{job.named(program)} counts {'; '.join(wrong)}")
+        raise Difference(f"{named} counts {'; '.join(wrong)}")
+
+
+def numbers(octets):
+    """The numbers of lines that have a name and a number each, by name."""
+    return {name: int(number) for name, number in (line.split() for line in octets.decode().splitlines())}
+
+
+def engine_row(job, count, due, line):
+    """Has the engine measure itself over a load, and returns the last columns of its row."""
+    with open(job.path, "rb") as source:
+        done = subprocess.run([line.engine, *job.words], stdin=source, capture_output=True, check=False)
+    if done.returncode:
+        said = done.stderr[:300].decode(errors="replace").strip()
+        raise Difference(f"{job.named(line.engine)} has status {done.returncode}: {said}")
+    found, times = numbers(done.stdout), numbers(done.stderr)
+    differ(job.named(line.engine), found, engine_due(count, due))
+    median_ms, least_ms = (f"{times[name] / 1e6:.1f}" for name in ("median_ns", "best_ns"))
+    return [str(found["samples"]), median_ms, least_ms, str(times["datagrams_per_s"]), str(times["ns_per_sample"])]
+
+
+def engine_due(count, due):
+    """What the engine has to count of a load with this number of datagrams."""
+    return Counter(datagrams=count, events=count, **{name: due[name] for name in ("samples", "answers", "lost")})
 
 
 def row(job, count, line):
@@ -123,23 +157,42 @@ def show(columns):
     print(f"| {' | '.join(columns)} |", flush=True)
 
 
-def measure(line):
-    """Makes the loads, and prints a row for each command over each."""
-    columns = COLUMNS + RATIOS * bool(line.against)
+def show_table(columns):
     show(columns)
     show(["---"] * len(columns))
+
+
+def measure(line):
+    """Makes the loads, and prints a row for each command over each, and then those of the engine."""
+    engine_rows = []
+    if line.command:
+        show_table(COLUMNS + RATIOS * bool(line.against))
     with tempfile.TemporaryDirectory() as folder:
         for name in line.load:
             load, path = loads.LOADS[name], Path(folder, name)
             count, due = loads.write(load, line.scale, path)
-            for program in filter(None, (line.program, line.against)):
-                check_counts(Job(name, path, ["replay", "-", *load.words, "--summary"]), program, due)
-            for command in line.command:
-                words = [command, "-"] + [*load.words] * (command in ("replay", "samples"))
-                for workers in line.workers if command == "replay" else "-":
-                    job = Job(name, path, words + ["--workers", workers] * (workers != "-"))
-                    show([name, command, workers, str(count), *row(job, count, line)])
+            if not load.is_for_engine:
+                measure_program(Job(name, path, load.words), count, due, line)
+            for workers in line.workers if line.engine else ():
+                words = [*load.words, "--workers", workers, "--repeat", str(line.repeat)]
+                columns = engine_row(Job(name, path, words), count, due, line)
+                engine_rows.append([name, workers, str(count), *columns])
             path.unlink()
+    if line.engine:
+        show_table(ENGINE_COLUMNS)
+        for columns in engine_rows:
+            show(columns)
+
+
+def measure_program(load, count, due, line):
+    """Prints a row for each command over a load, whose words are those of `replay` after the file."""
+    for program in filter(None, (line.program, line.against)) if line.command else ():
+        check_counts(load._replace(words=["replay", "-", *load.words, "--summary"]), program, due)
+    for command in line.command:
+        words = [command, "-"] + [*load.words] * (command in ("replay", "samples"))
+        for workers in line.workers if command == "replay" else "-":
+            job = load._replace(words=words + ["--workers", workers] * (workers != "-"))
+            show([load.load, command, workers, str(count), *row(job, count, line)])
 
 
 def workers_of(words):
@@ -159,13 +212,15 @@ def parsed(words):
     add = parser.add_argument
     add("program", metavar="PROGRAM")
     add("--against", metavar="PROGRAM")
+    add("--engine", metavar="BENCH")
     add("--scale", type=scale, default=1, metavar="N", help="0.001 to 1000; 1 if it isn't given")
     add("--repeat", type=whole(1, 1000), default=5, metavar="N", help="the runs of a row, 1 to 1000; 5")
     add("--load", nargs="+", choices=loads.LOADS, default=loads.LOADS, metavar="NAME",
         help=f"of {', '.join(loads.LOADS)}; all")
-    add("--command", nargs="+", choices=COMMANDS, default=COMMANDS, metavar="NAME",
+    add("--command", nargs="*", choices=COMMANDS, default=COMMANDS, metavar="NAME",
         help=f"of {', '.join(COMMANDS)}; all")
-    add("--workers", type=workers_of, default=["1", "2", "4"], metavar="N,N", help="of replay, 1 to 64 each; 1,2,4")
+    add("--workers", type=workers_of, default=["1", "2", "4"], metavar="N,N",
+        help="of replay and of the engine, 1 to 64 each; 1,2,4")
     return parser.parse_args(words)
 
 

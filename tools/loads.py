@@ -1,7 +1,8 @@
 """Record files of loads for `bench.py`: each is the same at each time, and its counts are known from how it was made.
 
 A load is a function of its scale. It yields the datagrams, and adds to `due` what all readers together have to count of
-them: `matched` and `incompatible` writers, `samples`, `lost` numbers, and `answers`, the datagrams that they send.
+them: `matched` and `incompatible` writers, `samples`, `lost` numbers, and `answers`, the datagrams that they send. Each
+datagram is one submessage, which gives an event.
 """
 
 import random
@@ -19,7 +20,9 @@ import floods  # noqa: E402
 import parts  # noqa: E402
 
 READERS = 8
-"""The readers of each load: the most that the program has. All have the same topic."""
+"""The readers of each load but `robot`: the most that the program has. All have the same topic."""
+TOPICS = 64
+"""The topics of `robot`, each with a reader."""
 SEED = 20_261
 COLOURS = (b"BLUE", b"CYAN", b"GREY", b"PINK")
 LEASE = 10_000_000
@@ -136,12 +139,30 @@ def skewed(scale, due):
         due["samples"] += READERS * 10
 
 
+def robot(scale, due):
+    """64 writers of a topic each, with a reader each: in each turn each of them sends a change of 28 octets, and in one
+    of 50 turns a heartbeat too, which is answered."""
+    writers = [Writer(at) for at in range(TOPICS)]
+    for at, writer in enumerate(writers):
+        yield announced.comes(writer.letter, lease=LEASE)
+        yield announced.offers(writer.letter, 1, 1, b"Square%d" % at)
+    for turn in range(1, scaled(5_000, scale) + 1):
+        yield from (writer.next_change() for writer in writers)
+        due["samples"] += TOPICS
+        if turn % 50 == 0:
+            yield from (writer.heartbeat(1) for writer in writers)
+            due["answers"] += TOPICS
+    due["matched"] += TOPICS
+
+
 class Load(NamedTuple):
     datagrams: Callable
     words: tuple
-    """What `replay` and `samples` get after the file."""
+    """What `replay`, `samples` and the engine get after the file."""
     has_moments: bool = False
     """Whether the file has moments: one datagram comes each millisecond."""
+    is_for_engine: bool = False
+    """Whether it has more readers than the program, so that the engine alone is measured."""
 
 
 ALL_READERS = ("--readers", str(READERS))
@@ -152,6 +173,7 @@ LOADS = {
     "fragments": Load(fragments, (*ALL_READERS, "--fixed", (announced.peer("a") + announced.writer(1)).hex())),
     "discovery": Load(discovery, ALL_READERS, has_moments=True),
     "skewed": Load(skewed, FIXED),
+    "robot": Load(robot, ("--readers", str(TOPICS), "--topics", str(TOPICS)), is_for_engine=True),
 }
 
 

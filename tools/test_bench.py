@@ -22,6 +22,14 @@ sys.stdin.buffer.read()
 print({summary!r} if "--summary" in sys.argv else {text!r})
 sys.exit({status})
 """
+ENGINE = """\
+#!{python}
+import sys
+sys.stdin.buffer.read()
+print(*{counts!r}, sep="\\n")
+print("best_ns 2000000", "median_ns 2500000", "datagrams_per_s 400", "ns_per_sample 7", sep="\\n", file=sys.stderr)
+sys.exit({status})
+"""
 
 
 class Bench(unittest.TestCase):
@@ -40,8 +48,16 @@ class Bench(unittest.TestCase):
         """A program that counts what is due."""
         status_line = "status 0 {0[matched]} {0[matched]} {0[incompatible]} - {0[lost]} {0[samples]}".format(due)
         summary = "\n".join(["0:1 answer - 00"] * due["answers"] + [status_line])
+        return self.script(PROGRAM.format(python=sys.executable, summary=summary, text=text, status=status))
+
+    def engine(self, count, due, status=0):
+        """An engine that counts what is due of a load of this many datagrams, and took 2 and 2.5 milliseconds."""
+        counts = [f"{name} {number}" for name, number in bench.engine_due(count, due).items()]
+        return self.script(ENGINE.format(python=sys.executable, counts=counts, status=status))
+
+    def script(self, octets):
+        """The path of a program with this source."""
         path = self.room / f"program{len(list(self.room.iterdir()))}"
-        octets = PROGRAM.format(python=sys.executable, summary=summary, text=text, status=status)
         path.write_text(octets, encoding="ascii")
         path.chmod(0o755)
         return str(path)
@@ -89,6 +105,35 @@ class Bench(unittest.TestCase):
         self.assertEqual(status, 1)
         self.assertIn("--summary has status 5", said)
 
+    def test_the_engine_has_a_table_of_its_own(self):
+        _, count, due = self.written("lossy")
+        engine = self.engine(count, due)
+        words = ("--engine", engine, "--load", "lossy", "--workers", "1,4", "--command")
+        status, table, said = self.measured("none", *words)
+        self.assertEqual((status, said, table[0]), (0, "", [*bench.ENGINE_COLUMNS]))
+        row = [str(count), str(due["samples"]), "2.5", "2.0", "400", "7"]
+        self.assertEqual(table[2:], [["lossy", "1", *row], ["lossy", "4", *row]])
+        status, table, said = self.measured(self.program(due), *words, "explain")
+        self.assertEqual((status, said, table[0], table[2][:2]), (0, "", [*bench.COLUMNS], ["lossy", "explain"]))
+        self.assertEqual(table[3:], [[*bench.ENGINE_COLUMNS], ["---"] * 8, ["lossy", "1", *row], ["lossy", "4", *row]])
+
+    def test_only_the_engine_gets_a_load_of_more_readers(self):
+        _, count, due = self.written("robot")
+        status, table, said = self.measured("none", "--engine", self.engine(count, due), "--load", "robot")
+        self.assertEqual((status, said, [row[:3] for row in table[-3:]]),
+                         (0, "", [["robot", workers, str(count)] for workers in "124"]))
+        self.assertEqual(self.measured("none", "--load", "robot")[0::2], (0, ""))
+
+    def test_a_count_of_the_engine_that_is_not_due_is_a_difference(self):
+        _, count, due = self.written("robot")
+        engine = self.engine(count + 1, due)
+        status, _, said = self.measured("none", "--engine", engine, "--load", "robot")
+        self.assertEqual(status, 1)
+        self.assertIn(f"counts datagrams {count + 1}, due {count}; events {count + 1}, due {count}\n", said)
+        status, _, said = self.measured("none", "--engine", self.engine(count, due, 6), "--load", "robot")
+        self.assertEqual(status, 1)
+        self.assertIn("--repeat 2 has status 6: best_ns", said)
+
     def test_a_load_has_the_datagrams_that_it_says_each_time(self):
         for name in loads.LOADS:
             records, count, due = self.written(name)
@@ -107,6 +152,9 @@ class Bench(unittest.TestCase):
         records, _, due = self.written("discovery")
         self.assertEqual((len(records), due), (2 * 311, {"matched": 16, "incompatible": 16, "answers": 300}))
         self.assertEqual([moment for moment, _ in records], [*range(2 * 311)])
+        # 5 turns of 64 writers, each of a participant that announces itself and its writer; no turn has heartbeats.
+        records, _, due = self.written("robot")
+        self.assertEqual((len(records), due), (64 * 7, {"matched": 64, "samples": 320}))
 
 
 if __name__ == "__main__":

@@ -130,13 +130,20 @@ fn next_span<A: Allocator>(
     }
 }
 
-/// Returns the capacity to reserve for `length` octets of a sample: sixteen times as much, or the
-/// size of the whole sample if that is less. So a sample that arrives in small fragments grows
-/// seldom.
+/// Returns the capacity to reserve for `length` octets of a sample: the whole sample if that is at
+/// most sixteen times as much. A longer one gets sixteen times as much too, but no more than a
+/// sixteenth of it, from where the next growth is to the whole: each growth may copy all octets, and
+/// so the last one copies few.
 fn room(sizes: Sizes, length: usize) -> usize
     ensures { result ≤ 16 * length }
 {
-    length.saturating_mul(16).min(sizes.sample as usize)
+    let whole = sizes.sample as usize;
+    let most = length.saturating_mul(16);
+    if most >= whole {
+        whole
+    } else {
+        most.min(whole.div_ceil(16))
+    }
 }
 
 /// Appends a piece to a chunk with octets of its own.

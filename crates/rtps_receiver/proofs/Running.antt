@@ -10,7 +10,7 @@ use Rattle.rtps_receiver.specs.Events.{events_behind, events_of, events_under}
 use Rattle.rtps_wire.specs.declared.message_header.HeaderFault.{HeaderFault}
 use Rattle.rtps_receiver.specs.declared.context.Context.{Context}
 use Rattle.rtps_types.specs.declared.place.Place.{Place}
-use Rattle.rtps_receiver.specs.Outcomes.{OutcomesView, outcomes_behind, outcomes_of, outcomes_under}
+use Rattle.rtps_receiver.specs.Outcomes.{OutcomeView, OutcomesView, outcomes_behind, outcomes_of, outcomes_under}
 use Rattle.rtps_receiver.specs.Running.{after, context_of, events_left, first_context, outcomes_left}
 
 -- the context that is kept is the one that the submessages before give
@@ -52,3 +52,9 @@ all_outcomes_left own index octets h good =
 pub none_left : (c : Context) (before : Place) (left : List Item) → outcomes_left c before left ≡ [] → left ≡ []
 none_left c before [] none = refl
 none_left c before (i ∷ left) none = absurd cc
+
+-- where an outcome is left, a submessage is
+pub one_left : (c : Context) (before : Place) (left : List Item) (o : OutcomeView) (os : List OutcomeView) →
+    outcomes_left c before left ≡ o ∷ os → (i : Item) × (others : List Item) × (left ≡ i ∷ others)
+one_left c before [] o os is = absurd cc
+one_left c before (i ∷ left) o os is = (i, left, refl)

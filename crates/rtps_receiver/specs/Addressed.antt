@@ -16,11 +16,45 @@ pub record AddressedBody : Type 0 where
 
 -- the five kinds that readers handle
 abbrev pub addressed : PartsView → Option AddressedBody
-addressed (wire.Data d) = Some (record { writer = d.writer; reader = d.reader; body = Whole (record { number = d.number; info = d.info; payload = d.payload }) })
-addressed (wire.DataFrag d) = Some (record { writer = d.writer; reader = d.reader; body = Fragment (record { number = d.number; start = d.start; count = d.count; size = d.size; sample = d.sample; info = d.info; payload = d.payload }) })
-addressed (wire.Heartbeat h) = Some (record { writer = h.writer; reader = h.reader; body = Heartbeat (record { first = h.first; last = h.last; count = h.count; final_flag = h.final_flag; liveliness = h.liveliness }) })
-addressed (wire.Gap g) = Some (record { writer = g.writer; reader = g.reader; body = Gap (record { start = g.start; list = g.list }) })
-addressed (wire.HeartbeatFrag h) = Some (record { writer = h.writer; reader = h.reader; body = HeartbeatFrag (record { number = h.number; last = h.last; count = h.count }) })
+addressed (wire.Data d) = Some (record {
+  writer = d.writer;
+  reader = d.reader;
+  body = Whole (record { number = d.number; info = d.info; payload = d.payload });
+})
+addressed (wire.DataFrag d) = Some (record {
+  writer = d.writer;
+  reader = d.reader;
+  body = Fragment (record {
+    number = d.number;
+    start = d.start;
+    count = d.count;
+    size = d.size;
+    sample = d.sample;
+    info = d.info;
+    payload = d.payload;
+  });
+})
+addressed (wire.Heartbeat h) = Some (record {
+  writer = h.writer;
+  reader = h.reader;
+  body = Heartbeat (record {
+    first = h.first;
+    last = h.last;
+    count = h.count;
+    final_flag = h.final_flag;
+    liveliness = h.liveliness;
+  });
+})
+addressed (wire.Gap g) = Some (record {
+  writer = g.writer;
+  reader = g.reader;
+  body = Gap (record { start = g.start; list = g.list });
+})
+addressed (wire.HeartbeatFrag h) = Some (record {
+  writer = h.writer;
+  reader = h.reader;
+  body = HeartbeatFrag (record { number = h.number; last = h.last; count = h.count });
+})
 addressed wire.Pad = None
 addressed (wire.InfoTimestamp t) = None
 addressed (wire.InfoSource s) = None
@@ -45,7 +79,8 @@ first_of (HeartbeatFrag h) = h.number
 
 -- a body is used if no number in it is above 2^62
 abbrev pub taken : AddressedBody → Option AddressedBody
-taken a = if nat_le 1 (first_of a.body) && list_all is_taken (numbers_of a.body) then Some a else None
+taken a =
+    if nat_le 1 (first_of a.body) && list_all is_taken (numbers_of a.body) then Some a else None
 
 -- the body, if there is one and it is used
 abbrev pub taken_of : Option AddressedBody → Option AddressedBody

@@ -80,7 +80,19 @@ plus a b = record {
 
 -- the counters before any datagram
 abbrev pub none_counted : Counters
-none_counted = record { datagrams = 0; short = 0; not_rtps = 0; other_version = 0; cut_headers = 0; past_end = 0; invalid = 0; events = 0; not_for_readers = 0; other_destination = 0; number_too_great = 0 }
+none_counted = record {
+  datagrams = 0;
+  short = 0;
+  not_rtps = 0;
+  other_version = 0;
+  cut_headers = 0;
+  past_end = 0;
+  invalid = 0;
+  events = 0;
+  not_for_readers = 0;
+  other_destination = 0;
+  number_too_great = 0;
+}
 
 -- each of them fits into 64 bits
 abbrev pub AreCounts : Counters → Type 0

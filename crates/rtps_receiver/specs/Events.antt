@@ -29,28 +29,52 @@ pub record EventView : Type 0 where
 
 -- what contracts see of an event
 abbrev pub view : Event → EventView
-view e = record { place = e.place; source = e.source; time = e.time; writer = e.writer; reader = e.reader; body = body_view e.body }
+view e = record {
+  place = e.place;
+  source = e.source;
+  time = e.time;
+  writer = e.writer;
+  reader = e.reader;
+  body = body_view e.body;
+}
 
 -- the event of a body, with its place, source and timestamp
-abbrev pub happening : Place → GuidPrefix → Option Timestamp → Option AddressedBody → Option EventView
-happening place source time addressed = option_map (λ a. record { place = place; source = source; time = time; writer = a.writer; reader = a.reader; body = a.body }) addressed
+abbrev pub happening :
+    Place → GuidPrefix → Option Timestamp → Option AddressedBody → Option EventView
+happening place source time addressed = option_map
+    (λ a. record {
+      place = place;
+      source = source;
+      time = time;
+      writer = a.writer;
+      reader = a.reader;
+      body = a.body;
+    })
+    addressed
 
 -- the event of a submessage after others, the nearest first, if its destination is this participant
-abbrev pub event_behind : GuidPrefix → GuidPrefix → Place → List PartsView → PartsView → Option EventView
+abbrev pub event_behind :
+    GuidPrefix → GuidPrefix → Place → List PartsView → PartsView → Option EventView
 event_behind own header place before c =
-    if bytes_eq (destination_of own before).0 own.0 then happening place (source_of header before) (time_of before) (taken_of (addressed c)) else None
+    if bytes_eq (destination_of own before).0 own.0
+    then happening place (source_of header before) (time_of before) (taken_of (addressed c))
+    else None
 
 -- the events of the submessages after the first `count`; every submessage counts
-abbrev pub events_behind : GuidPrefix → GuidPrefix → ℕ → ℕ → List PartsView → List Item → List EventView
+abbrev pub events_behind :
+    GuidPrefix → GuidPrefix → ℕ → ℕ → List PartsView → List Item → List EventView
 events_behind own header index count before [] = []
 events_behind own header index count before (i ∷ left) =
-    option_to_list (event_behind own header (record { datagram = index; submessage = count + 1 }) before i.content)
+    option_to_list
+    (event_behind own header (record { datagram = index; submessage = count + 1 }) before
+    i.content)
     ++ events_behind own header index (count + 1) (i.content ∷ before) left
 
 -- the events of a datagram with this header; none with a bad one
 abbrev pub events_under : GuidPrefix → ℕ → List ℕ → Result Header HeaderFault → List EventView
 events_under own index octets (Err f) = []
-events_under own index octets (Ok h) = events_behind own h.prefix index 0 [] (reading (drop 20 octets)).items
+events_under own index octets (Ok h) =
+    events_behind own h.prefix index 0 [] (reading (drop 20 octets)).items
 
 -- the events of a datagram
 abbrev pub events_of : GuidPrefix → ℕ → List ℕ → List EventView

@@ -13,7 +13,12 @@ use Rattle.rtps_receiver.specs.Context.{destination_of, resolved, source_of, tim
 
 -- the context after these submessages, the nearest first
 abbrev pub context_of : GuidPrefix → GuidPrefix → List PartsView → Context
-context_of own header before = record { own = own; source = source_of header before; destination = destination_of own before; time = time_of before }
+context_of own header before = record {
+  own = own;
+  source = source_of header before;
+  destination = destination_of own before;
+  time = time_of before;
+}
 
 -- the context at the start of a message
 abbrev pub first_context : GuidPrefix → GuidPrefix → Context
@@ -35,7 +40,9 @@ after c Skipped = c
 -- the event of a submessage in a context
 abbrev pub event_in : Context → Place → PartsView → Option EventView
 event_in c place content =
-    if bytes_eq c.destination.0 c.own.0 then happening place c.source c.time (taken_of (addressed content)) else None
+    if bytes_eq c.destination.0 c.own.0
+    then happening place c.source c.time (taken_of (addressed content))
+    else None
 
 -- the place of the next submessage of the same datagram
 abbrev pub next_place : Place → Place
@@ -44,14 +51,21 @@ next_place p = record p { submessage = p.submessage + 1 }
 -- the events of the remaining submessages, in a context, after the submessage at a place
 abbrev pub events_left : Context → Place → List Item → List EventView
 events_left c before [] = []
-events_left c before (i ∷ left) = option_to_list (event_in c (next_place before) i.content) ++ events_left (after c i.content) (next_place before) left
+events_left c before (i ∷ left) =
+    option_to_list (event_in c (next_place before) i.content)
+    ++ events_left (after c i.content) (next_place before) left
 
 -- the outcome of a submessage in a context
 abbrev pub outcome_in : Context → Place → PartsView → Result EventView Reason
-outcome_in c place content = outcome (bytes_eq c.destination.0 c.own.0) place c.source c.time (addressed content)
+outcome_in c place content =
+    outcome (bytes_eq c.destination.0 c.own.0) place c.source c.time (addressed content)
 
 -- the outcomes of the remaining submessages, in a context, after the submessage at a place
 abbrev pub outcomes_left : Context → Place → List Item → List OutcomeView
 outcomes_left c before [] = []
 outcomes_left c before (i ∷ left) =
-    record { place = next_place before; item = i; event = outcome_in c (next_place before) i.content } ∷ outcomes_left (after c i.content) (next_place before) left
+    record {
+      place = next_place before;
+      item = i;
+      event = outcome_in c (next_place before) i.content;
+    } ∷ outcomes_left (after c i.content) (next_place before) left

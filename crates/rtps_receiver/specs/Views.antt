@@ -16,11 +16,25 @@ whole_view w = record { number = value_of w.number; info = w.info; payload = w.p
 
 -- what contracts see of fragments
 abbrev pub fragment_view : fragment.Fragment → FragmentView
-fragment_view f = record { number = value_of f.number; start = f.start; count = f.count; size = f.size; sample = f.sample; info = f.info; payload = f.payload.now }
+fragment_view f = record {
+  number = value_of f.number;
+  start = f.start;
+  count = f.count;
+  size = f.size;
+  sample = f.sample;
+  info = f.info;
+  payload = f.payload.now;
+}
 
 -- what contracts see of a heartbeat
 abbrev pub heartbeat_view : heartbeat.Heartbeat → HeartbeatView
-heartbeat_view h = record { first = value_of h.first; last = h.last; count = h.count; final_flag = h.final_flag; liveliness = h.liveliness }
+heartbeat_view h = record {
+  first = value_of h.first;
+  last = h.last;
+  count = h.count;
+  final_flag = h.final_flag;
+  liveliness = h.liveliness;
+}
 
 -- what contracts see of a gap
 abbrev pub gap_view : gap.Gap → GapView

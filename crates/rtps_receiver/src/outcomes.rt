@@ -1,16 +1,17 @@
 //! The outcomes of a datagram's submessages, in order.
 
-ghost use Rattle.std.specs.Prelude.{◌≡◌, ◌+◌, ◌≤◌, [], Ok, length};
+ghost use Rattle.std.specs.Prelude.{◌≡◌, ◌+◌, ◌≤◌, List, [], ◌∷◌, Ok, length};
 ghost use Rattle.std.specs.Iterator.{item_count};
 ghost use Rattle.std.specs.Result.{result_map_both};
 ghost use Rattle.rtps_wire.specs.Reading.{reading};
-ghost use Rattle.rtps_receiver.specs.Outcomes.{OutcomesView, Yields, outcomes_of};
+ghost use Rattle.rtps_receiver.specs.Outcomes.{OutcomeView, OutcomesView, Yields, YieldsEvent, outcomes_of};
 ghost use Rattle.rtps_receiver.specs.Running.{first_context, outcomes_left};
 
 use crate::context::Context;
-use crate::outcome::Outcome;
+use crate::event::Event;
+use crate::outcome::{Outcome, Reason};
 use rtps_types::{GuidPrefix, Place};
-use rtps_wire::{HeaderFault, SubmessageFault, Submessages, header};
+use rtps_wire::{HeaderFault, Submessage, SubmessageFault, Submessages, header};
 use std::marker::Model;
 
 /// The number of octets of a message header.
@@ -71,11 +72,25 @@ impl<'a> Outcomes<'a> {
     }
 
     /// Returns why reading stopped, or `None` if it reached the end. It is meant to be called once
-    /// `next` has returned `None`.
+    /// `next` has returned `None`: before that it returns `None`.
     pub fn fault(&self) -> Option<SubmessageFault>
-        ensures { self.now.left ≡ [] → result ≡ self.now.fault }
+        ensures ended { self.now.left ≡ [] → result ≡ self.now.fault }
+        ensures before { (next : OutcomeView) (others : List OutcomeView) →
+            self.now.left ≡ next ∷ others → result ≡ None }
     {
         self.submessages.fault()
+    }
+
+    /// As `next`, for who needs the event alone: an outcome is moved together with its submessage,
+    /// which is several times as large.
+    pub(crate) fn next_event(&mut self) -> Option<Result<Event<'a>, Reason>>
+        ensures { YieldsEvent self.old result self.new }
+    {
+        let Submessage { parts, .. } = self.submessages.next()?;
+        self.place.submessage += 1;
+        let event = self.context.outcome(self.place, &parts);
+        self.context.see(&parts);
+        Some(event)
     }
 }
 

@@ -34,14 +34,14 @@ pub fn add_events<'a, A: Allocator>(
 {
     let (before, counted) = (events.len(), *counters);
     counters.begin();
-    let outcomes = match Outcomes::new(own, index, octets) {
+    let mut outcomes = match Outcomes::new(own, index, octets) {
         Ok(outcomes) => outcomes,
         Err(fault) => {
             counters.refuse(fault);
             return Ok(());
         }
     };
-    match add_outcomes(events, counters, outcomes) {
+    match add_outcomes(events, counters, &mut outcomes) {
         Ok(()) => Ok(()),
         Err(refused) => {
             events.truncate(before);
@@ -55,17 +55,17 @@ pub fn add_events<'a, A: Allocator>(
 fn add_outcomes<'a, A: Allocator>(
     events: &mut Vec<Event<'a>, A>,
     counters: &mut Counters,
-    mut outcomes: Outcomes<'a>,
+    outcomes: &mut Outcomes<'a>,
 ) -> Result<(), AllocError>
     ensures added { OnOk result (map view events.new.items
-        ≡ map view events.old.items ++ events_among outcomes.entry.left) }
+        ≡ map view events.old.items ++ events_among outcomes.old.left) }
     ensures counted { OnOk result (counters.new
-        ≡ ended outcomes.entry.fault (all_noted outcomes.entry.left counters.old)) }
+        ≡ ended outcomes.old.fault (all_noted outcomes.old.left counters.old)) }
     ensures front { take (length events.old.items) events.new.items ≡ events.old.items }
 {
-    while let Some(outcome) = outcomes.next() {
-        counters.note(&outcome.event);
-        if let Ok(event) = outcome.event {
+    while let Some(outcome) = outcomes.next_event() {
+        counters.note(&outcome);
+        if let Ok(event) = outcome {
             events.push(event)?;
         }
     }

@@ -4,6 +4,9 @@ use Rattle.rtps_receiver.specs.Events.{view}
 use Rattle.rtps_receiver.specs.Outcomes.{events_among}
 use Rattle.rtps_receiver.proofs.receive.add_outcomes.Given as goal
 
+abbrev pub decreases-loop-outcome : goal.decreases-loop-outcome
+decreases-loop-outcome g l = length l.outcomes.left
+
 -- what was added and counted, with what is left, is all; the events that were there come first
 abbrev pub invariant-loop-outcome : goal.invariant-loop-outcome
 invariant-loop-outcome g l = record {

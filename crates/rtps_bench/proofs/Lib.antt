@@ -1,0 +1,5 @@
+pub mod Counted
+pub mod Holding
+pub mod Parsed
+pub mod Ranks
+pub mod Written

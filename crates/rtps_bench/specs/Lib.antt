@@ -1,0 +1,11 @@
+pub mod Configs
+pub mod Counting
+pub mod Ending
+pub mod Inputs
+pub mod Line
+pub mod Measuring
+pub mod Options
+pub mod Reading
+pub mod Status
+pub mod Text
+pub mod Times
