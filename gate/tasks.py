@@ -128,7 +128,8 @@ def run_all(tasks, say, count=None):
                 jobs = max(1 if is_last else 2, min(MOST_JOBS, idle // (len(ready) - at)))
                 idle -= jobs
                 left.remove(task)
-                running[pool.submit(called, task, MOST_JOBS if is_head else jobs, is_last)] = task, jobs, time.time()
+                most = min(MOST_JOBS, count) if is_head else jobs
+                running[pool.submit(called, task, most, is_last)] = task, jobs, time.time()
             if not running:
                 return passed, failed, [task.name for task in left]
             for future in wait(running, return_when=FIRST_COMPLETED).done:

@@ -68,7 +68,8 @@ without_oldest k (e ∷ es) = if is_of k e then es else e ∷ without_oldest k e
 -- under KEEP_LAST n, the oldest entry of an instance with more than n entries is dropped, whether
 -- it was read or not
 abbrev pub kept_by : {M : Type 0} → History → KeyHash → List (Entry M) → List (Entry M)
-kept_by (KeepLast n) k es = if nat_lt n (length (filter (is_of k) es)) then without_oldest k es else es
+kept_by (KeepLast n) k es =
+    if nat_lt n (length (filter (is_of k) es)) then without_oldest k es else es
 kept_by KeepAll k es = es
 
 -- the entry that a notice makes comes after all others, if it makes one

@@ -93,11 +93,14 @@ entered_by keep a i = came a.is_value a.joined (counted keep a.number i)
 -- ---- the entry
 
 -- an entry of an instance arrived, and `oldest` is the number of the entry that is dropped for it
-pub record Arrives {A : Type 0} (p : Pair) (is_value : Bool) (n : ℕ) (old new : Index A) (oldest : Option ℕ) : Type 0 where
+pub record Arrives {A : Type 0} (p : Pair) (is_value : Bool) (n : ℕ) (old new : Index A)
+    (oldest : Option ℕ) : Type 0 where
   pub live : new.live.keys ≡ joined_by is_value p old.live.keys
   pub gives_up : oldest ≡ leaving old.keep n (numbers_in (known_at old.instances.entries p.1))
   pub find : count_in (known_at old.instances.entries p.1) ≡ writers_in p.1 old.live.keys
-      → ChangesAt p.1 (made (λ i. came is_value (joins is_value p old.live.keys) (counted old.keep n i))) (known_at old.instances.entries) (known_at new.instances.entries)
+      → ChangesAt p.1
+      (made (λ i. came is_value (joins is_value p old.live.keys) (counted old.keep n i)))
+      (known_at old.instances.entries) (known_at new.instances.entries)
 
 -- the first of these numbers, and its entry, are dropped from an instance
 abbrev pub without_first : {M : Type 0} → KeyHash → List ℕ → CacheIndex M → CacheIndex M

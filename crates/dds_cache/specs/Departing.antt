@@ -17,7 +17,9 @@ pub record Ends {M : Type 0} (n : Notice M) (leaves : Pair → Bool) : Type 0 wh
   pub none : entry_by n.place n.writer n.what ≡ []
   pub value : (k : KeyHash) → is_value (told_about k n.what) ≡ false
   pub disposed : (k : KeyHash) (b : Bool) → disposed_by (told_about k n.what) b ≡ b
-  pub live : (k : KeyHash) (w : Guid) (b : Bool) → live_by (told_about k n.what) (same_guid n.writer w) (is_end n.what) b ≡ (not (leaves (w, k)) && b)
+  pub live : (k : KeyHash) (w : Guid) (b : Bool)
+      → live_by (told_about k n.what) (same_guid n.writer w) (is_end n.what) b
+      ≡ (not (leaves (w, k)) && b)
 
 -- an instance without the count of its live writers
 abbrev pub uncounted : Option InstanceView → Option InstanceView
@@ -39,6 +41,8 @@ is_by w p = same_guid w p.0
 pub record Departs {A : Type 0} (leaves : Pair → Bool) (old new : Index A) : Type 0 where
   pub keep : new.keep ≡ old.keep
   pub rest : KeepsRest (known_at old.instances.entries) (known_at new.instances.entries)
-  pub counted : AreCounted (known_at old.instances.entries) old.live.keys → AreCounted (known_at new.instances.entries) new.live.keys
-  pub live : (p : Pair) → list_any (is_pair p) new.live.keys ≡ (not (leaves p) && list_any (is_pair p) old.live.keys)
+  pub counted : AreCounted (known_at old.instances.entries) old.live.keys
+      → AreCounted (known_at new.instances.entries) new.live.keys
+  pub live : (p : Pair)
+      → list_any (is_pair p) new.live.keys ≡ (not (leaves p) && list_any (is_pair p) old.live.keys)
   pub sized : AreSized old.live.keys → AreSized new.live.keys

@@ -59,7 +59,8 @@ spent n i = record {
 }
 
 -- only the instance of this key changes, in this way
-abbrev pub ChangesAt : KeyHash → (Option InstanceView → Option InstanceView) → (KeyHash → Option InstanceView) → (KeyHash → Option InstanceView) → Type 0
+abbrev pub ChangesAt : KeyHash → (Option InstanceView → Option InstanceView)
+    → (KeyHash → Option InstanceView) → (KeyHash → Option InstanceView) → Type 0
 ChangesAt key f old new = (k : KeyHash) → new k ≡ (if is_key key k then f (old k) else old k)
 
 -- no instance changes
@@ -93,9 +94,11 @@ chosen_by find e = record {
 }
 
 -- the entry at a place as it is chosen, if there is one and it meets a condition
-abbrev pub judged_at : {M : Type 0} → (KeyHash → Option InstanceView) → Condition → ℕ → Option (Entry M) → Option Chosen
+abbrev pub judged_at : {M : Type 0} → (KeyHash → Option InstanceView) → Condition → ℕ
+    → Option (Entry M) → Option Chosen
 judged_at find flags n None = None
-judged_at find flags n (Some e) = if passes find flags (n, e) then Some (chosen_by find (n, e)) else None
+judged_at find flags n (Some e) =
+    if passes find flags (n, e) then Some (chosen_by find (n, e)) else None
 
 -- an entry with the states that it was chosen with
 abbrev pub shown_as : {M : Type 0} → Entry M → Chosen → Sample M
@@ -107,12 +110,14 @@ mark_one n [] = []
 mark_one n (e ∷ es) = if is_number n e.0 then (e.0, marked e.1) ∷ es else e ∷ mark_one n es
 
 -- an instance after these entries were read, or taken
-abbrev pub each : (Chosen → InstanceView → InstanceView) → List Chosen → KeyHash → Option InstanceView → Option InstanceView
+abbrev pub each : (Chosen → InstanceView → InstanceView) → List Chosen → KeyHash
+    → Option InstanceView → Option InstanceView
 each f [] k o = o
 each f (c ∷ cs) k o = each f cs k (if is_key c.key k then option_map (f c) o else o)
 
 -- a list of entries with one put in front, if there is one
-abbrev pub with_found : {M : Type 0} → ℕ → Option (Entry M) → List (ℕ × Entry M) → List (ℕ × Entry M)
+abbrev pub with_found : {M : Type 0} → ℕ → Option (Entry M) → List (ℕ × Entry M)
+    → List (ℕ × Entry M)
 with_found n None es = es
 with_found n (Some e) es = (n, e) ∷ es
 
@@ -123,7 +128,8 @@ looked es (n ∷ ns) = with_found n (lookup (is_number n) es) (looked es ns)
 
 -- the first entries that pass a test, at most `max`, are appended as they are chosen; `left` more
 -- are wanted
-abbrev pub AddsFirst : {C E : Type 0} → (E → Bool) → (E → C) → ℕ → List E → List C → List C → ℕ → Type 0
+abbrev pub AddsFirst : {C E : Type 0} → (E → Bool) → (E → C) → ℕ → List E → List C → List C → ℕ
+    → Type 0
 AddsFirst p f max es old new left =
     (new ≡ old ++ map f (first_by p max es)) × (left ≡ max - length (first_by p max es))
 
@@ -147,7 +153,8 @@ with_shown c (Some e) samples = shown_as e c ∷ samples
 abbrev pub take_shown : {M : Type 0} → List Chosen → List (ℕ × Entry M) → List (Sample M)
 take_shown [] es = []
 take_shown (c ∷ cs) es =
-    with_shown c (lookup (is_number c.number) es) (take_shown cs (remove_entry (is_number c.number) es))
+    with_shown c (lookup (is_number c.number) es)
+    (take_shown cs (remove_entry (is_number c.number) es))
 
 -- an instance after this entry of it was read
 abbrev pub read_each : Chosen → InstanceView → InstanceView

@@ -24,7 +24,8 @@ pub record ShelfView (M : Type 0) : Type 0 where
   pub capacity : ℕ
 
 -- what contracts see of the entries of the tree, and of a row whose first place has this number
-abbrev pub shelf_view : {M : Type 0} → ℕ → List (ℕ × Entry M) → List (Option (Entry M)) → ℕ → ShelfView M
+abbrev pub shelf_view : {M : Type 0} → ℕ → List (ℕ × Entry M) → List (Option (Entry M)) → ℕ
+    → ShelfView M
 shelf_view first old row capacity = record {
   next = first + length row;
   entries = old ++ placed first row;
@@ -63,7 +64,8 @@ emptied_at zero (o ∷ row) = None ∷ row
 emptied_at (suc n) (o ∷ row) = o ∷ emptied_at n row
 
 -- the entries of the tree, with the entry of a place if it has one
-abbrev pub with_settled : {M : Type 0} → ℕ → Option (Entry M) → List (ℕ × Entry M) → List (ℕ × Entry M)
+abbrev pub with_settled : {M : Type 0} → ℕ → Option (Entry M) → List (ℕ × Entry M)
+    → List (ℕ × Entry M)
 with_settled n None es = es
 with_settled n (Some e) es = insert_entry nat_cmp es n e
 

@@ -5,7 +5,8 @@ use Rattle.dds_cache.specs.declared.entry.Entry.{Entry}
 use Rattle.dds_cache.specs.Standing.{Rising, not_yet, numbers}
 
 -- the entries of the tree have lower numbers than the row, and its unread numbers are known
-pub record IsShelf {M : Type 0} (first : ℕ) (old : List (ℕ × Entry M)) (unread : List ℕ) (row : List (Option (Entry M))) : Type 0 where
+pub record IsShelf {M : Type 0} (first : ℕ) (old : List (ℕ × Entry M)) (unread : List ℕ)
+    (row : List (Option (Entry M))) : Type 0 where
   pub rising : Rising 0 old
   pub below : AllByRecursion (λ e. e.0 < first) old
   pub not_read : unread ≡ numbers (filter not_yet old)

@@ -39,7 +39,8 @@ pub record AreHandedOn {V : Type 0} (old : List (Option (PortView V)))
 
 -- how all that a batch puts out is split: what is returned, and what goes to backlogs; all answers
 -- are returned
-pub record IsHandedOn {V : Type 0} (whole given : BatchOutput V) (old new : List (Option (PortView V)))
+pub record IsHandedOn {V : Type 0} (whole given : BatchOutput V)
+    (old new : List (Option (PortView V)))
     : Type 0 where
   pub places : given.places ≡ whole.places
   pub answers : given.answers ≡ whole.answers

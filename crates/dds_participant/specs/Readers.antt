@@ -39,7 +39,8 @@ IsNoneOf ranks rank = All (λ r. r ≡ rank → ⊥) ranks
 
 -- the readers of some ranks have done their jobs, and their outputs are the jobs' results
 pub record AreRunAt {V M : Type 0} (f : V → M) (decoding : Decoding M) (shares : ℕ → Share M)
-    (ranks : ℕ → Type 0) (states : List ReaderView) (outputs : List (Output V Global)) : Type 0 where
+    (ranks : ℕ → Type 0) (states : List ReaderView) (outputs : List (Output V Global))
+    : Type 0 where
   pub state : (rank : ℕ) (other : ReaderView) → rank < length states → ranks rank
       → StandsFor (reader_done (shares rank)) (given_done decoding (shares rank)) rank
       (slice_index_or states rank other)

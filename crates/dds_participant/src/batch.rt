@@ -2,6 +2,7 @@
 
 ghost use Rattle.std.specs.Prelude.{◌≡◌, ◌+◌, ◌^◌, ◌≤◌, ◌<◌, ◌++◌, ℕ, All, IfErr, IfOk, List, OnErr, OnOk, false, true, length, map, slice_index_or};
 ghost use Rattle.std.specs.declared.alloc.Global.{Global};
+ghost use Rattle.rtps_planner.specs.PassedOver.{passed_by, passed_over, plus};
 ghost use Rattle.rtps_receiver.specs.Counters.{AreCounts, all_counted};
 ghost use Rattle.rtps_run.specs.declared.outcome.Outcome.{Outcome};
 ghost use Rattle.rtps_run.specs.Input.{Input, arrived, occurrences_from};
@@ -18,12 +19,12 @@ ghost use Rattle.dds_participant.specs.Ports.{NoneAttached};
 ghost use Rattle.dds_participant.specs.declared.batch_output.BatchOutput.{BatchOutput};
 
 use crate::batch_output::{BatchOutput, outcome_of};
+use crate::counted::Counted;
 use crate::decode::{Arrived, decoded, stamped};
 use crate::participant::Participant;
 use crate::readers::{Assigned, Readers, lists_for, run_assigned};
 use dds_topic::Catalog;
 use rtps_planner::plan;
-use rtps_receiver::Counters;
 use rtps_run::{DATAGRAM_LIMIT, EngineError, Outcome, show_all};
 use rtps_shards::{Gate, SharedBatch};
 use rtps_types::Datagram;
@@ -56,11 +57,11 @@ pub fn is_batch(datagrams: &[Datagram<'_>]) -> bool
             .all(|datagram| datagram.bytes.len() <= 65_507)
 }
 
-/// What a batch gave, and the counters after it.
+/// What a batch gave, and what is counted after it.
 #[derive(Drop)]
 struct Ran<V: Drop> {
     given: BatchOutput<V>,
-    counters: Counters,
+    counted: Counted,
 }
 
 impl<C: Catalog> Participant<C> {
@@ -98,8 +99,12 @@ impl<C: Catalog> Participant<C> {
         ensures takes { TakesBatch (length datagrams.now) result self.old self.new }
         ensures counts { (taken : ℕ) → self.old.batches ≡ counted taken
             → OnOk result (self.new.batches ≡ counted (taken + 1)) }
-        ensures counters { OnOk result (self.new.counters ≡ all_counted
-            self.old.engine.config.own (octets_of datagrams.now) self.old.counters) }
+        ensures counters { OnOk result (self.new.counters.received ≡ all_counted
+            self.old.engine.config.own (octets_of datagrams.now) self.old.counters.received) }
+        ensures passed { (earlier : List Input) → StandsAt C.decoding earlier self.old.engine
+            → self.old.counters.passed ≡ passed_by self.old.engine.config earlier
+            → OnOk result (self.new.counters.passed
+            ≡ passed_by self.old.engine.config (earlier ++ map arrived datagrams.now)) }
         ensures uncounted { OnErr result (self.new.counters ≡ self.old.counters) }
         ensures same { (self.new.engine.catalog ≡ self.old.engine.catalog)
             × (self.new.engine.config ≡ self.old.engine.config) }
@@ -128,15 +133,15 @@ impl<C: Catalog> Participant<C> {
         let ran = self.run(rt, alloc, &workers, datagrams, BatchOutput::new(alloc))?;
         let mut outcome = outcome_of::<C>(alloc, ran.given)?;
         self.hand_lists(&mut outcome.notices)?;
-        self.finish_batch(datagrams.len(), ran.counters);
+        self.finish_batch(datagrams.len(), ran.counted);
         Ok(outcome)
     }
 
     /// Processes the next datagrams as [`Participant::run_batch`] does, and puts the results into
     /// the caller's lists: the places of the batch, discovery's answers, and the notices and
-    /// answers of each reader. Merged by place, as [`BatchOutput`] says, they are all that the batch
-    /// puts out, except what went to backlogs: a reader with an outlet has no notice in its list,
-    /// which keeps its memory.
+    /// answers of each reader. Merged by place, as [`BatchOutput`] says, they are all that the
+    /// batch puts out, except what went to backlogs: a reader with an outlet has no notice in its
+    /// list, which keeps its memory.
     ///
     /// What was in the lists is dropped. Pass the same lists to the next batch, as they are: each
     /// reader's lists are emptied by the worker that runs its job, and no new memory is taken for
@@ -157,8 +162,12 @@ impl<C: Catalog> Participant<C> {
         ensures takes { TakesBatch (length datagrams.now) result self.old self.new }
         ensures counts { (taken : ℕ) → self.old.batches ≡ counted taken
             → OnOk result (self.new.batches ≡ counted (taken + 1)) }
-        ensures counters { OnOk result (self.new.counters ≡ all_counted
-            self.old.engine.config.own (octets_of datagrams.now) self.old.counters) }
+        ensures counters { OnOk result (self.new.counters.received ≡ all_counted
+            self.old.engine.config.own (octets_of datagrams.now) self.old.counters.received) }
+        ensures passed { (earlier : List Input) → StandsAt C.decoding earlier self.old.engine
+            → self.old.counters.passed ≡ passed_by self.old.engine.config earlier
+            → OnOk result (self.new.counters.passed
+            ≡ passed_by self.old.engine.config (earlier ++ map arrived datagrams.now)) }
         ensures uncounted { OnErr result (self.new.counters ≡ self.old.counters) }
         ensures same { (self.new.engine.catalog ≡ self.old.engine.catalog)
             × (self.new.engine.config ≡ self.old.engine.config) }
@@ -186,7 +195,7 @@ impl<C: Catalog> Participant<C> {
         let mut ran = self.run(rt, alloc, workers, datagrams, lent)?;
         self.hand(&mut ran.given.outputs)?;
         *given = ran.given;
-        self.finish_batch(datagrams.len(), ran.counters);
+        self.finish_batch(datagrams.len(), ran.counted);
         Ok(())
     }
 
@@ -235,9 +244,13 @@ impl<C: Catalog> Participant<C> {
             (length self.new.engine.readers ≡ length self.old.engine.readers) }
         ensures outputs { IfOk result (λ ran.
             length ran.given.outputs.items ≡ length self.old.engine.readers) }
-        ensures counters { IfOk result (λ ran. ran.counters ≡ all_counted
-            self.old.engine.config.own (octets_of datagrams.now) self.old.counters) }
-        ensures counts { IfOk result (λ ran. AreCounts ran.counters) }
+        ensures counters { IfOk result (λ ran. ran.counted.received ≡ all_counted
+            self.old.engine.config.own (octets_of datagrams.now) self.old.counters.received) }
+        ensures counts { IfOk result (λ ran. AreCounts ran.counted.received) }
+        ensures passed { (w : World C.Meaning) → Keeps w self.old.engine → IfOk result (λ ran.
+            ran.counted.passed ≡ plus self.old.counters.passed (passed_over w.known
+            (occurrences_from self.old.engine.config.own self.old.engine.index
+            (map arrived datagrams.now)))) }
         ensures keeps { (w : World C.Meaning) → Keeps w self.old.engine → OnOk result
             (Keeps (world_run (C.decoding self.old.engine.catalog) w (occurrences_from
             self.old.engine.config.own self.old.engine.index (map arrived datagrams.now)))
@@ -252,7 +265,7 @@ impl<C: Catalog> Participant<C> {
             first: self.index,
             datagrams,
         };
-        let decoded = decoded(rt, alloc, from, self.counters, workers.count)?;
+        let decoded = decoded(rt, alloc, from, self.counted.received, workers.count)?;
         let stamped = stamped(alloc, self.index, datagrams, &decoded.events)?;
         let plan = plan(alloc, &stamped, &mut self.discovery)?;
         let states = mem::replace(&mut self.readers, Vec::new(alloc));
@@ -268,30 +281,35 @@ impl<C: Catalog> Participant<C> {
         };
         let readers = run_assigned(rt, alloc, &batch, assigned, workers.count)?;
         self.readers = readers.states;
+        let mut passed = self.counted.passed;
+        passed.add(plan.rest.passed);
         Ok(Ran {
             given: BatchOutput {
                 places: plan.rest.places,
                 answers: plan.rest.answers,
                 outputs: readers.outputs,
             },
-            counters: decoded.counters,
+            counted: Counted {
+                received: decoded.counters,
+                passed,
+            },
         })
     }
 
-    /// Finishes a batch of `count` datagrams, after which the counters are these.
-    fn finish_batch(&mut self, count: usize, counters: Counters)
+    /// Finishes a batch of `count` datagrams, after which this is counted.
+    fn finish_batch(&mut self, count: usize, counted: Counted)
         requires room { 0 < count → self.old.engine.index + count ≤ datagram_limit }
         requires readers { length self.old.engine.readers ≡ length self.old.engine.statuses }
         requires failed { self.old.engine.failed ≡ true }
         requires there { (new : ParticipantView C C.Value) → IsFinishedBy count self.old new
             → (inputs : List Input) × StandsAt C.decoding inputs new.engine }
-        requires counts { AreCounts counters }
+        requires counts { AreCounts counted.received }
         ensures finished { IsFinishedBy count self.old self.new }
         ensures ports { self.new.ports ≡ self.old.ports }
-        ensures counters { self.new.counters ≡ counters }
+        ensures counters { self.new.counters ≡ counted }
     {
         self.finish(count);
-        self.counters = counters;
+        self.counted = counted;
     }
 
     /// Counts `count` datagrams and one batch as taken, and updates the statuses from the readers.

@@ -19,7 +19,7 @@ use std::thread::Threads;
 
 /// Up to this many datagrams, one thread is faster: starting threads takes longer than decoding.
 /// Decoding borrows each payload, so its time doesn't grow with the octets.
-const ALONE: usize = 1_024;
+const ALONE: usize = 2_048;
 
 /// The number of datagrams in a piece, which is decoded by one thread.
 const PIECE: usize = 64;
@@ -185,8 +185,8 @@ fn push_stamped<'a>(all: &mut Vec<Stamped<'a>>, one: Stamped<'a>) -> Result<(), 
 }
 
 /// Cuts the events of these datagrams, in order, by datagram: returns each datagram's moment, its
-/// index and its events. `first` is the index of the first of them in the run. An error is a refused
-/// growth.
+/// index and its events. `first` is the index of the first of them in the run. An error is a
+/// refused growth.
 pub(crate) fn stamped<'a>(
     alloc: Global,
     first: u64,

@@ -23,8 +23,8 @@ pub fn handed_off<V, M>()
     ensures attached { (view : V → M) (rank : ℕ) (w : World M) (outlet : Sending V Global)
         → IsHandedOff view rank w w outlet.sent (new_port outlet) }
     ensures given { (view : V → M) (rank : ℕ) (start before after : World M)
-        (earlier : List (Notice V)) (whole given : BatchOutput V) (old new : List (Option (PortView V)))
-        (port : PortView V)
+        (earlier : List (Notice V)) (whole given : BatchOutput V)
+        (old new : List (Option (PortView V))) (port : PortView V)
         → IsGiven view before after whole → IsHandedOn whole given old new
         → slice_index_or old rank None ≡ Some port
         → IsHandedOff view rank start before earlier port

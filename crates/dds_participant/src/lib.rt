@@ -5,6 +5,7 @@
 mod attach;
 mod batch;
 mod batch_output;
+mod counted;
 mod decode;
 mod handing;
 pub mod laws;

@@ -3,15 +3,18 @@
 ghost use Rattle.std.specs.Prelude.{◌≡◌, [], IfOk, List, ℕ, false, length, map};
 ghost use Rattle.rtps_discovery.specs.Config.{check_of};
 ghost use Rattle.rtps_discovery.specs.Kept.{IsKnown};
+ghost use Rattle.rtps_planner.specs.PassedOver.{passed_by};
 ghost use Rattle.rtps_receiver.specs.Counters.{none_counted};
 ghost use Rattle.rtps_run.specs.Input.{Input};
 ghost use Rattle.rtps_run.specs.Seen.{matches_seen, reader_count, status_seen};
 ghost use Rattle.rtps_run.specs.Standing.{Answers, ShowsAt, StandsAt, Starts, run_by};
 ghost use Rattle.dds_participant.specs.Ports.{NoneAttached};
 
+use crate::counted::Counted;
 use crate::ports::{Port, no_ports};
 use dds_topic::Catalog;
 use rtps_discovery::{Config, Discovery, check};
+use rtps_planner::PassedOver;
 use rtps_reader::{ReaderState, Status};
 use rtps_receiver::Counters;
 use rtps_run::{
@@ -62,7 +65,7 @@ pub struct Participant<C: Catalog> {
     /// By rank, the outlet that is attached, if one is. It stays when its reader goes.
     pub(crate) ports: Vec<Option<Port<C::Value>>>,
     /// What was counted of the datagrams of the batches taken.
-    pub(crate) counters: Counters,
+    pub(crate) counted: Counted,
     /// The allocator of the backlogs.
     pub(crate) alloc: Global,
 }
@@ -89,7 +92,7 @@ impl<C: Catalog> Model for Participant<C> {
       };
       batches = p.batches;
       ports = ports_view p.ports.items;
-      counters = p.counters;
+      counters = p.counted;
     } };
 
     // A participant that hasn't failed is that after some inputs. Each counter fits.
@@ -104,7 +107,7 @@ impl<C: Catalog> Model for Participant<C> {
           readers = p.readers.items;
           statuses = p.statuses.items;
         }))
-        × AreCounts p.counters };
+        × AreCounts p.counted.received };
 }
 
 impl<C: Catalog> Participant<C> {
@@ -115,7 +118,9 @@ impl<C: Catalog> Participant<C> {
     pub fn new(alloc: Global, config: Config, catalog: C) -> Result<Participant<C>, StartError>
         ensures starts { Starts (check_of config) result }
         ensures same { IfOk result (λ p. (p.engine.catalog ≡ catalog)
-            × (p.engine.config ≡ config) × (p.batches ≡ 0) × (p.counters ≡ none_counted)) }
+            × (p.engine.config ≡ config) × (p.batches ≡ 0)) }
+        ensures counters { IfOk result (λ p. (p.counters.received ≡ none_counted)
+            × (p.counters.passed ≡ passed_by config [])) }
         ensures none { IfOk result (λ p. NoneAttached p.ports) }
         ensures stands { IfOk result (λ p. StandsAt C.decoding [] p.engine) }
     {
@@ -138,7 +143,10 @@ impl<C: Catalog> Participant<C> {
             readers,
             statuses,
             ports,
-            counters: Counters::new(),
+            counted: Counted {
+                received: Counters::new(),
+                passed: PassedOver::new(),
+            },
             alloc,
         })
     }
@@ -157,13 +165,21 @@ impl<C: Catalog> Participant<C> {
         self.batches
     }
 
-    /// What was counted of all datagrams of the batches taken: how many there were, how many of their
-    /// submessages gave an event, and how many of either were passed over, by reason. Ticks, and
-    /// readers that come or go, count nothing.
+    /// What was counted of all datagrams of the batches taken: how many there were, how many of
+    /// their submessages gave an event, and how many of either were passed over, by reason. Ticks,
+    /// and readers that come or go, count nothing.
     pub fn counters(&self) -> &Counters
-        ensures { result.now ≡ self.now.counters }
+        ensures { result.now ≡ self.now.counters.received }
     {
-        &self.counters
+        &self.counted.received
+    }
+
+    /// How many events of the batches taken came to nothing: those for nobody, and the records of
+    /// announcers that discovery ignored. Ticks, and readers that come or go, count nothing.
+    pub fn passed_over(&self) -> PassedOver
+        ensures { result ≡ self.now.counters.passed }
+    {
+        self.counted.passed
     }
 
     /// Returns the status of the reader of a rank, after the last batch that was taken, or `None`

@@ -26,17 +26,17 @@ use std::alloc::{AllocError, Global};
 use std::mem;
 
 impl<C: Catalog> Participant<C> {
-    /// Has a moment pass, in milliseconds, at which no datagram came: participants whose leases have
-    /// ended are removed (DDSI-RTPS 8.5.3.2). It returns the notices of each reader and no answer. A
-    /// moment below an earlier one counts as the greatest so far.
+    /// Has a moment pass, in milliseconds, at which no datagram came: participants whose leases
+    /// have ended are removed (DDSI-RTPS 8.5.3.2). It returns the notices of each reader and no
+    /// answer. A moment below an earlier one counts as the greatest so far.
     ///
     /// A tick is a batch of its own, which is run on the caller's thread: it counts among the
     /// batches, and among no datagrams. The notices of a reader with an outlet go to the outlet's
     /// backlog.
     ///
     /// When a tick runs out of memory, nothing of it is returned or added to a backlog, and the
-    /// participant has failed: from then on it returns [`EngineError::Failed`], and its statuses are
-    /// those before the tick. It is never [`EngineError::Spent`].
+    /// participant has failed: from then on it returns [`EngineError::Failed`], and its statuses
+    /// are those before the tick. It is never [`EngineError::Spent`].
     #[tactic(auto, unfolding(crate::specs::Kept::TakesTick, crate::specs::Kept::RefusesTick))]
     pub fn tick(&mut self, alloc: Global, moment: u64) -> Result<Outcome<C::Value>, EngineError>
         ensures takes { TakesTick result self.old self.new }

@@ -74,13 +74,15 @@ where_asked offered requested = offered || not requested
 abbrev pub presentation_met : Presentation → Presentation → Bool
 presentation_met o r =
     at_least (scope_kind o.access_scope) (scope_kind r.access_scope)
-    && (where_asked o.coherent_access r.coherent_access && where_asked o.ordered_access r.ordered_access)
+    && (where_asked o.coherent_access r.coherent_access
+    && where_asked o.ordered_access r.ordered_access)
 
 -- the offered kind is at least the requested one, and the offered lease is at most the requested
 -- one (DDS 1.4, 2.2.3.11)
 abbrev pub liveliness_met : Liveliness → Liveliness → Bool
 liveliness_met o r =
-    at_least (liveliness_kind o.kind) (liveliness_kind r.kind) && at_most o.lease_duration r.lease_duration
+    at_least (liveliness_kind o.kind) (liveliness_kind r.kind)
+    && at_most o.lease_duration r.lease_duration
 
 -- each policy by rising id, and whether the offered one is compatible with the requested one
 abbrev pub policies_met : Policies → Policies → List (PolicyId × Bool)

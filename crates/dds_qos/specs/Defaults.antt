@@ -22,7 +22,8 @@ zero_duration = record { seconds = pos 0; fraction = 0 }
 abbrev pub default_policies : Reliability → Policies
 default_policies reliability = record {
   durability = Volatile;
-  presentation = record { access_scope = Instance; coherent_access = false; ordered_access = false };
+  presentation =
+      record { access_scope = Instance; coherent_access = false; ordered_access = false };
   deadline = infinite;
   latency_budget = zero_duration;
   ownership = Shared;

@@ -45,7 +45,8 @@ is_sound e p = is_sound_by p.id (start e p.value)
 -- the value of the last parameter with an id, or a default if there is none
 abbrev pub last : {X : Type 0} → ℕ → (Cursor → Option X) → Endian → List Parameter → X → X
 last id read e [] x = x
-last id read e (p ∷ ps) x = last id read e ps (if p.id == id then unwrap_or (read (start e p.value)) x else x)
+last id read e (p ∷ ps) x =
+    last id read e ps (if p.id == id then unwrap_or (read (start e p.value)) x else x)
 
 -- reads a value for a parameter that has no default
 abbrev pub as_some : {X : Type 0} → (Cursor → Option X) → Cursor → Option (Option X)
@@ -55,13 +56,15 @@ as_some read c = option_map (λ x. Some x) (read c)
 -- has no guid. The other parameters are not checked.
 abbrev pub guid_named : ℕ → Contents → Option (Option Guid)
 guid_named id list =
-    if list_all (λ p. not (p.id == id) || is_some (guid_in (start list.endian p.value))) list.parameters
+    if list_all
+    (λ p. not (p.id == id) || is_some (guid_in (start list.endian p.value))) list.parameters
     then Some (last id (as_some guid_in) list.endian list.parameters None)
     else None
 
 -- the locator of a parameter, if the parameter has that id and the locator is kept
 abbrev pub locator_at : ℕ → Endian → Parameter → Option Locator
-locator_at id e p = if p.id == id then option_and_then (λ locator. locator) (locator_in (start e p.value)) else None
+locator_at id e p =
+    if p.id == id then option_and_then (λ locator. locator) (locator_in (start e p.value)) else None
 
 -- the locators of all parameters of that id, in order
 abbrev pub locators_of : ℕ → Endian → List Parameter → List Locator

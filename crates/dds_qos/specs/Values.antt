@@ -35,7 +35,8 @@ only (Err fault) = None
 
 -- reads a kind as a number of 32 bits, and then what follows it; None if no kind has the number
 abbrev pub kind_then : {X Y : Type 0} → Cursor → (ℕ → Option X) → (X → Cursor → Option Y) → Option Y
-kind_then c kinds f = then_read c (number_in 4 c) (λ n after. option_and_then (λ x. f x after) (kinds n))
+kind_then c kinds f =
+    then_read c (number_in 4 c) (λ n after. option_and_then (λ x. f x after) (kinds n))
 
 -- reads a kind as a number of 32 bits; None if no kind has the number
 abbrev pub kind_in : {X : Type 0} → Cursor → (ℕ → Option X) → Option X
@@ -127,23 +128,31 @@ status_in c = only (octets_in 4 c)
 -- seconds, with a sign, and a fraction (DDSI-RTPS 9.3.2.3)
 unfoldable pub duration_in : Cursor → Option Duration
 duration_in c =
-    then_read c (signed_in w32 c) (λ s after. option_map (λ f. record { seconds = s; fraction = f }) (only (number_in 4 after)))
+    then_read c (signed_in w32 c)
+    (λ s after. option_map (λ f. record { seconds = s; fraction = f })
+    (only (number_in 4 after)))
 
 -- the kind, and the longest time that a write may block, which is checked and not used
 -- (DDS 1.4, 2.2.3.14)
 unfoldable pub reliability_in : Cursor → Option Reliability
-reliability_in c = kind_then c reliability_of (λ k after. option_map (λ blocking. k) (duration_in after))
+reliability_in c =
+    kind_then c reliability_of (λ k after. option_map (λ blocking. k) (duration_in after))
 
 -- the kind, and the lease (DDS 1.4, 2.2.3.11)
 unfoldable pub liveliness_in : Cursor → Option Liveliness
 liveliness_in c =
-    kind_then c liveliness_of (λ k after. option_map (λ lease. record { kind = k; lease_duration = lease }) (duration_in after))
+    kind_then c liveliness_of
+    (λ k after. option_map (λ lease. record { kind = k; lease_duration = lease })
+    (duration_in after))
 
 -- the scope, and two booleans (DDS 1.4, 2.2.3.6)
 unfoldable pub presentation_in : Cursor → Option Presentation
 presentation_in c =
-    kind_then c scope_of (λ s after_scope. then_read after_scope (bool_in after_scope) (λ coherent after.
-    option_map (λ ordered. record { access_scope = s; coherent_access = coherent; ordered_access = ordered })
+    kind_then c scope_of
+    (λ s after_scope. then_read after_scope (bool_in after_scope) (λ coherent after.
+    option_map
+    (λ ordered. record
+    { access_scope = s; coherent_access = coherent; ordered_access = ordered })
     (only (bool_in after))))
 
 -- a locator of UDP over IPv4, kind 1, with a port of 16 bits that isn't 0; its address is the last
@@ -151,13 +160,15 @@ presentation_in c =
 abbrev pub kept_locator : ℕ → ℕ → List ℕ → Option Locator
 kept_locator kind port octets =
     if kind == 1 && (nat_le 1 port && nat_le port 65535)
-    then option_map (λ (address : List ℕ). record { port = port; address = address }) (octets_at 4 octets 12)
+    then option_map (λ (address : List ℕ). record { port = port; address = address })
+    (octets_at 4 octets 12)
     else None
 
 -- a kind, a port and sixteen octets: the locator, if it is one that is kept
 unfoldable pub locator_in : Cursor → Option (Option Locator)
 locator_in c =
-    then_read c (number_in 4 c) (λ kind after_kind. then_read after_kind (number_in 4 after_kind) (λ port after.
+    then_read c (number_in 4 c)
+    (λ kind after_kind. then_read after_kind (number_in 4 after_kind) (λ port after.
     option_map (λ octets. kept_locator kind port octets) (only (octets_in 16 after))))
 
 -- twelve octets of the participant, and four of its endpoint (DDSI-RTPS 9.3.1)

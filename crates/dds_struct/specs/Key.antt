@@ -34,7 +34,8 @@ is_short t = at_most_16 (greatest_end t 0)
 
 -- the key hash for the octets of a key
 abbrev pub hash_of_octets : Bool → List ℕ → KeyHash
-hash_of_octets short octets = record { 0 = if short then take 16 octets ++ replicate (16 - length octets) 0 else md5 octets }
+hash_of_octets short octets =
+    record { 0 = if short then take 16 octets ++ replicate (16 - length octets) 0 else md5 octets }
 
 -- the key hash of a key, by the octets of its big-endian CDR
 abbrev pub key_hash : (t : CdrType) → ValueOf t → KeyHash

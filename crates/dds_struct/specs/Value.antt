@@ -10,9 +10,11 @@ use Rattle.dds_topic.specs.declared.unread.Unread.{Unread as UnreadCode}
 use Rattle.dds_topic.specs.declared.unread.Unread.TheVariants as unread
 
 -- `count` items, one after another
-unfoldable pub items : {A : Type 0} → (Cursor → Result A CdrFault) → (Cursor → Cursor) → ℕ → Cursor → Result (List A) CdrFault
+unfoldable pub items : {A : Type 0} → (Cursor → Result A CdrFault) → (Cursor → Cursor) → ℕ → Cursor
+    → Result (List A) CdrFault
 items read behind zero c = Ok []
-items read behind (suc n) c = and_then (read c) (λ x. and_then (items read behind n (behind c)) (λ xs. Ok (x ∷ xs)))
+items read behind (suc n) c =
+    and_then (read c) (λ x. and_then (items read behind n (behind c)) (λ xs. Ok (x ∷ xs)))
 
 -- the reader after `count` items
 unfoldable pub behind_items : (Cursor → Cursor) → ℕ → Cursor → Cursor
@@ -32,7 +34,8 @@ behind Boolean c = moved c (bool_in c)
 behind Text c = moved c (text_in c)
 behind (Octets count) c = moved c (octets_in count c)
 behind (Both s t) c = behind t (behind s c)
-behind (Sequence t) c = behind_counted (λ d. behind t d) (value_of (number_in 4 c)) (moved c (number_in 4 c))
+behind (Sequence t) c =
+    behind_counted (λ d. behind t d) (value_of (number_in 4 c)) (moved c (number_in 4 c))
 
 -- the value: the members of a struct in order, or the items of a sequence
 abbrev pub value : (t : CdrType) → Cursor → Result (ValueOf t) CdrFault
@@ -42,7 +45,9 @@ value Boolean c = value_of (bool_in c)
 value Text c = value_of (text_in c)
 value (Octets count) c = value_of (octets_in count c)
 value (Both s t) c = and_then (value s c) (λ x. and_then (value t (behind s c)) (λ y. Ok (x, y)))
-value (Sequence t) c = and_then (value_of (number_in 4 c)) (λ n. items (λ d. value t d) (λ d. behind t d) n (moved c (number_in 4 c)))
+value (Sequence t) c =
+    and_then (value_of (number_in 4 c))
+    (λ n. items (λ d. value t d) (λ d. behind t d) n (moved c (number_in 4 c)))
 
 -- octets that are no value are malformed
 abbrev pub readable : {A : Type 0} → Result A CdrFault → Result A UnreadCode
@@ -68,4 +73,6 @@ settled (Err f) ahead c = c
 
 -- a value is read exactly if the octets encode it
 abbrev pub ValuesAreCdr : Type 0
-ValuesAreCdr = (t : CdrType) → is_plain t ≡ true → (c : Cursor) → c.position ≤ length c.octets → Reads t c (settled (value t c) (behind t c) c) (value t c)
+ValuesAreCdr =
+    (t : CdrType) → is_plain t ≡ true → (c : Cursor) → c.position ≤ length c.octets
+    → Reads t c (settled (value t c) (behind t c) c) (value t c)

@@ -63,14 +63,22 @@ impl<S: Structure + Send + Sync> Catalog for Structs<S> {
         S::read(alloc, &mut CdrReader::new(body, endian))
     }
 
+    fn decode_keyed(
+        &self,
+        _: &mut (),
+        alloc: Global,
+        kind: u16,
+        body: &[u8],
+    ) -> Result<(KeyHash, S), CatalogError> {
+        let value = self.decode(alloc, kind, body)?;
+        let hash = self.key_of(alloc, &value)?;
+        Ok((hash, value))
+    }
+
     fn key_of(&self, alloc: Global, value: &S) -> Result<KeyHash, AllocError> {
         let mut writer = CdrWriter::new(alloc, Endian::Big);
         value.write_key(&mut writer)?;
         Ok(hash_of(&writer.finish(), S::key_is_short()))
-    }
-
-    fn key_by(&self, _: &mut (), alloc: Global, value: &S) -> Result<KeyHash, AllocError> {
-        self.key_of(alloc, value)
     }
 
     fn key_payload(&self, alloc: Global, value: &S) -> Result<Vec<u8>, AllocError> {

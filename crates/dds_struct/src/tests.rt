@@ -98,7 +98,9 @@ fn a_key_without_a_greatest_size_is_hashed(rt: HostRuntime) -> Result<(), Fail> 
     let body = hex::decode(alloc, body)?;
     let log = logs.decode(alloc, kind, body.as_slice())?;
     assert_eq!(rt; logs.key_of(alloc, &log)?, wanted);
-    assert_eq!(rt; logs.key_by(&mut (), alloc, &log)?, wanted);
+    let (key, again) = logs.decode_keyed(&mut (), alloc, kind, body.as_slice())?;
+    assert_eq!(rt; key, wanted);
+    assert!(rt; logs.text(alloc, &again)?.as_slice() == b"abc".as_slice());
     assert!(rt; logs.text(alloc, &log)?.as_slice() == b"abc".as_slice());
     let payload = logs.key_payload(alloc, &log)?;
     assert!(rt; payload.as_slice() == b"\x04\0\0\0abc\0\x09\0".as_slice());

@@ -7,4 +7,5 @@ use Rattle.dds_topic.specs.declared.unread.Unread.TheVariants as unread
 
 -- 0 is CDR_BE, 1 is CDR_LE
 abbrev pub order_by : ℕ → Result Endian UnreadCode
-order_by kind = if kind == 0 then Ok Big else if kind == 1 then Ok Little else Err unread.Encapsulation
+order_by kind =
+    if kind == 0 then Ok Big else if kind == 1 then Ok Little else Err unread.Encapsulation

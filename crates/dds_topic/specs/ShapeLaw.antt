@@ -12,11 +12,16 @@ use Rattle.dds_topic.specs.declared.shape.Shape.{Shape}
 use Rattle.dds_topic.specs.ShapeMeaning.{shape_view, color_key, color_hash, shape_hash_of_key}
 
 -- the hash of the key payload that is written for a shape is the hash of its color
-pub shape_key_again : {A : Type 0} (v : Shape A) → shape_hash_of_key 1 (color_key (shape_view v).color) ≡ Ok (color_hash (shape_view v).color)
+pub shape_key_again : {A : Type 0} (v : Shape A)
+    → shape_hash_of_key 1 (color_key (shape_view v).color) ≡ Ok (color_hash (shape_view v).color)
 shape_key_again v =
     let color : List ℕ = v.color in
-    let read : text_in (start Little (written Text 0 Little color ++ [])) ≡ Ok (color, length (written Text 0 Little color)) =
-    (each_again [] [] Little).text color (omega (arith, v.short), IsUtf8-from_is_utf8 color v.utf8) ∙ ap (λ (n : ℕ). Ok (color, n)) (omega arith) in
-    let again : text_in (start Little (written Text 0 Little color)) ≡ Ok (color, length (written Text 0 Little color)) = rw append-nil at read in
+    let read : text_in (start Little (written Text 0 Little color ++ []))
+    ≡ Ok (color, length (written Text 0 Little color)) =
+    (each_again [] [] Little).text color
+    (omega (arith, v.short), IsUtf8-from_is_utf8 color v.utf8) ∙ ap (λ (n : ℕ). Ok (color, n))
+    (omega arith) in
+    let again : text_in (start Little (written Text 0 Little color))
+    ≡ Ok (color, length (written Text 0 Little color)) = rw append-nil at read in
     let short : nat_lt 128 (length color) ≡ false = grind (arith, common_steps, v.short) in
     rw (again, short) refl

@@ -37,7 +37,9 @@ behind_long c = moved c (signed_in w32 c)
 
 -- a color of at most 128 octets
 abbrev pub color_of : Cursor → Result (List ℕ) UnreadCode
-color_of c = after_read Malformed (value_of (text_in c)) (λ color. if nat_lt 128 (length color) then Err Malformed else Ok color)
+color_of c =
+    after_read Malformed (value_of (text_in c))
+    (λ color. if nat_lt 128 (length color) then Err Malformed else Ok color)
 
 -- a shape: its color, and the three numbers after it
 abbrev pub numbers_of : List ℕ → Cursor → Result ShapeMeaning UnreadCode
@@ -65,12 +67,23 @@ color_hash color = record { 0 = md5 (written Text 0 Big color) }
 
 -- the hash of the color in the body of a key payload
 abbrev pub shape_hash_of_key : ℕ → List ℕ → Result KeyHash UnreadCode
-shape_hash_of_key kind body = and_then (order_by kind) (λ e. and_then (color_of (start e body)) (λ color. Ok (color_hash color)))
+shape_hash_of_key kind body =
+    and_then (order_by kind)
+    (λ e. and_then (color_of (start e body)) (λ color. Ok (color_hash color)))
 
 -- how the Shapes demo decodes octets
 abbrev pub shape_decoding : Decoding ShapeMeaning
-shape_decoding = record { meaning = shape_meaning; hash = λ s. color_hash s.color; hash_of_key = shape_hash_of_key }
+shape_decoding =
+    record {
+      meaning = shape_meaning;
+      hash = λ s. color_hash s.color;
+      hash_of_key = shape_hash_of_key;
+    }
 
 -- the color in hex and the three numbers, with spaces between them
 abbrev pub shape_text : ShapeMeaning → List ℕ
-shape_text s = hex_text s.color ++ (codes " " ++ (signed_decimal s.x ++ (codes " " ++ (signed_decimal s.y ++ (codes " " ++ signed_decimal s.size)))))
+shape_text s =
+    hex_text s.color
+    ++ (codes " "
+    ++ (signed_decimal s.x
+    ++ (codes " " ++ (signed_decimal s.y ++ (codes " " ++ signed_decimal s.size)))))

@@ -53,4 +53,5 @@ pub record BodiesAreShapes : Type 0 where
 pub record PayloadsAreKeys : Type 0 where
   pub big : (body : List ℕ) → Answers (IsKey (start Big body)) (shape_hash_of_key 0 body)
   pub little : (body : List ℕ) → Answers (IsKey (start Little body)) (shape_hash_of_key 1 body)
-  pub other : (kind : ℕ) (body : List ℕ) → 1 < kind → shape_hash_of_key kind body ≡ Err Encapsulation
+  pub other : (kind : ℕ) (body : List ℕ) → 1 < kind
+      → shape_hash_of_key kind body ≡ Err Encapsulation

@@ -21,7 +21,7 @@ pub trait Catalog: Send + Sync + Drop {
     /// A value of the type.
     type Value: Send + Drop;
 
-    /// What is kept from one value to the next, to find the hash of a known key faster; `()` if
+    /// What is kept from one value to the next, to decode a value with a known key faster; `()` if
     /// nothing is kept.
     type Memo: Default + Send + Drop;
 
@@ -46,17 +46,22 @@ pub trait Catalog: Send + Sync + Drop {
     fn decode(&self, alloc: Global, kind: u16, body: &[u8]) -> Result<Self::Value, CatalogError>
         ensures { Gives view result ((decoding self.now).meaning kind body.now) };
 
-    /// Returns the hash of the value's key (DDSI-RTPS 9.6.4.8).
-    fn key_of(&self, alloc: Global, value: &Self::Value) -> Result<KeyHash, AllocError>
-        ensures { IfOk result (λ h. h ≡ (decoding self.now).hash (view value.now)) };
-
-    /// Returns the same, with the memo of the keys of earlier values.
-    fn key_by(
+    /// Returns the value of a body and the hash of its key, with the memo of earlier values: it may
+    /// make this faster, and changes no result. The errors are those of [`Catalog::decode`].
+    fn decode_keyed(
         &self,
         memo: &mut Self::Memo,
         alloc: Global,
-        value: &Self::Value,
-    ) -> Result<KeyHash, AllocError>
+        kind: u16,
+        body: &[u8],
+    ) -> Result<(KeyHash, Self::Value), CatalogError>
+        ensures value { Gives (λ keyed. view keyed.1) result
+            ((decoding self.now).meaning kind body.now) }
+        ensures key { IfOk result (λ keyed.
+            keyed.0 ≡ (decoding self.now).hash (view keyed.1)) };
+
+    /// Returns the hash of the value's key (DDSI-RTPS 9.6.4.8).
+    fn key_of(&self, alloc: Global, value: &Self::Value) -> Result<KeyHash, AllocError>
         ensures { IfOk result (λ h. h ≡ (decoding self.now).hash (view value.now)) };
 
     /// Returns the value's key as the body of a key payload: little-endian, without encapsulation

@@ -9,20 +9,25 @@ use std::marker::Model;
 /// The name of a color. Names of up to 16 octets take no memory of their own.
 #[derive(Debug, Drop)]
 pub struct Color<A: Allocator = Global> {
+    name: Name<A>,
+}
+
+/// A name, by its length.
+#[derive(Debug, Drop)]
+enum Name<A: Allocator> {
     /// A name of up to 16 octets.
-    short: ArrayString<16>,
-    /// A longer name, else empty.
-    long: String<A>,
+    Short(ArrayString<16>),
+    /// A longer name.
+    Long(String<A>),
 }
 
 impl<A: Allocator> Model for Color<A> {
     ghost use Rattle.std.specs.Prelude.{List, ℕ};
-    ghost use Rattle.std.specs.String.{string_bytes};
-    ghost use Rattle.dds_topic.specs.Color.{longer_or};
+    ghost use Rattle.dds_topic.specs.Color.{octets_of};
 
     ghost Value = { List ℕ };
 
-    ghost view = { λ c. longer_or c.short.bytes (string_bytes c.long) };
+    ghost view = { λ c. octets_of c.name };
 }
 
 impl<A: Allocator> Color<A> {
@@ -30,25 +35,31 @@ impl<A: Allocator> Color<A> {
     pub fn new(alloc: A, name: &str) -> Result<Color<A>, AllocError>
         ensures { IfOk result (λ color. color ≡ name.now) }
     {
-        match ArrayString::from(name) {
-            Ok(short) => Ok(Color {
-                short,
-                long: String::new(alloc),
-            }),
-            Err(_) => Ok(Color {
-                short: ArrayString::new(),
-                long: String::from_str(alloc, name)?,
-            }),
-        }
+        let name = match ArrayString::from(name) {
+            Ok(short) => Name::Short(short),
+            Err(_) => Name::Long(String::from_str(alloc, name)?),
+        };
+        Ok(Color { name })
+    }
+
+    /// Returns a copy.
+    pub fn copied(&self, alloc: A) -> Result<Color<A>, AllocError>
+        ensures { IfOk result (λ color. color ≡ self.now) }
+    {
+        let name = match &self.name {
+            Name::Short(name) => Name::Short(*name),
+            Name::Long(name) => Name::Long(String::from_str(alloc, name.as_str())?),
+        };
+        Ok(Color { name })
     }
 
     /// Returns the name.
     pub fn as_str(&self) -> &str
         ensures { result.now ≡ self.now }
     {
-        if self.long.is_empty() {
-            return self.short.as_str();
+        match &self.name {
+            Name::Short(name) => name.as_str(),
+            Name::Long(name) => name.as_str(),
         }
-        self.long.as_str()
     }
 }

@@ -1,6 +1,7 @@
 //! The key hashes of recent colors.
 
-ghost use Rattle.std.specs.Prelude.{◌≡◌, ◌≤◌, length, IfOk, IfSome};
+ghost use Rattle.std.specs.Prelude.{◌≡◌, ◌<◌, ◌≤◌, length, true, IfOk, IfSome};
+ghost use Rattle.std.specs.Str.{is_utf8};
 ghost use Rattle.dds_topic.specs.ShapeMeaning.{color_hash};
 
 use crate::color::Color;
@@ -9,69 +10,83 @@ use rtps_types::KeyHash;
 use std::alloc::{AllocError, Global};
 
 /// The number of colors that are kept.
-const PLACES: usize = 8;
+const PLACES: usize = 16;
 
 /// A color and its key hash.
 #[derive(Debug, Drop)]
-struct ColorKey {
-    color: Color,
-    hash: KeyHash,
+pub(crate) struct ColorKey {
+    pub color: Color,
+    pub hash: KeyHash,
     ghost right: { hash ≡ color_hash color },
+    ghost short: { length color ≤ 128 },
+    ghost utf8: { is_utf8 color ≡ true },
 }
 
-/// Recent colors with their key hashes, so that a known color isn't hashed again. A new color
-/// replaces the one that was added first.
+/// Recent colors with their key hashes, so that a known color is neither hashed nor tested for
+/// UTF-8 again. A color is at its own place, or at the first one behind it that was free when it
+/// came. Where half of the places are taken from there on, it takes its own from the one that was
+/// there.
 #[derive(Debug, Drop)]
 pub struct ColorKeys {
     known: [Option<ColorKey>; PLACES],
-    /// The place of the next new color.
-    next: usize,
-    /// The place of the last color: it is likely to be asked for again, for the next reader.
-    last: usize,
 }
 
 impl Default for ColorKeys {
     fn default() -> ColorKeys {
         ColorKeys {
-            known: [None, None, None, None, None, None, None, None],
-            next: 0,
-            last: 0,
+            known: [
+                None, None, None, None, None, None, None, None, None, None, None, None, None, None,
+                None, None,
+            ],
         }
     }
 }
 
 impl ColorKeys {
-    /// Returns the key hash of a color.
-    pub(crate) fn key(&mut self, alloc: Global, color: &str) -> Result<KeyHash, AllocError>
-        requires { length color.now ≤ 128 }
-        ensures { IfOk result (λ h. h ≡ color_hash color.now) }
+    /// Returns the color with these octets, if it is known.
+    #[inline(always)]
+    pub(crate) fn known(&self, octets: &[u8]) -> Option<&ColorKey>
+        ensures { IfSome result (λ key. key.now.color ≡ octets.now) }
     {
-        if let Some(hash) = known_hash(&self.known[self.last % PLACES], color) {
-            return Ok(hash);
-        }
-        for (at, place) in self.known.iter().enumerate() {
-            if let Some(hash) = known_hash(place, color) {
-                self.last = at;
-                return Ok(hash);
+        let place = place_of(octets);
+        for step in 0..PLACES / 2 {
+            match &self.known[(place + step) % PLACES] {
+                Some(key) if key.color.as_str().as_bytes() == octets => return Some(key),
+                Some(_) => {}
+                None => return None,
             }
         }
-        let hash = hash_of(color);
-        let color = Color::new(alloc, color)?;
-        let at = self.next % PLACES;
-        self.known[at] = Some(ColorKey { color, hash });
-        self.next = (at + 1) % PLACES;
-        self.last = at;
+        None
+    }
+
+    /// Keeps a color, and returns its key hash.
+    pub(crate) fn add(&mut self, alloc: Global, color: &Color) -> Result<KeyHash, AllocError>
+        requires short { length color.now ≤ 128 }
+        requires utf8 { is_utf8 color.now ≡ true }
+        ensures { IfOk result (λ h. h ≡ color_hash color.now) }
+    {
+        let hash = hash_of(color.as_str());
+        let place = place_of(color.as_str().as_bytes());
+        let color = color.copied(alloc)?;
+        let mut free = place;
+        for step in 0..PLACES / 2 {
+            if self.known[(place + step) % PLACES].is_none() {
+                free = place + step;
+                break;
+            }
+        }
+        self.known[free % PLACES] = Some(ColorKey { color, hash });
         Ok(hash)
     }
 }
 
-/// Returns the key hash of a color, if this place has the color.
+/// Returns the place of the color with these octets. The eight colors of the Shapes demo have a
+/// place each.
 #[inline(always)]
-fn known_hash(place: &Option<ColorKey>, color: &str) -> Option<KeyHash>
-    ensures { IfSome result (λ h. h ≡ color_hash color.now) }
+fn place_of(octets: &[u8]) -> usize
+    ensures { result < 16 }
 {
-    match place {
-        Some(key) if key.color.as_str() == color => Some(key.hash),
-        _ => None,
-    }
+    let first = octets.first().copied().unwrap_or(0);
+    let last = octets.last().copied().unwrap_or(0);
+    (usize::from(first) + usize::from(last) + 4 * (octets.len() % PLACES)) % PLACES
 }

@@ -45,20 +45,18 @@ impl<C: Catalog> Decoder<C> {
         &self.catalog
     }
 
-    /// Returns the value of a body with this encapsulation kind. The errors are those of
-    /// [`Catalog::decode`].
-    pub fn decode(&self, kind: u16, body: &[u8]) -> Result<C::Value, CatalogError>
-        ensures { Gives C.view result ((C.decoding self.now).meaning kind body.now) }
-    {
-        self.catalog.decode(self.alloc, kind, body)
-    }
-
-    /// Returns the hash of a value's key.
-    pub fn key_of(&mut self, value: &C::Value) -> Result<KeyHash, AllocError>
-        ensures key { IfOk result (λ h. h ≡ (C.decoding self.old).hash (C.view value.now)) }
+    /// Returns the value of a body with this encapsulation kind, and the hash of its key. The
+    /// errors are those of [`Catalog::decode`].
+    #[inline(always)]
+    pub fn decode(&mut self, kind: u16, body: &[u8]) -> Result<(KeyHash, C::Value), CatalogError>
+        ensures value { Gives (λ keyed. C.view keyed.1) result
+            ((C.decoding self.old).meaning kind body.now) }
+        ensures key { IfOk result (λ keyed.
+            keyed.0 ≡ (C.decoding self.old).hash (C.view keyed.1)) }
         ensures same { self.new ≡ self.old }
     {
-        self.catalog.key_by(&mut self.memo, self.alloc, value)
+        self.catalog
+            .decode_keyed(&mut self.memo, self.alloc, kind, body)
     }
 
     /// Returns the hash of the key in the body of a key payload. The errors are those of
@@ -89,17 +87,19 @@ impl<'c, C: Catalog> Catalog for &'c C {
         (**self).decode(alloc, kind, body)
     }
 
-    fn key_of(&self, alloc: Global, value: &C::Value) -> Result<KeyHash, AllocError> {
-        (**self).key_of(alloc, value)
-    }
-
-    fn key_by(
+    #[inline(always)]
+    fn decode_keyed(
         &self,
         memo: &mut C::Memo,
         alloc: Global,
-        value: &C::Value,
-    ) -> Result<KeyHash, AllocError> {
-        (**self).key_by(memo, alloc, value)
+        kind: u16,
+        body: &[u8],
+    ) -> Result<(KeyHash, C::Value), CatalogError> {
+        (**self).decode_keyed(memo, alloc, kind, body)
+    }
+
+    fn key_of(&self, alloc: Global, value: &C::Value) -> Result<KeyHash, AllocError> {
+        (**self).key_of(alloc, value)
     }
 
     fn key_payload(&self, alloc: Global, value: &C::Value) -> Result<Vec<u8>, AllocError> {

@@ -49,11 +49,18 @@ impl Catalog for Sensors {
         })
     }
 
-    fn key_of(&self, _: Global, value: &Sensor) -> Result<KeyHash, AllocError> {
-        Ok(padded(value.station, value.channel))
+    fn decode_keyed(
+        &self,
+        _: &mut (),
+        alloc: Global,
+        kind: u16,
+        body: &[u8],
+    ) -> Result<(KeyHash, Sensor), CatalogError> {
+        let value = self.decode(alloc, kind, body)?;
+        Ok((padded(value.station, value.channel), value))
     }
 
-    fn key_by(&self, _: &mut (), _: Global, value: &Sensor) -> Result<KeyHash, AllocError> {
+    fn key_of(&self, _: Global, value: &Sensor) -> Result<KeyHash, AllocError> {
         Ok(padded(value.station, value.channel))
     }
 

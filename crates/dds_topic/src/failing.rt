@@ -39,17 +39,21 @@ impl<C: Catalog> Catalog for FailingCatalog<C> {
         self.catalog.decode(alloc, kind, body)
     }
 
-    fn key_of(&self, alloc: Global, value: &C::Value) -> Result<KeyHash, AllocError> {
-        self.catalog.key_of(alloc, value)
-    }
-
-    fn key_by(
+    fn decode_keyed(
         &self,
         memo: &mut C::Memo,
         alloc: Global,
-        value: &C::Value,
-    ) -> Result<KeyHash, AllocError> {
-        self.catalog.key_by(memo, alloc, value)
+        kind: u16,
+        body: &[u8],
+    ) -> Result<(KeyHash, C::Value), CatalogError> {
+        if self.decoded.fetch_add(1, Ordering::SeqCst) == self.fails_at {
+            return Err(CatalogError::NoMemory);
+        }
+        self.catalog.decode_keyed(memo, alloc, kind, body)
+    }
+
+    fn key_of(&self, alloc: Global, value: &C::Value) -> Result<KeyHash, AllocError> {
+        self.catalog.key_of(alloc, value)
     }
 
     fn key_payload(&self, alloc: Global, value: &C::Value) -> Result<Vec<u8>, AllocError> {

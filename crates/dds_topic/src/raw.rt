@@ -51,13 +51,17 @@ impl Catalog for Raw {
         Ok(raw_value(alloc, kind, body)?)
     }
 
-    fn key_of(&self, _: Global, _: &RawValue) -> Result<KeyHash, AllocError>
-        ensures { result ≡ Ok no_key }
-    {
-        Ok(NO_KEY)
+    fn decode_keyed(
+        &self,
+        _: &mut (),
+        alloc: Global,
+        kind: u16,
+        body: &[u8],
+    ) -> Result<(KeyHash, RawValue), CatalogError> {
+        Ok((NO_KEY, raw_value(alloc, kind, body)?))
     }
 
-    fn key_by(&self, _: &mut (), _: Global, _: &RawValue) -> Result<KeyHash, AllocError>
+    fn key_of(&self, _: Global, _: &RawValue) -> Result<KeyHash, AllocError>
         ensures { result ≡ Ok no_key }
     {
         Ok(NO_KEY)

@@ -1,11 +1,13 @@
 //! The type of the Shapes demo.
 
-ghost use Rattle.std.specs.Prelude.{◌≡◌, ◌≤◌, ◌++◌, ◌+◌, ◌^◌, ◌<◌, length, Ok, IfOk, OnOk};
+ghost use Rattle.std.specs.Prelude.{◌≡◌, ◌≤◌, ◌++◌, ◌+◌, ◌^◌, ◌<◌, length, true, Ok, IfOk, IfSome, OnOk};
+ghost use Rattle.std.specs.Str.{is_utf8};
 ghost use Rattle.std.specs.Io.{StartsWith};
 ghost use Rattle.rtps_cdr.specs.Cdr.{Text};
+ghost use Rattle.rtps_cdr.specs.Reading.{text_in, value_of};
 ghost use Rattle.rtps_cdr.specs.Writing.{written};
 ghost use Rattle.dds_topic.specs.Answer.{Gives};
-ghost use Rattle.dds_topic.specs.ShapeMeaning.{ShapeMeaning, shape_view, shape_in, shape_meaning, color_of, color_hash, color_key, shape_decoding, shape_hash_of_key, shape_text, behind_text};
+ghost use Rattle.dds_topic.specs.ShapeMeaning.{ShapeMeaning, shape_view, shape_in, shape_meaning, color_of, color_hash, color_key, shape_decoding, shape_hash_of_key, shape_text, behind_text, numbers_of};
 ghost use Rattle.dds_topic.specs.ShapeLaw.{shape_key_again};
 
 use crate::color::Color;
@@ -43,6 +45,37 @@ fn read_color<'a>(reader: &mut CdrReader<'a>) -> Result<&'a str, CatalogError>
     Ok(color)
 }
 
+/// Reads the octets of a string without its NUL, if it has one. They may be no UTF-8, and the
+/// reader may be anywhere if there are none.
+#[inline(always)]
+fn read_text<'a>(reader: &mut CdrReader<'a>) -> Option<&'a [u8]>
+    ensures { IfSome result (λ octets. is_utf8 octets.now ≡ true
+        → (value_of (text_in reader.old) ≡ Ok octets.now) × (reader.new ≡ behind_text reader.old)) }
+{
+    let count = reader.read_u32().ok()?;
+    let octets = reader.read_octets(count as usize).ok()?;
+    if octets.is_empty() || octets[octets.len() - 1] != 0 {
+        return None;
+    }
+    Some(&octets[..octets.len() - 1])
+}
+
+/// Reads the numbers after a color.
+#[inline(always)]
+fn read_numbers<A: Allocator>(
+    color: Color<A>,
+    reader: &mut CdrReader<'_>,
+) -> Result<Shape<A>, CatalogError>
+    requires short { length color ≤ 128 }
+    requires utf8 { is_utf8 color ≡ true }
+    ensures { Gives shape_view result (numbers_of color reader.old) }
+{
+    let x = reader.read_i32()?;
+    let y = reader.read_i32()?;
+    let size = reader.read_i32()?;
+    Ok(Shape { color, x, y, size })
+}
+
 /// Reads a shape.
 #[tactic(auto, unfolding(crate::specs::ShapeMeaning::shape_in), using(crate::proofs::Texts::utf8_test))]
 pub fn read_shape<A: Allocator>(
@@ -54,10 +87,7 @@ pub fn read_shape<A: Allocator>(
     let text = read_color(reader)?;
     let _octets = text.as_bytes();
     let color = Color::new(alloc, text)?;
-    let x = reader.read_i32()?;
-    let y = reader.read_i32()?;
-    let size = reader.read_i32()?;
-    Ok(Shape { color, x, y, size })
+    read_numbers(color, reader)
 }
 
 /// Returns the octets of a color as the body of a key payload.
@@ -116,19 +146,30 @@ impl Catalog for Shapes {
         read_shape(alloc, &mut CdrReader::new(body, endian))
     }
 
+    #[tactic(auto, unfolding(crate::specs::ShapeMeaning::shape_in))]
+    fn decode_keyed(
+        &self,
+        memo: &mut ColorKeys,
+        alloc: Global,
+        kind: u16,
+        body: &[u8],
+    ) -> Result<(KeyHash, Shape), CatalogError> {
+        let endian = byte_order(kind)?;
+        let mut reader = CdrReader::new(body, endian);
+        if let Some(text) = read_text(&mut reader) {
+            if let Some(key) = memo.known(text) {
+                let color = key.color.copied(alloc)?;
+                return Ok((key.hash, read_numbers(color, &mut reader)?));
+            }
+        }
+        let shape = self.decode(alloc, kind, body)?;
+        Ok((memo.add(alloc, &shape.color)?, shape))
+    }
+
     fn key_of(&self, _: Global, value: &Shape) -> Result<KeyHash, AllocError>
         ensures { result ≡ Ok (color_hash value.now.color) }
     {
         Ok(hash_of(value.color.as_str()))
-    }
-
-    fn key_by(
-        &self,
-        memo: &mut ColorKeys,
-        alloc: Global,
-        value: &Shape,
-    ) -> Result<KeyHash, AllocError> {
-        memo.key(alloc, value.color.as_str())
     }
 
     fn key_payload(&self, alloc: Global, value: &Shape) -> Result<Vec<u8>, AllocError> {

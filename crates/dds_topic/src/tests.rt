@@ -116,13 +116,39 @@ fn keys_are_told_again(rt: HostRuntime) -> Result<(), Fail> {
     let mut memo = ColorKeys::default();
     for (color, digits) in KEYS.iter().chain(&KEYS[..3]).chain(KEYS.iter().rev()) {
         let body = body_in(alloc, color)?;
-        let shape = Shapes.decode(alloc, 1, body.as_slice())?;
         let wanted = hash(alloc, digits)?;
-        assert_eq!(rt; Shapes.key_by(&mut memo, alloc, &shape)?, wanted);
-        assert_eq!(rt; Shapes.key_by(&mut memo, alloc, &shape)?, wanted);
+        for _ in 0..2 {
+            let (key, shape) = Shapes.decode_keyed(&mut memo, alloc, 1, body.as_slice())?;
+            assert_eq!(rt; key, wanted);
+            assert!(rt; shape.color.as_str() == *color);
+            assert_eq!(rt; (shape.x, shape.y, shape.size), (0, 1, 2));
+        }
     }
-    let raw = Raw.decode(alloc, 1, b"\x01")?;
-    assert_eq!(rt; Raw.key_by(&mut (), alloc, &raw)?, KeyHash([0; 16]));
+    let (key, raw) = Raw.decode_keyed(&mut (), alloc, 1, b"\x01")?;
+    assert_eq!(rt; key, KeyHash([0; 16]));
+    assert!(rt; raw.body.as_slice() == b"\x01".as_slice());
+    Ok(())
+}
+
+#[test]
+fn the_colors_of_the_demo_stay_known(rt: HostRuntime) -> Result<(), Fail> {
+    let alloc = rt.alloc();
+    for first in 0..8 {
+        let mut memo = ColorKeys::default();
+        for step in 0..8 {
+            let (color, _) = KEYS[(first + step) % 8];
+            let body = body_in(alloc, color)?;
+            Shapes.decode_keyed(&mut memo, alloc, 1, body.as_slice())?;
+        }
+        for (color, _) in &KEYS[..8] {
+            assert!(rt;
+                memo.known(color.as_bytes()).is_some(),
+                "{} from {}",
+                color,
+                first
+            );
+        }
+    }
     Ok(())
 }
 

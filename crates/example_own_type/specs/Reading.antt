@@ -12,4 +12,8 @@ reading_cdr = Both (Unsigned 4) (Both (Unsigned 8) (Both Text (Sequence (Signed 
 
 -- the text of a reading: the station, the time, the place in hex, and the number of levels
 abbrev pub reading_text : ValueOf reading_cdr → List ℕ
-reading_text r = decimal r.0 ++ (codes " " ++ (decimal r.1.0 ++ (codes " " ++ (hex_text r.1.1.0 ++ (codes " " ++ decimal (length r.1.1.1))))))
+reading_text r =
+    decimal r.0
+    ++ (codes " "
+    ++ (decimal r.1.0
+    ++ (codes " " ++ (hex_text r.1.1.0 ++ (codes " " ++ decimal (length r.1.1.1))))))

@@ -145,7 +145,7 @@ pub takes_records : {C V M U E : Type 0} (f : V → M) (decoding : C → Decodin
     → inputs ≡ inputs_of batch
     → ((earlier : List Input) → standing.StandsAt decoding earlier old.engine → OnOk r (standing.StandsAt decoding (earlier ++ inputs) new.engine))
     → ((earlier : List Input) → standing.StandsAt decoding earlier old.engine → OnOk r (IsGiven f (standing.run_by decoding old.engine earlier) (standing.run_by decoding old.engine (earlier ++ inputs)) given))
-    → OnOk r (new.counters ≡ all_counted old.engine.config.own (datagrams_of batch) old.counters) → NoneAttached new.ports
+    → OnOk r (new.counters.received ≡ all_counted old.engine.config.own (datagrams_of batch) old.counters.received) → NoneAttached new.ports
     → OnOk r (TakesRecords f decoding batch old new given)
 takes_records {C} {V} {M} f decoding inputs batch old new given (Ok x) same stands gives counters alone =
     let whole : (records : List Record) → inputs_of records ++ inputs ≡ inputs_of (records ++ batch) =
@@ -165,7 +165,7 @@ pub counted_more : {C V M : Type 0} (f : V → M) (decoding : C → Decoding M) 
 counted_more {C} {V} {M} f decoding records batch old new given answers more same takes is h =
     let own = old.engine.config.own in
     let put = answers_more f (run_by decoding old.engine records) (run_by decoding old.engine (records ++ batch)) given (takes.gives records h.stands) in
-    let counters : new.counters ≡ counters_of own (records ++ batch) =
+    let counters : new.counters.received ≡ counters_of own (records ++ batch) =
     takes.counters ∙ ap (all_counted own (datagrams_of batch)) h.counters
     ∙ sym (all_counted_apart own (datagrams_of records) (datagrams_of batch) none_counted)
     ∙ ap (λ ds. all_counted own ds none_counted) (sym (datagrams-append records batch)) in

@@ -79,7 +79,8 @@ IsFixedText (Some text) = IsOk (guid_in text.now)
 -- the configuration of the options, with this writer
 pub record IsMadeOf (options : Options) (writer : Option Guid) (config : Config) : Type 0 where
   pub prefix : config.own ≡ own
-  pub readers : map wish_of config.readers.items ≡ readers_of options.topic.now options.topics options.readers
+  pub readers : map wish_of config.readers.items
+      ≡ readers_of options.topic.now options.topics options.readers
   pub fixed : config.fixed.items ≡ matches_of writer options.readers
 
 -- the configuration that options ask for

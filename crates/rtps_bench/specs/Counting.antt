@@ -71,13 +71,14 @@ pub record TakesRecords {C V M : Type 0} (f : V → M) (decoding : C → Decodin
   pub gives : (earlier : List Record) → StandsAt decoding earlier old.engine
       → IsGiven f (run_by decoding old.engine earlier)
       (run_by decoding old.engine (earlier ++ records)) given
-  pub counters : new.counters ≡ all_counted old.engine.config.own (datagrams_of records) old.counters
+  pub counters : new.counters.received
+      ≡ all_counted old.engine.config.own (datagrams_of records) old.counters.received
   pub alone : NoneAttached new.ports
 
 -- a participant is that after these records, and this number of answers was counted
 pub record HasCounted {C V M : Type 0} (decoding : C → Decoding M) (records : List Record)
     (p : ParticipantView C V) (sent : ℕ) : Type 0 where
   pub stands : StandsAt decoding records p.engine
-  pub counters : p.counters ≡ counters_of p.engine.config.own records
+  pub counters : p.counters.received ≡ counters_of p.engine.config.own records
   pub answers : sent ≡ capped (answer_count (run_by decoding p.engine records))
   pub alone : NoneAttached p.ports

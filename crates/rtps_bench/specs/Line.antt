@@ -8,7 +8,13 @@ use Rattle.clap.specs.declared.builder.value_parser.ValueParser.TheVariants.{Sig
 
 -- an option with a number from 1 to the greatest, and the text of the number if none is given
 abbrev pub number_rule : List ℕ → ℕ → List ℕ → Rule
-number_rule name most default = record (new_rule name) { value_names = 1; long = Some name; parser = Some (Signed (pos 1) (pos most)); defaults = default ∷ [] }
+number_rule name most default =
+    record (new_rule name) {
+      value_names = 1;
+      long = Some name;
+      parser = Some (Signed (pos 1) (pos most));
+      defaults = default ∷ [];
+    }
 
 -- `--readers` 1 to 64
 abbrev pub readers_rule : Rule
@@ -36,7 +42,9 @@ topic_text = codes "Square"
 
 -- `--topic TEXT`
 abbrev pub topic_rule : Rule
-topic_rule = record (new_rule (codes "topic")) { value_names = 1; long = Some (codes "topic"); defaults = topic_text ∷ [] }
+topic_rule =
+    record (new_rule (codes "topic"))
+    { value_names = 1; long = Some (codes "topic"); defaults = topic_text ∷ [] }
 
 -- `--fixed HEX`
 abbrev pub fixed_rule : Rule

@@ -17,7 +17,8 @@ use Rattle.rtps_records.specs.declared.fault.RunFault.TheVariants.{CannotWrite, 
 -- these are the counts of a run over records, with the configuration that options ask for
 abbrev pub AreCountsOf : Options → List Record → Counts → Type 0
 AreCountsOf options records counts =
-    (config : Config) × IsConfigOf options config × (counts ≡ counts_of shape_decoding config records)
+    (config : Config) × IsConfigOf options config
+    × (counts ≡ counts_of shape_decoding config records)
 
 -- the text of the counts of the records of an input was written, and nothing else
 abbrev pub WroteCounts : Options → Option (List ℕ) → Option (List ℕ) → Option (List ℕ) → Type 0

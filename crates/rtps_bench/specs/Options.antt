@@ -14,11 +14,15 @@ text_or name other rows = unwrap_or (first_of name rows) other
 
 -- digits of a number below 2^32
 abbrev pub are_digits : List ℕ → Bool
-are_digits digits = nat_lt 0 (length digits) && list_all (λ d. nat_lt (digit_value d) 10) digits && nat_lt (digits_value 10 digits) 4294967296
+are_digits digits =
+    nat_lt 0 (length digits) && list_all (λ d. nat_lt (digit_value d) 10) digits
+    && nat_lt (digits_value 10 digits) 4294967296
 
 -- the number that a text writes, or 0 where it writes none
 abbrev pub number_of : Text → ℕ
-number_of text = if are_digits (without_leading_plus text) then digits_value 10 (without_leading_plus text) else 0
+number_of text =
+    if are_digits (without_leading_plus text) then digits_value 10 (without_leading_plus text)
+    else 0
 
 -- the number after this name, or 0
 abbrev pub number_in : Text → List Row → ℕ

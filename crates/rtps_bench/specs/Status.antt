@@ -5,8 +5,8 @@ use Rattle.rtps_records.specs.declared.fault.RunFault.TheVariants.{CannotRead, N
 use Rattle.rtps_bench.specs.declared.fault.BenchFault.{BenchFault}
 use Rattle.rtps_bench.specs.declared.fault.BenchFault.TheVariants.{NoText, BadWriter, Clock, Differs, Run}
 
--- 2 for the line, 3 for the file and standard output, 4 for the clock, 5 for memory, 6 for runs that
--- differ
+-- 2 for the line, 3 for the file and standard output, 4 for the clock, 5 for memory, 6 for runs
+-- that differ
 abbrev pub status_of : BenchFault → ℕ
 status_of NoText = 2
 status_of BadWriter = 2

@@ -12,7 +12,8 @@ pub struct Options<'a> {
     pub readers: u8,
     /// The number of topics that the readers have in turn, 1 to 64.
     pub topics: u8,
-    /// The topic of each reader, where there is one; the front of its name, where there are several.
+    /// The topic of each reader, where there is one; the front of its name, where there are
+    /// several.
     pub topic: &'a str,
     /// A writer that each reader is matched with from the start, in hex.
     pub fixed: Option<&'a str>,

@@ -15,8 +15,8 @@ use rtps_types::EntityId;
 use std::io::{self, Error, Write};
 use std::test::Fail;
 
-/// A record file of two datagrams: number 1 of a writer, a blue square, and a heartbeat by which the
-/// writer has the numbers 1 to 3, and asks for an answer (DDSI-RTPS 9.4.5.4, 9.4.5.7).
+/// A record file of two datagrams: number 1 of a writer, a blue square, and a heartbeat by which
+/// the writer has the numbers 1 to 3, and asks for an answer (DDSI-RTPS 9.4.5.4, 9.4.5.7).
 const FILE: &[u8; 136] = b"RDG1\x00\x00\x00\x48RTPS\x02\x05\x00\x00\
     \x0a\x0a\x0a\x0a\x0a\x0a\x0a\x0a\x0a\x0a\x0a\x0a\
     \x15\x05\x30\x00\x00\x00\x10\x00\x00\x00\x00\x00\x00\x00\x01\x02\
@@ -32,8 +32,8 @@ const FILE: &[u8; 136] = b"RDG1\x00\x00\x00\x48RTPS\x02\x05\x00\x00\
 /// That writer.
 const WRITER: &str = "0a0a0a0a0a0a0a0a0a0a0a0a00000102";
 
-/// What two readers that are matched with it count of the file: each presents number 1, and asks for
-/// 2 and 3 in one answer.
+/// What two readers that are matched with it count of the file: each presents number 1, and asks
+/// for 2 and 3 in one answer.
 const COUNTS: Counts = Counts {
     datagrams: 2,
     events: 2,

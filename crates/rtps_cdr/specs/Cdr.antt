@@ -74,15 +74,23 @@ pub record IsText (g : Gaps) (at : ℕ) (e : Endian) (octets text : List ℕ) : 
 -- consecutive values
 abbrev pub AreAll : {A : Type 0} → (ℕ → List ℕ → A → Type 0) → ℕ → List ℕ → List A → Type 0
 AreAll is at octets [] = octets ≡ []
-AreAll is at octets (x ∷ xs) = (front : List ℕ) × (back : List ℕ) × (octets ≡ front ++ back) × is at front x × AreAll is (at + length front) back xs
+AreAll is at octets (x ∷ xs) =
+    (front : List ℕ) × (back : List ℕ) × (octets ≡ front ++ back) × is at front x
+    × AreAll is (at + length front) back xs
 
 -- octets at a position encode a value of a type; a struct has no alignment of its own (CORBA CDR
 -- 9.3.2.2), and a sequence is a count and its items (CORBA CDR 9.3.2.5)
 abbrev pub IsCdr : Gaps → (t : CdrType) → ℕ → Endian → List ℕ → ValueOf t → Type 0
 IsCdr g (Unsigned size) at e octets n = IsNumber g size at e octets n
-IsCdr g (Signed w) at e octets z = (n : ℕ) × IsNumber g (byte_len w) at e octets n × (z ≡ cast_signed w n)
+IsCdr g (Signed w) at e octets z =
+    (n : ℕ) × IsNumber g (byte_len w) at e octets n × (z ≡ cast_signed w n)
 IsCdr g Boolean at e octets b = octets ≡ (if b then 1 else 0) ∷ []
 IsCdr g Text at e octets text = IsText g at e octets text
 IsCdr g (Octets count) at e octets body = (length body ≡ count) × (octets ≡ body)
-IsCdr g (Both s t) at e octets v = (front : List ℕ) × (back : List ℕ) × (octets ≡ front ++ back) × IsCdr g s at e front v.0 × IsCdr g t (at + length front) e back v.1
-IsCdr g (Sequence t) at e octets vs = (front : List ℕ) × (back : List ℕ) × (octets ≡ front ++ back) × IsNumber g 4 at e front (length vs) × AreAll (λ p os v. IsCdr g t p e os v) (at + length front) back vs
+IsCdr g (Both s t) at e octets v =
+    (front : List ℕ) × (back : List ℕ) × (octets ≡ front ++ back) × IsCdr g s at e front v.0
+    × IsCdr g t (at + length front) e back v.1
+IsCdr g (Sequence t) at e octets vs =
+    (front : List ℕ) × (back : List ℕ) × (octets ≡ front ++ back)
+    × IsNumber g 4 at e front (length vs)
+    × AreAll (λ p os v. IsCdr g t p e os v) (at + length front) back vs

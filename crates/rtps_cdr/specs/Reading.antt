@@ -60,15 +60,19 @@ aligned size at = at + padding size at
 -- a number of `size` octets, in either byte order
 abbrev pub number_from : ℕ → Endian → List ℕ → ℕ → Read ℕ
 number_from size e octets at =
-    if nat_le (aligned size at + size) (length octets) then Ok (number e size (drop (aligned size at) octets), aligned size at + size) else Err Short
+    if nat_le (aligned size at + size) (length octets)
+    then Ok (number e size (drop (aligned size at) octets), aligned size at + size)
+    else Err Short
 
 -- n octets as they are
 abbrev pub octets_from : ℕ → List ℕ → ℕ → Read (List ℕ)
-octets_from n octets at = if nat_le (at + n) (length octets) then Ok (take n (drop at octets), at + n) else Err Short
+octets_from n octets at =
+    if nat_le (at + n) (length octets) then Ok (take n (drop at octets), at + n) else Err Short
 
 -- a boolean, whose octet is 0 or 1
 abbrev pub bool_of : ℕ → ℕ → Read Bool
-bool_of n after = if n == 0 then Ok (false, after) else if n == 1 then Ok (true, after) else Err BadBool
+bool_of n after =
+    if n == 0 then Ok (false, after) else if n == 1 then Ok (true, after) else Err BadBool
 
 -- the boolean at a position
 abbrev pub bool_from : Endian → List ℕ → ℕ → Read Bool
@@ -77,15 +81,19 @@ bool_from e octets at = followed_by (number_from 1 e octets at) bool_of
 -- a string without its NUL, which is its last octet
 abbrev pub text_of : List ℕ → ℕ → Read (List ℕ)
 text_of body after =
-    if slice_index body (length body - 1) == 0 then (if is_utf8 (take (length body - 1) body) then Ok (take (length body - 1) body, after) else Err NotUtf8) else Err BadString
+    if slice_index body (length body - 1) == 0
+    then (if is_utf8 (take (length body - 1) body) then Ok (take (length body - 1) body, after)
+    else Err NotUtf8) else Err BadString
 
 -- the octets of a string after its length
 abbrev pub text_body : ℕ → List ℕ → ℕ → Read (List ℕ)
-text_body count octets at = if count == 0 then Ok ([], at) else followed_by (octets_from count octets at) text_of
+text_body count octets at =
+    if count == 0 then Ok ([], at) else followed_by (octets_from count octets at) text_of
 
 -- a string: its length, and its octets
 unfoldable pub text_from : Endian → List ℕ → ℕ → Read (List ℕ)
-text_from e octets at = followed_by (number_from 4 e octets at) (λ count behind. text_body count octets behind)
+text_from e octets at =
+    followed_by (number_from 4 e octets at) (λ count behind. text_body count octets behind)
 
 -- a number, where a reader is
 abbrev pub number_in : ℕ → Cursor → Read ℕ
@@ -111,11 +119,14 @@ octets_in n c = octets_from n c.octets c.position
 unfoldable pub items_in : {A : Type 0} → (Cursor → Read A) → ℕ → Cursor → Read (List A)
 items_in read zero c = Ok ([], c.position)
 items_in read (suc n) c =
-    followed_by (read c) (λ x behind. followed_by (items_in read n (placed c behind)) (λ xs after. Ok (x ∷ xs, after)))
+    followed_by (read c)
+    (λ x behind. followed_by (items_in read n (placed c behind))
+    (λ xs after. Ok (x ∷ xs, after)))
 
 -- a sequence: a count, and that number of items
 abbrev pub sequence_in : {A : Type 0} → (Cursor → Read A) → Cursor → Read (List A)
-sequence_in read c = followed_by (number_in 4 c) (λ count behind. items_in read count (placed c behind))
+sequence_in read c =
+    followed_by (number_in 4 c) (λ count behind. items_in read count (placed c behind))
 
 -- a sequence of strings
 abbrev pub texts_in : Cursor → Read (List (List ℕ))
@@ -158,6 +169,8 @@ IsFound t c after (Err f) = after ≡ c
 
 -- a value is read exactly if it is encoded there: then the reader is at its end, and otherwise
 -- there is a fault and the reader is where it was
-pub record Reads (t : CdrType) (c after : Cursor) (answer : Result (ValueOf t) CdrFault) : Type 0 where
+pub record Reads (t : CdrType) (c after : Cursor) (answer : Result (ValueOf t) CdrFault)
+    : Type 0 where
   pub found : IsFound t c after answer
-  pub only : (v : ValueOf t) (behind : Cursor) → Takes t c behind v → (answer ≡ Ok v) × (after ≡ behind)
+  pub only : (v : ValueOf t) (behind : Cursor) → Takes t c behind v
+      → (answer ≡ Ok v) × (after ≡ behind)

@@ -35,14 +35,21 @@ written Boolean at e b = (if b then 1 else 0) ∷ []
 written Text at e text = text_written at e text
 written (Octets count) at e body = body
 written (Both s t) at e v = written s at e v.0 ++ written t (at + length (written s at e v.0)) e v.1
-written (Sequence t) at e vs = number_written 4 at e (length vs) ++ all_written (λ p v. written t p e v) (at + length (number_written 4 at e (length vs))) vs
+written (Sequence t) at e vs =
+    number_written 4 at e (length vs)
+    ++ all_written (λ p v. written t p e v) (at + length (number_written 4 at e (length vs))) vs
 
 -- the writer after a value, and after a field that is aligned to a size
 abbrev pub appended : (t : CdrType) → ValueOf t → Output → Output
-appended t v o = record { octets = o.octets ++ written t (length o.octets) o.endian v; endian = o.endian }
+appended t v o =
+    record { octets = o.octets ++ written t (length o.octets) o.endian v; endian = o.endian }
 
 abbrev pub field_appended : ℕ → List ℕ → Output → Output
-field_appended size field o = record { octets = o.octets ++ (replicate (padding size (length o.octets)) 0 ++ field); endian = o.endian }
+field_appended size field o =
+    record {
+      octets = o.octets ++ (replicate (padding size (length o.octets)) 0 ++ field);
+      endian = o.endian;
+    }
 
 -- ---- by the relation
 

@@ -1,7 +1,8 @@
 -- What follows of a writer's entity from the announcer that it is.
-use Rattle.std.proofs.Common.{◌≡◌, Bool, true, false, ◌||◌, Option, Some, None, if◌then◌else◌, is_some, refl}
+use Rattle.std.proofs.Common.{◌≡◌, Bool, true, false, ◌||◌, Option, Some, None, if◌then◌else◌, is_some, refl, sym, ap, ◌∙◌}
 use Rattle.std.specs.Str.{bytes_eq}
 use Rattle.rtps_types.specs.declared.identity.EntityId.{EntityId}
+use Rattle.rtps_discovery.specs.declared.announcer.Announcer.{Announcer}
 use Rattle.rtps_discovery.specs.declared.announcer.Announcer.TheVariants as announcer
 use Rattle.rtps_discovery.specs.Addressed.{is_discovery}
 use Rattle.rtps_discovery.specs.Announcer.{announcer_at}
@@ -17,6 +18,13 @@ discovers w = by_tests (bytes_eq w.0 spdp_writer.0) (bytes_eq w.0 publications_w
     by_tests false true q = refl
     by_tests false false true = refl
     by_tests false false false = refl
+
+-- what discovers, and what doesn't
+pub announcing : (w : EntityId) (a : Announcer) → announcer_at w ≡ Some a → is_discovery w ≡ true
+announcing w a is = sym (discovers w) ∙ ap is_some is
+
+pub user_writer : (w : EntityId) → announcer_at w ≡ None → is_discovery w ≡ false
+user_writer w is = sym (discovers w) ∙ ap is_some is
 
 -- the participants' announcer
 pub is_participants : (w : EntityId) → announcer_at w ≡ Some announcer.Participant → bytes_eq w.0 spdp_writer.0 ≡ true

@@ -20,6 +20,7 @@ pub mod Several
 pub mod Expiring
 pub mod Silent
 pub mod Applying
+pub mod Ignoring
 pub mod Hearing
 pub mod Starting
 pub mod Ranked

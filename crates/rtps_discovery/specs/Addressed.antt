@@ -41,8 +41,11 @@ pub record IsAddressed (is_matched : Guid → Bool) (entity : EntityId) (e : Eve
 
 -- the test for that
 abbrev pub is_addressed : (Guid → Bool) → EntityId → EventView → Bool
-is_addressed is_matched entity e = not (is_discovery e.writer) && (is_matched (writer_of e) && is_for e.reader entity)
+is_addressed is_matched entity e =
+    not (is_discovery e.writer) && (is_matched (writer_of e) && is_for e.reader entity)
 
 -- the test holds exactly if the event goes to the reader
 abbrev pub AddressedIsTested : Type 0
-AddressedIsTested = (is_matched : Guid → Bool) (entity : EntityId) (e : EventView) → IsTrue (is_addressed is_matched entity e) ↔ IsAddressed is_matched entity e
+AddressedIsTested =
+    (is_matched : Guid → Bool) (entity : EntityId) (e : EventView)
+    → IsTrue (is_addressed is_matched entity e) ↔ IsAddressed is_matched entity e

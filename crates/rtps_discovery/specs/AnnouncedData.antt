@@ -32,7 +32,8 @@ if_list (Err fault) = None
 abbrev pub list_in : List ℕ → Option Contents
 list_in payload =
     option_and_then
-    (λ (options : ℕ). option_and_then (λ e. if_list (contents e (drop 4 payload))) (option_and_then order_of (number_at Big 2 payload 0)))
+    (λ (options : ℕ). option_and_then (λ e. if_list (contents e (drop 4 payload)))
+    (option_and_then order_of (number_at Big 2 payload 0)))
     (number_at Big 2 payload 2)
 
 -- a status marks an end if it has bit 1, disposed, or bit 2, unregistered; other bits are ignored

@@ -67,7 +67,13 @@ abbrev pub offer_by : Settings → Option (List ℕ) → Option (List ℕ) → O
 offer_by s None name = None
 offer_by s (Some topic) None = None
 offer_by s (Some topic) (Some name) =
-    Some (record { topic = topic; type_name = name; policies = s.policies; partitions = s.partitions; locators = s.unicast })
+    Some (record {
+      topic = topic;
+      type_name = name;
+      policies = s.policies;
+      partitions = s.partitions;
+      locators = s.unicast;
+    })
 
 -- what the record of a writer or a reader says of it, if it has a topic and a type
 abbrev pub offer_of : Settings → Option Offer
@@ -89,9 +95,11 @@ prefix_of source None = source
 prefix_of source (Some g) = g.prefix
 
 -- a participant may announce only itself, and never our own participant (own)
-abbrev pub participant_said : GuidPrefix → GuidPrefix → Option KeyHash → AnnouncedData → Option Announcement
+abbrev pub participant_said : GuidPrefix → GuidPrefix → Option KeyHash → AnnouncedData
+    → Option Announcement
 participant_said own source hash (Announces s) =
-    when (bytes_eq (prefix_of source s.participant).0 source.0 && not (bytes_eq source.0 own.0)) (Comes source (facts_of s))
+    when (bytes_eq (prefix_of source s.participant).0 source.0 && not (bytes_eq source.0 own.0))
+    (Comes source (facts_of s))
 participant_said own source hash (Ends named) =
     when (bytes_eq (prefix_of source (or_hash named hash)).0 source.0) (Leave (source ∷ []))
 
@@ -103,11 +111,15 @@ endpoint_of source is_kind named =
 -- the announcement of a writer of the sender, named by the record or the end, else by the key hash
 abbrev pub writer_said : GuidPrefix → Option KeyHash → AnnouncedData → Option Announcement
 writer_said source hash (Announces s) =
-    option_and_then (λ g. option_map (Offers g) (offer_of s)) (endpoint_of source is_writer (or_hash s.endpoint hash))
-writer_said source hash (Ends named) = option_map Withdraws (endpoint_of source is_writer (or_hash named hash))
+    option_and_then (λ g. option_map (Offers g) (offer_of s))
+    (endpoint_of source is_writer (or_hash s.endpoint hash))
+writer_said source hash (Ends named) =
+    option_map Withdraws (endpoint_of source is_writer (or_hash named hash))
 
 -- the same for a reader, of whose record it only matters that it has a topic and a type
 abbrev pub reader_said : GuidPrefix → Option KeyHash → AnnouncedData → Option Announcement
 reader_said source hash (Announces s) =
-    option_and_then (λ g. option_map (λ offer. Asks g) (offer_of s)) (endpoint_of source is_reader (or_hash s.endpoint hash))
-reader_said source hash (Ends named) = option_map AsksNoMore (endpoint_of source is_reader (or_hash named hash))
+    option_and_then (λ g. option_map (λ offer. Asks g) (offer_of s))
+    (endpoint_of source is_reader (or_hash s.endpoint hash))
+reader_said source hash (Ends named) =
+    option_map AsksNoMore (endpoint_of source is_reader (or_hash named hash))

@@ -35,7 +35,8 @@ told k g ls (Refused q) Joined = at k (Matches g ls) ∷ []
 told k g ls (Refused q) (Refused p) = if same_policy q p then [] else at k (Refuses g p) ∷ []
 
 -- the changes of a reader and a writer; none if they have a fixed match
-abbrev pub at_pair : List (ℕ × Guid) → ℕ → Guid → List Locator → PairState → PairState → List ChangeAt
+abbrev pub at_pair : List (ℕ × Guid) → ℕ → Guid → List Locator → PairState → PairState
+    → List ChangeAt
 at_pair fixed k g ls before after = if is_fixed fixed k g then [] else told k g ls before after
 
 -- the guids of both lists, in order
@@ -45,18 +46,27 @@ both (x ∷ xs) ys = insert_key guid_order (both xs ys) x
 
 -- the changes of the reader of one rank, by writer; the reader was q and is now r
 abbrev pub row : Known → Known → List Guid → ℕ → Option Wish → Option Wish → List ChangeAt
-row before after gs k q r = flat_map (λ g. at_pair before.fixed k g (locators_at after g) (standing q (writer_at before g)) (standing r (writer_at after g))) gs
+row before after gs k q r =
+    flat_map
+    (λ g. at_pair before.fixed k g (locators_at after g) (standing q (writer_at before g))
+    (standing r (writer_at after g))) gs
 
 -- the changes of all readers from this rank on, given the readers before and after
-abbrev pub rows : Known → Known → List Guid → ℕ → List (Option Wish) → List (Option Wish) → List ChangeAt
+abbrev pub rows : Known → Known → List Guid → ℕ → List (Option Wish) → List (Option Wish)
+    → List ChangeAt
 rows before after gs k [] [] = []
-rows before after gs k [] (r ∷ rs) = row before after gs k None r ++ rows before after gs (k + 1) [] rs
-rows before after gs k (q ∷ qs) [] = row before after gs k q None ++ rows before after gs (k + 1) qs []
-rows before after gs k (q ∷ qs) (r ∷ rs) = row before after gs k q r ++ rows before after gs (k + 1) qs rs
+rows before after gs k [] (r ∷ rs) =
+    row before after gs k None r ++ rows before after gs (k + 1) [] rs
+rows before after gs k (q ∷ qs) [] =
+    row before after gs k q None ++ rows before after gs (k + 1) qs []
+rows before after gs k (q ∷ qs) (r ∷ rs) =
+    row before after gs k q r ++ rows before after gs (k + 1) qs rs
 
 -- the changes of all readers between two states, by rank and then by writer
 unfoldable pub changes : Known → Known → List ChangeAt
-changes before after = rows before after (both (keys_of before.writers) (keys_of after.writers)) 0 before.readers after.readers
+changes before after =
+    rows before after
+    (both (keys_of before.writers) (keys_of after.writers)) 0 before.readers after.readers
 
 -- the state after these announcements, applied one by one
 abbrev pub known_run : Known → List Announcement → Known

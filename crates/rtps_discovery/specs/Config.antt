@@ -37,7 +37,8 @@ is_bad_reader r = not (is_reader r.entity) || is_exclusive r.requested.policies.
 -- a fixed match has a fault: no reader has its rank, its writer's kind isn't a writer's, or the
 -- writer belongs to our own participant
 abbrev pub is_bad_fixed : GuidPrefix → ℕ → FixedMatch → Bool
-is_bad_fixed own readers m = nat_le readers m.rank || (not (is_writer m.writer.entity) || bytes_eq own.0 m.writer.prefix.0)
+is_bad_fixed own readers m =
+    nat_le readers m.rank || (not (is_writer m.writer.entity) || bytes_eq own.0 m.writer.prefix.0)
 
 -- two readers have the same entity
 abbrev pub is_same_entity : ReaderConfig → ReaderConfig → Bool
@@ -59,8 +60,11 @@ has_twice is_same (x ∷ xs) = list_any (is_same x) xs || has_twice is_same xs
 -- a configuration has this fault, whatever others it has
 abbrev pub has_fault : ConfigFault → Config → Bool
 has_fault Readers c = length c.readers.items == 0 || nat_lt 256 (length c.readers.items)
-has_fault BadReader c = list_any is_bad_reader c.readers.items || has_twice is_same_entity c.readers.items
-has_fault BadFixed c = list_any (is_bad_fixed c.own (length c.readers.items)) c.fixed.items || has_twice is_same_pair c.fixed.items
+has_fault BadReader c =
+    list_any is_bad_reader c.readers.items || has_twice is_same_entity c.readers.items
+has_fault BadFixed c =
+    list_any (is_bad_fixed c.own (length c.readers.items)) c.fixed.items
+    || has_twice is_same_pair c.fixed.items
 
 -- a configuration is taken exactly if it has no fault; else the first one is reported
 unfoldable pub check_of : Config → Result (Unit {0}) ConfigFault

@@ -40,7 +40,9 @@ first_by Greater otherwise = false
 
 -- a change comes before another: by rank, then by writer, and an end before a refusal
 abbrev pub comes_before : ChangeAt → ChangeAt → Bool
-comes_before a b = first_by (nat_cmp a.rank b.rank) (first_by (guid_order (writer_in a.what) (writer_in b.what)) (ends_first a.what b.what))
+comes_before a b =
+    first_by (nat_cmp a.rank b.rank)
+    (first_by (guid_order (writer_in a.what) (writer_in b.what)) (ends_first a.what b.what))
 
 -- Matches begin for the pairs that are matched after and weren't before, with the locators known
 -- after. Matches end for the pairs that were matched before and aren't after. A refusal is reported
@@ -48,15 +50,18 @@ comes_before a b = first_by (nat_cmp a.rank b.rank) (first_by (guid_order (write
 pub record AreDifferences (before after : Known) : Type 0 where
   pub begin : (rank : ℕ) (g : Guid) (ls : List Locator) →
       Contains (changes before after) (at rank (Matches g ls))
-      ↔ ((is_matched before rank g ≡ false) × ((is_matched after rank g ≡ true) × (locators_at after g ≡ ls)))
+      ↔ ((is_matched before rank g ≡ false)
+      × ((is_matched after rank g ≡ true) × (locators_at after g ≡ ls)))
   pub end : (rank : ℕ) (g : Guid) →
       Contains (changes before after) (at rank (Unmatches g))
       ↔ ((is_matched before rank g ≡ true) × (is_matched after rank g ≡ false))
   pub refuse : (rank : ℕ) (g : Guid) (policy : PolicyId) →
       Contains (changes before after) (at rank (Refuses g policy))
       ↔ (IsRefused after rank g policy × (IsRefused before rank g policy → ⊥))
-  pub order : IsStrictlySortedBy guid_order (keys_of after.writers) → AllPairs (λ a b. IsTrue (comes_before a b)) (changes before after)
+  pub order : IsStrictlySortedBy guid_order (keys_of after.writers)
+      → AllPairs (λ a b. IsTrue (comes_before a b)) (changes before after)
 
 -- this holds for any two states with the same fixed matches
 abbrev pub ChangesAreDifferences : Type 0
-ChangesAreDifferences = (before after : Known) → before.fixed ≡ after.fixed → AreDifferences before after
+ChangesAreDifferences =
+    (before after : Known) → before.fixed ≡ after.fixed → AreDifferences before after

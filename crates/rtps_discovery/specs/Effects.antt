@@ -20,6 +20,7 @@ abbrev pub extends : Known → EventView → Known
 extends k e = record k { announcers = extended (writer_of e) (match_event_of e) k.announcers }
 
 -- the result has these changes and this answer
-pub record AreHeard {A : Type 0} (changes : List ChangeAt) (answer : Option ReplyView) (effects : DiscoveryEffects A) : Type 0 where
+pub record AreHeard {A : Type 0} (changes : List ChangeAt) (answer : Option ReplyView)
+    (effects : DiscoveryEffects A) : Type 0 where
   pub heard : map change_seen effects.changes.items ≡ changes
   pub said : option_map reply_view effects.answer ≡ answer

@@ -1,5 +1,5 @@
--- Our own readers that come and go (DDSI-RTPS 8.5). A reader keeps its rank; one that comes gets the
--- next one.
+-- Our own readers that come and go (DDSI-RTPS 8.5). A reader keeps its rank; one that comes gets
+-- the next one.
 use Rattle.std.specs.Prelude.{ℕ, zero, suc, ◌==◌, List, [], ◌∷◌, ◌++◌, length, filter, not, Option, Some, None}
 use Rattle.rtps_types.specs.declared.identity.Guid.{Guid}
 use Rattle.rtps_discovery.specs.Known.{Known, Wish}

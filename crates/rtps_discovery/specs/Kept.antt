@@ -52,7 +52,8 @@ abbrev pub ranks_at : Guid → List (Guid × List ℕ) → List ℕ
 ranks_at g ranks = unwrap_or (lookup (is_at g) ranks) []
 
 -- the participant with a prefix, if it is known
-abbrev pub participant_in : GuidPrefix → List (GuidPrefix × RemoteParticipant) → Option RemoteParticipant
+abbrev pub participant_in : GuidPrefix → List (GuidPrefix × RemoteParticipant)
+    → Option RemoteParticipant
 participant_in p participants = lookup (same_prefix p) participants
 
 -- the locators that answers to a writer that offers this are sent to
@@ -67,7 +68,9 @@ fixed_at d g = has_rank (ranks_at g d.fixed)
 -- the changes of our readers' matches as a writer changes its offer or is removed; and the ranks of
 -- the readers that are matched with it then
 abbrev pub heard_of : RegistryView → Guid → Option Offer → List ChangeAt
-heard_of d g after = column (fixed_at d g) g (locators_by d g.prefix after) (lookup (is_at g) d.writers) after 0 d.readers
+heard_of d g after =
+    column (fixed_at d g) g (locators_by d g.prefix after)
+    (lookup (is_at g) d.writers) after 0 d.readers
 
 abbrev pub ranks_of : RegistryView → Guid → Option Offer → List ℕ
 ranks_of d g after = matched_from (fixed_at d g) after 0 d.readers
@@ -75,8 +78,10 @@ ranks_of d g after = matched_from (fixed_at d g) after 0 d.readers
 -- a match is one of a builtin reader of ours with the announcer that writes to it
 abbrev pub is_announcer : Match → Bool
 is_announcer m =
-    (bytes_eq m.pairing.writer.entity.0 publications_writer.0 && bytes_eq m.pairing.reader.0 publications_reader.0)
-    || (bytes_eq m.pairing.writer.entity.0 subscriptions_writer.0 && bytes_eq m.pairing.reader.0 subscriptions_reader.0)
+    (bytes_eq m.pairing.writer.entity.0 publications_writer.0
+    && bytes_eq m.pairing.reader.0 publications_reader.0)
+    || (bytes_eq m.pairing.writer.entity.0 subscriptions_writer.0
+    && bytes_eq m.pairing.reader.0 subscriptions_reader.0)
 
 -- the ranks of the readers that are matched with a writer, rising
 abbrev pub matched_ranks : Known → Guid → List ℕ
@@ -88,7 +93,8 @@ pub record IsKnown (k : Known) (d : RegistryView) : Type 0 where
   pub moment : d.moment ≡ k.moment
   pub readers : d.readers ≡ k.readers
   pub fixed : (g : Guid) (rank : ℕ) → fixed_at d g rank ≡ is_fixed k.fixed rank g
-  pub started : (g : Guid) → ranks_at g d.fixed ≡ matched_from (λ rank. is_fixed k.fixed rank g) None 0 k.readers
+  pub started : (g : Guid)
+      → ranks_at g d.fixed ≡ matched_from (λ rank. is_fixed k.fixed rank g) None 0 k.readers
   pub participants : d.participants ≡ k.participants
   pub in_order : IsStrictlySortedBy prefix_order (keys_of k.participants)
   -- the index has the end of each lease that ends
@@ -102,12 +108,14 @@ pub record IsKnown (k : Known) (d : RegistryView) : Type 0 where
 
 -- An announcement is applied: the data represents the state after it, and its changes are appended
 -- to the earlier ones.
-pub record Applies (a : Announcement) (old new : RegistryView) (earlier all : List ChangeAt) : Type 0 where
+pub record Applies (a : Announcement) (old new : RegistryView) (earlier all : List ChangeAt)
+    : Type 0 where
   pub known : (k : Known) → IsKnown k old → IsKnown (known_after k a) new
   pub changes : (k : Known) → IsKnown k old → all ≡ earlier ++ changes k (known_after k a)
 
 -- The same for announcements, applied one by one.
-pub record AppliesAll (said : List Announcement) (old new : RegistryView) (earlier all : List ChangeAt) : Type 0 where
+pub record AppliesAll (said : List Announcement) (old new : RegistryView)
+    (earlier all : List ChangeAt) : Type 0 where
   pub known : (k : Known) → IsKnown k old → IsKnown (known_run k said) new
   pub changes : (k : Known) → IsKnown k old → all ≡ earlier ++ changes_run k said
 

@@ -9,6 +9,7 @@ pub mod Differences
 pub mod Effects
 pub mod Ends
 pub mod FaultNames
+pub mod Ignored
 pub mod Joining
 pub mod Kept
 pub mod Known

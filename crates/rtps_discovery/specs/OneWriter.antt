@@ -17,13 +17,16 @@ abbrev pub met : (ℕ → Bool) → Guid → List Locator → ℕ → PairState 
 met fixed g ls rank before after = if fixed rank then [] else told rank g ls before after
 
 -- the changes of the readers from this rank on, given the writer's offers before and after
-abbrev pub column : (ℕ → Bool) → Guid → List Locator → Option Offer → Option Offer → ℕ → List (Option Wish) → List ChangeAt
+abbrev pub column : (ℕ → Bool) → Guid → List Locator → Option Offer → Option Offer → ℕ
+    → List (Option Wish) → List ChangeAt
 column fixed g ls before after rank [] = []
 column fixed g ls before after rank (r ∷ rs) =
-    met fixed g ls rank (standing r before) (standing r after) ++ column fixed g ls before after (rank + 1) rs
+    met fixed g ls rank (standing r before) (standing r after)
+    ++ column fixed g ls before after (rank + 1) rs
 
 -- the ranks of the readers, from this rank on, that are matched with a writer, rising
 abbrev pub matched_from : (ℕ → Bool) → Option Offer → ℕ → List (Option Wish) → List ℕ
 matched_from fixed w rank [] = []
 matched_from fixed w rank (r ∷ rs) =
-    if fixed rank || is_joined (standing r w) then rank ∷ matched_from fixed w (rank + 1) rs else matched_from fixed w (rank + 1) rs
+    if fixed rank || is_joined (standing r w) then rank ∷ matched_from fixed w (rank + 1) rs
+    else matched_from fixed w (rank + 1) rs

@@ -16,7 +16,8 @@ pair_order a b = ordering_then (nat_cmp a.0 b.0) (guid_order a.1 b.1)
 
 -- the pairs are the matches of our readers, in order
 pub record ArePairs (k : Known) (pairs : List (ℕ × Guid)) : Type 0 where
-  pub exact : (rank : ℕ) (g : Guid) → Contains pairs (rank, g) ↔ ((rank < length k.readers) × (is_matched k rank g ≡ true))
+  pub exact : (rank : ℕ) (g : Guid)
+      → Contains pairs (rank, g) ↔ ((rank < length k.readers) × (is_matched k rank g ≡ true))
   pub ordered : IsStrictlySortedBy pair_order pairs
 
 -- the same for the data of discovery, also after memory was refused

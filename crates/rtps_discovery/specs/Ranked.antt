@@ -6,7 +6,9 @@ use Rattle.rtps_discovery.specs.Known.{Known, is_matched}
 
 -- the ranks listed for a writer are those of the readers that are matched with it, rising
 pub record AreMatched (k : Known) (g : Guid) : Type 0 where
-  pub exact : (rank : ℕ) → Contains (matched_ranks k g) rank ↔ ((rank < length k.readers) × (is_matched k rank g ≡ true))
+  pub exact : (rank : ℕ)
+      → Contains (matched_ranks k g) rank
+      ↔ ((rank < length k.readers) × (is_matched k rank g ≡ true))
   pub rising : AllPairs (λ a b. a < b) (matched_ranks k g)
 
 -- this holds for each writer, in any state

@@ -28,7 +28,8 @@ endpoint_guid = 0x005a
 -- number; all else is ignored
 abbrev pub participant_in : GuidPrefix → GuidPrefix → EventBodyView → Option Announcement
 participant_in own source (Whole c) =
-    option_and_then (participant_said own source c.info.hash) (said_in participant_guid c.info c.payload)
+    option_and_then (participant_said own source c.info.hash)
+    (said_in participant_guid c.info c.payload)
 participant_in own source (Fragment f) = None
 participant_in own source (Heartbeat h) = None
 participant_in own source (Gap g) = None
@@ -36,7 +37,8 @@ participant_in own source (HeartbeatFrag h) = None
 
 -- the announcement of an event of the participants' announcer, if the event is for our reader
 abbrev pub participants_in : GuidPrefix → EventView → List Announcement
-participants_in own e = if is_for e.reader spdp_reader then option_to_list (participant_in own e.source e.body) else []
+participants_in own e =
+    if is_for e.reader spdp_reader then option_to_list (participant_in own e.source e.body) else []
 
 -- the announcement of a ready change from an announcer of endpoints
 abbrev pub endpoint_in : GuidPrefix → EntityId → ChangeView → Option Announcement
@@ -65,7 +67,8 @@ detector_of writer =
 abbrev pub ready_records : EventView → Option Match → List Announcement
 ready_records e None = []
 ready_records e (Some m) =
-    flat_map (λ s. option_to_list (endpoint_in e.source e.writer s)) (ready_of m.pairing.reliable m.past (match_event_of e))
+    flat_map (λ s. option_to_list (endpoint_in e.source e.writer s))
+    (ready_of m.pairing.reliable m.past (match_event_of e))
 
 -- the announcements of an event, in order
 abbrev pub announcements : Known → EventView → List Announcement
@@ -86,7 +89,8 @@ answered k e = answer_by e (announcer_of k e)
 -- the state after the event is added to the match that it is for
 abbrev pub noted : Known → EventView → Known
 noted k e =
-    if is_some (announcer_of k e) then record k { announcers = extended (writer_of e) (match_event_of e) k.announcers } else k
+    if is_some (announcer_of k e)
+    then record k { announcers = extended (writer_of e) (match_event_of e) k.announcers } else k
 
 -- the state after an event
 abbrev pub known_by : Known → EventView → Known

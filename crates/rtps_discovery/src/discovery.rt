@@ -5,6 +5,7 @@ ghost use Rattle.rtps_receiver.specs.Events.{view};
 ghost use Rattle.rtps_discovery.specs.Config.{check_of};
 ghost use Rattle.rtps_discovery.specs.Changes.{changes};
 ghost use Rattle.rtps_discovery.specs.Effects.{AreHeard};
+ghost use Rattle.rtps_discovery.specs.Ignored.{ignored};
 ghost use Rattle.rtps_discovery.specs.Joining.{joined, parted, without_fixed, without_reader};
 ghost use Rattle.rtps_discovery.specs.Kept.{IsKnown, matched_ranks};
 ghost use Rattle.rtps_discovery.specs.Known.{Known, has_expired, moved, passed};
@@ -62,11 +63,12 @@ impl<A: Allocator + Copy> Discovery<A> {
     }
 
     /// Processes an event that came at a moment, in milliseconds, and returns the changes of our
-    /// readers' matches and the answer to send (DDSI-RTPS 8.5.3, 8.5.4). The records of an announcer
-    /// are applied one by one; any other event changes nothing but the moment. A moment below an
-    /// earlier one counts as the greatest so far; a participant's record counts as heard at it, and
-    /// no lease ends here. `AllocError` where memory is refused; from then on each call that changes
-    /// discovery is refused, and changes nothing.
+    /// readers' matches, the answer to send, and how many of the event's records were ignored
+    /// (DDSI-RTPS 8.5.3, 8.5.4). The records of an announcer are applied one by one; any other
+    /// event changes nothing but the moment. A moment below an earlier one counts as the greatest
+    /// so far; a participant's record counts as heard at it, and no lease ends here. `AllocError`
+    /// where memory is refused; from then on each call that changes discovery is refused, and
+    /// changes nothing.
     pub fn step(
         &mut self,
         alloc: A,
@@ -78,6 +80,8 @@ impl<A: Allocator + Copy> Discovery<A> {
         ensures effects { (k : Known) → IsKnown k self.old.kept
             → IfOk result (AreHeard (changes_by (moved moment k) (view event.now))
             (answered (moved moment k) (view event.now))) }
+        ensures ignored { (k : Known) → IsKnown k self.old.kept → IfOk result (λ effects.
+            effects.ignored ≡ ignored (moved moment k) (view event.now)) }
         ensures ok { OnOk result (self.new.spent ≡ false) }
         ensures err { OnErr result (self.new.spent ≡ true) }
         ensures spent { self.old.spent ≡ true → IsErr result }
@@ -132,12 +136,12 @@ impl<A: Allocator + Copy> Discovery<A> {
         Ok(ended)
     }
 
-    /// Adds a reader of ours. Returns its rank, which is the number of ranks that were given before,
-    /// and the changes of its matches: a match or a refusal for each known writer that it has to do
-    /// with, in the order of the octets of the writers' guids. It has no fixed matches.
+    /// Adds a reader of ours. Returns its rank, which is the number of ranks that were given
+    /// before, and the changes of its matches: a match or a refusal for each known writer that it
+    /// has to do with, in the order of the octets of the writers' guids. It has no fixed matches.
     ///
-    /// A reader that isn't added is dropped. `Full` and `BadReader` change nothing. After `NoMemory`
-    /// each call that changes discovery is refused, and changes nothing.
+    /// A reader that isn't added is dropped. `Full` and `BadReader` change nothing. After
+    /// `NoMemory` each call that changes discovery is refused, and changes nothing.
     pub fn add_reader(
         &mut self,
         alloc: A,

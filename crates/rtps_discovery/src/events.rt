@@ -4,6 +4,7 @@ ghost use Rattle.std.specs.Prelude.{◌≡◌, IfOk, OnOk, Some, false, true};
 ghost use Rattle.std.specs.Str.{bytes_eq};
 ghost use Rattle.rtps_receiver.specs.Events.{view};
 ghost use Rattle.rtps_discovery.specs.Effects.{AreHeard};
+ghost use Rattle.rtps_discovery.specs.Ignored.{ignored, records_of, silent_among};
 ghost use Rattle.rtps_discovery.specs.Kept.{IsKnown, kept};
 ghost use Rattle.rtps_discovery.specs.Known.{Known, spdp_writer};
 ghost use Rattle.rtps_discovery.specs.Records as records;
@@ -31,12 +32,11 @@ impl<A: Allocator + Copy> Registry<A> {
             → OnOk result (IsKnown (records.known_by k (view event.now)) (kept self.new)) }
         ensures effects { (k : Known) → IsKnown k (kept self.old) → IfOk result (AreHeard
             (records.changes_by k (view event.now)) (records.answered k (view event.now))) }
+        ensures ignored { (k : Known) → IsKnown k (kept self.old) → IfOk result (λ effects.
+            effects.ignored ≡ silent_among (records_of k (view event.now))) }
     {
-        let changes = self.hear_participant(alloc, event)?;
-        Ok(DiscoveryEffects {
-            changes,
-            answer: None,
-        })
+        let effects = self.hear_participant(alloc, event)?;
+        Ok(effects)
     }
 
     /// Processes an event of an announcer of endpoints, whose announcements are for this builtin
@@ -53,9 +53,11 @@ impl<A: Allocator + Copy> Registry<A> {
             → OnOk result (IsKnown (records.known_by k (view event.now)) (kept self.new)) }
         ensures effects { (k : Known) → IsKnown k (kept self.old) → IfOk result (AreHeard
             (records.changes_by k (view event.now)) (records.answered k (view event.now))) }
+        ensures ignored { (k : Known) → IsKnown k (kept self.old) → IfOk result (λ effects.
+            effects.ignored ≡ silent_among (records_of k (view event.now))) }
     {
         if !is_for(event.reader, reader) {
-            return Ok(DiscoveryEffects::none(alloc));
+            return Ok(DiscoveryEffects::silent(alloc, &event.body));
         }
         self.hear_announcer(alloc, event)
     }
@@ -67,6 +69,8 @@ impl<A: Allocator + Copy> Registry<A> {
             → OnOk result (IsKnown (records.known_by k (view event.now)) (kept self.new)) }
         ensures effects { (k : Known) → IsKnown k (kept self.old) → IfOk result (AreHeard
             (records.changes_by k (view event.now)) (records.answered k (view event.now))) }
+        ensures ignored { (k : Known) → IsKnown k (kept self.old) → IfOk result (λ effects.
+            effects.ignored ≡ ignored k (view event.now)) }
     {
         match Announcer::of(event.writer) {
             Some(Announcer::Participant) => self.take_participant(alloc, event),

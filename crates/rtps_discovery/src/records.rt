@@ -1,6 +1,6 @@
 //! Decoding and applying the events of announcers (DDSI-RTPS 8.5.3, 8.5.4).
 
-ghost use Rattle.std.specs.Prelude.{◌≡◌, [], IfOk, OnOk, map, option_to_list};
+ghost use Rattle.std.specs.Prelude.{◌≡◌, ◌∷◌, [], IfOk, None, OnOk, map, option_to_list};
 ghost use Rattle.std.specs.List.{flat_map};
 ghost use Rattle.std.specs.Option.{option_map};
 ghost use Rattle.rtps_proxy.specs.Change.{change_view};
@@ -8,6 +8,7 @@ ghost use Rattle.rtps_receiver.specs.Events.{view};
 ghost use Rattle.rtps_receiver.specs.Views.{body_view};
 ghost use Rattle.rtps_discovery.specs.Changes.{changes_run, known_run};
 ghost use Rattle.rtps_discovery.specs.Effects.{AreHeard, extends, match_of};
+ghost use Rattle.rtps_discovery.specs.Ignored.{endpoint_records, participant_records, silent_among};
 ghost use Rattle.rtps_discovery.specs.Kept.{Applies, AppliesAll, IsKnown, kept};
 ghost use Rattle.rtps_discovery.specs.Known.{Known};
 ghost use Rattle.rtps_discovery.specs.Records as records;
@@ -86,65 +87,75 @@ impl<A: Allocator + Copy> Registry<A> {
         }
     }
 
-    /// Applies one ready change of an announcer.
+    /// Applies one ready change of an announcer. Returns the number of records that were ignored: 1
+    /// if the change announces nothing.
     fn apply_change(
         &mut self,
         alloc: A,
         writer: Guid,
         change: &Change<'_, A>,
         changes: &mut Vec<MatchChange<A>, A>,
-    ) -> Result<(), AllocError>
-        ensures { OnOk result (AppliesAll
+    ) -> Result<usize, AllocError>
+        ensures applied { OnOk result (AppliesAll
             (option_to_list (records.endpoint_in writer.prefix writer.entity
             (change_view change.now))) (kept self.old) (kept self.new)
             (map change_seen changes.old.items) (map change_seen changes.new.items)) }
+        ensures ignored { IfOk result (λ ignored. ignored ≡ silent_among
+            (records.endpoint_in writer.prefix writer.entity (change_view change.now) ∷ [])) }
     {
         let Some(announcement) = endpoint_in(writer.prefix, writer.entity, change) else {
-            return Ok(());
+            return Ok(1);
         };
         self.apply(alloc, announcement, changes)?;
-        Ok(())
+        Ok(0)
     }
 
-    /// Applies the ready changes of an announcer, one after the other.
+    /// Applies the ready changes of an announcer, one after the other. Returns the number of those
+    /// that were ignored.
     fn apply_ready(
         &mut self,
         alloc: A,
         writer: Guid,
         ready: &[Change<'_, A>],
         changes: &mut Vec<MatchChange<A>, A>,
-    ) -> Result<(), AllocError>
-        ensures { OnOk result (AppliesAll
+    ) -> Result<usize, AllocError>
+        ensures applied { OnOk result (AppliesAll
             (flat_map (λ s. option_to_list (records.endpoint_in writer.prefix writer.entity s))
             (map change_view ready.now)) (kept self.old) (kept self.new)
             (map change_seen changes.old.items) (map change_seen changes.new.items)) }
+        ensures ignored { IfOk result (λ ignored. ignored ≡ silent_among
+            (map (records.endpoint_in writer.prefix writer.entity)
+            (map change_view ready.now))) }
     {
+        let mut ignored = 0;
         for change in ready {
-            self.apply_change(alloc, writer, change, changes)?;
+            ignored += self.apply_change(alloc, writer, change, changes)?;
         }
-        Ok(())
+        Ok(ignored)
     }
 
-    /// Applies an event of the participants' announcer, and returns the changes of our readers'
-    /// matches.
+    /// Applies an event of the participants' announcer.
     pub fn hear_participant(
         &mut self,
         alloc: A,
         event: &Event<'_>,
-    ) -> Result<Vec<MatchChange<A>, A>, AllocError>
-        ensures { IfOk result (λ changes. AppliesAll (records.participants_in self.old.own
+    ) -> Result<DiscoveryEffects<A>, AllocError>
+        ensures applied { IfOk result (λ effects. AppliesAll (records.participants_in self.old.own
             (view event.now)) (kept self.old) (kept self.new) []
-            (map change_seen changes.items)) }
+            (map change_seen effects.changes.items)) }
+        ensures answer { IfOk result (λ effects. effects.answer ≡ None) }
+        ensures ignored { IfOk result (λ effects. effects.ignored
+            ≡ silent_among (participant_records self.old.own (view event.now))) }
     {
-        let mut changes = Vec::new(alloc);
         if !is_for(event.reader, ENTITYID_SPDP_BUILTIN_PARTICIPANT_DETECTOR) {
-            return Ok(changes);
+            return Ok(DiscoveryEffects::silent(alloc, &event.body));
         }
         let Some(announcement) = participant_in(self.own, event.source, &event.body) else {
-            return Ok(changes);
+            return Ok(DiscoveryEffects::silent(alloc, &event.body));
         };
-        self.apply(alloc, announcement, &mut changes)?;
-        Ok(changes)
+        let mut effects = DiscoveryEffects::none(alloc);
+        self.apply(alloc, announcement, &mut effects.changes)?;
+        Ok(effects)
     }
 
     /// Passes an event of an announcer of endpoints to the match with it, if there is one, and
@@ -161,6 +172,9 @@ impl<A: Allocator + Copy> Registry<A> {
             (AreHeard (changes_run (extends k (view event.now)) (records.ready_records
             (view event.now) (match_of k (view event.now)))) (records.answer_by
             (view event.now) (match_of k (view event.now)))) }
+        ensures ignored { (k : Known) → IsKnown k (kept self.old) → IfOk result
+            (λ effects. effects.ignored ≡ silent_among (endpoint_records (view event.now)
+            (match_of k (view event.now)))) }
     {
         let writer = Guid {
             prefix: event.source,
@@ -170,13 +184,15 @@ impl<A: Allocator + Copy> Registry<A> {
             .announcers
             .on_event(alloc, writer, event.time, &event.body)?;
         let Some(effects) = taken else {
-            return Ok(DiscoveryEffects::none(alloc));
+            return Ok(DiscoveryEffects::silent(alloc, &event.body));
         };
         let mut changes = Vec::new(alloc);
-        self.apply_ready(alloc, writer, effects.ready.as_slice(), &mut changes)?;
+        let ready = effects.ready.as_slice();
+        let ignored = self.apply_ready(alloc, writer, ready, &mut changes)?;
         Ok(DiscoveryEffects {
             changes,
             answer: effects.answer,
+            ignored,
         })
     }
 }

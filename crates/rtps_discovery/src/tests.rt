@@ -3,6 +3,7 @@
 mod announcements;
 mod announcers;
 mod events;
+mod ignored;
 mod leases;
 mod memory;
 mod readers;

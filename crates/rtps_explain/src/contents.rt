@@ -83,7 +83,8 @@ fn push_heartbeat_frag<A: Allocator>(
 }
 
 fn push_data<A: Allocator>(out: &mut Vec<u8, A>, change: &Data<'_>) -> Result<(), AllocError>
-    ensures ok { OnOk result (out.new.items ≡ out.old.items ++ data_columns (data_view change.now)) }
+    ensures ok { OnOk result
+        (out.new.items ≡ out.old.items ++ data_columns (data_view change.now)) }
     ensures keeps { StartsWith out.new.items out.old.items }
 {
     push_ends(out, change.writer, change.reader)?;

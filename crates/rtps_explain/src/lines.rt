@@ -28,8 +28,8 @@ const HEADER: usize = 20;
 /// Appends the lines of a datagram of at most 65,507 octets, and counts the datagram and its
 /// submessages. There is one line for the header, or for the fault for which the datagram is no
 /// message; one for each valid submessage, with its event or the reason why it gives none; and one
-/// for what ends the reading before the end (DDSI-RTPS 8.3.4). `index` is the number of the datagram
-/// in the run, counted from 0, and `own` the prefix of the participant that receives it.
+/// for what ends the reading before the end (DDSI-RTPS 8.3.4). `index` is the number of the
+/// datagram in the run, counted from 0, and `own` the prefix of the participant that receives it.
 ///
 /// An error is a refused growth. What the text held before stays in front, and nothing is counted.
 pub fn push_explained<A: Allocator>(

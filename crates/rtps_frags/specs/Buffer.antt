@@ -11,7 +11,8 @@ stretch at n octets = take n (drop at octets)
 -- octets were written at a place: they are there, and octets before and after them are unchanged
 pub record IsPutAt (at : ℕ) (octets old new : List ℕ) : Type 0 where
   pub there : stretch at (length octets) new ≡ octets
-  pub others : (k n : ℕ) → length (stretch k n old) ≡ n → (k + n ≤ at) ⊎ (at + length octets ≤ k) → stretch k n new ≡ stretch k n old
+  pub others : (k n : ℕ) → length (stretch k n old) ≡ n → (k + n ≤ at) ⊎ (at + length octets ≤ k)
+      → stretch k n new ≡ stretch k n old
   pub size : length new ≡ max (length old) (at + length octets)
 
 -- the octets of the fragments before `next`
@@ -30,7 +31,8 @@ octets_in z buffer r = own_or r.1.octets (stretch (before z r.0) (length_of z r.
 -- the runs with their octets, from the buffer or their own
 abbrev pub runs_in : Sizes → List ℕ → Runs → Runs
 runs_in z buffer [] = []
-runs_in z buffer (r ∷ rs) = (r.0, record { count = r.1.count; octets = octets_in z buffer r }) ∷ runs_in z buffer rs
+runs_in z buffer (r ∷ rs) =
+    (r.0, record { count = r.1.count; octets = octets_in z buffer r }) ∷ runs_in z buffer rs
 
 -- n for a run without octets of its own, and 0 for any other
 abbrev pub if_none : List ℕ → ℕ → ℕ
@@ -55,7 +57,8 @@ abbrev pub stored_at : Sizes → ℕ → List ℕ → Runs → ℕ → Option (L
 stored_at z next buffer runs = kept_at z next (front_in z next buffer) (runs_in z buffer runs)
 
 -- fragments of the sample that aren't stored yet, with exactly their octets
-pub record AreNew (z : Sizes) (next : ℕ) (buffer : List ℕ) (runs : Runs) (start count : ℕ) (octets : List ℕ) : Type 0 where
+pub record AreNew (z : Sizes) (next : ℕ) (buffer : List ℕ) (runs : Runs) (start count : ℕ)
+    (octets : List ℕ) : Type 0 where
   pub first : 1 ≤ start
   pub some : 1 ≤ count
   pub within : start + count ≤ suc (last_of z)

@@ -20,7 +20,8 @@ upto z k = min (k * z.fragment) z.sample
 
 -- fragment k in octets that begin with fragment `start`
 abbrev pub fragment_in : Sizes → ℕ → List ℕ → ℕ → List ℕ
-fragment_in z start octets k = take (upto z k - before z k) (drop (before z k - before z start) octets)
+fragment_in z start octets k =
+    take (upto z k - before z k) (drop (before z k - before z start) octets)
 
 -- the size of the sample or of its fragments is 0
 abbrev pub is_empty : Sizes → Bool
@@ -54,12 +55,16 @@ has there k = list_any (λ f. f.0 == k) there
 -- the fragments with fragment k too; if it was received before, it stays as it is
 abbrev pub with_fragment : There → ℕ → List ℕ → There
 with_fragment [] k octets = (k, octets) ∷ []
-with_fragment (f ∷ fs) k octets = if nat_lt f.0 k then f ∷ with_fragment fs k octets else if f.0 == k then f ∷ fs else (k, octets) ∷ f ∷ fs
+with_fragment (f ∷ fs) k octets =
+    if nat_lt f.0 k then f ∷ with_fragment fs k octets else if f.0 == k then f ∷ fs
+    else (k, octets) ∷ f ∷ fs
 
 -- the fragments with `count` more from k on, from octets that begin with fragment `start`
 abbrev pub with_fragments : Sizes → ℕ → List ℕ → There → ℕ → ℕ → There
 with_fragments z start octets there k zero = there
-with_fragments z start octets there k (suc count) = with_fragments z start octets (with_fragment there k (fragment_in z start octets k)) (suc k) count
+with_fragments z start octets there k (suc count) =
+    with_fragments z start octets (with_fragment there k (fragment_in z start octets k))
+    (suc k) count
 
 -- `count` fragments from k on were received
 abbrev pub has_all : There → ℕ → ℕ → Bool

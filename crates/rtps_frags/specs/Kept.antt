@@ -15,7 +15,12 @@ pub record AssemblyView : Type 0 where
 
 -- the assembly with `count` more fragments from `start` on
 abbrev pub with_part : AssemblyView → ℕ → ℕ → List ℕ → AssemblyView
-with_part a start count octets = record { sizes = a.sizes; there = with_fragments a.sizes start octets a.there start count; spent = false }
+with_part a start count octets =
+    record {
+      sizes = a.sizes;
+      there = with_fragments a.sizes start octets a.there start count;
+      spent = false;
+    }
 
 -- the state after an error: a fault changes nothing, and a refused growth leaves the assembly spent
 abbrev pub Leaves : AssemblyView → AssemblyView → Option FragFault → AddError → Type 0

@@ -9,7 +9,9 @@ use Rattle.rtps_frags.specs.Fragments.{There, has, is_empty, last_of}
 -- the missing fragments up to `end`, of the 256 that begin with the least missing one, if there is
 -- any
 abbrev pub missing_from : (ℕ → Bool) → ℕ → ℕ → Option NumberSet
-missing_from is_there least end = if nat_lt end least then None else Some (set_naming least (failing_from is_there least (min 256 (end + 1 - least))))
+missing_from is_there least end =
+    if nat_lt end least then None
+    else Some (set_naming least (failing_from is_there least (min 256 (end + 1 - least))))
 
 -- the missing fragments up to `end`, of the 256 that begin with the least of them
 unfoldable pub missing_by : (ℕ → Bool) → ℕ → Option NumberSet

@@ -62,7 +62,8 @@ pub record AreKept (z : Sizes) (low next : ℕ) (front : List ℕ) (runs : Runs)
 
 -- the octets of a fragment, if it is stored
 abbrev pub kept_at : Sizes → ℕ → List ℕ → Runs → ℕ → Option (List ℕ)
-kept_at z next front runs k = if nat_le 1 k && nat_lt k next then Some (fragment_in z 1 front k) else in_runs z runs k
+kept_at z next front runs k =
+    if nat_le 1 k && nat_lt k next then Some (fragment_in z 1 front k) else in_runs z runs k
 
 -- a fragment, if there is one, in front of others
 abbrev pub listed_by : Option (List ℕ) → ℕ → There → There

@@ -7,5 +7,6 @@ use Rattle.rtps_frags.specs.Runs.{AreApart, Runs, covers}
 -- which are after it
 pub record IsAhead (runs : Runs) (at : ℕ) (span : Span) (left : Runs) : Type 0 where
   pub reached : at ≤ span.end
-  pub same : (k : ℕ) → at ≤ k → covers runs k ≡ ((nat_le span.start k && nat_lt k span.end) || covers left k)
+  pub same : (k : ℕ) → at ≤ k
+      → covers runs k ≡ ((nat_le span.start k && nat_lt k span.end) || covers left k)
   pub apart : AreApart span.end left

@@ -132,8 +132,8 @@ fn next_span<A: Allocator>(
 
 /// Returns the capacity to reserve for `length` octets of a sample: the whole sample if that is at
 /// most sixteen times as much. A longer one gets sixteen times as much too, but no more than a
-/// sixteenth of it, from where the next growth is to the whole: each growth may copy all octets, and
-/// so the last one copies few.
+/// sixteenth of it, from where the next growth is to the whole: each growth may copy all octets,
+/// and so the last one copies few.
 fn room(sizes: Sizes, length: usize) -> usize
     ensures { result ≤ 16 * length }
 {

@@ -9,4 +9,5 @@ use Rattle.rtps_lines.specs.Locators.{locators_text}
 
 -- an answer to the event at a place: the locators that it is sent to, and its octets
 abbrev pub answer_line : Place → List Locator → List ℕ → List ℕ
-answer_line place to octets = place_text place then codes "answer" then locators_text to then (hex_text octets ++ codes "\n")
+answer_line place to octets =
+    place_text place then codes "answer" then locators_text to then (hex_text octets ++ codes "\n")

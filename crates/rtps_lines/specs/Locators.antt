@@ -5,7 +5,11 @@ use Rattle.rtps_types.specs.declared.locator.Locator.{Locator}
 
 -- the four octets of an address with dots between
 abbrev pub address_text : List ℕ → List ℕ
-address_text a = decimal (slice_index a 0) ++ (codes "." ++ (decimal (slice_index a 1) ++ (codes "." ++ (decimal (slice_index a 2) ++ (codes "." ++ decimal (slice_index a 3))))))
+address_text a =
+    decimal (slice_index a 0)
+    ++ (codes "."
+    ++ (decimal (slice_index a 1)
+    ++ (codes "." ++ (decimal (slice_index a 2) ++ (codes "." ++ decimal (slice_index a 3))))))
 
 -- an address and its port (DDSI-RTPS 9.3.2.4)
 abbrev pub locator_text : Locator → List ℕ

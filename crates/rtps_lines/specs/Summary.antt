@@ -20,8 +20,12 @@ policy_text (Some policy) = decimal (policy_id policy)
 -- the counts of matches so far, of present matches and of refused writers, and the policy that was
 -- reported last
 abbrev pub matches_text : Status → List ℕ
-matches_text s = decimal s.matched_total then decimal s.matched_now then decimal s.incompatible_total then policy_text s.last_policy
+matches_text s =
+    decimal s.matched_total then decimal s.matched_now then decimal s.incompatible_total
+    then policy_text s.last_policy
 
 -- the status of the reader of a rank (DDS 1.4, 2.2.4.1)
 abbrev pub status_line : ℕ → Status → List ℕ
-status_line rank s = codes "status" then decimal rank then matches_text s then decimal s.lost_total then (decimal s.samples ++ codes "\n")
+status_line rank s =
+    codes "status" then decimal rank then matches_text s then decimal s.lost_total
+    then (decimal s.samples ++ codes "\n")

@@ -1,6 +1,6 @@
 //! The part of a line before an event's body: its place and its context.
 
-ghost use Rattle.std.specs.Prelude.{◌≡◌, ◌++◌, OnOk, length};
+ghost use Rattle.std.specs.Prelude.{◌≡◌, ◌++◌, OnOk, codes, length};
 ghost use Rattle.std.specs.Io.{StartsWith};
 ghost use Rattle.std.specs.Int.{w32, to_be_bytes};
 ghost use Rattle.rtps_ascii.specs.Hex.{hex_text};
@@ -10,7 +10,7 @@ ghost use Rattle.rtps_lines.specs.Line.{context_text, time_text};
 
 use rtps_ascii::{push_hex_array, push_number, push_octet};
 use rtps_receiver::Event;
-use rtps_types::{Place, Timestamp};
+use rtps_types::{EntityId, Place, Timestamp};
 use std::alloc::{AllocError, Allocator};
 
 /// Appends a place, as datagram and submessage with a colon between.
@@ -66,8 +66,35 @@ pub(crate) fn push_context<A: Allocator>(
     push_hex_array(out, &event.source.0)?;
     push_octet(out, b' ')?;
     push_time(out, event.time)?;
-    push_octet(out, b' ')?;
-    push_hex_array(out, &event.writer.0)?;
-    push_octet(out, b' ')?;
-    push_hex_array(out, &event.reader.0)
+    push_ends(out, event.writer, event.reader)
+}
+
+/// Appends the writer and the reader, each after a blank, by one copy.
+fn push_ends<A: Allocator>(
+    out: &mut Vec<u8, A>,
+    writer: EntityId,
+    reader: EntityId,
+) -> Result<(), AllocError>
+    ensures ok { OnOk result (out.new.items ≡ (((out.old.items ++ codes " ")
+        ++ hex_text writer.0) ++ codes " ") ++ hex_text reader.0) }
+    ensures keeps { StartsWith out.new.items out.old.items }
+{
+    let mut text = [b' '; 18];
+    let (first, second) = text.split_at_mut(9);
+    let (_, digits) = first.split_at_mut(1);
+    write_entity(writer, digits);
+    let (_, digits) = second.split_at_mut(1);
+    write_entity(reader, digits);
+    out.extend_from_slice(&text)
+}
+
+/// Writes an entity as eight digits.
+fn write_entity(entity: EntityId, digits: &mut [u8])
+    requires { length digits.old ≡ 8 }
+    ensures { digits.new ≡ hex_text entity.0 }
+{
+    match hex::encode_to_slice(&entity.0, digits) {
+        Ok(()) => {}
+        Err(_) => unreachable!(),
+    }
 }

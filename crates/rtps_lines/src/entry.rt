@@ -47,9 +47,7 @@ fn push_change<V, A: Allocator, B: Allocator + Copy>(
     push_word(out, "entry ")?;
     push_number(out, u64::from(rank))?;
     push_octet(out, b' ')?;
-    last.push_writer(out, entry.writer)?;
-    push_octet(out, b' ')?;
-    last.push_change(out, entry.number, entry.time)
+    last.push_change(out, entry.writer, entry.number, entry.time)
 }
 
 fn sample_word(sample: SampleState) -> &'static str

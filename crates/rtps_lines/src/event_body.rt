@@ -1,6 +1,6 @@
 //! An event's body as text, by its kind.
 
-ghost use Rattle.std.specs.Prelude.{◌≡◌, ◌++◌, OnOk};
+ghost use Rattle.std.specs.Prelude.{◌≡◌, ◌++◌, OnOk, codes};
 ghost use Rattle.std.specs.Io.{StartsWith};
 ghost use Rattle.rtps_receiver.specs.Views.{body_view, fragment_view, gap_view, heartbeat_frag_view, heartbeat_view, whole_view};
 ghost use Rattle.rtps_lines.specs.Line.{body_text, flags_text, form_word, fragment_text, gap_text, hash_text, heartbeat_frag_text, heartbeat_text, pieces_text, whole_text};
@@ -29,17 +29,6 @@ pub(crate) fn push_body<A: Allocator>(
     }
 }
 
-fn word(form: Form) -> &'static str
-    ensures { result.now ≡ form_word form }
-{
-    match form {
-        Form::Value => "value",
-        Form::Key => "key",
-        Form::Other => "other",
-        Form::Nothing => "none",
-    }
-}
-
 fn flags(final_flag: bool, liveliness: bool) -> &'static str
     ensures { result.now ≡ flags_text final_flag liveliness }
 {
@@ -51,11 +40,18 @@ fn flags(final_flag: bool, liveliness: bool) -> &'static str
     }
 }
 
+/// Appends the form as a word between two blanks, by one copy of a length that the compiler knows.
 fn push_form<A: Allocator>(out: &mut Vec<u8, A>, form: Form) -> Result<(), AllocError>
-    ensures ok { OnOk result (out.new.items ≡ out.old.items ++ form_word form) }
+    ensures ok { OnOk result
+        (out.new.items ≡ ((out.old.items ++ codes " ") ++ form_word form) ++ codes " ") }
     ensures keeps { StartsWith out.new.items out.old.items }
 {
-    push_word(out, word(form))
+    match form {
+        Form::Value => push_word(out, " value "),
+        Form::Key => push_word(out, " key "),
+        Form::Other => push_word(out, " other "),
+        Form::Nothing => push_word(out, " none "),
+    }
 }
 
 fn push_flags<A: Allocator>(
@@ -88,9 +84,7 @@ fn push_whole<A: Allocator>(out: &mut Vec<u8, A>, whole: &Whole<'_>) -> Result<(
     push_number(out, whole.number.get())?;
     push_octet(out, b' ')?;
     push_hex_array(out, &[whole.info.status])?;
-    push_octet(out, b' ')?;
     push_form(out, whole.info.form)?;
-    push_octet(out, b' ')?;
     push_hex(out, whole.payload)?;
     push_octet(out, b' ')?;
     push_hash(out, whole.info.hash)
@@ -130,9 +124,7 @@ fn push_fragment<A: Allocator>(
     push_number(out, fragment.number.get())?;
     push_octet(out, b' ')?;
     push_hex_array(out, &[fragment.info.status])?;
-    push_octet(out, b' ')?;
     push_form(out, fragment.info.form)?;
-    push_octet(out, b' ')?;
     push_pieces(out, fragment)
 }
 

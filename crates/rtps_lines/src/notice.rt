@@ -8,6 +8,7 @@ ghost use Rattle.rtps_lines.specs.Line.{◌then◌};
 ghost use Rattle.rtps_lines.specs.Guid.{guid_text};
 ghost use Rattle.rtps_lines.specs.Notice.{heard_line, notice_text};
 
+use crate::guid::push_guid;
 use crate::last_line::LastLine;
 use crate::sample::push_presented;
 use dds_topic::TextCatalog;
@@ -29,8 +30,7 @@ pub fn push_notice<C: TextCatalog, A: Allocator, B: Allocator + Copy>(
         heard_line (C.text_of catalog.now) rank (notice_view C.view notice.now)) }
     ensures keeps { StartsWith out.new.items out.old.items }
 {
-    last.push_place(out, notice.place)?;
-    push_word(out, " reader ")?;
+    last.push_start(out, notice.place)?;
     push_number(out, u64::from(rank))?;
     push_octet(out, b' ')?;
     push_kind(out, last, catalog, notice.writer, &notice.what)?;
@@ -51,25 +51,23 @@ fn push_kind<C: TextCatalog, A: Allocator, B: Allocator + Copy>(
 {
     match what {
         NoticeKind::Sample { number, time, body } => {
-            push_about(out, last, "sample", writer)?;
-            push_octet(out, b' ')?;
-            last.push_change(out, *number, *time)?;
+            push_word(out, "sample ")?;
+            last.push_change(out, writer, *number, *time)?;
             push_octet(out, b' ')?;
             push_presented(out, catalog, body)
         }
-        NoticeKind::Matched => push_about(out, last, "matched", writer),
-        NoticeKind::Unmatched => push_about(out, last, "unmatched", writer),
+        NoticeKind::Matched => push_about(out, "matched", writer),
+        NoticeKind::Unmatched => push_about(out, "unmatched", writer),
         NoticeKind::Incompatible { policy } => {
-            push_counted(out, last, "incompatible", writer, u64::from(policy.id()))
+            push_counted(out, "incompatible", writer, u64::from(policy.id()))
         }
-        NoticeKind::Lost { count } => push_counted(out, last, "lost", writer, *count),
+        NoticeKind::Lost { count } => push_counted(out, "lost", writer, *count),
     }
 }
 
 /// Appends a word and a writer.
-fn push_about<A: Allocator, B: Allocator + Copy>(
+fn push_about<A: Allocator>(
     out: &mut Vec<u8, A>,
-    last: &mut LastLine<B>,
     word: &str,
     writer: Guid,
 ) -> Result<(), AllocError>
@@ -78,13 +76,12 @@ fn push_about<A: Allocator, B: Allocator + Copy>(
 {
     push_word(out, word)?;
     push_octet(out, b' ')?;
-    last.push_writer(out, writer)
+    push_guid(out, writer)
 }
 
 /// Appends a word, a writer and a number.
-fn push_counted<A: Allocator, B: Allocator + Copy>(
+fn push_counted<A: Allocator>(
     out: &mut Vec<u8, A>,
-    last: &mut LastLine<B>,
     word: &str,
     writer: Guid,
     number: u64,
@@ -93,7 +90,7 @@ fn push_counted<A: Allocator, B: Allocator + Copy>(
         (word.now then guid_text writer then decimal number)) }
     ensures keeps { StartsWith out.new.items out.old.items }
 {
-    push_about(out, last, word, writer)?;
+    push_about(out, word, writer)?;
     push_octet(out, b' ')?;
     push_number(out, number)
 }

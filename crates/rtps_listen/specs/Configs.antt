@@ -68,9 +68,11 @@ NamesWriter (Some text) None = ⊥
 NamesWriter (Some text) (Some writer) = WritesGuid text.now writer
 
 -- the configuration of the options, with what their texts write
-pub record IsMadeOf (options : Options) (own : GuidPrefix) (writer : Option Guid) (config : Config) : Type 0 where
+pub record IsMadeOf (options : Options) (own : GuidPrefix) (writer : Option Guid) (config : Config)
+    : Type 0 where
   pub prefix : config.own ≡ own
-  pub readers : map wish_of config.readers.items ≡ readers_of options.topic.now (reliability_of options.best_effort) options.readers
+  pub readers : map wish_of config.readers.items
+      ≡ readers_of options.topic.now (reliability_of options.best_effort) options.readers
   pub fixed : config.fixed.items ≡ matches_of writer options.readers
 
 -- what the texts of options write
@@ -81,7 +83,8 @@ pub record AreWritten (options : Options) (own : GuidPrefix) (writer : Option Gu
 -- the configuration that options ask for
 abbrev pub IsConfigOf : Options → Config → Type 0
 IsConfigOf options config =
-    (own : GuidPrefix) × (writer : Option Guid) × AreWritten options own writer × IsMadeOf options own writer config
+    (own : GuidPrefix) × (writer : Option Guid) × AreWritten options own writer
+    × IsMadeOf options own writer config
 
 -- no reader of ours is matched with the writer: it is none by its kind, or our own
 abbrev pub is_unmatched : GuidPrefix → Option Guid → Bool
@@ -91,7 +94,8 @@ is_unmatched own (Some writer) = not (is_writer writer.entity) || bytes_eq own.0
 -- the options name such a writer
 abbrev pub IsUnmatched : Options → Type 0
 IsUnmatched options =
-    (own : GuidPrefix) × (writer : Option Guid) × AreWritten options own writer × IsTrue (is_unmatched own writer)
+    (own : GuidPrefix) × (writer : Option Guid) × AreWritten options own writer
+    × IsTrue (is_unmatched own writer)
 
 -- `--fixed` has 32 digits, or isn't given
 abbrev pub IsFixedText : Option (Bor Text) → Type 0

@@ -17,23 +17,45 @@ own_text = codes "0b0b0b0b0b0b0b0b0b0b0b0b"
 
 -- `--own HEX`
 abbrev pub own_rule : Rule
-own_rule = record (new_rule (codes "own")) { value_names = 1; long = Some (codes "own"); defaults = own_text ∷ [] }
+own_rule =
+    record (new_rule (codes "own"))
+    { value_names = 1; long = Some (codes "own"); defaults = own_text ∷ [] }
 
 -- `--workers` 1 to 64
 abbrev pub workers_rule : Rule
-workers_rule = record (new_rule (codes "workers")) { value_names = 1; long = Some (codes "workers"); parser = Some (Signed (pos 1) (pos 64)); defaults = codes "1" ∷ [] }
+workers_rule =
+    record (new_rule (codes "workers")) {
+      value_names = 1;
+      long = Some (codes "workers");
+      parser = Some (Signed (pos 1) (pos 64));
+      defaults = codes "1" ∷ [];
+    }
 
 -- `--batch` 1 to 4096
 abbrev pub batch_rule : Rule
-batch_rule = record (new_rule (codes "batch")) { value_names = 1; long = Some (codes "batch"); parser = Some (Signed (pos 1) (pos 4096)); defaults = codes "512" ∷ [] }
+batch_rule =
+    record (new_rule (codes "batch"))
+    { value_names = 1; long = Some (codes "batch"); parser = Some (Signed (pos 1) (pos 4096)) }
 
 -- `--readers` 1 to 8
 abbrev pub readers_rule : Rule
-readers_rule = record (new_rule (codes "readers")) { value_names = 1; long = Some (codes "readers"); parser = Some (Signed (pos 1) (pos 8)); defaults = codes "1" ∷ [] }
+readers_rule =
+    record (new_rule (codes "readers")) {
+      value_names = 1;
+      long = Some (codes "readers");
+      parser = Some (Signed (pos 1) (pos 8));
+      defaults = codes "1" ∷ [];
+    }
 
 -- `--keep` 0 to 65536
 abbrev pub keep_rule : Rule
-keep_rule = record (new_rule (codes "keep")) { value_names = 1; long = Some (codes "keep"); parser = Some (Signed (pos 0) (pos 65536)); defaults = codes "0" ∷ [] }
+keep_rule =
+    record (new_rule (codes "keep")) {
+      value_names = 1;
+      long = Some (codes "keep");
+      parser = Some (Signed (pos 0) (pos 65536));
+      defaults = codes "0" ∷ [];
+    }
 
 -- the topic if none is given
 abbrev pub topic_text : List ℕ
@@ -41,7 +63,9 @@ topic_text = codes "Square"
 
 -- `--topic TEXT`
 abbrev pub topic_rule : Rule
-topic_rule = record (new_rule (codes "topic")) { value_names = 1; long = Some (codes "topic"); defaults = topic_text ∷ [] }
+topic_rule =
+    record (new_rule (codes "topic"))
+    { value_names = 1; long = Some (codes "topic"); defaults = topic_text ∷ [] }
 
 -- `--fixed HEX`
 abbrev pub fixed_rule : Rule
@@ -65,15 +89,33 @@ summary_rule = flag_rule (codes "summary")
 
 -- `--domain` 0 to 232
 abbrev pub domain_rule : Rule
-domain_rule = record (new_rule (codes "domain")) { value_names = 1; long = Some (codes "domain"); parser = Some (Signed (pos 0) (pos 232)); required = true }
+domain_rule =
+    record (new_rule (codes "domain")) {
+      value_names = 1;
+      long = Some (codes "domain");
+      parser = Some (Signed (pos 0) (pos 232));
+      required = true;
+    }
 
 -- `--count` 1 to 65536
 abbrev pub count_rule : Rule
-count_rule = record (new_rule (codes "count")) { value_names = 1; long = Some (codes "count"); parser = Some (Signed (pos 1) (pos 65536)); required = true }
+count_rule =
+    record (new_rule (codes "count")) {
+      value_names = 1;
+      long = Some (codes "count");
+      parser = Some (Signed (pos 1) (pos 65536));
+      required = true;
+    }
 
 -- `--turns` 1 to 100000
 abbrev pub turns_rule : Rule
-turns_rule = record (new_rule (codes "turns")) { value_names = 1; long = Some (codes "turns"); parser = Some (Signed (pos 1) (pos 100000)); defaults = codes "600" ∷ [] }
+turns_rule =
+    record (new_rule (codes "turns")) {
+      value_names = 1;
+      long = Some (codes "turns");
+      parser = Some (Signed (pos 1) (pos 100000));
+      defaults = codes "600" ∷ [];
+    }
 
 -- the address if none is given
 abbrev pub address_text : List ℕ
@@ -81,7 +123,9 @@ address_text = codes "127.0.0.1"
 
 -- `--address ADDRESS`
 abbrev pub address_rule : Rule
-address_rule = record (new_rule (codes "address")) { value_names = 1; long = Some (codes "address"); defaults = address_text ∷ [] }
+address_rule =
+    record (new_rule (codes "address"))
+    { value_names = 1; long = Some (codes "address"); defaults = address_text ∷ [] }
 
 -- the options for the domain and the address
 unfoldable pub with_place : App → App
@@ -129,7 +173,10 @@ live_app = with_options (with_ends (with_place (new_app (codes "listen"))))
 
 -- the program with `dump`, `explain` and `replay`
 unfoldable pub printing_app : App
-printing_app = with_subcommand (with_subcommand (with_subcommand (new_app (codes "rtps_listen")) dump_app.top) explain_app.top) replay_app.top
+printing_app =
+    with_subcommand
+    (with_subcommand
+    (with_subcommand (new_app (codes "rtps_listen")) dump_app.top) explain_app.top) replay_app.top
 
 -- the program
 unfoldable pub listen_app : App

@@ -1,5 +1,5 @@
 -- The options of a subcommand, by what clap finds after it.
-use Rattle.std.specs.Prelude.{◌≡◌, ℕ, nat_le, nat_lt, List, length, Bool, false, ◌&&◌, if◌then◌else◌, codes, unwrap_or, option_map}
+use Rattle.std.specs.Prelude.{◌≡◌, ℕ, nat_le, nat_lt, List, length, Bool, false, ◌&&◌, if◌then◌else◌, codes, unwrap_or, option_map, ◌==◌}
 use Rattle.std.specs.Char.{digit_value}
 use Rattle.std.specs.List.{list_all}
 use Rattle.std.specs.Option.{option_map_or}
@@ -19,11 +19,15 @@ is_set name rows = option_map_or (λ text. bytes_eq text (codes "true")) (one_of
 
 -- digits of a number below 2^32
 abbrev pub are_digits : List ℕ → Bool
-are_digits digits = nat_lt 0 (length digits) && list_all (λ d. nat_lt (digit_value d) 10) digits && nat_lt (digits_value 10 digits) 4294967296
+are_digits digits =
+    nat_lt 0 (length digits) && list_all (λ d. nat_lt (digit_value d) 10) digits
+    && nat_lt (digits_value 10 digits) 4294967296
 
 -- the number that a text writes, or 0 where it writes none
 abbrev pub number_of : Text → ℕ
-number_of text = if are_digits (without_leading_plus text) then digits_value 10 (without_leading_plus text) else 0
+number_of text =
+    if are_digits (without_leading_plus text) then digits_value 10 (without_leading_plus text)
+    else 0
 
 -- the number after this name, or 0
 abbrev pub number_in : Text → List Row → ℕ
@@ -33,6 +37,11 @@ number_in name rows = option_map_or number_of (one_of name rows) 0
 -- definition of what was found doesn't repeat; 0 is what an option has that wasn't found.
 abbrev pub one_to : ℕ → ℕ → ℕ
 one_to most n = if nat_le 1 n && nat_le n most then n else 1
+
+-- the number of datagrams of a batch: the given one, or else one that suits the number of workers
+abbrev pub batch_size : ℕ → ℕ → ℕ
+batch_size workers given =
+    if nat_le 1 given && nat_le given 4096 then given else if workers == 1 then 512 else 2048
 
 -- this number if it is up to the greatest, or else 0
 abbrev pub up_to : ℕ → ℕ → ℕ
@@ -44,7 +53,8 @@ pub record AreOptions (options : Options) (rows : List Row) : Type 0 where
   pub own : options.own.now ≡ text_or (codes "own") own_text rows
   pub readers : options.readers ≡ one_to 8 (number_in (codes "readers") rows)
   pub workers : options.workers ≡ one_to 64 (number_in (codes "workers") rows)
-  pub batch : options.batch ≡ one_to 4096 (number_in (codes "batch") rows)
+  pub batch : options.batch
+      ≡ batch_size (one_to 64 (number_in (codes "workers") rows)) (number_in (codes "batch") rows)
   pub topic : options.topic.now ≡ text_or (codes "topic") topic_text rows
   pub fixed : option_map (λ text. text.now) options.fixed ≡ first_of (codes "fixed") rows
   pub best_effort : options.best_effort ≡ is_set (codes "best-effort") rows

@@ -16,7 +16,8 @@ use Rattle.rtps_listen.specs.declared.program.Failure.TheVariants.{Fault, Line}
 -- What is asked for was done, with the files of these names.
 unfoldable pub Does : Request → (List ℕ → Option (List ℕ)) → Option (List ℕ) → Option (List ℕ)
     → Result (Unit {0}) ListenFault → Type 0
-Does request holds old new result = RefusesFirst request result × Prints request holds old new result
+Does request holds old new result =
+    RefusesFirst request result × Prints request holds old new result
 
 -- the words ask for something, and that was done
 abbrev pub DoesAsked : List Text → (List ℕ → Option (List ℕ)) → Option (List ℕ)

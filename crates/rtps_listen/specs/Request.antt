@@ -61,6 +61,7 @@ RefusesFirst (Explain options) result =
     (¬ IsPrefixText options.own.now → result ≡ Err BadPrefix)
     × IfErr result (IsDumpCause options.own.now)
 RefusesFirst (Replay options) result = Refuses options result × IfErr result (IsReplayCause options)
-RefusesFirst (Samples options) result = Refuses options result × IfErr result (IsReplayCause options)
+RefusesFirst (Samples options) result =
+    Refuses options result × IfErr result (IsReplayCause options)
 RefusesFirst (Listen options) result =
     Refuses options result × RefusesAddress options result × IfErr result (IsLiveCause options)

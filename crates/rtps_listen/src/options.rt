@@ -69,7 +69,7 @@ impl Options<'_> {
             own: OWN,
             readers: 1,
             workers: 1,
-            batch: 1,
+            batch: 512,
             topic: TOPIC,
             fixed: None,
             best_effort: false,

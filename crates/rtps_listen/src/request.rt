@@ -2,7 +2,7 @@
 
 ghost use Rattle.std.specs.Prelude.{◌≡◌, ◌≤◌, option_map};
 ghost use Rattle.clap.specs.Words.{found_of, rows_of};
-ghost use Rattle.rtps_listen.specs.Options.{AreOptions, is_set, number_in, one_to, text_or, up_to};
+ghost use Rattle.rtps_listen.specs.Options.{AreOptions, batch_size, is_set, number_in, one_to, text_or, up_to};
 ghost use Rattle.rtps_listen.specs.Request.{Asks};
 
 use crate::options::{ADDRESS, OWN, Options, TOPIC};
@@ -74,17 +74,33 @@ fn up_to(most: u32, number: u32) -> u32
     if number <= most { number } else { 0 }
 }
 
+/// Returns the number of datagrams of a batch: the given one if it is from 1 to 4,096, or else
+/// more for several workers than for one. Their threads start with each batch, so that larger
+/// ones take less time; one worker is faster where the lists of a batch stay in its cache.
+fn batch_size(workers: u8, given: u32) -> u16
+    ensures value { result ≡ batch_size workers given }
+    ensures some { 1 ≤ result }
+    ensures few { result ≤ 4096 }
+{
+    match given {
+        1..=4096 => given as u16,
+        _ if workers == 1 => 512,
+        _ => 2_048,
+    }
+}
+
 /// Returns the options that were found after a subcommand. One that the subcommand doesn't have is
 /// as if no value was given.
 fn options_in<'a>(matches: &ArgMatches<'a>) -> Options<'a>
     ensures { AreOptions result (rows_of (found_of matches.now)) }
 {
+    let workers = one_to(64, number_in(matches, "workers")) as u8;
     Options {
         file: text_in(matches, "file", "-"),
         own: text_in(matches, "own", OWN),
         readers: one_to(8, number_in(matches, "readers")) as u8,
-        workers: one_to(64, number_in(matches, "workers")) as u8,
-        batch: one_to(4096, number_in(matches, "batch")) as u16,
+        workers,
+        batch: batch_size(workers, number_in(matches, "batch")),
         topic: text_in(matches, "topic", TOPIC),
         fixed: matches.get_str("fixed"),
         best_effort: flag_in(matches, "best-effort"),

@@ -186,10 +186,9 @@ fn batch<'a>(alloc: Global) -> Arg<'a>
 {
     Arg::new(alloc, "batch")
         .value_name("COUNT")
-        .help("How many datagrams are taken at a time, 1 to 4096; the text is the same")
+        .help("How many datagrams at a time, 1 to 4096 (512, or 2048 with several workers)")
         .long("batch")
         .value_parser(value_parser!(u32).range(1..4097))
-        .default_value("512")
 }
 
 fn readers<'a>(alloc: Global) -> Arg<'a>

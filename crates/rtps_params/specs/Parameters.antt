@@ -58,10 +58,12 @@ Fails e octets OddLength = IsOdd e octets
 abbrev pub IsList : Endian → List ℕ → List Parameter → Result (List ℕ) ParamFault → Type 0
 IsList e octets [] (Ok rest) = IsEnd e octets rest
 IsList e octets [] (Err fault) = Fails e octets fault
-IsList e octets (p ∷ ps) outcome = (rest : List ℕ) × IsParameter e p octets rest × IsList e rest ps outcome
+IsList e octets (p ∷ ps) outcome =
+    (rest : List ℕ) × IsParameter e p octets rest × IsList e rest ps outcome
 
 -- a result is the one that the grammar gives for some octets
-pub record IsFound (e : Endian) (octets : List ℕ) (answered : Result Contents ParamFault) : Type 0 where
+pub record IsFound (e : Endian) (octets : List ℕ) (answered : Result Contents ParamFault)
+    : Type 0 where
   pub parameters : List Parameter
   pub outcome : Result (List ℕ) ParamFault
   pub list : IsList e octets parameters outcome

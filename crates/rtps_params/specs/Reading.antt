@@ -25,7 +25,10 @@ Read = Result (Option Parameter × List ℕ) ParamFault
 -- checked first
 abbrev pub parameter_of : ℕ → ℕ → List ℕ → Read
 parameter_of id len more =
-    if len % 4 == 0 then (if nat_lt (length more) len then Err Short else Ok (Some (record { id = id; value = take len more }), drop len more)) else Err OddLength
+    if len % 4 == 0
+    then (if nat_lt (length more) len then Err Short
+    else Ok (Some (record { id = id; value = take len more }), drop len more))
+    else Err OddLength
 
 -- the id 1 is the end, whatever its length
 abbrev pub headed : Endian → ℕ → ℕ → List ℕ → Read
@@ -37,7 +40,8 @@ front_of e [] = Err NoEnd
 front_of e (a ∷ []) = Err Short
 front_of e (a ∷ b ∷ []) = Err Short
 front_of e (a ∷ b ∷ c ∷ []) = Err Short
-front_of e (a ∷ b ∷ c ∷ d ∷ more) = headed e (number e 2 (a ∷ b ∷ [])) (number e 2 (c ∷ d ∷ [])) more
+front_of e (a ∷ b ∷ c ∷ d ∷ more) =
+    headed e (number e 2 (a ∷ b ∷ [])) (number e 2 (c ∷ d ∷ [])) more
 
 -- what contracts see of the result of the code
 abbrev pub seen : Front → Read
@@ -61,7 +65,8 @@ pub record Reading : Type 0 where
 abbrev pub go_on : Read → Reading → Reading
 go_on (Err f) others = record { parameters = []; outcome = Err f }
 go_on (Ok (None, rest)) others = record { parameters = []; outcome = Ok rest }
-go_on (Ok (Some p, rest)) others = record { parameters = p ∷ others.parameters; outcome = others.outcome }
+go_on (Ok (Some p, rest)) others =
+    record { parameters = p ∷ others.parameters; outcome = others.outcome }
 
 -- the reading of the octets after the first n
 unfoldable pub reading_behind : Endian → ℕ → List ℕ → Reading
@@ -72,7 +77,8 @@ reading_behind e zero (a ∷ []) = record { parameters = []; outcome = Err Short
 reading_behind e zero (a ∷ b ∷ []) = record { parameters = []; outcome = Err Short }
 reading_behind e zero (a ∷ b ∷ c ∷ []) = record { parameters = []; outcome = Err Short }
 reading_behind e zero (a ∷ b ∷ c ∷ d ∷ more) =
-    go_on (headed e (number e 2 (a ∷ b ∷ [])) (number e 2 (c ∷ d ∷ [])) more) (reading_behind e (number e 2 (c ∷ d ∷ [])) more)
+    go_on (headed e (number e 2 (a ∷ b ∷ [])) (number e 2 (c ∷ d ∷ [])) more)
+    (reading_behind e (number e 2 (c ∷ d ∷ [])) more)
 
 -- the reading of octets as a parameter list
 abbrev pub reading : Endian → List ℕ → Reading
@@ -93,7 +99,8 @@ pub record Contents : Type 0 where
   pub used : ℕ
 
 -- the result for octets with these parameters and this outcome
-abbrev pub answer : Endian → List ℕ → List Parameter → Result (List ℕ) ParamFault → Result Contents ParamFault
+abbrev pub answer : Endian → List ℕ → List Parameter → Result (List ℕ) ParamFault
+    → Result Contents ParamFault
 answer e octets ps (Err fault) = Err fault
 answer e octets ps (Ok rest) =
     Ok (record { endian = e; parameters = filter is_shown ps; used = length octets - length rest })

@@ -38,7 +38,7 @@ writer_is w r e h = same_is (writer_of e) w (first_true (same_guid (writer_of e)
 abbrev entity_from : List ℕ → EntityId
 entity_from octets = record { 0 = octets }
 
-reader_is : (w : Guid) (r : EntityId) (e : EventView) → is_from w r e ≡ true → e.reader ≡ r
+pub reader_is : (w : Guid) (r : EntityId) (e : EventView) → is_from w r e ≡ true → e.reader ≡ r
 reader_is w r e h = ap entity_from ((bytes_eq-Decides e.reader.0 r.0).0 (second_true (same_guid (writer_of e) w) (bytes_eq e.reader.0 r.0) h))
 
 -- one event more
@@ -65,7 +65,7 @@ own_writer e = both (same e.source.0) (same e.writer.0) (same e.reader.0)
     both x y z = rw x rw y rw z refl
 
 -- it is no announcer
-users : (w : Guid) (r : EntityId) (e : EventView) → is_discovery w.entity ≡ false → is_from w r e ≡ true → is_discovery e.writer ≡ false
+pub users : (w : Guid) (r : EntityId) (e : EventView) → is_discovery w.entity ≡ false → is_from w r e ≡ true → is_discovery e.writer ≡ false
 users w r e others h = ap (λ (g : Guid). is_discovery g.entity) (writer_is w r e h) ∙ others
 
 -- such events change nothing of what is known, and discovery doesn't answer them

@@ -17,13 +17,16 @@ use Rattle.rtps_reader.specs.Step.{StepView}
 use Rattle.rtps_run.specs.Occurrence.{Came, Passes, head_of}
 use Rattle.rtps_run.proofs.Places.{all_append}
 use Rattle.rtps_run.proofs.Quiet.{nothing_changes, only_moves, quiet_doings}
+use Rattle.rtps_planner.specs.declared.passed_over.PassedOver.{PassedOver}
 use Rattle.rtps_planner.specs.declared.steps.Burst.{Burst}
 use Rattle.rtps_planner.specs.declared.steps.PlannedStep.{PlannedStep}
 use Rattle.rtps_planner.specs.declared.steps.Planning.{Planning}
 use Rattle.rtps_planner.specs.Commuting.{head_spoken}
 use Rattle.rtps_planner.specs.Job.{Job, job_of, known_after_all}
-use Rattle.rtps_planner.specs.Plan.{AreFrom, AreNext, EndsAt, Grow, HasRoom, IsOpen, IsPlanned, ReadsAs, asked_in, burst_at, events_at, is_from, longer, pending, ranks_named, steps_seen, taken_in}
+use Rattle.rtps_planner.specs.PassedOver.{capped, has_reader}
+use Rattle.rtps_planner.specs.Plan.{AreFrom, AreNext, EndsAt, Grow, HasRoom, IsOpen, IsPlanned, ReadsAs, asked_in, burst_at, events_at, is_from, longer, nobody_with, pending, ranks_named, steps_seen, taken_in}
 use Rattle.rtps_planner.proofs.Bursts.{burst_asked, own_writer, users_answers, users_known, writer_is}
+use Rattle.rtps_planner.proofs.Passing.{moved_with, nobody_of, none_more, opened_with, users_ignored, users_nobody, went_with}
 use Rattle.rtps_planner.proofs.Spoken.{spoken_came}
 use Rattle.rtps_planner.proofs.Whole.{job_more}
 
@@ -46,8 +49,9 @@ module _ {A : Type 0} (es : List EventView) (k : Known) (old new : Planning A) (
 
   -- an open burst is added to the lists
   pub closes : (b : Burst) → old.burst ≡ Some b → new.burst ≡ None → IsKnown k kept → Grow es old.lists.items new.lists.items (burst_at es b k.readers (matched_ranks k b.writer))
-      → new.answers ≡ old.answers → new.places ≡ old.places → IsPlanned es k [] old new kept
-  closes b was now known grows answers places = record {
+      → new.answers ≡ old.answers → new.places ≡ old.places → new.passed.nobody ≡ nobody_with k (Some b) old.passed.nobody → new.passed.ignored ≡ old.passed.ignored
+      → IsPlanned es k [] old new kept
+  closes b was now known grows answers places nobody ignored = record {
     known = known;
     count = grows.count;
     opened = λ going. subst (IsOpen es) (sym now) tt;
@@ -59,13 +63,20 @@ module _ {A : Type 0} (es : List EventView) (k : Known) (old new : Planning A) (
         ∙ sym (append-nil (asked_in es k old rank other));
     answers = ap (λ v. map answer_view v.items) answers ∙ sym (append-nil (map answer_view old.answers.items));
     places = ap (λ v. v.items) places ∙ sym (append-nil old.places.items);
+    nobody = λ going n is.
+        ap (λ (o : Option Burst). nobody_with k o new.passed.nobody) now
+        ∙ nobody
+        ∙ ap (λ (o : Option Burst). nobody_with k o old.passed.nobody) (sym was)
+        ∙ is
+        ∙ none_more n;
+    ignored = λ n is. ignored ∙ is ∙ none_more n;
   }
 
   -- an event opens a burst
   pub opens : (e : EventView) (b : Burst) (first : ℕ) → old.burst ≡ None → new.burst ≡ Some b → b ≡ record { first = first; more = 0; writer = writer_of e; reader = e.reader } → new.lists ≡ old.lists
-      → IsKnown k kept → is_discovery e.writer ≡ false → ReadsAs (e ∷ []) es first → new.answers ≡ old.answers → new.places.items ≡ old.places.items ++ e.place ∷ []
+      → IsKnown k kept → is_discovery e.writer ≡ false → ReadsAs (e ∷ []) es first → new.answers ≡ old.answers → new.places.items ≡ old.places.items ++ e.place ∷ [] → new.passed ≡ old.passed
       → IsPlanned es k (Came e ∷ []) old new kept
-  opens e b first was now is lists known others reads answers places = record {
+  opens e b first was now is lists known others reads answers places passed = record {
     known = subst (λ j. IsKnown j kept) (sym same) known;
     count = ap (λ v. length v.items) lists;
     opened = λ going. subst (IsOpen es) (sym open_is) opened;
@@ -79,6 +90,17 @@ module _ {A : Type 0} (es : List EventView) (k : Known) (old new : Planning A) (
         ∙ sym (append-nil (map answer_view old.answers.items))
         ∙ ap (λ l. map answer_view old.answers.items ++ l) (sym (users_answers k (writer_of e) e.reader (e ∷ []) others from));
     places = places;
+    nobody = λ going n counted.
+        let here : old.passed.nobody ≡ capped n = ap (λ (o : Option Burst). nobody_with k o old.passed.nobody) (sym was) ∙ counted in
+        ap (λ j. nobody_with j new.burst new.passed.nobody) same
+        ∙ ap (λ (o : Option Burst). nobody_with k o new.passed.nobody) open_is
+        ∙ opened_with k one new.passed.nobody n refl (ap (λ (p : PassedOver). p.nobody) passed ∙ here)
+        ∙ ap (λ m. capped (n + m)) (sym (users_nobody k (writer_of e) e.reader (e ∷ []) others from));
+    ignored = λ n counted.
+        ap (λ (p : PassedOver). p.ignored) passed
+        ∙ counted
+        ∙ none_more n
+        ∙ ap (λ m. capped (n + m)) (sym (users_ignored k (writer_of e) e.reader (e ∷ []) others from));
   }
     where
       one : Burst
@@ -98,10 +120,10 @@ module _ {A : Type 0} (es : List EventView) (k : Known) (old new : Planning A) (
 
   -- it goes on
   pub goes_on : (o : Option Burst) (run : List EventView) (first n : ℕ) → old.burst ≡ o → new.burst ≡ longer n o → new.lists ≡ old.lists → 0 < n → length run ≡ n
-      → AreNext o run → EndsAt o first → IsUsers o → IsKnown k kept → ReadsAs run es first → new.answers ≡ old.answers → new.places.items ≡ old.places.items ++ map (λ (e : EventView). e.place) run
+      → AreNext o run → EndsAt o first → IsUsers o → IsKnown k kept → ReadsAs run es first → new.answers ≡ old.answers → new.places.items ≡ old.places.items ++ map (λ (e : EventView). e.place) run → new.passed ≡ old.passed
       → IsPlanned es k (map Came run) old new kept
-  goes_on None run first n was now lists some counted next ends others known reads answers places = absurd (omega (arith, some, counted, ap length next))
-  goes_on (Some b) run first n was now lists some counted next ends others known reads answers places = record {
+  goes_on None run first n was now lists some counted next ends others known reads answers places passed = absurd (omega (arith, some, counted, ap length next))
+  goes_on (Some b) run first n was now lists some counted next ends others known reads answers places passed = record {
     known = subst (λ j. IsKnown j kept) (sym same) known;
     count = ap (λ v. length v.items) lists;
     opened = λ going. subst (IsOpen es) (sym now) (subst (AreFrom b.writer b.reader) (sym both) (from (before_from going)), others);
@@ -124,6 +146,19 @@ module _ {A : Type 0} (es : List EventView) (k : Known) (old new : Planning A) (
         ∙ sym (append-nil (map answer_view old.answers.items))
         ∙ ap (λ l. map answer_view old.answers.items ++ l) (sym (users_answers k b.writer b.reader run others next));
     places = places ∙ ap (λ l. old.places.items ++ l) (sym (spoken_came k run));
+    nobody = λ going m is.
+        let here : nobody_with k (Some b) old.passed.nobody ≡ capped m = ap (λ (o : Option Burst). nobody_with k o old.passed.nobody) (sym was) ∙ is in
+        ap (λ j. nobody_with j new.burst new.passed.nobody) same
+        ∙ ap (λ (o : Option Burst). nobody_with k o new.passed.nobody) now
+        ∙ ap (λ (p : PassedOver). nobody_with k (Some (record b { more = b.more + n })) p.nobody) passed
+        ∙ went_with k b old.passed.nobody m n here
+        ∙ ap (λ x. capped (m + nobody_of (has_reader k b.writer b.reader) x)) (sym counted)
+        ∙ ap (λ x. capped (m + x)) (sym (users_nobody k b.writer b.reader run others next));
+    ignored = λ m is.
+        ap (λ (p : PassedOver). p.ignored) passed
+        ∙ is
+        ∙ none_more m
+        ∙ ap (λ x. capped (m + x)) (sym (users_ignored k b.writer b.reader run others next));
   }
     where
       before : List EventView
@@ -200,4 +235,10 @@ stays_open es k p kept index moment none known = record {
       ∙ ap (λ ds. asked_in es k p rank other ++ (map (λ (what : StepView). (head_of index, what)) ds ++ [])) (sym (quiet_doings k rank index moment none));
   answers = sym (append-nil (map answer_view p.answers.items));
   places = sym (append-nil p.places.items) ∙ ap (λ cs. p.places.items ++ (head_spoken index cs ++ [])) (sym (nothing_changes moment k none));
+  nobody = λ going n is.
+      ap (λ j. nobody_with j p.burst p.passed.nobody) (only_moves moment k none)
+      ∙ moved_with moment k p.burst p.passed.nobody
+      ∙ is
+      ∙ none_more n;
+  ignored = λ n is. is ∙ none_more n;
 }

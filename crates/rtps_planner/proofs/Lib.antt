@@ -12,4 +12,5 @@ mod Rising
 pub mod Along
 mod Bursts
 mod Going
+pub mod Passing
 pub mod Stamping

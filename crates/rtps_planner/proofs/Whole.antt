@@ -21,11 +21,13 @@ use Rattle.rtps_planner.specs.declared.steps.Burst.{Burst}
 use Rattle.rtps_planner.specs.declared.steps.PlannedStep.{PlannedStep}
 use Rattle.rtps_planner.specs.declared.steps.PlannedStep.TheVariants as step
 use Rattle.rtps_planner.specs.declared.steps.Planning.{Planning}
-use Rattle.rtps_planner.specs.Plan.{AreSteps, Grow, IsOpen, IsPlanned, ReadsAs, asked_in, job_at, job_seen, jobs_by, pending, step_seen, steps_seen, taken_in}
+use Rattle.rtps_planner.specs.PassedOver.{capped, ignored_among, nobody_among}
+use Rattle.rtps_planner.specs.Plan.{AreSteps, Grow, IsOpen, IsPlanned, ReadsAs, asked_in, job_at, job_seen, jobs_by, nobody_with, pending, step_seen, steps_seen, taken_in}
+use Rattle.rtps_planner.proofs.Passing.{ignored_more, nobody_more, none_more}
 
 -- ---- some occurrences more
 
-known_more : (k : Known) (os run : List Occurrence) → known_after_all k (os ++ run) ≡ known_after_all (known_after_all k os) run
+pub known_more : (k : Known) (os run : List Occurrence) → known_after_all k (os ++ run) ≡ known_after_all (known_after_all k os) run
 known_more k [] run = refl
 known_more k (o ∷ os) run = known_more (known_then k o) os run
 
@@ -65,6 +67,8 @@ module _ {A : Type 0} (es : List EventView) (k : Known) where
     steps = λ going count rank other below. sym (append-nil (asked_in es k old rank other));
     answers = sym (append-nil (map answer_view old.answers.items));
     places = sym (append-nil old.places.items);
+    nobody = λ going n is. is ∙ none_more n;
+    ignored = λ n is. is ∙ none_more n;
   }
 
   -- these occurrences more are planned
@@ -91,6 +95,14 @@ module _ {A : Type 0} (es : List EventView) (k : Known) where
             ∙ ap (λ l. l ++ spoken after run) one.places
             ∙ append_assoc old.places.items (spoken k os) (spoken after run)
             ∙ ap (λ l. old.places.items ++ l) (sym (spoken_more k os run));
+        nobody = λ going n is.
+            let sum : n + nobody_among k os + nobody_among after run ≡ n + nobody_among k (os ++ run) = omega (arith, nobody_more k os run) in
+            ap (λ j. nobody_with j new.burst new.passed.nobody) (known_more k os run)
+            ∙ two.nobody (one.opened going) (n + nobody_among k os) (one.nobody going n is)
+            ∙ ap capped sum;
+        ignored = λ n is.
+            let sum : n + ignored_among k os + ignored_among after run ≡ n + ignored_among k (os ++ run) = omega (arith, ignored_more k os run) in
+            two.ignored (n + ignored_among k os) (one.ignored n is) ∙ ap capped sum;
       }
 
   -- what is appended to the lists, where no burst is open
@@ -100,8 +112,10 @@ module _ {A : Type 0} (es : List EventView) (k : Known) where
       → (length old.lists.items ≡ length k.readers → (rank : ℕ) → rank < length old.lists.items → added rank ≡ job_of rank k os)
       → map answer_view new.answers.items ≡ map answer_view old.answers.items ++ discovery_answers k os
       → new.places.items ≡ old.places.items ++ spoken k os
+      → new.passed.nobody ≡ old.passed.nobody → nobody_among k os ≡ 0
+      → ((n : ℕ) → old.passed.ignored ≡ capped n → new.passed.ignored ≡ capped (n + ignored_among k os))
       → IsPlanned es k os old new kept
-  planned_grow os old new added kept none still known grows same answers places =
+  planned_grow os old new added kept none still known grows same answers places nobody for_all ignored =
       let at : Planning A → ℕ → Vec (PlannedStep A) A → Job = λ p rank other. steps_seen es (get_or p.lists.items rank other).items in
       record {
         known = known;
@@ -116,6 +130,14 @@ module _ {A : Type 0} (es : List EventView) (k : Known) where
             ∙ ap (λ (o : Option Burst). (at old rank other ++ pending es k o rank) ++ job_of rank k os) (sym none);
         answers = answers;
         places = places;
+        nobody = λ going n is.
+            ap (λ (o : Option Burst). nobody_with (known_after_all k os) o new.passed.nobody) still
+            ∙ nobody
+            ∙ ap (λ (o : Option Burst). nobody_with k o old.passed.nobody) (sym none)
+            ∙ is
+            ∙ none_more n
+            ∙ ap (λ m. capped (n + m)) (sym for_all);
+        ignored = ignored;
       }
 
 -- ---- steps

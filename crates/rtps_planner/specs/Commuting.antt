@@ -85,7 +85,8 @@ merged parts count (place ∷ places) =
     ++ merged parts count places
 
 -- discovery's answers over a list of occurrences, and the notices and answers of each reader's job
-abbrev pub parts_of : {M : Type 0} → Decoding M → Known → (ℕ → Reader) → List Occurrence → PartsByRank M
+abbrev pub parts_of : {M : Type 0} → Decoding M → Known → (ℕ → Reader) → List Occurrence
+    → PartsByRank M
 parts_of decoding k readers os = record {
   answers = discovery_answers k os;
   told = λ rank. job_told decoding (readers rank) (job_of rank k os);

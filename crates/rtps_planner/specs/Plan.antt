@@ -1,6 +1,6 @@
 -- The jobs of a plan, whose steps point into the batch's list of events, and the places at which
 -- something may be put out.
-use Rattle.std.specs.Prelude.{◌≡◌, ℕ, zero, suc, ◌+◌, [], ◌∷◌, Bool, true, ◌&&◌, ◌<◌, List, ◌++◌, ◌^◌, false, length, map, filter, take, drop, ◌==◌, None, Option, Some, slice_index_or}
+use Rattle.std.specs.Prelude.{◌≡◌, ℕ, zero, suc, ◌+◌, [], ◌∷◌, Bool, true, ◌&&◌, ◌<◌, List, ◌++◌, ◌^◌, false, length, map, filter, take, drop, ◌==◌, if◌then◌else◌, None, Option, Some, slice_index_or}
 use Rattle.std.specs.List.{AllByRecursion, flat_map}
 use Rattle.std.specs.Str.{bytes_eq}
 use Rattle.std.specs.declared.vec.Vec.{Vec}
@@ -25,6 +25,7 @@ use Rattle.rtps_planner.specs.declared.jobs.Job as plan_job
 use Rattle.rtps_planner.specs.declared.jobs.Plan.{Plan}
 use Rattle.rtps_planner.specs.Commuting.{spoken}
 use Rattle.rtps_planner.specs.Job.{Job, discovery_answers, job_of, known_after_all}
+use Rattle.rtps_planner.specs.PassedOver.{capped, has_reader, ignored_among, nobody_among, passed_over}
 
 -- the step by which a reader processes an event
 abbrev pub taken_in : EventView → Place × StepView
@@ -67,7 +68,8 @@ ranks_named reader readers ranks rank =
 -- what a burst asks of the reader of a rank, where that is among these and the burst names it
 abbrev pub burst_at : List EventView → Burst → List (Option Wish) → List ℕ → ℕ → Job
 burst_at es b readers ranks rank =
-    flat_map (λ r. map taken_in (events_at es b.first b.more)) (ranks_named b.reader readers ranks rank)
+    flat_map (λ r. map taken_in (events_at es b.first b.more))
+    (ranks_named b.reader readers ranks rank)
 
 -- a list has these events from index `first` on
 abbrev pub ReadsAs : List EventView → List EventView → ℕ → Type 0
@@ -111,8 +113,15 @@ abbrev pub asked_in : {A : Type 0} → List EventView → Known → Planning A �
 asked_in es k p rank other =
     steps_seen es (slice_index_or p.lists.items rank other).items ++ pending es k p.burst rank
 
+-- this number of events for nobody, with those of an open burst that has no reader
+abbrev pub nobody_with : Known → Option Burst → ℕ → ℕ
+nobody_with k None n = n
+nobody_with k (Some b) n =
+    if has_reader k b.writer b.reader then n else capped (n + (b.more + 1))
+
 -- what occurrences ask of each reader, discovery's answers to them, and the places at which they
--- may put something out are appended, and discovery keeps what is known after them
+-- may put something out are appended, what comes to nothing is counted, and discovery keeps what is
+-- known after them
 pub record IsPlanned {A : Type 0} (es : List EventView) (k : Known) (os : List Occurrence)
     (old new : Planning A) (kept : RegistryView) : Type 0 where
   pub known : IsKnown (known_after_all k os) kept
@@ -125,6 +134,12 @@ pub record IsPlanned {A : Type 0} (es : List EventView) (k : Known) (os : List O
   pub answers : map answer_view new.answers.items
       ≡ map answer_view old.answers.items ++ discovery_answers k os
   pub places : new.places.items ≡ old.places.items ++ spoken k os
+  pub nobody : IsOpen es old.burst → (n : ℕ)
+      → nobody_with k old.burst old.passed.nobody ≡ capped n
+      → nobody_with (known_after_all k os) new.burst new.passed.nobody
+      ≡ capped (n + nobody_among k os)
+  pub ignored : (n : ℕ) → old.passed.ignored ≡ capped n
+      → new.passed.ignored ≡ capped (n + ignored_among k os)
 
 -- the steps of each rank are what is asked of it, and there are none where nothing is asked
 pub record AreSteps {A : Type 0} (es : List EventView) (lists : List (Vec (PlannedStep A) A))
@@ -148,9 +163,9 @@ abbrev pub jobs_by : (ℕ → Job) → ℕ → List (ℕ × Job)
 jobs_by asked zero = []
 jobs_by asked (suc n) = jobs_by asked n ++ job_at n (asked n)
 
--- A plan has a job for each reader that the occurrences ask something of, discovery's answers, and
--- the places at which something may be put out; and discovery keeps what is known after them. Steps
--- point into the events.
+-- A plan has a job for each reader that the occurrences ask something of, discovery's answers, the
+-- places at which something may be put out, and the counters of what comes to nothing; and
+-- discovery keeps what is known after them. Steps point into the events.
 pub record IsPlan {A : Type 0} (k : Known) (es : List EventView) (os : List Occurrence)
     (plan : Plan A) (kept : RegistryView) : Type 0 where
   pub known : IsKnown (known_after_all k os) kept
@@ -160,3 +175,4 @@ pub record IsPlan {A : Type 0} (k : Known) (es : List EventView) (os : List Occu
   pub ranks : plan.rest.ranks.items ≡ map (λ job. job.rank) plan.jobs.items
   pub answers : map answer_view plan.rest.answers.items ≡ discovery_answers k os
   pub places : plan.rest.places.items ≡ spoken k os
+  pub passed : plan.rest.passed ≡ passed_over k os

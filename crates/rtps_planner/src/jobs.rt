@@ -2,6 +2,7 @@
 
 ghost use Rattle.std.specs.Prelude.{◌^◌, ◌≤◌};
 
+use crate::passed_over::PassedOver;
 use crate::steps::PlannedStep;
 use rtps_types::{Place, Reply};
 use std::alloc::{Allocator, Global};
@@ -28,6 +29,8 @@ pub struct Rest<A: Allocator = Global> {
     /// that before the events of a datagram (submessage 0) if a match ends there because a lease
     /// ended.
     pub places: Vec<Place, A>,
+    /// What of the batch comes to nothing.
+    pub passed: PassedOver,
     /// Ranks have 32 bits.
     ghost ranked: { readers ≤ 2 ^ 32 },
 }

@@ -4,11 +4,12 @@ ghost use Rattle.std.specs.Prelude.{◌≡◌, ℕ, List, None};
 ghost use Rattle.std.specs.List.{All};
 ghost use Rattle.rtps_types.specs.declared.identity.GuidPrefix.{GuidPrefix};
 ghost use Rattle.rtps_discovery.specs.Kept.{RegistryView};
+ghost use Rattle.rtps_discovery.specs.Known.{Wish};
 ghost use Rattle.dds_topic.specs.Decoding.{Decoding};
 ghost use Rattle.rtps_reader.specs.declared.notice.Output.{Output};
 ghost use Rattle.rtps_run.specs.declared.outcome.Outcome.{Outcome};
 ghost use Rattle.rtps_receiver.specs.Events.{EventView};
-ghost use Rattle.rtps_run.specs.Input.{Input, occurrences_from};
+ghost use Rattle.rtps_run.specs.Input.{Input, Tick, AddReader, RemoveReader, occurrences_from};
 ghost use Rattle.rtps_run.specs.Occurrence.{Occurrence};
 ghost use Rattle.rtps_run.specs.Outcome.{Adds};
 ghost use Rattle.rtps_run.specs.Rising.{IsBatch, IsSteady, OccurrencesRise};
@@ -18,6 +19,7 @@ ghost use Rattle.rtps_planner.specs.Commuting.{IsByPlace, IsBySpoken, IsDiscover
 ghost use Rattle.rtps_planner.specs.Cut.{EveryCut};
 ghost use Rattle.rtps_planner.specs.declared.jobs.Plan.{Plan};
 ghost use Rattle.rtps_planner.specs.Outputs.{IsGathered, IsOutputOf, fault_of, ranks_of};
+ghost use Rattle.rtps_planner.specs.PassedOver.{AddsUp, CountsNothing};
 ghost use Rattle.rtps_planner.specs.Plan.{IsPlan};
 
 use std::alloc::Allocator;
@@ -51,6 +53,16 @@ pub fn by_place<M>()
 /// However a list of inputs is cut into batches, the result is the run of one thread.
 pub fn every_cut<M>()
     ensures { (decoding : Decoding M) → EveryCut decoding }
+{}
+
+/// However a list of inputs is cut, what comes to nothing in its parts, counted together, is what
+/// comes to nothing in the list. A tick counts nothing, and neither does a reader of ours that
+/// comes or goes.
+pub fn counted_apart()
+    ensures parts { AddsUp }
+    ensures tick { (moment : ℕ) → CountsNothing (Tick moment) }
+    ensures comes { (r : Wish) → CountsNothing (AddReader r) }
+    ensures goes { (rank : ℕ) → CountsNothing (RemoveReader rank) }
 {}
 
 /// For any occurrences whose places rise and among which no reader comes, as those of a batch of

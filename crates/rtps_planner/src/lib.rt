@@ -5,6 +5,7 @@
 mod jobs;
 pub mod laws;
 mod outputs;
+mod passed_over;
 mod planner;
 mod stamped;
 mod steps;
@@ -13,6 +14,7 @@ mod tests;
 
 pub use jobs::{Job, Plan, Rest};
 pub use outputs::{GatherFault, gather};
+pub use passed_over::PassedOver;
 pub use planner::plan;
 pub use stamped::Stamped;
 pub use steps::PlannedStep;

@@ -9,6 +9,7 @@ ghost use Rattle.rtps_planner.specs.Plan.{AreFrom, AreNext, AreSteps, EndsAt, Ha
 ghost use Rattle.rtps_planner.specs.Stamped.{all_events, all_occurrences, events_in, occurrences_in};
 
 use crate::jobs::{Job, Plan, Rest};
+use crate::passed_over::PassedOver;
 use crate::stamped::Stamped;
 use crate::steps::{
     Burst, PlannedStep, Planning, add_places, close, open_burst, plan_announcement, plan_moment,
@@ -219,6 +220,7 @@ fn plan_from<A: Allocator + Copy>(alloc: A, planning: Planning<A>) -> Result<Pla
         plan.rest.ranks.items ≡ map (λ job. job.rank) plan.jobs.items) }
     ensures answers { IfOk result (λ plan. plan.rest.answers ≡ planning.answers) }
     ensures places { IfOk result (λ plan. plan.rest.places ≡ planning.places) }
+    ensures passed { IfOk result (λ plan. plan.rest.passed ≡ planning.passed) }
 {
     let readers = planning.lists.len();
     let jobs = jobs_of(alloc, planning.lists)?;
@@ -227,6 +229,7 @@ fn plan_from<A: Allocator + Copy>(alloc: A, planning: Planning<A>) -> Result<Pla
         ranks: ranks_of(alloc, &jobs)?,
         answers: planning.answers,
         places: planning.places,
+        passed: planning.passed,
     };
     Ok(Plan { jobs, rest })
 }
@@ -247,6 +250,7 @@ fn planned<A: Allocator + Copy>(
         lists: empty_lists(alloc, discovery.readers().len())?,
         answers: Vec::new(alloc),
         places: Vec::new(alloc),
+        passed: PassedOver::new(),
         burst: None,
     };
     plan_all(discovery, &mut planning, alloc, stamped)?;
@@ -255,9 +259,10 @@ fn planned<A: Allocator + Copy>(
 }
 
 /// Plans a batch, which is datagrams or one tick: returns what each reader has to do at their
-/// moments and events, and discovery's answers. Discovery advances to each moment, which may end
-/// leases, and then processes the datagram's events. Steps refer to the events by their indices
-/// among the events of all `stamped`, one after the other; no event is copied.
+/// moments and events, discovery's answers, and how many events come to nothing. Discovery advances
+/// to each moment, which may end leases, and then processes the datagram's events. Steps refer to
+/// the events by their indices among the events of all `stamped`, one after the other; no event is
+/// copied.
 ///
 /// An error is a refused growth, after which discovery is spent: it may have taken some of the
 /// moments and events, and their results are lost. A discovery that is spent already is refused,

@@ -1,21 +1,24 @@
 //! The steps of readers for a moment, for an announcement, and for events of a user's writer.
 
-ghost use Rattle.std.specs.Prelude.{◌≡◌, ℕ, ◌+◌, ◌<◌, ◌^◌, ◌==◌, ◌++◌, [], ◌∷◌, List, None, OnOk, if◌then◌else◌, length, map, true, false};
+ghost use Rattle.std.specs.Prelude.{◌≡◌, ℕ, ◌+◌, ◌<◌, ◌^◌, ◌==◌, ◌++◌, [], ◌∷◌, IfOk, List, None, OnOk, if◌then◌else◌, length, map, true, false};
+ghost use Rattle.std.specs.List.{list_any};
 ghost use Rattle.std.specs.Option.{option_map};
 ghost use Rattle.rtps_discovery.specs.Addressed as addressed;
 ghost use Rattle.rtps_discovery.specs.Kept.{IsKnown};
-ghost use Rattle.rtps_discovery.specs.Known.{Known};
+ghost use Rattle.rtps_discovery.specs.Known.{Known, reader_at};
 ghost use Rattle.rtps_discovery.specs.Seen.{change_seen};
 ghost use Rattle.rtps_receiver.specs.Events.{EventView, view};
 ghost use Rattle.rtps_proxy.specs.Replies.{reply_view};
 ghost use Rattle.rtps_reader.specs.Notice.{answer_view};
 ghost use Rattle.rtps_reader.specs.Reader.{placed};
+ghost use Rattle.rtps_run.specs.Addressed.{is_named};
 ghost use Rattle.rtps_run.specs.Occurrence.{Came, Passes};
 ghost use Rattle.rtps_run.specs.World.{changes_for};
 ghost use Rattle.rtps_planner.specs.Commuting.{head_spoken};
 ghost use Rattle.rtps_planner.specs.Plan.{EndsAt, Grow, IsPlanned, ReadsAs, burst_at, events_at, step_seen, steps_seen, taken_in};
 ghost use Rattle.rtps_planner.specs.declared.steps.PlannedStep.TheVariants as planned;
 
+use crate::passed_over::PassedOver;
 use rtps_discovery::{Discovery, MatchChange, Reader};
 use rtps_receiver::Event;
 use rtps_run::is_named;
@@ -159,22 +162,27 @@ fn add_changes<A: Allocator>(
     Ok(())
 }
 
-/// Adds a burst to the steps of those readers of these ranks that its reader id names.
+/// Adds a burst to the steps of those readers of these ranks that its reader id names. Returns
+/// whether it names one.
 fn add_burst<A: Allocator>(
     lists: &mut Vec<Vec<PlannedStep<A>, A>, A>,
     readers: &[Option<Reader<A>>],
     ranks: &[u32],
     burst: Burst,
-) -> Result<(), AllocError>
-    ensures { (es : List EventView) → OnOk result (Grow es lists.old.items lists.new.items
+) -> Result<bool, AllocError>
+    ensures grows { (es : List EventView) → OnOk result (Grow es lists.old.items lists.new.items
         (burst_at es burst readers.now ranks.now)) }
+    ensures named { IfOk result (λ named. named ≡ list_any
+        (λ rank. is_named burst.reader (reader_at readers.now rank)) ranks.now) }
 {
+    let mut named = false;
     for rank in ranks {
         if is_named(readers, *rank, burst.reader) {
+            named = true;
             take_in_at(lists, *rank, burst)?;
         }
     }
-    Ok(())
+    Ok(named)
 }
 
 /// The steps of each reader so far, by rank, discovery's answers, and the places at which something
@@ -184,6 +192,8 @@ pub(crate) struct Planning<A: Allocator> {
     pub lists: Vec<Vec<PlannedStep<A>, A>, A>,
     pub answers: Vec<(Place, Reply<A>), A>,
     pub places: Vec<Place, A>,
+    /// What came to nothing so far, without the burst.
+    pub passed: PassedOver,
     /// The last events, if they are a burst that may go on. Its steps are not in the lists yet.
     pub burst: Option<Burst>,
 }
@@ -264,7 +274,7 @@ fn end_matches<A: Allocator + Copy>(
 }
 
 /// Adds the open burst, if there is one, to the steps of the readers that are matched with its
-/// writer and that it names.
+/// writer and that it names. If there are none, its events are for nobody.
 pub(crate) fn close<A: Allocator + Copy>(
     discovery: &Discovery<A>,
     planning: &mut Planning<A>,
@@ -280,7 +290,11 @@ pub(crate) fn close<A: Allocator + Copy>(
     };
     let readers = discovery.readers();
     let ranks = discovery.matched(burst.writer);
-    add_burst(&mut planning.lists, readers, ranks, burst)
+    let has_reader = add_burst(&mut planning.lists, readers, ranks, burst)?;
+    if !has_reader {
+        planning.passed.count_nobody(burst.more as u64);
+    }
+    Ok(())
 }
 
 /// Plans the moment of the datagram of this index. If no lease ends at it, the open burst stays
@@ -310,7 +324,8 @@ pub(crate) fn plan_moment<A: Allocator + Copy>(
 }
 
 /// Has discovery process an announcement at the moment that it has reached, and appends its answer,
-/// and each change of a match to the steps of its reader. No burst is open.
+/// and each change of a match to the steps of its reader. Records that discovery ignores are
+/// counted. No burst is open.
 fn announce<A: Allocator + Copy>(
     discovery: &mut Discovery<A>,
     planning: &mut Planning<A>,
@@ -330,6 +345,7 @@ fn announce<A: Allocator + Copy>(
     let moment = discovery.moment();
     let effects = discovery.step(alloc, moment, event)?;
     planning.places.push(event.place)?;
+    planning.passed.count_ignored(effects.ignored as u64);
     add_answer(&mut planning.answers, event.place, effects.answer)?;
     add_changes(&mut planning.lists, event.place, effects.changes)
 }

@@ -25,12 +25,19 @@ pub record Acknack : Type 0 where
 abbrev pub acknack_by : (ℕ → Bool) → ℕ → ℕ → ℕ → Acknack
 acknack_by settled base announced earlier =
     let members = failing_from settled base (min 256 (announced + 1 - base))
-    in record { base = base; members = members; bits = bits_of base members; final = not (lacks settled announced); count = (earlier + 1) % 2 ^ 32 }
+    in record {
+      base = base;
+      members = members;
+      bits = bits_of base members;
+      final = not (lacks settled announced);
+      count = (earlier + 1) % 2 ^ 32;
+    }
 
 -- an accepted HEARTBEAT is answered if it isn't final, or if something is missing and it isn't for
 -- liveliness alone
 abbrev pub asks : List MatchEvent → MatchEvent → HeartbeatView → Bool
-asks past e h = is_new past h.count && (not h.final_flag || (not h.liveliness && is_incomplete (e ∷ past)))
+asks past e h =
+    is_new past h.count && (not h.final_flag || (not h.liveliness && is_incomplete (e ∷ past)))
 
 -- only a HEARTBEAT is answered by an ACKNACK
 abbrev pub is_answered_by : List MatchEvent → MatchEvent → EventBodyView → Bool
@@ -52,4 +59,7 @@ answers (e ∷ past) = if is_answered past e then answers past + 1 else answers 
 -- the ACKNACK that answers an event, if one does; it asks for what is missing after the event
 abbrev pub answer : List MatchEvent → MatchEvent → Option Acknack
 answer past e =
-    if is_answered past e then Some (acknack_by (is_settled (e ∷ past)) (frontier_of (e ∷ past)) (announced_of (e ∷ past)) (answers past)) else None
+    if is_answered past e
+    then Some
+    (acknack_by (is_settled (e ∷ past)) (frontier_of (e ∷ past)) (announced_of (e ∷ past))
+    (answers past)) else None

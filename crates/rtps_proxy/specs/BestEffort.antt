@@ -32,7 +32,8 @@ takes_fragments t f = fits t.begun f && (nat_lt t.top f.number && is_among t.beg
 -- the pending samples after an event
 abbrev pub begun_by : Taken → Option Timestamp → EventBodyView → List Begun
 begun_by t time (Whole c) = t.begun
-begun_by t time (Fragment f) = if takes_fragments t f then greatest (with_fragments_of time f t.begun) else t.begun
+begun_by t time (Fragment f) =
+    if takes_fragments t f then greatest (with_fragments_of time f t.begun) else t.begun
 begun_by t time (Heartbeat h) = t.begun
 begun_by t time (Gap g) = t.begun
 begun_by t time (HeartbeatFrag h) = t.begun
@@ -41,7 +42,8 @@ begun_by t time (HeartbeatFrag h) = t.begun
 -- completes
 abbrev pub ready_by : Taken → Option Timestamp → EventBodyView → List ChangeView
 ready_by t time (Whole c) = if nat_lt t.top c.number then change_of time c ∷ [] else []
-ready_by t time (Fragment f) = if takes_fragments t f then whole_at f.number (with_fragments_of time f t.begun) else []
+ready_by t time (Fragment f) =
+    if takes_fragments t f then whole_at f.number (with_fragments_of time f t.begun) else []
 ready_by t time (Heartbeat h) = []
 ready_by t time (Gap g) = []
 ready_by t time (HeartbeatFrag h) = []

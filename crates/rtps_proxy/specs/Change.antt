@@ -26,7 +26,13 @@ octets_of (payload.Kept octets) = octets
 
 -- what contracts see of a change
 abbrev pub change_view : {A : Type 0} → Change A → ChangeView
-change_view c = record { number = value_of c.number; time = c.time; info = c.info; payload = octets_of c.payload }
+change_view c =
+    record {
+      number = value_of c.number;
+      time = c.time;
+      info = c.info;
+      payload = octets_of c.payload;
+    }
 
 -- what contracts see of changes
 abbrev pub change_views : {A : Type 0} → List (Change A) → List ChangeView

@@ -71,7 +71,8 @@ abbrev pub answer_of : Pairing → List MatchEvent → MatchEvent → Option Rep
 answer_of w past e = if w.reliable then reply w past e else None
 
 -- the effects of an event
-pub record AreEffects {A : Type 0} (pairing : Pairing) (past : List MatchEvent) (event : MatchEvent) (effects : Effects A) : Type 0 where
+pub record AreEffects {A : Type 0} (pairing : Pairing) (past : List MatchEvent) (event : MatchEvent)
+    (effects : Effects A) : Type 0 where
   pub lost : effects.lost ≡ lost_of pairing.reliable past event
   pub ready : map change_view effects.ready.items ≡ ready_of pairing.reliable past event
   pub answer : option_map reply_view effects.answer ≡ answer_of pairing past event
@@ -79,9 +80,12 @@ pub record AreEffects {A : Type 0} (pairing : Pairing) (past : List MatchEvent) 
 -- How an event is handled: the state then follows from this event too, and its effects are those of
 -- the event. A refused growth leaves the proxy spent. A spent proxy refuses each event, and nothing
 -- changes.
-pub record TakesIn {A E : Type 0} (old new : ProxyView) (event : MatchEvent) (result : Result (Effects A) E) : Type 0 where
-  pub stands : (past : List MatchEvent) → StandsAt past old → OnOk result (StandsAt (event ∷ past) new)
-  pub effects : (past : List MatchEvent) → StandsAt past old → IfOk result (AreEffects old.pairing past event)
+pub record TakesIn {A E : Type 0} (old new : ProxyView) (event : MatchEvent)
+    (result : Result (Effects A) E) : Type 0 where
+  pub stands : (past : List MatchEvent) → StandsAt past old
+      → OnOk result (StandsAt (event ∷ past) new)
+  pub effects : (past : List MatchEvent) → StandsAt past old
+      → IfOk result (AreEffects old.pairing past event)
   pub pairing : new.pairing ≡ old.pairing
   pub err : OnErr result (new.spent ≡ true)
   pub spent : old.spent ≡ true → IsErr result

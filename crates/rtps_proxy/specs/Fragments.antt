@@ -26,11 +26,19 @@ is_faulty f = is_some (fault_of (sizes_of f) f.start f.count (length f.payload))
 
 -- the sample with the fragments of a DATA_FRAG too; a fragment that it has already stays as it is
 abbrev pub grown : Begun → FragmentView → Begun
-grown b f = record { number = b.number; time = b.time; info = b.info; sizes = b.sizes; there = with_fragments b.sizes f.start f.payload b.there f.start f.count }
+grown b f =
+    record {
+      number = b.number;
+      time = b.time;
+      info = b.info;
+      sizes = b.sizes;
+      there = with_fragments b.sizes f.start f.payload b.there f.start f.count;
+    }
 
 -- a sample without fragments, with what its first DATA_FRAG says
 abbrev pub opened : Option Timestamp → FragmentView → Begun
-opened time f = record { number = f.number; time = time; info = f.info; sizes = sizes_of f; there = [] }
+opened time f =
+    record { number = f.number; time = time; info = f.info; sizes = sizes_of f; there = [] }
 
 -- the sample with a number
 abbrev pub begun_at : ℕ → List Begun → Option Begun
@@ -64,7 +72,8 @@ fits bs f = not (is_faulty f) && fits_in (begun_at f.number bs) f
 
 -- the change that a complete sample is
 abbrev pub sample_in : Begun → ChangeView
-sample_in b = record { number = b.number; time = b.time; info = b.info; payload = payload_of b.there }
+sample_in b =
+    record { number = b.number; time = b.time; info = b.info; payload = payload_of b.there }
 
 -- the change, if the sample is complete
 abbrev pub whole_of : Option Begun → List ChangeView

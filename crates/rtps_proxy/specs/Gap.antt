@@ -11,7 +11,8 @@ abbrev pub names : EventBodyView → ℕ → Bool
 names (Whole c) n = false
 names (Fragment f) n = false
 names (Heartbeat h) n = false
-names (Gap g) n = (nat_le g.start n && nat_lt n g.list.base) || list_any (λ m. m == n) (members g.list)
+names (Gap g) n =
+    (nat_le g.start n && nat_lt n g.list.base) || list_any (λ m. m == n) (members g.list)
 names (HeartbeatFrag h) n = false
 
 -- a gap of the match named the number

@@ -47,7 +47,8 @@ first_of (e ∷ past) = first_after past (first_of past) e.body
 abbrev pub announced_after : List MatchEvent → ℕ → EventBodyView → ℕ
 announced_after past announced (Whole c) = announced
 announced_after past announced (Fragment f) = announced
-announced_after past announced (Heartbeat h) = if is_new past h.count then max announced h.last else announced
+announced_after past announced (Heartbeat h) =
+    if is_new past h.count then max announced h.last else announced
 announced_after past announced (Gap g) = announced
 announced_after past announced (HeartbeatFrag h) = announced
 

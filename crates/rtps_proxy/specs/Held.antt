@@ -10,7 +10,9 @@ IsRising (s ∷ ss) = AllByRecursion (λ t. s.number ≤ t.number) ss × IsRisin
 
 -- the changes before a place have numbers below n, and the others don't
 abbrev pub IsPlace : ℕ → ℕ → List ChangeView → Type 0
-IsPlace n at ss = AllByRecursion (λ s. s.number < n) (take at ss) × AllByRecursion (λ s. n ≤ s.number) (drop at ss)
+IsPlace n at ss =
+    AllByRecursion (λ s. s.number < n) (take at ss)
+    × AllByRecursion (λ s. n ≤ s.number) (drop at ss)
 
 -- a change has a number below n
 abbrev pub is_below : ℕ → ChangeView → Bool

@@ -31,7 +31,14 @@ pub record Pairing : Type 0 where
 
 -- what contracts see of a proxy's configuration
 abbrev pub pairing : {A : Type 0} → ProxyConfig A → Pairing
-pairing c = record { own = c.own; writer = c.writer; reader = c.reader; reliable = c.reliable; locators = c.locators }
+pairing c =
+    record {
+      own = c.own;
+      writer = c.writer;
+      reader = c.reader;
+      reliable = c.reliable;
+      locators = c.locators;
+    }
 
 -- the state of a reliable reader: the greatest count of an accepted HEARTBEAT, the announced
 -- number, the settled numbers as a frontier and runs, the held changes in order, the pending
@@ -51,7 +58,19 @@ pub record ReliableView : Type 0 where
 
 -- what contracts see of the state of a reliable reader
 abbrev pub reliable_view : {A : Type 0} → kept.Reliable A → ReliableView
-reliable_view r = record { accepted = r.accepted; announced = r.announced; frontier = r.settled.frontier; runs = r.settled.runs; held = map change_view r.held.items; begun = pending_views r.pending.items; sound = are_sound r.pending.items; answers = r.answers; frag_accepted = r.frag_accepted; nacks = r.nacks }
+reliable_view r =
+    record {
+      accepted = r.accepted;
+      announced = r.announced;
+      frontier = r.settled.frontier;
+      runs = r.settled.runs;
+      held = map change_view r.held.items;
+      begun = pending_views r.pending.items;
+      sound = are_sound r.pending.items;
+      answers = r.answers;
+      frag_accepted = r.frag_accepted;
+      nacks = r.nacks;
+    }
 
 -- the settled numbers
 abbrev pub marked : ReliableView → ℕ → Bool
@@ -62,7 +81,8 @@ abbrev pub takes_by : ReliableView → FragmentView → Bool
 takes_by r f =
     fits_found r.begun f
     && ((not (marked r f.number) && (nat_le f.number r.frontier || nat_lt (length r.held) 65536))
-    && (is_some (found_at f.number r.begun) || (nat_le f.number r.frontier || nat_lt (length r.begun) 64)))
+    && (is_some (found_at f.number r.begun)
+    || (nat_le f.number r.frontier || nat_lt (length r.begun) 64)))
 
 -- the missing fragments that an accepted HEARTBEAT_FRAG asks about
 abbrev pub lacks_frags : ReliableView → HeartbeatFragView → Option NumberSet
@@ -90,14 +110,16 @@ pub record BestEffortView : Type 0 where
 
 -- what contracts see of the state of a best-effort reader
 abbrev pub best_effort_view : {A : Type 0} → newest.BestEffort A → BestEffortView
-best_effort_view b = record { top = b.top; begun = pending_views b.pending.items; sound = are_sound b.pending.items }
+best_effort_view b =
+    record { top = b.top; begun = pending_views b.pending.items; sound = are_sound b.pending.items }
 
 -- a best-effort reader accepts a DATA_FRAG: it is above the top, it isn't the least of 65, and it
 -- fits
 abbrev pub takes_above : BestEffortView → FragmentView → Bool
 takes_above r f =
     nat_lt r.top f.number
-    && ((nat_lt 0 (place_in f.number r.begun) || (nat_lt (length r.begun) 64 || is_some (found_at f.number r.begun)))
+    && ((nat_lt 0 (place_in f.number r.begun)
+    || (nat_lt (length r.begun) 64 || is_some (found_at f.number r.begun)))
     && fits_found r.begun f)
 
 -- the state of a reader, by whether it is reliable
@@ -107,7 +129,19 @@ pub data StateView : Type 0 where
 
 -- the state before the first event
 abbrev pub reliable_first : ReliableView
-reliable_first = record { accepted = None; announced = 0; frontier = 1; runs = []; held = []; begun = []; sound = true; answers = 0; frag_accepted = None; nacks = 0 }
+reliable_first =
+    record {
+      accepted = None;
+      announced = 0;
+      frontier = 1;
+      runs = [];
+      held = [];
+      begun = [];
+      sound = true;
+      answers = 0;
+      frag_accepted = None;
+      nacks = 0;
+    }
 
 abbrev pub best_effort_first : BestEffortView
 best_effort_first = record { top = 0; begun = []; sound = true }

@@ -33,14 +33,16 @@ match_with w (m ∷ ms) = if same_guid m.pairing.writer w then Some m else match
 abbrev pub extended : Guid → MatchEvent → List Match → List Match
 extended w e [] = []
 extended w e (m ∷ ms) =
-    if same_guid m.pairing.writer w then record { pairing = m.pairing; past = e ∷ m.past } ∷ ms else m ∷ extended w e ms
+    if same_guid m.pairing.writer w then record { pairing = m.pairing; past = e ∷ m.past } ∷ ms
+    else m ∷ extended w e ms
 
 -- a match begins, and replaces an earlier one with its writer; matches are in the order of their
 -- writers
 abbrev pub begun : Match → List Match → List Match
 begun m [] = m ∷ []
 begun m (n ∷ ms) =
-    match_ordering (guid_order m.pairing.writer n.pairing.writer) (m ∷ n ∷ ms) (m ∷ ms) (n ∷ begun m ms)
+    match_ordering (guid_order m.pairing.writer n.pairing.writer) (m ∷ n ∷ ms) (m ∷ ms)
+    (n ∷ begun m ms)
 
 -- the match with a writer ends
 abbrev pub ended : Guid → List Match → List Match

@@ -19,7 +19,9 @@ missing_at (Some b) last = missing b.sizes b.there last
 -- the fragments that an accepted HEARTBEAT_FRAG makes the reader ask for: none if its number is
 -- settled
 abbrev pub asked_frags : List MatchEvent → HeartbeatFragView → Option NumberSet
-asked_frags past h = if is_new_frag past h.count && not (is_settled past h.number) then missing_at (begun_at h.number (taken past).begun) h.last else None
+asked_frags past h =
+    if is_new_frag past h.count && not (is_settled past h.number)
+    then missing_at (begun_at h.number (taken past).begun) h.last else None
 
 -- a HEARTBEAT_FRAG is answered if any fragment is missing
 abbrev pub is_nacked_by : List MatchEvent → EventBodyView → Bool
@@ -42,7 +44,8 @@ pub record Nack : Type 0 where
 
 -- the NACK_FRAG for these missing fragments, by the number of earlier NACK_FRAGs
 abbrev pub nack_by : ℕ → ℕ → NumberSet → Nack
-nack_by number earlier missing = record { number = number; missing = missing; count = (earlier + 1) % 2 ^ 32 }
+nack_by number earlier missing =
+    record { number = number; missing = missing; count = (earlier + 1) % 2 ^ 32 }
 
 -- the NACK_FRAG that answers a HEARTBEAT_FRAG, if one does
 abbrev pub nack : List MatchEvent → HeartbeatFragView → Option Nack

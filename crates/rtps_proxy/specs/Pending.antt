@@ -10,7 +10,14 @@ use Rattle.rtps_proxy.specs.Change.{ChangeView}
 
 -- what contracts see of a pending sample
 abbrev pub pending_view : {A : Type 0} → Pending A → Begun
-pending_view p = record { number = value_of p.number; time = p.time; info = p.info; sizes = p.sample.sizes; there = p.sample.there }
+pending_view p =
+    record {
+      number = value_of p.number;
+      time = p.time;
+      info = p.info;
+      sizes = p.sample.sizes;
+      there = p.sample.there;
+    }
 
 -- what contracts see of the pending samples
 abbrev pub pending_views : {A : Type 0} → List (Pending A) → List Begun
@@ -28,7 +35,8 @@ place_in n (b ∷ bs) = if nat_lt b.number n then suc (place_in n bs) else 0
 -- the sample with a number, in a list with rising numbers
 abbrev pub found_at : ℕ → List Begun → Option Begun
 found_at n [] = None
-found_at n (b ∷ bs) = if nat_lt b.number n then found_at n bs else if b.number == n then Some b else None
+found_at n (b ∷ bs) =
+    if nat_lt b.number n then found_at n bs else if b.number == n then Some b else None
 
 -- a DATA_FRAG fits, in a list with rising numbers
 abbrev pub fits_found : List Begun → FragmentView → Bool

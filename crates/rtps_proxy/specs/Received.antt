@@ -11,7 +11,8 @@ use Rattle.rtps_proxy.specs.Settled.{has_room_by, held_by, is_covered_by, is_set
 
 -- a change is accepted if its number isn't settled and there is room for it
 abbrev pub taken_by : List ChangeView → List MatchEvent → ChangeView → List ChangeView
-taken_by got past s = if not (is_settled_by got past s.number) && has_room_by got past s.number then s ∷ got else got
+taken_by got past s =
+    if not (is_settled_by got past s.number) && has_room_by got past s.number then s ∷ got else got
 
 -- what was accepted in a match: the received changes, the newest first, and the begun samples, by
 -- rising number; nothing is ever removed
@@ -26,13 +27,17 @@ standing_by t past = filter (λ b. not (is_settled_by t.changes past b.number)) 
 -- there is a seat for the fragments of a number: some of them were accepted before, or it is the
 -- least number not settled, or fewer than 64 samples are pending
 abbrev pub has_seat_by : Taken → List MatchEvent → ℕ → Bool
-has_seat_by t past n = is_begun t.begun n || (all_below (is_settled_by t.changes past) n || nat_lt (length (standing_by t past)) 64)
+has_seat_by t past n =
+    is_begun t.begun n
+    || (all_below (is_settled_by t.changes past) n || nat_lt (length (standing_by t past)) 64)
 
 -- a DATA_FRAG is accepted if it fits, its number isn't settled, and there is room for the change
 -- and a seat for its fragments
 abbrev pub takes_fragments : Taken → List MatchEvent → FragmentView → Bool
 takes_fragments t past f =
-    fits t.begun f && (not (is_settled_by t.changes past f.number) && (has_room_by t.changes past f.number && has_seat_by t past f.number))
+    fits t.begun f
+    && (not (is_settled_by t.changes past f.number)
+    && (has_room_by t.changes past f.number && has_seat_by t past f.number))
 
 -- a sample that is complete then is received
 abbrev pub with_begun : Taken → List Begun → ℕ → Taken
@@ -43,8 +48,11 @@ abbrev pub taken_after : Taken → List MatchEvent → MatchEvent → Taken
 taken_after t past e = by_body e.body
   where
     by_body : EventBodyView → Taken
-    by_body (Whole c) = record { changes = taken_by t.changes past (change_of e.time c); begun = t.begun }
-    by_body (Fragment f) = if takes_fragments t past f then with_begun t (with_fragments_of e.time f t.begun) f.number else t
+    by_body (Whole c) =
+        record { changes = taken_by t.changes past (change_of e.time c); begun = t.begun }
+    by_body (Fragment f) =
+        if takes_fragments t past f then with_begun t (with_fragments_of e.time f t.begun) f.number
+        else t
     by_body (Heartbeat h) = t
     by_body (Gap g) = t
     by_body (HeartbeatFrag h) = t
@@ -77,7 +85,8 @@ held past = held_by (received past) past
 -- the number of sequence numbers that are lost at an event: those below the first number then, and
 -- not settled before; none at the first HEARTBEAT of a match
 abbrev pub lost : List MatchEvent → MatchEvent → ℕ
-lost past e = if has_heartbeat past then count_failing (is_settled past) (first_of (e ∷ past)) else 0
+lost past e =
+    if has_heartbeat past then count_failing (is_settled past) (first_of (e ∷ past)) else 0
 
 -- changes by rising number
 abbrev pub put : ChangeView → List ChangeView → List ChangeView
@@ -91,7 +100,10 @@ in_order (s ∷ ss) = put s (in_order ss)
 -- the changes that are ready at an event, in order: those received for which all numbers up to
 -- their own are settled now and weren't before
 abbrev pub ready : List MatchEvent → MatchEvent → List ChangeView
-ready past e = in_order (filter (λ s. is_covered (e ∷ past) s.number && not (is_covered past s.number)) (received (e ∷ past)))
+ready past e =
+    in_order
+    (filter (λ s. is_covered (e ∷ past) s.number && not (is_covered past s.number))
+    (received (e ∷ past)))
 
 -- the greatest of some numbers, and 0 where there are none
 abbrev pub max_of : List ℕ → ℕ

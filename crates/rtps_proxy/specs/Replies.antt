@@ -27,32 +27,42 @@ reply_view r = record { to = r.to; octets = r.octets }
 
 -- the set of the missing numbers, in eight words
 abbrev pub set_of : Acknack → NumberSet
-set_of a = record { base = a.base; bits = a.bits; words = with_bits a.base (replicate 8 0) a.members }
+set_of a =
+    record { base = a.base; bits = a.bits; words = with_bits a.base (replicate 8 0) a.members }
 
 -- readerId, writerId, readerSNState, count
 abbrev pub acknack_body : Pairing → Acknack → List ℕ
 acknack_body w a =
-    w.reader.0 ++ w.writer.entity.0 ++ spelled_sn Little (pos a.base) ++ spelled Little 4 a.bits ++ spelled_words (sent_words (set_of a)) ++ spelled Little 4 a.count
+    w.reader.0 ++ w.writer.entity.0 ++ spelled_sn Little (pos a.base) ++ spelled Little 4 a.bits
+    ++ spelled_words (sent_words (set_of a)) ++ spelled Little 4 a.count
 
 -- an ACKNACK to the writer's locators, with flag E (1), and with flag F (2) if it is final
 unfoldable pub reply_of : Pairing → Acknack → ReplyView
-reply_of w a = record { to = w.locators; octets = answering w.own w.writer.prefix 0x06 (if a.final then 3 else 1) (acknack_body w a) }
+reply_of w a =
+    record {
+      to = w.locators;
+      octets = answering w.own w.writer.prefix 0x06 (if a.final then 3 else 1) (acknack_body w a);
+    }
 
 -- an ACKNACK names exactly the missing numbers up to the announced one, of the 256 that begin at
 -- its base
 abbrev pub NamesWhatIsMissing : Type 0
 NamesWhatIsMissing =
-    (settled : ℕ → Bool) (base announced earlier n : ℕ) → list_any (λ m. m == n) (members (set_of (acknack_by settled base announced earlier)))
+    (settled : ℕ → Bool) (base announced earlier n : ℕ)
+    → list_any (λ m. m == n) (members (set_of (acknack_by settled base announced earlier)))
     ≡ ((nat_le base n && (nat_lt n (base + 256) && nat_le n announced)) && not (settled n))
 
 -- readerId, writerId, writerSN, fragmentNumberState, count
 abbrev pub nack_body : Pairing → Nack → List ℕ
 nack_body w a =
-    w.reader.0 ++ w.writer.entity.0 ++ spelled_sn Little (pos a.number) ++ spelled Little 4 a.missing.base ++ spelled Little 4 a.missing.bits ++ spelled_words (sent_words a.missing) ++ spelled Little 4 a.count
+    w.reader.0 ++ w.writer.entity.0 ++ spelled_sn Little (pos a.number)
+    ++ spelled Little 4 a.missing.base ++ spelled Little 4 a.missing.bits
+    ++ spelled_words (sent_words a.missing) ++ spelled Little 4 a.count
 
 -- a NACK_FRAG to the writer's locators, with flag E
 unfoldable pub nack_of : Pairing → Nack → ReplyView
-nack_of w a = record { to = w.locators; octets = answering w.own w.writer.prefix 0x12 1 (nack_body w a) }
+nack_of w a =
+    record { to = w.locators; octets = answering w.own w.writer.prefix 0x12 1 (nack_body w a) }
 
 -- the reply of a reliable reader to an event, if there is one
 abbrev pub reply : Pairing → List MatchEvent → MatchEvent → Option ReplyView

@@ -36,7 +36,8 @@ AreApart low (r ∷ rs) = (low < start_of r) × ((start_of r < end_of r) × AreA
 -- the same as a test
 abbrev pub are_apart : ℕ → List Run → Bool
 are_apart low [] = true
-are_apart low (r ∷ rs) = nat_lt low (start_of r) && (nat_lt (start_of r) (end_of r) && are_apart (end_of r) rs)
+are_apart low (r ∷ rs) =
+    nat_lt low (start_of r) && (nat_lt (start_of r) (end_of r) && are_apart (end_of r) rs)
 
 -- all runs end below a number, and don't touch it
 abbrev pub EndBelow : ℕ → List Run → Type 0

@@ -10,7 +10,8 @@ use Rattle.rtps_types.specs.Numbers.{all_below}
 
 -- a number is settled if it is below the first one, or irrelevant, or received
 abbrev pub is_settled_by : List ChangeView → List MatchEvent → ℕ → Bool
-is_settled_by got past n = nat_lt n (first_of past) || is_irrelevant past n || list_any (λ s. s.number == n) got
+is_settled_by got past n =
+    nat_lt n (first_of past) || is_irrelevant past n || list_any (λ s. s.number == n) got
 
 -- all numbers up to n are settled
 abbrev pub is_covered_by : List ChangeView → List MatchEvent → ℕ → Bool
@@ -23,4 +24,5 @@ held_by got past = filter (λ s. not (is_covered_by got past s.number)) got
 -- there is room for a number if it is the least one not settled, or if fewer than 65,536 changes
 -- are held
 abbrev pub has_room_by : List ChangeView → List MatchEvent → ℕ → Bool
-has_room_by got past n = all_below (is_settled_by got past) n || nat_lt (length (held_by got past)) 65536
+has_room_by got past n =
+    all_below (is_settled_by got past) n || nat_lt (length (held_by got past)) 65536

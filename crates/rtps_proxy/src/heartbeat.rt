@@ -54,7 +54,8 @@ impl<A: Allocator + Copy> Reliable<A> {
     /// Returns the ACKNACK that asks for what is missing, addressed to the writer's locators.
     fn reply_to(&self, alloc: A, config: &ProxyConfig<A>) -> Result<Reply<A>, ProxyError>
         ensures { IfOk result (λ reply.
-            reply_view reply ≡ reply_of (pairing config.now) (next_acknack (reliable_view self.now))) }
+            reply_view reply
+            ≡ reply_of (pairing config.now) (next_acknack (reliable_view self.now))) }
     {
         let octets = write_acknack(
             alloc,

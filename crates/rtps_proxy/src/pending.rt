@@ -192,7 +192,8 @@ pub(crate) fn give_up<A: Allocator>(pending: &mut Vec<Pending<A>, A>, settled: &
 
 /// Removes the samples up to a number.
 pub(crate) fn give_up_to<A: Allocator>(pending: &mut Vec<Pending<A>, A>, number: u64)
-    ensures left { pending_views pending.new.items ≡ above number (pending_views pending.old.items) }
+    ensures left { pending_views pending.new.items
+        ≡ above number (pending_views pending.old.items) }
     ensures sound { are_sound pending.old.items ≡ true → are_sound pending.new.items ≡ true }
 {
     if pending.is_empty() {

@@ -68,7 +68,8 @@ all_begun ms (w ∷ ws) = all_begun (begun (fresh w) ms) ws
 
 -- the matches that a reader begins with
 abbrev pub first_matches : GuidPrefix → EntityId → Bool → List Facts → List Match
-first_matches own entity is_reliable fixed = all_begun [] (map (pairing_of own entity is_reliable) fixed)
+first_matches own entity is_reliable fixed =
+    all_begun [] (map (pairing_of own entity is_reliable) fixed)
 
 -- a reader at the start: it has its fixed matches, without events
 abbrev pub first_reader : GuidPrefix → EntityId → Bool → List Facts → Reader
@@ -104,7 +105,8 @@ told_of decoding place w e (Some m) =
 abbrev pub notice_of : {M : Type 0} → Place → Guid → NoticeKind M → List (Notice M)
 notice_of place w what = record { place = place; writer = w; what = what } ∷ []
 
--- the notices of a step; an event of a writer that isn't matched has none, nor has a start or a stop
+-- the notices of a step; an event of a writer that isn't matched has none, nor has a start or a
+-- stop
 abbrev pub tells : {M : Type 0} → Decoding M → Reader → Place → StepView → List (Notice M)
 tells decoding r place (Takes w e) = told_of decoding place w e (match_with w r.matches)
 tells decoding r place (Changes (Matches w locators)) = notice_of place w kind.Matched

@@ -55,10 +55,7 @@ pub fn body_of<C: Catalog>(
     // Decoded here and not in a helper function: each function that a value is returned through
     // copies it.
     match decoder.decode(kind, body) {
-        Ok(value) => {
-            let hash = decoder.key_of(&value)?;
-            Ok(Body::Value(hash, value))
-        }
+        Ok((hash, value)) => Ok(Body::Value(hash, value)),
         Err(CatalogError::Unread(unread)) => Ok(Body::Unread(unread)),
         Err(CatalogError::NoMemory) => Err(AllocError),
     }
@@ -90,8 +87,8 @@ fn key_of<C: Catalog>(
     match info.form {
         Form::Value => {
             let (kind, body) = unpack(payload)?;
-            let value = decoder.decode(kind, body)?;
-            Ok(decoder.key_of(&value)?)
+            let (hash, _value) = decoder.decode(kind, body)?;
+            Ok(hash)
         }
         Form::Key => {
             let (kind, body) = unpack(payload)?;

@@ -25,7 +25,8 @@ use dds_topic::Catalog;
 pub fn matches_follow()
     ensures taken { (r : Reader) (writer other : Guid) (event : MatchEvent)
         → match_with other (reader_after r (Takes writer event)).matches
-        ≡ (if same_guid writer other then option_map (extended_by event) (match_with other r.matches)
+        ≡ (if same_guid writer other
+        then option_map (extended_by event) (match_with other r.matches)
         else match_with other r.matches) }
     ensures begun { (r : Reader) (writer other : Guid) (locators : List Locator)
         → match_with other (reader_after r (Changes (Matches writer locators))).matches

@@ -117,7 +117,8 @@ impl<A: Allocator + Copy> StatefulReader<A> {
         change: &MatchChangeKind<A>,
         notices: &mut Vec<Notice<C::Value>, A>,
     ) -> Result<(), AllocError>
-        ensures stands { (decoding : Decoding C.Meaning) (r : Reader) (given : List (Notice C.Meaning))
+        ensures stands { (decoding : Decoding C.Meaning) (r : Reader)
+            (given : List (Notice C.Meaning))
             → StandsAt r given (kept_by false self.old)
             → OnOk result (StandsAt (reader_after r (Changes (match_change_view change.now)))
             (given ++ tells decoding r place (Changes (match_change_view change.now)))

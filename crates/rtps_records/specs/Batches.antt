@@ -35,7 +35,8 @@ ticks_in (Fault fault) = 0
 
 -- What follows m records: more of the file, which was not read; a tick, which was read; the end; or
 -- the first fault. A batch after which more may follow has at least one record.
-abbrev pub EndsBatch : Format → BatchEnd → ℕ → List Record → Option (List ℕ) → Option (List ℕ) → Type 0
+abbrev pub EndsBatch : Format → BatchEnd → ℕ → List Record → Option (List ℕ) → Option (List ℕ)
+    → Type 0
 EndsBatch format More m records here after = (0 < length records) × (after ≡ here)
 EndsBatch format (ATick moment) m records here after =
     (m < 4294967295) × IsRecord format (Tick moment)

@@ -57,7 +57,8 @@ frame format r = to_be_bytes w32 (length_of r) ++ body_of format r
 abbrev pub octets_after : Format → ℕ → Option ℕ
 octets_after Rdg1 stated = if nat_le stated 65507 then Some stated else None
 octets_after Rdg2 stated =
-    if stated == tick_length then Some 8 else if nat_le stated 65507 then Some (8 + stated) else None
+    if stated == tick_length then Some 8 else if nat_le stated 65507 then Some (8 + stated)
+    else None
 
 -- the length in the first four octets
 abbrev pub stated_length : List ℕ → ℕ

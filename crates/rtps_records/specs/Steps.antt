@@ -6,8 +6,8 @@ use Rattle.rtps_records.specs.declared.batch_end.BatchEnd.{BatchEnd}
 use Rattle.rtps_records.specs.declared.batch_end.BatchEnd.TheVariants.{End, Fault, More, Tick as ATick}
 use Rattle.rtps_records.specs.declared.format.Format.{Format}
 
--- After n records the next one was read: a datagram, which was appended to the batch, or a tick, and
--- the batch is unchanged. Or the file ends, or has its first fault, and the batch is unchanged.
+-- After n records the next one was read: a datagram, which was appended to the batch, or a tick,
+-- and the batch is unchanged. Or the file ends, or has its first fault, and the batch is unchanged.
 unfoldable pub ReadsOne : Format → BatchEnd → ℕ → Option (List ℕ) → Option (List ℕ) → List Record
     → List Record → Type 0
 ReadsOne format More n before after old new =

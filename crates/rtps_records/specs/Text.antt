@@ -15,7 +15,8 @@ datagrams_of (Tick moment ∷ records) = datagrams_of records
 -- the texts of the datagrams of records; the first of them has number n
 abbrev pub text_from : (ℕ → List ℕ → List ℕ) → ℕ → List Record → List ℕ
 text_from line n [] = []
-text_from line n (Datagram moment octets ∷ records) = line n octets ++ text_from line (n + 1) records
+text_from line n (Datagram moment octets ∷ records) =
+    line n octets ++ text_from line (n + 1) records
 text_from line n (Tick moment ∷ records) = text_from line n records
 
 -- the texts of a file's datagrams, one after the other
@@ -32,6 +33,9 @@ Says before after number more old new =
     → after (records ++ more) (said ++ added))
 
 -- after the last record the text grows by the rest of the whole text
-unfoldable pub Ends : (List Record → List ℕ → Type 0) → (List Record → List ℕ) → List ℕ → List ℕ → Type 0
+unfoldable pub Ends : (List Record → List ℕ → Type 0) → (List Record → List ℕ) → List ℕ → List ℕ
+    → Type 0
 Ends before text old new =
-    (added : List ℕ) × (new ≡ old ++ added) × ((records : List Record) (said : List ℕ) → before records said → text records ≡ said ++ added)
+    (added : List ℕ) × (new ≡ old ++ added)
+    × ((records : List Record) (said : List ℕ) → before records said
+    → text records ≡ said ++ added)

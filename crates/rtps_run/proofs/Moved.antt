@@ -133,7 +133,7 @@ pub parted_readers : {C M : Type 0} (decoding : C → Decoding M) (inputs : List
     → (run_by decoding old (inputs ++ RemoveReader gone ∷ [])).known.readers ≡ vacated gone (run_by decoding old inputs).known.readers
 parted_readers {C} {M} decoding inputs gone old there = ap (λ (w : World M). w.known.readers) (run_more (decoding old.catalog) old.config inputs (RemoveReader gone) old.index there.index)
 
--- as many ranks were given as discovery lists
+-- the ranks that were given, which are those that discovery lists
 pub ranks_listed : {C M : Type 0} (decoding : C → Decoding M) (inputs : List Input) (old : EngineView C) → StandsAt decoding inputs old → length old.discovery.kept.readers ≡ length old.statuses
 ranks_listed decoding inputs old there = ap (λ (rs : List (Option Wish)). length rs) there.known.readers ∙ sym there.shows.count
 

@@ -43,7 +43,8 @@ status_seen w rank = option_map (λ r. status_at w rank) (reader_at w.known.read
 abbrev pub matches_below : (ℕ → Reader) → ℕ → List (ℕ × Guid)
 matches_below readers zero = []
 matches_below readers (suc rank) =
-    with_writers (matches_below readers rank) rank (map (λ m. m.pairing.writer) (readers rank).matches)
+    with_writers (matches_below readers rank) rank
+    (map (λ m. m.pairing.writer) (readers rank).matches)
 
 -- all matches, ordered by rank and then by writer
 abbrev pub matches_seen : {M : Type 0} → World M → List (ℕ × Guid)

@@ -65,7 +65,8 @@ pub record ReadersStand {V M A : Type 0} (view : V → M) (w : World M)
 
 -- the same, with the data of discovery, which represents what the world knows
 pub record WorldStands {V M A : Type 0} (view : V → M) (w : World M) (earlier : List (ReportView M))
-    (discovery : RegistryView) (states : List ReaderView) (reports : List (Report V A)) : Type 0 where
+    (discovery : RegistryView) (states : List ReaderView) (reports : List (Report V A))
+    : Type 0 where
   pub known : IsKnown w.known discovery
   pub readers : ReadersStand view w earlier states reports
 

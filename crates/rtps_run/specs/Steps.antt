@@ -24,7 +24,8 @@ abbrev pub step_by : ℕ → StepView → ReaderStep
 step_by rank what = record { rank = rank; what = what }
 
 -- the reports of the reader at the step; none if no reader has the rank
-abbrev pub step_puts : {M : Type 0} → Decoding M → Place → World M → ReaderStep → List (ReportView M)
+abbrev pub step_puts : {M : Type 0} → Decoding M → Place → World M → ReaderStep
+    → List (ReportView M)
 step_puts decoding place w s =
     if nat_lt s.rank (reader_count w)
     then puts_at decoding place s.rank (w.readers s.rank) s.what

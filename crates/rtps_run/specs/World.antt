@@ -119,7 +119,8 @@ puts_at decoding place rank r d =
     map (NoticeOf rank) (tells decoding r place d) ++ map (sent_by (Some rank)) (sends r place d)
 
 -- its reports at several steps, one after the other
-abbrev pub puts_run : {M : Type 0} → Decoding M → Place → ℕ → Reader → List StepView → List (ReportView M)
+abbrev pub puts_run : {M : Type 0} → Decoding M → Place → ℕ → Reader → List StepView
+    → List (ReportView M)
 puts_run decoding place rank r [] = []
 puts_run decoding place rank r (d ∷ ds) =
     puts_at decoding place rank r d ++ puts_run decoding place rank (reader_after r d) ds

@@ -290,10 +290,10 @@ impl<C: Catalog, A: Allocator + Copy> SerialEngine<C, A> {
         Ok((rank, outcome))
     }
 
-    /// Removes the reader of a rank. Returns its last notices, the ends of its matches, in the order
-    /// of the writers' octets; a fixed match ends without a notice. The rank isn't given again, but
-    /// another reader may have its entity. The place of these notices is the number of the next
-    /// datagram, and submessage 0.
+    /// Removes the reader of a rank. Returns its last notices, the ends of its matches, in the
+    /// order of the writers' octets; a fixed match ends without a notice. The rank isn't given
+    /// again, but another reader may have its entity. The place of these notices is the number of
+    /// the next datagram, and submessage 0.
     ///
     /// [`EngineError::NoReader`] where the rank wasn't given or its reader went, which changes
     /// nothing. When the call runs out of memory the engine has failed, as by
@@ -357,8 +357,8 @@ impl<C: Catalog, A: Allocator + Copy> SerialEngine<C, A> {
         self.admit()
     }
 
-    /// Has a reader come in discovery and among the states, and marks the engine as failed until its
-    /// status is shown. Returns its rank, and what it reports.
+    /// Has a reader come in discovery and among the states, and marks the engine as failed until
+    /// its status is shown. Returns its rank, and what it reports.
     #[tactic(auto, unfolding(rtps_run::specs::Moving::Moves))]
     fn join(
         &mut self,

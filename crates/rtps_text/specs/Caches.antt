@@ -32,7 +32,8 @@ pub record HasHeard {V M : Type 0} (f : V → M) (history : History) (told : Lis
   pub stands : shelf.StandsAt (accepted_after [] heard) cache
 
 -- the cache of each rank accepted the notices of the reader of that rank
-abbrev pub AllHeard : {V M : Type 0} → (V → M) → History → List (ReportView M) → List (CacheView V) → Type 0
+abbrev pub AllHeard : {V M : Type 0} → (V → M) → History → List (ReportView M) → List (CacheView V)
+    → Type 0
 AllHeard {V} f keep put caches =
     (rank : ℕ) (other : CacheView V) → rank < length caches
     → HasHeard f keep (notices_by rank put) (slice_index_or caches rank other)

@@ -44,7 +44,8 @@ entry_lines text keep put (suc rank) =
 abbrev pub samples_text : {M : Type 0} → (M → List ℕ) → Decoding M → Config → Bool → History
     → List Record → List ℕ
 samples_text text decoding config summary keep records =
-    entry_lines text keep (run decoding config records).put (reader_count (run decoding config records))
+    entry_lines text keep (run decoding config records).put
+    (reader_count (run decoding config records))
     ++ (if summary then summary_text (run decoding config records) else [])
 
 -- the same text, with the catalog and the configuration of an engine

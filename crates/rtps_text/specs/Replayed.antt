@@ -44,15 +44,20 @@ summary_text w = match_lines (matches_seen w) ++ status_lines w (reader_count w)
 
 -- the text for these records: the lines of all that the run of one thread puts out, and then the
 -- summary if it is asked for
-abbrev pub replay_text : {M : Type 0} → (M → List ℕ) → Decoding M → Config → Bool → List Record → List ℕ
+abbrev pub replay_text : {M : Type 0} → (M → List ℕ) → Decoding M → Config → Bool → List Record
+    → List ℕ
 replay_text text decoding config summary records =
-    put_lines text (run decoding config records).put ++ (if summary then summary_text (run decoding config records) else [])
+    put_lines text (run decoding config records).put
+    ++ (if summary then summary_text (run decoding config records) else [])
 
 -- the same text, with the catalog and the configuration of an engine
-abbrev pub text_by : {C M : Type 0} → (C → M → List ℕ) → (C → Decoding M) → EngineView C → Bool → List Record → List ℕ
-text_by text decoding engine summary records = replay_text (text engine.catalog) (decoding engine.catalog) engine.config summary records
+abbrev pub text_by : {C M : Type 0} → (C → M → List ℕ) → (C → Decoding M) → EngineView C → Bool
+    → List Record → List ℕ
+text_by text decoding engine summary records =
+    replay_text (text engine.catalog) (decoding engine.catalog) engine.config summary records
 
 -- the state of an engine is that after these records, and their lines were said
-pub record HasSaid {C M : Type 0} (text : C → M → List ℕ) (decoding : C → Decoding M) (records : List Record) (said : List ℕ) (engine : EngineView C) : Type 0 where
+pub record HasSaid {C M : Type 0} (text : C → M → List ℕ) (decoding : C → Decoding M)
+    (records : List Record) (said : List ℕ) (engine : EngineView C) : Type 0 where
   pub stands : StandsAt decoding records engine
   pub lines : said ≡ put_lines (text engine.catalog) (run_by decoding engine records).put

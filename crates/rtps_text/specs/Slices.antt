@@ -35,7 +35,8 @@ abbrev pub answer_lines : List (Place × ReplyView) → List ℕ
 answer_lines answers = flat_map (λ s. answer_line s.0 s.1.to s.1.octets) answers
 
 -- the lines of a reader's notices and answers at a place, from the cursor on
-abbrev pub lists_lines : {M : Type 0} → (M → List ℕ) → List (Notice M) → List (Place × ReplyView) → Place
+abbrev pub lists_lines : {M : Type 0} → (M → List ℕ) → List (Notice M) → List (Place × ReplyView)
+    → Place
     → Cursor → List ℕ
 lists_lines text told sent place c =
     put_lines text (map (NoticeOf c.rank) (first_notices place (drop c.notices told)))
@@ -95,7 +96,8 @@ pub record AreByPlace {V M : Type 0} (f : V → M) (given : BatchOutput V) : Typ
   pub answers : (rank : ℕ) → AreAnswersAlong given.places.items (sent_in given.outputs.items rank)
 
 -- the lines at these places, with the parts of a batch merged
-abbrev pub merged_lines : {V M : Type 0} → (M → List ℕ) → (V → M) → BatchOutput V → ℕ → List Place → List ℕ
+abbrev pub merged_lines : {V M : Type 0} → (M → List ℕ) → (V → M) → BatchOutput V → ℕ → List Place
+    → List ℕ
 merged_lines text f given count places = put_lines text (merged (parts_given f given) count places)
 
 -- the places of a slice are a consecutive part of these places
@@ -104,12 +106,16 @@ IsSliceOf slice places = (before after : List Place) × (places ≡ before ++ (s
 
 -- whether place a comes before place b
 abbrev pub is_before : Place → Place → Bool
-is_before a b = nat_lt a.datagram b.datagram || (a.datagram == b.datagram && nat_lt a.submessage b.submessage)
+is_before a b =
+    nat_lt a.datagram b.datagram || (a.datagram == b.datagram && nat_lt a.submessage b.submessage)
 
 -- what is left to print of a reader's lists is what is at these places
-pub record IsLeft {M : Type 0} (parts : PartsByRank M) (places : List Place) (c : Cursor) : Type 0 where
-  pub told : drop c.notices (parts.told c.rank) ≡ flat_map (λ p. notices_at p (parts.told c.rank)) places
-  pub sent : drop c.answers (parts.sent c.rank) ≡ flat_map (λ p. answers_at p (parts.sent c.rank)) places
+pub record IsLeft {M : Type 0} (parts : PartsByRank M) (places : List Place) (c : Cursor)
+    : Type 0 where
+  pub told : drop c.notices (parts.told c.rank)
+      ≡ flat_map (λ p. notices_at p (parts.told c.rank)) places
+  pub sent : drop c.answers (parts.sent c.rank)
+      ≡ flat_map (λ p. answers_at p (parts.sent c.rank)) places
 
 -- the ranks below a count, in ascending order
 abbrev pub ranks_below : ℕ → List ℕ

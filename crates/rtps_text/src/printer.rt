@@ -60,7 +60,7 @@ where
             readers: run.participant.readers(),
             given: BatchOutput::new(run.alloc),
             last: LastLine::none(run.alloc),
-            pace: run.pace,
+            pace: run.pace.formatting(),
             alloc: run.alloc,
         }
     }

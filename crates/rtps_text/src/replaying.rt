@@ -25,7 +25,7 @@ use std::thread::Threads;
 ///
 /// The file is never in memory as a whole. In memory are the records of two batches, at most 1 MiB
 /// each, the output of two batches, and the texts of two batches. If there are several workers,
-/// half of them run a batch while the others format the output of the batch before; at the same
+/// three quarters of them run a batch while half of them format the one before; at the same
 /// time the text of the batch before that one is written, and the next batch is read. So when a
 /// write fails, three more batches may have been read than the text has.
 pub fn replay<C: TextCatalog, R: Read + Send, W: Write + Send, T: Threads + Sync>(
@@ -58,7 +58,7 @@ where
         config,
         catalog,
         summary,
-        pace: pace.halved(),
+        pace: pace.running(),
     };
     print_file(rt, RunLines::new(alloc, lent)?, &catalog, reader, writer)
 }

@@ -13,7 +13,8 @@ number Little n octets = little_number n octets
 
 -- the number in the n octets at a place, if all of them are there
 abbrev pub number_at : Endian → ℕ → List ℕ → ℕ → Option ℕ
-number_at e n octets at = if nat_le (at + n) (length octets) then Some (number e n (drop at octets)) else None
+number_at e n octets at =
+    if nat_le (at + n) (length octets) then Some (number e n (drop at octets)) else None
 
 -- a sequence number: 64 bits in two's complement, the high half first in either order
 abbrev pub sequence_number : ℕ → ℕ → ℤ
@@ -22,11 +23,13 @@ sequence_number high low = cast_signed w64 (high * 2 ^ 32 + low)
 -- the sequence number in the eight octets at a place, if all of them are there
 abbrev pub sequence_number_at : Endian → List ℕ → ℕ → Option ℤ
 sequence_number_at e octets at =
-    option_and_then (λ high. option_map (sequence_number high) (number_at e 4 octets (at + 4))) (number_at e 4 octets at)
+    option_and_then (λ high. option_map (sequence_number high) (number_at e 4 octets (at + 4)))
+    (number_at e 4 octets at)
 
 -- the n octets at a place, if all of them are there
 abbrev pub octets_at : ℕ → List ℕ → ℕ → Option (List ℕ)
-octets_at n octets at = if nat_le (at + n) (length octets) then Some (take n (drop at octets)) else None
+octets_at n octets at =
+    if nat_le (at + n) (length octets) then Some (take n (drop at octets)) else None
 
 -- the n octets that encode a number
 abbrev pub spelled : Endian → ℕ → ℕ → List ℕ
@@ -35,7 +38,8 @@ spelled Little n x = little_bytes n x
 
 -- the eight octets that encode a sequence number
 abbrev pub spelled_sn : Endian → ℤ → List ℕ
-spelled_sn e z = spelled e 4 (cast_unsigned w64 z / 2 ^ 32) ++ spelled e 4 (cast_unsigned w64 z % 2 ^ 32)
+spelled_sn e z =
+    spelled e 4 (cast_unsigned w64 z / 2 ^ 32) ++ spelled e 4 (cast_unsigned w64 z % 2 ^ 32)
 
 -- the octets with a field written at a place, over those that were there
 abbrev pub put_at : ℕ → List ℕ → List ℕ → List ℕ

@@ -7,5 +7,9 @@ use Rattle.rtps_types.specs.declared.number.Number.{Number}
 abbrev pub nearest : ℕ → Number
 nearest n = record {
   value = max 1 (min n (2 ^ 62));
-  bounds = (le-max_left 1 (min n (2 ^ 62)), max-le (le-add_right 1 (2 ^ 62 - 1)) (min-le_right n (2 ^ 62)));
+  bounds = (
+    le-max_left 1 (min n (2 ^ 62)),
+    max-le (le-add_right 1 (2 ^ 62 - 1))
+        (min-le_right n (2 ^ 62)),
+  );
 }

@@ -15,7 +15,8 @@ names words k = not (bit_and (slice_index words (k / 32)) (2 ^ (31 - k % 32)) ==
 
 -- the members at the n offsets from offset k on, in order
 abbrev pub members_from : ℕ → List ℕ → ℕ → ℕ → List ℕ
-members_from base words k n = map (λ offset. base + offset) (filter (names words) (range_with_len k n))
+members_from base words k n =
+    map (λ offset. base + offset) (filter (names words) (range_with_len k n))
 
 -- the members of a set, in order; bits after the bit count are ignored
 abbrev pub members : NumberSet → List ℕ

@@ -13,7 +13,9 @@ use Rattle.rtps_types.specs.Text.{before, behind, has}
 -- the number that a text of digits stands for, if it has digits only and the number is in range
 abbrev pub decimal_in : ℕ → ℕ → List ℕ → Result ℕ TextFault
 decimal_in least greatest text =
-    if list_all is_ascii_digit text && (nat_lt 0 (length text) && (nat_le least (digits_value 10 text) && nat_le (digits_value 10 text) greatest))
+    if list_all is_ascii_digit text
+    && (nat_lt 0 (length text)
+    && (nat_le least (digits_value 10 text) && nat_le (digits_value 10 text) greatest))
     then Ok (digits_value 10 text) else Err Number
 
 -- the datagram and the submessage with a colon between them
@@ -33,7 +35,9 @@ place_of (Err e) submessage = Err e
 -- a number of 64 bits, the first colon, and a number of 32 bits
 abbrev pub place_in : List ℕ → Result Place TextFault
 place_in text =
-    if has 58 text then place_of (decimal_in 0 (2 ^ 64 - 1) (before 58 text)) (decimal_in 0 (2 ^ 32 - 1) (behind 58 text))
+    if has 58 text
+    then place_of (decimal_in 0 (2 ^ 64 - 1) (before 58 text))
+    (decimal_in 0 (2 ^ 32 - 1) (behind 58 text))
     else Err Separator
 
 -- the text of a number and of a place is parsed as the same one
@@ -41,4 +45,5 @@ abbrev pub ShownNumbersAreRead : Type 0
 ShownNumbersAreRead = (n : ℕ) → IsNumber n → number_in (decimal n) ≡ Ok n
 
 abbrev pub ShownPlacesAreRead : Type 0
-ShownPlacesAreRead = (p : Place) → p.datagram < 2 ^ 64 → p.submessage < 2 ^ 32 → place_in (place_text p) ≡ Ok p
+ShownPlacesAreRead =
+    (p : Place) → p.datagram < 2 ^ 64 → p.submessage < 2 ^ 32 → place_in (place_text p) ≡ Ok p

@@ -16,4 +16,5 @@ guid_octets g = g.prefix.0 ++ g.entity.0
 
 -- the order of two endpoints: by their participants' prefixes, and then by their entity ids
 abbrev pub guid_order : Guid → Guid → Ordering
-guid_order a b = ordering_then (octet_order a.prefix.0 b.prefix.0) (octet_order a.entity.0 b.entity.0)
+guid_order a b =
+    ordering_then (octet_order a.prefix.0 b.prefix.0) (octet_order a.entity.0 b.entity.0)

@@ -35,7 +35,8 @@ entity_in text = made_of (λ octets. record { 0 = octets }) (octets_in 4 text)
 
 -- the endpoint of twelve octets of prefix and four of entity id
 abbrev pub guid_of : List ℕ → Guid
-guid_of octets = record { prefix = record { 0 = take 12 octets }; entity = record { 0 = drop 12 octets } }
+guid_of octets =
+    record { prefix = record { 0 = take 12 octets }; entity = record { 0 = drop 12 octets } }
 
 -- the endpoint that a text stands for
 abbrev pub guid_in : List ℕ → Result Guid TextFault
@@ -57,7 +58,9 @@ behind c text = after_first (λ b. b == c) text
 
 -- the text of an identity is parsed as the same identity
 pub record ShownIdentitiesAreRead : Type 0 where
-  pub prefix : (p : GuidPrefix) → length p.0 ≡ 12 → IsBytes p.0 → prefix_in (encode_lower p.0) ≡ Ok p
+  pub prefix : (p : GuidPrefix) → length p.0 ≡ 12 → IsBytes p.0
+      → prefix_in (encode_lower p.0) ≡ Ok p
   pub entity : (e : EntityId) → length e.0 ≡ 4 → IsBytes e.0 → entity_in (encode_lower e.0) ≡ Ok e
-  pub guid : (g : Guid) → length g.prefix.0 ≡ 12 → length g.entity.0 ≡ 4 → IsBytes (guid_octets g) → guid_in (encode_lower (guid_octets g)) ≡ Ok g
+  pub guid : (g : Guid) → length g.prefix.0 ≡ 12 → length g.entity.0 ≡ 4 → IsBytes (guid_octets g)
+      → guid_in (encode_lower (guid_octets g)) ≡ Ok g
   pub hash : (h : KeyHash) → length h.0 ≡ 16 → IsBytes h.0 → hash_in (encode_lower h.0) ≡ Ok h

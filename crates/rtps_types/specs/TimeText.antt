@@ -31,15 +31,20 @@ moment_of (Err e) fraction = Err e
 
 -- the seconds, the first dot, and the fraction
 abbrev pub moment_in : List ℕ → Result Timestamp TextFault
-moment_in text = if has 46 text then moment_of (word_in (before 46 text)) (word_in (behind 46 text)) else Err Separator
+moment_in text =
+    if has 46 text then moment_of (word_in (before 46 text)) (word_in (behind 46 text))
+    else Err Separator
 
 -- the text of a timestamp is parsed as the same timestamp
 abbrev pub ShownMomentsAreRead : Type 0
-ShownMomentsAreRead = (t : Timestamp) → t.seconds < 2 ^ 32 → t.fraction < 2 ^ 32 → moment_in (moment_text t) ≡ Ok t
+ShownMomentsAreRead =
+    (t : Timestamp) → t.seconds < 2 ^ 32 → t.fraction < 2 ^ 32 → moment_in (moment_text t) ≡ Ok t
 
 -- nanoseconds as seconds with nine decimals
 abbrev pub seconds_text : ℕ → List ℕ
-seconds_text n = decimal (n / 10 ^ 9) ++ codes "." ++ padded_integral (format_spec 32 0 4 9 (2 ^ 64 - 1)) false [] (decimal (n % 10 ^ 9))
+seconds_text n =
+    decimal (n / 10 ^ 9) ++ codes "."
+    ++ padded_integral (format_spec 32 0 4 9 (2 ^ 64 - 1)) false [] (decimal (n % 10 ^ 9))
 
 -- the nanoseconds of a fraction in units of 2^-32 seconds, rounded down
 abbrev pub nanoseconds : ℕ → ℕ

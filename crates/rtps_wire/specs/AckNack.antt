@@ -18,11 +18,15 @@ acknack_flags missing = if missing.bits == 0 then 3 else 1
 -- readerId, writerId, readerSNState, count
 abbrev pub acknack_body : AckNack → List ℕ
 acknack_body a =
-    a.reader.entity.0 ++ a.writer.entity.0 ++ spelled_sn Little (pos a.missing.base) ++ spelled Little 4 a.missing.bits ++ spelled_words (sent_words (sn_view a.missing)) ++ spelled Little 4 a.count
+    a.reader.entity.0 ++ a.writer.entity.0 ++ spelled_sn Little (pos a.missing.base)
+    ++ spelled Little 4 a.missing.bits ++ spelled_words (sent_words (sn_view a.missing))
+    ++ spelled Little 4 a.count
 
 -- the datagram of an ACKNACK
 unfoldable pub acknack_octets : AckNack → List ℕ
-acknack_octets a = answering a.reader.prefix a.writer.prefix 0x06 (acknack_flags (sn_view a.missing)) (acknack_body a)
+acknack_octets a =
+    answering a.reader.prefix a.writer.prefix 0x06 (acknack_flags (sn_view a.missing))
+    (acknack_body a)
 
 -- the fields of an ACKNACK after the header and the destination, as a writer reads them
 pub record TellsAckNack (a : AckNack) (octets : List ℕ) : Type 0 where

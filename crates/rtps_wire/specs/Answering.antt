@@ -17,7 +17,8 @@ opened own to = protocol ++ (2 ∷ 5 ∷ 0 ∷ 0 ∷ []) ++ own.0 ++ (0x0e ∷ 1
 
 -- one submessage follows it; all numbers are little-endian
 abbrev pub answering : GuidPrefix → GuidPrefix → ℕ → ℕ → List ℕ → List ℕ
-answering own to id flags body = opened own to ++ (id ∷ flags ∷ []) ++ spelled Little 2 (length body) ++ body
+answering own to id flags body =
+    opened own to ++ (id ∷ flags ∷ []) ++ spelled Little 2 (length body) ++ body
 
 -- the number of words for the bits of a set
 abbrev pub word_count : NumberSet → ℕ
@@ -37,7 +38,9 @@ our_header own = record { version = 2 ∷ 5 ∷ []; vendor = 0 ∷ 0 ∷ []; pre
 
 -- the submessages of an answer: INFO_DST, and one of a kind that isn't read here
 abbrev pub answer_items : GuidPrefix → ℕ → ℕ → List Item
-answer_items to id flags = record { id = 0x0e; flags = 1; content = InfoDestination to } ∷ record { id = id; flags = flags; content = Skipped } ∷ []
+answer_items to id flags =
+    record { id = 0x0e; flags = 1; content = InfoDestination to }
+    ∷ record { id = id; flags = flags; content = Skipped } ∷ []
 
 -- the words of a set as a writer reads them: those that aren't sent are zeros
 abbrev pub read_words : NumberSet → List ℕ

@@ -25,4 +25,6 @@ HasBounds Skipped = Unit {0}
 
 -- the contents of every valid body have these bounds
 abbrev pub FieldsHaveBounds : Type 0
-FieldsHaveBounds = (id flags : ℕ) (body : List ℕ) (content : PartsView) → parts_of id flags body ≡ Some content → HasBounds content
+FieldsHaveBounds =
+    (id flags : ℕ) (body : List ℕ) (content : PartsView) → parts_of id flags body ≡ Some content
+    → HasBounds content

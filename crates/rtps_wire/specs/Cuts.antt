@@ -14,12 +14,14 @@ use Rattle.rtps_wire.specs.Submessage.{Item}
 -- octets begin with these submessages, in order, and then comes a rest
 abbrev pub BeginWith : List ℕ → List Item → List ℕ → Type 0
 BeginWith octets [] rest = octets ≡ rest
-BeginWith octets (i ∷ is) rest = (after : List ℕ) × IsBefore i octets after × BeginWith after is rest
+BeginWith octets (i ∷ is) rest =
+    (after : List ℕ) × IsBefore i octets after × BeginWith after is rest
 
 -- a cut at place n keeps the submessages that end at or before n, in front of any others
 abbrev pub KeepsWhatEnds : List ℕ → ℕ → List Item → Type 0
 KeepsWhatEnds octets n cut =
-    (first : List Item) (rest : List ℕ) → BeginWith octets first rest → length octets ≤ n + length rest → (others : List Item) × (cut ≡ first ++ others)
+    (first : List Item) (rest : List ℕ) → BeginWith octets first rest
+    → length octets ≤ n + length rest → (others : List Item) × (cut ≡ first ++ others)
 
 -- a submessage is the last one in octets, with a stated length of 0 that makes it run to the end
 pub record RunsToEnd (i : Item) (octets : List ℕ) : Type 0 where
@@ -59,5 +61,7 @@ pub record ReadsFirst (octets : List ℕ) (n : ℕ) (header : Header) (whole : L
 -- submessages are read
 abbrev pub CutsReadFirst : Type 0
 CutsReadFirst =
-    (octets : List ℕ) (n : ℕ) (header : Header) (whole : List Item) (fault : Option SubmessageFault) → IsMessage octets header whole fault
-    → MatchBool (nat_lt n 20) (header_of (take n octets) ≡ Err Short) (ReadsFirst octets n header whole)
+    (octets : List ℕ) (n : ℕ) (header : Header) (whole : List Item) (fault : Option SubmessageFault)
+    → IsMessage octets header whole fault
+    → MatchBool (nat_lt n 20) (header_of (take n octets) ≡ Err Short)
+    (ReadsFirst octets n header whole)

@@ -21,7 +21,14 @@ pub record DataView : Type 0 where
 
 -- what contracts see of a DATA
 abbrev pub data_view : Data → DataView
-data_view d = record { reader = d.reader; writer = d.writer; number = d.number; info = d.info; payload = d.payload.now }
+data_view d =
+    record {
+      reader = d.reader;
+      writer = d.writer;
+      number = d.number;
+      info = d.info;
+      payload = d.payload.now;
+    }
 
 -- flag Q (2) means that inline QoS follows
 abbrev pub qos_of : ℕ → Endian → List ℕ → Option InlineQos
@@ -51,4 +58,10 @@ data_of flags e body = do
   qos ← qos_of flags e rest
   form ← form_of flags
   payload ← payload_of flags rest qos.used
-  Some (record { reader = reader; writer = writer; number = number; info = record { form = form; status = qos.status; hash = qos.hash }; payload = payload })
+  Some (record {
+    reader = reader;
+    writer = writer;
+    number = number;
+    info = record { form = form; status = qos.status; hash = qos.hash };
+    payload = payload;
+  })

@@ -24,7 +24,18 @@ pub record DataFragView : Type 0 where
 
 -- what contracts see of a DATA_FRAG
 abbrev pub frag_view : DataFrag → DataFragView
-frag_view d = record { reader = d.reader; writer = d.writer; number = d.number; start = d.start; count = d.count; size = d.size; sample = d.sample; info = d.info; payload = d.payload.now }
+frag_view d =
+    record {
+      reader = d.reader;
+      writer = d.writer;
+      number = d.number;
+      start = d.start;
+      count = d.count;
+      size = d.size;
+      sample = d.sample;
+      info = d.info;
+      payload = d.payload.now;
+    }
 
 -- flag N (8) means a non-standard payload, K (4) a key; otherwise it is a value
 abbrev pub frag_form_of : ℕ → Form
@@ -45,4 +56,14 @@ data_frag_of flags e body = do
   rest ← if start == 0 then None else if nat_lt offset 28 then None else from body (4 + offset)
   qos ← qos_of flags e rest
   payload ← from rest qos.used
-  Some (record { reader = reader; writer = writer; number = number; start = start; count = count; size = size; sample = sample; info = record { form = frag_form_of flags; status = qos.status; hash = qos.hash }; payload = payload })
+  Some (record {
+    reader = reader;
+    writer = writer;
+    number = number;
+    start = start;
+    count = count;
+    size = size;
+    sample = sample;
+    info = record { form = frag_form_of flags; status = qos.status; hash = qos.hash };
+    payload = payload;
+  })

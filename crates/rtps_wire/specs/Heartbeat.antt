@@ -12,4 +12,14 @@ heartbeat_of flags e body = do
   first ← positive_at e body 8
   last ← natural_at e body 16
   count ← count_at e body 24
-  if nat_lt last (first - 1) then None else Some (record { reader = reader; writer = writer; first = first; last = last; count = count; final_flag = has 2 flags; liveliness = has 4 flags })
+  if nat_lt last (first - 1) then None
+      else Some
+      (record {
+        reader = reader;
+        writer = writer;
+        first = first;
+        last = last;
+        count = count;
+        final_flag = has 2 flags;
+        liveliness = has 4 flags;
+      })

@@ -13,4 +13,6 @@ heartbeat_frag_of e body = do
   number ← positive_at e body 8
   last ← number_at e 4 body 16
   count ← count_at e body 20
-  if last == 0 then None else Some (record { reader = reader; writer = writer; number = number; last = last; count = count })
+  if last == 0 then None
+      else Some
+      (record { reader = reader; writer = writer; number = number; last = last; count = count })

@@ -10,7 +10,9 @@ use Rattle.rtps_wire.specs.declared.inline_qos.InlineQos.{InlineQos}
 
 -- a key hash (id 0070) has at least 16 octets, and a status info (id 0071) at least four
 abbrev pub is_sound : Parameter → Bool
-is_sound p = if p.id == 0x70 then nat_le 16 (length p.value) else if p.id == 0x71 then nat_le 4 (length p.value) else true
+is_sound p =
+    if p.id == 0x70 then nat_le 16 (length p.value) else if p.id == 0x71
+    then nat_le 4 (length p.value) else true
 
 -- the first of two, if there is one, else the second
 abbrev pub or_else : {A : Type 0} → Option A → Option A → Option A

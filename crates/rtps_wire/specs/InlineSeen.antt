@@ -10,7 +10,11 @@ nothing_seen = record { hash = None; status = 0 }
 
 -- after one more parameter
 abbrev pub seen_next : Seen → Parameter → Seen
-seen_next s p = record { hash = if p.id == 0x70 then Some (key_hash p.value) else s.hash; status = if p.id == 0x71 then slice_index p.value 3 else s.status }
+seen_next s p =
+    record {
+      hash = if p.id == 0x70 then Some (key_hash p.value) else s.hash;
+      status = if p.id == 0x71 then slice_index p.value 3 else s.status;
+    }
 
 -- the same, unless the parameter is invalid
 abbrev pub seen_with : Seen → Parameter → Option Seen

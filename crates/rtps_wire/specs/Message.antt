@@ -16,7 +16,8 @@ pub record IsFramed (id flags : ℕ) (octets body rest : List ℕ) : Type 0 wher
   pub fourth : ℕ
   pub text : octets ≡ id ∷ flags ∷ third ∷ fourth ∷ (body ++ rest)
   -- a length of 0 means all octets that follow, except in PAD and INFO_TS
-  pub size : MatchBool (runs_to_end id (number (endian_of flags) 2 (third ∷ fourth ∷ []))) (rest ≡ []) (length body ≡ number (endian_of flags) 2 (third ∷ fourth ∷ []))
+  pub size : MatchBool (runs_to_end id (number (endian_of flags) 2 (third ∷ fourth ∷ [])))
+      (rest ≡ []) (length body ≡ number (endian_of flags) 2 (third ∷ fourth ∷ []))
 
 -- octets begin with a valid submessage, and then comes a rest
 pub record IsBefore (i : Item) (octets rest : List ℕ) : Type 0 where
@@ -56,6 +57,7 @@ IsReading octets [] fault = EndsWith octets fault
 IsReading octets (i ∷ is) fault = (rest : List ℕ) × IsBefore i octets rest × IsReading rest is fault
 
 -- a message: a valid header, and the submessages after its 20 octets
-pub record IsMessage (octets : List ℕ) (header : Header) (items : List Item) (fault : Option SubmessageFault) : Type 0 where
+pub record IsMessage (octets : List ℕ) (header : Header) (items : List Item)
+    (fault : Option SubmessageFault) : Type 0 where
   pub opening : header_of octets ≡ Ok header
   pub behind : IsReading (drop 20 octets) items fault

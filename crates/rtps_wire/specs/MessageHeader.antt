@@ -16,5 +16,10 @@ abbrev pub header_of : List ℕ → Result Header HeaderFault
 header_of octets =
     if nat_lt (length octets) 20 then Err Short else
     if starts_with nat_eq octets protocol then
-    (if slice_index octets 4 == 2 then Ok (record { version = take 2 (drop 4 octets); vendor = take 2 (drop 6 octets); prefix = record { 0 = take 12 (drop 8 octets) } }) else Err Version)
+    (if slice_index octets 4 == 2
+    then Ok (record {
+      version = take 2 (drop 4 octets);
+      vendor = take 2 (drop 6 octets);
+      prefix = record { 0 = take 12 (drop 8 octets) };
+    }) else Err Version)
     else Err NotRtps

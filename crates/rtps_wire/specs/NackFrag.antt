@@ -14,7 +14,9 @@ use Rattle.rtps_wire.specs.Answering.{answering, word_count, sent_words, spelled
 -- readerId, writerId, writerSN, fragmentNumberState, count
 abbrev pub nack_frag_body : NackFrag → List ℕ
 nack_frag_body a =
-    a.reader.entity.0 ++ a.writer.entity.0 ++ spelled_sn Little (pos (value_of a.number)) ++ spelled Little 4 a.missing.base ++ spelled Little 4 a.missing.bits ++ spelled_words (sent_words (frag_view a.missing)) ++ spelled Little 4 a.count
+    a.reader.entity.0 ++ a.writer.entity.0 ++ spelled_sn Little (pos (value_of a.number))
+    ++ spelled Little 4 a.missing.base ++ spelled Little 4 a.missing.bits
+    ++ spelled_words (sent_words (frag_view a.missing)) ++ spelled Little 4 a.count
 
 -- the datagram of a NACK_FRAG
 unfoldable pub nack_frag_octets : NackFrag → List ℕ
@@ -29,6 +31,7 @@ pub record TellsNackFrag (a : NackFrag) (octets : List ℕ) : Type 0 where
   pub number : sequence_number_at Little body 8 ≡ Some (pos (value_of a.number))
   pub base : number_at Little 4 body 16 ≡ Some a.missing.base
   pub bits : number_at Little 4 body 20 ≡ Some a.missing.bits
-  pub words : words_at Little (word_count (frag_view a.missing)) body 24 ≡ Some (read_words (frag_view a.missing))
+  pub words : words_at Little (word_count (frag_view a.missing)) body 24
+      ≡ Some (read_words (frag_view a.missing))
   pub members : members (read_set (frag_view a.missing)) ≡ members (frag_view a.missing)
   pub count : number_at Little 4 body (24 + 4 * word_count (frag_view a.missing)) ≡ Some a.count

@@ -12,7 +12,9 @@ words_in e (suc n) octets = number e 4 octets ∷ words_in e n (drop 4 octets)
 
 -- n words at a place, if all of them are there, and zeros up to eight words
 abbrev pub words_at : Endian → ℕ → List ℕ → ℕ → Option (List ℕ)
-words_at e n octets at = if nat_le (at + 4 * n) (length octets) then Some (words_in e n (drop at octets) ++ replicate (8 - n) 0) else None
+words_at e n octets at =
+    if nat_le (at + 4 * n) (length octets)
+    then Some (words_in e n (drop at octets) ++ replicate (8 - n) 0) else None
 
 -- a set of sequence numbers: invalid if its base < 1, it has more than 256 bits, or words are
 -- missing
@@ -20,4 +22,8 @@ unfoldable pub sn_set_at : Endian → List ℕ → ℕ → Option NumberSet
 sn_set_at e octets at = do
   base ← positive_at e octets at
   bits ← number_at e 4 octets (at + 8)
-  if nat_le bits 256 then (do words ← words_at e ((bits + 31) / 32) octets (at + 12); Some (record { base = base; bits = bits; words = words })) else None
+  if nat_le bits 256
+      then (do
+        words ← words_at e ((bits + 31) / 32) octets (at + 12)
+        Some (record { base = base; bits = bits; words = words }))
+      else None

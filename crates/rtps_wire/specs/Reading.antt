@@ -30,7 +30,9 @@ item_of id flags (Some c) after = Ok (Some (record { id = id; flags = flags; con
 
 -- a submessage with a body of this length, if there are enough octets
 abbrev pub body_of : ℕ → ℕ → ℕ → List ℕ → Read
-body_of id flags len rest = if nat_lt (length rest) len then Err Length else item_of id flags (parts_of id flags (take len rest)) (drop len rest)
+body_of id flags len rest =
+    if nat_lt (length rest) len then Err Length
+    else item_of id flags (parts_of id flags (take len rest)) (drop len rest)
 
 -- the first submessage, by the four octets of its header and its body
 unfoldable pub front_of : List ℕ → Read
@@ -38,7 +40,8 @@ front_of [] = Ok None
 front_of (id ∷ []) = Err Rest
 front_of (id ∷ flags ∷ []) = Err Rest
 front_of (id ∷ flags ∷ a ∷ []) = Err Rest
-front_of (id ∷ flags ∷ a ∷ b ∷ rest) = body_of id flags (body_length id (number (endian_of flags) 2 (a ∷ b ∷ [])) (length rest)) rest
+front_of (id ∷ flags ∷ a ∷ b ∷ rest) =
+    body_of id flags (body_length id (number (endian_of flags) 2 (a ∷ b ∷ [])) (length rest)) rest
 
 -- what contracts see of the result of the code
 abbrev pub seen : Front → Read
@@ -66,7 +69,10 @@ reading_behind zero (id ∷ []) = record { items = []; fault = Some Rest }
 reading_behind zero (id ∷ flags ∷ []) = record { items = []; fault = Some Rest }
 reading_behind zero (id ∷ flags ∷ a ∷ []) = record { items = []; fault = Some Rest }
 reading_behind zero (id ∷ flags ∷ a ∷ b ∷ rest) =
-    go_on (body_of id flags (body_length id (number (endian_of flags) 2 (a ∷ b ∷ [])) (length rest)) rest) (reading_behind (body_length id (number (endian_of flags) 2 (a ∷ b ∷ [])) (length rest)) rest)
+    go_on (body_of id flags
+    (body_length id (number (endian_of flags) 2 (a ∷ b ∷ [])) (length rest)) rest)
+    (reading_behind
+    (body_length id (number (endian_of flags) 2 (a ∷ b ∷ [])) (length rest)) rest)
 
 -- the reading of the octets after a message's header
 abbrev pub reading : List ℕ → Reading

@@ -65,4 +65,5 @@ parts_of id flags body =
     if id == 0x0e then option_map InfoDestination (prefix_at body 0) else
     if id == 0x13 then option_map HeartbeatFrag (heartbeat_frag_of (endian_of flags) body) else
     if id == 0x15 then option_map Data (data_of flags (endian_of flags) body) else
-    if id == 0x16 then option_map DataFrag (data_frag_of flags (endian_of flags) body) else Some Skipped
+    if id == 0x16 then option_map DataFrag (data_frag_of flags (endian_of flags) body)
+    else Some Skipped

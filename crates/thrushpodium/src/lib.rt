@@ -64,8 +64,8 @@
 //! where a growth is refused. A participant has failed then, and says so from then on; its
 //! statuses stay as they were. A cache can be asked again.
 //!
-//! **Sockets.** [`Sockets`] are those of a domain on this machine, on loopback or by a [`Binding`] at
-//! another address. Their `receive_batch` waits for datagrams and fills a [`Batch`], and
+//! **Sockets.** [`Sockets`] are those of a domain on this machine, on loopback or by a [`Binding`]
+//! at another address. Their `receive_batch` waits for datagrams and fills a [`Batch`], and
 //! `send_answer` sends an answer to a locator. `crates/example_live` is a whole program on sockets,
 //! and `crates/example_cache` one over a record file, which [`Records`] reads.
 #![tactic(auto)]
@@ -91,6 +91,7 @@ pub use dds_topic::{
 pub use rtps_discovery::{
     Config, ConfigFault, Discovery, FixedMatch, ReaderConfig, ReaderFault, check,
 };
+pub use rtps_planner::PassedOver;
 pub use rtps_reader::{Body, Notice, NoticeKind, Status};
 pub use rtps_receiver::{Counters, Event, EventBody, Events};
 pub use rtps_records::{Batch, BatchEnd, Exchange, Format, Receive, ReceiveEnd, Records, RunFault};

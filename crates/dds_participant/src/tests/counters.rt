@@ -2,7 +2,10 @@
 
 ghost use Rattle.std.specs.Prelude.{◌≤◌, ◌<◌};
 
+use super::moments::ANNOUNCES;
+use super::routed::{COMES, ROUTED};
 use super::*;
+use rtps_planner::PassedOver;
 use rtps_receiver::Counters;
 
 /// A datagram of 19 octets, which is too short for a header.
@@ -47,21 +50,17 @@ fn due() -> Counters {
     }
 }
 
-/// Returns what a new participant counts of these datagrams, which it takes by batches of this
-/// length.
-fn counted_by<R: Threads + Sync>(
+/// Has a participant take these datagrams, by batches of a length, on a number of workers.
+fn take_by<R: Threads + Sync>(
     rt: &R,
     alloc: Global,
+    participant: &mut Participant<Shapes>,
     datagrams: &[Datagram<'_>],
-    length: usize,
-    workers: usize,
-) -> Result<Counters, Fail>
-    requires { (0 < length) × (1 ≤ workers) × (workers ≤ 64) }
+    cut: (usize, usize),
+) -> Result<(), Fail>
+    requires { (0 < cut.0) × (1 ≤ cut.1) × (cut.1 ≤ 64) }
 {
-    let mut participant = match Participant::new(alloc, config(alloc)?, Shapes) {
-        Ok(participant) => participant,
-        Err(_) => return Err(Fail::new("no participant")),
-    };
+    let (length, workers) = cut;
     let workers = Workers {
         count: workers,
         gate: &NoGate,
@@ -76,16 +75,57 @@ fn counted_by<R: Threads + Sync>(
             return Err(Fail::new("not taken"));
         }
     }
-    Ok(*participant.counters())
+    Ok(())
 }
 
 #[test]
 fn counts_the_same_by_any_cut_and_any_workers(rt: HostRuntime) -> Result<(), Fail> {
     let all = mixed(rt.alloc())?;
     let datagrams = at_once(rt.alloc(), &all)?;
-    for (length, workers) in [(2_050, 1), (2_050, 7), (1_025, 2), (100, 1)] {
-        let counters = counted_by(&rt, rt.alloc(), &datagrams, length, workers)?;
-        assert_eq!(rt; counters, due());
+    for cut in [(2_050, 1), (2_050, 7), (1_025, 2), (100, 1)] {
+        let mut participant = Participant::new(rt.alloc(), config(rt.alloc())?, Shapes)?;
+        take_by(&rt, rt.alloc(), &mut participant, &datagrams, cut)?;
+        assert_eq!(rt; *participant.counters(), due());
+    }
+    Ok(())
+}
+
+/// An announcement of the participant of twelve `0x0b`, which is ours.
+const OURS: &[u8] = b"RTPS\x02\x05\x00\x00\
+    \x0b\x0b\x0b\x0b\x0b\x0b\x0b\x0b\x0b\x0b\x0b\x0b\
+    \x15\x05\x1c\x00\x00\x00\x10\x00\x00\x01\x00\xc7\x00\x01\x00\xc2\
+    \x00\x00\x00\x00\x01\x00\x00\x00\x00\x03\x00\x00\x01\x00\x00\x00";
+
+/// An announcement of theirs that is no parameter list.
+const NO_LIST: &[u8] = b"RTPS\x02\x05\x00\x00\
+    \x0a\x0a\x0a\x0a\x0a\x0a\x0a\x0a\x0a\x0a\x0a\x0a\
+    \x15\x05\x1c\x00\x00\x00\x10\x00\x00\x01\x00\xc7\x00\x01\x00\xc2\
+    \x00\x00\x00\x00\x01\x00\x00\x00\x00\x01\x00\x00\x01\x00\x00\x00";
+
+/// Datagrams for one reader of squares, 00000107, which no fixed match begins with.
+const TO_ONE: [&[u8]; 9] = [
+    // Two events for nobody: their writer isn't known.
+    HEARTBEAT, HEARTBEAT, // A record is ignored: its participant isn't known.
+    ANNOUNCES, COMES, // Of the two samples the first comes before its writer is announced.
+    ROUTED, // For the reader; and one for a reader that isn't there.
+    DATA, LATER, // Two records are ignored.
+    OURS, NO_LIST,
+];
+
+#[test]
+fn counts_what_comes_to_nothing(rt: HostRuntime) -> Result<(), Fail> {
+    let mut all = Vec::from_slice(rt.alloc(), &TO_ONE)?;
+    // A record that comes again is a sign of life.
+    all.push(COMES)?;
+    let datagrams = at_once(rt.alloc(), &all)?;
+    for cut in [(10, 1), (10, 7), (3, 2), (1, 1)] {
+        let mut participant = Participant::new(rt.alloc(), unmatched(rt.alloc(), 1)?, Shapes)?;
+        take_by(&rt, rt.alloc(), &mut participant, &datagrams, cut)?;
+        let due = PassedOver {
+            nobody: 4,
+            ignored: 3,
+        };
+        assert_eq!(rt; participant.passed_over(), due);
     }
     Ok(())
 }

@@ -174,8 +174,8 @@ fn shown_by(participant: &Participant<FailingCatalog<Shapes>>) -> (u32, u64, [Op
     (participant.readers(), participant.batches(), statuses)
 }
 
-/// Whether a reader comes and goes, or the first call that finds no memory fails a participant, which
-/// shows what it showed before.
+/// Whether a reader comes and goes, or the first call that finds no memory fails a participant,
+/// which shows what it showed before.
 fn comes_and_goes_or_fails(
     alloc: Global,
     participant: &mut Participant<FailingCatalog<Shapes>>,

@@ -215,8 +215,8 @@ fn goes_with_an_outlet<R: Threads + Sync>(
     Ok(heard(alloc, &mut inlet)?)
 }
 
-/// The lines of the outcomes meanwhile: the new reader comes when nothing is attached to it, and the
-/// first reader waits for number 2.
+/// The lines of the outcomes meanwhile: the new reader comes when nothing is attached to it, and
+/// the first reader waits for number 2.
 const WITHOUT_THE_LAST: [Line; 3] = [
     (Some(0), 1, Said::Matched(1)),
     (Some(1), 2, Said::Matched(1)),

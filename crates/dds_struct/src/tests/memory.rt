@@ -159,7 +159,8 @@ enum Asked {
     Text,
     KeyPayload,
     KeyOf,
-    KeyBy,
+    /// Decodes the log, and returns its key hash.
+    DecodeKeyed,
     KeyOfPayload,
     /// Reads two strings, and returns them one after the other.
     Read,
@@ -174,7 +175,7 @@ const ASKED: [(Asked, &[u8]); 7] = [
     (Asked::Text, b"abc"),
     (Asked::KeyPayload, KEY),
     (Asked::KeyOf, HASH),
-    (Asked::KeyBy, HASH),
+    (Asked::DecodeKeyed, HASH),
     (Asked::KeyOfPayload, HASH),
     (Asked::Read, b"REDBLUE"),
 ];
@@ -192,7 +193,7 @@ fn read_two(alloc: Global) -> Result<Vec<u8>, CatalogError> {
 }
 
 /// Returns the octets of what a call returns.
-fn asked(alloc: Global, log: &Log, body: &[u8], what: Asked) -> Result<Vec<u8>, CatalogError> {
+fn outcome_of(alloc: Global, log: &Log, body: &[u8], what: Asked) -> Result<Vec<u8>, CatalogError> {
     let logs = Structs::<Log>::new();
     let key = match what {
         Asked::Decode => {
@@ -203,7 +204,7 @@ fn asked(alloc: Global, log: &Log, body: &[u8], what: Asked) -> Result<Vec<u8>, 
         Asked::KeyPayload => return Ok(logs.key_payload(alloc, log)?),
         Asked::Read => return read_two(alloc),
         Asked::KeyOf => logs.key_of(alloc, log)?,
-        Asked::KeyBy => logs.key_by(&mut (), alloc, log)?,
+        Asked::DecodeKeyed => logs.decode_keyed(&mut (), alloc, 1, body)?.0,
         Asked::KeyOfPayload => logs.key_of_payload(alloc, 1, KEY)?,
     };
     Ok(key.0.to_vec(alloc)?)
@@ -216,9 +217,9 @@ fn structs_answer_again_what_was_refused(rt: HostRuntime) -> Result<(), Fail> {
     let log = log(alloc)?;
     let body = hex::decode(alloc, LOG[0].1)?;
     for (what, wanted) in ASKED {
-        let mut found = asked(alloc, &log, body.as_slice(), what);
+        let mut found = outcome_of(alloc, &log, body.as_slice(), what);
         if matches!(found, Err(CatalogError::NoMemory)) {
-            found = asked(alloc, &log, body.as_slice(), what);
+            found = outcome_of(alloc, &log, body.as_slice(), what);
         }
         assert!(rt; found?.as_slice() == wanted, "of {what:?}");
     }

@@ -120,7 +120,8 @@ enum Asked {
     Text,
     KeyPayload,
     KeyOf,
-    KeyBy,
+    /// Returns the key hash that [`BODY`] is decoded with.
+    DecodeKeyed,
     /// Returns the key hash of [`BODY`] as a key payload.
     KeyOfPayload,
 }
@@ -136,12 +137,12 @@ const ASKED: [(Asked, &[u8]); 6] = [
     (Asked::Text, TEXT),
     (Asked::KeyPayload, b"\x19\0\0\0abcdefghijklmnopqrstuvwx\0"),
     (Asked::KeyOf, HASH),
-    (Asked::KeyBy, HASH),
+    (Asked::DecodeKeyed, HASH),
     (Asked::KeyOfPayload, HASH),
 ];
 
 /// Returns the octets of what a call returns.
-fn asked<C: TextCatalog>(
+fn outcome_of<C: TextCatalog>(
     alloc: Global,
     catalog: &C,
     (value, memo): (&C::Value, &mut C::Memo),
@@ -155,7 +156,7 @@ fn asked<C: TextCatalog>(
         Asked::Text => return Ok(catalog.text(alloc, value)?),
         Asked::KeyPayload => return Ok(catalog.key_payload(alloc, value)?),
         Asked::KeyOf => catalog.key_of(alloc, value)?,
-        Asked::KeyBy => catalog.key_by(memo, alloc, value)?,
+        Asked::DecodeKeyed => catalog.decode_keyed(memo, alloc, 1, BODY)?.0,
         Asked::KeyOfPayload => catalog.key_of_payload(alloc, 1, BODY)?,
     };
     Ok(key.0.to_vec(alloc)?)
@@ -168,9 +169,9 @@ fn a_catalog_answers_again_what_was_refused(rt: HostRuntime) -> Result<(), Fail>
     let shape = Shapes.decode(alloc, 1, BODY)?;
     let mut memo = ColorKeys::default();
     for (what, wanted) in ASKED {
-        let mut found = asked(alloc, &Shapes, (&shape, &mut memo), what);
+        let mut found = outcome_of(alloc, &Shapes, (&shape, &mut memo), what);
         if matches!(found, Err(CatalogError::NoMemory)) {
-            found = asked(alloc, &Shapes, (&shape, &mut memo), what);
+            found = outcome_of(alloc, &Shapes, (&shape, &mut memo), what);
         }
         assert!(rt; found?.as_slice() == wanted, "of {what:?}");
     }

@@ -29,7 +29,6 @@ const WRITER: Guid = Guid {
 /// Options with these flags, and else those of `replay` where none is given.
 pub(super) fn flags(best_effort: bool, raw: bool, summary: bool) -> Options<'static> {
     let mut options = Options::unset();
-    options.batch = 512;
     options.best_effort = best_effort;
     options.raw = raw;
     options.summary = summary;
@@ -65,7 +64,11 @@ fn lines_with_single_options(rt: HostRuntime) -> Result<(), Fail> {
     let mut sized = flags(false, false, false);
     sized.workers = 64;
     sized.batch = 4096;
+    let mut shared = flags(false, false, false);
+    shared.workers = 2;
+    shared.batch = 2048;
     for (line, options) in [
+        (["replay", "-", "--workers", "2"].as_slice(), shared),
         (["replay", "-"].as_slice(), flags(false, false, false)),
         (sizes.as_slice(), sized),
         (

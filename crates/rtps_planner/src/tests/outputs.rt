@@ -59,6 +59,7 @@ fn rest<A: Allocator + Copy>(alloc: A) -> Result<Rest<A>, AllocError> {
         ranks: Vec::from_slice(alloc, &[0, 2])?,
         answers,
         places: Vec::new(alloc),
+        passed: PassedOver::new(),
     })
 }
 

@@ -101,6 +101,7 @@ fn is_of_six(plan: Plan) -> bool {
         && plan.rest.ranks.as_slice() == [0, 1].as_slice()
         && plan.rest.answers.is_empty()
         && plan.rest.places.as_slice() == [1, 2, 3, 4, 5, 6].map(place).as_slice()
+        && plan.rest.passed == PassedOver::new()
 }
 
 /// Whether the plan is that of no event.
@@ -138,5 +139,41 @@ fn every_third_event_is_for_the_second_reader(rt: HostRuntime) -> Result<(), Fai
 #[test]
 fn no_event_gives_no_job(rt: HostRuntime) -> Result<(), Fail> {
     assert!(rt; is_of_none(plan_of(rt.alloc(), &[])?));
+    Ok(())
+}
+
+/// An entity of which there is no reader.
+const THIRD: EntityId = EntityId([0, 0, 3, 7]);
+
+#[test]
+fn events_for_a_reader_that_is_not_there_are_for_nobody(rt: HostRuntime) -> Result<(), Fail> {
+    let mut events = Vec::new(rt.alloc());
+    for (submessage, reader) in [(1, THIRD), (2, FIRST), (3, THIRD), (4, THIRD), (5, ALL)] {
+        match event_for(submessage, reader) {
+            Some(event) => events.push(event)?,
+            None => return Err(Fail::new("1 is no number")),
+        }
+    }
+    let plan = plan_of(rt.alloc(), &events)?;
+    assert_eq!(rt; plan.rest.passed.nobody, 3);
+    assert_eq!(rt; plan.rest.passed.ignored, 0);
+    Ok(())
+}
+
+#[test]
+fn counters_of_what_comes_to_nothing_stop(rt: HostRuntime) -> Result<(), Fail> {
+    let mut passed = PassedOver {
+        nobody: u64::MAX - 1,
+        ignored: 1,
+    };
+    passed.add(PassedOver {
+        nobody: 2,
+        ignored: 2,
+    });
+    let due = PassedOver {
+        nobody: u64::MAX,
+        ignored: 3,
+    };
+    assert_eq!(rt; passed, due);
     Ok(())
 }

@@ -80,8 +80,10 @@ fn tries<A: Allocator + Copy>(
     }
 }
 
-/// Steps of a reader that has a match, has presented change 1 and holds change 3, and the numbers
-/// of notices and answers of each.
+/// What a reader takes before a step: it has a match, has presented change 1 and holds change 3.
+const BEFORE: [Asks; 3] = [Asks::Match(7411), Asks::Change(1), Asks::Change(3)];
+
+/// Steps of a reader, and the numbers of notices and answers of each.
 const STEPS: [(Asks, usize); 5] = [
     (Asks::Change(2), 2),
     (Asks::Heartbeat(1, 4, 1), 1),
@@ -109,8 +111,13 @@ fn stays_spent<A: Allocator + Copy>(
 fn is_refused(alloc: Global, (asks, wanted): (Asks, usize), room: usize) -> Result<bool, Fail> {
     let heap = LocalHeap::new(alloc, 8192)?;
     let mut reader = reader(&heap)?;
-    for before in [Asks::Match(7411), Asks::Change(1), Asks::Change(3)] {
-        tries(alloc, &heap, &mut reader, before, None)??;
+    let count = match asks {
+        // The change that is held, which the end of its match gives back, would be room enough.
+        Asks::Unmatch => 2,
+        _ => 3,
+    };
+    for before in &BEFORE[..count] {
+        tries(alloc, &heap, &mut reader, *before, None)??;
     }
     let result = tries(alloc, &heap, &mut reader, asks, Some(room))?;
     if result == Ok(wanted) {

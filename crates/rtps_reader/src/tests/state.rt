@@ -155,8 +155,8 @@ fn the_status_counts_the_notices(rt: HostRuntime) -> Result<(), Fail> {
     Ok(())
 }
 
-/// Whether a reader that is stopped after these changes has no match, keeps its totals, and presents
-/// nothing more.
+/// Whether a reader that is stopped after these changes has no match, keeps its totals, and
+/// presents nothing more.
 fn is_stopped(alloc: Global, reader: &mut ReaderState) -> Result<bool, Fail> {
     let earlier = given(alloc, reader)?;
     reader.stop();

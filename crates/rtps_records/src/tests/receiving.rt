@@ -42,8 +42,8 @@ fn source_of(lengths: &[usize], fails: bool) -> Coming<'_> {
     }
 }
 
-/// Returns the moment and the length of each datagram of a batch, and its first octet, or 0 if it is
-/// empty.
+/// Returns the moment and the length of each datagram of a batch, and its first octet, or 0 if it
+/// is empty.
 fn seen(alloc: Global, batch: &Batch) -> Result<Vec<(u64, usize, u8)>, Fail> {
     let mut seen = Vec::new(alloc);
     for datagram in batch.datagrams(alloc)? {

@@ -130,14 +130,6 @@ fn an_announcement_out_of_memory_fails_an_engine(rt: HostRuntime) -> Result<(), 
     Ok(())
 }
 
-/// Where memory is refused first.
-#[derive(Clone, Copy, PartialEq, Eq)]
-enum Refused {
-    BeforeTheTick,
-    AtTheTick,
-    Nowhere,
-}
-
 /// Whether an engine takes the records of two peers, each with two writers of squares, one datagram
 /// each.
 fn takes_peers<'a>(
@@ -158,59 +150,6 @@ fn takes_peers<'a>(
         }
     }
     Ok(true)
-}
-
-/// Whether an engine that has failed refuses a tick and a datagram.
-fn refuses_both<'a>(heap: &'a LocalHeap, engine: &mut SerialEngine<Shapes, &'a LocalHeap>) -> bool {
-    engine.tick(heap, 100_001).err() == Some(EngineError::Failed)
-        && engine.take(heap, at_start(&[])).err() == Some(EngineError::Failed)
-}
-
-/// Returns where memory is refused first as the leases of both peers end at a tick: two readers
-/// have two notices of each peer.
-fn refusal_in<'a>(
-    alloc: Global,
-    heap: &'a LocalHeap,
-    engine: &mut SerialEngine<Shapes, &'a LocalHeap>,
-) -> Result<Refused, Fail> {
-    if !takes_peers(alloc, heap, engine)? {
-        return Ok(Refused::BeforeTheTick);
-    }
-    let before = [engine.status(0), engine.status(1)];
-    match engine.tick(heap, 100_001) {
-        Ok(outcome) if outcome.notices.iter().all(|notices| notices.len() == 4) => {
-            Ok(Refused::Nowhere)
-        }
-        Err(EngineError::NoMemory)
-            if refuses_both(heap, engine) && [engine.status(0), engine.status(1)] == before => {
-            Ok(Refused::AtTheTick)
-        }
-        _ => Err(Fail::new("a tick has another result")),
-    }
-}
-
-/// Like [`refusal_in`], for a heap of this size.
-fn refusal_of(alloc: Global, size: usize) -> Result<Refused, Fail> {
-    let heap = LocalHeap::new(alloc, size)?;
-    let readers = config(alloc, Reliability::Reliable, &[0, 1], &[])?;
-    match SerialEngine::new_in(&heap, alloc, readers, Shapes) {
-        Ok(mut engine) => refusal_in(alloc, &heap, &mut engine),
-        Err(_) => Ok(Refused::BeforeTheTick),
-    }
-}
-
-#[test]
-fn a_tick_out_of_memory_fails_an_engine(rt: HostRuntime) -> Result<(), Fail> {
-    let (mut before, mut at_the_tick, mut nowhere) = (false, false, false);
-    for step in 1..1024 {
-        match refusal_of(rt.alloc(), step * 16)? {
-            Refused::BeforeTheTick => before = true,
-            Refused::AtTheTick => at_the_tick = true,
-            Refused::Nowhere => nowhere = true,
-        }
-    }
-    assert!(rt; before && at_the_tick && nowhere);
-    Ok(())
 }
 
 /// Which call meets a heap that is full but for some room.

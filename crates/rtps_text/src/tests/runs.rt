@@ -214,17 +214,27 @@ fn prints_a_run_however_it_is_cut_and_shared(rt: HostRuntime) -> Result<(), Fail
 }
 
 #[test]
-fn half_of_the_workers_run_a_batch_and_two_at_the_least(rt: HostRuntime) -> Result<(), Fail> {
+fn workers_run_and_format_and_two_at_the_least(rt: HostRuntime) -> Result<(), Fail> {
     let four = Pace {
         batch: 9,
         workers: 4,
     };
     let [one, two, seven, all] = PACES;
-    for (pace, workers) in [(one, 1), (two, 2), (four, 2), (seven, 3), (all, 32)] {
-        let half = pace.halved();
+    for (pace, run, format) in [
+        (one, 1, 1),
+        (two, 2, 2),
+        (four, 3, 2),
+        (seven, 5, 3),
+        (all, 48, 32),
+    ] {
+        let (running, formatting) = (pace.running(), pace.running().formatting());
         assert!(rt;
-            (half.batch, half.workers) == (pace.batch, workers),
-            "{workers}"
+            (running.batch, running.workers) == (pace.batch, run),
+            "{run}"
+        );
+        assert!(rt;
+            (formatting.batch, formatting.workers) == (pace.batch, format),
+            "{run}"
         );
     }
     Ok(())

@@ -1,4 +1,4 @@
-use Rattle.std.proofs.Common.{codes, ap, ◌∙◌}
+use Rattle.std.proofs.Common.{codes, ap, refl, ◌∙◌}
 use Rattle.clap.specs.Words.{found_of}
 use Rattle.clap.proofs.WalkLemmas.{first_value-rows}
 use Rattle.rtps_listen.specs.Options.{one_to, up_to}
@@ -8,9 +8,11 @@ pub returns : goal.returns
 returns c = record {
   file = c.text_in.ensures;
   own = c.text_in-2.ensures;
-  readers = c.one_to.ensures.value ∙ ap (one_to 8) c.number_in.ensures;
-  workers = c.one_to-2.ensures.value ∙ ap (one_to 64) c.number_in-2.ensures;
-  batch = c.one_to-3.ensures.value ∙ ap (one_to 4096) c.number_in-3.ensures;
+  readers = c.one_to.ensures.value ∙ ap (one_to 8) c.number_in-2.ensures;
+  workers = c.one_to-workers.ensures.value ∙ ap (one_to 64) c.number_in.ensures;
+  batch =
+      let shared = c.one_to-workers.ensures.value ∙ ap (one_to 64) c.number_in.ensures in
+      c.batch_size.ensures.value ∙ rw (shared, c.number_in-3.ensures) refl;
   topic = c.text_in-3.ensures;
   fixed = c.get_str.ensures ∙ first_value-rows (found_of c.args.matches.now) (codes "fixed");
   best_effort = c.flag_in.ensures;
@@ -19,6 +21,6 @@ returns c = record {
   keep = c.up_to.ensures.value ∙ ap (up_to 65536) c.number_in-4.ensures;
   domain = c.up_to-2.ensures.value ∙ ap (up_to 232) c.number_in-5.ensures;
   address = c.text_in-4.ensures;
-  count = c.one_to-4.ensures.value ∙ ap (one_to 65536) c.number_in-6.ensures;
-  turns = c.one_to-5.ensures.value ∙ ap (one_to 100000) c.number_in-7.ensures;
+  count = c.one_to-2.ensures.value ∙ ap (one_to 65536) c.number_in-6.ensures;
+  turns = c.one_to-3.ensures.value ∙ ap (one_to 100000) c.number_in-7.ensures;
 }

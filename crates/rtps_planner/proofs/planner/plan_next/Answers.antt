@@ -62,4 +62,4 @@ returns-clause-planned g c = λ k es known reads.
     let others = sym c.is_discovery.ensures ∙ c.if-is_discovery.false in
     let users = users_open old.burst run (view event) (omega (arith, some, counted)) first c.go_on-count.ensures.alike others in
     let places = c.in_ok-add_places.ensures ∙ ap (λ l. old.places.items ++ map (λ (e : EventView). e.place) l) (sym (take-map view n items)) in
-    goes_on es k old _ kept old.burst run c.args.first n refl c.go_on-count.ensures.longer refl some counted c.go_on-count.ensures.alike c.requires.ends users known reads refl places
+    goes_on es k old _ kept old.burst run c.args.first n refl c.go_on-count.ensures.longer refl some counted c.go_on-count.ensures.alike c.requires.ends users known reads refl places refl

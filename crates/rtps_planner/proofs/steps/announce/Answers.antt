@@ -1,7 +1,8 @@
-use Rattle.std.proofs.Common.{◌≡◌, ◌++◌, ◌∷◌, ◌∙◌, [], ap, append-nil, map, subst, sym}
+use Rattle.std.proofs.Common.{◌≡◌, ◌+◌, ◌++◌, ◌∷◌, ◌∙◌, [], ap, append-nil, map, subst, sym}
 use Rattle.rtps_receiver.specs.Events.{view}
 use Rattle.rtps_discovery.specs.Kept.{IsKnown}
 use Rattle.rtps_discovery.specs.Effects.{AreHeard}
+use Rattle.rtps_discovery.specs.Ignored.{ignored}
 use Rattle.rtps_discovery.specs.Known.{moved}
 use Rattle.rtps_discovery.specs.Records.{answered, changes_by, known_by}
 use Rattle.rtps_reader.specs.Notice.{answer_view}
@@ -10,7 +11,10 @@ use Rattle.rtps_run.specs.Occurrence.{Came}
 use Rattle.rtps_run.specs.World.{asked_by}
 use Rattle.rtps_run.proofs.Answered.{on_ok, on_ok_then}
 use Rattle.rtps_run.proofs.Hearing.{announced_known}
+use Rattle.rtps_planner.specs.declared.passed_over.PassedOver.{PassedOver}
 use Rattle.rtps_planner.specs.Job.{event_answer}
+use Rattle.rtps_planner.specs.PassedOver.{capped}
+use Rattle.rtps_planner.proofs.Passing.{announced_nobody, one_ignored}
 use Rattle.rtps_planner.proofs.Planned.{announced_answer, changes_asked, changes_asked_at, moved_not}
 use Rattle.rtps_planner.proofs.Whole.{planned_grow}
 use Rattle.rtps_planner.proofs.steps.announce.Goals as goal
@@ -39,5 +43,12 @@ returns-clause-planned g c = λ k es known is.
     (c.in_ok-add_answer.ensures
     ∙ ap (λ o. sent ++ placed e.place o) heard.said
     ∙ ap (λ l. sent ++ l) (sym (announced_answer k e is) ∙ sym (append-nil (event_answer k e))))
-    c.in_ok-push.ensures.items)
+    c.in_ok-push.ensures.items
+    (ap (λ (p : PassedOver). p.nobody) c.count_ignored.ensures)
+    (ap (λ n. n + 0) (announced_nobody k e is))
+    (λ n counted.
+    ap (λ (p : PassedOver). p.ignored) c.count_ignored.ensures
+    ∙ ap (λ m. capped (m + c.in_ok-effects.effects.ignored)) counted
+    ∙ ap (λ m. capped (capped n + m)) (subst (λ j. c.in_ok-effects.effects.ignored ≡ ignored j e) same (c.in_ok-effects.ensures.ignored k known))
+    ∙ one_ignored n (ignored k e)))
     (c.add_changes.ensures es)

@@ -1,10 +1,11 @@
-use Rattle.std.proofs.Common.{◌≡◌, ◌++◌, ◌∷◌, ◌∙◌, [], ap, append-nil, map, rules, sym}
+use Rattle.std.proofs.Common.{◌≡◌, ◌++◌, ◌∷◌, ◌∙◌, [], ap, append-nil, map, refl, rules, sym}
 use Rattle.rtps_discovery.specs.Seen.{change_seen}
 use Rattle.rtps_reader.specs.Notice.{answer_view}
 use Rattle.rtps_run.specs.Occurrence.{Passes, head_of}
 use Rattle.rtps_run.specs.World.{changes_for, doings}
 use Rattle.rtps_run.proofs.Answered.{on_ok, on_ok_then}
 use Rattle.rtps_planner.specs.Commuting.{head_spoken}
+use Rattle.rtps_planner.proofs.Passing.{none_more}
 use Rattle.rtps_planner.proofs.Planned.{changes_asked_at}
 use Rattle.rtps_planner.proofs.Whole.{planned_grow}
 use Rattle.rtps_planner.proofs.steps.end_matches.Goals as goal
@@ -31,5 +32,6 @@ returns-clause-planned g c = λ k es known.
     (sym (append-nil (map answer_view old.answers.items)))
     (c.in_ok-add_head.ensures
     ∙ ap (λ cs. old.places.items ++ head_spoken index cs) (ap (map change_seen) items ∙ ended)
-    ∙ ap (λ l. old.places.items ++ l) (sym (append-nil (head_spoken index _)))))
+    ∙ ap (λ l. old.places.items ++ l) (sym (append-nil (head_spoken index _))))
+    refl refl (λ n is. is ∙ none_more n))
     (c.add_changes.ensures es)

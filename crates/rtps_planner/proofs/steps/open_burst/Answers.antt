@@ -10,4 +10,4 @@ returns-clause-planned g c = λ k es known others reads.
     let e = view c.args.event.now in
     let closed = c.in_ok-close.ensures.planned k es known in
     planned_more es k [] (Came e ∷ []) c.args.planning.now c.close.new.planning _ _ _ tt closed
-    (opens es k c.close.new.planning _ c.args.discovery.now.kept e _ c.args.first c.close.ensures.closed refl refl refl known others reads refl c.in_ok-push.ensures.items)
+    (opens es k c.close.new.planning _ c.args.discovery.now.kept e _ c.args.first c.close.ensures.closed refl refl refl known others reads refl c.in_ok-push.ensures.items refl)

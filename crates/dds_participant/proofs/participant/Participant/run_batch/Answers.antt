@@ -2,13 +2,14 @@ use Rattle.std.proofs.Common.{◌≡◌, ◌++◌, ◌∙◌, refl, ap, arith, l
 use Rattle.rtps_run.specs.Outcome.{Adds}
 use Rattle.rtps_run.specs.Input.{arrived}
 use Rattle.rtps_run.specs.World.{World}
+use Rattle.dds_participant.specs.declared.counted.Counted.{Counted}
 use Rattle.dds_participant.specs.Kept.{ParticipantView}
 use Rattle.rtps_run.specs.Standing.{EngineView}
 use Rattle.dds_participant.specs.Ports.{NoneAttached}
 use Rattle.dds_participant.proofs.Finished.{handed_finish}
 use Rattle.dds_participant.proofs.Shown.{still_shows}
 use Rattle.dds_participant.proofs.Unattached.{outcome_same}
-use Rattle.dds_participant.proofs.Taken.{adds_after, datagrams_counted, datagrams_stay, stands_after}
+use Rattle.dds_participant.proofs.Taken.{adds_after, datagrams_counted, datagrams_stay, passed_after, stands_after}
 use Rattle.dds_participant.proofs.Counting.{batch_counted}
 use Rattle.dds_participant.proofs.participant.Participant.run_batch.Goals as goal
 
@@ -96,3 +97,8 @@ returns-clause-alone g c earlier kept none =
 pub returns-in_err-hand_lists-clause-shows : goal.returns-in_err-hand_lists-clause-shows
 returns-in_err-hand_lists-clause-shows g c earlier shown =
     still_shows c.from_residual-in_err-hand_lists.result g.C.Catalog.decoding earlier c.args.self.now c.admit.new.self c.run.new.self c.hand_lists.new.self c.in_ok-admit.ensures.ok.2 c.run.ensures.same c.hand_lists.ensures.same.0 shown
+
+pub returns-clause-passed : goal.returns-clause-passed
+returns-clause-passed g c earlier kept was =
+    ap (λ (counted : Counted). counted.passed) c.finish_batch.ensures.counters
+    ∙ passed_after g.C.Catalog.decoding earlier (map arrived c.args.datagrams.now) c.args.self.now c.admit.new.self c.run.new.self kept c.in_ok-admit.ensures.ok.2 c.in_ok-ran.ran.counted.passed c.in_ok-ran.ensures.passed was

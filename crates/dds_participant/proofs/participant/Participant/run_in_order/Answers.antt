@@ -2,13 +2,14 @@ use Rattle.std.proofs.Common.{◌≡◌, ◌++◌, ◌∙◌, ap, length, map, r
 use Rattle.rtps_run.specs.Input.{arrived}
 use Rattle.rtps_run.specs.World.{World}
 use Rattle.dds_participant.specs.BatchOutput.{HoldsNothing, IsGiven}
+use Rattle.dds_participant.specs.declared.counted.Counted.{Counted}
 use Rattle.dds_participant.specs.Kept.{ParticipantView}
 use Rattle.rtps_run.specs.Standing.{EngineView}
 use Rattle.dds_participant.specs.Ports.{NoneAttached}
 use Rattle.dds_participant.proofs.Unattached.{given_same}
 use Rattle.dds_participant.proofs.Finished.{handed_finish}
 use Rattle.dds_participant.proofs.Leaving.{left_alone, left_empty}
-use Rattle.dds_participant.proofs.Taken.{adds_after, datagrams_counted, datagrams_stay, stands_after}
+use Rattle.dds_participant.proofs.Taken.{adds_after, datagrams_counted, datagrams_stay, passed_after, stands_after}
 use Rattle.dds_participant.proofs.Counting.{batch_counted}
 use Rattle.dds_participant.proofs.participant.Participant.run_in_order.Goals as goal
 
@@ -94,3 +95,8 @@ returns-clause-alone g c earlier kept none =
     adds_after g.C.Catalog.decoding earlier (map arrived c.args.datagrams.now) c.args.self.now c.admit.new.self c.run.new.self kept is
     (λ (before after : World g.C.Catalog.Meaning). IsGiven g.C.Catalog.view before after (record { places = c.in_ok-ran.ran.given.places; answers = c.in_ok-ran.ran.given.answers; outputs = c.hand.new.outputs }))
     (λ w kept. given_same g.C.Catalog.view w _ c.in_ok-ran.ran.given c.hand.new.outputs same.0 (c.in_ok-ran.ensures.gives w kept))
+
+pub returns-clause-passed : goal.returns-clause-passed
+returns-clause-passed g c earlier kept was =
+    ap (λ (counted : Counted). counted.passed) c.finish_batch.ensures.counters
+    ∙ passed_after g.C.Catalog.decoding earlier (map arrived c.args.datagrams.now) c.args.self.now c.admit.new.self c.run.new.self kept c.in_ok-admit.ensures.ok.2 c.in_ok-ran.ran.counted.passed c.in_ok-ran.ensures.passed was

@@ -12,5 +12,5 @@ returns-in-Ok-clause-takes g c =
     let old = c.args.self.now.participant in
     takes_records {U = Unit {0}} {E = AllocError} g.C.Catalog.view g.C.Catalog.decoding (map arrived datagrams) (map record_of datagrams) old c.run_in_order.new.self c.run_in_order.new.given (Ok (tt {0})) (inputs_are datagrams)
     c.in-Ok.ensures.stands (λ earlier h. c.in-Ok.ensures.alone earlier h c.requires.alone)
-    (c.in-Ok.ensures.counters ∙ ap (λ octets. all_counted old.engine.config.own octets old.counters) (sym (octets_are datagrams)))
+    (c.in-Ok.ensures.counters ∙ ap (λ octets. all_counted old.engine.config.own octets old.counters.received) (sym (octets_are datagrams)))
     (c.run_in_order.ensures.free c.requires.alone)

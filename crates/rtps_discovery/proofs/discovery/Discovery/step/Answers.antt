@@ -10,3 +10,7 @@ returns-clause-known g c = λ k is.
 pub returns-clause-effects : goal.returns-clause-effects
 returns-clause-effects g c = λ k is.
     c.in_ok-effects.ensures.effects (moved c.args.moment k) (c.advance.ensures k (subst (λ (d : DiscoveryView). IsKnown k d.kept) (sym c.self.view_is) is))
+
+pub returns-clause-ignored : goal.returns-clause-ignored
+returns-clause-ignored g c = λ k is.
+    c.in_ok-effects.ensures.ignored (moved c.args.moment k) (c.advance.ensures k (subst (λ (d : DiscoveryView). IsKnown k d.kept) (sym c.self.view_is) is))

@@ -8,6 +8,7 @@ use Rattle.rtps_proxy.specs.Replies.{reply_view}
 use Rattle.rtps_discovery.specs.Announcement.{Announcement}
 use Rattle.rtps_discovery.specs.Changes.{changes_run, known_run}
 use Rattle.rtps_discovery.specs.Effects.{extends, match_of}
+use Rattle.rtps_discovery.specs.Ignored.{silent_among}
 use Rattle.rtps_discovery.specs.Kept.{IsKnown, kept}
 use Rattle.rtps_discovery.specs.Records.{endpoint_in}
 use Rattle.rtps_discovery.specs.Seen.{change_seen}
@@ -24,22 +25,34 @@ pub returns-in_default-clause-effects : goal.returns-in_default-clause-effects
 returns-in_default-clause-effects g c = λ k is.
     let e = view c.args.event.now in
     let none : match_of k e ≡ None = none_taken g.row.A.Denot (match_of k e) (match_event_of e) (rw c.in_default.is at (c.in_ok-taken.ensures.effects k.announcers is.announcers)) in
-    rw none (record { heard = ap (map change_seen) c.none.ensures.changes; said = ap (option_map reply_view) c.none.ensures.answer })
+    rw none (record { heard = ap (map change_seen) c.silent.ensures.changes; said = ap (option_map reply_view) c.silent.ensures.answer })
+
+pub returns-in_default-clause-ignored : goal.returns-in_default-clause-ignored
+returns-in_default-clause-ignored g c = λ k is.
+    let e = view c.args.event.now in
+    let none : match_of k e ≡ None = none_taken g.row.A.Denot (match_of k e) (match_event_of e) (rw c.in_default.is at (c.in_ok-taken.ensures.effects k.announcers is.announcers)) in
+    rw none c.silent.ensures.ignored
 
 pub returns-clause-known : goal.returns-clause-known
 returns-clause-known g c = λ k is.
     let e = view c.args.event.now in
     let took = some_taken (match_of k e) (match_event_of e) c.in-Some.effects (rw c.in-Some.is at (c.in_ok-taken.ensures.effects k.announcers is.announcers)) in
     let said : ChangeView → List Announcement = λ s. option_to_list (endpoint_in e.source e.writer s) in
-    let ready = ap (flat_map said) (ap (map change_view) c.as_slice.ensures.value ∙ took.effects.ready) in
+    let ready = ap (flat_map said) (ap (map change_view) c.as_slice-ready.ensures.value ∙ took.effects.ready) in
     let stands = came_for k (kept c.args.self.now) e c.on_event.new.self is (c.in_ok-taken.ensures.stands k.announcers is.announcers) in
-    rw took.is (subst (λ l. IsKnown (known_run (extends k e) l) (kept c.apply_ready.new.self)) ready (c.in_ok-apply_ready.ensures.known (extends k e) stands))
+    rw took.is (subst (λ l. IsKnown (known_run (extends k e) l) (kept c.apply_ready.new.self)) ready (c.in_ok-ignored.ensures.applied.known (extends k e) stands))
 
 pub returns-clause-effects : goal.returns-clause-effects
 returns-clause-effects g c = λ k is.
     let e = view c.args.event.now in
     let took = some_taken (match_of k e) (match_event_of e) c.in-Some.effects (rw c.in-Some.is at (c.in_ok-taken.ensures.effects k.announcers is.announcers)) in
     let said : ChangeView → List Announcement = λ s. option_to_list (endpoint_in e.source e.writer s) in
-    let ready = ap (flat_map said) (ap (map change_view) c.as_slice.ensures.value ∙ took.effects.ready) in
+    let ready = ap (flat_map said) (ap (map change_view) c.as_slice-ready.ensures.value ∙ took.effects.ready) in
     let stands = came_for k (kept c.args.self.now) e c.on_event.new.self is (c.in_ok-taken.ensures.stands k.announcers is.announcers) in
-    rw took.is (record { heard = c.in_ok-apply_ready.ensures.changes (extends k e) stands ∙ ap (λ l. map change_seen l ++ changes_run (extends k e) (flat_map said (map change_view c.as_slice.result.now))) c.new-changes.ensures.items ∙ ap (changes_run (extends k e)) ready; said = took.effects.answer })
+    rw took.is (record { heard = c.in_ok-ignored.ensures.applied.changes (extends k e) stands ∙ ap (λ l. map change_seen l ++ changes_run (extends k e) (flat_map said (map change_view c.as_slice-ready.result.now))) c.new-changes.ensures.items ∙ ap (changes_run (extends k e)) ready; said = took.effects.answer })
+
+pub returns-clause-ignored : goal.returns-clause-ignored
+returns-clause-ignored g c = λ k is.
+    let e = view c.args.event.now in
+    let took = some_taken (match_of k e) (match_event_of e) c.in-Some.effects (rw c.in-Some.is at (c.in_ok-taken.ensures.effects k.announcers is.announcers)) in
+    rw took.is (c.in_ok-ignored.ensures.ignored ∙ ap (λ l. silent_among (map (endpoint_in e.source e.writer) l)) (ap (map change_view) c.as_slice-ready.ensures.value ∙ took.effects.ready))

@@ -6,7 +6,7 @@ use Rattle.rtps_discovery.specs.Addressed.{writer_of}
 use Rattle.rtps_discovery.specs.Kept.{IsKnown, kept}
 use Rattle.rtps_discovery.specs.Records.{named_match}
 use Rattle.rtps_discovery.specs.Seen.{change_seen}
-use Rattle.rtps_discovery.proofs.Announcers.{is_none}
+use Rattle.rtps_discovery.proofs.Announcers.{announcing, is_none, user_writer}
 use Rattle.rtps_discovery.proofs.Hearing.{undetected, unheard_of}
 use Rattle.rtps_discovery.proofs.registry.Registry.take.Goals as goal
 
@@ -23,3 +23,9 @@ returns-in-None-clause-effects g c = λ k is.
     let user = is_none e.writer (sym c.of.ensures ∙ c.in-None.is) in
     let gives = unheard_of k e user.other (ap (named_match e) (undetected (writer_of e) k.announcers is.announce user.detector)) in
     record { heard = ap (map change_seen) c.none.ensures.changes ∙ gives.changes; said = ap (option_map reply_view) c.none.ensures.answer ∙ gives.answer }
+
+pub returns-in-None-clause-ignored : goal.returns-in-None-clause-ignored
+returns-in-None-clause-ignored g c = λ k is. rw (user_writer c.args.event.now.writer (sym c.of.ensures ∙ c.in-None.is)) c.none.ensures.ignored
+
+pub returns-in-Some-Participant-clause-ignored : goal.returns-in-Some-Participant-clause-ignored
+returns-in-Some-Participant-clause-ignored g c = λ k is. rw (announcing c.args.event.now.writer _ (sym c.of.ensures ∙ c.in-Some-Participant.is)) (c.take_participant.ensures.ignored k is)

@@ -24,7 +24,7 @@ returns-then-not-is_for-clause-effects g c = λ k is.
     let not_for : is_for e.reader c.args.reader ≡ false = sym c.is_for.ensures ∙ c.if-not-is_for.true in
     let none : announcer_of k e ≡ None = named_if k e c.args.reader is.announce c.requires.detected ∙ rw not_for refl in
     let gives = unheard_of k e c.requires.other none in
-    record { heard = ap (map change_seen) c.none.ensures.changes ∙ gives.changes; said = ap (option_map reply_view) c.none.ensures.answer ∙ gives.answer }
+    record { heard = ap (map change_seen) c.silent.ensures.changes ∙ gives.changes; said = ap (option_map reply_view) c.silent.ensures.answer ∙ gives.answer }
 
 pub returns-clause-known : goal.returns-clause-known
 returns-clause-known g c = λ k is.
@@ -41,3 +41,17 @@ returns-clause-effects g c = λ k is.
     let gives = of_endpoints k e c.requires.other named in
     subst (λ a. IfOk c.hear_announcer.result (AreHeard (changes_by k e) a)) gives.answer
     (subst (λ l. IfOk c.hear_announcer.result (AreHeard l (answer_by e (match_of k e)))) gives.changes (c.hear_announcer.ensures.effects k is))
+
+pub returns-then-not-is_for-clause-ignored : goal.returns-then-not-is_for-clause-ignored
+returns-then-not-is_for-clause-ignored g c = λ k is.
+    let e = view c.args.event.now in
+    let not_for : is_for e.reader c.args.reader ≡ false = sym c.is_for.ensures ∙ c.if-not-is_for.true in
+    let none : announcer_of k e ≡ None = named_if k e c.args.reader is.announce c.requires.detected ∙ rw not_for refl in
+    rw (c.requires.other, none) c.silent.ensures.ignored
+
+pub returns-clause-ignored : goal.returns-clause-ignored
+returns-clause-ignored g c = λ k is.
+    let e = view c.args.event.now in
+    let for_us : is_for e.reader c.args.reader ≡ true = sym c.is_for.ensures ∙ c.if-not-is_for.false in
+    let named : announcer_of k e ≡ match_of k e = named_if k e c.args.reader is.announce c.requires.detected ∙ rw for_us refl in
+    rw (c.requires.other, named) (c.hear_announcer.ensures.ignored k is)
