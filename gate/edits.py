@@ -13,6 +13,8 @@ OF_OTHERS = re.compile(r"which (is|are) not proved|rests on|waits for")
 """What the checker says of a function whose proof hangs on that of another."""
 NAMES = re.compile(r"has no field|is not in scope|has no `|was not admitted|was rejected|is no name")
 """What it says of an answer that cites what is not there."""
+LEMMA = re.compile(r"(?:\./)?proofs/\w+\.antt:\d+:\d+: error: (.*)")
+"""What it says of a lemma, whose file is in no function's folder."""
 CANNOT_BE_READ = re.compile(r"is not in scope|has no field|is no name|operand is missing|expected the end|cannot continue")
 
 
@@ -128,4 +130,9 @@ def judge(edit, crate, lines):
         return None if is_own else f"BAD EDIT: {edit.by} only waits for another function: {said[:200]}"
     if "did not prove" in said or goals:
         return None
+    # A law can be one lemma. Where only definitions were changed, it is refused if that lemma isn't proved any more.
+    of_lemmas = [found[1] for line in lines if (found := LEMMA.match(line))]
+    if all(file.startswith("specs/") for file, _, _ in edit.pairs) and any("was not admitted" in it for it in faults):
+        if any(not NAMES.search(it) for it in of_lemmas):
+            return None
     return f"BAD EDIT: the checker shows no goal of {edit.by} that isn't proved: {(faults or [said])[0][:200]}"

@@ -175,6 +175,9 @@ class Repository(unittest.TestCase):
     def test_an_edit_is_refused_by_a_goal_of_its_own_function_alone(self):
         fault = lambda name, text: f"./proofs/{name}/Answers.antt:3:4: error: {text}"
         waits, path = "fn low::one: not proved; it calls `low::first`, which is not proved", "src/lib.rt:8:9: error"
+        meaning = edits.Edit("meaning", "one", (("specs/One.antt", "1", "2"),))
+        law = [LINES[2], fault("one", "1 declaration that depends on `is_one`, which was not admitted, was not checked: returns")]
+        lemma = "./proofs/Ones.antt:3:4: error: `is_one`: the two types differ"
         for edit, lines, is_refused in (
             (FIRST, LINES, True), (ONE, LINES, True), (NEXT, LINES, False), (ONE, LINES[:3], False), (ONE, [], False),
             (ONE, [LINES[2], fault("one", "`returns`: `octet` is not in scope")], False),
@@ -183,6 +186,8 @@ class Repository(unittest.TestCase):
             (ONE, [waits.replace("not proved;", "no proof: `search` did not prove `returns`;", 1)], True),
             (ONE, [f"{path}[unknown-name]: cannot find value", *LINES], False),
             (ONE, ["specs/One.antt:3:4: error: `one` is not in scope", *LINES], False), (ONE, ["fn low::one: proved"], False),
+            (meaning, [*law, lemma], True), (meaning, law, False), (ONE, [*law, lemma], False),
+            (meaning, [*law, lemma.replace("the two types differ", "`one` is not in scope")], False),
         ):
             self.assertEqual(is_refused, edits.judge(edit, "low", lines) is None, (edit.name, lines))
 

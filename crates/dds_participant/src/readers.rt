@@ -13,7 +13,7 @@ use rtps_discovery::ENTITYID_UNKNOWN;
 use rtps_planner::Job;
 use rtps_reader::{Output, ReaderState};
 use rtps_shards::{Gate, JobResult, Posted, SharedBatch, Worker, run_job, run_jobs};
-use rtps_types::GuidPrefix;
+use rtps_types::{Guid, GuidPrefix};
 use std::alloc::{AllocError, Global};
 use std::mem;
 use std::thread::Threads;
@@ -139,8 +139,11 @@ pub(crate) fn run_alone<C: Catalog, G: Gate>(
 /// Returns the placeholder of a reader while a worker has the reader: a reader without matches,
 /// which takes no memory.
 fn nobody(alloc: Global) -> Result<ReaderState, AllocError> {
-    let own = GuidPrefix([0; 12]);
-    ReaderState::new(alloc, 0, own, ENTITYID_UNKNOWN, false, &[])
+    let guid = Guid {
+        prefix: GuidPrefix([0; 12]),
+        entity: ENTITYID_UNKNOWN,
+    };
+    ReaderState::new(alloc, 0, guid, false, &[])
 }
 
 /// Moves a reader and its lists into its job, and leaves placeholders.

@@ -39,7 +39,7 @@ pub fn push_hex_array<const N: usize, A: Allocator>(
         return push_hex(out, octets);
     }
     let mut digits = [0u8; 2 * SHORT];
-    spell(octets, &mut digits[..2 * N]);
+    format_hex(octets, &mut digits[..2 * N]);
     out.extend_from_slice(&digits[..2 * N])
 }
 
@@ -72,14 +72,14 @@ fn push_long<A: Allocator>(out: &mut Vec<u8, A>, octets: &[u8]) -> Result<(), Al
         return Err(AllocError);
     };
     out.resize(end, 0)?;
-    spell(octets, &mut out[start..]);
+    format_hex(octets, &mut out[start..]);
     Ok(())
 }
 
 /// Writes octets in hex, two digits each. No digit is looked up in a table, so that the compiler
 /// can make many of them at once.
 #[inline(always)]
-fn spell(octets: &[u8], digits: &mut [u8])
+fn format_hex(octets: &[u8], digits: &mut [u8])
     requires { length digits.old ≡ 2 * length octets.now }
     ensures { digits.new ≡ encode_lower octets.now }
 {

@@ -13,7 +13,7 @@ use Rattle.rtps_cdr.proofs.Structs.{members_parted}
 use Rattle.rtps_cdr.proofs.Written.{written_is}
 
 number_free : (size at : ℕ) (e : Endian) (octets : List ℕ) (n : ℕ) → IsNumber Zeros size at e octets n → IsNumber Free size at e octets n
-number_free size at e octets n h = record { gap = h.gap; field = h.field; text = h.text; aligns = ap length (h.aligns) ∙ length-replicate (padding size at) 0; full = h.full; spells = h.spells }
+number_free size at e octets n h = record { gap = h.gap; field = h.field; text = h.text; aligns = ap length (h.aligns) ∙ length-replicate (padding size at) 0; full = h.full; encodes = h.encodes }
 
 all_free : {A : Type 0} (is is_free : ℕ → List ℕ → A → Type 0) → ((at : ℕ) (os : List ℕ) (x : A) → is at os x → is_free at os x) → (at : ℕ) (os : List ℕ) (xs : List A) → AreAll is at os xs → AreAll is_free at os xs
 all_free is is_free each at os [] h = h

@@ -51,7 +51,7 @@ number_takes size c room =
         text = take-add pad size left;
         aligns = length-take-le pad left (omega arith);
         full = length-take-le size (drop pad left) (omega (arith, length-drop pad left));
-        spells = number-take c.endian size (drop pad left) ∙ ap (number c.endian size) (drop-drop pad c.position c.octets);
+        encodes = number-take c.endian size (drop pad left) ∙ ap (number c.endian size) (drop-drop pad c.position c.octets);
       };
       behind = let e : length (take (pad + size) left) ≡ pad + size = length-take-le (pad + size) left long in
           rw e (ap (λ (p : ℕ). record { octets = c.octets; endian = c.endian; position = p }) (omega arith));
@@ -70,7 +70,7 @@ number_taken size c behind n some t =
     sym (drop-drop pad c.position c.octets) ∙ ap (drop pad) whole ∙ drop_at s.gap (s.field ++ t.rest) pad gap_len in
     let front_len : length t.front ≡ pad + size = ap length s.text ∙ length-append s.gap s.field ∙ rw (gap_len, s.full) refl in (
       omega arith,
-      ap (number c.endian size) at_field ∙ number-append c.endian size s.field t.rest (omega (arith, s.full)) ∙ s.spells,
+      ap (number c.endian size) at_field ∙ number-append c.endian size s.field t.rest (omega (arith, s.full)) ∙ s.encodes,
       t.behind ∙ ap (λ (p : ℕ). record { octets = c.octets; endian = c.endian; position = p }) (omega arith),
     )
 
@@ -118,20 +118,20 @@ utf8_false bs h = by_test bs (is_utf8 bs) refl h where
 aligned_one : (at : ℕ) → aligned 1 at ≡ at
 aligned_one at = omega arith
 
-octet_spells : (e : Endian) (xs : List ℕ) → number e 1 xs ≡ slice_index xs 0
-octet_spells Big xs = omega arith
-octet_spells Little xs = omega arith
+octet_number : (e : Endian) (xs : List ℕ) → number e 1 xs ≡ slice_index xs 0
+octet_number Big xs = omega arith
+octet_number Little xs = omega arith
 
 pub octet_is : (e : Endian) (octets : List ℕ) (at : ℕ) → at < length octets → number_from 1 e octets at ≡ Ok (slice_index octets at, at + 1)
 octet_is e octets at h =
-    rw (aligned_one at, is_true (at + 1) (length octets) (omega arith), octet_spells e (drop at octets), get_or-drop at octets 0 0) (rw add-zero refl)
+    rw (aligned_one at, is_true (at + 1) (length octets) (omega arith), octet_number e (drop at octets), get_or-drop at octets 0 0) (rw add-zero refl)
 
 pub octet_none : (e : Endian) (octets : List ℕ) (at : ℕ) → length octets ≤ at → number_from 1 e octets at ≡ Err Short
 octet_none e octets at h = rw (aligned_one at, is_false (at + 1) (length octets) (omega arith)) refl
 
 -- a number of one octet
 one_octet : (g : Gaps) (at : ℕ) (e : Endian) (octets : List ℕ) (n : ℕ) → IsNumber g 1 at e octets n → octets ≡ n ∷ []
-one_octet g at e octets n h = cells octets n (is_long g at e octets n h) (is_spelled g at e octets n h) where
+one_octet g at e octets n h = cells octets n (is_long g at e octets n h) (is_encoded g at e octets n h) where
   cells : (octets : List ℕ) (n : ℕ) → length octets ≡ 1 → slice_index octets 0 ≡ n → octets ≡ n ∷ []
   cells [] n l s = absurd (omega (arith, l))
   cells (x ∷ []) n l s = ap (λ (y : ℕ). y ∷ []) s
@@ -148,11 +148,11 @@ one_octet g at e octets n h = cells octets n (is_long g at e octets n h) (is_spe
   is_long : (g : Gaps) (at : ℕ) (e : Endian) (octets : List ℕ) (n : ℕ) → IsNumber g 1 at e octets n → length octets ≡ 1
   is_long g at e octets n h = ap length (is_field g at e octets n h) ∙ h.full
 
-  is_spelled : (g : Gaps) (at : ℕ) (e : Endian) (octets : List ℕ) (n : ℕ) → IsNumber g 1 at e octets n → slice_index octets 0 ≡ n
-  is_spelled g at e octets n h = ap (λ (xs : List ℕ). slice_index xs 0) (is_field g at e octets n h) ∙ sym (octet_spells e h.field) ∙ h.spells
+  is_encoded : (g : Gaps) (at : ℕ) (e : Endian) (octets : List ℕ) (n : ℕ) → IsNumber g 1 at e octets n → slice_index octets 0 ≡ n
+  is_encoded g at e octets n h = ap (λ (xs : List ℕ). slice_index xs 0) (is_field g at e octets n h) ∙ sym (octet_number e h.field) ∙ h.encodes
 
 an_octet : (at : ℕ) (e : Endian) (n : ℕ) → IsNumber Free 1 at e (n ∷ []) n
-an_octet at e n = record { gap = []; field = n ∷ []; text = refl; aligns = omega arith; full = refl; spells = octet_spells e (n ∷ []) }
+an_octet at e n = record { gap = []; field = n ∷ []; text = refl; aligns = omega arith; full = refl; encodes = octet_number e (n ∷ []) }
 
 -- ---- truth values
 

@@ -9,29 +9,29 @@ use Rattle.std.specs.Int.RustNames.{FitsSigned}
 use Rattle.byteorder.specs.Numbers.{big_number-reads_back, little_number-reads_back, length-bytes_high_first, length-bytes_low_first, big_from-append, little_from-append}
 use Rattle.rtps_types.specs.declared.field.Endian.{Endian}
 use Rattle.rtps_types.specs.declared.field.Endian.TheVariants.{Big, Little}
-use Rattle.rtps_types.specs.Field.{number, spelled}
+use Rattle.rtps_types.specs.Field.{number, encoded}
 use Rattle.rtps_cdr.specs.Cdr.{CdrType, Unsigned, Signed, Boolean, Text, Octets, Both, Sequence, ValueOf, Zeros, IsNumber, AreAll, IsCdr, padding}
 use Rattle.rtps_cdr.specs.Writing.{Output, number_written, all_written, written, Fits, Writes, appended}
 
 pub zeros : (n zero_octet : ℕ) → n ≤ 8 → take n (replicate 8 zero_octet) ≡ replicate n zero_octet
 zeros n zero_octet h = take-replicate n 8 zero_octet h
 
-length_of_spelled : (e : Endian) (size n : ℕ) → length (spelled e size n) ≡ size
-length_of_spelled Big size n = length-bytes_high_first size n
-length_of_spelled Little size n = length-bytes_low_first 0 size n
+length_of_encoded : (e : Endian) (size n : ℕ) → length (encoded e size n) ≡ size
+length_of_encoded Big size n = length-bytes_high_first size n
+length_of_encoded Little size n = length-bytes_low_first 0 size n
 
-number_of_spelled : (e : Endian) (size n : ℕ) → n < 256 ^ size → number e size (spelled e size n) ≡ n
-number_of_spelled Big size n h = sym (big_from-append size (spelled Big size n) [] (omega (arith, length-bytes_high_first size n))) ∙ big_number-reads_back size n [] h
-number_of_spelled Little size n h = sym (little_from-append size (spelled Little size n) [] (omega (arith, length-bytes_low_first 0 size n))) ∙ little_number-reads_back size n [] h
+number_of_encoded : (e : Endian) (size n : ℕ) → n < 256 ^ size → number e size (encoded e size n) ≡ n
+number_of_encoded Big size n h = sym (big_from-append size (encoded Big size n) [] (omega (arith, length-bytes_high_first size n))) ∙ big_number-reads_back size n [] h
+number_of_encoded Little size n h = sym (little_from-append size (encoded Little size n) [] (omega (arith, length-bytes_low_first 0 size n))) ∙ little_number-reads_back size n [] h
 
 number_is : (size at : ℕ) (e : Endian) (n : ℕ) → n < 256 ^ size → IsNumber Zeros size at e (number_written size at e n) n
 number_is size at e n h = record {
   gap = replicate (padding size at) 0;
-  field = spelled e size n;
+  field = encoded e size n;
   text = refl;
   aligns = refl;
-  full = length_of_spelled e size n;
-  spells = number_of_spelled e size n h;
+  full = length_of_encoded e size n;
+  encodes = number_of_encoded e size n h;
 }
 
 all_are : {A : Type 0} (is : ℕ → List ℕ → A → Type 0) (f : ℕ → A → List ℕ) (P : A → Type 0) → ((at : ℕ) (x : A) → P x → is at (f at x) x) → (at : ℕ) (xs : List A) → AllByRecursion P xs → AreAll is at (all_written f at xs) xs

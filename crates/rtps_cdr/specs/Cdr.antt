@@ -54,7 +54,7 @@ pub record IsNumber (g : Gaps) (size at : ℕ) (e : Endian) (octets : List ℕ) 
   pub text : octets ≡ gap ++ field
   pub aligns : IsGap g (padding size at) gap
   pub full : length field ≡ size
-  pub spells : number e size field ≡ n
+  pub encodes : number e size field ≡ n
 
 -- nothing after a length of 0; otherwise a UTF-8 string and its NUL, which the length counts (CORBA
 -- CDR 9.3.2.7)

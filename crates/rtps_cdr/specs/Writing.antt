@@ -4,7 +4,7 @@ use Rattle.std.specs.List.{AllByRecursion}
 use Rattle.std.specs.Int.{byte_len, cast_unsigned}
 use Rattle.std.specs.Int.RustNames.{FitsSigned}
 use Rattle.rtps_types.specs.declared.field.Endian.{Endian}
-use Rattle.rtps_types.specs.Field.{spelled}
+use Rattle.rtps_types.specs.Field.{encoded}
 use Rattle.rtps_cdr.specs.Cdr.{CdrType, Unsigned, Signed, Boolean, Text, Octets, Both, Sequence, ValueOf, Zeros, IsCdr, padding}
 
 -- a writer: the octets that it has written, and its byte order
@@ -16,7 +16,7 @@ pub record Output : Type 0 where
 
 -- padding of zeros, and the number
 abbrev pub number_written : ℕ → ℕ → Endian → ℕ → List ℕ
-number_written size at e n = replicate (padding size at) 0 ++ spelled e size n
+number_written size at e n = replicate (padding size at) 0 ++ encoded e size n
 
 -- a string: its length, which counts its NUL, the string and the NUL
 abbrev pub text_written : ℕ → Endian → List ℕ → List ℕ

@@ -1,8 +1,10 @@
 -- Leases in order: the first one says whether one has ended; and one is renewed.
-use Rattle.std.proofs.Common.{◌≡◌, ℕ, ◌<◌, ◌≤◌, ◌^◌, ◌==◌, nat_lt, Bool, true, false, ◌&&◌, ◌||◌, cond, if◌then◌else◌, Option, Some, None, List, [], ◌∷◌, refl, sym, ap, ◌∙◌, arith}
+use Rattle.std.proofs.Common.{◌≡◌, ℕ, ◌<◌, ◌≤◌, ◌^◌, ◌==◌, min, nat_lt, Bool, true, false, ◌&&◌, ◌||◌, cond, if◌then◌else◌, Option, Some, None, List, [], ◌∷◌, refl, sym, ap, ◌∙◌, arith}
 use Rattle.std.specs.List.{AllByRecursion}
 use Rattle.std.specs.List.Sorted.{IsStrictlySortedBy}
-use Rattle.std.specs.Ordering.{is_eq, nat_cmp, ordering_then}
+use Rattle.std.specs.BTreeSet.{insert_key}
+use Rattle.std.specs.Set.{remove_key}
+use Rattle.std.specs.Ordering.{is_eq, match_ordering, nat_cmp, ordering_then}
 use Rattle.std.specs.declared.cmp.Ordering.{Ordering}
 use Rattle.std.specs.declared.cmp.Ordering.TheVariants.{Less, Equal, Greater}
 use Rattle.std.proofs.lemmas.Bool.Decides.{nat_tests}
@@ -68,12 +70,15 @@ both_equal l m q p = by_order (nat_cmp l m) refl
 at_same : (prefix p : GuidPrefix) (o : Option ℕ) (ends : List (ℕ × GuidPrefix)) (m : ℕ) → EndsAt prefix o ends → is_eq (prefix_order prefix p) ≡ true → has_end ends m p ≡ is_last m o
 at_same prefix p o ends m at h = ap (has_end ends m) (sym (prefix_is prefix p h)) ∙ at m
 
-pub stays_ended : (prefix : GuidPrefix) (ends : List (ℕ × GuidPrefix)) → EndsAt prefix None ends → Renews prefix None ends ends
-stays_ended prefix ends at = λ m p. by_test m p (is_eq (prefix_order prefix p)) refl
+pub stays : (prefix : GuidPrefix) (o : Option ℕ) (ends : List (ℕ × GuidPrefix)) → EndsAt prefix o ends → Renews prefix o ends ends
+stays prefix o ends at = λ m p. by_test m p (is_eq (prefix_order prefix p)) refl
   where
-    by_test : (m : ℕ) (p : GuidPrefix) (t : Bool) → is_eq (prefix_order prefix p) ≡ t → has_end ends m p ≡ (if t then false else has_end ends m p)
-    by_test m p true h = at_same prefix p None ends m at h
+    by_test : (m : ℕ) (p : GuidPrefix) (t : Bool) → is_eq (prefix_order prefix p) ≡ t → has_end ends m p ≡ (if t then is_last m o else has_end ends m p)
+    by_test m p true h = at_same prefix p o ends m at h
     by_test m p false h = refl
+
+pub stays_ended : (prefix : GuidPrefix) (ends : List (ℕ × GuidPrefix)) → EndsAt prefix None ends → Renews prefix None ends ends
+stays_ended prefix ends at = stays prefix None ends at
 
 pub begun : (prefix : GuidPrefix) (last : ℕ) (old new : List (ℕ × GuidPrefix)) → ((m : ℕ) (p : GuidPrefix) → has_end new m p ≡ cond (is_eq (end_order (last, prefix) (m, p))) true (has_end old m p)) → EndsAt prefix None old → Renews prefix (Some last) old new
 begun prefix last old new is at = λ m p. is m p ∙ ap (λ b. cond b true (has_end old m p)) (both_equal last m prefix p) ∙ by_test m p (is_eq (prefix_order prefix p)) refl
@@ -152,3 +157,38 @@ one_found p q f g o n all put first was = ap (λ b. b || n) (put ∙ ap (λ t. c
     by_test true true = refl
     by_test true false = refl
     by_test false f = refl
+
+-- ---- the first one as one is removed or added
+
+pub first_stays : (ends : List (ℕ × GuidPrefix)) (last : ℕ) (p : GuidPrefix) → (last == soonest_of ends) ≡ false → soonest_of (remove_key (λ e. is_eq (end_order (last, p) e)) ends) ≡ soonest_of ends
+first_stays [] last p apart = refl
+first_stays (e ∷ es) last p apart = by_test (is_eq (end_order (last, p) e)) refl
+  where
+    by_test : (t : Bool) → is_eq (end_order (last, p) e) ≡ t → soonest_of (cond t es (e ∷ remove_key (λ x. is_eq (end_order (last, p) x)) es)) ≡ e.0
+    by_test false h = refl
+    by_test true h = let bad : ((last == e.0) && is_eq (prefix_order p e.1)) ≡ true = sym (both_equal last e.0 p e.1) ∙ h in let worse : (false && is_eq (prefix_order p e.1)) ≡ true = rw apart at bad in absurd cc
+
+not_greater : (a b : ℕ) (o : Ordering) → ordering_then (nat_cmp a b) o ≡ Greater → b ≤ a
+not_greater a b o h = by_order (nat_cmp a b) refl h
+  where
+    by_order : (r : Ordering) → nat_cmp a b ≡ r → ordering_then r o ≡ Greater → b ≤ a
+    by_order Less e f = absurd cc
+    by_order Equal e f = grind (arith, nat_tests)
+    by_order Greater e f = grind (arith, nat_tests)
+
+same_moment : (a b : ℕ) (o : Ordering) → ordering_then (nat_cmp a b) o ≡ Equal → a ≡ b
+same_moment a b o h = by_order (nat_cmp a b) refl h
+  where
+    by_order : (r : Ordering) → nat_cmp a b ≡ r → ordering_then r o ≡ Equal → a ≡ b
+    by_order Less e f = absurd cc
+    by_order Equal e f = grind (arith, nat_tests)
+    by_order Greater e f = absurd cc
+
+pub first_then : (ends : List (ℕ × GuidPrefix)) (last : ℕ) (p : GuidPrefix) → last < 2 ^ 64 → soonest_of (insert_key end_order ends (last, p)) ≡ min (soonest_of ends) last
+first_then [] last p fits = omega arith
+first_then (e ∷ es) last p fits = by_order (end_order (last, p) e) refl
+  where
+    by_order : (r : Ordering) → end_order (last, p) e ≡ r → soonest_of (match_ordering r ((last, p) ∷ e ∷ es) (e ∷ es) (e ∷ insert_key end_order es (last, p))) ≡ min e.0 last
+    by_order Less h = let le : last ≤ e.0 = not_less last e.0 (octet_order p.0 e.1.0) h in omega arith
+    by_order Equal h = let same : last ≡ e.0 = same_moment last e.0 (octet_order p.0 e.1.0) h in omega arith
+    by_order Greater h = let le : e.0 ≤ last = not_greater last e.0 (octet_order p.0 e.1.0) h in omega arith

@@ -1,10 +1,13 @@
--- A key that is put in its place leaves the keys in order.
-use Rattle.std.proofs.Common.{◌≡◌, List, [], ◌∷◌, refl, ap, ◌∙◌}
+-- A key that is put in its place leaves the keys in order, and a value that is put at a key that is
+-- there replaces its value.
+use Rattle.std.proofs.Common.{◌≡◌, cond, List, [], ◌∷◌, None, Some, refl, ap, ◌∙◌}
+use Rattle.std.specs.BTreeMap.{insert_entry}
 use Rattle.std.specs.BTreeSet.{insert_key}
 use Rattle.std.specs.Cmp.{IsTotalOrder}
 use Rattle.std.specs.List.{AllByRecursion}
 use Rattle.std.specs.List.Sorted.{IsStrictlySortedBy}
-use Rattle.std.specs.Ordering.{match_ordering, ordering_reverse}
+use Rattle.std.specs.Map.{keys_of, lookup, set_value}
+use Rattle.std.specs.Ordering.{is_eq, match_ordering, ordering_reverse}
 use Rattle.std.specs.declared.cmp.Ordering.{Ordering}
 use Rattle.std.specs.declared.cmp.Ordering.TheVariants.{Less, Equal, Greater}
 
@@ -34,3 +37,19 @@ module _ {K : Type 0} (R : K → K → Ordering) (o : IsTotalOrder R) where
       by_order Less is rest = ((is, all_above k x xs is up.0), up)
       by_order Equal is rest = up
       by_order Greater is rest = (all_inserted (λ y. R x y ≡ Less) xs k up.0 (after_key k x is), rest)
+
+  none_above : {X : Type 0} (k : K) (es : List (K × X)) → AllByRecursion (λ y. R k y ≡ Less) (keys_of es) → lookup (λ q. is_eq (R k q)) es ≡ None
+  none_above k [] above = refl
+  none_above k (e ∷ es) above = ap (λ r. cond (is_eq r) (Some e.1) (lookup (λ q. is_eq (R k q)) es)) above.0 ∙ none_above k es above.1
+
+  pub put_again : {X : Type 0} (es : List (K × X)) (k : K) (old new : X) → IsStrictlySortedBy R (keys_of es) → lookup (λ q. is_eq (R k q)) es ≡ Some old → set_value (λ q. is_eq (R k q)) es new ≡ insert_entry R es k new
+  unfolding IsStrictlySortedBy
+  put_again [] k old new up found = absurd cc
+  put_again {X} (e ∷ es) k old new up found = by_order (R k e.0) refl (put_again es k old new up.1) found
+    where
+      by_order : (r : Ordering) → R k e.0 ≡ r → (lookup (λ q. is_eq (R k q)) es ≡ Some old → set_value (λ q. is_eq (R k q)) es new ≡ insert_entry R es k new)
+          → cond (is_eq r) (Some e.1) (lookup (λ q. is_eq (R k q)) es) ≡ Some old
+          → cond (is_eq r) ((e.0, new) ∷ es) (e ∷ set_value (λ q. is_eq (R k q)) es new) ≡ match_ordering r ((k, new) ∷ e ∷ es) ((e.0, new) ∷ es) (e ∷ insert_entry R es k new)
+      by_order Less is more found = let none : lookup (λ q. is_eq (R k q)) es ≡ None = none_above k es (all_above k e.0 (keys_of es) is up.0) in absurd cc
+      by_order Equal is more found = refl
+      by_order Greater is more found = ap (λ l. e ∷ l) (more found)

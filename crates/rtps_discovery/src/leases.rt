@@ -124,7 +124,10 @@ impl<A: Allocator> Leases<A> {
             ≡ cond (is_eq (end_order (last, prefix) (m, p))) false (has_end self.old m p) }
     {
         self.ends.remove(&(last, prefix));
-        self.soonest = soonest_of(&self.ends);
+        // Any other end leaves the first one where it is.
+        if last == self.soonest {
+            self.soonest = soonest_of(&self.ends);
+        }
     }
 
     /// Removes the end of a participant's lease, `earlier`, if it had one.
@@ -158,7 +161,7 @@ impl<A: Allocator + Copy> Leases<A> {
             Ok(_) => {}
             Err(_) => return Err(AllocError),
         }
-        self.soonest = soonest_of(&self.ends);
+        self.soonest = self.soonest.min(last);
         Ok(())
     }
 
@@ -201,6 +204,9 @@ impl<A: Allocator + Copy> Leases<A> {
         ensures { OnOk result (EndsAt prefix earlier self.old
             → Renews prefix last self.old self.new) }
     {
+        if earlier == last {
+            return Ok(());
+        }
         self.end(prefix, earlier);
         self.begin(prefix, last)?;
         Ok(())

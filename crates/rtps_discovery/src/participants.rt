@@ -1,11 +1,11 @@
 //! Applying the announcements of participants (DDSI-RTPS 8.5.3).
 
-ghost use Rattle.std.specs.Prelude.{◌≡◌, List, OnOk};
+ghost use Rattle.std.specs.Prelude.{◌≡◌, List, None, OnOk};
 ghost use Rattle.rtps_proxy.specs.Matches.{AllStand, Match};
 ghost use Rattle.rtps_discovery.specs.Announcement as announcement;
 ghost use Rattle.rtps_discovery.specs.Changes.{ChangeAt};
-ghost use Rattle.rtps_discovery.specs.Kept.{Applies, kept};
-ghost use Rattle.rtps_discovery.specs.Known.{announcer, publications_reader, publications_writer, subscriptions_reader, subscriptions_writer, where_announced};
+ghost use Rattle.rtps_discovery.specs.Kept.{Applies, kept, participant_in};
+ghost use Rattle.rtps_discovery.specs.Known.{announcer, heard_at, publications_reader, publications_writer, subscriptions_reader, subscriptions_writer, where_announced};
 ghost use Rattle.rtps_discovery.specs.Seen.{facts_seen};
 
 use crate::addressed::{
@@ -14,7 +14,7 @@ use crate::addressed::{
 };
 use crate::announcement::Facts;
 use crate::known::{RemoteParticipant, collected};
-use crate::leases::{deadline, end_of};
+use crate::leases::deadline;
 use crate::registry::Registry;
 use rtps_proxy::{Matches, ProxyConfig};
 use rtps_types::{EntityId, Guid, GuidPrefix, Locator, Locators};
@@ -96,7 +96,45 @@ fn subscriptions(own: GuidPrefix, prefix: GuidPrefix, announces: bool) -> Link
     }
 }
 
+impl<A: Allocator + Copy> RemoteParticipant<A> {
+    /// Replaces what it announced by what it announces now, at this moment.
+    fn hear(&mut self, alloc: A, facts: Facts<'_>, moment: u64) -> Result<(), AllocError>
+        ensures { OnOk result (self.new ≡ heard_at moment (facts_seen facts.entry)) }
+    {
+        self.locators = collected(alloc, facts.locators)?;
+        self.lease = facts.lease;
+        self.heard = moment;
+        Ok(())
+    }
+}
+
 impl<A: Allocator + Copy> Registry<A> {
+    /// Adds a participant, and matches our builtin readers with its announcers.
+    fn welcome(&mut self, alloc: A, prefix: GuidPrefix, facts: Facts<'_>) -> Result<(), AllocError>
+        requires { participant_in prefix (kept self.old).participants ≡ None }
+        ensures { (earlier : List ChangeAt) → OnOk result (Applies
+            (announcement.Comes prefix (facts_seen facts.entry)) (kept self.old) (kept self.new)
+            earlier earlier) }
+    {
+        let metatraffic = collected(alloc, facts.metatraffic)?;
+        let to = metatraffic.as_slice();
+        let writers = publications(self.own, prefix, facts.announces_writers);
+        begin_where(alloc, writers, to, &mut self.announcers)?;
+        let readers = subscriptions(self.own, prefix, facts.announces_readers);
+        begin_where(alloc, readers, to, &mut self.announcers)?;
+        let participant = RemoteParticipant {
+            locators: collected(alloc, facts.locators)?,
+            lease: facts.lease,
+            heard: self.moment,
+        };
+        self.leases
+            .begin(prefix, deadline(participant.heard, participant.lease))?;
+        match self.participants.insert(prefix, participant) {
+            Ok(_) => Ok(()),
+            Err(_) => Err(AllocError),
+        }
+    }
+
     /// Applies the record of a participant. A new participant is added, and our builtin readers are
     /// matched with its announcers. For a known one only its default locators, its lease and the
     /// moment at which it was heard are updated.
@@ -105,28 +143,13 @@ impl<A: Allocator + Copy> Registry<A> {
             (announcement.Comes prefix (facts_seen facts.entry)) (kept self.old) (kept self.new)
             earlier earlier) }
     {
-        let lease = facts.lease;
-        let locators = collected(alloc, facts.locators)?;
-        let participant = RemoteParticipant {
-            locators,
-            lease,
-            heard: self.moment,
+        let Some(known) = self.participants.get_mut(&prefix) else {
+            return self.welcome(alloc, prefix, facts);
         };
-        let last = deadline(self.moment, lease);
-        let known = match self.participants.insert(prefix, participant) {
-            Ok(earlier) => earlier,
-            Err(_) => return Err(AllocError),
-        };
-        self.leases.renew(prefix, end_of(&known), last)?;
-        if known.is_some() {
-            return Ok(());
-        }
-        let metatraffic = collected(alloc, facts.metatraffic)?;
-        let to = metatraffic.as_slice();
-        let writers = publications(self.own, prefix, facts.announces_writers);
-        begin_where(alloc, writers, to, &mut self.announcers)?;
-        let readers = subscriptions(self.own, prefix, facts.announces_readers);
-        begin_where(alloc, readers, to, &mut self.announcers)?;
+        let earlier = deadline(known.heard, known.lease);
+        let last = deadline(self.moment, facts.lease);
+        known.hear(alloc, facts, self.moment)?;
+        self.leases.renew(prefix, earlier, last)?;
         Ok(())
     }
 }

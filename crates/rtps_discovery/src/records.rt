@@ -22,7 +22,7 @@ use crate::changes::MatchChange;
 use crate::effects::DiscoveryEffects;
 use crate::registry::Registry;
 use rtps_params::ids::{ENDPOINT_GUID, PARTICIPANT_GUID};
-use rtps_proxy::Change;
+use rtps_proxy::{Change, Effects};
 use rtps_receiver::{Event, EventBody};
 use rtps_types::{EntityId, Guid, GuidPrefix};
 use std::alloc::{AllocError, Allocator};
@@ -180,12 +180,13 @@ impl<A: Allocator + Copy> Registry<A> {
             prefix: event.source,
             entity: event.writer,
         };
-        let taken = self
+        let mut effects = Effects::none(alloc);
+        let is_matched = self
             .announcers
-            .on_event(alloc, writer, event.time, &event.body)?;
-        let Some(effects) = taken else {
+            .on_event_into(alloc, writer, event.time, &event.body, &mut effects)?;
+        if !is_matched {
             return Ok(DiscoveryEffects::silent(alloc, &event.body));
-        };
+        }
         let mut changes = Vec::new(alloc);
         let ready = effects.ready.as_slice();
         let ignored = self.apply_ready(alloc, writer, ready, &mut changes)?;

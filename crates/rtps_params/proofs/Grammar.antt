@@ -17,7 +17,7 @@ use Rattle.rtps_params.proofs.Steps.{by_rest, front_shortens, reading_end, readi
 head_front : (e : Endian) (id len : ℕ) (octets more : List ℕ) → HasHead e id len octets more → front_of e octets ≡ headed e id len more
 unfolding front_of
 head_front e id len octets more h =
-    let at_front : front_of e (h.first ∷ h.second ∷ h.third ∷ h.fourth ∷ more) ≡ headed e id len more = rw (h.spells_id, h.spells_length) refl in
+    let at_front : front_of e (h.first ∷ h.second ∷ h.third ∷ h.fourth ∷ more) ≡ headed e id len more = rw (h.names_id, h.names_length) refl in
     ap (front_of e) h.text ∙ at_front
 
 no_end_headed : (e : Endian) (id len : ℕ) (more : List ℕ) → id ≢ 1 → headed e id len more ≡ parameter_of id len more
@@ -94,8 +94,8 @@ parameter_shows e id len octets more h other = by_words (len % 4 == 0) refl
             third = h.third;
             fourth = h.fourth;
             text = h.text ∙ ap (λ (x : List ℕ). h.first ∷ h.second ∷ h.third ∷ h.fourth ∷ x) (sym (take-append-drop len more));
-            spells_id = h.spells_id;
-            spells_length = h.spells_length ∙ sym full;
+            names_id = h.names_id;
+            names_length = h.names_length ∙ sym full;
           };
           no_end = other;
           whole_words = ap (λ (n : ℕ). n % 4) full ∙ even;
@@ -120,7 +120,7 @@ headed_shows e id len octets more h = by_id (id == 1) refl
     by_id : (b : Bool) → (id == 1) ≡ b → Shows e octets (headed e id len more)
     by_id true test =
         let same : id ≡ 1 = grind (arith, common_steps) in
-        rw test (record { len = len; head = record { first = h.first; second = h.second; third = h.third; fourth = h.fourth; text = h.text; spells_id = h.spells_id ∙ same; spells_length = h.spells_length } })
+        rw test (record { len = len; head = record { first = h.first; second = h.second; third = h.third; fourth = h.fourth; text = h.text; names_id = h.names_id ∙ same; names_length = h.names_length } })
     by_id false test =
         let other : id ≢ 1 = λ same. let off : (id == 1) ≡ true = rw same refl in absurd cc in
         rw test (parameter_shows e id len octets more h other)
@@ -132,7 +132,7 @@ front_shows e (a ∷ []) = inl (omega arith, omega arith)
 front_shows e (a ∷ b ∷ []) = inl (omega arith, omega arith)
 front_shows e (a ∷ b ∷ c ∷ []) = inl (omega arith, omega arith)
 front_shows e (a ∷ b ∷ c ∷ d ∷ more) =
-    headed_shows e (number e 2 (a ∷ b ∷ [])) (number e 2 (c ∷ d ∷ [])) (a ∷ b ∷ c ∷ d ∷ more) more (record { first = a; second = b; third = c; fourth = d; text = refl; spells_id = refl; spells_length = refl })
+    headed_shows e (number e 2 (a ∷ b ∷ [])) (number e 2 (c ∷ d ∷ [])) (a ∷ b ∷ c ∷ d ∷ more) more (record { first = a; second = b; third = c; fourth = d; text = refl; names_id = refl; names_length = refl })
 
 goes_on_is : (e : Endian) (octets : List ℕ) (f : Read) (others : List ℕ → Reading) → Shows e octets f → ((p : Parameter) (rest : List ℕ) → f ≡ Ok (Some p, rest) → IsList e rest (others rest).parameters (others rest).outcome) → IsList e octets (by_rest f others).parameters (by_rest f others).outcome
 goes_on_is e octets (Err x) others h ih = h

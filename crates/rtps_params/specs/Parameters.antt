@@ -13,8 +13,8 @@ pub record HasHead (e : Endian) (id len : ℕ) (octets more : List ℕ) : Type 0
   pub third : ℕ
   pub fourth : ℕ
   pub text : octets ≡ first ∷ second ∷ third ∷ fourth ∷ more
-  pub spells_id : number e 2 (first ∷ second ∷ []) ≡ id
-  pub spells_length : number e 2 (third ∷ fourth ∷ []) ≡ len
+  pub names_id : number e 2 (first ∷ second ∷ []) ≡ id
+  pub names_length : number e 2 (third ∷ fourth ∷ []) ≡ len
 
 -- octets begin with a parameter, whose length is that of its value and a multiple of four; then
 -- comes a rest

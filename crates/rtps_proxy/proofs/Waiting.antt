@@ -1,5 +1,5 @@
 -- Lemmas on changes that wait.
-use Rattle.std.proofs.Common.{◌≡◌, ℕ, zero, suc, ◌-◌, ◌<◌, ◌≤◌, true, false, List, [], ◌∷◌, ◌++◌, refl, ap, arith, ltb, map, take, drop, length, get_or}
+use Rattle.std.proofs.Common.{◌≡◌, All, ℕ, zero, suc, ◌-◌, ◌<◌, ◌≤◌, true, false, List, [], ◌∷◌, ◌++◌, refl, ap, arith, ltb, map, take, drop, length, get_or}
 use Rattle.std.proofs.lemmas.List.{get_or_default}
 use Rattle.std.specs.List.{AllByRecursion}
 use Rattle.std.specs.List.Sorted.{IsPartitionedBy}
@@ -7,7 +7,7 @@ use Rattle.std.proofs.lemmas.Bool.Decides.{nat_tests}
 use Rattle.rtps_types.specs.Number.{value_of}
 use Rattle.rtps_proxy.specs.Change.{change_view, ChangeView}
 use Rattle.rtps_proxy.specs.declared.change.Change.{Change}
-use Rattle.rtps_proxy.specs.Held.{IsPlace, IsRising}
+use Rattle.rtps_proxy.specs.Held.{IsPlace, IsRising, behind_front, front_below}
 use Rattle.rtps_proxy.specs.Received.{put}
 
 module _ {A : Type 0} where
@@ -74,3 +74,25 @@ module _ {A : Type 0} where
       let passes : ltb (value_of t.number) (value_of c.number) ≡ true = grind (arith, nat_tests) in
       let rest : map change_view (take at ts ++ c ∷ drop at ts) ≡ put (change_view c) (map change_view ts) = put_at ts c at (place.0.1, place.1) in
       rw passes (ap (λ (us : List ChangeView). change_view t ∷ us) rest)
+
+  -- what holds for the changes of two lists holds for those of both
+  pub all_both : (P : Change A → Type 0) (hs ts : List (Change A)) → All P hs → All P ts → All P (hs ++ ts)
+  all_both P [] ts all rest k d l = rest k d l
+  all_both P (h ∷ hs) ts all rest zero d l = all zero d (omega arith)
+  all_both P (h ∷ hs) ts all rest (suc k) d l = all_both P hs ts (λ k d l. all (suc k) d (omega arith)) rest k d (omega arith)
+
+  -- where all have numbers below n, the leading ones below n are all
+  pub front_whole : (n : ℕ) (hs : List (Change A)) → All (λ (t : Change A). value_of t.number < n) hs → front_below n (map change_view hs) ≡ map change_view hs
+  front_whole n [] all = refl
+  front_whole n (t ∷ ts) all =
+      let lesser : value_of t.number < n = all zero t (omega arith) in
+      let passes : ltb (value_of t.number) n ≡ true = grind (arith, nat_tests) in
+      rw passes (ap (λ (us : List ChangeView). change_view t ∷ us) (front_whole n ts (λ k d l. all (suc k) d (omega arith))))
+
+  -- and none is behind them
+  pub behind_none : (n : ℕ) (hs : List (Change A)) → All (λ (t : Change A). value_of t.number < n) hs → behind_front n (map change_view hs) ≡ []
+  behind_none n [] all = refl
+  behind_none n (t ∷ ts) all =
+      let lesser : value_of t.number < n = all zero t (omega arith) in
+      let passes : ltb (value_of t.number) n ≡ true = grind (arith, nat_tests) in
+      rw passes (behind_none n ts (λ k d l. all (suc k) d (omega arith)))

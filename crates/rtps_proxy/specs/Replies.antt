@@ -6,11 +6,11 @@ use Rattle.std.specs.Option.{option_map}
 use Rattle.rtps_types.specs.declared.field.Endian.TheVariants.{Little}
 use Rattle.rtps_types.specs.declared.locator.Locator.{Locator}
 use Rattle.rtps_types.specs.declared.traffic.Reply.{Reply}
-use Rattle.rtps_types.specs.Field.{spelled, spelled_sn}
+use Rattle.rtps_types.specs.Field.{encoded, encoded_sn}
 use Rattle.rtps_types.specs.Named.{with_bits}
 use Rattle.rtps_types.specs.NumberSet.{NumberSet, members}
 use Rattle.rtps_receiver.specs.EventBody.{EventBodyView, Whole, Fragment, Heartbeat, Gap, HeartbeatFrag}
-use Rattle.rtps_wire.specs.Answering.{answering, sent_words, spelled_words}
+use Rattle.rtps_wire.specs.Answering.{answering, sent_words, encoded_words}
 use Rattle.rtps_proxy.specs.Answer.{Acknack, acknack_by, answer}
 use Rattle.rtps_proxy.specs.History.{MatchEvent}
 use Rattle.rtps_proxy.specs.NackFrag.{Nack, nack}
@@ -33,8 +33,8 @@ set_of a =
 -- readerId, writerId, readerSNState, count
 abbrev pub acknack_body : Pairing → Acknack → List ℕ
 acknack_body w a =
-    w.reader.0 ++ w.writer.entity.0 ++ spelled_sn Little (pos a.base) ++ spelled Little 4 a.bits
-    ++ spelled_words (sent_words (set_of a)) ++ spelled Little 4 a.count
+    w.reader.0 ++ w.writer.entity.0 ++ encoded_sn Little (pos a.base) ++ encoded Little 4 a.bits
+    ++ encoded_words (sent_words (set_of a)) ++ encoded Little 4 a.count
 
 -- an ACKNACK to the writer's locators, with flag E (1), and with flag F (2) if it is final
 unfoldable pub reply_of : Pairing → Acknack → ReplyView
@@ -55,9 +55,9 @@ NamesWhatIsMissing =
 -- readerId, writerId, writerSN, fragmentNumberState, count
 abbrev pub nack_body : Pairing → Nack → List ℕ
 nack_body w a =
-    w.reader.0 ++ w.writer.entity.0 ++ spelled_sn Little (pos a.number)
-    ++ spelled Little 4 a.missing.base ++ spelled Little 4 a.missing.bits
-    ++ spelled_words (sent_words a.missing) ++ spelled Little 4 a.count
+    w.reader.0 ++ w.writer.entity.0 ++ encoded_sn Little (pos a.number)
+    ++ encoded Little 4 a.missing.base ++ encoded Little 4 a.missing.bits
+    ++ encoded_words (sent_words a.missing) ++ encoded Little 4 a.count
 
 -- a NACK_FRAG to the writer's locators, with flag E
 unfoldable pub nack_of : Pairing → Nack → ReplyView

@@ -1,6 +1,7 @@
 //! Changes that wait for earlier ones (DDSI-RTPS 8.4.12.3), in order of their numbers.
 
-ghost use Rattle.std.specs.Prelude.{◌≡◌, ◌≤◌, ◌++◌, length, map, IfOk, OnOk};
+ghost use Rattle.std.specs.Prelude.{◌≡◌, ◌<◌, ◌≤◌, ◌++◌, [], All, length, map, true, IfOk, OnOk};
+ghost use Rattle.rtps_types.specs.Number.{value_of};
 ghost use Rattle.rtps_proxy.specs.Change.{change_view, change_views};
 ghost use Rattle.rtps_proxy.specs.Held.{IsPlace, IsRising, behind_front, front_below, starts_below};
 ghost use Rattle.rtps_proxy.specs.Received.{put};
@@ -9,6 +10,7 @@ use crate::change::Change;
 use crate::effects::ProxyError;
 use std::alloc::Allocator;
 use std::collections::VecDeque;
+use std::mem;
 
 /// Inserts a change at its place.
 pub(crate) fn hold<A: Allocator>(
@@ -44,8 +46,49 @@ fn place_of<A: Allocator>(held: &VecDeque<Change<'static, A>, A>, number: u64) -
     held.partition_point(|other| other.number.get() < number)
 }
 
-/// Moves the changes below the frontier to the end of `ready`.
-pub(crate) fn release<'a, A: Allocator>(
+/// The most changes whose list is kept for later ones when none waits any more.
+const KEPT: usize = 256;
+
+/// Whether these changes are below the frontier.
+fn are_below<A: Allocator>(changes: &[Change<'static, A>], frontier: u64) -> bool
+    ensures { result ≡ true → All (λ c. value_of c.number < frontier) changes.now }
+{
+    changes.iter().all(|change| change.number.get() < frontier)
+}
+
+/// Whether all changes that wait are below the frontier.
+fn are_all_below<A: Allocator>(held: &VecDeque<Change<'static, A>, A>, frontier: u64) -> bool
+    ensures { result ≡ true → All (λ c. value_of c.number < frontier) held.now.items }
+{
+    let (first, second) = held.as_slices();
+    if are_below(first, frontier) {
+        return are_below(second, frontier);
+    }
+    false
+}
+
+/// Makes the list of all changes that wait the list of those that are ready.
+fn release_all<'a, A: Allocator + Copy>(
+    held: &mut VecDeque<Change<'static, A>, A>,
+    ready: &mut Vec<Change<'a, A>, A>,
+)
+    ensures { (ready.new.items ≡ held.old.items) × (held.new.items ≡ []) }
+{
+    let none: VecDeque<Change<'static, A>, A> = VecDeque::new(*held.allocator());
+    let all: VecDeque<Change<'static, A>, A> = mem::replace(held, none);
+    let all: Vec<Change<'static, A>, A> = Vec::from(all);
+    *ready = all;
+}
+
+/// Returns how many changes [`release`] moves: memory is taken for them at once.
+fn count_below<A: Allocator>(held: &VecDeque<Change<'static, A>, A>, frontier: u64) -> usize {
+    held.partition_point(|other| other.number.get() < frontier)
+}
+
+/// Moves the changes below the frontier to the end of `ready`. One missing change may have held up
+/// as many as there is room for: if there are many, their list itself is moved where that can be,
+/// and no memory is kept for as many once none waits.
+pub(crate) fn release<'a, A: Allocator + Copy>(
     held: &mut VecDeque<Change<'static, A>, A>,
     frontier: u64,
     ready: &mut Vec<Change<'a, A>, A>,
@@ -55,11 +98,22 @@ pub(crate) fn release<'a, A: Allocator>(
     ensures left { OnOk result (change_views held.new.items
         ≡ behind_front frontier (change_views held.old.items)) }
 {
+    if !is_front_below(held, frontier) {
+        return Ok(());
+    }
+    if held.len() > KEPT && ready.is_empty() && are_all_below(held, frontier) {
+        release_all(held, ready);
+        return Ok(());
+    }
+    ready.reserve(count_below(held, frontier))?;
     while is_front_below(held, frontier) {
         let Some(change) = held.pop_front() else {
             break;
         };
         ready.push(change)?;
+    }
+    if held.is_empty() {
+        held.shrink_to(KEPT);
     }
     Ok(())
 }

@@ -9,6 +9,9 @@ use rtps_types::Number;
 use std::alloc::Allocator;
 use std::marker::Model;
 
+/// The most runs for which memory is kept while there are fewer.
+const KEPT: usize = 1_024;
+
 /// Runs in order, each by its first and its last number. The vector has at most `5 * n + 3` items
 /// for `n` runs, of which up to `4 * n + 3` are free places.
 #[derive(Drop)]
@@ -93,7 +96,8 @@ impl<A: Allocator> Runs<A> {
 }
 
 /// Returns the number of free places before the runs. Where more than about four fifths of the
-/// vector would be free, the runs are first moved to its front.
+/// vector would be free, the runs are first moved to its front, and memory that they don't need is
+/// given back.
 fn less_room<A: Allocator>(list: &mut Vec<(Number, Number), A>, room: usize) -> usize
     requires { room ≤ vec_len list.old }
     ensures within { result ≤ vec_len list.new }
@@ -104,6 +108,7 @@ fn less_room<A: Allocator>(list: &mut Vec<(Number, Number), A>, room: usize) -> 
         return room;
     }
     cut(list, 0, room);
+    list.shrink_to(KEPT);
     0
 }
 

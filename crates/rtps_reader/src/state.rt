@@ -43,23 +43,22 @@ impl<A: Allocator> Model for ReaderState<A> {
 
 impl<A: Allocator + Copy> ReaderState<A> {
     /// Returns a reader with its fixed matches, which are counted in its status. `rank` is its
-    /// index among the readers of the participant `own`, and `entity` its part of its guid. A
-    /// reliable reader asks for missing changes. An error is a refused growth.
+    /// index among the readers of its participant. A reliable reader asks for missing changes. An
+    /// error is a refused growth.
     pub fn new(
         alloc: A,
         rank: u32,
-        own: GuidPrefix,
-        entity: EntityId,
+        guid: Guid,
         reliable: bool,
         fixed: &[WriterFacts<A>],
     ) -> Result<ReaderState<A>, ReaderError>
-        ensures starts { IfOk result (StartsAt (first_reader own entity reliable
+        ensures starts { IfOk result (StartsAt (first_reader guid.prefix guid.entity reliable
             (map facts_in fixed.now))) }
-        ensures place { IfOk result (λ r. (r.rank ≡ rank) × (r.own ≡ own)) }
+        ensures place { IfOk result (λ r. (r.rank ≡ rank) × (r.own ≡ guid.prefix)) }
     {
         Ok(ReaderState {
             spent: false,
-            reader: StatefulReader::new(alloc, rank, own, entity, reliable, fixed)?,
+            reader: StatefulReader::new(alloc, rank, guid, reliable, fixed)?,
         })
     }
 

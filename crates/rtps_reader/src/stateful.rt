@@ -40,19 +40,18 @@ impl<A: Allocator + Copy> StatefulReader<A> {
     pub(crate) fn new(
         alloc: A,
         rank: u32,
-        own: GuidPrefix,
-        entity: EntityId,
+        guid: Guid,
         reliable: bool,
         fixed: &[WriterFacts<A>],
     ) -> Result<StatefulReader<A>, AllocError>
-        ensures starts { IfOk result (λ r. StartsAt (first_reader own entity reliable
+        ensures starts { IfOk result (λ r. StartsAt (first_reader guid.prefix guid.entity reliable
             (map facts_in fixed.now)) (kept_by false r)) }
-        ensures place { IfOk result (λ r. (r.rank ≡ rank) × (r.own ≡ own)) }
+        ensures place { IfOk result (λ r. (r.rank ≡ rank) × (r.own ≡ guid.prefix)) }
     {
         let mut reader = StatefulReader {
             rank,
-            own,
-            entity,
+            own: guid.prefix,
+            entity: guid.entity,
             reliable,
             matches: Matches::new(alloc),
             counts: Counts::of_fixed(0),

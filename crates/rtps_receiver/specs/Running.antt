@@ -1,14 +1,18 @@
 -- The context as it is updated from one submessage to the next (DDSI-RTPS 8.3.4).
-use Rattle.std.specs.Prelude.{◌+◌, List, [], ◌∷◌, ◌++◌, Option, None, Result, if◌then◌else◌, option_to_list}
+use Rattle.std.specs.Prelude.{◌+◌, List, [], ◌∷◌, ◌++◌, Option, None, Result, Err, if◌then◌else◌, option_to_list}
+use Rattle.std.specs.Option.{option_map}
 use Rattle.std.specs.Str.{bytes_eq}
+use Rattle.rtps_types.specs.declared.identity.EntityId.{EntityId}
 use Rattle.rtps_types.specs.declared.place.Place.{Place}
 use Rattle.rtps_types.specs.declared.identity.GuidPrefix.{GuidPrefix}
 use Rattle.rtps_wire.specs.Submessage.{PartsView, Item, Pad, Heartbeat, Gap, InfoTimestamp, InfoSource, InfoDestination, HeartbeatFrag, Data, DataFrag, Skipped}
 use Rattle.rtps_receiver.specs.declared.context.Context.{Context}
 use Rattle.rtps_receiver.specs.Addressed.{addressed, taken_of}
 use Rattle.rtps_receiver.specs.Events.{EventView, happening}
-use Rattle.rtps_receiver.specs.Outcomes.{OutcomeView, outcome}
+use Rattle.rtps_receiver.specs.Outcomes.{OutcomeView, outcome, used}
 use Rattle.rtps_receiver.specs.declared.outcome.Reason.{Reason}
+use Rattle.rtps_receiver.specs.declared.outcome.Reason.TheVariants.{OtherDestination}
+use Rattle.rtps_receiver.specs.EventBody.{EventBodyView}
 use Rattle.rtps_receiver.specs.Context.{destination_of, resolved, source_of, time_of}
 
 -- the context after these submessages, the nearest first
@@ -59,6 +63,16 @@ events_left c before (i ∷ left) =
 abbrev pub outcome_in : Context → Place → PartsView → Result EventView Reason
 outcome_in c place content =
     outcome (bytes_eq c.destination.0 c.own.0) place c.source c.time (addressed content)
+
+-- the outcome of a submessage of a kind that readers handle, whose event body is none if it names
+-- a number above 2^62
+abbrev pub outcome_with :
+    Context → Place → EntityId → EntityId → Option EventBodyView → Result EventView Reason
+outcome_with c place writer reader body =
+    if bytes_eq c.destination.0 c.own.0
+    then used place c.source c.time
+    (option_map (λ b. record { writer = writer; reader = reader; body = b }) body)
+    else Err OtherDestination
 
 -- the outcomes of the remaining submessages, in a context, after the submessage at a place
 abbrev pub outcomes_left : Context → Place → List Item → List OutcomeView

@@ -6,7 +6,7 @@ ghost use Rattle.rtps_receiver.specs.Events.{EventView, events_of, view};
 ghost use Rattle.rtps_wire.specs.Reading.{reading};
 ghost use Rattle.rtps_receiver.specs.Running.{events_left, first_context};
 
-use crate::context::Context;
+use crate::context::{Context, next_place};
 use crate::event::Event;
 use rtps_types::{GuidPrefix, Place};
 use rtps_wire::{Submessages, header};
@@ -75,10 +75,11 @@ impl<'a> Iterator for Events<'a> {
     ghost remaining = { item_count (λ left. left) };
 
     fn next(&mut self) -> Option<Event<'a>> {
-        while let Some(submessage) = self.submessages.next() {
-            self.place.submessage += 1;
-            let event = self.context.event(self.place, &submessage.parts);
-            self.context.see(&submessage.parts);
+        while let Ok(Some(raw)) = self.submessages.front() {
+            let place = next_place(self.place);
+            let event = self.context.take(place, &raw)?.ok();
+            self.place = place;
+            self.submessages = Submessages::new(raw.rest);
             if event.is_some() {
                 return event;
             }

@@ -7,7 +7,7 @@ ghost use Rattle.rtps_wire.specs.Reading.{reading};
 ghost use Rattle.rtps_receiver.specs.Outcomes.{OutcomeView, OutcomesView, Yields, YieldsEvent, outcomes_of};
 ghost use Rattle.rtps_receiver.specs.Running.{first_context, outcomes_left};
 
-use crate::context::Context;
+use crate::context::{Context, next_place};
 use crate::event::Event;
 use crate::outcome::{Outcome, Reason};
 use rtps_types::{GuidPrefix, Place};
@@ -81,15 +81,15 @@ impl<'a> Outcomes<'a> {
         self.submessages.fault()
     }
 
-    /// As `next`, for who needs the event alone: an outcome is moved together with its submessage,
-    /// which is several times as large.
+    /// As `next`, for who needs the event alone: the submessage is read straight into it.
     pub(crate) fn next_event(&mut self) -> Option<Result<Event<'a>, Reason>>
         ensures { YieldsEvent self.old result self.new }
     {
-        let Submessage { parts, .. } = self.submessages.next()?;
-        self.place.submessage += 1;
-        let event = self.context.outcome(self.place, &parts);
-        self.context.see(&parts);
+        let raw = self.submessages.front().ok()??;
+        let place = next_place(self.place);
+        let event = self.context.take(place, &raw)?;
+        self.place = place;
+        self.submessages = Submessages::new(raw.rest);
         Some(event)
     }
 }
@@ -102,13 +102,19 @@ impl<'a> Iterator for Outcomes<'a> {
     ghost remaining = { item_count (λ o. o.left) };
 
     fn next(&mut self) -> Option<Outcome<'a>> {
-        let submessage = self.submessages.next()?;
-        self.place.submessage += 1;
-        let event = self.context.outcome(self.place, &submessage.parts);
-        self.context.see(&submessage.parts);
+        let raw = self.submessages.front().ok()??;
+        let parts = raw.parts()?;
+        let place = next_place(self.place);
+        let event = self.context.take(place, &raw)?;
+        self.place = place;
+        self.submessages = Submessages::new(raw.rest);
         Some(Outcome {
-            place: self.place,
-            submessage,
+            place,
+            submessage: Submessage {
+                id: raw.id,
+                flags: raw.flags,
+                parts,
+            },
             event,
         })
     }

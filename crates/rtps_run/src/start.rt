@@ -11,7 +11,7 @@ use crate::lists::{empty_lists, push_by};
 use dds_qos::Reliability;
 use rtps_discovery::{FixedMatch, ReaderConfig};
 use rtps_reader::{ReaderState, Status};
-use rtps_types::{GuidPrefix, Locators, WriterFacts};
+use rtps_types::{Guid, GuidPrefix, Locators, WriterFacts};
 use std::alloc::{AllocError, Allocator};
 
 /// Returns for each rank the writers that its reader has fixed matches with. An error is a refused
@@ -65,7 +65,11 @@ pub fn first_readers<A: Allocator + Copy>(
     for (rank, reader) in readers.iter().enumerate() {
         let fixed = fixed[rank].as_slice();
         let reliable = is_reliable(reader);
-        let state = ReaderState::new(alloc, rank as u32, own, reader.entity, reliable, fixed)?;
+        let guid = Guid {
+            prefix: own,
+            entity: reader.entity,
+        };
+        let state = ReaderState::new(alloc, rank as u32, guid, reliable, fixed)?;
         states.push(state)?;
     }
     Ok(states)

@@ -16,7 +16,7 @@ use dds_topic::Catalog;
 use rtps_discovery::{Discovery, ReaderConfig, ReaderFault};
 use rtps_reader::ReaderState;
 use rtps_run::{Report, is_reliable};
-use rtps_types::Place;
+use rtps_types::{Guid, Place};
 use std::alloc::Allocator;
 
 /// Whether a reader came or went, or memory ran out meanwhile. Any other refusal changes nothing.
@@ -65,12 +65,14 @@ pub fn join<C: Catalog, A: Allocator + Copy>(
         (Joins index (wish_of reader))) w.put discovery.new.kept readers.new.states.items
         joined.1.items) }
 {
-    let own = discovery.own();
-    let entity = reader.entity;
+    let guid = Guid {
+        prefix: discovery.own(),
+        entity: reader.entity,
+    };
     let reliable = is_reliable(&reader);
     let (rank, matches) = discovery.add_reader(alloc, reader)?;
     let fixed = Vec::new(alloc); // it has none
-    let state = ReaderState::new(alloc, rank, own, entity, reliable, fixed.as_slice())?;
+    let state = ReaderState::new(alloc, rank, guid, reliable, fixed.as_slice())?;
     readers.start(state)?;
     let mut reports = Vec::new(alloc);
     take_changes(readers, alloc, head_of(index), &matches, &mut reports)?;

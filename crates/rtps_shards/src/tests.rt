@@ -37,8 +37,11 @@ fn reader(alloc: Global, rank: u32) -> Result<ReaderState, AllocError> {
         },
         locators: Locators::new(Vec::new(alloc)),
     })?;
-    let own = GuidPrefix([11; 12]);
-    ReaderState::new(alloc, rank, own, EntityId([0, 0, 1, 7]), false, &fixed)
+    let guid = Guid {
+        prefix: GuidPrefix([11; 12]),
+        entity: EntityId([0, 0, 1, 7]),
+    };
+    ReaderState::new(alloc, rank, guid, false, &fixed)
 }
 
 /// The change of this number, in the datagram of the same number.

@@ -26,6 +26,10 @@ use std::io::{Read, Write};
 use std::mem;
 use std::thread::Threads;
 
+/// The most lines that several workers format. A batch of 4,096 datagrams for the program's eight
+/// readers has at most 32,768 unless many changes waited for a missing one.
+const SHARED: usize = 49_152;
+
 /// The printer of a run, which works one batch behind it: while the run processes a batch, workers
 /// format the output of the batch before, the text of the batch before that one is written, and the
 /// next batch is read.
@@ -159,7 +163,9 @@ where
         texts.write(lines)
     }
 
-    /// Returns the number of workers that format the output of a batch.
+    /// Returns the number of workers that format the output of a batch: one where there are far more
+    /// lines than a batch has datagrams for its readers. So many are released by one datagram and
+    /// have one place, whose text several workers would hold in memory twice.
     fn workers(&self, given: &BatchOutput<C::Value>) -> usize
         ensures { 1 ≤ result }
     {
@@ -170,6 +176,9 @@ where
                 let more = output.notices.len().saturating_add(output.answers.len());
                 lines.saturating_add(more)
             });
+        if lines > SHARED {
+            return 1;
+        }
         self.pace.formatters(lines)
     }
 

@@ -1,7 +1,7 @@
 pub mod Puts
 pub mod Sets
 pub mod Orders
-pub mod Spelled
+pub mod Encoded
 pub mod Nearest
 pub mod Naming
 pub mod Walks

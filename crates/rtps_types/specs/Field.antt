@@ -32,14 +32,14 @@ octets_at n octets at =
     if nat_le (at + n) (length octets) then Some (take n (drop at octets)) else None
 
 -- the n octets that encode a number
-abbrev pub spelled : Endian → ℕ → ℕ → List ℕ
-spelled Big n x = big_bytes n x
-spelled Little n x = little_bytes n x
+abbrev pub encoded : Endian → ℕ → ℕ → List ℕ
+encoded Big n x = big_bytes n x
+encoded Little n x = little_bytes n x
 
 -- the eight octets that encode a sequence number
-abbrev pub spelled_sn : Endian → ℤ → List ℕ
-spelled_sn e z =
-    spelled e 4 (cast_unsigned w64 z / 2 ^ 32) ++ spelled e 4 (cast_unsigned w64 z % 2 ^ 32)
+abbrev pub encoded_sn : Endian → ℤ → List ℕ
+encoded_sn e z =
+    encoded e 4 (cast_unsigned w64 z / 2 ^ 32) ++ encoded e 4 (cast_unsigned w64 z % 2 ^ 32)
 
 -- the octets with a field written at a place, over those that were there
 abbrev pub put_at : ℕ → List ℕ → List ℕ → List ℕ

@@ -1,7 +1,7 @@
 //! Numbers and octets at a place in a slice, in either byte order (DDSI-RTPS 9.3.2, 9.4.2.5).
 
 ghost use Rattle.std.specs.Prelude.{◌≡◌, ◌+◌, ◌≤◌, length, Some};
-ghost use Rattle.rtps_types.specs.Field.{number_at, octets_at, put_at, sequence_number_at, spelled, spelled_sn, StaysOutside};
+ghost use Rattle.rtps_types.specs.Field.{number_at, octets_at, put_at, sequence_number_at, encoded, encoded_sn, StaysOutside};
 
 use byteorder::{BigEndian, ByteOrder, LittleEndian};
 
@@ -91,7 +91,7 @@ pub fn put_octets(octets: &mut [u8], at: usize, field: &[u8])
 /// Writes a 16-bit number into the two octets at `at`, which have to be there (DDSI-RTPS 9.3.2).
 pub fn put_u16(octets: &mut [u8], at: usize, endian: Endian, value: u16)
     requires { at + 2 ≤ length octets.old }
-    ensures octets { octets.new ≡ put_at at (spelled endian 2 value) octets.old }
+    ensures octets { octets.new ≡ put_at at (encoded endian 2 value) octets.old }
     ensures read_again { number_at endian 2 octets.new at ≡ Some value }
     ensures others_stay { StaysOutside at 2 octets.old octets.new }
 {
@@ -106,7 +106,7 @@ pub fn put_u16(octets: &mut [u8], at: usize, endian: Endian, value: u16)
 /// Writes a 32-bit number into the four octets at `at`, which have to be there (DDSI-RTPS 9.3.2).
 pub fn put_u32(octets: &mut [u8], at: usize, endian: Endian, value: u32)
     requires { at + 4 ≤ length octets.old }
-    ensures octets { octets.new ≡ put_at at (spelled endian 4 value) octets.old }
+    ensures octets { octets.new ≡ put_at at (encoded endian 4 value) octets.old }
     ensures read_again { number_at endian 4 octets.new at ≡ Some value }
     ensures others_stay { StaysOutside at 4 octets.old octets.new }
 {
@@ -121,7 +121,7 @@ pub fn put_u32(octets: &mut [u8], at: usize, endian: Endian, value: u32)
 /// Writes a 64-bit number into the eight octets at `at`, which have to be there (DDSI-RTPS 9.3.2).
 pub fn put_u64(octets: &mut [u8], at: usize, endian: Endian, value: u64)
     requires { at + 8 ≤ length octets.old }
-    ensures octets { octets.new ≡ put_at at (spelled endian 8 value) octets.old }
+    ensures octets { octets.new ≡ put_at at (encoded endian 8 value) octets.old }
     ensures read_again { number_at endian 8 octets.new at ≡ Some value }
     ensures others_stay { StaysOutside at 8 octets.old octets.new }
 {
@@ -137,7 +137,7 @@ pub fn put_u64(octets: &mut [u8], at: usize, endian: Endian, value: u64)
 /// the first in either byte order (DDSI-RTPS 9.4.2.5).
 pub fn put_sn(octets: &mut [u8], at: usize, endian: Endian, value: i64)
     requires { at + 8 ≤ length octets.old }
-    ensures octets { octets.new ≡ put_at at (spelled_sn endian value) octets.old }
+    ensures octets { octets.new ≡ put_at at (encoded_sn endian value) octets.old }
     ensures read_again { sequence_number_at endian octets.new at ≡ Some value }
     ensures others_stay { StaysOutside at 8 octets.old octets.new }
 {

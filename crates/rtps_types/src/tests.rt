@@ -32,41 +32,41 @@ fn fields_are_read_in_either_order(rt: HostRuntime) {
 
 /// A sequence number with its octets in big-endian and in little-endian order.
 #[derive(Clone, Copy)]
-struct Spelled {
+struct Encoded {
     number: i64,
     big: [u8; 8],
     little: [u8; 8],
 }
 
 /// Sequence numbers in both byte orders.
-const SPELLED: [Spelled; 6] = [
-    Spelled {
+const ENCODED: [Encoded; 6] = [
+    Encoded {
         number: 1,
         big: [0, 0, 0, 0, 0, 0, 0, 1],
         little: [0, 0, 0, 0, 1, 0, 0, 0],
     },
-    Spelled {
+    Encoded {
         number: 1 << 32,
         big: [0, 0, 0, 1, 0, 0, 0, 0],
         little: [1, 0, 0, 0, 0, 0, 0, 0],
     },
     // 2^62 and the numbers beside it
-    Spelled {
+    Encoded {
         number: 4_611_686_018_427_387_903,
         big: [0x3f, 0xff, 0xff, 0xff, 0xff, 0xff, 0xff, 0xff],
         little: [0xff, 0xff, 0xff, 0x3f, 0xff, 0xff, 0xff, 0xff],
     },
-    Spelled {
+    Encoded {
         number: 4_611_686_018_427_387_904,
         big: [0x40, 0, 0, 0, 0, 0, 0, 0],
         little: [0, 0, 0, 0x40, 0, 0, 0, 0],
     },
-    Spelled {
+    Encoded {
         number: 4_611_686_018_427_387_905,
         big: [0x40, 0, 0, 0, 0, 0, 0, 1],
         little: [0, 0, 0, 0x40, 1, 0, 0, 0],
     },
-    Spelled {
+    Encoded {
         number: -1,
         big: [0xff; 8],
         little: [0xff; 8],
@@ -75,7 +75,7 @@ const SPELLED: [Spelled; 6] = [
 
 #[test]
 fn sequence_numbers_have_the_high_half_first(rt: HostRuntime) {
-    for row in &SPELLED {
+    for row in &ENCODED {
         assert_eq!(rt; get_sn(&row.big, 0, Endian::Big), Some(row.number));
         assert_eq!(rt; get_sn(&row.little, 0, Endian::Little), Some(row.number));
         let mut octets = [0; 8];

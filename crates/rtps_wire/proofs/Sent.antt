@@ -10,12 +10,12 @@ use Rattle.rtps_types.specs.declared.field.Endian.TheVariants.{Little}
 use Rattle.rtps_types.specs.declared.identity.EntityId.{EntityId}
 use Rattle.rtps_types.specs.declared.identity.GuidPrefix.{GuidPrefix}
 use Rattle.rtps_types.specs.Number.{value_of}
-use Rattle.rtps_types.specs.Field.{number, number_at, octets_at, put_at, sequence_number_at, spelled, spelled_sn}
+use Rattle.rtps_types.specs.Field.{number, number_at, octets_at, put_at, sequence_number_at, encoded, encoded_sn}
 use Rattle.rtps_types.specs.NumberSet.{NumberSet, members, names}
 use Rattle.rtps_types.specs.Sets.{frag_view, sn_view}
-use Rattle.rtps_types.proofs.Puts.{length-spelled, number-spelled, put_number, put_sn_reads}
+use Rattle.rtps_types.proofs.Puts.{length-encoded, number-encoded, put_number, put_sn_reads}
 use Rattle.rtps_wire.specs.AckNack.{TellsAckNack, acknack_body, acknack_flags, acknack_octets}
-use Rattle.rtps_wire.specs.Answering.{answer_items, answering, opened, our_header, read_set, read_words, sent_words, spelled_words, word_count}
+use Rattle.rtps_wire.specs.Answering.{answer_items, answering, opened, our_header, read_set, read_words, sent_words, encoded_words, word_count}
 use Rattle.rtps_wire.specs.NackFrag.{TellsNackFrag, nack_frag_body, nack_frag_octets}
 use Rattle.rtps_wire.specs.declared.acknack.AckNack.{AckNack}
 use Rattle.rtps_wire.specs.declared.nack_frag.NackFrag.{NackFrag}
@@ -30,18 +30,18 @@ use Rattle.rtps_wire.proofs.OneReading.{message_is_only}
 
 -- ---- words
 
-length-spelled_words : (words : List ℕ) → length (spelled_words words) ≡ 4 * length words
-length-spelled_words [] = refl
-length-spelled_words (w ∷ ws) = let l = length-spelled_words ws in let f = length-append (spelled Little 4 w) (spelled_words ws) in omega (arith, l, f)
+length-encoded_words : (words : List ℕ) → length (encoded_words words) ≡ 4 * length words
+length-encoded_words [] = refl
+length-encoded_words (w ∷ ws) = let l = length-encoded_words ws in let f = length-append (encoded Little 4 w) (encoded_words ws) in omega (arith, l, f)
 
 cons_is : (x y : ℕ) (xs ys : List ℕ) → x ≡ y → xs ≡ ys → x ∷ xs ≡ y ∷ ys
 cons_is x y xs ys a b = cc
 
 -- words that were written are read again
-pub words_again : (words rest : List ℕ) → ((k : ℕ) → k < length words → slice_index words k < 2 ^ 32) → words_in Little (length words) (spelled_words words ++ rest) ≡ words
+pub words_again : (words rest : List ℕ) → ((k : ℕ) → k < length words → slice_index words k < 2 ^ 32) → words_in Little (length words) (encoded_words words ++ rest) ≡ words
 words_again [] rest small = refl
 words_again (w ∷ ws) rest small =
-    let first = number-spelled Little 4 w (spelled_words ws ++ rest) (small 0 (omega arith)) in
+    let first = number-encoded Little 4 w (encoded_words ws ++ rest) (small 0 (omega arith)) in
     cons_is _ w _ ws first (words_again ws rest (λ k h. small (suc k) (omega arith)))
 
 -- ---- fields at their places
@@ -53,24 +53,24 @@ put_self at front field rest h =
     let behind : drop (at + length field) (front ++ (field ++ rest)) ≡ rest = ap (drop (at + length field)) (sym (append_assoc front field rest)) ∙ drop_at (front ++ field) rest (at + length field) place in
     rw (take_at front (field ++ rest) at h, behind) refl
 
-number_there : (at n x : ℕ) (front rest : List ℕ) → length front ≡ at → x < 256 ^ n → number_at Little n (front ++ (spelled Little n x ++ rest)) at ≡ Some x
+number_there : (at n x : ℕ) (front rest : List ℕ) → length front ≡ at → x < 256 ^ n → number_at Little n (front ++ (encoded Little n x ++ rest)) at ≡ Some x
 number_there at n x front rest h small =
-    let octets = front ++ (spelled Little n x ++ rest) in
-    let len = length-spelled Little n x in
-    let count = length-append front (spelled Little n x ++ rest) in
-    let more = length-append (spelled Little n x) rest in
-    ap (λ (o : List ℕ). number_at Little n o at) (sym (put_self at front (spelled Little n x) rest h)) ∙ put_number at n Little x octets small (omega arith)
+    let octets = front ++ (encoded Little n x ++ rest) in
+    let len = length-encoded Little n x in
+    let count = length-append front (encoded Little n x ++ rest) in
+    let more = length-append (encoded Little n x) rest in
+    ap (λ (o : List ℕ). number_at Little n o at) (sym (put_self at front (encoded Little n x) rest h)) ∙ put_number at n Little x octets small (omega arith)
 
-length-spelled_sn : (z : ℤ) → length (spelled_sn Little z) ≡ 8
-length-spelled_sn z = refl
+length-encoded_sn : (z : ℤ) → length (encoded_sn Little z) ≡ 8
+length-encoded_sn z = refl
 
-sn_there : (at : ℕ) (z : ℤ) (front rest : List ℕ) → length front ≡ at → FitsSigned w64 z → sequence_number_at Little (front ++ (spelled_sn Little z ++ rest)) at ≡ Some z
+sn_there : (at : ℕ) (z : ℤ) (front rest : List ℕ) → length front ≡ at → FitsSigned w64 z → sequence_number_at Little (front ++ (encoded_sn Little z ++ rest)) at ≡ Some z
 sn_there at z front rest h fits =
-    let octets = front ++ (spelled_sn Little z ++ rest) in
-    let len = length-spelled_sn z in
-    let count = length-append front (spelled_sn Little z ++ rest) in
-    let more = length-append (spelled_sn Little z) rest in
-    ap (λ (o : List ℕ). sequence_number_at Little o at) (sym (put_self at front (spelled_sn Little z) rest h)) ∙ put_sn_reads at Little z octets fits (omega arith)
+    let octets = front ++ (encoded_sn Little z ++ rest) in
+    let len = length-encoded_sn z in
+    let count = length-append front (encoded_sn Little z ++ rest) in
+    let more = length-append (encoded_sn Little z) rest in
+    ap (λ (o : List ℕ). sequence_number_at Little o at) (sym (put_self at front (encoded_sn Little z) rest h)) ∙ put_sn_reads at Little z octets fits (omega arith)
 
 octets_there : (at n : ℕ) (front field rest : List ℕ) → length front ≡ at → length field ≡ n → octets_at n (front ++ (field ++ rest)) at ≡ Some field
 octets_there at n front field rest h len =
@@ -79,13 +79,13 @@ octets_there at n front field rest h len =
     let test : leb (at + n) (length (front ++ (field ++ rest))) ≡ true = le-leb _ _ (omega arith) in
     rw (test, drop_at front (field ++ rest) at h, take_at field rest n len) refl
 
-words_there : (at n : ℕ) (front words rest : List ℕ) → length front ≡ at → length words ≡ n → words_in Little n (spelled_words words ++ rest) ≡ words → words_at Little n (front ++ (spelled_words words ++ rest)) at ≡ Some (words ++ replicate (8 - n) 0)
+words_there : (at n : ℕ) (front words rest : List ℕ) → length front ≡ at → length words ≡ n → words_in Little n (encoded_words words ++ rest) ≡ words → words_at Little n (front ++ (encoded_words words ++ rest)) at ≡ Some (words ++ replicate (8 - n) 0)
 words_there at n front words rest h len again =
-    let size = length-spelled_words words in
-    let count = length-append front (spelled_words words ++ rest) in
-    let more = length-append (spelled_words words) rest in
-    let test : leb (at + 4 * n) (length (front ++ (spelled_words words ++ rest))) ≡ true = le-leb _ _ (omega arith) in
-    rw (test, drop_at front (spelled_words words ++ rest) at h, again) refl
+    let size = length-encoded_words words in
+    let count = length-append front (encoded_words words ++ rest) in
+    let more = length-append (encoded_words words) rest in
+    let test : leb (at + 4 * n) (length (front ++ (encoded_words words ++ rest))) ≡ true = le-leb _ _ (omega arith) in
+    rw (test, drop_at front (encoded_words words ++ rest) at h, again) refl
 
 -- ---- the members of a set whose words after the last bit are zeros
 
@@ -102,7 +102,7 @@ pub same_members : (s : NumberSet) → length s.words ≡ 8 → s.bits ≤ 256 �
 same_members s len few = ap (map (λ offset. s.base + offset)) (same_offsets (names (read_words s)) (names s.words) 0 s.bits (λ j h. same_names s j len few (omega arith)))
 
 -- as many words as hold the bits are read again
-pub sent_again : (s : NumberSet) (n : ℕ) (rest : List ℕ) → n ≡ word_count s → length s.words ≡ 8 → s.bits ≤ 256 → words_in Little (length (take n s.words)) (spelled_words (take n s.words) ++ rest) ≡ take n s.words → words_in Little (word_count s) (spelled_words (sent_words s) ++ rest) ≡ sent_words s
+pub sent_again : (s : NumberSet) (n : ℕ) (rest : List ℕ) → n ≡ word_count s → length s.words ≡ 8 → s.bits ≤ 256 → words_in Little (length (take n s.words)) (encoded_words (take n s.words) ++ rest) ≡ take n s.words → words_in Little (word_count s) (encoded_words (sent_words s) ++ rest) ≡ sent_words s
 sent_again s n rest e len few h =
     let count : length (take n s.words) ≡ n = length-take-le n s.words (omega arith) in
     rw (← e) (rw count at h)
@@ -110,7 +110,7 @@ sent_again s n rest e len few h =
 -- ---- the message
 
 submessage : ℕ → ℕ → List ℕ → List ℕ
-submessage id flags body = id ∷ flags ∷ (spelled Little 2 (length body) ++ body)
+submessage id flags body = id ∷ flags ∷ (encoded Little 2 (length body) ++ body)
 
 length-opened : (own to : GuidPrefix) → length own.0 ≡ 12 → length to.0 ≡ 12 → length (opened own to) ≡ 36
 length-opened own to o t = simp length-append (omega arith)
@@ -127,12 +127,12 @@ framed_alone : (id flags : ℕ) (body : List ℕ) → endian_of flags ≡ Little
 unfolding submessage
 framed_alone id flags body e small =
     let n = length body in
-    let again : n ≡ number (endian_of flags) 2 (spelled Little 2 n) = rw e (sym (number-spelled Little 2 n [] small)) in
+    let again : n ≡ number (endian_of flags) 2 (encoded Little 2 n) = rw e (sym (number-encoded Little 2 n [] small)) in
     record {
       third = n % 256;
       fourth = n / 256 % 256;
-      text = ap (λ (b : List ℕ). id ∷ flags ∷ (spelled Little 2 n ++ b)) (sym (append-nil body));
-      size = either_way (runs_to_end id (number (endian_of flags) 2 (spelled Little 2 n))) [] (number (endian_of flags) 2 (spelled Little 2 n)) n refl again;
+      text = ap (λ (b : List ℕ). id ∷ flags ∷ (encoded Little 2 n ++ b)) (sym (append-nil body));
+      size = either_way (runs_to_end id (number (endian_of flags) 2 (encoded Little 2 n))) [] (number (endian_of flags) 2 (encoded Little 2 n)) n refl again;
     }
 
 pub framed_behind : (own to : GuidPrefix) (id flags : ℕ) (body : List ℕ) → length own.0 ≡ 12 → length to.0 ≡ 12 → endian_of flags ≡ Little → length body < 65536 → IsFramed id flags (drop 36 (answering own to id flags body)) body []
@@ -192,7 +192,7 @@ pub record AckNackIsSized (a : AckNack) : Type 0 where
   pub signed : a.missing.base < 2 ^ 63
   pub few : a.missing.bits ≤ 256
   pub words : length a.missing.words ≡ 8
-  pub again : (rest : List ℕ) → words_in Little (word_count (sn_view a.missing)) (spelled_words (sent_words (sn_view a.missing)) ++ rest) ≡ sent_words (sn_view a.missing)
+  pub again : (rest : List ℕ) → words_in Little (word_count (sn_view a.missing)) (encoded_words (sent_words (sn_view a.missing)) ++ rest) ≡ sent_words (sn_view a.missing)
   pub count : a.count < 2 ^ 32
 
 -- six and seven fields, split at each place
@@ -232,15 +232,15 @@ acknack_fields a h =
     let n = word_count s in
     let r = a.reader.entity.0 in
     let w = a.writer.entity.0 in
-    let sn = spelled_sn Little (pos s.base) in
-    let bits = spelled Little 4 s.bits in
-    let words = spelled_words (sent_words s) in
-    let count = spelled Little 4 a.count in
+    let sn = encoded_sn Little (pos s.base) in
+    let bits = encoded Little 4 s.bits in
+    let words = encoded_words (sent_words s) in
+    let count = encoded Little 4 a.count in
     let two = length_2 r w 4 4 h.reader h.writer in
     let three = length_2 (r ++ w) sn 8 8 two refl in
     let four = length_2 (r ++ w ++ sn) bits 16 4 three refl in
     let taken : length (sent_words s) ≡ n = length-take-le n s.words (omega (arith, h.words, h.few)) in
-    let size : length words ≡ 4 * n = length-spelled_words (sent_words s) ∙ ap (λ (m : ℕ). 4 * m) taken in
+    let size : length words ≡ 4 * n = length-encoded_words (sent_words s) ∙ ap (λ (m : ℕ). 4 * m) taken in
     let five = length_2 (r ++ w ++ sn ++ bits) words 20 (4 * n) four size in
     let all = length_2 (r ++ w ++ sn ++ bits ++ words) count (20 + 4 * n) 4 five refl in
     let fits : FitsSigned w64 (pos s.base) = record { sfits = h.signed } in
@@ -291,11 +291,11 @@ regrouped : (front a b c d e f : List ℕ) → front ++ a ++ b ++ c ++ d ++ e ++
 regrouped front a b c d e f = simp append_assoc
 
 -- the fields one after the other are the datagram
-pub acknack_built : (a : AckNack) (n flags : ℕ) (words : List ℕ) → AckNackIsSized a → n ≡ 24 + 4 * word_count (sn_view a.missing) → flags ≡ acknack_flags (sn_view a.missing) → words ≡ sent_words (sn_view a.missing) → opened a.reader.prefix a.writer.prefix ++ (6 ∷ flags ∷ []) ++ spelled Little 2 n ++ a.reader.entity.0 ++ a.writer.entity.0 ++ spelled_sn Little (pos a.missing.base) ++ spelled Little 4 a.missing.bits ++ spelled_words words ++ spelled Little 4 a.count ≡ acknack_octets a
+pub acknack_built : (a : AckNack) (n flags : ℕ) (words : List ℕ) → AckNackIsSized a → n ≡ 24 + 4 * word_count (sn_view a.missing) → flags ≡ acknack_flags (sn_view a.missing) → words ≡ sent_words (sn_view a.missing) → opened a.reader.prefix a.writer.prefix ++ (6 ∷ flags ∷ []) ++ encoded Little 2 n ++ a.reader.entity.0 ++ a.writer.entity.0 ++ encoded_sn Little (pos a.missing.base) ++ encoded Little 4 a.missing.bits ++ encoded_words words ++ encoded Little 4 a.count ≡ acknack_octets a
 unfolding acknack_octets
 acknack_built a n flags words h size f ws =
     let len : n ≡ length (acknack_body a) = size ∙ sym (acknack_fields a h).length in
-    rw (f, ws, len) (regrouped (opened a.reader.prefix a.writer.prefix ++ (6 ∷ acknack_flags (sn_view a.missing) ∷ []) ++ spelled Little 2 (length (acknack_body a))) a.reader.entity.0 a.writer.entity.0 (spelled_sn Little (pos a.missing.base)) (spelled Little 4 a.missing.bits) (spelled_words (sent_words (sn_view a.missing))) (spelled Little 4 a.count))
+    rw (f, ws, len) (regrouped (opened a.reader.prefix a.writer.prefix ++ (6 ∷ acknack_flags (sn_view a.missing) ∷ []) ++ encoded Little 2 (length (acknack_body a))) a.reader.entity.0 a.writer.entity.0 (encoded_sn Little (pos a.missing.base)) (encoded Little 4 a.missing.bits) (encoded_words (sent_words (sn_view a.missing))) (encoded Little 4 a.count))
 
 -- ---- NACK_FRAG
 
@@ -327,7 +327,7 @@ pub record NackFragIsSized (a : NackFrag) : Type 0 where
   pub base : a.missing.base < 2 ^ 32
   pub few : a.missing.bits ≤ 256
   pub words : length a.missing.words ≡ 8
-  pub again : (rest : List ℕ) → words_in Little (word_count (frag_view a.missing)) (spelled_words (sent_words (frag_view a.missing)) ++ rest) ≡ sent_words (frag_view a.missing)
+  pub again : (rest : List ℕ) → words_in Little (word_count (frag_view a.missing)) (encoded_words (sent_words (frag_view a.missing)) ++ rest) ≡ sent_words (frag_view a.missing)
   pub count : a.count < 2 ^ 32
 
 -- the fields of a NACK_FRAG's body
@@ -347,17 +347,17 @@ nack_frag_fields a h =
     let n = word_count s in
     let r = a.reader.entity.0 in
     let w = a.writer.entity.0 in
-    let sn = spelled_sn Little (pos (value_of a.number)) in
-    let base = spelled Little 4 s.base in
-    let bits = spelled Little 4 s.bits in
-    let words = spelled_words (sent_words s) in
-    let count = spelled Little 4 a.count in
+    let sn = encoded_sn Little (pos (value_of a.number)) in
+    let base = encoded Little 4 s.base in
+    let bits = encoded Little 4 s.bits in
+    let words = encoded_words (sent_words s) in
+    let count = encoded Little 4 a.count in
     let two = length_2 r w 4 4 h.reader h.writer in
     let three = length_2 (r ++ w) sn 8 8 two refl in
     let four = length_2 (r ++ w ++ sn) base 16 4 three refl in
     let five = length_2 (r ++ w ++ sn ++ base) bits 20 4 four refl in
     let taken : length (sent_words s) ≡ n = length-take-le n s.words (omega (arith, h.words, h.few)) in
-    let size : length words ≡ 4 * n = length-spelled_words (sent_words s) ∙ ap (λ (m : ℕ). 4 * m) taken in
+    let size : length words ≡ 4 * n = length-encoded_words (sent_words s) ∙ ap (λ (m : ℕ). 4 * m) taken in
     let six = length_2 (r ++ w ++ sn ++ base ++ bits) words 24 (4 * n) five size in
     let all = length_2 (r ++ w ++ sn ++ base ++ bits ++ words) count (24 + 4 * n) 4 six refl in
     let fits : FitsSigned w64 (pos (value_of a.number)) = record { sfits = h.signed } in
@@ -404,8 +404,8 @@ regrouped_more : (front a b c d e f g : List ℕ) → front ++ a ++ b ++ c ++ d 
 regrouped_more front a b c d e f g = simp append_assoc
 
 -- the fields one after the other are the datagram
-pub nack_frag_built : (a : NackFrag) (n : ℕ) (words : List ℕ) → NackFragIsSized a → n ≡ 28 + 4 * word_count (frag_view a.missing) → words ≡ sent_words (frag_view a.missing) → opened a.reader.prefix a.writer.prefix ++ (0x12 ∷ 1 ∷ []) ++ spelled Little 2 n ++ a.reader.entity.0 ++ a.writer.entity.0 ++ spelled_sn Little (pos (value_of a.number)) ++ spelled Little 4 a.missing.base ++ spelled Little 4 a.missing.bits ++ spelled_words words ++ spelled Little 4 a.count ≡ nack_frag_octets a
+pub nack_frag_built : (a : NackFrag) (n : ℕ) (words : List ℕ) → NackFragIsSized a → n ≡ 28 + 4 * word_count (frag_view a.missing) → words ≡ sent_words (frag_view a.missing) → opened a.reader.prefix a.writer.prefix ++ (0x12 ∷ 1 ∷ []) ++ encoded Little 2 n ++ a.reader.entity.0 ++ a.writer.entity.0 ++ encoded_sn Little (pos (value_of a.number)) ++ encoded Little 4 a.missing.base ++ encoded Little 4 a.missing.bits ++ encoded_words words ++ encoded Little 4 a.count ≡ nack_frag_octets a
 unfolding nack_frag_octets
 nack_frag_built a n words h size ws =
     let len : n ≡ length (nack_frag_body a) = size ∙ sym (nack_frag_fields a h).length in
-    rw (ws, len) (regrouped_more (opened a.reader.prefix a.writer.prefix ++ (0x12 ∷ 1 ∷ []) ++ spelled Little 2 (length (nack_frag_body a))) a.reader.entity.0 a.writer.entity.0 (spelled_sn Little (pos (value_of a.number))) (spelled Little 4 a.missing.base) (spelled Little 4 a.missing.bits) (spelled_words (sent_words (frag_view a.missing))) (spelled Little 4 a.count))
+    rw (ws, len) (regrouped_more (opened a.reader.prefix a.writer.prefix ++ (0x12 ∷ 1 ∷ []) ++ encoded Little 2 (length (nack_frag_body a))) a.reader.entity.0 a.writer.entity.0 (encoded_sn Little (pos (value_of a.number))) (encoded Little 4 a.missing.base) (encoded Little 4 a.missing.bits) (encoded_words (sent_words (frag_view a.missing))) (encoded Little 4 a.count))

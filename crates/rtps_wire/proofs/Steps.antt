@@ -1,12 +1,13 @@
 -- Reading submessages one at a time.
-use Rattle.std.proofs.Common.{◌≡◌, ℕ, zero, suc, ◌≤◌, ◌<◌, Bool, true, false, cond, ltb, List, [], ◌∷◌, length, take, drop, Option, Some, None, Ok, Err, refl, ap, ◌∙◌, arith}
+use Rattle.std.proofs.Common.{◌≡◌, ℕ, zero, suc, ◌≤◌, ◌<◌, Bool, true, false, cond, ltb, List, [], ◌∷◌, length, take, drop, Option, Some, None, Result, Ok, Err, refl, ap, sym, ◌∙◌, arith}
 use Rattle.std.proofs.lemmas.List.{length-drop}
 use Rattle.std.proofs.lemmas.Grind.{common_steps}
 use Rattle.rtps_types.specs.Field.{number}
 use Rattle.rtps_wire.specs.declared.submessage.SubmessageFault.{SubmessageFault}
 use Rattle.rtps_wire.specs.declared.submessage.SubmessageFault.TheVariants.{Length}
 use Rattle.rtps_wire.specs.Fields.{endian_of}
-use Rattle.rtps_wire.specs.Reading.{Read, Reading, body_length, body_of, front_of, go_on, item_of, reading, reading_behind}
+use Rattle.rtps_wire.specs.declared.raw.RawSubmessage.{RawSubmessage}
+use Rattle.rtps_wire.specs.Reading.{Read, Reading, body_length, body_of, front_of, go_on, item_of, reading, reading_behind, reading_from, seen}
 use Rattle.rtps_wire.specs.Submessage.{PartsView, Item, parts_of}
 
 item_leaves : (id flags : ℕ) (o : Option PartsView) (after : List ℕ) (i : Item) (rest : List ℕ) → item_of id flags o after ≡ Ok (Some (i, rest)) → after ≡ rest
@@ -73,6 +74,15 @@ reading_end octets h = reading_goes_on octets ∙ rw h refl
 
 pub reading_fault : (octets : List ℕ) (f : SubmessageFault) → front_of octets ≡ Err f → reading octets ≡ record { items = []; fault = Some f }
 reading_fault octets f h = reading_goes_on octets ∙ rw h refl
+
+from_seen : (r : Result (Option RawSubmessage) SubmessageFault) → by_rest (seen r) reading ≡ reading_from r
+from_seen (Ok (Some raw)) = sym (item_rest raw.id raw.flags (parts_of raw.id raw.flags raw.body.now) raw.rest.now reading)
+from_seen (Ok None) = refl
+from_seen (Err f) = refl
+
+-- the reading, by the submessage at the front before its body is read
+pub reading_with : (octets : List ℕ) (r : Result (Option RawSubmessage) SubmessageFault) → seen r ≡ front_of octets → reading octets ≡ reading_from r
+reading_with octets r h = reading_goes_on octets ∙ ap (λ (f : Read). by_rest f reading) (sym h) ∙ from_seen r
 
 few_by_rest : (f : Read) (m : ℕ) → ((i : Item) (rest : List ℕ) → f ≡ Ok (Some (i, rest)) → length (reading rest).items < m) → length (by_rest f reading).items ≤ m
 few_by_rest (Err x) m h = omega arith

@@ -1,14 +1,14 @@
 -- ACKNACK (DDSI-RTPS 8.3.7.1, 9.4.5.2): its octets, and how a writer reads them.
 use Rattle.std.specs.Prelude.{◌≡◌, ℕ, pos, ◌+◌, ◌*◌, List, [], ◌++◌, drop, Some, ◌==◌, if◌then◌else◌}
 use Rattle.rtps_types.specs.declared.field.Endian.TheVariants.{Little}
-use Rattle.rtps_types.specs.Field.{number_at, spelled, spelled_sn}
+use Rattle.rtps_types.specs.Field.{number_at, encoded, encoded_sn}
 use Rattle.rtps_types.specs.NumberSet.{NumberSet, members}
 use Rattle.rtps_types.specs.Sets.{sn_view}
 use Rattle.rtps_wire.specs.declared.acknack.AckNack.{AckNack}
 use Rattle.rtps_wire.specs.Fields.{entity_at}
 use Rattle.rtps_wire.specs.Message.{IsFramed}
 use Rattle.rtps_wire.specs.NumberSet.{sn_set_at}
-use Rattle.rtps_wire.specs.Answering.{answering, word_count, sent_words, spelled_words, read_set}
+use Rattle.rtps_wire.specs.Answering.{answering, word_count, sent_words, encoded_words, read_set}
 
 -- flag E (1), and flag F (2) if the set has a bit count of 0: nothing is missing, and the reader
 -- asks for no answer
@@ -18,9 +18,9 @@ acknack_flags missing = if missing.bits == 0 then 3 else 1
 -- readerId, writerId, readerSNState, count
 abbrev pub acknack_body : AckNack → List ℕ
 acknack_body a =
-    a.reader.entity.0 ++ a.writer.entity.0 ++ spelled_sn Little (pos a.missing.base)
-    ++ spelled Little 4 a.missing.bits ++ spelled_words (sent_words (sn_view a.missing))
-    ++ spelled Little 4 a.count
+    a.reader.entity.0 ++ a.writer.entity.0 ++ encoded_sn Little (pos a.missing.base)
+    ++ encoded Little 4 a.missing.bits ++ encoded_words (sent_words (sn_view a.missing))
+    ++ encoded Little 4 a.count
 
 -- the datagram of an ACKNACK
 unfoldable pub acknack_octets : AckNack → List ℕ

@@ -4,7 +4,7 @@ use Rattle.std.specs.Prelude.{ℕ, ◌+◌, ◌-◌, ◌/◌, List, [], ◌∷�
 use Rattle.std.specs.List.{flat_map}
 use Rattle.rtps_types.specs.declared.field.Endian.TheVariants.{Little}
 use Rattle.rtps_types.specs.declared.identity.GuidPrefix.{GuidPrefix}
-use Rattle.rtps_types.specs.Field.{spelled}
+use Rattle.rtps_types.specs.Field.{encoded}
 use Rattle.rtps_types.specs.NumberSet.{NumberSet}
 use Rattle.rtps_wire.specs.declared.message_header.Header.{Header}
 use Rattle.rtps_wire.specs.MessageHeader.{protocol}
@@ -18,7 +18,7 @@ opened own to = protocol ++ (2 ∷ 5 ∷ 0 ∷ 0 ∷ []) ++ own.0 ++ (0x0e ∷ 1
 -- one submessage follows it; all numbers are little-endian
 abbrev pub answering : GuidPrefix → GuidPrefix → ℕ → ℕ → List ℕ → List ℕ
 answering own to id flags body =
-    opened own to ++ (id ∷ flags ∷ []) ++ spelled Little 2 (length body) ++ body
+    opened own to ++ (id ∷ flags ∷ []) ++ encoded Little 2 (length body) ++ body
 
 -- the number of words for the bits of a set
 abbrev pub word_count : NumberSet → ℕ
@@ -29,8 +29,8 @@ abbrev pub sent_words : NumberSet → List ℕ
 sent_words s = take (word_count s) s.words
 
 -- the octets of words
-abbrev pub spelled_words : List ℕ → List ℕ
-spelled_words words = flat_map (spelled Little 4) words
+abbrev pub encoded_words : List ℕ → List ℕ
+encoded_words words = flat_map (encoded Little 4) words
 
 -- the header of a message from here
 abbrev pub our_header : GuidPrefix → Header

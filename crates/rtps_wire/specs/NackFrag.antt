@@ -1,7 +1,7 @@
 -- NACK_FRAG (DDSI-RTPS 8.3.7.11, 9.4.5.13): its octets, and how a writer reads them.
 use Rattle.std.specs.Prelude.{◌≡◌, ℕ, pos, ◌+◌, ◌*◌, List, [], ◌++◌, drop, Some}
 use Rattle.rtps_types.specs.declared.field.Endian.TheVariants.{Little}
-use Rattle.rtps_types.specs.Field.{number_at, sequence_number_at, spelled, spelled_sn}
+use Rattle.rtps_types.specs.Field.{number_at, sequence_number_at, encoded, encoded_sn}
 use Rattle.rtps_types.specs.Number.{value_of}
 use Rattle.rtps_types.specs.NumberSet.{members}
 use Rattle.rtps_types.specs.Sets.{frag_view}
@@ -9,14 +9,14 @@ use Rattle.rtps_wire.specs.declared.nack_frag.NackFrag.{NackFrag}
 use Rattle.rtps_wire.specs.Fields.{entity_at}
 use Rattle.rtps_wire.specs.Message.{IsFramed}
 use Rattle.rtps_wire.specs.NumberSet.{words_at}
-use Rattle.rtps_wire.specs.Answering.{answering, word_count, sent_words, spelled_words, read_words, read_set}
+use Rattle.rtps_wire.specs.Answering.{answering, word_count, sent_words, encoded_words, read_words, read_set}
 
 -- readerId, writerId, writerSN, fragmentNumberState, count
 abbrev pub nack_frag_body : NackFrag → List ℕ
 nack_frag_body a =
-    a.reader.entity.0 ++ a.writer.entity.0 ++ spelled_sn Little (pos (value_of a.number))
-    ++ spelled Little 4 a.missing.base ++ spelled Little 4 a.missing.bits
-    ++ spelled_words (sent_words (frag_view a.missing)) ++ spelled Little 4 a.count
+    a.reader.entity.0 ++ a.writer.entity.0 ++ encoded_sn Little (pos (value_of a.number))
+    ++ encoded Little 4 a.missing.base ++ encoded Little 4 a.missing.bits
+    ++ encoded_words (sent_words (frag_view a.missing)) ++ encoded Little 4 a.count
 
 -- the datagram of a NACK_FRAG
 unfoldable pub nack_frag_octets : NackFrag → List ℕ

@@ -6,8 +6,7 @@ use Rattle.rtps_types.specs.Field.{number}
 use Rattle.rtps_wire.specs.declared.submessage.Submessage.{Submessage}
 use Rattle.rtps_wire.specs.declared.submessage.SubmessageFault.{SubmessageFault}
 use Rattle.rtps_wire.specs.declared.submessage.SubmessageFault.TheVariants.{Rest, Length, Invalid}
-use Rattle.rtps_wire.specs.declared.submessages.Front.{Front}
-use Rattle.rtps_wire.specs.declared.submessages.Front.TheVariants as code
+use Rattle.rtps_wire.specs.declared.raw.RawSubmessage.{RawSubmessage}
 use Rattle.rtps_wire.specs.Fields.{endian_of}
 use Rattle.rtps_wire.specs.Submessage.{PartsView, Item, parts_of, view}
 
@@ -43,11 +42,12 @@ front_of (id ∷ flags ∷ a ∷ []) = Err Rest
 front_of (id ∷ flags ∷ a ∷ b ∷ rest) =
     body_of id flags (body_length id (number (endian_of flags) 2 (a ∷ b ∷ [])) (length rest)) rest
 
--- what contracts see of the result of the code
-abbrev pub seen : Front → Read
-seen (code.Submessage s after) = Ok (Some (view s, after.now))
-seen code.End = Ok None
-seen (code.Fault f) = Err f
+-- what the result of the code says: a submessage is there if its body is valid for its kind
+abbrev pub seen : Result (Option RawSubmessage) SubmessageFault → Read
+seen (Ok (Some raw)) =
+    item_of raw.id raw.flags (parts_of raw.id raw.flags raw.body.now) raw.rest.now
+seen (Ok None) = Ok None
+seen (Err f) = Err f
 
 -- the submessages up to the end or to the first fault, and that fault
 pub record Reading : Type 0 where
@@ -77,6 +77,14 @@ reading_behind zero (id ∷ flags ∷ a ∷ b ∷ rest) =
 -- the reading of the octets after a message's header
 abbrev pub reading : List ℕ → Reading
 reading octets = reading_behind 0 octets
+
+-- the reading whose first submessage is this one, before its body is read
+abbrev pub reading_from : Result (Option RawSubmessage) SubmessageFault → Reading
+reading_from (Ok (Some raw)) =
+    go_on (item_of raw.id raw.flags (parts_of raw.id raw.flags raw.body.now) raw.rest.now)
+    (reading raw.rest.now)
+reading_from (Ok None) = record { items = []; fault = None }
+reading_from (Err f) = record { items = []; fault = Some f }
 
 -- one call of `next`: it returns the first submessage, and doesn't change the fault at the end
 pub record Takes (old : Reading) (taken : Option Submessage) (new : Reading) : Type 0 where

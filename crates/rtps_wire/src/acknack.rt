@@ -6,7 +6,7 @@ ghost use Rattle.rtps_wire.specs.AckNack.{TellsAckNack, acknack_flags, acknack_o
 ghost use Rattle.rtps_wire.specs.Answering.{answer_items, our_header};
 ghost use Rattle.rtps_wire.specs.OneReading.{IsOnly};
 
-use crate::answering::{begin, push_octets, push_sn, push_u32, push_words};
+use crate::answering::{Head, begin, push_octets, push_sn, push_u32, push_words};
 use crate::kinds::{ACKNACK, ACKNACK_FINAL, LITTLE};
 use rtps_types::{Guid, Octets, SnSet};
 use std::alloc::{AllocError, Allocator};
@@ -43,9 +43,12 @@ pub fn write_acknack<A: Allocator>(alloc: A, answer: AckNack) -> Result<Octets<A
         count,
     } = answer;
     let words = missing.bits.div_ceil(32) as usize;
-    let flags = flags_of(&missing);
-    let length = (24 + 4 * words) as u16;
-    let mut octets = begin(alloc, reader.prefix, writer.prefix, ACKNACK, flags, length)?;
+    let head = Head {
+        id: ACKNACK,
+        flags: flags_of(&missing),
+        length: (24 + 4 * words) as u16,
+    };
+    let mut octets = begin(alloc, reader.prefix, writer.prefix, head)?;
     push_octets(&mut octets, &reader.entity.0);
     push_octets(&mut octets, &writer.entity.0);
     push_sn(&mut octets, missing.base);

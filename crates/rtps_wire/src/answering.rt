@@ -2,8 +2,8 @@
 //! and one other submessage, all little-endian. Memory is reserved once, for all of its octets.
 
 ghost use Rattle.std.specs.Prelude.{◌≡◌, ℕ, pos, ◌+◌, ◌*◌, ◌^◌, ◌<◌, ◌≤◌, List, [], ◌∷◌, ◌++◌, length, IfOk, vec_len, vec_capacity};
-ghost use Rattle.rtps_types.specs.Field.{spelled, spelled_sn};
-ghost use Rattle.rtps_wire.specs.Answering.{opened, spelled_words};
+ghost use Rattle.rtps_types.specs.Field.{encoded, encoded_sn};
+ghost use Rattle.rtps_wire.specs.Answering.{opened, encoded_words};
 ghost use Rattle.rtps_wire.specs.NumberSet.{words_in};
 
 use crate::kinds::{INFO_DST, LITTLE};
@@ -13,20 +13,25 @@ use std::alloc::{AllocError, Allocator};
 /// The number of octets before the body of the submessage.
 const FRONT: usize = 40;
 
-/// Returns the octets of an answer up to the header of its submessage, with capacity for a body of
-/// this length.
+/// The header of a submessage (DDSI-RTPS 8.3.3.3): its kind, its flags, and the octets of its body.
+pub(crate) struct Head {
+    pub id: u8,
+    pub flags: u8,
+    pub length: u16,
+}
+
+/// Returns the octets of an answer up to the header of its submessage, with capacity for its body.
 pub(crate) fn begin<A: Allocator>(
     alloc: A,
     own: GuidPrefix,
     to: GuidPrefix,
-    id: u8,
-    flags: u8,
-    length: u16,
+    head: Head,
 ) -> Result<Vec<u8, A>, AllocError>
-    ensures items { IfOk result (λ octets.
-        octets.items ≡ opened own to ++ (id ∷ flags ∷ []) ++ spelled Endian.Little 2 length) }
-    ensures room { IfOk result (λ octets. vec_len octets + length ≤ vec_capacity octets) }
+    ensures items { IfOk result (λ octets. octets.items
+        ≡ opened own to ++ (head.id ∷ head.flags ∷ []) ++ encoded Endian.Little 2 head.length) }
+    ensures room { IfOk result (λ octets. vec_len octets + head.length ≤ vec_capacity octets) }
 {
+    let Head { id, flags, length } = head;
     let mut octets = Vec::with_capacity(alloc, FRONT + usize::from(length))?;
     push_octets(&mut octets, b"RTPS\x02\x05\x00\x00");
     push_octets(&mut octets, &own.0);
@@ -50,7 +55,7 @@ pub(crate) fn push_octets<A: Allocator>(octets: &mut Vec<u8, A>, more: &[u8])
 /// Appends a 16-bit number; the capacity has to be there.
 pub(crate) fn push_u16<A: Allocator>(octets: &mut Vec<u8, A>, value: u16)
     requires room { vec_len octets.old + 2 ≤ vec_capacity octets.old }
-    ensures items { octets.new.items ≡ octets.old.items ++ spelled Endian.Little 2 value }
+    ensures items { octets.new.items ≡ octets.old.items ++ encoded Endian.Little 2 value }
     ensures len { vec_len octets.new ≡ vec_len octets.old + 2 }
     ensures capacity { vec_capacity octets.old ≤ vec_capacity octets.new }
 {
@@ -62,7 +67,7 @@ pub(crate) fn push_u16<A: Allocator>(octets: &mut Vec<u8, A>, value: u16)
 /// Appends a 32-bit number; the capacity has to be there.
 pub(crate) fn push_u32<A: Allocator>(octets: &mut Vec<u8, A>, value: u32)
     requires room { vec_len octets.old + 4 ≤ vec_capacity octets.old }
-    ensures items { octets.new.items ≡ octets.old.items ++ spelled Endian.Little 4 value }
+    ensures items { octets.new.items ≡ octets.old.items ++ encoded Endian.Little 4 value }
     ensures len { vec_len octets.new ≡ vec_len octets.old + 4 }
     ensures capacity { vec_capacity octets.old ≤ vec_capacity octets.new }
 {
@@ -75,7 +80,7 @@ pub(crate) fn push_u32<A: Allocator>(octets: &mut Vec<u8, A>, value: u32)
 pub(crate) fn push_sn<A: Allocator>(octets: &mut Vec<u8, A>, value: u64)
     requires number { value < 2 ^ 63 }
     requires room { vec_len octets.old + 8 ≤ vec_capacity octets.old }
-    ensures items { octets.new.items ≡ octets.old.items ++ spelled_sn Endian.Little (pos value) }
+    ensures items { octets.new.items ≡ octets.old.items ++ encoded_sn Endian.Little (pos value) }
     ensures len { vec_len octets.new ≡ vec_len octets.old + 8 }
     ensures capacity { vec_capacity octets.old ≤ vec_capacity octets.new }
 {
@@ -87,9 +92,9 @@ pub(crate) fn push_sn<A: Allocator>(octets: &mut Vec<u8, A>, value: u64)
 /// Appends the words of a set; the capacity has to be there.
 pub(crate) fn push_words<A: Allocator>(octets: &mut Vec<u8, A>, words: &[u32])
     requires room { vec_len octets.old + 4 * length words.now ≤ vec_capacity octets.old }
-    ensures items { octets.new.items ≡ octets.old.items ++ spelled_words words.now }
+    ensures items { octets.new.items ≡ octets.old.items ++ encoded_words words.now }
     ensures read_again { (rest : List ℕ) →
-        words_in Endian.Little (length words.now) (spelled_words words.now ++ rest) ≡ words.now }
+        words_in Endian.Little (length words.now) (encoded_words words.now ++ rest) ≡ words.now }
     ensures len { vec_len octets.new ≡ vec_len octets.old + 4 * length words.now }
     ensures capacity { vec_capacity octets.old ≤ vec_capacity octets.new }
 {

@@ -5,7 +5,7 @@ ghost use Rattle.rtps_wire.specs.Answering.{answer_items, our_header};
 ghost use Rattle.rtps_wire.specs.NackFrag.{TellsNackFrag, nack_frag_octets};
 ghost use Rattle.rtps_wire.specs.OneReading.{IsOnly};
 
-use crate::answering::{begin, push_octets, push_sn, push_u32, push_words};
+use crate::answering::{Head, begin, push_octets, push_sn, push_u32, push_words};
 use crate::kinds::{LITTLE, NACK_FRAG};
 use rtps_types::{FragSet, Guid, Number, Octets};
 use std::alloc::{AllocError, Allocator};
@@ -43,15 +43,12 @@ pub fn write_nack_frag<A: Allocator>(alloc: A, answer: NackFrag) -> Result<Octet
         count,
     } = answer;
     let words = missing.bits.div_ceil(32) as usize;
-    let length = (28 + 4 * words) as u16;
-    let mut octets = begin(
-        alloc,
-        reader.prefix,
-        writer.prefix,
-        NACK_FRAG,
-        LITTLE,
-        length,
-    )?;
+    let head = Head {
+        id: NACK_FRAG,
+        flags: LITTLE,
+        length: (28 + 4 * words) as u16,
+    };
+    let mut octets = begin(alloc, reader.prefix, writer.prefix, head)?;
     push_octets(&mut octets, &reader.entity.0);
     push_octets(&mut octets, &writer.entity.0);
     push_sn(&mut octets, number.get());

@@ -4,50 +4,47 @@ ghost use Rattle.std.specs.Prelude.{◌≡◌, ◌≤◌, List, Option, None, []
 ghost use Rattle.std.specs.Iterator.{item_count};
 ghost use Rattle.rtps_wire.specs.declared.submessage.SubmessageFault.{SubmessageFault};
 ghost use Rattle.rtps_wire.specs.Message.{IsReading};
-ghost use Rattle.rtps_wire.specs.Reading.{Reading, Takes, front_of, reading, seen};
+ghost use Rattle.rtps_wire.specs.Reading.{Reading, Takes, front_of, reading, reading_from, seen};
 ghost use Rattle.rtps_wire.specs.Submessage.{Item};
 
 use crate::fields::endian_at;
 use crate::kinds::{INFO_TS, PAD};
-use crate::submessage::{Submessage, SubmessageFault, read_parts};
+use crate::raw::RawSubmessage;
+use crate::submessage::{Submessage, SubmessageFault};
 use rtps_types::get_u16;
 use std::marker::Model;
 
-/// The result of reading one submessage, with the octets after it.
-#[derive(Clone, Copy)]
-enum Front<'a> {
-    Submessage(Submessage<'a>, &'a [u8]),
-    End,
-    Fault(SubmessageFault),
-}
-
+/// Returns the submessage at the front, before its body is read, or `None` at the end.
+#[inline]
 #[tactic(auto, unfolding(crate::specs::Reading::front_of))]
-fn read_front(octets: &[u8]) -> Front<'_>
+fn read_front(octets: &[u8]) -> Result<Option<RawSubmessage<'_>>, SubmessageFault>
     ensures { seen result ≡ front_of octets.now }
 {
-    let [id, flags, _, _, rest @ ..] = octets else {
+    let [id, flags, _, _, others @ ..] = octets else {
         return if octets.is_empty() {
-            Front::End
+            Ok(None)
         } else {
-            Front::Fault(SubmessageFault::Rest)
+            Err(SubmessageFault::Rest)
         };
     };
     let (id, flags) = (*id, *flags);
     let Some(length) = get_u16(octets, 2, endian_at(flags)) else {
-        return Front::Fault(SubmessageFault::Rest);
+        return Err(SubmessageFault::Rest);
     };
     let length = match length {
-        0 if id != PAD && id != INFO_TS => rest.len(),
+        0 if id != PAD && id != INFO_TS => others.len(),
         stated => usize::from(stated),
     };
-    if rest.len() < length {
-        return Front::Fault(SubmessageFault::Length);
+    if others.len() < length {
+        return Err(SubmessageFault::Length);
     }
-    let (body, after) = rest.split_at(length);
-    match read_parts(id, flags, body) {
-        Some(parts) => Front::Submessage(Submessage { id, flags, parts }, after),
-        None => Front::Fault(SubmessageFault::Invalid),
-    }
+    let (body, rest) = others.split_at(length);
+    Ok(Some(RawSubmessage {
+        id,
+        flags,
+        body,
+        rest,
+    }))
 }
 
 /// An iterator over the valid submessages after a message's header, in order, up to the first
@@ -77,6 +74,17 @@ impl<'a> Submessages<'a> {
         Submessages { rest: octets }
     }
 
+    /// Returns the submessage at the front, before its body is read, or `None` at the end; an error
+    /// says why there is none. It is as `next` for who reads bodies himself, and takes nothing: if
+    /// the body is valid, the others are the submessages in `rest`, and else reading ends here.
+    #[inline]
+    #[tactic(auto, using(crate::proofs::Steps::reading_with))]
+    pub fn front(&self) -> Result<Option<RawSubmessage<'a>>, SubmessageFault>
+        ensures { self.now ≡ reading_from result }
+    {
+        read_front(self.rest)
+    }
+
     /// Returns why reading stopped, or `None` if it reached the end. It is meant to be called once
     /// `next` has returned `None`; before that it returns `None`.
     #[tactic(auto, using(crate::proofs::Steps::reading_item, crate::proofs::Steps::reading_end, crate::proofs::Steps::reading_fault))]
@@ -86,8 +94,10 @@ impl<'a> Submessages<'a> {
             self.now.items ≡ next ∷ others → result ≡ None }
     {
         match read_front(self.rest) {
-            Front::Fault(fault) => Some(fault),
-            Front::Submessage(..) | Front::End => None,
+            Ok(None) => None,
+            Ok(Some(raw)) if raw.parts().is_some() => None,
+            Ok(Some(_)) => Some(SubmessageFault::Invalid),
+            Err(fault) => Some(fault),
         }
     }
 }
@@ -102,11 +112,16 @@ impl<'a> Iterator for Submessages<'a> {
     #[tactic(auto, using(crate::proofs::Steps::reading_item, crate::proofs::Steps::reading_end, crate::proofs::Steps::reading_fault))]
     fn next(&mut self) -> Option<Submessage<'a>> {
         match read_front(self.rest) {
-            Front::Submessage(submessage, after) => {
-                self.rest = after;
-                Some(submessage)
+            Ok(Some(raw)) => {
+                let parts = raw.parts()?;
+                self.rest = raw.rest;
+                Some(Submessage {
+                    id: raw.id,
+                    flags: raw.flags,
+                    parts,
+                })
             }
-            Front::End | Front::Fault(_) => None,
+            Ok(None) | Err(_) => None,
         }
     }
 }

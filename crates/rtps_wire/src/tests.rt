@@ -2,6 +2,7 @@
 
 mod contents;
 mod faults;
+mod raw;
 mod reading;
 mod writing;
 

@@ -111,6 +111,43 @@ fn fill(alloc: Global, proxy: &mut WriterProxy) -> Result<bool, Fail> {
     Ok(true)
 }
 
+/// Whether the changes that are ready have the numbers from `first` to `end`, without `end`.
+fn are_ready(effects: &Effects<'_>, first: u64, end: u64) -> bool {
+    let numbers = first..end;
+    effects.ready.len() as u64 == end - first
+        && effects
+            .ready
+            .iter()
+            .zip(numbers)
+            .all(|(change, number)| change.number.get() == number)
+}
+
+#[test]
+fn many_are_ready_in_order(rt: HostRuntime) -> Result<(), Fail> {
+    let mut proxy = new_proxy(rt.alloc(), true)?;
+    for less in 1_u64..400 {
+        assert_eq!(rt; ready_at(rt.alloc(), &mut proxy, 1_000 - less)?, (0, 0));
+    }
+    assert_eq!(rt; ready_at(rt.alloc(), &mut proxy, 1_001)?, (0, 0));
+    // One of them waits for another number.
+    let effects = bring(rt.alloc(), &mut proxy, What::Gap(1, 601))??;
+    assert!(rt; are_ready(&effects, 601, 1_000));
+    assert_eq!(rt; ready_at(rt.alloc(), &mut proxy, 1_000)?, (2, 1_001));
+    Ok(())
+}
+
+#[test]
+fn all_are_released_at_once(rt: HostRuntime) -> Result<(), Fail> {
+    let mut proxy = new_proxy(rt.alloc(), true)?;
+    assert!(rt; fill(rt.alloc(), &mut proxy)?);
+    let effects = bring(rt.alloc(), &mut proxy, What::Gap(1, 2))??;
+    assert!(rt; are_ready(&effects, 2, 65_538));
+    // Later ones wait and are released as before.
+    assert_eq!(rt; ready_at(rt.alloc(), &mut proxy, 65_539)?, (0, 0));
+    assert_eq!(rt; ready_at(rt.alloc(), &mut proxy, 65_538)?, (2, 65_539));
+    Ok(())
+}
+
 #[test]
 fn there_is_room_for_so_many(rt: HostRuntime) -> Result<(), Fail> {
     let mut proxy = new_proxy(rt.alloc(), true)?;

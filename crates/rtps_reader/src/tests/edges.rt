@@ -28,8 +28,11 @@ fn reader(alloc: Global) -> Result<ReaderState, AllocError> {
             locators: Locators::new(Vec::new(alloc)),
         })?;
     }
-    let own = GuidPrefix([0xff; 12]);
-    ReaderState::new(alloc, u32::MAX, own, READER, false, fixed.as_slice())
+    let guid = Guid {
+        prefix: GuidPrefix([0xff; 12]),
+        entity: READER,
+    };
+    ReaderState::new(alloc, u32::MAX, guid, false, fixed.as_slice())
 }
 
 /// The longest payload in a datagram of 65,507 octets.

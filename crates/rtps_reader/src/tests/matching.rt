@@ -135,15 +135,11 @@ const STEPS: [Row; 15] = [
 /// A reader without matches.
 pub(super) fn reader<A: Allocator + Copy>(alloc: A) -> Result<ReaderState<A>, ReaderError> {
     let fixed = Vec::new(alloc);
-    let entity = EntityId([0, 0, 1, 7]);
-    ReaderState::new(
-        alloc,
-        0,
-        GuidPrefix([11; 12]),
-        entity,
-        true,
-        fixed.as_slice(),
-    )
+    let guid = Guid {
+        prefix: GuidPrefix([11; 12]),
+        entity: EntityId([0, 0, 1, 7]),
+    };
+    ReaderState::new(alloc, 0, guid, true, fixed.as_slice())
 }
 
 fn number_of(number: u64) -> Result<Number, Fail> {

@@ -161,15 +161,11 @@ fn matched<'a>(
         fixed.push(WriterFacts { writer, locators })?;
     }
     let blocks = blocks_but(alloc, heap, room)?;
-    let prefix = GuidPrefix([11; 12]);
-    let reader = ReaderState::new(
-        heap,
-        0,
-        prefix,
-        EntityId([0, 0, 1, 7]),
-        true,
-        fixed.as_slice(),
-    );
+    let guid = Guid {
+        prefix: GuidPrefix([11; 12]),
+        entity: EntityId([0, 0, 1, 7]),
+    };
+    let reader = ReaderState::new(heap, 0, guid, true, fixed.as_slice());
     drop(blocks);
     Ok(reader.ok())
 }

@@ -51,8 +51,11 @@ fn reader<A: Allocator + Copy>(alloc: A) -> Result<ReaderState<A>, ReaderError> 
         },
         locators: Locators::new(Vec::from_slice(alloc, &[LOCATOR])?),
     })?;
-    let entity = EntityId([0, 0, 1, 7]);
-    ReaderState::new(alloc, 0, OURS, entity, true, fixed.as_slice())
+    let guid = Guid {
+        prefix: OURS,
+        entity: EntityId([0, 0, 1, 7]),
+    };
+    ReaderState::new(alloc, 0, guid, true, fixed.as_slice())
 }
 
 fn datagram(alloc: Global) -> Result<Vec<u8>, Fail>

@@ -29,14 +29,11 @@ fn reader(alloc: Global) -> Result<ReaderState, Fail> {
         },
         locators: Locators::new(Vec::new(alloc)),
     })?;
-    Ok(ReaderState::new(
-        alloc,
-        0,
-        GuidPrefix([11; 12]),
-        READER,
-        false,
-        fixed.as_slice(),
-    )?)
+    let guid = Guid {
+        prefix: GuidPrefix([11; 12]),
+        entity: READER,
+    };
+    Ok(ReaderState::new(alloc, 0, guid, false, fixed.as_slice())?)
 }
 
 /// Returns a change with this number, from this datagram.

@@ -17,8 +17,8 @@ impl fmt::Display for Timestamp {
         let mut digits = [b'.'; 17];
         let (seconds, rest) = digits.split_at_mut(8);
         let (_, fraction) = rest.split_at_mut(1);
-        spell_word(self.seconds, seconds);
-        spell_word(self.fraction, fraction);
+        format_word(self.seconds, seconds);
+        format_word(self.fraction, fraction);
         f.pad(str::from_utf8(&digits).map_err(|_| fmt::Error)?)
     }
 }
@@ -31,7 +31,7 @@ impl fmt::Debug for Timestamp {
 }
 
 /// Writes a number as eight hex digits.
-fn spell_word(number: u32, digits: &mut [u8])
+fn format_word(number: u32, digits: &mut [u8])
     requires { length digits.old ≡ 8 }
     ensures { digits.new ≡ word_text number }
 {

@@ -24,9 +24,9 @@ returns-clause-stands g c w old unheard =
     let reports = c.take_changes.new.reports.items in
     let v = started d w index r in
     let start : StartsAt (first_reader w.known.own r.entity (is_reliable r.policies.reliability) []) state
-    = subst (λ (own : GuidPrefix). StartsAt (first_reader own r.entity (is_reliable r.policies.reliability) []) state) (c.own-own.ensures ∙ old.known.own)
-    (subst (λ b. StartsAt (first_reader c.own-own.result r.entity b []) state) c.is_reliable-reliable.ensures
-    (subst (λ l. StartsAt (first_reader c.own-own.result r.entity c.is_reliable-reliable.result (map facts_in l)) state) (c.as_slice.ensures.value ∙ c.new-fixed.ensures.items) c.in_ok-state.ensures.starts)) in
+    = subst (λ (own : GuidPrefix). StartsAt (first_reader own r.entity (is_reliable r.policies.reliability) []) state) (c.own.ensures ∙ old.known.own)
+    (subst (λ b. StartsAt (first_reader c.own.result r.entity b []) state) c.is_reliable-reliable.ensures
+    (subst (λ l. StartsAt (first_reader c.own.result r.entity c.is_reliable-reliable.result (map facts_in l)) state) (c.as_slice.ensures.value ∙ c.new-fixed.ensures.items) c.in_ok-state.ensures.starts)) in
     let first : ReadersStand {A = g.row.A.Denot} f v w.put (c.args.readers.now.states.items ++ state ∷ []) []
     = start_stands f d w index r w.put c.args.readers.now.states.items state [] old.readers unheard start
     (c.in_ok-state.ensures.place.0 ∙ c.in_ok-rank.ensures.rank w.known old.known ∙ sym old.readers.count) in

@@ -1,7 +1,7 @@
 use Rattle.std.proofs.Common.{rules, ◌≡◌, ◌∙◌, ℕ, ◌<◌, length}
 use Rattle.std.specs.Prelude.{slice_index}
 use Rattle.std.specs.Ordering.{nat_cmp}
-use Rattle.rtps_types.proofs.Spelled.{number_order}
+use Rattle.rtps_types.proofs.Encoded.{number_order}
 use Rattle.rtps_types.proofs.order.order_of_four.Goals as goal
 
 pub returns : goal.returns

@@ -2,7 +2,7 @@ use Rattle.std.proofs.Common.{rules, ◌≡◌, ◌+◌, ◌*◌, ◌^◌, ◌�
 use Rattle.std.specs.Prelude.{slice_index}
 use Rattle.std.specs.Ordering.{nat_cmp}
 use Rattle.byteorder.specs.Endian.{big_number}
-use Rattle.rtps_types.proofs.Spelled.{sixteen_order, then_alike, then_apart}
+use Rattle.rtps_types.proofs.Encoded.{sixteen_order, then_alike, then_apart}
 use Rattle.rtps_types.proofs.order.order_of_sixteen.Goals as goal
 
 -- the number that the last eight octets encode

@@ -3,7 +3,7 @@ use Rattle.std.specs.Prelude.{slice_index}
 use Rattle.std.specs.Ordering.{nat_cmp}
 use Rattle.std.proofs.lemmas.List.{length-drop, take_all}
 use Rattle.byteorder.specs.Endian.{big_number}
-use Rattle.rtps_types.proofs.Spelled.{decided_by, then_alike, then_apart}
+use Rattle.rtps_types.proofs.Encoded.{decided_by, then_alike, then_apart}
 use Rattle.rtps_types.proofs.order.order_of_twelve.Goals as goal
 
 pub returns-then-front-other : goal.returns-then-front-other

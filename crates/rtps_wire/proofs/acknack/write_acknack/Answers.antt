@@ -24,7 +24,7 @@ sized g c = record {
 pub returns-clause-octets : goal.returns-clause-octets
 returns-clause-octets g c =
     rw (c.new.ensures, c.push_u32-2.ensures.items, c.push_words.ensures.items, c.push_u32.ensures.items, c.push_sn.ensures.items, c.push_octets-2.ensures.items, c.push_octets.ensures.items, c.in_ok-octets.ensures.items)
-    (acknack_built c.args.answer (24 + 4 * c.div_ceil-words.result) c.flags_of-flags.result _ (sized g c) (omega arith) c.flags_of-flags.ensures (ap (λ n. take n c.args.answer.missing.words) (counted g c)))
+    (acknack_built c.args.answer (24 + 4 * c.div_ceil-words.result) c.flags_of.result _ (sized g c) (omega arith) c.flags_of.ensures (ap (λ n. take n c.args.answer.missing.words) (counted g c)))
 
 pub returns-clause-message : goal.returns-clause-message
 returns-clause-message g c = rw (returns-clause-octets g c) (acknack_tells c.args.answer (sized g c)).0

@@ -1,47 +1,41 @@
-use Rattle.std.proofs.Common.{◌≡◌, true, false, List, Some, ◌∙◌, ap, subst, sym}
+use Rattle.std.proofs.Common.{◌≡◌, List, OnOk, Some, ◌∙◌, ap, refl, rules, subst, sym}
 use Rattle.std.specs.Prelude.{is_some}
 use Rattle.std.specs.BTreeMap.{insert_entry}
-use Rattle.rtps_types.specs.declared.locator.Locator.{Locator}
+use Rattle.std.specs.Option.{option_copied_mut}
+use Rattle.rtps_types.specs.declared.identity.GuidPrefix.{GuidPrefix}
+use Rattle.rtps_discovery.specs.Announcement.{Comes}
 use Rattle.rtps_discovery.specs.Ends.{EndsAt, Renews, end_of}
-use Rattle.rtps_discovery.specs.Kept.{kept, participant_in}
-use Rattle.rtps_discovery.specs.Known.{RemoteParticipant, of_publications, prefix_order, where_announced}
+use Rattle.rtps_discovery.specs.Kept.{Applies, kept, participant_in}
+use Rattle.rtps_discovery.specs.Known.{RemoteParticipant, prefix_order}
 use Rattle.rtps_discovery.specs.Seen.{facts_seen}
 use Rattle.rtps_discovery.proofs.Coming.{comes}
 use Rattle.rtps_discovery.proofs.Ends.{covers_then}
+use Rattle.rtps_discovery.proofs.Guids.{prefix_total}
+use Rattle.rtps_discovery.proofs.Inserted.{put_again}
 use Rattle.rtps_discovery.proofs.registry.Registry.come.Goals as goal
 
-pub returns-then-is_some : goal.returns-then-is_some
-returns-then-is_some g c = λ earlier.
+pub returns-in_default : goal.returns-in_default
+returns-in_default g c = λ earlier.
     let d = kept c.args.self.now in
-    let known : is_some (participant_in c.args.prefix d.participants) ≡ true = ap is_some (sym c.in-Ok.ensures.old) ∙ sym c.is_some.ensures ∙ c.if-is_some.true in
-    let part : List Locator → RemoteParticipant = λ ls. record { locators = ls; lease = c.args.facts.lease; heard = d.moment } in
-    comes d c.args.prefix (facts_seen c.args.facts) c.insert.new.self.entries c.renew.new.self c.args.self.now.announcers earlier
-    (c.in-Ok.ensures.entries ∙ ap (λ ls. insert_entry prefix_order d.participants c.args.prefix (part ls)) c.in_ok-locators.ensures)
-    c.insert.ensures.ordered
-    (λ covers.
-    let was : c.end_of.result ≡ end_of (participant_in c.args.prefix d.participants) = c.end_of.ensures ∙ ap end_of c.in-Ok.ensures.old in
-    let x : RemoteParticipant = part c.in_ok-locators.locators in
-    let renews : Renews c.args.prefix (end_of (Some x)) d.leases c.renew.new.self = rw (← c.deadline-last.ensures) (c.in_ok-renew.ensures (subst (λ o. EndsAt c.args.prefix o d.leases) (sym was) (covers c.args.prefix))) in
-    covers_then c.args.prefix (Some x) d.leases c.renew.new.self d.participants c.insert.new.self.entries renews c.in-Ok.ensures.updates.0 covers)
-    (λ ms all. rw known all)
+    let same : c.get_mut.follows.lender-at-none.entries ≡ d.participants = search rules in
+    subst (λ (ps : List (GuidPrefix × RemoteParticipant)). OnOk c.welcome.result (Applies (Comes c.args.prefix (facts_seen c.args.facts)) (record d { participants = ps }) (kept c.welcome.new.self) earlier earlier)) same (c.welcome.ensures earlier)
 
 pub returns : goal.returns
 returns g c = λ earlier.
     let d = kept c.args.self.now in
-    let fresh : is_some (participant_in c.args.prefix d.participants) ≡ false = ap is_some (sym c.in-Ok.ensures.old) ∙ sym c.is_some.ensures ∙ c.if-is_some.false in
-    let part : List Locator → RemoteParticipant = λ ls. record { locators = ls; lease = c.args.facts.lease; heard = d.moment } in
+    let p = c.args.prefix in
     let f = facts_seen c.args.facts in
-    let one : c.as_slice-to.result.now ≡ f.metatraffic = c.as_slice-to.ensures ∙ c.in_ok-metatraffic.ensures in
-    comes d c.args.prefix f c.insert.new.self.entries c.renew.new.self c.begin_where-2.new.announcers earlier
-    (c.in-Ok.ensures.entries ∙ ap (λ ls. insert_entry prefix_order d.participants c.args.prefix (part ls)) c.in_ok-locators.ensures)
-    c.insert.ensures.ordered
+    let es = c.args.self.now.participants.entries in
+    let ps = (c.get_mut.follows.lender c.hear.new.self).entries in
+    let some : participant_in p d.participants ≡ Some c.in-Some.known.now = sym c.get_mut.ensures.value ∙ ap option_copied_mut c.in-Some.is in
+    let written = c.get_mut.follows.holds c.hear.new.self in
+    comes d p f ps c.renew.new.self d.announcers earlier
+    (written.0 ∙ put_again prefix_order prefix_total es p c.in-Some.known.now c.hear.new.self c.get_mut.ensures.ordered some ∙ ap (insert_entry prefix_order es p) c.in_ok-hear.ensures)
+    written.4
     (λ covers.
-    let was : c.end_of.result ≡ end_of (participant_in c.args.prefix d.participants) = c.end_of.ensures ∙ ap end_of c.in-Ok.ensures.old in
-    let x : RemoteParticipant = part c.in_ok-locators.locators in
-    let renews : Renews c.args.prefix (end_of (Some x)) d.leases c.renew.new.self = rw (← c.deadline-last.ensures) (c.in_ok-renew.ensures (subst (λ o. EndsAt c.args.prefix o d.leases) (sym was) (covers c.args.prefix))) in
-    covers_then c.args.prefix (Some x) d.leases c.renew.new.self d.participants c.insert.new.self.entries renews c.in-Ok.ensures.updates.0 covers)
-    (λ ms all.
-    let first = rw (one, c.publications-writers.ensures) at (c.in_ok-begin_where.ensures ms all) in
-    let m = of_publications d.own c.args.prefix f in
-    let second = rw (one, c.subscriptions-readers.ensures) at (c.in_ok-begin_where-2.ensures (where_announced f.announces_writers m ms) first) in
-    rw fresh second)
+    let was : end_of (participant_in p d.participants) ≡ c.deadline-earlier.result = ap end_of some ∙ ap (λ x. end_of (Some x)) (sym c.known.view_is) ∙ sym c.deadline-earlier.ensures in
+    let is : c.deadline-last.result ≡ end_of (Some c.hear.new.self) = c.deadline-last.ensures ∙ ap (λ x. end_of (Some x)) (sym c.in_ok-hear.ensures) in
+    let ended : EndsAt p c.deadline-earlier.result d.leases = subst (λ o. EndsAt p o d.leases) was (covers p) in
+    let renews : Renews p (end_of (Some c.hear.new.self)) d.leases c.renew.new.self = subst (λ o. Renews p o d.leases c.renew.new.self) is (c.in_ok-renew.ensures ended) in
+    covers_then p (Some c.hear.new.self) d.leases c.renew.new.self d.participants ps renews (written.3 (rw some refl)).0 covers)
+    (λ ms all. rw (ap is_some some) all)

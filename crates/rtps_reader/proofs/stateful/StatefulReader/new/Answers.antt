@@ -20,7 +20,7 @@ loop-facts-preserved g c =
       own = begun.reader.own ∙ so_far.own;
       entity = begun.reader.entity ∙ so_far.entity;
       reliable = begun.reader.reliable ∙ so_far.reliable;
-      stands = begun_more c.args.own c.loop-facts.reader.own c.args.entity c.loop-facts.reader.entity c.args.reliable c.loop-facts.reader.reliable (take i c.args.fixed.now) (take (i + 1) c.args.fixed.now) c.facts-item.result c.as_slice.result.now c.begin.new.self.matches
+      stands = begun_more c.args.guid.prefix c.loop-facts.reader.own c.args.guid.entity c.loop-facts.reader.entity c.args.reliable c.loop-facts.reader.reliable (take i c.args.fixed.now) (take (i + 1) c.args.fixed.now) c.facts-item.result c.as_slice.result.now c.begin.new.self.matches
           so_far.own so_far.entity so_far.reliable c.as_slice.ensures one (begun.stands _ so_far.stands);
     }
 
@@ -28,9 +28,9 @@ pub returns-clause-starts : goal.returns-clause-starts
 returns-clause-starts g c =
     let so_far = c.loop-facts.invariant in
     let facts = map facts_in c.args.fixed.now in
-    let r = first_reader c.args.own c.args.entity c.args.reliable facts in
+    let r = first_reader c.args.guid.prefix c.args.guid.entity c.args.reliable facts in
     let all : AllStand r.matches c.loop-facts.reader.matches
-    = subst (λ (l : List (WriterFacts _)). AllStand (first_matches c.args.own c.args.entity c.args.reliable (map facts_in l)) c.loop-facts.reader.matches) (take_all c.loop-facts.facts-index c.args.fixed.now c.loop-facts-test.false) so_far.stands in
+    = subst (λ (l : List (WriterFacts _)). AllStand (first_matches c.args.guid.prefix c.args.guid.entity c.args.reliable (map facts_in l)) c.loop-facts.reader.matches) (take_all c.loop-facts.facts-index c.args.fixed.now c.loop-facts-test.false) so_far.stands in
     record {
       sound = refl;
       own = so_far.own;

@@ -8,8 +8,8 @@ use Rattle.rtps_reader.proofs.stateful.StatefulReader.new.Given as goal
 abbrev pub invariant-loop-facts : goal.invariant-loop-facts
 invariant-loop-facts g l = record {
   rank : l.reader.rank ≡ l.rank;
-  own : l.reader.own ≡ l.fn.own;
-  entity : l.reader.entity ≡ l.fn.entity;
+  own : l.reader.own ≡ l.fn.guid.prefix;
+  entity : l.reader.entity ≡ l.fn.guid.entity;
   reliable : l.reader.reliable ≡ l.reliable;
-  stands : AllStand (first_matches l.fn.own l.fn.entity l.reliable (map facts_in (take l.facts-index l.fixed))) l.reader.matches;
+  stands : AllStand (first_matches l.fn.guid.prefix l.fn.guid.entity l.reliable (map facts_in (take l.facts-index l.fixed))) l.reader.matches;
 }

@@ -2,7 +2,7 @@ use Rattle.std.proofs.Common.{ℕ, arith, slice_index, ap, ◌∙◌}
 use Rattle.std.proofs.lemmas.Nat.{and_mask}
 use Rattle.hex.specs.Hex.{lower_digits}
 use Rattle.hex.proofs.Pairs.{encode_step, encode_done}
-use Rattle.rtps_ascii.proofs.hex_digits.spell.Goals as goal
+use Rattle.rtps_ascii.proofs.hex_digits.format_hex.Goals as goal
 
 pub loop-i-preserved : goal.loop-i-preserved
 loop-i-preserved c =

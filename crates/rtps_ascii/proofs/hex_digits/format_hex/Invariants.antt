@@ -1,6 +1,6 @@
 use Rattle.std.proofs.Common.{◌≡◌, ◌*◌, ◌++◌, take, drop}
 use Rattle.hex.specs.Hex.{encode_lower}
-use Rattle.rtps_ascii.proofs.hex_digits.spell.Given as goal
+use Rattle.rtps_ascii.proofs.hex_digits.format_hex.Given as goal
 
 abbrev pub invariant-loop-i : goal.invariant-loop-i
 invariant-loop-i l = take (2 * l.i) l.digits ++ encode_lower (drop l.i l.octets) ≡ encode_lower l.octets
