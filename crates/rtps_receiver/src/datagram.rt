@@ -9,7 +9,7 @@ ghost use Rattle.rtps_receiver.specs.Running.{events_left, first_context};
 use crate::context::{Context, next_place};
 use crate::event::Event;
 use rtps_types::{GuidPrefix, Place};
-use rtps_wire::{Submessages, header};
+use rtps_wire::{header, read_front};
 use std::marker::Model;
 
 /// The number of octets of a message header.
@@ -22,7 +22,8 @@ const HEADER: usize = 20;
 /// No memory is taken: payloads are borrowed from the datagram.
 #[derive(Drop)]
 pub struct Events<'a> {
-    submessages: Submessages<'a>,
+    /// The octets of the submessages that are left.
+    rest: &'a [u8],
     context: Context,
     /// The place of the last submessage that was read.
     place: Place,
@@ -31,9 +32,9 @@ pub struct Events<'a> {
 impl<'a> Model for Events<'a> {
     ghost Value = { List EventView };
 
-    ghost view = { λ e. events_left e.context e.place e.submessages.items };
+    ghost view = { λ e. events_left e.context e.place (reading e.rest.now).items };
 
-    ghost invariant = { λ e. e.place.submessage + length e.submessages.items ≤ 65507 };
+    ghost invariant = { λ e. e.place.submessage + length e.rest.now ≤ 65507 };
 }
 
 impl<'a> Events<'a> {
@@ -57,7 +58,7 @@ impl<'a> Events<'a> {
             (record { datagram = index; submessage = 0 }) (reading octets.now).items }
     {
         Events {
-            submessages: Submessages::new(octets),
+            rest: octets,
             context: Context::new(own, source),
             place: Place {
                 datagram: index,
@@ -75,11 +76,11 @@ impl<'a> Iterator for Events<'a> {
     ghost remaining = { item_count (λ left. left) };
 
     fn next(&mut self) -> Option<Event<'a>> {
-        while let Ok(Some(raw)) = self.submessages.front() {
+        while let Ok(Some(raw)) = read_front(self.rest) {
             let place = next_place(self.place);
             let event = self.context.take(place, &raw)?.ok();
             self.place = place;
-            self.submessages = Submessages::new(raw.rest);
+            self.rest = raw.rest;
             if event.is_some() {
                 return event;
             }

@@ -11,7 +11,7 @@ use crate::context::{Context, next_place};
 use crate::event::Event;
 use crate::outcome::{Outcome, Reason};
 use rtps_types::{GuidPrefix, Place};
-use rtps_wire::{HeaderFault, Submessage, SubmessageFault, Submessages, header};
+use rtps_wire::{HeaderFault, Submessage, SubmessageFault, Submessages, header, read_front};
 use std::marker::Model;
 
 /// The number of octets of a message header.
@@ -21,7 +21,8 @@ const HEADER: usize = 20;
 /// invalid one (DDSI-RTPS 8.3.4.1). No memory is taken: payloads are borrowed from the datagram.
 #[derive(Drop)]
 pub struct Outcomes<'a> {
-    submessages: Submessages<'a>,
+    /// The octets of the submessages that are left.
+    rest: &'a [u8],
     context: Context,
     /// The place of the last submessage that was read.
     place: Place,
@@ -31,11 +32,11 @@ impl<'a> Model for Outcomes<'a> {
     ghost Value = { OutcomesView };
 
     ghost view = { λ o. record {
-      left = outcomes_left o.context o.place o.submessages.items;
-      fault = o.submessages.fault;
+      left = outcomes_left o.context o.place (reading o.rest.now).items;
+      fault = (reading o.rest.now).fault;
     } };
 
-    ghost invariant = { λ o. o.place.submessage + length o.submessages.items ≤ 65507 };
+    ghost invariant = { λ o. o.place.submessage + length o.rest.now ≤ 65507 };
 }
 
 impl<'a> Outcomes<'a> {
@@ -62,7 +63,7 @@ impl<'a> Outcomes<'a> {
         } }
     {
         Outcomes {
-            submessages: Submessages::new(octets),
+            rest: octets,
             context: Context::new(own, source),
             place: Place {
                 datagram: index,
@@ -78,18 +79,18 @@ impl<'a> Outcomes<'a> {
         ensures before { (next : OutcomeView) (others : List OutcomeView) →
             self.now.left ≡ next ∷ others → result ≡ None }
     {
-        self.submessages.fault()
+        Submessages::new(self.rest).fault()
     }
 
     /// As `next`, for who needs the event alone: the submessage is read straight into it.
     pub(crate) fn next_event(&mut self) -> Option<Result<Event<'a>, Reason>>
         ensures { YieldsEvent self.old result self.new }
     {
-        let raw = self.submessages.front().ok()??;
+        let raw = read_front(self.rest).ok()??;
         let place = next_place(self.place);
         let event = self.context.take(place, &raw)?;
         self.place = place;
-        self.submessages = Submessages::new(raw.rest);
+        self.rest = raw.rest;
         Some(event)
     }
 }
@@ -102,12 +103,12 @@ impl<'a> Iterator for Outcomes<'a> {
     ghost remaining = { item_count (λ o. o.left) };
 
     fn next(&mut self) -> Option<Outcome<'a>> {
-        let raw = self.submessages.front().ok()??;
+        let raw = read_front(self.rest).ok()??;
         let parts = raw.parts()?;
         let place = next_place(self.place);
         let event = self.context.take(place, &raw)?;
         self.place = place;
-        self.submessages = Submessages::new(raw.rest);
+        self.rest = raw.rest;
         Some(Outcome {
             place,
             submessage: Submessage {

@@ -8,7 +8,7 @@ use Rattle.rtps_wire.specs.declared.submessage.SubmessageFault.TheVariants.{Rest
 use Rattle.rtps_wire.specs.Cuts.{AreFirst, IsLast}
 use Rattle.rtps_wire.specs.Fields.{endian_of}
 use Rattle.rtps_wire.specs.Message.{IsReading}
-use Rattle.rtps_wire.specs.Reading.{Reading, front_of, item_of, reading, runs_to_end}
+use Rattle.rtps_wire.specs.Reading.{Reading, front_of, item_of, raw_front, reading, runs_to_end}
 use Rattle.rtps_wire.specs.Submessage.{PartsView, Item, parts_of}
 use Rattle.rtps_wire.proofs.Grammar.{one_reading}
 use Rattle.rtps_wire.proofs.Steps.{reading_end, reading_fault, reading_item}
@@ -21,7 +21,7 @@ unfolding items_of
 fault_items octets f h = ap (λ (r : Reading). r.items) (reading_fault octets f h)
 
 nothing_items : items_of [] ≡ []
-unfolding items_of front_of
+unfolding items_of raw_front
 nothing_items = ap (λ (r : Reading). r.items) (reading_end [] refl)
 
 pub item_items : (octets rest : List ℕ) (i : Item) → front_of octets ≡ Ok (Some (i, rest)) → items_of octets ≡ i ∷ items_of rest
@@ -30,7 +30,7 @@ item_items octets rest i h = ap (λ (r : Reading). r.items) (reading_item octets
 
 -- fewer than four octets are no submessage
 short_items : (octets : List ℕ) → length octets < 4 → items_of octets ≡ []
-unfolding front_of
+unfolding raw_front
 short_items [] h = nothing_items
 short_items (x ∷ []) h = fault_items (x ∷ []) Rest refl
 short_items (x ∷ y ∷ []) h = fault_items (x ∷ y ∷ []) Rest refl
@@ -69,7 +69,7 @@ to_end id flags a b body whole (Some c) r h =
     }
 
 front_to_end : (id flags a b : ℕ) (body : List ℕ) → runs_to_end id (number (endian_of flags) 2 (a ∷ b ∷ [])) ≡ true → front_of (id ∷ flags ∷ a ∷ b ∷ body) ≡ item_of id flags (parts_of id flags body) []
-unfolding front_of
+unfolding raw_front
 front_to_end id flags a b body r =
     let test : ltb (length body) (length body) ≡ false = le-ltb _ _ (omega arith) in
     rw (r, test, take_all (length body) body (omega arith), drop_all (length body) body (omega arith)) refl
@@ -77,13 +77,13 @@ front_to_end id flags a b body r =
 -- ---- a submessage with a length
 
 front_long : (id flags a b : ℕ) (more : List ℕ) → runs_to_end id (number (endian_of flags) 2 (a ∷ b ∷ [])) ≡ false → length more < number (endian_of flags) 2 (a ∷ b ∷ []) → front_of (id ∷ flags ∷ a ∷ b ∷ more) ≡ Err Length
-unfolding front_of
+unfolding raw_front
 front_long id flags a b more r h =
     let test : ltb (length more) (number (endian_of flags) 2 (a ∷ b ∷ [])) ≡ true = lt-ltb _ _ h in
     rw (r, test) refl
 
 front_stated : (id flags a b : ℕ) (more : List ℕ) → runs_to_end id (number (endian_of flags) 2 (a ∷ b ∷ [])) ≡ false → number (endian_of flags) 2 (a ∷ b ∷ []) ≤ length more → front_of (id ∷ flags ∷ a ∷ b ∷ more) ≡ item_of id flags (parts_of id flags (take (number (endian_of flags) 2 (a ∷ b ∷ [])) more)) (drop (number (endian_of flags) 2 (a ∷ b ∷ [])) more)
-unfolding front_of
+unfolding raw_front
 front_stated id flags a b more r h =
     let test : ltb (length more) (number (endian_of flags) 2 (a ∷ b ∷ [])) ≡ false = le-ltb _ _ h in
     rw (r, test) refl

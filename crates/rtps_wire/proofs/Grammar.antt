@@ -9,28 +9,28 @@ use Rattle.rtps_wire.specs.declared.submessage.SubmessageFault.{SubmessageFault}
 use Rattle.rtps_wire.specs.declared.submessage.SubmessageFault.TheVariants.{Rest, Length, Invalid}
 use Rattle.rtps_wire.specs.Fields.{endian_of}
 use Rattle.rtps_wire.specs.Submessage.{PartsView, Item, parts_of}
-use Rattle.rtps_wire.specs.Reading.{Read, Reading, body_length, body_of, front_of, item_of, reading, runs_to_end}
+use Rattle.rtps_wire.specs.Reading.{Raw, Read, Reading, body_length, front_of, item_of, raw_front, raw_of, reading, runs_to_end, with_body}
 use Rattle.rtps_wire.specs.Message.{IsFramed, IsBefore, IsTooLong, EndsWith, IsReading}
 use Rattle.rtps_wire.proofs.Steps.{by_rest, reading_goes_on, reading_item, reading_end, reading_fault, front_shortens}
 
 -- ---- from the grammar to the front
 
-body_to_end : (id flags n : ℕ) (body : List ℕ) → runs_to_end id n ≡ true → body_of id flags (body_length id n (length (body ++ []))) (body ++ []) ≡ item_of id flags (parts_of id flags body) []
+body_to_end : (id flags n : ℕ) (body : List ℕ) → runs_to_end id n ≡ true → with_body (raw_of id flags (body_length id n (length (body ++ []))) (body ++ [])) ≡ item_of id flags (parts_of id flags body) []
 body_to_end id flags n body e =
     let fits : ltb (length body) (length body) ≡ false = le-ltb _ _ (omega arith) in
     rw (e, append-nil body, fits, take_all (length body) body (omega arith), drop_all (length body) body (omega arith)) refl
 
-body_stated : (id flags : ℕ) (body rest : List ℕ) → runs_to_end id (length body) ≡ false → body_of id flags (body_length id (length body) (length (body ++ rest))) (body ++ rest) ≡ item_of id flags (parts_of id flags body) rest
+body_stated : (id flags : ℕ) (body rest : List ℕ) → runs_to_end id (length body) ≡ false → with_body (raw_of id flags (body_length id (length body) (length (body ++ rest))) (body ++ rest)) ≡ item_of id flags (parts_of id flags body) rest
 body_stated id flags body rest e =
     let fits : ltb (length (body ++ rest)) (length body) ≡ false = le-ltb _ _ (omega (arith, length-append body rest)) in
     rw (e, fits, take_at body rest (length body) refl, drop_at body rest (length body) refl) refl
 
-framed_body : (id flags n : ℕ) (body rest : List ℕ) (b : Bool) → runs_to_end id n ≡ b → MatchBool b (rest ≡ []) (length body ≡ n) → body_of id flags (body_length id n (length (body ++ rest))) (body ++ rest) ≡ item_of id flags (parts_of id flags body) rest
+framed_body : (id flags n : ℕ) (body rest : List ℕ) (b : Bool) → runs_to_end id n ≡ b → MatchBool b (rest ≡ []) (length body ≡ n) → with_body (raw_of id flags (body_length id n (length (body ++ rest))) (body ++ rest)) ≡ item_of id flags (parts_of id flags body) rest
 framed_body id flags n body rest true e h = rw h (body_to_end id flags n body e)
 framed_body id flags n body rest false e h = rw (← h) (body_stated id flags body rest (ap (runs_to_end id) h ∙ e))
 
 framed_front : (id flags : ℕ) (octets body rest : List ℕ) → IsFramed id flags octets body rest → front_of octets ≡ item_of id flags (parts_of id flags body) rest
-unfolding front_of
+unfolding raw_front
 framed_front id flags octets body rest f =
     let n = number (endian_of flags) 2 (f.third ∷ f.fourth ∷ []) in
     let at_front : front_of (id ∷ flags ∷ f.third ∷ f.fourth ∷ (body ++ rest)) ≡ item_of id flags (parts_of id flags body) rest = framed_body id flags n body rest (runs_to_end id n) refl f.size in
@@ -40,7 +40,7 @@ is_stated : (id n m : ℕ) → m < n → runs_to_end id n ≡ false
 is_stated id n m h = grind (arith, common_steps)
 
 too_long_front : (octets : List ℕ) → IsTooLong octets → front_of octets ≡ Err Length
-unfolding front_of
+unfolding raw_front
 too_long_front octets t =
     let n = number (endian_of t.flags) 2 (t.third ∷ t.fourth ∷ []) in
     let stated : runs_to_end t.id n ≡ false = is_stated t.id n (length t.more) t.size in
@@ -49,7 +49,7 @@ too_long_front octets t =
     ap front_of t.text ∙ at_front
 
 rest_front : (octets : List ℕ) → 0 < length octets → length octets < 4 → front_of octets ≡ Err Rest
-unfolding front_of
+unfolding raw_front
 rest_front [] a b = absurd (omega arith)
 rest_front (x ∷ []) a b = refl
 rest_front (x ∷ y ∷ []) a b = refl
@@ -57,7 +57,7 @@ rest_front (x ∷ y ∷ z ∷ []) a b = refl
 rest_front (x ∷ y ∷ z ∷ w ∷ more) a b = absurd (omega arith)
 
 nothing_front : (octets : List ℕ) → octets ≡ [] → front_of octets ≡ Ok None
-unfolding front_of
+unfolding raw_front
 nothing_front octets e = rw e refl
 
 pub before_front : (i : Item) (octets rest : List ℕ) → IsBefore i octets rest → front_of octets ≡ Ok (Some (i, rest))
@@ -94,7 +94,7 @@ item_shows : (id flags : ℕ) (octets body rest : List ℕ) (o : Option PartsVie
 item_shows id flags octets body rest None f e = record { id = id; flags = flags; body = body; rest = rest; framed = f; invalid = e }
 item_shows id flags octets body rest (Some c) f e = record { body = body; framed = f; valid = e }
 
-body_shows : (id flags third fourth : ℕ) (more : List ℕ) → Shows (id ∷ flags ∷ third ∷ fourth ∷ more) (body_of id flags (body_length id (number (endian_of flags) 2 (third ∷ fourth ∷ [])) (length more)) more)
+body_shows : (id flags third fourth : ℕ) (more : List ℕ) → Shows (id ∷ flags ∷ third ∷ fourth ∷ more) (with_body (raw_of id flags (body_length id (number (endian_of flags) 2 (third ∷ fourth ∷ [])) (length more)) more))
 body_shows id flags third fourth more =
     let n = number (endian_of flags) 2 (third ∷ fourth ∷ []) in
     let len = body_length id n (length more) in
@@ -116,7 +116,7 @@ body_shows id flags third fourth more =
     ]
 
 front_shows : (octets : List ℕ) → Shows octets (front_of octets)
-unfolding front_of
+unfolding raw_front
 front_shows [] = refl
 front_shows (x ∷ []) = (omega arith, omega arith)
 front_shows (x ∷ y ∷ []) = (omega arith, omega arith)

@@ -6,8 +6,7 @@ use Rattle.rtps_types.specs.Field.{number}
 use Rattle.rtps_wire.specs.declared.submessage.SubmessageFault.{SubmessageFault}
 use Rattle.rtps_wire.specs.declared.submessage.SubmessageFault.TheVariants.{Length}
 use Rattle.rtps_wire.specs.Fields.{endian_of}
-use Rattle.rtps_wire.specs.declared.raw.RawSubmessage.{RawSubmessage}
-use Rattle.rtps_wire.specs.Reading.{Read, Reading, body_length, body_of, front_of, go_on, item_of, reading, reading_behind, reading_from, seen}
+use Rattle.rtps_wire.specs.Reading.{Raw, Read, Reading, body_length, front_of, go_on, item_of, raw_front, raw_of, reading, reading_behind, reading_from, with_body}
 use Rattle.rtps_wire.specs.Submessage.{PartsView, Item, parts_of}
 
 item_leaves : (id flags : ℕ) (o : Option PartsView) (after : List ℕ) (i : Item) (rest : List ℕ) → item_of id flags o after ≡ Ok (Some (i, rest)) → after ≡ rest
@@ -16,12 +15,22 @@ item_leaves id flags (Some x) after i rest h =
     let same : (record { id = id; flags = flags; content = x }, after) ≡ (i, rest) = cc in
     ap (λ (p : Item × List ℕ). p.1) same
 
-body_leaves : (id flags len : ℕ) (octets : List ℕ) (i : Item) (rest : List ℕ) → body_of id flags len octets ≡ Ok (Some (i, rest)) → length rest ≤ length octets
-body_leaves id flags len octets i rest h = grind (arith, common_steps, length-drop, item_leaves)
+some_leaves : (raw : Raw) (i : Item) (rest : List ℕ) → with_body (Ok (Some raw)) ≡ Ok (Some (i, rest)) → raw.rest ≡ rest
+some_leaves raw i rest h = item_leaves raw.id raw.flags (parts_of raw.id raw.flags raw.body) raw.rest i rest h
+
+cut_leaves : (b : Bool) (raw : Raw) (i : Item) (rest : List ℕ) → with_body (cond b (Err Length) (Ok (Some raw))) ≡ Ok (Some (i, rest)) → raw.rest ≡ rest
+cut_leaves true raw i rest h = absurd cc
+cut_leaves false raw i rest h = some_leaves raw i rest h
+
+body_leaves : (id flags len : ℕ) (octets : List ℕ) (i : Item) (rest : List ℕ) → with_body (raw_of id flags len octets) ≡ Ok (Some (i, rest)) → length rest ≤ length octets
+body_leaves id flags len octets i rest h =
+    let raw : Raw = record { id = id; flags = flags; body = take len octets; rest = drop len octets } in
+    let same : drop len octets ≡ rest = cut_leaves (ltb (length octets) len) raw i rest h in
+    rw (← same) (omega (arith, length-drop len octets))
 
 -- what was taken from the front leaves less
 pub front_shortens : (octets : List ℕ) (i : Item) (rest : List ℕ) → front_of octets ≡ Ok (Some (i, rest)) → length rest < length octets
-unfolding front_of
+unfolding raw_front
 front_shortens [] i rest h = absurd cc
 front_shortens (id ∷ []) i rest h = absurd cc
 front_shortens (id ∷ flags ∷ []) i rest h = absurd cc
@@ -47,17 +56,21 @@ item_rest : (id flags : ℕ) (o : Option PartsView) (after : List ℕ) (others :
 item_rest id flags None after others = refl
 item_rest id flags (Some c) after others = refl
 
-long_or_not : (b : Bool) (id flags : ℕ) (o : Option PartsView) (after : List ℕ) (others : List ℕ → Reading) → go_on (cond b (Err Length) (item_of id flags o after)) (others after) ≡ by_rest (cond b (Err Length) (item_of id flags o after)) others
-long_or_not true id flags o after others = refl
-long_or_not false id flags o after others = item_rest id flags o after others
+raw_rest : (raw : Raw) (others : List ℕ → Reading) → go_on (with_body (Ok (Some raw))) (others raw.rest) ≡ by_rest (with_body (Ok (Some raw))) others
+raw_rest raw others = item_rest raw.id raw.flags (parts_of raw.id raw.flags raw.body) raw.rest others
+
+long_or_not : (b : Bool) (raw : Raw) (others : List ℕ → Reading) → go_on (with_body (cond b (Err Length) (Ok (Some raw)))) (others raw.rest) ≡ by_rest (with_body (cond b (Err Length) (Ok (Some raw)))) others
+long_or_not true raw others = refl
+long_or_not false raw others = raw_rest raw others
 
 -- a body leaves what is after it
-body_rest : (id flags len : ℕ) (rest : List ℕ) (others : List ℕ → Reading) → go_on (body_of id flags len rest) (others (drop len rest)) ≡ by_rest (body_of id flags len rest) others
-body_rest id flags len rest others = long_or_not (ltb (length rest) len) id flags (parts_of id flags (take len rest)) (drop len rest) others
+body_rest : (id flags len : ℕ) (rest : List ℕ) (others : List ℕ → Reading) → go_on (with_body (raw_of id flags len rest)) (others (drop len rest)) ≡ by_rest (with_body (raw_of id flags len rest)) others
+body_rest id flags len rest others =
+    long_or_not (ltb (length rest) len) (record { id = id; flags = flags; body = take len rest; rest = drop len rest }) others
 
 -- the reading, by what is at the front
 pub reading_goes_on : (octets : List ℕ) → reading octets ≡ by_rest (front_of octets) reading
-unfolding reading_behind front_of
+unfolding reading_behind raw_front
 reading_goes_on [] = refl
 reading_goes_on (a ∷ []) = refl
 reading_goes_on (a ∷ b ∷ []) = refl
@@ -75,14 +88,14 @@ reading_end octets h = reading_goes_on octets ∙ rw h refl
 pub reading_fault : (octets : List ℕ) (f : SubmessageFault) → front_of octets ≡ Err f → reading octets ≡ record { items = []; fault = Some f }
 reading_fault octets f h = reading_goes_on octets ∙ rw h refl
 
-from_seen : (r : Result (Option RawSubmessage) SubmessageFault) → by_rest (seen r) reading ≡ reading_from r
-from_seen (Ok (Some raw)) = sym (item_rest raw.id raw.flags (parts_of raw.id raw.flags raw.body.now) raw.rest.now reading)
-from_seen (Ok None) = refl
-from_seen (Err f) = refl
+by_raw : (r : Result (Option Raw) SubmessageFault) → by_rest (with_body r) reading ≡ reading_from r
+by_raw (Ok (Some raw)) = sym (raw_rest raw reading)
+by_raw (Ok None) = refl
+by_raw (Err f) = refl
 
 -- the reading, by the submessage at the front before its body is read
-pub reading_with : (octets : List ℕ) (r : Result (Option RawSubmessage) SubmessageFault) → seen r ≡ front_of octets → reading octets ≡ reading_from r
-reading_with octets r h = reading_goes_on octets ∙ ap (λ (f : Read). by_rest f reading) (sym h) ∙ from_seen r
+pub reading_with : (octets : List ℕ) (r : Result (Option Raw) SubmessageFault) → r ≡ raw_front octets → reading octets ≡ reading_from r
+reading_with octets r h = reading_goes_on octets ∙ ap (λ (f : Result (Option Raw) SubmessageFault). by_rest (with_body f) reading) (sym h) ∙ by_raw r
 
 few_by_rest : (f : Read) (m : ℕ) → ((i : Item) (rest : List ℕ) → f ≡ Ok (Some (i, rest)) → length (reading rest).items < m) → length (by_rest f reading).items ≤ m
 few_by_rest (Err x) m h = omega arith

@@ -2,6 +2,7 @@
 -- (DDSI-RTPS 8.3.4.1, 9.4.5.1).
 use Rattle.std.specs.Prelude.{◌≡◌, ℕ, zero, suc, List, [], ◌∷◌, length, take, drop, Option, Some, None, Result, Ok, Err, Bool, not, ◌&&◌, ◌||◌, nat_lt, ◌==◌, if◌then◌else◌}
 use Rattle.std.specs.Iterator.{YieldsFirstBy}
+use Rattle.std.specs.Option.{option_map}
 use Rattle.rtps_types.specs.Field.{number}
 use Rattle.rtps_wire.specs.declared.submessage.Submessage.{Submessage}
 use Rattle.rtps_wire.specs.declared.submessage.SubmessageFault.{SubmessageFault}
@@ -18,6 +19,28 @@ runs_to_end id stated = stated == 0 && not (id == 0x01 || id == 0x09)
 abbrev pub body_length : ℕ → ℕ → ℕ → ℕ
 body_length id stated left = if runs_to_end id stated then left else stated
 
+-- a submessage before its body is read: its header, its body, and the octets after it
+pub record Raw : Type 0 where
+  pub id : ℕ
+  pub flags : ℕ
+  pub body : List ℕ
+  pub rest : List ℕ
+
+-- a submessage with a body of this length, if there are enough octets
+abbrev pub raw_of : ℕ → ℕ → ℕ → List ℕ → Result (Option Raw) SubmessageFault
+raw_of id flags len rest =
+    if nat_lt (length rest) len then Err Length
+    else Ok (Some (record { id = id; flags = flags; body = take len rest; rest = drop len rest }))
+
+-- the first submessage before its body is read, by the four octets of its header; or the end
+unfoldable pub raw_front : List ℕ → Result (Option Raw) SubmessageFault
+raw_front [] = Ok None
+raw_front (id ∷ []) = Err Rest
+raw_front (id ∷ flags ∷ []) = Err Rest
+raw_front (id ∷ flags ∷ a ∷ []) = Err Rest
+raw_front (id ∷ flags ∷ a ∷ b ∷ rest) =
+    raw_of id flags (body_length id (number (endian_of flags) 2 (a ∷ b ∷ [])) (length rest)) rest
+
 -- the first submessage and the octets after it, or the end
 abbrev pub Read : Type 0
 Read = Result (Option (Item × List ℕ)) SubmessageFault
@@ -27,27 +50,16 @@ abbrev pub item_of : ℕ → ℕ → Option PartsView → List ℕ → Read
 item_of id flags None after = Err Invalid
 item_of id flags (Some c) after = Ok (Some (record { id = id; flags = flags; content = c }, after))
 
--- a submessage with a body of this length, if there are enough octets
-abbrev pub body_of : ℕ → ℕ → ℕ → List ℕ → Read
-body_of id flags len rest =
-    if nat_lt (length rest) len then Err Length
-    else item_of id flags (parts_of id flags (take len rest)) (drop len rest)
+-- the same once its body is read
+abbrev pub with_body : Result (Option Raw) SubmessageFault → Read
+with_body (Ok (Some raw)) =
+    item_of raw.id raw.flags (parts_of raw.id raw.flags raw.body) raw.rest
+with_body (Ok None) = Ok None
+with_body (Err f) = Err f
 
--- the first submessage, by the four octets of its header and its body
-unfoldable pub front_of : List ℕ → Read
-front_of [] = Ok None
-front_of (id ∷ []) = Err Rest
-front_of (id ∷ flags ∷ []) = Err Rest
-front_of (id ∷ flags ∷ a ∷ []) = Err Rest
-front_of (id ∷ flags ∷ a ∷ b ∷ rest) =
-    body_of id flags (body_length id (number (endian_of flags) 2 (a ∷ b ∷ [])) (length rest)) rest
-
--- what the result of the code says: a submessage is there if its body is valid for its kind
-abbrev pub seen : Result (Option RawSubmessage) SubmessageFault → Read
-seen (Ok (Some raw)) =
-    item_of raw.id raw.flags (parts_of raw.id raw.flags raw.body.now) raw.rest.now
-seen (Ok None) = Ok None
-seen (Err f) = Err f
+-- the first submessage
+abbrev pub front_of : List ℕ → Read
+front_of octets = with_body (raw_front octets)
 
 -- the submessages up to the end or to the first fault, and that fault
 pub record Reading : Type 0 where
@@ -69,8 +81,8 @@ reading_behind zero (id ∷ []) = record { items = []; fault = Some Rest }
 reading_behind zero (id ∷ flags ∷ []) = record { items = []; fault = Some Rest }
 reading_behind zero (id ∷ flags ∷ a ∷ []) = record { items = []; fault = Some Rest }
 reading_behind zero (id ∷ flags ∷ a ∷ b ∷ rest) =
-    go_on (body_of id flags
-    (body_length id (number (endian_of flags) 2 (a ∷ b ∷ [])) (length rest)) rest)
+    go_on (with_body (raw_of id flags
+    (body_length id (number (endian_of flags) 2 (a ∷ b ∷ [])) (length rest)) rest))
     (reading_behind
     (body_length id (number (endian_of flags) 2 (a ∷ b ∷ [])) (length rest)) rest)
 
@@ -78,11 +90,19 @@ reading_behind zero (id ∷ flags ∷ a ∷ b ∷ rest) =
 abbrev pub reading : List ℕ → Reading
 reading octets = reading_behind 0 octets
 
+-- what the code's submessage shows
+abbrev pub raw_view : RawSubmessage → Raw
+raw_view raw =
+    record { id = raw.id; flags = raw.flags; body = raw.body.now; rest = raw.rest.now }
+
+-- what the code's result shows
+abbrev pub raw_seen : Result (Option RawSubmessage) SubmessageFault → Result (Option Raw) SubmessageFault
+raw_seen (Ok raw) = Ok (option_map raw_view raw)
+raw_seen (Err f) = Err f
+
 -- the reading whose first submessage is this one, before its body is read
-abbrev pub reading_from : Result (Option RawSubmessage) SubmessageFault → Reading
-reading_from (Ok (Some raw)) =
-    go_on (item_of raw.id raw.flags (parts_of raw.id raw.flags raw.body.now) raw.rest.now)
-    (reading raw.rest.now)
+abbrev pub reading_from : Result (Option Raw) SubmessageFault → Reading
+reading_from (Ok (Some raw)) = go_on (with_body (Ok (Some raw))) (reading raw.rest)
 reading_from (Ok None) = record { items = []; fault = None }
 reading_from (Err f) = record { items = []; fault = Some f }
 

@@ -32,6 +32,6 @@ pub use heartbeat_frag::HeartbeatFrag;
 pub use info_src::InfoSource;
 pub use message_header::{Header, HeaderFault, read_header as header};
 pub use nack_frag::{NackFrag, write_nack_frag};
-pub use raw::RawSubmessage;
+pub use raw::{RawSubmessage, read_front};
 pub use submessage::{Parts, Submessage, SubmessageFault};
 pub use submessages::Submessages;

@@ -1,6 +1,6 @@
 //! Submessages before their bodies are read (DDSI-RTPS 8.3.4.1, 9.4.5.1).
 
-ghost use Rattle.std.specs.Prelude.{◌≡◌};
+ghost use Rattle.std.specs.Prelude.{◌≡◌, ◌<◌, IfOk, IfSome, length};
 ghost use Rattle.std.specs.Option.{option_map};
 ghost use Rattle.rtps_wire.specs.Data.{data_of, data_view};
 ghost use Rattle.rtps_wire.specs.DataFrag.{data_frag_of, frag_view};
@@ -9,6 +9,7 @@ ghost use Rattle.rtps_wire.specs.Gap.{gap_of, gap_view};
 ghost use Rattle.rtps_wire.specs.Heartbeat.{heartbeat_of};
 ghost use Rattle.rtps_wire.specs.HeartbeatFrag.{heartbeat_frag_of};
 ghost use Rattle.rtps_wire.specs.Info.{source_of, time_of};
+ghost use Rattle.rtps_wire.specs.Reading.{raw_front, raw_seen, reading, reading_from};
 ghost use Rattle.rtps_wire.specs.Submessage.{parts_of, parts_view};
 
 use crate::data::{Data, read_data};
@@ -19,8 +20,9 @@ use crate::heartbeat::{Heartbeat, read_heartbeat};
 use crate::heartbeat_frag::{HeartbeatFrag, read_heartbeat_frag};
 use crate::info_src::{InfoSource, read_info_src};
 use crate::info_ts::read_info_ts;
-use crate::submessage::{Parts, read_parts};
-use rtps_types::{GuidPrefix, Timestamp};
+use crate::kinds::{INFO_TS, PAD};
+use crate::submessage::{Parts, SubmessageFault, read_parts};
+use rtps_types::{GuidPrefix, Timestamp, get_u16};
 
 /// A submessage whose body isn't read yet, and may be invalid for its kind. It is for who reads only
 /// some kinds, and each straight into a type of its own: [`Submessage`](crate::Submessage) is moved
@@ -121,4 +123,55 @@ impl<'a> RawSubmessage<'a> {
     {
         get_prefix(self.body, 0)
     }
+}
+
+/// Returns the submessage at the front of the octets after a message's header, before its body is
+/// read, or `None` if there are none; `Rest` where fewer than four are left, and `Length` where the
+/// submessage is longer than what is left (DDSI-RTPS 8.3.4.1, 9.4.5.1). `Invalid` is left to who
+/// reads the body: the message is read up to the first body that is invalid for its kind.
+#[inline]
+#[tactic(auto, using(crate::proofs::Steps::reading_with))]
+pub fn read_front(octets: &[u8]) -> Result<Option<RawSubmessage<'_>>, SubmessageFault>
+    ensures front { raw_seen result ≡ raw_front octets.now }
+    // The reading of the octets is this submessage, if its body is valid, and then what follows it.
+    ensures reading { reading octets.now ≡ reading_from (raw_seen result) }
+    ensures shorter { IfOk result (λ front. IfSome front (λ raw.
+        length raw.rest.now < length octets.now)) }
+{
+    split_front(octets)
+}
+
+/// Splits the submessage at the front from the octets after it.
+#[inline]
+#[tactic(auto, unfolding(crate::specs::Reading::raw_front))]
+fn split_front(octets: &[u8]) -> Result<Option<RawSubmessage<'_>>, SubmessageFault>
+    ensures front { raw_seen result ≡ raw_front octets.now }
+    ensures shorter { IfOk result (λ front. IfSome front (λ raw.
+        length raw.rest.now < length octets.now)) }
+{
+    let [id, flags, _, _, others @ ..] = octets else {
+        return if octets.is_empty() {
+            Ok(None)
+        } else {
+            Err(SubmessageFault::Rest)
+        };
+    };
+    let (id, flags) = (*id, *flags);
+    let Some(length) = get_u16(octets, 2, endian_at(flags)) else {
+        return Err(SubmessageFault::Rest);
+    };
+    let length = match length {
+        0 if id != PAD && id != INFO_TS => others.len(),
+        stated => usize::from(stated),
+    };
+    if others.len() < length {
+        return Err(SubmessageFault::Length);
+    }
+    let (body, rest) = others.split_at(length);
+    Ok(Some(RawSubmessage {
+        id,
+        flags,
+        body,
+        rest,
+    }))
 }

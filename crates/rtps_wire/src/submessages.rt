@@ -4,48 +4,12 @@ ghost use Rattle.std.specs.Prelude.{◌≡◌, ◌≤◌, List, Option, None, []
 ghost use Rattle.std.specs.Iterator.{item_count};
 ghost use Rattle.rtps_wire.specs.declared.submessage.SubmessageFault.{SubmessageFault};
 ghost use Rattle.rtps_wire.specs.Message.{IsReading};
-ghost use Rattle.rtps_wire.specs.Reading.{Reading, Takes, front_of, reading, reading_from, seen};
+ghost use Rattle.rtps_wire.specs.Reading.{Reading, Takes, reading};
 ghost use Rattle.rtps_wire.specs.Submessage.{Item};
 
-use crate::fields::endian_at;
-use crate::kinds::{INFO_TS, PAD};
-use crate::raw::RawSubmessage;
+use crate::raw::read_front;
 use crate::submessage::{Submessage, SubmessageFault};
-use rtps_types::get_u16;
 use std::marker::Model;
-
-/// Returns the submessage at the front, before its body is read, or `None` at the end.
-#[inline]
-#[tactic(auto, unfolding(crate::specs::Reading::front_of))]
-fn read_front(octets: &[u8]) -> Result<Option<RawSubmessage<'_>>, SubmessageFault>
-    ensures { seen result ≡ front_of octets.now }
-{
-    let [id, flags, _, _, others @ ..] = octets else {
-        return if octets.is_empty() {
-            Ok(None)
-        } else {
-            Err(SubmessageFault::Rest)
-        };
-    };
-    let (id, flags) = (*id, *flags);
-    let Some(length) = get_u16(octets, 2, endian_at(flags)) else {
-        return Err(SubmessageFault::Rest);
-    };
-    let length = match length {
-        0 if id != PAD && id != INFO_TS => others.len(),
-        stated => usize::from(stated),
-    };
-    if others.len() < length {
-        return Err(SubmessageFault::Length);
-    }
-    let (body, rest) = others.split_at(length);
-    Ok(Some(RawSubmessage {
-        id,
-        flags,
-        body,
-        rest,
-    }))
-}
 
 /// An iterator over the valid submessages after a message's header, in order, up to the first
 /// invalid one (DDSI-RTPS 8.3.4.1). No memory is taken.
@@ -72,17 +36,6 @@ impl<'a> Submessages<'a> {
         ensures few { length result.items ≤ length octets.now }
     {
         Submessages { rest: octets }
-    }
-
-    /// Returns the submessage at the front, before its body is read, or `None` at the end; an error
-    /// says why there is none. It is as `next` for who reads bodies himself, and takes nothing: if
-    /// the body is valid, the others are the submessages in `rest`, and else reading ends here.
-    #[inline]
-    #[tactic(auto, using(crate::proofs::Steps::reading_with))]
-    pub fn front(&self) -> Result<Option<RawSubmessage<'a>>, SubmessageFault>
-        ensures { self.now ≡ reading_from result }
-    {
-        read_front(self.rest)
     }
 
     /// Returns why reading stopped, or `None` if it reached the end. It is meant to be called once

@@ -13,7 +13,7 @@ const OCTETS: &[u8] = b"\x09\x03\x00\x00\
 
 #[test]
 fn a_body_is_read_by_the_function_of_its_kind(rt: HostRuntime) -> Result<(), Fail> {
-    let Ok(Some(time)) = Submessages::new(OCTETS).front() else {
+    let Ok(Some(time)) = read_front(OCTETS) else {
         return Err("no INFO_TS".into());
     };
     assert_eq!(rt;
@@ -22,19 +22,21 @@ fn a_body_is_read_by_the_function_of_its_kind(rt: HostRuntime) -> Result<(), Fai
     );
     assert_eq!(rt; time.info_timestamp(), Some(None));
     assert!(rt; time.info_destination().is_none() && time.info_source().is_none());
-    let Ok(Some(destination)) = Submessages::new(time.rest).front() else {
+    let Ok(Some(destination)) = read_front(time.rest) else {
         return Err("no INFO_DST".into());
     };
     assert_eq!(rt; destination.info_destination(), Some(PREFIX));
     assert!(rt; destination.gap().is_none() && destination.data().is_none());
     assert!(rt; destination.heartbeat_frag().is_none() && destination.data_frag().is_none());
-    let Ok(Some(heartbeat)) = Submessages::new(destination.rest).front() else {
+    let Ok(Some(heartbeat)) = read_front(destination.rest) else {
         return Err("no HEARTBEAT".into());
     };
     assert_eq!(rt; (heartbeat.id, heartbeat.body.len()), (kinds::HEARTBEAT, 4));
     assert!(rt; heartbeat.heartbeat().is_none() && heartbeat.parts().is_none());
-    let left = Submessages::new(heartbeat.rest);
-    assert_eq!(rt; left.front().err(), Some(SubmessageFault::Rest));
-    assert!(rt; matches!(Submessages::new(&[]).front(), Ok(None)));
+    assert_eq!(rt;
+        read_front(heartbeat.rest).err(),
+        Some(SubmessageFault::Rest)
+    );
+    assert!(rt; matches!(read_front(&[]), Ok(None)));
     Ok(())
 }
