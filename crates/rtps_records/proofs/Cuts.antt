@@ -2,7 +2,7 @@
 -- them.
 use Rattle.std.proofs.Common.{◌≡◌, ℕ, suc, ◌≤◌, List, [], ◌∷◌, ◌++◌, arith, refl, length, take, drop, map, sum, Option, None, Some, sym, ap, subst, ◌∙◌, take-append-drop}
 use Rattle.std.specs.Prelude.{option_map, option_to_list}
-use Rattle.std.proofs.lemmas.List.{drop-append-le, take-append-le, drop-drop, length-drop, length-take}
+use Rattle.std.proofs.lemmas.List.{drop-append-le, take-append-le, drop-drop, length-drop, length-take, take_all}
 use Rattle.std.proofs.lemmas.List.Sums.{sum_by-cons}
 use Rattle.std.proofs.Math.Seq.{take-append_seam}
 use Rattle.rtps_records.specs.Cuts.{cut}
@@ -56,6 +56,15 @@ cut_more (q ∷ ps) p xs =
     ap (λ l. Datagram q.moment (take q.length xs) ∷ l) (cut_more ps p (drop q.length xs)
     ∙ ap (λ l. cut ps (drop q.length xs) ++ Datagram p.moment (take p.length l) ∷ []) (drop-drop (covered ps) q.length xs
     ∙ ap (λ k. drop k xs) (sym (sum_by-cons (λ x. x) q.length (map (λ r. r.length) ps)))))
+
+-- the octets of a batch were lengthened
+pub lengthened : {A : Type 0} (b : Batch A) (n : ℕ) (zeros new : List ℕ) → new ≡ take n b.octets.items ++ zeros → b.octets.len ≤ n → b.octets.len ≡ length b.octets.items
+    → held b.tick b.pieces.items new ≡ held b.tick b.pieces.items b.octets.items
+lengthened b n zeros new is more len =
+    let all : take n b.octets.items ≡ b.octets.items = take_all n b.octets.items (omega (arith, len)) in
+    let front : cut b.pieces.items (b.octets.items ++ zeros) ≡ cut b.pieces.items b.octets.items = cut_front b.pieces.items b.octets.items zeros (omega (arith, b.counted, b.within, len)) in
+    ap (λ l. option_to_list (option_map Tick b.tick) ++ l)
+    (ap (cut b.pieces.items) (is ∙ ap (λ l. l ++ zeros) all) ∙ front)
 
 -- octets after the datagrams are written anew
 pub cut_anew : (ps : List Piece) (xs ys : List ℕ) (used : ℕ) → used ≡ covered ps → used ≤ length xs → used ≤ length ys

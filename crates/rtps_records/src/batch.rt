@@ -11,7 +11,8 @@ pub const MAX_LEN: usize = 65_507;
 /// The number of octets of datagrams that a batch has room for.
 pub(crate) const ROOM: usize = 1_048_576;
 
-/// A buffer of 1 MiB for the records of a batch, and the records in it: datagrams, or one tick.
+/// A buffer for the records of a batch, and the records in it: datagrams, or one tick. It grows up
+/// to 1 MiB as records need it.
 #[derive(Drop)]
 pub struct Batch<A: Allocator = Global> {
     /// The octets of the datagrams, one datagram after the other, followed by free room.
@@ -22,8 +23,8 @@ pub struct Batch<A: Allocator = Global> {
     pub(crate) used: usize,
     /// The moment of the tick, in milliseconds, if the batch is one.
     pub(crate) tick: Option<u64>,
-    ghost room: { vec_len octets ≡ 1048576 },
+    ghost room: { vec_len octets ≤ 1048576 },
     ghost counted: { used ≡ sum (map (λ p. p.length) pieces.items) },
-    ghost within: { used ≤ 1048576 },
+    ghost within: { used ≤ vec_len octets },
     ghost alone: { IsSome tick → pieces.items ≡ [] },
 }

@@ -1,6 +1,6 @@
 //! The records that a batch holds.
 
-ghost use Rattle.std.specs.Prelude.{◌≡◌, ◌+◌, ◌<◌, ◌≤◌, ◌↔◌, [], ◌∷◌, All, IfErr, IfOk, IsTrue, MatchOption, None, OnErr, drop, false, length, map, take, true, vec_len};
+ghost use Rattle.std.specs.Prelude.{◌≡◌, ◌+◌, ◌<◌, ◌≤◌, ◌↔◌, [], ◌∷◌, All, IfErr, IfOk, IsOk, IsTrue, MatchOption, None, OnErr, OnOk, drop, false, length, map, take, true, vec_len};
 ghost use Rattle.std.specs.Io.KnownBytes.{};
 ghost use Rattle.rtps_records.specs.Batches.{datagrams_in, record_of, records_in};
 ghost use Rattle.rtps_records.specs.Heads.{ReadsHead};
@@ -17,12 +17,8 @@ use rtps_types::Datagram;
 use std::alloc::{AllocError, Allocator};
 use std::io::Read;
 
-/// Returns `count` octets, all zero.
-fn zeros<A: Allocator>(alloc: A, count: usize) -> Result<Vec<u8, A>, AllocError>
-    ensures { IfOk result (λ v. vec_len v ≡ count) }
-{
-    vec![in alloc; 0u8; count]
-}
+/// The buffer of a batch grows by this many octets at a time.
+const STEP: usize = 65_536;
 
 /// Reads the record with this number, counted from 0: the octets of a datagram into `octets` after
 /// the first `used` ones. Returns the rest of the record, or `None` where the file ends.
@@ -46,12 +42,13 @@ fn read_after<R: Read>(
 }
 
 impl<A: Allocator + Copy> Batch<A> {
-    /// Returns an empty batch. An error is a refused growth.
+    /// Returns an empty batch. No memory is taken yet, so there is no error.
     pub fn new(alloc: A) -> Result<Batch<A>, AllocError>
-        ensures { IfOk result (λ b. records_in b ≡ []) }
+        ensures ok { IsOk result }
+        ensures none { IfOk result (λ b. records_in b ≡ []) }
     {
         Ok(Batch {
-            octets: zeros(alloc, ROOM)?,
+            octets: Vec::new(alloc),
             pieces: Vec::new(alloc),
             used: 0,
             tick: None,
@@ -111,10 +108,27 @@ impl<A: Allocator> Batch<A> {
         self.used + MAX_LEN <= ROOM
     }
 
+    /// Lengthens the buffer where it is too short for one more datagram of the greatest length. An
+    /// error is a refused growth. The records stay.
+    #[tactic(auto, using(crate::proofs::Cuts::lengthened))]
+    pub(crate) fn make_room(&mut self) -> Result<(), AllocError>
+        requires room { self.old.used + 65507 ≤ 1048576 }
+        ensures room { OnOk result (self.new.used + 65507 ≤ vec_len self.new.octets) }
+        ensures used { self.new.used ≡ self.old.used }
+        ensures tick { self.new.tick ≡ self.old.tick }
+        ensures same { records_in self.new ≡ records_in self.old }
+    {
+        let needed = self.used + MAX_LEN;
+        if self.octets.len() >= needed {
+            return Ok(());
+        }
+        let length = ((needed / STEP + 1) * STEP).min(ROOM);
+        self.octets.resize(length, 0)
+    }
+
     /// Reads the next record of a file, with this number, counted from 0. A datagram is appended:
     /// [`BatchEnd::More`]. At a tick, at the end of the file or at a fault nothing is appended. An
     /// error is a refused growth, and then nothing is read.
-    #[tactic(auto, unfolding(crate::specs::Steps::ReadsOne))]
     pub(crate) fn read<R: Read>(
         &mut self,
         reader: &mut R,
@@ -122,6 +136,27 @@ impl<A: Allocator> Batch<A> {
         number: u32,
     ) -> Result<BatchEnd, AllocError>
         requires room { self.old.used + 65507 ≤ 1048576 }
+        requires datagrams { self.old.tick ≡ None }
+        ensures datagrams { self.new.tick ≡ None }
+        ensures reads { IfOk result (λ end. ReadsOne format end number
+            (R.remaining reader.old) (R.remaining reader.new)
+            (records_in self.old) (records_in self.new)) }
+        ensures unread { OnErr result (R.remaining reader.new ≡ R.remaining reader.old) }
+        ensures same { OnErr result (records_in self.new ≡ records_in self.old) }
+    {
+        self.make_room()?;
+        self.read_here(reader, format, number)
+    }
+
+    /// The same where the buffer is long enough.
+    #[tactic(auto, unfolding(crate::specs::Steps::ReadsOne))]
+    fn read_here<R: Read>(
+        &mut self,
+        reader: &mut R,
+        format: Format,
+        number: u32,
+    ) -> Result<BatchEnd, AllocError>
+        requires room { self.old.used + 65507 ≤ vec_len self.old.octets }
         requires datagrams { self.old.tick ≡ None }
         ensures datagrams { self.new.tick ≡ None }
         ensures reads { IfOk result (λ end. ReadsOne format end number

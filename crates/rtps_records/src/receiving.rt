@@ -1,6 +1,6 @@
 //! Receiving datagrams into a batch.
 
-ghost use Rattle.std.specs.Prelude.{◌≡◌, ◌+◌, ◌≤◌, ◌∷◌, [], IfOk, IfSome, List, None, OnErr, Option, drop, length, take};
+ghost use Rattle.std.specs.Prelude.{◌≡◌, ◌+◌, ◌≤◌, ◌∷◌, [], IfOk, IfSome, List, None, OnErr, Option, drop, length, take, vec_len};
 ghost use Rattle.rtps_records.specs.Batches.{IsFull, records_in};
 ghost use Rattle.rtps_records.specs.Traffic.{Exhausted, Failed, Grows, Received, ReceivesAll, ReceivesNext, Traffic, last_call};
 ghost use Rattle.rtps_records.specs.declared.receive_end.ReceiveEnd.TheVariants.{More};
@@ -54,13 +54,32 @@ impl<A: Allocator> Batch<A> {
     /// Receives the next datagram, and appends it with this moment: [`ReceiveEnd::More`]. If all
     /// datagrams that came were received, or at a fault, nothing is appended. An error is a refused
     /// growth, and then the source is unchanged.
-    #[tactic(auto, unfolding(crate::specs::Traffic::ReceivesNext))]
     fn receive_next<S: Receive>(
         &mut self,
         source: &mut S,
         moment: u64,
     ) -> Result<ReceiveEnd, AllocError>
         requires room { self.old.used + 65507 ≤ 1048576 }
+        requires datagrams { self.old.tick ≡ None }
+        ensures datagrams { self.new.tick ≡ None }
+        ensures receives { IfOk result (λ end. ReceivesNext end moment
+            (S.traffic source.old) (S.traffic source.new)
+            (records_in self.old) (records_in self.new)) }
+        ensures same_source { OnErr result (source.new ≡ source.old) }
+        ensures same { OnErr result (records_in self.new ≡ records_in self.old) }
+    {
+        self.make_room()?;
+        self.receive_here(source, moment)
+    }
+
+    /// The same where the buffer is long enough.
+    #[tactic(auto, unfolding(crate::specs::Traffic::ReceivesNext))]
+    fn receive_here<S: Receive>(
+        &mut self,
+        source: &mut S,
+        moment: u64,
+    ) -> Result<ReceiveEnd, AllocError>
+        requires room { self.old.used + 65507 ≤ vec_len self.old.octets }
         requires datagrams { self.old.tick ≡ None }
         ensures datagrams { self.new.tick ≡ None }
         ensures receives { IfOk result (λ end. ReceivesNext end moment

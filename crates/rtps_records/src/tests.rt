@@ -432,7 +432,7 @@ fn stops_where_a_growth_is_refused(rt: HostRuntime) -> Result<(), Fail> {
     for (file, text) in files {
         let mut refused = 0;
         for step in 0..60 {
-            let heap = LocalHeap::new(rt.alloc(), 1_048_500 + step * 16)?;
+            let heap = LocalHeap::new(rt.alloc(), 65_460 + step * 16)?;
             let mut out = Vec::new(rt.alloc());
             let mut rest = file;
             let outcome = print_with(&heap, &mut rest, &mut out);
@@ -502,7 +502,7 @@ fn writes_a_part_of_a_long_text_out_of_memory(rt: HostRuntime) -> Result<(), Fai
     let (file, text) = long_file(rt.alloc())?;
     let mut refused = 0;
     for step in 0..20 {
-        let memory = 1_200_000 + step * 16_384;
+        let memory = 217_000 + step * 16_384;
         if !is_written_whole(rt.alloc(), file.as_slice(), text.as_str(), memory)? {
             refused = step;
         }

@@ -1,7 +1,7 @@
 use Rattle.std.proofs.Common.{rules, drop, take}
 use Rattle.rtps_records.specs.Traffic.{ReceivesNext}
 use Rattle.rtps_records.proofs.Cuts.{IsAnew, grown, still}
-use Rattle.rtps_records.proofs.batch.Batch.receive_next.Goals as goal
+use Rattle.rtps_records.proofs.batch.Batch.receive_here.Goals as goal
 
 pub returns-in_ok-push-in-Ok-Some-clause-receives : goal.returns-in_ok-push-in-Ok-Some-clause-receives
 unfolding ReceivesNext

@@ -1,6 +1,6 @@
 use Rattle.std.proofs.Common.{rules}
 use Rattle.rtps_records.proofs.Cuts.{IsAnew, read_datagram, read_end, read_fault, read_tick}
-use Rattle.rtps_records.proofs.batch.Batch.read.Goals as goal
+use Rattle.rtps_records.proofs.batch.Batch.read_here.Goals as goal
 
 pub returns-in_ok-push-in-Ok-Some-Datagram-clause-reads : goal.returns-in_ok-push-in-Ok-Some-Datagram-clause-reads
 returns-in_ok-push-in-Ok-Some-Datagram-clause-reads g c =
