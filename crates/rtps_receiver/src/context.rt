@@ -49,8 +49,8 @@ impl Context {
     /// state isn't changed.
     ///
     /// Each kind is read straight into its event: whatever is moved between them would be written
-    /// once more, in other pieces than it is read in.
-    #[inline]
+    /// once more, in other pieces than it is read in. So it is inlined too, wherever it is called.
+    #[inline(always)]
     #[tactic(auto, unfolding(rtps_wire::specs::Submessage::parts_of))]
     pub(crate) fn take<'a>(
         &mut self,

@@ -66,7 +66,9 @@ pub struct Data<'a> {
 /// The least distance in octets between octetsToInlineQos and the inline QoS.
 const LEAST_OFFSET: usize = 16;
 
-/// Returns the fields of a DATA with these flags, or `None` if the body is invalid.
+/// Returns the fields of a DATA with these flags, or `None` if the body is invalid. It is inlined, so
+/// that they are put straight into what the caller makes of them.
+#[inline(always)]
 #[tactic(auto, unfolding(crate::specs::Data::data_of))]
 pub(crate) fn read_data(flags: u8, endian: Endian, body: &[u8]) -> Option<Data<'_>>
     ensures { option_map data_view result ≡ data_of flags endian body.now }
