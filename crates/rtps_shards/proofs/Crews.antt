@@ -1,52 +1,76 @@
 -- What comes of jobs that are taken off a board, by its owner and by thieves.
-use Rattle.std.proofs.Common.{◌≡◌, ℕ, ◌+◌, ◌<◌, List, [], ◌∷◌, ◌++◌, length, map, slice_index_or, All, Result, Ok, Err, IfOk, OnErr, refl, sym, ap, subst, ◌∙◌, arith, append-nil, append_assoc}
+use Rattle.std.proofs.Common.{◌≡◌, ℕ, zero, suc, ◌+◌, ◌<◌, List, [], ◌∷◌, ◌++◌, length, map, slice_index_or, All, Result, Ok, Err, IfOk, OnErr, refl, sym, ap, subst, ◌∙◌, arith, append-nil, append_assoc}
 use Rattle.std.specs.declared.alloc.Global.{Global}
 use Rattle.std.specs.declared.vec.Vec.{Vec}
+use Rattle.std.specs.List.{AllZip}
 use Rattle.std.specs.List.Sorted.{IsPermutation}
-use Rattle.std.proofs.lemmas.List.{map_push, map-append}
-use Rattle.std.proofs.lemmas.List.Elements.{All-append, All-push}
 use Rattle.std.proofs.lemmas.List.Sorted.{All-permutation, IsPermutation-map, IsPermutation-trans}
 use Rattle.rtps_receiver.specs.Events.{EventView}
 use Rattle.dds_topic.specs.Decoding.{Decoding}
 use Rattle.rtps_shards.specs.Board.{hand}
-use Rattle.rtps_shards.specs.Results.{IsDone, IsReady, Share, rank_in, rank_of}
+use Rattle.rtps_shards.specs.Results.{IsDone, IsReady, IsResultOf, Share, rank_in, rank_of}
 use Rattle.rtps_shards.specs.Ends.{IsNewThiefOf, IsSameBoard, thief_hand}
-use Rattle.rtps_shards.specs.Work.{AreDone, HasDone, HasWorked, HaveAllDone, IsBack, TakesSome, Works}
+use Rattle.rtps_shards.specs.Work.{AreDone, AreResultsOf, HasDone, HasWorked, HaveAllDone, IsBack, TakesSome, Works}
 use Rattle.rtps_shards.specs.declared.board.Board.{Board}
 use Rattle.rtps_shards.specs.declared.board.Hand.{Hand}
 use Rattle.rtps_shards.specs.declared.board.Thief.{Thief}
 use Rattle.rtps_shards.specs.declared.jobs.JobResult.{JobResult}
 use Rattle.rtps_shards.specs.declared.jobs.Posted.{Posted}
 use Rattle.rtps_shards.specs.declared.work.Worked.{Worked}
-use Rattle.rtps_shards.proofs.Together.{all_back, all_front, last_one}
 
 module _ {V M : Type 0} (f : V → M) (decoding : Decoding M) (es : List EventView) where
   pub none_done : AreDone f decoding es [] []
   unfolding AreDone
-  none_done = ((λ shares all k d below. absurd (omega (arith, below))), refl)
+  none_done = tt
+
+  zip_join : (jobs more : List (Posted V)) (results others : List (JobResult V)) → AllZip (IsResultOf f decoding es) jobs results → AllZip (IsResultOf f decoding es) more others
+      → AllZip (IsResultOf f decoding es) (jobs ++ more) (results ++ others)
+  zip_join [] more [] others a b = b
+  zip_join [] more (r ∷ results) others a b = absurd a
+  zip_join (x ∷ jobs) more [] others a b = absurd a
+  zip_join (x ∷ jobs) more (r ∷ results) others a b = (a.0, zip_join jobs more results others a.1 b)
 
   -- one job more is done
-  pub done_more : (jobs : List (Posted V)) (work : Posted V) (results new : List (JobResult V)) (done : JobResult V) → ((shares : ℕ → Share M) → IsReady es shares work → IsDone f decoding shares done)
-      → rank_of done ≡ rank_in work → new ≡ results ++ done ∷ [] → AreDone f decoding es jobs results → AreDone f decoding es (jobs ++ work ∷ []) new
+  pub done_more : (jobs : List (Posted V)) (work : Posted V) (results new : List (JobResult V)) (done : JobResult V) → IsResultOf f decoding es work done
+      → new ≡ results ++ done ∷ [] → AreDone f decoding es jobs results → AreDone f decoding es (jobs ++ work ∷ []) new
   unfolding AreDone
-  done_more jobs work results new done one rank pushed before = (
-    (λ shares all.
-        subst (All (IsDone f decoding shares)) (sym pushed)
-        (All-push (IsDone f decoding shares) results done (before.0 shares (all_front (IsReady es shares) jobs (work ∷ []) all)) (one shares (last_one (IsReady es shares) jobs work all)))),
-    ap (map rank_of) pushed
-        ∙ map_push rank_of results done
-        ∙ ap (λ l. l ++ rank_of done ∷ []) before.1
-        ∙ ap (λ n. map rank_in jobs ++ n ∷ []) rank
-        ∙ sym (map_push rank_in jobs work),
-  )
+  done_more jobs work results new done one pushed before =
+      subst (AllZip (IsResultOf f decoding es) (jobs ++ work ∷ [])) (sym pushed) (zip_join jobs (work ∷ []) results (done ∷ []) before (one, tt))
 
   -- some jobs and some others are done
   pub done_join : (jobs more : List (Posted V)) (results others : List (JobResult V)) → AreDone f decoding es jobs results → AreDone f decoding es more others → AreDone f decoding es (jobs ++ more) (results ++ others)
   unfolding AreDone
-  done_join jobs more results others a b = (
-    (λ shares all. All-append (IsDone f decoding shares) results others (a.0 shares (all_front (IsReady es shares) jobs more all)) (b.0 shares (all_back (IsReady es shares) jobs more all))),
-    map-append rank_of results others ∙ ap (λ l. l ++ map rank_of others) a.1 ∙ ap (λ l. map rank_in jobs ++ l) b.1 ∙ sym (map-append rank_in jobs more),
-  )
+  done_join jobs more results others a b = zip_join jobs more results others a b
+
+  -- where a job is that of its rank's share, its result is the value of that share
+  ready_done : (shares : ℕ → Share M) (x : Posted V) (r : JobResult V) → IsResultOf f decoding es x r → IsReady es shares x → IsDone f decoding shares r
+  ready_done shares x r is ready =
+      let value = is.value (shares x.job.rank) (record { job = ready.job; state = ready.state.stands }) in
+      rw is.rank (record { state = record { stands = value.state; ranked = is.reader ∙ ready.state.ranked }; told = value.output.told; sent = value.output.sent })
+
+  zip_done : (shares : ℕ → Share M) (jobs : List (Posted V)) (results : List (JobResult V)) → AllZip (IsResultOf f decoding es) jobs results
+      → All (IsReady es shares) jobs → All (IsDone f decoding shares) results
+  zip_done shares [] [] zip ready k d below = absurd (omega (arith, below))
+  zip_done shares [] (r ∷ results) zip ready k d below = absurd zip
+  zip_done shares (x ∷ jobs) [] zip ready k d below = absurd zip
+  zip_done shares (x ∷ jobs) (r ∷ results) zip ready zero d below = ready_done shares x r zip.0 (ready zero x (omega arith))
+  zip_done shares (x ∷ jobs) (r ∷ results) zip ready (suc k) d below = zip_done shares jobs results zip.1 (λ j e less. ready (suc j) e (omega (arith, less))) k d (omega (arith, below))
+
+  zip_ranks : (jobs : List (Posted V)) (results : List (JobResult V)) → AllZip (IsResultOf f decoding es) jobs results → map rank_of results ≡ map rank_in jobs
+  zip_ranks [] [] zip = refl
+  zip_ranks [] (r ∷ results) zip = absurd zip
+  zip_ranks (x ∷ jobs) [] zip = absurd zip
+  zip_ranks (x ∷ jobs) (r ∷ results) zip = ap (λ n. n ∷ map rank_of results) zip.0.rank ∙ ap (λ l. rank_in x ∷ l) (zip_ranks jobs results zip.1)
+
+  -- the ranks of the results are those of the jobs
+  pub done_ranks : (jobs : List (Posted V)) (results : List (JobResult V)) → AreDone f decoding es jobs results → map rank_of results ≡ map rank_in jobs
+  unfolding AreDone
+  done_ranks jobs results done = zip_ranks jobs results done
+
+  -- where all jobs are those of their ranks' shares, the results are the values of these
+  pub done_shares : (shares : ℕ → Share M) (jobs : List (Posted V)) (results : List (JobResult V)) → AreDone f decoding es jobs results → All (IsReady es shares) jobs → All (IsDone f decoding shares) results
+  unfolding AreDone
+  done_shares shares jobs results done ready = zip_done shares jobs results done ready
 
   pub works_none : (v : Hand (Posted V)) (results : List (JobResult V)) → results ≡ [] → Works f decoding es v v results
   works_none v results e = subst (Works f decoding es v v) (sym e) (record { jobs = []; done = none_done; view = ap (λ l. hand v.parts v.put l) (sym (append-nil v.taken)) })
@@ -118,17 +142,17 @@ module _ {V M : Type 0} (f : V → M) (decoding : Decoding M) (es : List EventVi
 
   -- all that was posted was taken, and all that was taken is done
   pub all_done : (jobs taken : List (Posted V)) (results : List (JobResult V)) → IsPermutation jobs taken → AreDone f decoding es taken results
-      → ((shares : ℕ → Share M) → All (IsReady es shares) jobs → All (IsDone f decoding shares) results) × IsPermutation (map rank_in jobs) (map rank_of results)
-  unfolding AreDone
+      → ((shares : ℕ → Share M) → All (IsReady es shares) jobs → All (IsDone f decoding shares) results) × IsPermutation (map rank_in jobs) (map rank_of results) × AreResultsOf f decoding es jobs results
   all_done jobs taken results same done = (
-    (λ shares ready. done.0 shares (All-permutation (IsReady es shares) jobs taken same ready)),
-    subst (IsPermutation (map rank_in jobs)) (sym done.1) (IsPermutation-map rank_in jobs taken same),
+    (λ shares ready. done_shares shares taken results done (All-permutation (IsReady es shares) jobs taken same ready)),
+    subst (IsPermutation (map rank_in jobs)) (sym (done_ranks taken results done)) (IsPermutation-map rank_in jobs taken same),
+    record { order = taken; same = same; done = done },
   )
 
   -- all thieves are back, and the rest is done
   pub ended : (jobs : List (Posted V)) (count : ℕ) (v back rest : Hand (Posted V)) (results : Vec (JobResult V) Global) (more all : List (JobResult V)) → IsPermutation jobs v.put → IsBack f decoding es v count back results
       → Works f decoding es back rest more → IsPermutation rest.put rest.taken → all ≡ results.items ++ more
-      → ((shares : ℕ → Share M) → All (IsReady es shares) jobs → All (IsDone f decoding shares) all) × IsPermutation (map rank_in jobs) (map rank_of all)
+      → ((shares : ℕ → Share M) → All (IsReady es shares) jobs → All (IsDone f decoding shares) all) × IsPermutation (map rank_in jobs) (map rank_of all) × AreResultsOf f decoding es jobs all
   ended jobs count v back rest results more all posted is works taken added =
       let put : rest.put ≡ v.put = ap (λ (h : Hand (Posted V)). h.put) works.view ∙ is.put in
       all_done jobs rest.taken all (IsPermutation-trans jobs v.put rest.taken posted (subst (λ (l : List (Posted V)). IsPermutation l rest.taken) put taken))

@@ -1,5 +1,4 @@
 pub mod Results
-pub mod Piles
 pub mod Apart
 pub mod Board
 pub mod Ends

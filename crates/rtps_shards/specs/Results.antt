@@ -54,6 +54,26 @@ pub record IsOutput {V M A : Type 0} (f : V → M) (decoding : Decoding M) (s : 
   pub told : map (notice_view f) o.notices.items ≡ job_told decoding s.reader s.job
   pub sent : map answer_view o.answers.items ≡ job_sent s.reader s.job
 
+-- a share is that of a posted job: the job's steps, and the reader that its state keeps
+pub record IsShareOf {V M : Type 0} (es : List EventView) (x : Posted V) (s : Share M)
+    : Type 0 where
+  pub job : steps_seen es x.job.steps.items ≡ s.job
+  pub state : StandsAt s.reader s.given x.state
+
+-- a result is the value of a share: the reader after the job, the notices that it reported and the
+-- answers that it sent
+pub record IsValueOf {V M : Type 0} (f : V → M) (decoding : Decoding M) (s : Share M)
+    (x : JobResult V) : Type 0 where
+  pub state : StandsAt (reader_done s) (given_done decoding s) x.state
+  pub output : IsOutput f decoding s x.output
+
+-- a result is that of this job, whatever other jobs there are: its rank, and the value of its share
+pub record IsResultOf {V M : Type 0} (f : V → M) (decoding : Decoding M) (es : List EventView)
+    (x : Posted V) (result : JobResult V) : Type 0 where
+  pub rank : result.rank ≡ x.job.rank
+  pub reader : result.state.rank ≡ x.state.rank
+  pub value : (s : Share M) → IsShareOf es x s → IsValueOf f decoding s result
+
 -- a reader has run its job, and its notices and answers are appended
 pub record HasTaken {V M : Type 0} (f : V → M) (decoding : Decoding M) (s : Share M)
     (state : ReaderView) (old new : Output V Global) : Type 0 where

@@ -1,12 +1,14 @@
 -- The results of jobs that are taken off a board.
-use Rattle.std.specs.Prelude.{◌≡◌, ℕ, ◌+◌, List, [], ◌++◌, All, IfOk, length, map}
+use Rattle.std.specs.Prelude.{◌≡◌, ℕ, ◌+◌, List, [], ◌++◌, All, IfOk, length}
+use Rattle.std.specs.List.{AllZip}
+use Rattle.std.specs.List.Sorted.{IsPermutation}
 use Rattle.std.specs.declared.alloc.Global.{Global}
 use Rattle.std.specs.declared.vec.Vec.{Vec}
 use Rattle.rtps_receiver.specs.Events.{EventView}
 use Rattle.dds_topic.specs.Decoding.{Decoding}
 use Rattle.rtps_shards.specs.Board.{hand}
 use Rattle.rtps_shards.specs.Ends.{IsNewThiefOf, IsSameThief, IsThiefOf, thief_hand}
-use Rattle.rtps_shards.specs.Results.{IsDone, IsReady, Share, rank_in, rank_of}
+use Rattle.rtps_shards.specs.Results.{IsResultOf}
 use Rattle.rtps_shards.specs.declared.board.Board.{Board}
 use Rattle.rtps_shards.specs.declared.board.Hand.{Hand}
 use Rattle.rtps_shards.specs.declared.board.Thief.{Thief}
@@ -14,13 +16,17 @@ use Rattle.rtps_shards.specs.declared.jobs.JobResult.{JobResult}
 use Rattle.rtps_shards.specs.declared.jobs.Posted.{Posted}
 use Rattle.rtps_shards.specs.declared.work.Worked.{Worked}
 
--- the results are those of the jobs, in order: for any shares that all jobs are ready for, all
--- results are done, and the ranks are those of the jobs
+-- the results are those of the jobs, one by one and in order
 unfoldable pub AreDone : {V M : Type 0} → (V → M) → Decoding M → List EventView → List (Posted V)
     → List (JobResult V) → Type 0
-AreDone f decoding es jobs results =
-    ((shares : ℕ → Share _) → All (IsReady es shares) jobs → All (IsDone f decoding shares) results)
-    × (map rank_of results ≡ map rank_in jobs)
+AreDone f decoding es jobs results = AllZip (IsResultOf f decoding es) jobs results
+
+-- the results are those of the jobs, one by one, each job as often as it is there
+pub record AreResultsOf {V M : Type 0} (f : V → M) (decoding : Decoding M) (es : List EventView)
+    (jobs : List (Posted V)) (results : List (JobResult V)) : Type 0 where
+  pub order : List (Posted V)
+  pub same : IsPermutation jobs order
+  pub done : AreDone f decoding es order results
 
 -- an end has taken some more items
 pub record TakesSome {T : Type 0} (v w : Hand T) : Type 0 where

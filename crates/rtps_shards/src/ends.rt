@@ -56,6 +56,7 @@ impl<T: Drop> Board<T> {
             ≡ hand ((owner_hand self.old).parts + (thief_hand thief).parts)
             ((owner_hand self.old).put ++ (thief_hand thief).put)
             ((owner_hand self.old).taken ++ (thief_hand thief).taken) }
+        ensures room { room self.old ≤ room self.new }
     {
         let Thief { robber: _, pass } = thief;
         self.owner.absorb::<Cut>(pass);

@@ -85,7 +85,7 @@ pub struct JobResult<V> {
 
 /// Estimates the cost of a job: the number of events that its steps ask for, even past the end of
 /// the batch, and one for each change of a match.
-pub(crate) fn events_of<V>(posted: &Posted<V>) -> usize {
+pub(crate) fn cost_of<V>(posted: &Posted<V>) -> usize {
     let mut events = 0_usize;
     for step in &posted.job.steps {
         let more = match step {

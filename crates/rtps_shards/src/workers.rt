@@ -5,16 +5,15 @@ ghost use Rattle.std.specs.List.Sorted.{IsPermutation};
 ghost use Rattle.rtps_receiver.specs.Events.{view, EventView};
 ghost use Rattle.rtps_planner.specs.Plan.{steps_seen};
 ghost use Rattle.rtps_reader.specs.Standing.{StandsAt};
-ghost use Rattle.rtps_shards.specs.Results.{IsDone, IsOutput, IsReady, Share, given_done, rank_of, rank_in, reader_done};
-ghost use Rattle.rtps_shards.specs.Piles.{IsJobDone};
+ghost use Rattle.rtps_shards.specs.Results.{IsDone, IsOutput, IsReady, IsResultOf, Share, given_done, rank_of, rank_in, reader_done};
 ghost use Rattle.dds_topic.specs.Decoding.{Decoding};
 ghost use Rattle.rtps_shards.specs.Board.{hand};
 ghost use Rattle.rtps_shards.specs.Ends.{IsSameBoard, IsThiefOf, owner_hand, room};
-ghost use Rattle.rtps_shards.specs.Work.{AreDone, HasDone, IsBack};
+ghost use Rattle.rtps_shards.specs.Work.{AreDone, AreResultsOf, HasDone, IsBack};
 
 use crate::board::Board;
 use crate::gate::Gate;
-use crate::jobs::{JobResult, Posted, SharedBatch, Worker, events_of};
+use crate::jobs::{JobResult, Posted, SharedBatch, Worker, cost_of};
 use crate::steps::take_steps;
 use crate::work::{Worked, both_work, run_rest};
 use dds_topic::Catalog;
@@ -55,15 +54,14 @@ pub fn run_job<C: Catalog, G: Gate>(
 }
 
 /// Runs a posted job, and returns its reader and its lists by value.
-#[tactic(auto, unfolding(crate::specs::Piles::IsJobDone))]
 pub(crate) fn run_posted<C: Catalog, G: Gate>(
     worker: &mut Worker<&C>,
     batch: &SharedBatch<'_, C, G>,
     work: Posted<C::Value>,
 ) -> Result<JobResult<C::Value>, AllocError>
-    ensures done { worker.old.now ≡ batch.now.catalog.now
-        → IsJobDone C.view (C.decoding batch.now.catalog.now) (map view batch.now.events.now)
-        work result }
+    ensures done { worker.old.now ≡ batch.now.catalog.now → IfOk result
+        (IsResultOf C.view (C.decoding batch.now.catalog.now) (map view batch.now.events.now)
+        work) }
     ensures same { worker.new ≡ worker.old }
 {
     let Posted {
@@ -90,6 +88,8 @@ pub fn run_alone<C: Catalog, G: Gate>(
     batch: &SharedBatch<'_, C, G>,
     jobs: Vec<Posted<C::Value>>,
 ) -> Result<Vec<JobResult<C::Value>>, AllocError>
+    ensures each { IfOk result (λ results. AreDone C.view (C.decoding batch.now.catalog.now)
+        (map view batch.now.events.now) jobs.items results.items) }
     ensures done { (shares : ℕ → Share C.Meaning)
         → All (IsReady (map view batch.now.events.now) shares) jobs.items
         → IfOk result (λ results.
@@ -108,12 +108,12 @@ pub fn run_alone<C: Catalog, G: Gate>(
     Ok(results)
 }
 
-/// Sorts the jobs by [`events_of`], the largest first.
+/// Sorts the jobs by [`cost_of`], the largest first.
 fn most_first<V: Drop>(jobs: Vec<Posted<V>>) -> Vec<Posted<V>>
     ensures { IsPermutation jobs.items result.items }
 {
     let mut jobs = jobs;
-    jobs.sort_unstable_by_key(|posted| usize::MAX - events_of(posted));
+    jobs.sort_unstable_by_key(|posted| usize::MAX - cost_of(posted));
     jobs
 }
 
@@ -172,6 +172,8 @@ pub fn run_jobs<C: Catalog, G: Gate, R: Threads + Sync>(
 ) -> Result<Vec<JobResult<C::Value>>, AllocError>
     requires few { length jobs.items ≤ 4096 }
     requires workers { (1 ≤ workers) × (workers ≤ 64) }
+    ensures each { IfOk result (λ results. AreResultsOf C.view (C.decoding batch.now.catalog.now)
+        (map view batch.now.events.now) jobs.items results.items) }
     ensures done { (shares : ℕ → Share C.Meaning)
         → All (IsReady (map view batch.now.events.now) shares) jobs.items
         → IfOk result (λ results.
