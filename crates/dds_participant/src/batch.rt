@@ -72,7 +72,7 @@ impl<C: Catalog> Participant<C> {
     ///
     /// The readers' jobs are run by `workers` workers, 1 to 64: one runs on the caller's thread;
     /// several have a thread each, for which the caller waits. `gate` is called as each job begins
-    /// and ends. If there is more than one worker, more than 1,024 datagrams are decoded on one
+    /// and ends. If there is more than one worker, more than 2,048 datagrams are decoded on one
     /// thread for each processor.
     ///
     /// The notices of a reader with an outlet are not in the outcome: they are appended to the

@@ -22,7 +22,9 @@ use std::alloc::{AllocError, Global};
 /// read once.
 #[derive(Drop)]
 pub struct BatchOutput<V> {
-    /// The places of the batch's events, in ascending order. There may be places without any item.
+    /// The places at which the batch did something, in ascending order: those of its events, and
+    /// submessage 0 of a datagram or tick at whose moment matches ended. There may be places
+    /// without any item.
     pub places: Vec<Place>,
     /// Discovery's answers, each with the place of the event that it answers.
     pub answers: Vec<(Place, Reply)>,

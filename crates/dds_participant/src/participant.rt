@@ -37,7 +37,9 @@ use std::marker::Model;
 ///
 /// ```text
 /// let (outlet, mut inlet) = dds_outlet::outlet(alloc, 64)?;
-/// participant.attach(0, outlet);
+/// if let Err((outlet, fault)) = participant.attach(0, outlet) {
+///     // The rank has no reader, or its reader has an outlet.
+/// }
 /// // in the thread that receives, again and again
 /// participant.run_in_order(rt, alloc, &workers, &datagrams, &mut given)?;
 /// participant.deliver(0);
