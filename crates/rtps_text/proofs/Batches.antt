@@ -32,19 +32,21 @@ use Rattle.rtps_planner.specs.Outputs.{AreRising, sent_in}
 use Rattle.rtps_run.specs.World.{World}
 use Rattle.dds_participant.specs.BatchOutput.{AreAnswersAlong, AreNoticesAlong, IsGiven, parts_given, told_in}
 use Rattle.rtps_text.specs.Replayed.{HasSaid, put_line, put_lines}
-use Rattle.rtps_text.specs.Slices.{AreByPlace, AreLeft, AreTexts, all_lines, merged_lines, places_lines, starts}
+use Rattle.rtps_text.specs.Slices.{AreByPlace, AreLeft, AreTexts, all_lines, merged_lines, places_lines, starts, starts_of}
 use Rattle.dds_participant.specs.declared.batch_output.BatchOutput.{BatchOutput}
 use Rattle.rtps_text.specs.declared.slices.Cursor.{Cursor}
 use Rattle.rtps_text.proofs.Along.{places_merged, start_left}
+use Rattle.rtps_text.proofs.Idle.{idle_lines}
 
 -- the lines from the start on are all lines of a batch
 pub start_lines : {C V M : Type 0} (text : C → M → List ℕ) (f : V → M) (given : BatchOutput V) (k catalog : C) (said : ℕ) (readers : List Cursor) (count all : ℕ)
-    → k ≡ catalog → said ≡ 0 → readers ≡ starts count → count ≡ all
+    → k ≡ catalog → said ≡ 0 → readers ≡ starts_of (parts_given f given) count → count ≡ all
     → places_lines (text k) (parts_given f given) given.places.items said readers ≡ all_lines (text catalog) f given all
 start_lines text f given k catalog said readers count all same none start counted =
     ap (λ k. places_lines (text k) (parts_given f given) given.places.items said readers) same
     ∙ ap (λ n. places_lines (text catalog) (parts_given f given) given.places.items n readers) none
-    ∙ ap (places_lines (text catalog) (parts_given f given) given.places.items 0) (start ∙ ap starts counted)
+    ∙ ap (places_lines (text catalog) (parts_given f given) given.places.items 0) (start ∙ ap (starts_of (parts_given f given)) counted)
+    ∙ idle_lines (text catalog) (parts_given f given) given.places.items 0 all
 
 -- the lines of a batch are those of its parts, merged
 pub all_merged : {V M : Type 0} (text : M → List ℕ) (f : V → M) (given : BatchOutput V) (count : ℕ) → AreRising given.places.items

@@ -1,7 +1,7 @@
 -- What is printed for a batch, one place after the other.
-use Rattle.std.proofs.Common.{◌≡◌, ℕ, zero, suc, ◌+◌, ◌<◌, ◌≤◌, List, [], ◌∷◌, ◌++◌, Bool, true, false, arith, refl, subst, sym, ap, ◌∙◌, map, length, drop, get_or, append_assoc, append-nil, add-zero, nat_lt, if◌then◌else◌, not, take, set}
+use Rattle.std.proofs.Common.{◌≡◌, ℕ, zero, suc, ◌+◌, ◌<◌, ◌≤◌, List, [], ◌∷◌, ◌++◌, Bool, true, false, arith, refl, subst, sym, ap, ◌∙◌, map, length, drop, get_or, append_assoc, append-nil, add-zero, nat_lt, ◌==◌, ◌||◌, if◌then◌else◌, not, take, set}
 use Rattle.std.proofs.lemmas.Grind.{drop_more_same, flat_map-append}
-use Rattle.std.proofs.lemmas.List.{drop_more, drop-set-lt, length-set, map-append, take_more, take_more_set}
+use Rattle.std.proofs.lemmas.List.{drop_more, drop-set-lt, length-map, length-set, map-append, take_more, take_more_set}
 use Rattle.std.proofs.lemmas.Bool.Decides.{nat_tests}
 use Rattle.rtps_types.specs.declared.place.Place.{Place}
 use Rattle.rtps_reader.specs.declared.notice.Notice.{Notice}
@@ -16,7 +16,7 @@ use Rattle.rtps_types.specs.declared.traffic.Reply.{Reply}
 use Rattle.rtps_planner.specs.Outputs.{sent_in}
 use Rattle.dds_participant.specs.BatchOutput.{parts_given, told_in}
 use Rattle.dds_participant.specs.declared.batch_output.BatchOutput.{BatchOutput}
-use Rattle.rtps_text.specs.Slices.{answer_lines, cursor_after, first_answers, first_notices, lists_after, lists_lines, next_said, part_lines, parts_lines, places_lines}
+use Rattle.rtps_text.specs.Slices.{answer_lines, cursor_after, first_answers, first_notices, has_part, lists_after, lists_lines, next_said, part_lines, parts_lines, places_lines}
 use Rattle.rtps_text.specs.declared.slices.Cursor.{Cursor}
 use Rattle.rtps_lines.specs.Notice.{heard_line}
 
@@ -179,6 +179,63 @@ part_none {V} {M} f text given place c outputs out same test =
       sym (append-nil out) ∙ ap (λ l. out ++ l) (sym none.0 ∙ ap (λ l. lists_lines text l (nil {X = Place × ReplyView}) place c) told ∙ ap (λ l. lists_lines text (told_in f given.outputs.items c.rank) l place c) sent),
       sym none.1 ∙ ap (λ l. lists_after l (nil {X = Place × ReplyView}) place c) told ∙ ap (λ l. lists_after (told_in f given.outputs.items c.rank) l place c) sent,
     )
+
+above_zero : (n : ℕ) → nat_lt 0 (suc n) ≡ true
+above_zero n = grind (arith, nat_tests)
+
+not_zero : (n : ℕ) → (suc n == 0) ≡ false
+not_zero n = grind (arith, nat_tests)
+
+no_items : {X : Type 0} (xs : List X) → nat_lt 0 (length xs) ≡ false → xs ≡ []
+no_items [] none = refl
+no_items (x ∷ xs) none = absurd (let bad : true ≡ false = sym (above_zero (length xs)) ∙ none in cc)
+
+neither : (a b : Bool) → (a || b) ≡ false → (a ≡ false) × (b ≡ false)
+neither false b none = (refl, none)
+neither true b none = absurd (let bad : true ≡ false = none in cc)
+
+-- and for a reader without a part of the batch nothing either
+pub part_idle : {M : Type 0} (text : M → List ℕ) (parts : PartsByRank M) (place : Place) (c : Cursor) → has_part parts c.rank ≡ false
+    → (part_lines text parts place c ≡ []) × (cursor_after parts place c ≡ c)
+part_idle {M} text parts place c idle =
+    let lists = neither (nat_lt 0 (length (parts.told c.rank))) (nat_lt 0 (length (parts.sent c.rank))) idle in
+    let told = no_items (parts.told c.rank) lists.0 in
+    let sent = no_items (parts.sent c.rank) lists.1 in
+    let none = nothing_left text place c in (
+      ap (λ l. lists_lines text l (parts.sent c.rank) place c) told ∙ ap (λ l. lists_lines text (nil {X = Notice M}) l place c) sent ∙ none.0,
+      ap (λ l. lists_after l (parts.sent c.rank) place c) told ∙ ap (λ l. lists_after (nil {X = Notice M}) l place c) sent ∙ none.1,
+    )
+
+-- the part of a reader is there if its output has a notice or an answer
+pub part_there : {V M : Type 0} (f : V → M) (given : BatchOutput V) (rank : ℕ) (outputs : List (Output V Global)) (o : Output V Global)
+    → outputs ≡ given.outputs.items → true ≡ nat_lt rank (length outputs) → o ≡ get_or outputs rank o
+    → has_part (parts_given f given) rank ≡ (nat_lt 0 (length o.notices.items) || nat_lt 0 (length o.answers.items))
+part_there f given rank outputs o same test e =
+    let below : rank < length outputs = grind (arith, nat_tests) in
+    let told = ap (λ l. told_in f l rank) (sym same) ∙ told_some f outputs rank o below e in
+    let sent = ap (λ l. sent_in l rank) (sym same) ∙ sent_some outputs rank o below e in
+    ap (λ l. nat_lt 0 (length l) || nat_lt 0 (length (sent_in given.outputs.items rank))) told
+    ∙ ap (λ l. nat_lt 0 (length (map (notice_view f) o.notices.items)) || nat_lt 0 (length l)) sent
+    ∙ ap (λ n. nat_lt 0 n || nat_lt 0 (length (map answer_view o.answers.items))) (length-map o.notices.items (notice_view f))
+    ∙ ap (λ n. nat_lt 0 (length o.notices.items) || nat_lt 0 n) (length-map o.answers.items answer_view)
+
+pub part_missing : {V M : Type 0} (f : V → M) (given : BatchOutput V) (rank : ℕ) (outputs : List (Output V Global))
+    → outputs ≡ given.outputs.items → false ≡ nat_lt rank (length outputs) → has_part (parts_given f given) rank ≡ false
+part_missing f given rank outputs same test =
+    let past : length outputs ≤ rank = grind (arith, nat_tests) in
+    let told = ap (λ l. told_in f l rank) (sym same) ∙ told_none f outputs rank past in
+    let sent = ap (λ l. sent_in l rank) (sym same) ∙ sent_none outputs rank past in
+    ap (λ l. nat_lt 0 (length l) || nat_lt 0 (length (sent_in given.outputs.items rank))) told
+    ∙ ap (λ l. nat_lt 0 (length l)) sent
+
+pub no_notice : {X Y : Type 0} (ns : List X) (rs : List Y) → (length ns == 0) ≡ true → not (length rs == 0) ≡ (nat_lt 0 (length ns) || nat_lt 0 (length rs))
+no_notice [] [] none = refl
+no_notice [] (r ∷ rs) none = ap not (not_zero (length rs)) ∙ sym (above_zero (length rs))
+no_notice (n ∷ ns) rs none = absurd (let bad : false ≡ true = sym (not_zero (length ns)) ∙ none in cc)
+
+pub some_notice : {X Y : Type 0} (ns : List X) (rs : List Y) → (length ns == 0) ≡ false → true ≡ (nat_lt 0 (length ns) || nat_lt 0 (length rs))
+some_notice [] rs some = absurd (let bad : true ≡ false = some in cc)
+some_notice (n ∷ ns) rs some = sym (ap (λ b. b || nat_lt 0 (length rs)) (above_zero (length ns)))
 
 -- ---- all readers
 

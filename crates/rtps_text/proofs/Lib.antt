@@ -7,6 +7,7 @@ pub mod FileRun
 pub mod Fronts
 pub mod Hearing
 pub mod Held
+pub mod Idle
 pub mod Inputs
 pub mod Run
 pub mod Sampled

@@ -72,6 +72,18 @@ abbrev pub starts : ℕ → List Cursor
 starts zero = []
 starts (suc rank) = starts rank ++ record { rank = rank; notices = 0; answers = 0 } ∷ []
 
+-- the reader of a rank has a notice or an answer in the parts of a batch
+abbrev pub has_part : {M : Type 0} → PartsByRank M → ℕ → Bool
+has_part parts rank = nat_lt 0 (length (parts.told rank)) || nat_lt 0 (length (parts.sent rank))
+
+-- the cursors of the readers with a rank below a count that have a part, with nothing printed
+abbrev pub starts_of : {M : Type 0} → PartsByRank M → ℕ → List Cursor
+starts_of parts zero = []
+starts_of parts (suc rank) =
+    if has_part parts rank
+    then starts_of parts rank ++ record { rank = rank; notices = 0; answers = 0 } ∷ []
+    else starts_of parts rank
+
 -- the lines at these places, one place after the other, from the cursors on
 abbrev pub places_lines : {M : Type 0} → (M → List ℕ) → PartsByRank M → List Place → ℕ → List Cursor
     → List ℕ

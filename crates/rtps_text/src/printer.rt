@@ -295,7 +295,7 @@ where
             (lines.old.text.items ++ all_lines (C.text_of self.old.catalog.now) C.view given.now
             self.old.readers)) }
     {
-        let mut cursors = Cursors::start(self.alloc, self.readers)?;
+        let mut cursors = Cursors::start::<C>(self.alloc, given, self.readers)?;
         print_places(lines, &mut self.last, self.catalog, given, &mut cursors)
     }
 }

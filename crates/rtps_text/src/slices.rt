@@ -7,7 +7,7 @@ ghost use Rattle.rtps_reader.specs.Notice.{answer_view, notice_view};
 ghost use Rattle.rtps_run.specs.World.{NoticeOf};
 ghost use Rattle.dds_participant.specs.BatchOutput.{parts_given};
 ghost use Rattle.rtps_text.specs.Replayed.{put_lines};
-ghost use Rattle.rtps_text.specs.Slices.{AreByPlace, AreLeft, IsLeft, is_before, answer_lines, cursor_after, first_answers, first_notices, lists_after, lists_lines, next_said, part_lines, parts_lines, starts};
+ghost use Rattle.rtps_text.specs.Slices.{AreByPlace, AreLeft, IsLeft, is_before, answer_lines, cursor_after, first_answers, first_notices, has_part, lists_after, lists_lines, next_said, part_lines, parts_lines, starts_of};
 
 use dds_participant::BatchOutput;
 use dds_topic::TextCatalog;
@@ -32,7 +32,7 @@ pub(crate) struct Cursor {
 pub(crate) struct Cursors {
     /// The number of discovery's answers that are printed.
     pub said: usize,
-    /// The cursor of each reader, by rank.
+    /// The cursors of the readers, by rank.
     pub readers: Vec<Cursor>,
 }
 
@@ -140,6 +140,16 @@ fn is_answered(answers: &[(Place, Reply)], place: Place) -> bool
     }
 }
 
+/// Whether the reader of `rank` has a notice or an answer in the output of a batch.
+fn has_output<C: TextCatalog>(given: &BatchOutput<C::Value>, rank: u32) -> bool
+    ensures { result ≡ has_part (parts_given C.view given.now) rank }
+{
+    match given.outputs.get(rank as usize) {
+        Some(output) => !(output.notices.is_empty() && output.answers.is_empty()),
+        None => false,
+    }
+}
+
 impl Cursor {
     /// Returns the cursor of the reader of `rank` with all of its output before `place` counted as
     /// printed.
@@ -220,17 +230,25 @@ impl Cursor {
 }
 
 impl Cursors {
-    /// Returns the cursors of a batch with `readers` readers, with nothing printed yet.
-    pub(crate) fn start(alloc: Global, readers: u32) -> Result<Cursors, AllocError>
-        ensures { IfOk result (λ c. (c.said ≡ 0) × (c.readers.items ≡ starts readers)) }
+    /// Returns the cursors of a batch with `readers` readers, with nothing printed yet. A reader
+    /// without output has none, so that no place costs a step for it.
+    pub(crate) fn start<C: TextCatalog>(
+        alloc: Global,
+        given: &BatchOutput<C::Value>,
+        readers: u32,
+    ) -> Result<Cursors, AllocError>
+        ensures { IfOk result (λ c. (c.said ≡ 0)
+            × (c.readers.items ≡ starts_of (parts_given C.view given.now) readers)) }
     {
         let mut cursors = Vec::new(alloc);
         for rank in 0..readers {
-            cursors.push(Cursor {
-                rank,
-                notices: 0,
-                answers: 0,
-            })?;
+            if has_output::<C>(given, rank) {
+                cursors.push(Cursor {
+                    rank,
+                    notices: 0,
+                    answers: 0,
+                })?;
+            }
         }
         Ok(Cursors {
             said: 0,
