@@ -73,6 +73,8 @@ pub fn listen_in<D: Domains, W: Write, T: Threads + Sync>(
     writer: &mut W,
 ) -> Result<(), ListenFault>
     ensures refused { RefusesFirst (Listen options.now) result }
+    ensures joined { OnOk result ((binding : Binding) × (network : D.Network)
+        × IsBindingOf options.now binding × D.joins network binding) }
     ensures prints { (holds : List ℕ → Option (List ℕ)) → Prints (Listen options.now) holds
         (W.contents writer.old) (W.contents writer.new) result }
 {
