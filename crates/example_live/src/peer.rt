@@ -16,7 +16,7 @@ pub const WRITER: Guid = Guid {
 const USER_PORT: u16 = 7411 + 250 * DOMAIN;
 
 /// A message of one DATA for every reader: number 0 of the writer, a blue square at 0, 20 of size
-/// 30 (DDSI-RTPS 9.4.5.4).
+/// 30 (DDSI-RTPS 9.4.5.3).
 const DATA: [u8; 72] = *b"RTPS\x02\x05\x00\x00\
     \x0a\x0a\x0a\x0a\x0a\x0a\x0a\x0a\x0a\x0a\x0a\x0a\
     \x15\x05\x30\x00\x00\x00\x10\x00\x00\x00\x00\x00\x00\x00\x01\x02\
@@ -30,7 +30,7 @@ const NUMBER_AT: usize = 40;
 const X_AT: usize = 60;
 
 /// A message of one HEARTBEAT for every reader: the writer has the numbers 1 to 3, and asks for an
-/// answer (DDSI-RTPS 9.4.5.7).
+/// answer (DDSI-RTPS 9.4.5.6).
 const HEARTBEAT: [u8; 52] = *b"RTPS\x02\x05\x00\x00\
     \x0a\x0a\x0a\x0a\x0a\x0a\x0a\x0a\x0a\x0a\x0a\x0a\
     \x07\x01\x1c\x00\x00\x00\x00\x00\x00\x00\x01\x02\

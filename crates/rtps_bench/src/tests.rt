@@ -16,7 +16,7 @@ use std::io::{self, Error, Write};
 use std::test::Fail;
 
 /// A record file of two datagrams: number 1 of a writer, a blue square, and a heartbeat by which
-/// the writer has the numbers 1 to 3, and asks for an answer (DDSI-RTPS 9.4.5.4, 9.4.5.7).
+/// the writer has the numbers 1 to 3, and asks for an answer (DDSI-RTPS 9.4.5.3, 9.4.5.6).
 const FILE: &[u8; 136] = b"RDG1\x00\x00\x00\x48RTPS\x02\x05\x00\x00\
     \x0a\x0a\x0a\x0a\x0a\x0a\x0a\x0a\x0a\x0a\x0a\x0a\
     \x15\x05\x30\x00\x00\x00\x10\x00\x00\x00\x00\x00\x00\x00\x01\x02\

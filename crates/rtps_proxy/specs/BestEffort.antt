@@ -1,4 +1,4 @@
--- The changes that a best-effort reader accepts and presents (DDSI-RTPS 8.4.12, 8.4.14.1).
+-- The changes that a best-effort reader accepts and presents (DDSI-RTPS 8.4.12.1, 8.4.14.1).
 use Rattle.std.specs.Prelude.{ℕ, ◌-◌, Bool, ◌&&◌, ◌==◌, nat_lt, List, [], ◌∷◌, length, filter, Option, if◌then◌else◌}
 use Rattle.rtps_types.specs.declared.time.Timestamp.{Timestamp}
 use Rattle.rtps_receiver.specs.EventBody.{EventBodyView, FragmentView, Whole, Fragment, Heartbeat, Gap, HeartbeatFrag}

@@ -1,4 +1,4 @@
--- GAPs of a match (DDSI-RTPS 8.3.7.4, 8.4.12.1): which numbers they name.
+-- GAPs of a match (DDSI-RTPS 8.3.7.4, 8.4.12.2): which numbers they name.
 use Rattle.std.specs.Prelude.{ℕ, Bool, false, ◌&&◌, ◌||◌, ◌==◌, nat_lt, nat_le, List}
 use Rattle.std.specs.List.{list_any}
 use Rattle.rtps_types.specs.NumberSet.{members}

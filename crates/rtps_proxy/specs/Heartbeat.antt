@@ -1,4 +1,4 @@
--- HEARTBEATs of a match (DDSI-RTPS 8.3.7.5, 8.4.12.1): which are accepted, and which numbers they
+-- HEARTBEATs of a match (DDSI-RTPS 8.3.7.5, 8.4.12.2): which are accepted, and which numbers they
 -- say that the writer has.
 use Rattle.std.specs.Prelude.{ℕ, max, Bool, true, false, ◌&&◌, List, [], ◌∷◌, if◌then◌else◌, ℤ, int_lt}
 use Rattle.std.specs.List.{list_any}

@@ -10,7 +10,7 @@ use Rattle.rtps_proxy.specs.Kept.{ReliableView, BestEffortView, StateView, Pairi
 use Rattle.rtps_proxy.specs.Received as reliable
 use Rattle.rtps_proxy.specs.Replies.{reply, reply_view}
 
--- a best-effort reader's step (DDSI-RTPS 8.4.12): the state then, and the effects of the event
+-- a best-effort reader's step (DDSI-RTPS 8.4.12.1): the state then, and the effects of the event
 pub record BestEffortStep {A : Type 0} (past : List MatchEvent) (event : MatchEvent)
     (kept : BestEffortView) (effects : Effects A) : Type 0 where
   pub stands : BestEffortStandsAt (event ∷ past) kept
@@ -18,7 +18,7 @@ pub record BestEffortStep {A : Type 0} (past : List MatchEvent) (event : MatchEv
   pub ready : map change_view effects.ready.items ≡ best.ready past event
   pub answer : effects.answer ≡ None
 
--- a reliable reader's step (DDSI-RTPS 8.4.12): the state then, and the effects of the event
+-- a reliable reader's step (DDSI-RTPS 8.4.12.2): the state then, and the effects of the event
 pub record ReliableStep {A : Type 0} (pairing : Pairing) (past : List MatchEvent)
     (event : MatchEvent) (kept : ReliableView) (effects : Effects A) : Type 0 where
   pub stands : ReliableStandsAt (event ∷ past) kept

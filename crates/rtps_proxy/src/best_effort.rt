@@ -1,4 +1,4 @@
-//! The state that a best-effort reader keeps for one writer (DDSI-RTPS 8.4.12).
+//! The state that a best-effort reader keeps for one writer (DDSI-RTPS 8.4.12.1).
 
 ghost use Rattle.std.specs.Prelude.{◌≡◌, ◌<◌, [], ◌∷◌, None, map, true, OnOk};
 ghost use Rattle.rtps_types.specs.Number.{value_of};

@@ -1,4 +1,4 @@
-//! The state that a reliable reader keeps for one writer (DDSI-RTPS 8.4.12).
+//! The state that a reliable reader keeps for one writer (DDSI-RTPS 8.4.12.2).
 
 ghost use Rattle.std.specs.Prelude.{◌^◌, ◌≤◌};
 

@@ -1,4 +1,4 @@
--- What a run sends: its answers, ACKNACK and NACK_FRAG (DDSI-RTPS 8.3.8.1, 8.3.8.10).
+-- What a run sends: its answers, ACKNACK and NACK_FRAG (DDSI-RTPS 8.3.7.1, 8.3.7.11).
 use Rattle.std.specs.Prelude.{◌≡◌, ℕ, zero, suc, List, [], ◌∷◌, ◌++◌, Option, length, map}
 use Rattle.std.specs.List.{flat_map}
 use Rattle.rtps_types.specs.declared.locator.Locator.{Locator}

@@ -13,7 +13,7 @@ use rtps_types::{Locator, Place, Reply};
 
 /// Sends the answers of a batch in the order of the run, each one whole, and once to each of its
 /// locators. The order is by place; at one place discovery's answers come first, and then those of
-/// each reader, by rank (DDSI-RTPS 8.3.8.1, AckNack, and 8.3.8.10, NackFrag). So a run sends the
+/// each reader, by rank (DDSI-RTPS 8.3.7.1, AckNack, and 8.3.7.11, NackFrag). So a run sends the
 /// same datagrams however it is cut into batches.
 ///
 /// `given` is the output of [`run_in_order`](dds_participant::Participant::run_in_order) for the
