@@ -24,6 +24,18 @@ use std::marker::Model;
 /// A reader's cache (DDS 1.4, 2.2.2.5): the values and the disposals of the notices that it
 /// accepted. An entry stays until it is taken or, with [`History::KeepLast`], until newer entries
 /// of its instance displace it.
+///
+/// ```text
+/// let mut cache = DataReader::new(alloc, History::KeepLast(8));
+/// for notice in outcome.notices.into_iter().flatten() {
+///     cache.accept(alloc, notice).map_err(AllocError::from)?;
+/// }
+/// for sample in &cache.take(alloc, 100, Condition::default())? {
+///     if let Content::Value(shape) = &sample.body {
+///         // A value of sample.writer, in an instance with the state sample.instance.
+///     }
+/// }
+/// ```
 #[derive(Drop)]
 pub struct DataReader<V, A: Allocator = Global> {
     index: Index<A>,
@@ -44,8 +56,8 @@ impl<V, A: Allocator> Model for DataReader<V, A> {
 impl<V: Drop, A: Allocator + Copy> DataReader<V, A> {
     ghost use Rattle.dds_cache.specs.After.{WasReadFrom, ends_read};
 
-    /// Returns an empty cache that keeps for each instance what `keep` says (DDS 1.4, 2.2.3.18). No
-    /// memory is taken.
+    /// Returns an empty cache that keeps for each instance what `keep` says (DDS 1.4, 2.2.3.18):
+    /// with [`History::KeepLast`] a number of entries from 1 to 65,536. No memory is taken.
     pub fn new(alloc: A, keep: History) -> DataReader<V, A>
         requires { IsHistory keep }
         ensures stands { StandsAt [] result }

@@ -84,6 +84,19 @@ impl<C: Catalog> Participant<C> {
     /// [`EngineError::Failed`], and its statuses are those before that batch. A batch that would
     /// take the count of datagrams past 2^48 is refused with [`EngineError::Spent`] and changes
     /// nothing.
+    ///
+    /// ```text
+    /// if !is_batch(&datagrams) {
+    ///     bail!("these are too many datagrams, or one is too long");
+    /// }
+    /// let outcome = participant.run_batch(&rt, alloc, &NoGate, &datagrams, 4)?;
+    /// for answer in &outcome.answers {
+    ///     // Send answer.octets to each of answer.to.
+    /// }
+    /// for (rank, notices) in outcome.notices.iter().enumerate() {
+    ///     // What the reader of this rank reports.
+    /// }
+    /// ```
     #[tactic(auto, unfolding(crate::specs::Kept::TakesBatch, crate::specs::Kept::RefusesBatch))]
     pub fn run_batch<G: Gate, R: Threads + Sync>(
         &mut self,

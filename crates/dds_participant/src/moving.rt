@@ -54,6 +54,15 @@ impl<C: Catalog> Participant<C> {
     /// (DDSI-RTPS 9.3.1.2), a reader that is there has its entity, or its ownership isn't shared;
     /// either changes nothing, and the reader is dropped. When the call runs out of memory the
     /// participant has failed, as by [`Participant::tick`]. It is never [`EngineError::Spent`].
+    ///
+    /// ```text
+    /// let circles = ReaderConfig::new(alloc, EntityId([0, 0, 2, 7]), "Circle", "ShapeType")?;
+    /// let (rank, outcome) = participant.add_reader(alloc, circles.reliable())?;
+    /// for notice in outcome.notices.into_iter().flatten() {
+    ///     // `Matched` or `Incompatible`, for each known writer of circles.
+    /// }
+    /// let status = participant.status(rank);
+    /// ```
     #[tactic(auto, unfolding(rtps_run::specs::Moving::Moves))]
     pub fn add_reader(
         &mut self,

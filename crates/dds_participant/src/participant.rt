@@ -33,19 +33,38 @@ use std::marker::Model;
 /// datagrams are cut into batches.
 ///
 /// An outlet can be attached to each reader ([`Participant::attach`]), through which another thread
-/// receives the reader's notices:
+/// receives the reader's notices; and a board shows the statuses to any thread
+/// ([`Participant::publish`]):
 ///
 /// ```text
+/// let mut config = Config::new(alloc, GuidPrefix([0x0b; 12]));
+/// let squares = ReaderConfig::new(alloc, EntityId([0, 0, 1, 7]), "Square", "ShapeType")?;
+/// config.add_reader(squares.reliable())?;
+/// let mut participant = Participant::new(alloc, config, Shapes)?;
 /// let (outlet, mut inlet) = dds_outlet::outlet(alloc, 64)?;
-/// if let Err((outlet, fault)) = participant.attach(0, outlet) {
+/// if let Err((_outlet, fault)) = participant.attach(0, outlet) {
 ///     // The rank has no reader, or its reader has an outlet.
 /// }
-/// // in the thread that receives, again and again
-/// participant.run_in_order(rt, alloc, &workers, &datagrams, &mut given)?;
+/// let mut board = StatusBoard::new(&rt, alloc, 1, 4)?;
+/// let mut given = BatchOutput::new(alloc);
+/// let workers = Workers {
+///     count: 2,
+///     gate: &NoGate,
+/// };
+/// // In the thread that receives, again and again: time passes, and then what has come is a batch.
+/// // Its answers, which are in `given`, are to be sent. The notices go through the outlet.
+/// participant.tick_in_order(alloc, moment, &mut given)?;
+/// participant.run_in_order(&rt, alloc, &workers, &datagrams, &mut given)?;
 /// participant.deliver(0);
-/// participant.publish(rt, alloc, &mut board)?;
-/// // in a thread of the application
-/// while let Some(notice) = inlet.pop() { .. }
+/// if let Err(fault) = participant.publish(&rt, alloc, &mut board) {
+///     // There was no memory for the row, or the board has no number left.
+/// }
+/// // In a thread of the application:
+/// while let Some(notice) = inlet.pop() {
+///     // The notices of the reader, in the order of the run.
+/// }
+/// // In the end, in the thread that receives:
+/// board.end(&rt);
 /// ```
 #[derive(Drop)]
 pub struct Participant<C: Catalog> {

@@ -37,6 +37,15 @@ impl<C: Catalog> Participant<C> {
     /// When a tick runs out of memory, nothing of it is returned or added to a backlog, and the
     /// participant has failed: from then on it returns [`EngineError::Failed`], and its statuses
     /// are those before the tick. It is never [`EngineError::Spent`].
+    ///
+    /// ```text
+    /// let outcome = participant.tick(alloc, moment)?;
+    /// for notice in outcome.notices.into_iter().flatten() {
+    ///     // `Unmatched` for each match with a writer of a participant that is removed. By it the
+    ///     // cache knows which instances have no writer left.
+    ///     cache.accept(alloc, notice).map_err(AllocError::from)?;
+    /// }
+    /// ```
     #[tactic(auto, unfolding(crate::specs::Kept::TakesTick, crate::specs::Kept::RefusesTick))]
     pub fn tick(&mut self, alloc: Global, moment: u64) -> Result<Outcome<C::Value>, EngineError>
         ensures takes { TakesTick result self.old self.new }

@@ -17,6 +17,19 @@ use std::alloc::{AllocError, Allocator, Global};
 ///
 /// A body is the data after the four octets of the encapsulation header, and `kind` is the first
 /// two octets of that header, big-endian (DDSI-RTPS 10.2): 0 is CDR_BE, 1 is CDR_LE.
+///
+/// ```text
+/// impl Catalog for Sensors {
+///     type Value = Sensor;
+///     type Memo = ();
+///     fn decode(&self, _: Global, kind: u16, body: &[u8]) -> Result<Sensor, CatalogError> {
+///         let mut reader = CdrReader::new(body, byte_order(kind)?);
+///         let (station, value) = (reader.read_u32()?, reader.read_i32()?);
+///         Ok(Sensor { station, value })
+///     }
+///     // Then the other four functions, for the key, and what each result means.
+/// }
+/// ```
 pub trait Catalog: Send + Sync + Drop {
     /// A value of the type.
     type Value: Send + Drop;

@@ -20,6 +20,15 @@ const HEADER: usize = 20;
 /// its destination is this participant and it names no number above 2^62.
 ///
 /// No memory is taken: payloads are borrowed from the datagram.
+///
+/// ```text
+/// for event in Events::new(own, 0, octets) {
+///     if let EventBody::Whole(whole) = event.body {
+///         // The writer event.writer of the participant event.source sent the change with the
+///         // number whole.number and the payload whole.payload.
+///     }
+/// }
+/// ```
 #[derive(Drop)]
 pub struct Events<'a> {
     /// The octets of the submessages that are left.

@@ -12,7 +12,20 @@ pub const MAX_LEN: usize = 65_507;
 pub(crate) const ROOM: usize = 1_048_576;
 
 /// A buffer for the records of a batch, and the records in it: datagrams, or one tick. It grows up
-/// to 1 MiB as records need it.
+/// to 1 MiB as records need it. It is filled from a file by [`Records`](crate::Records), or from a
+/// network:
+///
+/// ```text
+/// let mut batch = Batch::new(alloc)?;
+/// // Again and again, with the same batch:
+/// network.wait()?;
+/// let moment = network.moment();
+/// if batch.receive(&mut network, moment, 256)? == ReceiveEnd::Fault {
+///     bail!("no datagram can be received");
+/// }
+/// let datagrams = batch.datagrams(alloc)?;
+/// let outcome = participant.run_batch(&rt, alloc, &NoGate, &datagrams, 2)?;
+/// ```
 #[derive(Drop)]
 pub struct Batch<A: Allocator = Global> {
     /// The octets of the datagrams, one datagram after the other, followed by free room.

@@ -27,6 +27,20 @@ const TICK: u32 = u32::MAX;
 
 /// A reader of the records of a file, in order. It holds none of them: they are read into the
 /// caller's batch.
+///
+/// ```text
+/// let mut records = Records::new(&mut input);
+/// records.open()?;
+/// let mut batch = Batch::new(alloc)?;
+/// let end = records.next_batch(&mut batch, 4)?;
+/// // First the datagrams, at most four, and then the tick, if one comes after them.
+/// let datagrams = batch.datagrams(alloc)?;
+/// match end {
+///     BatchEnd::More | BatchEnd::End => {}
+///     BatchEnd::Tick(moment) => receiver.pass(alloc, moment)?,
+///     BatchEnd::Fault(fault) => bail!("{fault}"),
+/// }
+/// ```
 pub struct Records<'a, R> {
     pub(crate) reader: &'a mut R,
     /// The format of the file, once it is open.

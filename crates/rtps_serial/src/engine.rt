@@ -34,6 +34,19 @@ use std::collections::BTreeSet;
 use std::marker::Model;
 
 /// The discovery and the readers of a participant, which process inputs on one thread.
+///
+/// ```text
+/// let mut engine = SerialEngine::new(alloc, config, Shapes)?;
+/// // The moment at which it came, in milliseconds, and its octets.
+/// let datagram = Datagram {
+///     moment: 1_000,
+///     bytes: octets,
+/// };
+/// for report in engine.take(alloc, datagram)?.in_order(alloc)? {
+///     // `Report::Notice`, what a reader reports, or `Report::Answer`, a datagram to send.
+/// }
+/// let status = engine.status(0);
+/// ```
 #[derive(Drop)]
 pub struct SerialEngine<C: Catalog, A: Allocator = Global> {
     config: Config,
