@@ -37,8 +37,12 @@ pub struct Sample<T> {
     /// The instance, by the hash of its key (DDS 1.4, 2.2.2.5.5, `instance_handle`).
     pub key: KeyHash,
     pub body: Content<T>,
+    /// Whether an earlier call returned this entry (DDS 1.4, 2.2.2.5.1.2, `sample_state`).
     pub sample: SampleState,
+    /// Whether an earlier call returned an entry of its instance since that was made or became
+    /// alive again (DDS 1.4, 2.2.2.5.1.4, `view_state`).
     pub view: ViewState,
+    /// The state of its instance (DDS 1.4, 2.2.2.5.1.3, `instance_state`).
     pub instance: InstanceState,
 }
 

@@ -23,9 +23,9 @@ pub(crate) struct ColorKey {
 }
 
 /// Recent colors with their key hashes, so that a known color is neither hashed nor tested for
-/// UTF-8 again. A color is at its own place, or at the first one behind it that was free when it
-/// came. Where half of the places are taken from there on, it takes its own from the one that was
-/// there.
+/// UTF-8 again. The places are a ring. A color is put at its own place or, if that is taken, at the
+/// first free one of the seven places after it. If all eight are taken, it replaces the color at
+/// its own place.
 #[derive(Debug, Drop)]
 pub struct ColorKeys {
     known: [Option<ColorKey>; PLACES],

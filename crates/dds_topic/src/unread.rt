@@ -11,16 +11,21 @@ use thiserror::Error;
 /// Why a change is presented without a value or a key.
 #[derive(Clone, Copy, Debug, PartialEq, Eq, Error)]
 pub enum Unread {
-    /// The catalog doesn't decode this encapsulation (DDSI-RTPS 10.2).
+    /// The catalog doesn't decode this encapsulation (DDSI-RTPS 10.2), or the payload is shorter
+    /// than the four octets of an encapsulation header.
     #[error("the encapsulation is none that is decoded")]
     Encapsulation,
-    /// The octets are no value of the type.
+    /// The octets after the encapsulation header are no value of the type; or, of a key payload, no
+    /// key of it.
     #[error("the octets are no value of the type")]
     Malformed,
-    /// The payload is in a form that the standard leaves open.
+    /// The payload is in a form that the standard leaves open (flag N of its DATA or DATA_FRAG). It
+    /// is also the reason for a change that neither disposes nor unregisters its instance, but has
+    /// a key payload or no payload in place of a value.
     #[error("the change has no form of the standard")]
     NonStandard,
-    /// There is no key to identify the instance.
+    /// The change disposes or unregisters an instance, but it has neither a payload nor a key hash
+    /// in its inline QoS to identify it.
     #[error("there is no key")]
     NoKey,
 }
@@ -28,7 +33,8 @@ pub enum Unread {
 impl Unread {
     ghost use Rattle.dds_topic.specs.Answer.{code_of, name_of};
 
-    /// Returns the number of the reason in printed lines, from 1 to 4 in the order above.
+    /// Returns the number of the reason in printed lines: 1 for `Encapsulation`, 2 for `Malformed`,
+    /// 3 for `NonStandard`, and 4 for `NoKey`.
     pub fn code(self) -> u32
         ensures { result ≡ code_of self }
     {

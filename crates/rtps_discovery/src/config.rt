@@ -62,8 +62,12 @@ pub struct FixedMatch {
 /// The configuration of our own participant.
 #[derive(Debug, Drop)]
 pub struct Config {
+    /// The prefix of our own participant (DDSI-RTPS 9.3.1.1), with which the guids of its readers
+    /// begin. Submessages that are sent to another participant are passed over.
     pub own: GuidPrefix,
+    /// The readers, by their ranks. [`check`](crate::check) takes 1 to 256 of them.
     pub readers: Vec<ReaderConfig>,
+    /// The fixed matches, in any order.
     pub fixed: Vec<FixedMatch>,
 }
 

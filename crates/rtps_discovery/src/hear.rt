@@ -62,8 +62,10 @@ pub(crate) fn locators_for<'a, A: Allocator>(
 }
 
 impl<A: Allocator + Copy> Registry<A> {
-    /// Appends the changes of our readers' matches with a writer that becomes `after`, where `None`
-    /// means that it goes. Returns the ranks of the readers that are matched with it then.
+    /// Compares what one writer announced before with what it announces now: appends the changes of
+    /// our readers' matches with a writer that becomes `after`, where `None` means that it goes.
+    /// Returns the ranks of the readers that are matched with it then. The registry itself isn't
+    /// changed: the caller keeps the writer and these ranks. An error is a refused growth.
     pub fn hear<'a>(
         &'a self,
         alloc: A,

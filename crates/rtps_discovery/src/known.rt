@@ -137,7 +137,7 @@ pub struct RemoteParticipant<A: Allocator = Global> {
     pub(crate) locators: Locators<A>,
     /// The lease: how long it may keep silent.
     pub(crate) lease: Duration,
-    /// The moment at which it was last heard.
+    /// The moment at which it last announced itself, in milliseconds.
     pub(crate) heard: u64,
 }
 
@@ -167,8 +167,9 @@ impl<A: Allocator> RemoteParticipant<A> {
         self.lease
     }
 
-    /// The moment at which it was last heard: the greatest one, in milliseconds, that had come
-    /// before its last record. A record that was ignored doesn't count.
+    /// The moment at which it last announced itself (DDSI-RTPS 8.5.3.2), in milliseconds: that of
+    /// the datagram which brought the announcement, or an earlier one of the run if that was
+    /// greater. The announcements of its endpoints don't count, nor does one that was ignored.
     pub fn heard(&self) -> u64
         ensures { result ≡ self.now.heard }
     {

@@ -149,7 +149,8 @@ fn take_all_writers<A: Allocator + Copy>(
     Ok(gone)
 }
 
-/// Appends the changes of matches of the reader of a rank as these writers go.
+/// Appends the changes of matches of the one reader of a rank as these writers go, in their order.
+/// An error is a refused growth.
 fn hear_ends<A: Allocator + Copy>(
     alloc: A,
     rank: u32,
@@ -173,7 +174,8 @@ fn hear_ends<A: Allocator + Copy>(
     Ok(())
 }
 
-/// Appends the changes of matches of our readers as these writers go, by rank and then by writer.
+/// Appends the changes of matches of all our readers as these writers go, by rank and then by
+/// writer. An error is a refused growth.
 fn hear_all_ends<A: Allocator + Copy>(
     alloc: A,
     readers: &[Option<Reader<A>>],

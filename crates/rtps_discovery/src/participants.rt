@@ -97,7 +97,9 @@ fn subscriptions(own: GuidPrefix, prefix: GuidPrefix, announces: bool) -> Link
 }
 
 impl<A: Allocator + Copy> RemoteParticipant<A> {
-    /// Replaces what it announced by what it announces now, at this moment.
+    /// Replaces what this participant announced of itself by what it announces now, at this moment,
+    /// in milliseconds: its default locators and its lease. No match changes by it. An error is a
+    /// refused growth, and then nothing is replaced.
     fn hear(&mut self, alloc: A, facts: Facts<'_>, moment: u64) -> Result<(), AllocError>
         ensures { OnOk result (self.new ≡ heard_at moment (facts_seen facts.entry)) }
     {

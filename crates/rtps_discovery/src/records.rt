@@ -134,7 +134,9 @@ impl<A: Allocator + Copy> Registry<A> {
         Ok(ignored)
     }
 
-    /// Applies an event of the participants' announcer.
+    /// Applies an event of the announcer of participants (SPDP, DDSI-RTPS 8.5.3). Our reader of it
+    /// is best-effort: a record is applied as it comes, no state of a match is kept, and nothing is
+    /// answered. An error is a refused growth.
     pub fn hear_participant(
         &mut self,
         alloc: A,
@@ -158,8 +160,10 @@ impl<A: Allocator + Copy> Registry<A> {
         Ok(effects)
     }
 
-    /// Passes an event of an announcer of endpoints to the match with it, if there is one, and
-    /// applies the changes that are ready then.
+    /// Passes an event of an announcer of endpoints (SEDP, DDSI-RTPS 8.5.4) to the match with it,
+    /// if there is one, and applies the changes that are ready then. Our readers of these
+    /// announcers are reliable: one event may make several records ready or none, and may be
+    /// answered. An error is a refused growth.
     pub fn hear_announcer(
         &mut self,
         alloc: A,

@@ -7,7 +7,8 @@ use std::alloc::{Allocator, Global};
 /// A report about a match. The notices of a reader are in the order of the events that cause them.
 #[derive(Debug, Drop)]
 pub struct Notice<V> {
-    /// The event that caused it.
+    /// The place of what caused it: an event, a moment that passed, or a reader of ours that came
+    /// or went.
     pub place: Place,
     /// The writer of the match.
     pub writer: Guid,

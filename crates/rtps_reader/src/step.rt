@@ -11,7 +11,8 @@ use std::alloc::{Allocator, Global};
 /// One step of a reader, with its place in the run.
 #[derive(Clone, Copy, Debug)]
 pub struct Step<'a, A: Allocator = Global> {
-    /// The place of the event that causes it.
+    /// The place of what causes it: an event, a moment that passes, or a reader of ours that comes
+    /// or goes.
     pub place: Place,
     pub what: StepKind<'a, A>,
 }

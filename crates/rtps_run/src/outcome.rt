@@ -9,7 +9,8 @@ use std::alloc::{Allocator, Global};
 /// An answer: a datagram that the owner of the sockets has to send.
 #[derive(Debug, Drop)]
 pub struct Answer<A: Allocator = Global> {
-    /// The place of the event that it answers, or of the moment that passed.
+    /// The place of the event that it answers, which is a HEARTBEAT or a HEARTBEAT_FRAG. Nothing
+    /// else is answered.
     pub place: Place,
     /// The rank of the reader that sends it, or `None` where discovery does.
     pub rank: Option<u32>,
@@ -19,12 +20,16 @@ pub struct Answer<A: Allocator = Global> {
     pub octets: Octets<A>,
 }
 
-/// The result of a datagram, of a tick or of a batch.
+/// The result of a datagram, of a batch, of a tick, or of a reader of ours that comes or goes. Only
+/// datagrams give answers.
 #[derive(Debug, Drop)]
 pub struct Outcome<V, A: Allocator = Global> {
-    /// The notices of each reader, by its rank, in the order of their causes.
+    /// A list for each rank that was given so far, which is its index here: the notices of the
+    /// reader of that rank, in the order of their causes. It is empty where the reader has nothing
+    /// to report or went before, or where an outlet of a participant gets its notices.
     pub notices: Vec<Vec<Notice<V>, A>, A>,
-    /// The answers, by place, discovery's before those of readers, and these by rank.
+    /// The answers of discovery and of all readers in one list: by place; at one place discovery's
+    /// before those of readers, and these by rank.
     pub answers: Vec<Answer<A>, A>,
     /// Ranks have 32 bits.
     ghost ranked: { vec_len notices ≤ 2 ^ 32 },

@@ -20,7 +20,7 @@ pub enum ReportKind {
 /// readers, and these by rank; for one reader its notices before its answer.
 #[derive(Clone, Copy, Debug, PartialEq, Eq, PartialOrd, Ord)]
 pub struct Turn {
-    /// The event that caused the report.
+    /// The place of what caused the report.
     pub place: Place,
     /// The rank of the reader, or `None` for discovery.
     pub rank: Option<u32>,

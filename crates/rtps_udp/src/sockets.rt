@@ -34,14 +34,18 @@ fn turn() -> Duration
 
 /// The two sockets of a participant, with a clock.
 ///
-/// A turn of a receiver: it waits at most a tenth of a second, runs what has come, and sends the
-/// answers.
+/// A turn of a receiver: it waits at most a tenth of a second, has the time pass, processes what
+/// has come, sends the answers, and puts what its reader reports into a cache.
 ///
 /// ```
 /// let mut sockets = Sockets::bind(&rt, &rt, alloc, 0)?;
 /// let mut batch = Batch::new(alloc)?;
 /// let moment = sockets.receive_batch(&mut batch, Duration::from_millis(100))?;
-/// let left = participant.tick(alloc, moment)?;
+/// // The matches that end as time passes. A tick gives no answers.
+/// let ended = participant.tick(alloc, moment)?;
+/// for notice in ended.notices.into_iter().flatten() {
+///     cache.accept(alloc, notice).map_err(AllocError::from)?;
+/// }
 /// let datagrams = batch.datagrams(alloc)?;
 /// let outcome = participant.run_batch(&rt, alloc, &NoGate, &datagrams, 4)?;
 /// for answer in &outcome.answers {
@@ -52,6 +56,9 @@ fn turn() -> Duration
 ///             Err(fault) => return Err(fault.into()),
 ///         }
 ///     }
+/// }
+/// for notice in outcome.notices.into_iter().flatten() {
+///     cache.accept(alloc, notice).map_err(AllocError::from)?;
 /// }
 /// ```
 #[derive(Drop)]
@@ -68,10 +75,12 @@ pub struct Sockets<'a, K> {
 }
 
 impl<'a, K: Clock> Sockets<'a, K> {
-    /// Binds the sockets of a domain's first participant on the loopback interface, 127.0.0.1, so
-    /// that no other machine reaches it, and starts to count milliseconds by the clock.
+    /// Binds the sockets of the first participant of a domain, 0 to 232, on the loopback interface,
+    /// 127.0.0.1, so that no other machine reaches it, and starts to count milliseconds by the
+    /// clock.
     ///
-    /// The faults are those of [`Sockets::bind_at`], but for a foreign address.
+    /// The faults are those of [`Sockets::bind_at`]. `ForeignAddress` comes only where this machine
+    /// doesn't have the address 127.0.0.1, for example because its loopback interface is down.
     pub fn bind(
         net: &impl Net,
         clock: &'a K,

@@ -16,7 +16,8 @@ pub enum Form {
     Value,
     /// A serialized key.
     Key,
-    /// A payload in no standard form.
+    /// A payload in no form of the standard: flag N is set, which counts more than D and K. It is
+    /// never decoded.
     Other,
     /// No payload.
     Nothing,
