@@ -1,5 +1,5 @@
 -- The results of the jobs of a batch (DDSI-RTPS 8.4.10, 8.5).
-use Rattle.std.specs.Prelude.{◌≡◌, ℕ, List, ◌++◌, map}
+use Rattle.std.specs.Prelude.{◌≡◌, ℕ, List, [], ◌++◌, map, true}
 use Rattle.rtps_receiver.specs.Events.{EventView}
 use Rattle.dds_topic.specs.Decoding.{Decoding}
 use Rattle.std.specs.declared.alloc.Global.{Global}
@@ -67,12 +67,16 @@ pub record IsValueOf {V M : Type 0} (f : V → M) (decoding : Decoding M) (s : S
   pub state : StandsAt (reader_done s) (given_done decoding s) x.state
   pub output : IsOutput f decoding s x.output
 
--- a result is that of this job, whatever other jobs there are: its rank, and the value of its share
+-- a result is that of this job, whatever other jobs there are: its rank, and the value of its share.
+-- Of a reader that is spent there is a result only where the job has no steps, and the reader is
+-- unchanged.
 pub record IsResultOf {V M : Type 0} (f : V → M) (decoding : Decoding M) (es : List EventView)
     (x : Posted V) (result : JobResult V) : Type 0 where
   pub rank : result.rank ≡ x.job.rank
   pub reader : result.state.rank ≡ x.state.rank
   pub value : (s : Share M) → IsShareOf es x s → IsValueOf f decoding s result
+  pub spent : x.state.spent ≡ true
+      → (steps_seen es x.job.steps.items ≡ []) × (result.state ≡ x.state)
 
 -- a reader has run its job, and its notices and answers are appended
 pub record HasTaken {V M : Type 0} (f : V → M) (decoding : Decoding M) (s : Share M)

@@ -1,6 +1,6 @@
 //! The steps of a job.
 
-ghost use Rattle.std.specs.Prelude.{◌≡◌, ◌∷◌, [], List, OnErr, OnOk, drop, map, take, true, ◌+◌};
+ghost use Rattle.std.specs.Prelude.{◌≡◌, ◌∷◌, [], List, OnErr, OnOk, drop, false, map, take, true, ◌+◌};
 ghost use Rattle.rtps_receiver.specs.Events.{view};
 ghost use Rattle.rtps_proxy.specs.Effects.{GivesNothing};
 ghost use Rattle.rtps_reader.specs.declared.notice.Notice.{Notice};
@@ -40,6 +40,8 @@ fn take_step<'a, C: Catalog>(
         → OnOk result (HasTaken C.view (C.decoding worker.old)
         (share r given ((step.now.place, asked step.now.what) ∷ [])) state.new output.old
         output.new) }
+    ensures sound { OnOk result (state.old.spent ≡ false) }
+    ensures still { state.old.spent ≡ true → state.new ≡ state.old }
     ensures rank { state.new.rank ≡ state.old.rank }
     ensures same { worker.new ≡ worker.old }
     ensures err { OnErr result (state.new.spent ≡ true) }
@@ -63,6 +65,8 @@ fn take_events<'a, C: Catalog>(
     ensures taken { (r : Reader) (given : List (Notice C.Meaning)) → StandsAt r given state.old
         → OnOk result (HasTaken C.view (C.decoding worker.old)
         (share r given (map taken_in (map view events.now))) state.new output.old output.new) }
+    ensures sound { OnOk result (state.old.spent ≡ true → events.now ≡ []) }
+    ensures still { state.old.spent ≡ true → state.new ≡ state.old }
     ensures rank { state.new.rank ≡ state.old.rank }
     ensures same { worker.new ≡ worker.old }
     ensures err { OnErr result (state.new.spent ≡ true) }
@@ -88,6 +92,9 @@ pub(crate) fn take_steps<'a, C: Catalog>(
         → OnOk result (HasTaken C.view (C.decoding worker.old)
         (share r given (steps_seen (map view events.now) steps.now)) state.new output.old
         output.new) }
+    ensures sound { OnOk result (state.old.spent ≡ true
+        → steps_seen (map view events.now) steps.now ≡ []) }
+    ensures still { state.old.spent ≡ true → state.new ≡ state.old }
     ensures rank { state.new.rank ≡ state.old.rank }
     ensures same { worker.new ≡ worker.old }
     ensures err { OnErr result (state.new.spent ≡ true) }

@@ -1,6 +1,6 @@
 //! Running jobs on workers.
 
-ghost use Rattle.std.specs.Prelude.{◌≡◌, ℕ, ◌≤◌, ◌++◌, All, IfOk, List, OnErr, OnOk, length, map, true};
+ghost use Rattle.std.specs.Prelude.{◌≡◌, [], ℕ, ◌≤◌, ◌++◌, All, IfOk, List, OnErr, OnOk, length, map, true};
 ghost use Rattle.std.specs.List.Sorted.{IsPermutation};
 ghost use Rattle.rtps_receiver.specs.Events.{view, EventView};
 ghost use Rattle.rtps_planner.specs.Plan.{steps_seen};
@@ -25,7 +25,7 @@ use std::thread::Threads;
 /// Runs the job of one reader in place. Its notices and answers replace the contents of `output`.
 ///
 /// An error is a refused growth. The reader is spent then: it answers each later step with the same
-/// error. `output` has the notices and answers that came before the refusal.
+/// error, and doesn't change. `output` has the notices and answers that came before the refusal.
 pub fn run_job<C: Catalog, G: Gate>(
     worker: &mut Worker<&C>,
     batch: &SharedBatch<'_, C, G>,
@@ -41,6 +41,9 @@ pub fn run_job<C: Catalog, G: Gate>(
         → steps_seen (map view batch.now.events.now) job.now.steps.items ≡ s.job
         → StandsAt s.reader s.given state.old
         → OnOk result (IsOutput C.view (C.decoding batch.now.catalog.now) s output.new) }
+    ensures sound { OnOk result (state.old.spent ≡ true
+        → steps_seen (map view batch.now.events.now) job.now.steps.items ≡ []) }
+    ensures still { state.old.spent ≡ true → state.new ≡ state.old }
     ensures rank { state.new.rank ≡ state.old.rank }
     ensures same { worker.new ≡ worker.old }
     ensures err { OnErr result (state.new.spent ≡ true) }

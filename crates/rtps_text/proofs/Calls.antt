@@ -7,7 +7,7 @@ use Rattle.rtps_records.specs.Traffic.{Exhausted, Failed, Grows, Passed, Receive
 use Rattle.rtps_records.specs.declared.receive_end.ReceiveEnd.{ReceiveEnd}
 use Rattle.rtps_records.specs.declared.receive_end.ReceiveEnd.TheVariants.{Drained, Fault, More}
 use Rattle.rtps_records.proofs.Received.{Grows-nil, Grows-trans}
-use Rattle.rtps_text.specs.Listened.{IsDrained, WaitsInTurn}
+use Rattle.rtps_text.specs.Listened.{IsDrained, ReadsClock, WaitsInTurn}
 use Rattle.rtps_text.specs.Live.{IsLast}
 use Rattle.rtps_text.specs.Sending.{Sends, sendings}
 
@@ -229,19 +229,24 @@ pub comes_begun : (m : ℕ) (records : List Record) (datagrams : List (List ℕ)
 comes_begun m records datagrams are = comes_received m records datagrams More are
 
 -- calls without a send, and then those that send answers
-pub comes_answered : (m n : ℕ) (calls : List Traffic) (records : List Record) (count failed : ℕ)
-    (sends : List (Locator × List ℕ)) → Comes m n calls records count [] 0 failed
-    → Comes m n (calls ++ sendings sends) records count sends 0 failed
-comes_answered m n calls records count failed sends c =
+pub comes_answered : (m n : ℕ) (calls : List Traffic) (records : List Record)
+    (count waited failed : ℕ) (sends : List (Locator × List ℕ))
+    → Comes m n calls records count [] waited failed
+    → Comes m n (calls ++ sendings sends) records count sends waited failed
+comes_answered m n calls records count waited failed sends c =
     let all = comes_both m n n _ _ _ _ _ _ _ _ _ _ _ _ c (comes_sendings n sends) in
     record {
       heard = all.heard ∙ append-nil records;
       at = all.at;
       received = omega (arith, all.received);
       sent = all.sent;
-      waits = all.waits;
+      waits = omega (arith, all.waits);
       failures = omega (arith, all.failures);
     }
+
+-- one wait, after which the clock is read
+pub comes_turned : (m n : ℕ) → Comes m n (Waited ∷ Passed n ∷ []) (Tick n ∷ []) 0 [] 1 0
+comes_turned m n = comes_both m m n _ _ _ _ _ _ _ _ _ _ _ _ (comes_waited m) (comes_passed m n)
 
 -- ---- waits
 
@@ -253,47 +258,73 @@ cons-tail x y xs ys e = cc
 
 -- a call in two joined lists of calls is in the first one or in the second one
 split : (xs ys past later : List Traffic) (c : Traffic) → xs ++ ys ≡ past ++ c ∷ later
-    → ((rest : List Traffic) × (xs ≡ past ++ c ∷ rest))
+    → ((rest : List Traffic) × (xs ≡ past ++ c ∷ rest) × (later ≡ rest ++ ys))
     ⊎ ((front : List Traffic) × (past ≡ xs ++ front) × (ys ≡ front ++ c ∷ later))
 split [] ys past later c e = inr (past, refl, e)
 split (x ∷ xs) ys [] later c e =
-    inl (xs, ap (λ y. y ∷ xs) (cons-head x c (xs ++ ys) later e))
+    inl (
+      xs,
+      ap (λ y. y ∷ xs) (cons-head x c (xs ++ ys) later e),
+      sym (cons-tail x c (xs ++ ys) later e),
+    )
 split (x ∷ xs) ys (p ∷ past) later c e =
     let head = cons-head x p (xs ++ ys) (past ++ c ∷ later) e in
     elim (split xs ys past later c (cons-tail x p (xs ++ ys) (past ++ c ∷ later) e)) [
-      | inl one ↦ inl (one.0, ap (λ y. y ∷ xs) head ∙ ap (λ l. p ∷ l) one.1)
+      | inl one ↦ inl (one.0, ap (λ y. y ∷ xs) head ∙ ap (λ l. p ∷ l) one.1, one.2)
       | inr other ↦
           inr (other.0, ap (λ l. p ∷ l) other.1 ∙ ap (λ y. y ∷ (xs ++ other.0)) (sym head), other.2)
     ]
+
+-- if the next call reads the clock, it does so whatever calls follow
+reads_on : (rest more later : List Traffic) → ReadsClock rest → later ≡ rest ++ more
+    → ReadsClock later
+reads_on rest more later r is = record {
+  moment = r.moment;
+  rest = r.rest ++ more;
+  first = is ∙ ap (λ l. l ++ more) r.first;
+}
 
 module _ (sends : List Record → List (Locator × List ℕ)) where
   -- more calls, without a wait among them
   pub in_turn_more : (calls more : List Traffic) → WaitsInTurn sends calls → waits_in more ≡ 0
       → WaitsInTurn sends (calls ++ more)
   in_turn_more calls more h none past later e = elim (split calls more past later Waited e) [
-    | inl one ↦ h past one.0 one.1
+    | inl one ↦
+        let was = h past one.0 one.1 in
+        (was.0, was.1, reads_on one.0 more later was.2 one.2)
     | inr other ↦
         let bad = waits-append other.0 (Waited ∷ later) in
         absurd (omega (arith, none, ap waits_in other.2, bad))
   ]
 
-  -- one more wait
-  pub in_turn_wait : (calls : List Traffic) → WaitsInTurn sends calls → IsDrained calls
-      → sent_in calls ≡ sends (heard_in calls) → WaitsInTurn sends (calls ++ Waited ∷ [])
-  in_turn_wait calls h drained sent past later e =
-      elim (split calls (Waited ∷ []) past later Waited e) [
-        | inl one ↦ h past one.0 one.1
+  -- one more wait, a reading of the clock, and more calls without a wait among them
+  pub in_turn_wait : (calls : List Traffic) (moment : ℕ) (more : List Traffic)
+      → WaitsInTurn sends calls → IsDrained calls → sent_in calls ≡ sends (heard_in calls)
+      → waits_in more ≡ 0 → WaitsInTurn sends (calls ++ Waited ∷ Passed moment ∷ more)
+  in_turn_wait calls moment more h drained sent none past later e =
+      elim (split calls (Waited ∷ Passed moment ∷ more) past later Waited e) [
+        | inl one ↦
+            let was = h past one.0 one.1 in
+            (was.0, was.1, reads_on one.0 (Waited ∷ Passed moment ∷ more) later was.2 one.2)
         | inr other ↦ here other.0 other.1 other.2
       ]
     where
-      here : (front : List Traffic) → past ≡ calls ++ front → Waited ∷ [] ≡ front ++ Waited ∷ later
-          → IsDrained past × (sent_in past ≡ sends (heard_in past))
+      here : (front : List Traffic) → past ≡ calls ++ front
+          → Waited ∷ Passed moment ∷ more ≡ front ++ Waited ∷ later
+          → IsDrained past × (sent_in past ≡ sends (heard_in past)) × ReadsClock later
       here [] is last =
           let same : calls ≡ past = sym (append-nil calls) ∙ sym is in
-          subst (λ c. IsDrained c × (sent_in c ≡ sends (heard_in c))) same (drained, sent)
+          let next : ReadsClock later = record {
+            moment = moment;
+            rest = more;
+            first = sym (cons-tail Waited Waited (Passed moment ∷ more) later last);
+          } in
+          subst (λ c. IsDrained c × (sent_in c ≡ sends (heard_in c)) × ReadsClock later) same
+          (drained, sent, next)
       here (c ∷ front) is last =
-          let tail = cons-tail Waited c [] (front ++ Waited ∷ later) last in
-          absurd (omega (arith, ap length tail, length-append front (Waited ∷ later)))
+          let tail = cons-tail Waited c (Passed moment ∷ more) (front ++ Waited ∷ later) last in
+          let bad = waits-append front (Waited ∷ later) in
+          absurd (omega (arith, none, ap waits_in tail, bad))
 
 -- the last call of a batch tells whether all datagrams that came were received
 pub last_is : (end : ReceiveEnd) (calls : List Traffic) (datagrams : List (List ℕ))

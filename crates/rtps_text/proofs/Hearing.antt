@@ -12,7 +12,7 @@ use Rattle.rtps_types.specs.declared.locator.Locator.{Locator}
 use Rattle.rtps_records.specs.RecordFile.{Record}
 use Rattle.rtps_records.specs.Runs.{Closes, ClosesNot, Moves, PutsFront}
 use Rattle.rtps_records.specs.Text.{IsFront}
-use Rattle.rtps_records.specs.Traffic.{Failed, Grows, Traffic, Waited, failures_in, heard_in, received_in, sent_in}
+use Rattle.rtps_records.specs.Traffic.{Failed, Grows, Passed, Traffic, Waited, failures_in, heard_in, received_in, sent_in}
 use Rattle.rtps_records.specs.declared.fault.RunFault.{RunFault}
 use Rattle.rtps_records.specs.declared.fault.RunFault.TheVariants.{CannotWrite, NoMemory}
 use Rattle.rtps_records.specs.declared.receive_end.ReceiveEnd.{ReceiveEnd}
@@ -39,7 +39,7 @@ use Rattle.rtps_text.specs.declared.printer.Printer.{Printer}
 use Rattle.rtps_text.specs.declared.running.RunLines.{RunLines}
 use Rattle.rtps_text.specs.declared.texts.Texts.{Texts}
 use Rattle.rtps_text.proofs.Batches.{all_written, by_place, said_more}
-use Rattle.rtps_text.proofs.Calls.{Comes, comes_answered, comes_both, comes_failed, comes_waited, in_turn_more, in_turn_wait}
+use Rattle.rtps_text.proofs.Calls.{Comes, comes_answered, comes_both, comes_failed, comes_sendings, in_turn_more, in_turn_wait}
 use Rattle.rtps_text.proofs.Run.{put_on}
 use Rattle.rtps_text.proofs.Sent.{given_by_place, given_send}
 
@@ -141,20 +141,44 @@ silent text decoding first then now origin old most left waits more moment faile
       says = l.says;
     }
 
--- all datagrams that came were received, and then one more wait was made
-pub listens_waited : {C M : Type 0} (text : C → M → List ℕ) (decoding : C → Decoding M)
-    (first then now : Option (List Traffic)) (origin old : Option (List ℕ))
+-- ---- what is heard next
+
+-- whatever is answered to these calls, each wait is in turn
+abbrev pub KeepsTurn : (List Record → List (Locator × List ℕ)) → List Traffic → List Traffic → Type 0
+KeepsTurn sends calls more =
+    (answers : List (Locator × List ℕ)) → WaitsInTurn sends (calls ++ (more ++ sendings answers))
+
+-- so it is after calls without a wait among them
+pub keeps_turn : {C M : Type 0} (text : C → M → List ℕ) (decoding : C → Decoding M)
+    (first now : Option (List Traffic)) (old new : Option (List ℕ))
+    (most left waits moment next_moment count failed : ℕ) (end : ReceiveEnd)
+    (engine : EngineView C) (batch : List Record) (more : List Traffic)
+    → Comes moment next_moment more batch count [] 0 failed
+    → (l : Listens text decoding first now old new most left waits moment end engine)
+    → KeepsTurn (sends_by decoding engine) l.calls more
+keeps_turn text decoding first now old new most left waits moment next_moment count failed end engine batch more comes l answers =
+    let all = comes_answered moment next_moment more batch count 0 failed answers comes in
+    in_turn_more (sends_by decoding engine) l.calls (more ++ sendings answers) l.in_turn all.waits
+
+-- and after a wait with all datagrams received, and a reading of the clock
+pub turns_next : {C M : Type 0} (text : C → M → List ℕ) (decoding : C → Decoding M)
+    (first now : Option (List Traffic)) (old new : Option (List ℕ))
+    (most left waits moment next_moment : ℕ) (engine : EngineView C)
+    → (l : Listens text decoding first now old new most left waits moment Drained engine)
+    → KeepsTurn (sends_by decoding engine) l.calls (Waited ∷ Passed next_moment ∷ [])
+turns_next text decoding first now old new most left waits moment next_moment engine l answers =
+    in_turn_wait (sends_by decoding engine) l.calls next_moment (sendings answers) l.in_turn l.last
+    (answered text decoding first now old new most left waits moment Drained engine l)
+    (comes_sendings 0 answers).waits
+
+-- a run whose last batch ended so
+pub as_drained : {C M : Type 0} (text : C → M → List ℕ) (decoding : C → Decoding M)
+    (first now : Option (List Traffic)) (old new : Option (List ℕ))
     (most left waits moment : ℕ) (end : ReceiveEnd) (engine : EngineView C) → end ≡ Drained
-    → Grows then now (Waited ∷ [])
-    → Listens text decoding first then origin old most left waits moment end engine
-    → Listens text decoding first now origin old most left (waits + 1) moment More engine
-listens_waited text decoding first then now origin old most left waits moment end engine is grows before =
-    let l : Listens text decoding first then origin old most left waits moment Drained engine =
-    subst (λ e. Listens text decoding first then origin old most left waits moment e engine) is before in
-    silent text decoding first then now origin old most left waits 1 moment 0 Drained More engine
-    (Waited ∷ []) (comes_waited moment) grows refl l tt
-    (in_turn_wait (sends_by decoding engine) l.calls l.in_turn l.last
-    (answered text decoding first then origin old most left waits moment Drained engine l))
+    → Listens text decoding first now old new most left waits moment end engine
+    → Listens text decoding first now old new most left waits moment Drained engine
+as_drained text decoding first now old new most left waits moment end engine is l =
+    subst (λ e. Listens text decoding first now old new most left waits moment e engine) is l
 
 -- the network failed at one more wait
 pub listens_failed : {C M : Type 0} (text : C → M → List ℕ) (decoding : C → Decoding M)
@@ -198,23 +222,26 @@ batch_sends f decoding records batch before given mid now g s =
 -- written.
 pub listens_more : {C V M : Type 0} (text : C → M → List ℕ) (f : V → M) (decoding : C → Decoding M)
     (first then mid now : Option (List Traffic)) (origin old new : Option (List ℕ))
-    (most left less waits moment next_moment count failed : ℕ) (before next : EngineView C)
-    (given : BatchOutput V) (batch : List Record) (more : List Traffic) (end : ReceiveEnd) (k : C)
-    (readers : ℕ) → (next.catalog ≡ before.catalog) × (next.config ≡ before.config)
+    (most left less waits turned moment next_moment count failed : ℕ) (before next : EngineView C)
+    (given : BatchOutput V) (batch : List Record) (more : List Traffic) (from end : ReceiveEnd)
+    (k : C) (readers : ℕ)
+    → (next.catalog ≡ before.catalog) × (next.config ≡ before.config)
     → TakesRecords f decoding batch before next given → next.catalog ≡ k
     → length next.config.readers.items ≡ readers
-    → Comes moment next_moment more batch count [] 0 failed → failed ≡ failures_of end
+    → Comes moment next_moment more batch count [] turned failed → failures_of from ≡ 0
+    → failed ≡ failures_of end
     → Grows then mid more
     → ((calls : List Traffic) (sends : List (Locator × List ℕ)) → IsLast end (calls ++ (more ++ sendings sends)))
     → Sends (AreAnswersByPlace given) mid now (given_sends given)
     → left ≡ count + less
     → ((earlier : List Record) → StandsAt decoding earlier before → Appends old new (all_lines (text k) f given readers))
-    → Listens text decoding first then origin old most left waits moment More before
-    → Listens text decoding first now origin new most less waits next_moment end next
-listens_more text f decoding first then mid now origin old new most left less waits moment next_moment count failed before next given batch more end k readers same takes own counted comes fails grows last s fewer wrote l =
-    let sent_too = comes_answered moment next_moment more batch count failed s.sent comes in
+    → (l : Listens text decoding first then origin old most left waits moment from before)
+    → KeepsTurn (sends_by decoding before) l.calls more
+    → Listens text decoding first now origin new most less (waits + turned) next_moment end next
+listens_more text f decoding first then mid now origin old new most left less waits turned moment next_moment count failed before next given batch more from end k readers same takes own counted comes none fails grows last s fewer wrote l in_turn =
+    let sent_too = comes_answered moment next_moment more batch count turned failed s.sent comes in
     let all = comes_both 0 moment next_moment _ _ _ _ _ _ _ _ _ _ _ _
-    (tally text decoding first then origin old most left waits moment More before l) sent_too in
+    (tally text decoding first then origin old most left waits moment from before l) sent_too in
     let ours : sends_by decoding before ≡ sends_by decoding next =
     one_sends decoding before next (sym same.0) (sym same.1) in
     let calls = more ++ sendings s.sent in
@@ -226,11 +253,11 @@ listens_more text f decoding first then mid now origin old new most left less wa
       heard = all.heard;
       at = all.at;
       count = omega (arith, all.received, l.count, fewer);
-      waited = omega (arith, all.waits);
-      failed = omega (arith, all.failures, fails);
+      waited = all.waits;
+      failed = omega (arith, all.failures, fails, none);
       last = last l.calls s.sent;
       in_turn = subst (λ (sends : List Record → List (Locator × List ℕ)). WaitsInTurn sends (l.calls ++ calls)) ours
-          (in_turn_more (sends_by decoding before) l.calls calls l.in_turn sent_too.waits);
+          (in_turn s.sent);
       sent = all.sent
           ∙ batch_sends f decoding l.records batch before given mid now (takes.gives l.records l.says.stands) s
           ∙ ap (λ (sends : List Record → List (Locator × List ℕ)). sends (l.records ++ batch)) ours;
@@ -264,16 +291,19 @@ sent_front made calls front = front
 -- a run stopped after it heard a batch and before it was processed
 pub stops_untaken : {C M : Type 0} (text : C → M → List ℕ) (decoding : C → Decoding M)
     (first then now : Option (List Traffic)) (origin old : Option (List ℕ))
-    (most left waits moment next_moment count failed : ℕ) (engine : EngineView C) (summary : Bool)
-    (batch : List Record) (more : List Traffic)
-    → Comes moment next_moment more batch count [] 0 failed → Grows then now more → count ≤ left
-    → Listens text decoding first then origin old most left waits moment More engine
-    → Stopped (live_by text decoding engine summary) most waits NoMemory first now origin old
-stops_untaken text decoding first then now origin old most left waits moment next_moment count failed engine summary batch more c grows few l =
+    (most left waits turned moment next_moment count failed : ℕ) (engine : EngineView C)
+    (summary : Bool) (batch : List Record) (more : List Traffic) (from : ReceiveEnd)
+    → Comes moment next_moment more batch count [] turned failed → Grows then now more
+    → count ≤ left
+    → (l : Listens text decoding first then origin old most left waits moment from engine)
+    → KeepsTurn (sends_by decoding engine) l.calls more
+    → Stopped (live_by text decoding engine summary) most (waits + turned) NoMemory first now origin
+    old
+stops_untaken text decoding first then now origin old most left waits turned moment next_moment count failed engine summary batch more from c grows few l in_turn =
     let made = live_by text decoding engine summary in
     let calls = l.calls ++ more in
     let all = comes_both 0 moment next_moment l.calls more _ _ _ _ _ _ _ _ _ _
-    (tally text decoding first then origin old most left waits moment More engine l) c in
+    (tally text decoding first then origin old most left waits moment from engine l) c in
     let on = put_on decoding engine l.records batch in
     let was = (run_by decoding engine l.records).put in
     let sent : sent_in calls ≡ sends_of was = all.sent ∙ append-nil (sends_of was) in
@@ -289,7 +319,7 @@ stops_untaken text decoding first then now origin old most left waits moment nex
       grows = Grows-trans first then now l.calls more l.grows grows;
       few = omega (arith, all.received, l.count, few);
       within = omega (arith, all.waits);
-      in_turn = in_turn_more made.sends l.calls more l.in_turn c.waits;
+      in_turn = subst (λ m. WaitsInTurn made.sends (l.calls ++ m)) (append-nil more) (in_turn []);
       sent = sent_front made calls (sends_of on.0, sends);
       put = l.written;
       wrote = l.wrote;
@@ -300,25 +330,27 @@ stops_untaken text decoding first then now origin old most left waits moment nex
 -- lines was written
 pub stops_writing : {C V M : Type 0} (text : C → M → List ℕ) (f : V → M) (decoding : C → Decoding M)
     (first then mid now : Option (List Traffic)) (origin old new : Option (List ℕ))
-    (most left waits moment next_moment count failed : ℕ) (before next : EngineView C)
-    (summary : Bool) (given : BatchOutput V) (batch : List Record) (more : List Traffic) (k : C)
-    (readers : ℕ) (fault : RunFault) → (next.catalog ≡ before.catalog) × (next.config ≡ before.config)
+    (most left waits turned moment next_moment count failed : ℕ) (before next : EngineView C)
+    (summary : Bool) (given : BatchOutput V) (batch : List Record) (more : List Traffic)
+    (from : ReceiveEnd) (k : C) (readers : ℕ) (fault : RunFault)
+    → (next.catalog ≡ before.catalog) × (next.config ≡ before.config)
     → TakesRecords f decoding batch before next given → next.catalog ≡ k
     → length next.config.readers.items ≡ readers
-    → Comes moment next_moment more batch count [] 0 failed → Grows then mid more
+    → Comes moment next_moment more batch count [] turned failed → Grows then mid more
     → Sends (AreAnswersByPlace given) mid now (given_sends given) → count ≤ left
     → ((earlier : List Record) → StandsAt decoding earlier before → PutsFront old new (all_lines (text k) f given readers))
     → (fault ≡ CannotWrite) ⊎ (fault ≡ NoMemory)
-    → Listens text decoding first then origin old most left waits moment More before
-    → Stopped (live_by text decoding before summary) most waits fault first now origin new
-stops_writing text f decoding first then mid now origin old new most left waits moment next_moment count failed before next summary given batch more k readers fault same takes own counted comes grows s few puts cause l =
+    → (l : Listens text decoding first then origin old most left waits moment from before)
+    → KeepsTurn (sends_by decoding before) l.calls more
+    → Stopped (live_by text decoding before summary) most (waits + turned) fault first now origin new
+stops_writing text f decoding first then mid now origin old new most left waits turned moment next_moment count failed before next summary given batch more from k readers fault same takes own counted comes grows s few puts cause l in_turn =
     let made = live_by text decoding before summary in
     let lines = all_lines (text k) f given readers in
     let calls = l.calls ++ (more ++ sendings s.sent) in
     let wrote = puts l.records l.says.stands in
-    let sent_too = comes_answered moment next_moment more batch count failed s.sent comes in
+    let sent_too = comes_answered moment next_moment more batch count turned failed s.sent comes in
     let all = comes_both 0 moment next_moment _ _ _ _ _ _ _ _ _ _ _ _
-    (tally text decoding first then origin old most left waits moment More before l) sent_too in
+    (tally text decoding first then origin old most left waits moment from before l) sent_too in
     let sent : sent_in calls ≡ made.sends (heard_in calls) = all.sent
     ∙ batch_sends f decoding l.records batch before given mid now (takes.gives l.records l.says.stands) s
     ∙ sym (ap made.sends all.heard) in
@@ -333,7 +365,7 @@ stops_writing text f decoding first then mid now origin old new most left waits 
           (Grows-trans then mid now more (sendings s.sent) grows s.grows);
       few = omega (arith, all.received, l.count, few);
       within = omega (arith, all.waits);
-      in_turn = in_turn_more made.sends l.calls _ l.in_turn sent_too.waits;
+      in_turn = in_turn s.sent;
       sent = sent_whole fault made calls cause sent;
       put = l.written ++ take wrote.0 lines;
       wrote = Appends-trans _ _ _ _ _ l.wrote wrote.1;
@@ -347,28 +379,32 @@ stops_writing text f decoding first then mid now origin old new most left waits 
 -- what the run of a batch that was heard does when it stops
 pub breaks_off : {C V U M : Type 0} (text : C → M → List ℕ) (f : V → M) (decoding : C → Decoding M)
     (first then mid now : Option (List Traffic)) (origin old new : Option (List ℕ))
-    (most left waits moment next_moment count failed : ℕ) (before after : Live C V U)
-    (batch : List Record) (more : List Traffic) (fault : RunFault) → IsLive before
-    → Comes moment next_moment more batch count [] 0 failed → Grows then mid more → count ≤ left
+    (most left waits turned moment next_moment count failed : ℕ) (before after : Live C V U)
+    (batch : List Record) (more : List Traffic) (from : ReceiveEnd) (fault : RunFault)
+    → IsLive before → Comes moment next_moment more batch count [] turned failed
+    → Grows then mid more → count ≤ left
     → BreaksOff text f decoding batch before after fault mid now old new
-    → Listens text decoding first then origin old most left waits moment More
-    before.run.participant.engine
-    → Stopped (live_by text decoding before.run.participant.engine before.run.summary) most waits
-    fault first now origin new
-breaks_off text f decoding first then mid now origin old new most left waits moment next_moment count failed before after batch more fault live comes grows few (Untaken none still kept) l =
+    → (l : Listens text decoding first then origin old most left waits moment from
+    before.run.participant.engine)
+    → KeepsTurn (sends_by decoding before.run.participant.engine) l.calls more
+    → Stopped (live_by text decoding before.run.participant.engine before.run.summary) most
+    (waits + turned) fault first now origin new
+breaks_off text f decoding first then mid now origin old new most left waits turned moment next_moment count failed before after batch more from fault live comes grows few (Untaken none still kept) l in_turn =
     let made = live_by text decoding before.run.participant.engine before.run.summary in
-    subst (λ x. Stopped made most waits x first now origin new) (sym none)
-    (subst (λ x. Stopped made most waits NoMemory first x origin new) (sym still)
-    (subst (λ x. Stopped made most waits NoMemory first mid origin x) (sym kept)
-    (stops_untaken text decoding first then mid origin old most left waits moment next_moment count
-    failed before.run.participant.engine before.run.summary batch more comes grows few l)))
-breaks_off text f decoding first then mid now origin old new most left waits moment next_moment count failed before after batch more fault live comes grows few (Unwritten cause same takes sends puts) l =
-    stops_writing text f decoding first then mid now origin old new most left waits moment next_moment
-    count failed before.run.participant.engine after.run.participant.engine before.run.summary
-    after.run.given batch more before.printer.catalog.now before.printer.readers fault
+    subst (λ x. Stopped made most (waits + turned) x first now origin new) (sym none)
+    (subst (λ x. Stopped made most (waits + turned) NoMemory first x origin new) (sym still)
+    (subst (λ x. Stopped made most (waits + turned) NoMemory first mid origin x) (sym kept)
+    (stops_untaken text decoding first then mid origin old most left waits turned moment next_moment
+    count failed before.run.participant.engine before.run.summary batch more from comes grows few l
+    in_turn)))
+breaks_off text f decoding first then mid now origin old new most left waits turned moment next_moment count failed before after batch more from fault live comes grows few (Unwritten cause same takes sends puts) l in_turn =
+    stops_writing text f decoding first then mid now origin old new most left waits turned moment
+    next_moment count failed before.run.participant.engine after.run.participant.engine
+    before.run.summary after.run.given batch more from before.printer.catalog.now
+    before.printer.readers fault
     (same.catalog, same.config) takes (same.catalog ∙ sym live.own)
     (ap (λ (config : Config). length config.readers.items) same.config ∙ sym live.readers) comes
-    grows sends few puts cause l
+    grows sends few puts cause l in_turn
 
 -- a live run with the same parts is one too
 pub live_as : {C V U : Type 0} (a b : Live C V U) → IsLive a → b.run ≡ a.run → b.printer ≡ a.printer
@@ -385,23 +421,24 @@ live_as {C} {V} {U} a b live runs printers texts = record {
 -- the run goes on once a batch that was heard is processed
 pub goes_on : {C V U M : Type 0} (text : C → M → List ℕ) (f : V → M) (decoding : C → Decoding M)
     (first then mid now : Option (List Traffic)) (origin old new : Option (List ℕ))
-    (most left less waits moment next_moment count failed : ℕ) (before after : Live C V U)
-    (batch : List Record) (more : List Traffic) (end : ReceiveEnd) → IsLive before
-    → IsSameRun before.run after.run → Comes moment next_moment more batch count [] 0 failed
-    → failed ≡ failures_of end → Grows then mid more
+    (most left less waits turned moment next_moment count failed : ℕ) (before after : Live C V U)
+    (batch : List Record) (more : List Traffic) (from end : ReceiveEnd) → IsLive before
+    → IsSameRun before.run after.run → Comes moment next_moment more batch count [] turned failed
+    → failures_of from ≡ 0 → failed ≡ failures_of end → Grows then mid more
     → ((calls : List Traffic) (sends : List (Locator × List ℕ)) → IsLast end (calls ++ (more ++ sendings sends)))
     → left ≡ count + less → Processes text f decoding batch before after mid now old new
-    → Listens text decoding first then origin old most left waits moment More
-    before.run.participant.engine
-    → Listens text decoding first now origin new most less waits next_moment end
+    → (l : Listens text decoding first then origin old most left waits moment from
+    before.run.participant.engine)
+    → KeepsTurn (sends_by decoding before.run.participant.engine) l.calls more
+    → Listens text decoding first now origin new most less (waits + turned) next_moment end
     after.run.participant.engine
-goes_on text f decoding first then mid now origin old new most left less waits moment next_moment count failed before after batch more end live same comes fails grows last fewer done l =
-    listens_more text f decoding first then mid now origin old new most left less waits moment
+goes_on text f decoding first then mid now origin old new most left less waits turned moment next_moment count failed before after batch more from end live same comes none fails grows last fewer done l in_turn =
+    listens_more text f decoding first then mid now origin old new most left less waits turned moment
     next_moment count failed before.run.participant.engine after.run.participant.engine
-    after.run.given batch more end before.printer.catalog.now before.printer.readers
+    after.run.given batch more from end before.printer.catalog.now before.printer.readers
     (same.catalog, same.config) done.takes (same.catalog ∙ sym live.own)
     (ap (λ (config : Config). length config.readers.items) same.config ∙ sym live.readers) comes
-    fails grows last done.sends fewer done.wrote l
+    none fails grows last done.sends fewer done.wrote l in_turn
 
 -- what is stated of a run that stopped holds also for equal results and a greater limit of waits
 pub stopped_same : (a b : LiveRun) (most turns more : ℕ) (fault : RunFault)

@@ -5,7 +5,7 @@ use Rattle.std.specs.Io.KnownBytes.{Appends}
 use Rattle.rtps_types.specs.declared.locator.Locator.{Locator}
 use Rattle.rtps_records.specs.RecordFile.{Record}
 use Rattle.rtps_records.specs.Text.{IsFront}
-use Rattle.rtps_records.specs.Traffic.{Exhausted, Grows, Traffic, Waited, failures_in, heard_in, received_in, sent_in, waits_in}
+use Rattle.rtps_records.specs.Traffic.{Exhausted, Grows, Passed, Traffic, Waited, failures_in, heard_in, received_in, sent_in, waits_in}
 use Rattle.rtps_records.specs.declared.fault.RunFault.{RunFault}
 use Rattle.rtps_records.specs.declared.fault.RunFault.TheVariants.{CannotWrite, NoMemory}
 use Rattle.dds_topic.specs.Decoding.{Decoding}
@@ -54,11 +54,18 @@ IsOver limits calls =
     (length (received_in calls) ≡ limits.datagrams)
     ⊎ ((waits_in calls ≡ limits.turns) × IsDrained calls)
 
--- at each wait, all datagrams that came before were received, and all answers to them were sent
+-- the next call reads the clock
+pub record ReadsClock (calls : List Traffic) : Type 0 where
+  pub moment : ℕ
+  pub rest : List Traffic
+  pub first : calls ≡ Passed moment ∷ rest
+
+-- at each wait, all datagrams that came before were received, and all answers to them were sent;
+-- and after it the clock is read, before anything else
 abbrev pub WaitsInTurn : (List Record → List (Locator × List ℕ)) → List Traffic → Type 0
 WaitsInTurn sends calls =
     (past later : List Traffic) → calls ≡ past ++ Waited ∷ later
-    → IsDrained past × (sent_in past ≡ sends (heard_in past))
+    → IsDrained past × (sent_in past ≡ sends (heard_in past)) × ReadsClock later
 
 -- all answers of the run over what was heard were sent, in order, and its whole text was written
 pub record IsDone (made : LiveRun) (calls : List Traffic) (old new : Option (List ℕ))
@@ -103,7 +110,8 @@ pub record Listened (made : LiveRun) (limits : Limits) (result : Result (Unit {0
   pub few : length (received_in calls) ≤ limits.datagrams
   -- no more waits were made than the limit allows
   pub turns : waits_in calls ≤ limits.turns
-  -- at each wait, all datagrams that came before were received and answered
+  -- at each wait, all datagrams that came before were received and answered, and the clock is read
+  -- next
   pub in_turn : WaitsInTurn made.sends calls
   -- what was sent and written
   pub leaves : Leaves made limits result calls old new

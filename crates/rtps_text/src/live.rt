@@ -4,7 +4,7 @@ ghost use Rattle.std.specs.Prelude.{◌≡◌, ◌<◌, ◌≤◌, [], IfErr, If
 ghost use Rattle.rtps_records.specs.Batches.{records_in};
 ghost use Rattle.rtps_records.specs.declared.receive_end.ReceiveEnd.TheVariants.{More};
 ghost use Rattle.dds_participant.specs.Ports.{NoneAttached};
-ghost use Rattle.rtps_text.specs.Live.{BreaksOff, GoesOn, IsLive, Processes, StopsShort, TakesTurns, TurnsStop};
+ghost use Rattle.rtps_text.specs.Live.{BreaksOff, GoesOn, IsLive, PassStops, PassesOn, Processes, StopsShort, TakesTurns, TurnsStop};
 ghost use Rattle.rtps_text.specs.Batched.{IsSameRun};
 ghost use Rattle.rtps_text.specs.Replayed.{HasSaid};
 
@@ -116,8 +116,8 @@ where
         Ok(())
     }
 
-    /// Reads the clock, and has the readers process a tick at that moment: the writers that are
-    /// gone end, and their lines are written.
+    /// Reads the clock after a wait, and has the readers process a tick at that moment: the matches
+    /// with writers that are gone end, and the lines of this are written.
     ///
     /// Returns what [`Live::take`] returns.
     fn pass<N: Exchange, W: Write, T: Threads + Sync>(
@@ -133,10 +133,10 @@ where
         ensures empty { OnOk result (lines.new.text.items ≡ []) }
         ensures same { OnOk result (IsSameRun self.old.run self.new.run) }
         ensures left { self.new.left ≡ self.old.left }
-        ensures goes_on { OnOk result (GoesOn C.text_of C.decoding self.old self.new
+        ensures goes_on { OnOk result (PassesOn C.text_of C.decoding self.old self.new
             (N.traffic network.old) (N.traffic network.new)
-            (W.contents lines.old.writer.now) (W.contents lines.new.writer.now) More) }
-        ensures stops { IfErr result (λ fault. StopsShort C.text_of C.decoding self.old fault
+            (W.contents lines.old.writer.now) (W.contents lines.new.writer.now)) }
+        ensures stops { IfErr result (λ fault. PassStops C.text_of C.decoding self.old fault
             (N.traffic network.old) (N.traffic network.new)
             (W.contents lines.old.writer.now) (W.contents lines.new.writer.now)) }
     {

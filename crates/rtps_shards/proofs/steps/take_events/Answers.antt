@@ -1,4 +1,4 @@
-use Rattle.std.proofs.Common.{◌≡◌, ◌+◌, ◌<◌, ◌++◌, ◌∷◌, [], ◌∙◌, ap, get_or, length, map, rules, subst, sym, take}
+use Rattle.std.proofs.Common.{◌≡◌, ◌+◌, ◌<◌, ◌++◌, ◌∷◌, [], ◌∙◌, ap, false, get_or, length, map, rules, subst, sym, take, true}
 use Rattle.std.proofs.lemmas.List.{map_push, take_all, take_more}
 use Rattle.rtps_receiver.specs.Events.{view}
 use Rattle.rtps_reader.specs.Step.{asked}
@@ -36,10 +36,26 @@ loop-event-preserved g c =
           let second : HasTaken f decoding (share (job_run r done) after one) state mid new
           = subst (λ job. HasTaken f decoding (share (job_run r done) after job) state mid new) asks (rw c.loop-event.invariant.same at (c.in_ok-take_step.ensures.taken (job_run r done) after first.stands)) in
           subst (λ job. HasTaken f decoding (share r given job) state old new) (sym whole) (taken_more f decoding r given done one c.loop-event.state state old mid new first second);
+      sound = λ spent.
+          let still = (c.loop-event.invariant.sound spent).1 in
+          let is : c.loop-event.state.spent ≡ true = rw still spent in
+          absurd (let bad : true ≡ false = sym is ∙ c.in_ok-take_step.ensures.sound in cc);
       rank = c.take_step.ensures.rank ∙ c.loop-event.invariant.rank;
       same = c.take_step.ensures.same ∙ c.loop-event.invariant.same;
       nothing = c.in_ok-take_step.ensures.nothing;
     }
+
+-- a spent reader takes no event
+pub returns-clause-sound : goal.returns-clause-sound
+returns-clause-sound g c spent =
+    let none = (c.loop-event.invariant.sound spent).0 in
+    sym (take_all c.loop-event.event-index c.args.events.now c.loop-event-test.false)
+    ∙ ap (λ i. take i c.args.events.now) none
+
+pub returns-in_err-take_step-clause-still : goal.returns-in_err-take_step-clause-still
+returns-in_err-take_step-clause-still g c spent =
+    let still = (c.loop-event.invariant.sound spent).1 in
+    c.take_step.ensures.still (rw still spent) ∙ still
 
 pub returns-clause-taken : goal.returns-clause-taken
 returns-clause-taken g c r given stands =

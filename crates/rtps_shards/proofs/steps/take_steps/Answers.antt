@@ -1,4 +1,4 @@
-use Rattle.std.proofs.Common.{◌≡◌, ℕ, List, ◌+◌, ◌<◌, ◌++◌, ◌∷◌, [], ◌∙◌, ap, append-nil, get_or, length, map, rules, subst, sym, take}
+use Rattle.std.proofs.Common.{◌≡◌, ℕ, List, ◌+◌, ◌<◌, ◌++◌, ◌∷◌, [], ◌∙◌, ap, append-nil, false, get_or, length, map, rules, subst, sym, take, true}
 use Rattle.std.proofs.lemmas.Grind.{flat_map-append}
 use Rattle.std.specs.Prelude.{drop}
 use Rattle.std.proofs.lemmas.List.{drop-map, take-map, take_all, take_more}
@@ -47,6 +47,12 @@ loop-planned-preserved g c =
                 = subst (λ job. HasTaken f decoding (share (job_run r done) after job) w.take_events.new.state mid w.take_events.new.output) seen
                 (rw c.loop-planned.invariant.same at (w.in_ok-take_events-in-TakeIn.ensures.taken (job_run r done) after one.stands)) in
                 rw (w.state-is, w.output-is) (subst (λ job. HasTaken f decoding (share r given job) w.take_events.new.state old w.take_events.new.output) (sym whole) (taken_more f decoding r given done (step_seen es step) middle w.take_events.new.state old mid w.take_events.new.output one two));
+            sound = λ spent.
+                let before = c.loop-planned.invariant.sound spent in
+                let is : c.loop-planned.state.spent ≡ true = rw before.1 spent in
+                let none = w.in_ok-take_events-in-TakeIn.ensures.sound is in
+                let taken : step_seen es step ≡ [] = sym seen ∙ ap (λ l. map taken_in (map view l)) none in
+                (whole ∙ ap (λ l. l ++ step_seen es step) before.0 ∙ taken, w.state-is ∙ w.take_events.ensures.still is ∙ before.1);
             rank = rw w.state-is (w.take_events.ensures.rank ∙ c.loop-planned.invariant.rank);
             same = w.worker-is ∙ w.take_events.ensures.same ∙ c.loop-planned.invariant.same;
             nothing = rw w.effects-is w.in_ok-take_events-in-TakeIn.ensures.nothing;
@@ -61,11 +67,22 @@ loop-planned-preserved g c =
                 = subst (λ job. HasTaken f decoding (share (job_run r done) after job) w.take_step.new.state mid w.take_step.new.output) seen
                 (rw c.loop-planned.invariant.same at (w.in_ok-take_step-in-Change.ensures.taken (job_run r done) after one.stands)) in
                 rw (w.state-is, w.output-is) (subst (λ job. HasTaken f decoding (share r given job) w.take_step.new.state old w.take_step.new.output) (sym whole) (taken_more f decoding r given done (step_seen es step) middle w.take_step.new.state old mid w.take_step.new.output one two));
+            sound = λ spent.
+                let before = c.loop-planned.invariant.sound spent in
+                let is : c.loop-planned.state.spent ≡ true = rw before.1 spent in
+                absurd (let bad : true ≡ false = sym is ∙ w.in_ok-take_step-in-Change.ensures.sound in cc);
             rank = rw w.state-is (w.take_step.ensures.rank ∙ c.loop-planned.invariant.rank);
             same = w.worker-is ∙ w.take_step.ensures.same ∙ c.loop-planned.invariant.same;
             nothing = rw w.effects-is w.in_ok-take_step-in-Change.ensures.nothing;
           }
     ]
+
+-- a spent reader has no step to take
+pub returns-clause-sound : goal.returns-clause-sound
+returns-clause-sound g c spent =
+    let es = map view c.args.events.now in
+    sym (ap (steps_seen es) (take_all c.loop-planned.planned-index c.args.steps.now c.loop-planned-test.false))
+    ∙ (c.loop-planned.invariant.sound spent).0
 
 pub returns-clause-taken : goal.returns-clause-taken
 returns-clause-taken g c r given stands =

@@ -9,4 +9,5 @@ returns-clause-done g c same = record {
     state = c.in_ok-run_job.ensures.stands same s is.job is.state;
     output = c.in_ok-run_job.ensures.output same s is.job is.state;
   };
+  spent = λ is. (c.in_ok-run_job.ensures.sound is, c.run_job.ensures.still is);
 }

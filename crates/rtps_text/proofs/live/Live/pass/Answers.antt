@@ -1,8 +1,10 @@
 use Rattle.std.proofs.Common.{[], ◌∷◌, arith, refl}
 use Rattle.rtps_records.specs.RecordFile.{Tick}
-use Rattle.rtps_records.specs.declared.receive_end.ReceiveEnd.TheVariants.{More}
-use Rattle.rtps_text.proofs.Calls.{comes_passed}
-use Rattle.rtps_text.proofs.Hearing.{breaks_off, goes_on, live_as}
+use Rattle.rtps_records.specs.Traffic.{Passed, Waited}
+use Rattle.rtps_records.specs.declared.receive_end.ReceiveEnd.TheVariants.{Drained, More}
+use Rattle.rtps_records.proofs.Received.{Grows-trans}
+use Rattle.rtps_text.proofs.Calls.{comes_turned}
+use Rattle.rtps_text.proofs.Hearing.{breaks_off, goes_on, live_as, turns_next}
 use Rattle.rtps_text.proofs.Run.{if_err_then, on_ok_both}
 use Rattle.rtps_text.proofs.live.Live.pass.Goals as goal
 
@@ -16,10 +18,13 @@ returns-clause-goes_on g c =
     let decoding = g.C.Catalog.decoding in
     let live = live_as c.args.self.now _ c.requires.live refl refl refl in
     rw (c.process.ensures.left, c.process.ensures.moment)
-    (on_ok_both c.process.result (λ same done. λ first origin most waits l.
-    goes_on text view decoding first _ _ _ origin _ _ most _ _ waits _ _ 0 0 _ c.process.new.self
-    (Tick c.moment-self.result ∷ []) _ More live same (comes_passed _ c.moment-self.result) refl
-    c.moment-self.ensures (λ calls sends. tt) (omega arith) (rw c.hold_tick.ensures at done) l)
+    (on_ok_both c.process.result (λ same done. λ first start origin most waits waited l.
+    goes_on text view decoding first start _ _ origin _ _ most _ _ waits 1 _ _ 0 0 _
+    c.process.new.self (Tick c.moment-self.result ∷ []) _ Drained More live same
+    (comes_turned _ c.moment-self.result) refl refl
+    (Grows-trans start _ _ (Waited ∷ []) (Passed c.moment-self.result ∷ []) waited c.moment-self.ensures)
+    (λ calls sends. tt) (omega arith) (rw c.hold_tick.ensures at done) l
+    (turns_next text decoding first start origin _ most _ waits _ c.moment-self.result _ l))
     c.process.ensures.same c.process.ensures.processes)
 
 pub returns-clause-stops : goal.returns-clause-stops
@@ -28,8 +33,11 @@ returns-clause-stops g c =
     let view = g.C.Catalog.view in
     let decoding = g.C.Catalog.decoding in
     let live = live_as c.args.self.now _ c.requires.live refl refl refl in
-    if_err_then c.process.result (λ fault off. λ first origin most waits l.
-    breaks_off text view decoding first _ _ _ origin _ _ most _ waits _ _ 0 0 _ c.process.new.self
-    (Tick c.moment-self.result ∷ []) _ fault live (comes_passed _ c.moment-self.result)
-    c.moment-self.ensures (omega arith) (rw c.hold_tick.ensures at off) l)
+    if_err_then c.process.result (λ fault off. λ first start origin most waits waited l.
+    breaks_off text view decoding first start _ _ origin _ _ most _ waits 1 _ _ 0 0 _
+    c.process.new.self (Tick c.moment-self.result ∷ []) _ Drained fault live
+    (comes_turned _ c.moment-self.result)
+    (Grows-trans start _ _ (Waited ∷ []) (Passed c.moment-self.result ∷ []) waited c.moment-self.ensures)
+    (omega arith) (rw c.hold_tick.ensures at off) l
+    (turns_next text decoding first start origin _ most _ waits _ c.moment-self.result _ l))
     c.process.ensures.stops

@@ -2,7 +2,7 @@ use Rattle.std.proofs.Common.{◌+◌, ◌≤◌, ◌∙◌, arith}
 use Rattle.rtps_records.specs.declared.fault.RunFault.{RunFault}
 use Rattle.rtps_records.proofs.Faults.{at_fault}
 use Rattle.rtps_text.specs.Live.{TurnsStop}
-use Rattle.rtps_text.proofs.Hearing.{ends_failed, ends_full, ends_passed, is_drained, listens_failed, listens_waited, no_failure, same_live, same_run, stopped_same}
+use Rattle.rtps_text.proofs.Hearing.{as_drained, ends_failed, ends_full, ends_passed, is_drained, listens_failed, no_failure, same_live, same_run, stopped_same}
 use Rattle.rtps_text.proofs.live.Live.take_turns.Goals as goal
 
 pub returns-then-self-eq0-clause-takes : goal.returns-then-self-eq0-clause-takes
@@ -40,10 +40,10 @@ returns-in_err-pass-clause-stops g c =
     (g.W.Write.contents c.pass.new.lines.writer.now))
     c.from_residual.ensures.1
     (λ first origin most l. stopped_same _ _ most _ _ _ _ _ _ _ same within
-    (c.in_err-pass.ensures.stops first origin most (c.loop-turn._turn + 1)
-    (listens_waited text decoding first _ _ origin _ most _ _ _ c.loop-turn.end _
+    (c.in_err-pass.ensures.stops first _ origin most c.loop-turn._turn c.in-Ok.ensures.waited
+    (as_drained text decoding first _ origin _ most _ _ _ c.loop-turn.end _
     (is_drained c.loop-turn.end _ inv.none inv.all (λ none. omega (arith, none)))
-    c.in-Ok.ensures.waited (inv.goes_on first origin most l))))
+    (inv.goes_on first origin most l))))
 
 pub returns-in_err-end-clause-stops : goal.returns-in_err-end-clause-stops
 returns-in_err-end-clause-stops g c =
@@ -63,10 +63,10 @@ returns-in_err-end-clause-stops g c =
     c.from_residual-in_err-end.ensures.1
     (λ first origin most l. stopped_same _ _ most _ _ _ _ _ _ _ same within
     (c.in_err-end.ensures.stops first origin most (c.loop-turn._turn + 1)
-    (c.in_ok-pass.ensures.goes_on first origin most (c.loop-turn._turn + 1)
-    (listens_waited text decoding first _ _ origin _ most _ _ _ c.loop-turn.end _
+    (c.in_ok-pass.ensures.goes_on first _ origin most c.loop-turn._turn c.in-Ok.ensures.waited
+    (as_drained text decoding first _ origin _ most _ _ _ c.loop-turn.end _
     (is_drained c.loop-turn.end _ inv.none inv.all (λ none. omega (arith, none)))
-    c.in-Ok.ensures.waited (inv.goes_on first origin most l)))))
+    (inv.goes_on first origin most l)))))
 
 pub returns-in-Fault-clause-takes : goal.returns-in-Fault-clause-takes
 returns-in-Fault-clause-takes g c =
@@ -79,10 +79,10 @@ returns-in-Fault-clause-takes g c =
       ends = ends_failed c.in_ok-end.end _ _ _ c.in-Fault.is;
       goes_on = λ first origin most l.
           c.in_ok-end.ensures.goes_on first origin most (c.loop-turn._turn + 1)
-          (c.in_ok-pass.ensures.goes_on first origin most (c.loop-turn._turn + 1)
-          (listens_waited text decoding first _ _ origin _ most _ _ _ c.loop-turn.end _
+          (c.in_ok-pass.ensures.goes_on first _ origin most c.loop-turn._turn c.in-Ok.ensures.waited
+          (as_drained text decoding first _ origin _ most _ _ _ c.loop-turn.end _
           (is_drained c.loop-turn.end _ inv.none inv.all (λ none. omega (arith, none)))
-          c.in-Ok.ensures.waited (inv.goes_on first origin most l)));
+          (inv.goes_on first origin most l)));
     }
 
 pub loop-turn-preserved : goal.loop-turn-preserved
@@ -100,10 +100,10 @@ loop-turn-preserved g c =
       none = c.in_default.not-Fault;
       goes_on = λ first origin most l.
           c.in_ok-end.ensures.goes_on first origin most (c.loop-turn._turn + 1)
-          (c.in_ok-pass.ensures.goes_on first origin most (c.loop-turn._turn + 1)
-          (listens_waited text decoding first _ _ origin _ most _ _ _ c.loop-turn.end _
+          (c.in_ok-pass.ensures.goes_on first _ origin most c.loop-turn._turn c.in-Ok.ensures.waited
+          (as_drained text decoding first _ origin _ most _ _ _ c.loop-turn.end _
           (is_drained c.loop-turn.end _ inv.none inv.all (λ none. omega (arith, none)))
-          c.in-Ok.ensures.waited (inv.goes_on first origin most l)));
+          (inv.goes_on first origin most l)));
     }
 
 pub returns-clause-takes : goal.returns-clause-takes
