@@ -174,57 +174,55 @@ impl Cursor {
         }
     }
 
-    /// Adds the lines of a reader's output at a place: its notices, and then its answer. Returns
-    /// the cursor after that.
+    /// Adds the lines of a reader's output at a place, its notices and then its answer, and advances
+    /// the cursor past them.
     fn push_output<C: TextCatalog, A: Allocator, B: Allocator + Copy>(
-        self,
+        &mut self,
         out: &mut Vec<u8, A>,
         last: &mut LastLine<B>,
         catalog: &C,
         output: &Output<C::Value>,
         place: Place,
-    ) -> Result<Cursor, AllocError>
+    ) -> Result<(), AllocError>
         ensures lines { OnOk result (out.new.items ≡ out.old.items ++
             lists_lines (C.text_of catalog.now) (map (notice_view C.view) output.now.notices.items)
-            (map answer_view output.now.answers.items) place self) }
+            (map answer_view output.now.answers.items) place self.old) }
         ensures keeps { StartsWith out.new.items out.old.items }
-        ensures moves { IfOk result (λ c. c ≡
+        ensures moves { OnOk result (self.new ≡
             lists_after (map (notice_view C.view) output.now.notices.items)
-            (map answer_view output.now.answers.items) place self) }
+            (map answer_view output.now.answers.items) place self.old) }
     {
         let notices = rest(&output.notices, self.notices);
         let answers = rest(&output.answers, self.answers);
         if !is_noticed::<C>(notices, place) && !is_answered(answers, place) {
-            return Ok(self);
+            return Ok(());
         }
         let told = push_notices(out, last, catalog, (self.rank, place), notices)?;
         let sent = push_answers(out, place, answers)?;
-        Ok(Cursor {
-            rank: self.rank,
-            notices: self.notices + told,
-            answers: self.answers + sent,
-        })
+        self.notices += told;
+        self.answers += sent;
+        Ok(())
     }
 
     /// Does what `push_output` does, with the output of the reader of its rank. If the batch has no
     /// such reader, nothing is added.
     fn push_part<C: TextCatalog, A: Allocator, B: Allocator + Copy>(
-        self,
+        &mut self,
         out: &mut Vec<u8, A>,
         last: &mut LastLine<B>,
         catalog: &C,
         given: &BatchOutput<C::Value>,
         place: Place,
-    ) -> Result<Cursor, AllocError>
+    ) -> Result<(), AllocError>
         ensures lines { OnOk result (out.new.items ≡ out.old.items ++
-            part_lines (C.text_of catalog.now) (parts_given C.view given.now) place self) }
+            part_lines (C.text_of catalog.now) (parts_given C.view given.now) place self.old) }
         ensures keeps { StartsWith out.new.items out.old.items }
-        ensures moves { IfOk result (λ c. c ≡
-            cursor_after (parts_given C.view given.now) place self) }
+        ensures moves { OnOk result (self.new ≡
+            cursor_after (parts_given C.view given.now) place self.old) }
     {
         match given.outputs.get(self.rank as usize) {
             Some(output) => self.push_output(out, last, catalog, output, place),
-            None => Ok(self),
+            None => Ok(()),
         }
     }
 }
@@ -298,8 +296,7 @@ impl Cursors {
     {
         self.said += push_answers(out, place, rest(&given.answers, self.said))?;
         for at in 0..self.readers.len() {
-            let cursor = self.readers[at];
-            self.readers[at] = cursor.push_part(out, last, catalog, given, place)?;
+            self.readers[at].push_part(out, last, catalog, given, place)?;
         }
         Ok(())
     }

@@ -1,13 +1,12 @@
 use Rattle.std.proofs.Common.{◌≡◌, ◌+◌, ◌-◌, ◌≤◌, add-zero, arith, inl, inr, length, refl, subst}
 use Rattle.rtps_records.specs.Batches.{records_in}
 use Rattle.rtps_records.specs.declared.fault.RunFault.{RunFault}
-use Rattle.rtps_records.specs.declared.fault.RunFault.TheVariants.{NoMemory}
 use Rattle.rtps_records.specs.declared.receive_end.ReceiveEnd.TheVariants.{More}
 use Rattle.rtps_records.proofs.Faults.{at_fault}
-use Rattle.rtps_text.specs.Live.{Listens, Stopped, StopsShort, live_by}
+use Rattle.rtps_text.specs.Live.{Listens, StopsShort}
 use Rattle.rtps_text.proofs.Calls.{comes_begun, comes_received, last_is}
 use Rattle.rtps_text.proofs.Held.{any_used}
-use Rattle.rtps_text.proofs.Hearing.{breaks_off, goes_on, keeps_turn, live_as, stops_untaken}
+use Rattle.rtps_text.proofs.Hearing.{breaks_off, goes_on, keeps_turn, live_as, stopped_same, stops_untaken}
 use Rattle.rtps_text.proofs.live.Live.take.Goals as goal
 
 pub process-requires-clause-few : goal.process-requires-clause-few
@@ -27,9 +26,7 @@ returns-in_err-end-clause-stops g c =
     c.from_residual.ensures.1
     (λ first origin most waits l.
     let comes = comes_begun c.args.self.now.moment _ _ heard.are in
-    subst (λ w. Stopped (live_by text decoding c.args.self.now.run.participant.engine c.args.self.now.run.summary)
-    most w NoMemory first (g.N.Receive.traffic c.receive.new.source) origin (g.W.Write.contents c.args.lines.now.writer.now))
-    (add-zero waits)
+    stopped_same _ _ most (waits + 0) waits _ _ _ _ _ refl (omega arith)
     (stops_untaken text decoding first _ _ origin _ most _ waits 0 _ _ _ _
     c.args.self.now.run.participant.engine c.args.self.now.run.summary _ _ More
     comes heard.grows few l (keeps_turn text decoding first _ origin _ most _ waits _ _ _ _ More _ _ _ comes l)))
@@ -48,9 +45,7 @@ returns-in_err-process-clause-stops g c =
     c.from_residual-in_err-process.ensures.1
     (λ first origin most waits l.
     let comes = comes_received c.args.self.now.moment _ _ c.in_ok-end.end heard.are in
-    subst (λ w. Stopped (live_by text decoding c.args.self.now.run.participant.engine c.args.self.now.run.summary)
-    most w c.in_err-process.fault first (g.N.Receive.traffic c.process.new.network) origin (g.W.Write.contents c.process.new.lines.writer.now))
-    (add-zero waits)
+    stopped_same _ _ most (waits + 0) waits _ _ _ _ _ refl (omega arith)
     (breaks_off text view decoding first _ _ _ origin _ _ most _ waits 0 _ _ _ _
     _ c.process.new.self _ _ More _ (live_as c.args.self.now _ c.requires.live refl refl refl)
     comes heard.grows few c.in_err-process.ensures.stops l
@@ -67,7 +62,9 @@ returns-clause-goes_on g c = λ first origin most waits l.
     omega (arith, c.receive.ensures.few, c.most-most.ensures.left, c.len.ensures) in
     let comes = comes_received c.args.self.now.moment batch _ c.in_ok-end.end heard.are in
     rw (c.process.ensures.left, c.process.ensures.moment)
-    (subst (λ w. Listens text decoding first _ origin _ most _ w _ c.in_ok-end.end _) (add-zero waits)
+    (subst (λ w. Listens text decoding first (g.N.Receive.traffic c.process.new.network) origin
+    (g.W.Write.contents c.process.new.lines.writer.now) most (c.args.self.now.left - c.len.result) w
+    c.args.self.now.moment c.in_ok-end.end c.process.new.self.run.participant.engine) (add-zero waits)
     (goes_on text view decoding first _ _ _ origin _ _ most _ _ waits 0 _ _ _ _ _
     c.process.new.self batch _ More c.in_ok-end.end
     (live_as c.args.self.now _ c.requires.live refl refl refl) c.in_ok-process.ensures.same

@@ -22,12 +22,12 @@ loop-at-preserved g c =
     let parts = parts_given g.C.Catalog.view c.args.given.now in
     let whole = c.args.self.now.readers.items in
     let cursors = c.loop-at.self.readers.items in
-    let cursor = c.index-cursor.result.now in
+    let cursor = c.index_mut.result.now in
     let below : c.loop-at.at < length cursors = search rules in
-    let here : cursor ≡ get_or cursors c.loop-at.at cursor = search rules in
+    let here : cursor ≡ get_or cursors c.loop-at.at cursor = c.index_mut.ensures.value in
     record {
       said = c.loop-at.invariant.said;
-      moved = moved_more parts c.args.place whole cursors c.loop-at.at cursor c.in_ok-self-2.field-0 below here c.in_ok-self-2.ensures.moves c.loop-at.invariant.moved;
-      lines = parts_more (g.C.Catalog.text_of c.args.catalog.now) parts c.args.place whole cursors c.loop-at.at cursor _ _ _ _ below here c.loop-at.invariant.moved c.loop-at.invariant.lines c.in_ok-self-2.ensures.lines;
-      keeps = still_starts _ _ _ c.in_ok-self-2.ensures.keeps c.loop-at.invariant.keeps;
+      moved = moved_more parts c.args.place whole cursors c.loop-at.at cursor c.push_part.new.self below here c.in_ok-push_part.ensures.moves c.loop-at.invariant.moved;
+      lines = parts_more (g.C.Catalog.text_of c.args.catalog.now) parts c.args.place whole cursors c.loop-at.at cursor _ _ _ _ below here c.loop-at.invariant.moved c.loop-at.invariant.lines c.in_ok-push_part.ensures.lines;
+      keeps = still_starts _ _ _ c.in_ok-push_part.ensures.keeps c.loop-at.invariant.keeps;
     }
