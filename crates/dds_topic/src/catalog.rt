@@ -1,6 +1,6 @@
 //! The interface of a data type.
 
-ghost use Rattle.std.specs.Prelude.{◌≡◌, ◌++◌, ℕ, List, Ok, IfOk, OnOk};
+ghost use Rattle.std.specs.Prelude.{◌≡◌, ◌++◌, ℕ, List, Ok, IfOk, OnOk, true};
 ghost use Rattle.std.specs.Io.{StartsWith};
 ghost use Rattle.dds_topic.specs.Answer.{Gives};
 ghost use Rattle.dds_topic.specs.Decoding.{Decoding};
@@ -107,4 +107,14 @@ pub trait TextCatalog: Catalog {
     /// Returns the text of the value.
     fn text(&self, alloc: Global, value: &Self::Value) -> Result<Vec<u8>, AllocError>
         ensures { IfOk result (λ v. v.items ≡ Self.text_of self.now (Self.view value.now)) };
+
+    /// Whether two values are known to have the same text, so that the second one need not be
+    /// formatted. The answer `false`, which is the one of a catalog that has no such function, says
+    /// nothing about the texts.
+    fn has_same_text(&self, one: &Self::Value, other: &Self::Value) -> bool
+        ensures { result ≡ true → Self.text_of self.now (Self.view one.now)
+            ≡ Self.text_of self.now (Self.view other.now) }
+    {
+        false
+    }
 }

@@ -130,4 +130,8 @@ impl<'c, C: TextCatalog> TextCatalog for &'c C {
     fn text(&self, alloc: Global, value: &C::Value) -> Result<Vec<u8>, AllocError> {
         (**self).text(alloc, value)
     }
+
+    fn has_same_text(&self, one: &C::Value, other: &C::Value) -> bool {
+        (**self).has_same_text(one, other)
+    }
 }

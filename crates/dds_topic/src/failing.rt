@@ -84,4 +84,8 @@ impl<C: TextCatalog> TextCatalog for FailingCatalog<C> {
     fn text(&self, alloc: Global, value: &C::Value) -> Result<Vec<u8>, AllocError> {
         self.catalog.text(alloc, value)
     }
+
+    fn has_same_text(&self, one: &C::Value, other: &C::Value) -> bool {
+        self.catalog.has_same_text(one, other)
+    }
 }

@@ -96,4 +96,8 @@ impl TextCatalog for Raw {
         self.push_text(&mut out, value)?;
         Ok(out)
     }
+
+    fn has_same_text(&self, one: &RawValue, other: &RawValue) -> bool {
+        one.body.as_slice() == other.body.as_slice()
+    }
 }

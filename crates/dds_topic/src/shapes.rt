@@ -199,4 +199,11 @@ impl TextCatalog for Shapes {
         self.push_text(&mut out, value)?;
         Ok(out)
     }
+
+    fn has_same_text(&self, one: &Shape, other: &Shape) -> bool {
+        one.x == other.x
+            && one.y == other.y
+            && one.size == other.size
+            && one.color.as_str() == other.color.as_str()
+    }
 }

@@ -74,6 +74,39 @@ fn printed_twice<C: TextCatalog>(alloc: Global, catalog: C, body: &[u8]) -> Resu
     Ok(text)
 }
 
+/// Whether the values of two little-endian bodies are known to have the same text.
+fn are_alike<C: TextCatalog>(
+    alloc: Global,
+    catalog: C,
+    one: &[u8],
+    other: &[u8],
+) -> Result<bool, Fail> {
+    let one = catalog.decode(alloc, 1, one)?;
+    let other = catalog.decode(alloc, 1, other)?;
+    Ok(catalog.has_same_text(&one, &other))
+}
+
+#[test]
+fn values_with_the_same_text(rt: HostRuntime) -> Result<(), Fail> {
+    let alloc = rt.alloc();
+    let blue = hex::decode(alloc, "05000000424c5545000000000a000000140000001e000000")?;
+    let others = [
+        ("05000000424c554500ffffff0a000000140000001e000000aa", true),
+        ("05000000424c5546000000000a000000140000001e000000", false),
+        ("05000000424c5545000000000b000000140000001e000000", false),
+        ("05000000424c5545000000000a000000150000001e000000", false),
+        ("05000000424c5545000000000a000000140000001f000000", false),
+    ];
+    for (other, alike) in others {
+        let other = hex::decode(alloc, other)?;
+        assert_eq!(rt; are_alike(alloc, Shapes, &blue, &other)?, alike);
+        assert_eq!(rt; are_alike(alloc, &Shapes, &blue, &other)?, alike);
+        assert!(rt; !are_alike(alloc, Raw, &blue, &other)?);
+    }
+    assert!(rt; are_alike(alloc, Raw, &blue, &blue)?);
+    Ok(())
+}
+
 #[test]
 fn a_catalog_that_is_lent_prints(rt: HostRuntime) -> Result<(), Fail> {
     let alloc = rt.alloc();

@@ -33,8 +33,11 @@ notice_text text w (Incompatible policy) =
     codes "incompatible" then guid_text w then decimal (policy_id policy)
 notice_text text w (Lost count) = codes "lost" then guid_text w then decimal count
 
+-- what a line has of a notice after the rank of the reader
+abbrev pub told_text : {M : Type 0} → (M → List ℕ) → Notice M → List ℕ
+told_text text n = notice_text text n.writer n.what ++ codes "\n"
+
 -- the line of a notice of the reader of a rank, given the texts of values
 abbrev pub heard_line : {M : Type 0} → (M → List ℕ) → ℕ → Notice M → List ℕ
 heard_line text rank n =
-    place_text n.place then codes "reader" then decimal rank
-    then (notice_text text n.writer n.what ++ codes "\n")
+    place_text n.place then codes "reader" then decimal rank then told_text text n

@@ -5,7 +5,7 @@ ghost use Rattle.std.specs.Io.{StartsWith};
 ghost use Rattle.rtps_lines.specs.Line.{◌then◌};
 ghost use Rattle.rtps_lines.specs.Entry.{change_text, content_text, content_view, entry_line, instance_word, sample_view, sample_word, states_text, view_word};
 
-use crate::last_line::LastLine;
+use crate::notice::push_change;
 use crate::sample::{push_ended, push_value};
 use dds_cache::{Content, InstanceState, SampleState, Taken, ViewState};
 use dds_topic::TextCatalog;
@@ -13,11 +13,9 @@ use rtps_ascii::{push_number, push_octet, push_word};
 use rtps_types::KeyHash;
 use std::alloc::{AllocError, Allocator};
 
-/// Appends the line of an entry of the reader of this rank, with a newline. `last` caches the texts
-/// of the line before it.
-pub fn push_entry<C: TextCatalog, A: Allocator, B: Allocator + Copy>(
+/// Appends the line of an entry of the reader of this rank, with a newline.
+pub fn push_entry<C: TextCatalog, A: Allocator>(
     out: &mut Vec<u8, A>,
-    last: &mut LastLine<B>,
     catalog: &C,
     rank: u32,
     entry: &Taken<C::Value>,
@@ -26,7 +24,7 @@ pub fn push_entry<C: TextCatalog, A: Allocator, B: Allocator + Copy>(
         entry_line (C.text_of catalog.now) rank (sample_view C.view entry.now)) }
     ensures keeps { StartsWith out.new.items out.old.items }
 {
-    push_change(out, last, rank, entry)?;
+    push_origin(out, rank, entry)?;
     push_octet(out, b' ')?;
     push_states(out, entry.sample, entry.view, entry.instance)?;
     push_octet(out, b' ')?;
@@ -35,9 +33,8 @@ pub fn push_entry<C: TextCatalog, A: Allocator, B: Allocator + Copy>(
 }
 
 /// Appends the reader's rank, and the writer, number and time of the change.
-fn push_change<V, A: Allocator, B: Allocator + Copy>(
+fn push_origin<V, A: Allocator>(
     out: &mut Vec<u8, A>,
-    last: &mut LastLine<B>,
     rank: u32,
     entry: &Taken<V>,
 ) -> Result<(), AllocError>
@@ -47,7 +44,7 @@ fn push_change<V, A: Allocator, B: Allocator + Copy>(
     push_word(out, "entry ")?;
     push_number(out, u64::from(rank))?;
     push_octet(out, b' ')?;
-    last.push_change(out, entry.writer, entry.number, entry.time)
+    push_change(out, entry.writer, entry.number, entry.time)
 }
 
 fn sample_word(sample: SampleState) -> &'static str

@@ -1,40 +1,57 @@
-//! A cache of the texts of the last line's place and change, since consecutive lines often have the
-//! same ones.
+//! A cache of the texts of the last line, since consecutive lines often have the same ones: readers
+//! of one topic present the same changes.
 
-ghost use Rattle.std.specs.Prelude.{◌≡◌, ◌++◌, OnOk};
+ghost use Rattle.std.specs.Prelude.{◌≡◌, ◌++◌, OnOk, true};
 ghost use Rattle.std.specs.Io.{StartsWith};
 ghost use Rattle.std.specs.Option.{ForSome};
-ghost use Rattle.rtps_types.specs.Number.{value_of};
-ghost use Rattle.rtps_lines.specs.Notice.{origin_text, start_text};
+ghost use Rattle.rtps_reader.specs.Notice.{notice_view};
+ghost use Rattle.rtps_lines.specs.Notice.{start_text, told_text};
 
-use crate::context::{push_place, push_time};
-use crate::guid::push_guid;
-use rtps_ascii::{push_number, push_octet, push_word};
-use rtps_types::{Guid, Number, Place, Timestamp};
+use crate::context::push_place;
+use crate::notice::{has_same_text, push_told};
+use dds_topic::TextCatalog;
+use rtps_ascii::push_word;
+use rtps_reader::Notice;
+use rtps_types::Place;
 use std::alloc::{AllocError, Allocator, Global};
+use std::marker::Model;
 
-/// The last place and change, each with its text, so that it need not be formatted again.
+/// The most octets of a notice's text that are kept for the next line.
+const LONGEST: usize = 512;
+
+/// The last place and the last notice, each with its text, so that it need not be formatted again.
 #[derive(Drop)]
-pub struct LastLine<A: Allocator = Global> {
+pub struct LastLine<'c, 'n, C: TextCatalog, A: Allocator = Global> {
+    /// The catalog that formats the values.
+    catalog: &'c C,
     place: Option<Place>,
     /// The place, and the word before the rank of a reader.
     start: Vec<u8, A>,
-    /// The writer, the number and the time of a change.
-    change: Option<(Guid, Number, Option<Timestamp>)>,
-    change_octets: Vec<u8, A>,
+    notice: Option<&'n Notice<C::Value>>,
+    /// The text of the notice after the rank of its reader, with the line end.
+    told: Vec<u8, A>,
     ghost place_right: { ForSome place (λ p. start.items ≡ start_text p) },
-    ghost change_right: { ForSome change (λ c.
-        change_octets.items ≡ origin_text c.0 (value_of c.1) c.2) },
+    ghost notice_right: { ForSome notice (λ n.
+        told.items ≡ told_text (C.text_of catalog.now) (notice_view C.view n.now)) },
 }
 
-impl<A: Allocator + Copy> LastLine<A> {
-    /// Returns an empty cache. No memory is taken.
-    pub fn none(alloc: A) -> LastLine<A> {
+impl<'c, 'n, C: TextCatalog, A: Allocator> Model for LastLine<'c, 'n, C, A> {
+    ghost Value = { C };
+
+    ghost view = { λ l. l.catalog.now };
+}
+
+impl<'c, 'n, C: TextCatalog, A: Allocator + Copy> LastLine<'c, 'n, C, A> {
+    /// Returns an empty cache for lines whose values the catalog formats. No memory is taken.
+    pub fn none(alloc: A, catalog: &'c C) -> LastLine<'c, 'n, C, A>
+        ensures { result ≡ catalog.now }
+    {
         LastLine {
+            catalog,
             place: None,
             start: Vec::new(alloc),
-            change: None,
-            change_octets: Vec::new(alloc),
+            notice: None,
+            told: Vec::new(alloc),
         }
     }
 
@@ -46,6 +63,7 @@ impl<A: Allocator + Copy> LastLine<A> {
     ) -> Result<(), AllocError>
         ensures ok { OnOk result (out.new.items ≡ out.old.items ++ start_text place) }
         ensures keeps { StartsWith out.new.items out.old.items }
+        ensures same { self.new ≡ self.old }
     {
         if self.place != Some(place) {
             self.place = None;
@@ -57,42 +75,39 @@ impl<A: Allocator + Copy> LastLine<A> {
         out.extend_from_slice(self.start.as_slice())
     }
 
-    /// Appends the writer, the number and the time of a change.
-    pub(crate) fn push_change<B: Allocator>(
+    /// Appends what a line has of a notice after the rank of its reader.
+    pub(crate) fn push_notice<B: Allocator>(
         &mut self,
         out: &mut Vec<u8, B>,
-        writer: Guid,
-        number: Number,
-        time: Option<Timestamp>,
+        notice: &'n Notice<C::Value>,
     ) -> Result<(), AllocError>
         ensures ok { OnOk result (out.new.items
-            ≡ out.old.items ++ origin_text writer (value_of number) time) }
+            ≡ out.old.items ++ told_text (C.text_of self.old) (notice_view C.view notice.now)) }
         ensures keeps { StartsWith out.new.items out.old.items }
+        ensures same { self.new ≡ self.old }
     {
-        if self.change != Some((writer, number, time)) {
-            self.change = None;
-            self.change_octets.clear();
-            push_written(&mut self.change_octets, writer, number, time)?;
-            self.change = Some((writer, number, time));
+        if let Some(last) = self.notice {
+            if has_same_text(self.catalog, last, notice) {
+                return out.extend_from_slice(self.told.as_slice());
+            }
         }
-        out.extend_from_slice(self.change_octets.as_slice())
+        let before = out.len();
+        push_told(out, self.catalog, notice)?;
+        self.keep(notice, &out[before..])
     }
-}
 
-/// Appends a writer, a number and a time.
-fn push_written<A: Allocator>(
-    out: &mut Vec<u8, A>,
-    writer: Guid,
-    number: Number,
-    time: Option<Timestamp>,
-) -> Result<(), AllocError>
-    ensures ok { OnOk result (out.new.items
-        ≡ out.old.items ++ origin_text writer (value_of number) time) }
-    ensures keeps { StartsWith out.new.items out.old.items }
-{
-    push_guid(out, writer)?;
-    push_octet(out, b' ')?;
-    push_number(out, number.get())?;
-    push_octet(out, b' ')?;
-    push_time(out, time)
+    /// Keeps a notice and its text, unless that is long.
+    fn keep(&mut self, notice: &'n Notice<C::Value>, text: &[u8]) -> Result<(), AllocError>
+        requires { text.now ≡ told_text (C.text_of self.old) (notice_view C.view notice.now) }
+        ensures { self.new ≡ self.old }
+    {
+        self.notice = None;
+        if text.len() > LONGEST {
+            return Ok(());
+        }
+        self.told.clear();
+        self.told.extend_from_slice(text)?;
+        self.notice = Some(notice);
+        Ok(())
+    }
 }

@@ -1,46 +1,61 @@
 //! The line of a notice.
 
-ghost use Rattle.std.specs.Prelude.{◌≡◌, ◌++◌, OnOk};
+ghost use Rattle.std.specs.Prelude.{◌≡◌, ◌++◌, OnOk, true};
 ghost use Rattle.std.specs.Io.{StartsWith};
 ghost use Rattle.std.specs.Fmt.{decimal};
+ghost use Rattle.rtps_types.specs.declared.identity.Guid as identity;
+ghost use Rattle.rtps_types.specs.Number.{value_of};
 ghost use Rattle.rtps_reader.specs.Notice.{kind_view, notice_view};
 ghost use Rattle.rtps_lines.specs.Line.{◌then◌};
 ghost use Rattle.rtps_lines.specs.Guid.{guid_text};
-ghost use Rattle.rtps_lines.specs.Notice.{heard_line, notice_text};
+ghost use Rattle.rtps_lines.specs.Notice.{heard_line, notice_text, origin_text, told_text};
 
+use crate::context::push_time;
 use crate::guid::push_guid;
 use crate::last_line::LastLine;
-use crate::sample::push_presented;
+use crate::sample::{has_same_body, push_presented};
 use dds_topic::TextCatalog;
 use rtps_ascii::{push_number, push_octet, push_word};
 use rtps_reader::{Notice, NoticeKind};
-use rtps_types::Guid;
+use rtps_types::{Guid, Number, Timestamp};
 use std::alloc::{AllocError, Allocator};
 
-/// Appends the line of a notice of the reader of this rank, with a newline. `last` caches the texts
-/// of the line before it.
-pub fn push_notice<C: TextCatalog, A: Allocator, B: Allocator + Copy>(
+/// Appends the line of a notice of the reader of this rank, with a newline. `last` has the texts of
+/// the line before it, and the catalog.
+pub fn push_notice<'n, C: TextCatalog, A: Allocator, B: Allocator + Copy>(
     out: &mut Vec<u8, A>,
-    last: &mut LastLine<B>,
-    catalog: &C,
+    last: &mut LastLine<'_, 'n, C, B>,
     rank: u32,
-    notice: &Notice<C::Value>,
+    notice: &'n Notice<C::Value>,
 ) -> Result<(), AllocError>
     ensures ok { OnOk result (out.new.items ≡ out.old.items ++
-        heard_line (C.text_of catalog.now) rank (notice_view C.view notice.now)) }
+        heard_line (C.text_of last.old) rank (notice_view C.view notice.now)) }
     ensures keeps { StartsWith out.new.items out.old.items }
+    ensures same { last.new ≡ last.old }
 {
     last.push_start(out, notice.place)?;
     push_number(out, u64::from(rank))?;
     push_octet(out, b' ')?;
-    push_kind(out, last, catalog, notice.writer, &notice.what)?;
+    last.push_notice(out, notice)
+}
+
+/// Appends what a line has of a notice after the rank of its reader.
+pub(crate) fn push_told<C: TextCatalog, A: Allocator>(
+    out: &mut Vec<u8, A>,
+    catalog: &C,
+    notice: &Notice<C::Value>,
+) -> Result<(), AllocError>
+    ensures ok { OnOk result (out.new.items ≡ out.old.items ++
+        told_text (C.text_of catalog.now) (notice_view C.view notice.now)) }
+    ensures keeps { StartsWith out.new.items out.old.items }
+{
+    push_kind(out, catalog, notice.writer, &notice.what)?;
     push_octet(out, b'\n')
 }
 
 /// Appends the kind of a notice, with its writer and values.
-fn push_kind<C: TextCatalog, A: Allocator, B: Allocator + Copy>(
+fn push_kind<C: TextCatalog, A: Allocator>(
     out: &mut Vec<u8, A>,
-    last: &mut LastLine<B>,
     catalog: &C,
     writer: Guid,
     what: &NoticeKind<C::Value>,
@@ -52,7 +67,7 @@ fn push_kind<C: TextCatalog, A: Allocator, B: Allocator + Copy>(
     match what {
         NoticeKind::Sample { number, time, body } => {
             push_word(out, "sample ")?;
-            last.push_change(out, writer, *number, *time)?;
+            push_change(out, writer, *number, *time)?;
             push_octet(out, b' ')?;
             push_presented(out, catalog, body)
         }
@@ -63,6 +78,63 @@ fn push_kind<C: TextCatalog, A: Allocator, B: Allocator + Copy>(
         }
         NoticeKind::Lost { count } => push_counted(out, "lost", writer, *count),
     }
+}
+
+/// Whether the lines of two notices are known to have the same text after the rank of the reader.
+pub(crate) fn has_same_text<C: TextCatalog>(
+    catalog: &C,
+    one: &Notice<C::Value>,
+    other: &Notice<C::Value>,
+) -> bool
+    ensures { result ≡ true → told_text (C.text_of catalog.now) (notice_view C.view one.now)
+        ≡ told_text (C.text_of catalog.now) (notice_view C.view other.now) }
+{
+    has_same_kind(catalog, &one.what, &other.what) && one.writer == other.writer
+}
+
+/// Whether the kinds of two notices are known to have the same text, if both have one writer.
+pub(crate) fn has_same_kind<C: TextCatalog>(
+    catalog: &C,
+    one: &NoticeKind<C::Value>,
+    other: &NoticeKind<C::Value>,
+) -> bool
+    ensures { result ≡ true → (writer : identity.Guid)
+        → notice_text (C.text_of catalog.now) writer (kind_view C.view one.now)
+        ≡ notice_text (C.text_of catalog.now) writer (kind_view C.view other.now) }
+{
+    match (one, other) {
+        (
+            NoticeKind::Sample { number, time, body },
+            NoticeKind::Sample {
+                number: other_number,
+                time: other_time,
+                body: other_body,
+            },
+        ) => {
+            number == other_number && time == other_time && has_same_body(catalog, body, other_body)
+        }
+        (NoticeKind::Matched, NoticeKind::Matched) => true,
+        (NoticeKind::Unmatched, NoticeKind::Unmatched) => true,
+        _ => false,
+    }
+}
+
+/// Appends the writer, the number and the time of a change.
+pub(crate) fn push_change<A: Allocator>(
+    out: &mut Vec<u8, A>,
+    writer: Guid,
+    number: Number,
+    time: Option<Timestamp>,
+) -> Result<(), AllocError>
+    ensures ok { OnOk result (out.new.items
+        ≡ out.old.items ++ origin_text writer (value_of number) time) }
+    ensures keeps { StartsWith out.new.items out.old.items }
+{
+    push_guid(out, writer)?;
+    push_octet(out, b' ')?;
+    push_number(out, number.get())?;
+    push_octet(out, b' ')?;
+    push_time(out, time)
 }
 
 /// Appends a word and a writer.

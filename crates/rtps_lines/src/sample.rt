@@ -1,6 +1,6 @@
 //! The text of a presented change.
 
-ghost use Rattle.std.specs.Prelude.{◌≡◌, ◌++◌, OnOk, codes};
+ghost use Rattle.std.specs.Prelude.{◌≡◌, ◌++◌, OnOk, codes, true};
 ghost use Rattle.std.specs.Io.{StartsWith};
 ghost use Rattle.std.specs.Fmt.{decimal};
 ghost use Rattle.dds_topic.specs.Answer.{code_of};
@@ -30,6 +30,22 @@ pub(crate) fn push_presented<C: TextCatalog, A: Allocator>(
         Body::Disposed(hash) => push_ended(out, "disposed", *hash),
         Body::Unregistered(hash) => push_ended(out, "unregistered", *hash),
         Body::Unread(unread) => push_unread(out, *unread),
+    }
+}
+
+/// Whether two bodies are known to have the same text.
+pub(crate) fn has_same_body<C: TextCatalog>(
+    catalog: &C,
+    one: &Body<C::Value>,
+    other: &Body<C::Value>,
+) -> bool
+    ensures { result ≡ true
+        → sample_text (C.text_of catalog.now) (body_map C.view one.now)
+        ≡ sample_text (C.text_of catalog.now) (body_map C.view other.now) }
+{
+    match (one, other) {
+        (Body::Value(_, one), Body::Value(_, other)) => catalog.has_same_text(one, other),
+        _ => false,
     }
 }
 

@@ -1,9 +1,9 @@
 //! Tests of lines against lines written by hand.
 
 use crate::{LastLine, push_answer, push_match, push_notice, push_status};
-use dds_topic::{Raw, RawValue};
-use rtps_reader::{Notice, NoticeKind, Status};
-use rtps_types::{EntityId, Guid, GuidPrefix, Locator, Place, PolicyId};
+use dds_topic::{Catalog, Raw, RawValue};
+use rtps_reader::{Body, Notice, NoticeKind, Status};
+use rtps_types::{EntityId, Guid, GuidPrefix, KeyHash, Locator, Number, Place, PolicyId};
 use std::alloc::{AllocError, Global};
 use std::test::Fail;
 
@@ -15,6 +15,11 @@ const PLACE: Place = Place {
 const WRITER: Guid = Guid {
     prefix: GuidPrefix([1, 2, 3, 4, 5, 6, 7, 8, 9, 10, 11, 12]),
     entity: EntityId([0, 0, 1, 0xc2]),
+};
+
+const OTHER: Guid = Guid {
+    prefix: GuidPrefix([1, 2, 3, 4, 5, 6, 7, 8, 9, 10, 11, 12]),
+    entity: EntityId([0, 0, 2, 0xc2]),
 };
 
 const HERE: Locator = Locator {
@@ -35,7 +40,7 @@ fn heard(alloc: Global, what: NoticeKind<RawValue>) -> Result<Vec<u8>, Fail> {
         what,
     };
     let mut out = Vec::new(alloc);
-    push_notice(&mut out, &mut LastLine::none(alloc), &Raw, 3, &notice)?;
+    push_notice(&mut out, &mut LastLine::none(alloc, &Raw), 3, &notice)?;
     Ok(out)
 }
 
@@ -70,17 +75,13 @@ fn prints_what_is_reported_of_matches(rt: HostRuntime) -> Result<(), Fail> {
     Ok(())
 }
 
-/// Returns the lines of matches at these places, each with the cached texts of the line before it.
-fn matched(alloc: Global, matches: [(Place, Guid); 3]) -> Result<Vec<u8>, AllocError> {
-    let mut last = LastLine::none(alloc);
+/// Returns the lines of notices of the reader of rank 0, each with the cached texts of the line
+/// before it.
+fn lines_of(alloc: Global, notices: &[Notice<RawValue>]) -> Result<Vec<u8>, AllocError> {
+    let mut last = LastLine::none(alloc, &Raw);
     let mut out = Vec::new(alloc);
-    for (place, writer) in matches {
-        let notice = Notice {
-            place,
-            writer,
-            what: NoticeKind::Matched,
-        };
-        push_notice(&mut out, &mut last, &Raw, 0, &notice)?;
+    for notice in notices {
+        push_notice(&mut out, &mut last, 0, notice)?;
     }
     Ok(out)
 }
@@ -88,20 +89,57 @@ fn matched(alloc: Global, matches: [(Place, Guid); 3]) -> Result<Vec<u8>, AllocE
 /// Three lines, of two places and two writers.
 #[test]
 fn prints_lines_one_after_the_other(rt: HostRuntime) -> Result<(), Fail> {
-    let other = Guid {
-        entity: EntityId([0, 0, 2, 0xc2]),
-        ..WRITER
-    };
     let next = Place {
         submessage: 3,
         ..PLACE
     };
-    let out = matched(rt.alloc(), [(PLACE, WRITER), (PLACE, other), (next, other)])?;
+    let notices = [(PLACE, WRITER), (PLACE, OTHER), (next, OTHER)].map(|(place, writer)| Notice {
+        place,
+        writer,
+        what: NoticeKind::Matched,
+    });
+    let out = lines_of(rt.alloc(), &notices)?;
     assert_eq!(rt;
         out.as_slice(),
         b"4294967296:2 reader 0 matched 0102030405060708090a0b0c000001c2
 4294967296:2 reader 0 matched 0102030405060708090a0b0c000002c2
 4294967296:3 reader 0 matched 0102030405060708090a0b0c000002c2
+"
+            .as_slice()
+    );
+    Ok(())
+}
+
+/// Returns a notice of the change 7 of a writer, with this octet.
+fn sample(alloc: Global, writer: Guid, octet: u8) -> Result<Notice<RawValue>, Fail> {
+    Ok(Notice {
+        place: PLACE,
+        writer,
+        what: NoticeKind::Sample {
+            number: Number::new(7).ok_or("a number")?,
+            time: None,
+            body: Body::Value(KeyHash([0; 16]), Raw.decode(alloc, 1, &[octet])?),
+        },
+    })
+}
+
+/// The same change twice, then one with another value, and one of another writer.
+#[test]
+fn prints_samples_one_after_the_other(rt: HostRuntime) -> Result<(), Fail> {
+    let alloc = rt.alloc();
+    let notices = [
+        sample(alloc, WRITER, 0xab)?,
+        sample(alloc, WRITER, 0xab)?,
+        sample(alloc, WRITER, 0xac)?,
+        sample(alloc, OTHER, 0xac)?,
+    ];
+    let out = lines_of(alloc, &notices)?;
+    assert_eq!(rt;
+        out.as_slice(),
+        b"4294967296:2 reader 0 sample 0102030405060708090a0b0c000001c2 7 - value ab
+4294967296:2 reader 0 sample 0102030405060708090a0b0c000001c2 7 - value ab
+4294967296:2 reader 0 sample 0102030405060708090a0b0c000001c2 7 - value ac
+4294967296:2 reader 0 sample 0102030405060708090a0b0c000002c2 7 - value ac
 "
             .as_slice()
     );

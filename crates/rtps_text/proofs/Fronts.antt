@@ -305,3 +305,25 @@ place_more text parts places i p said said' readers readers' below here s r =
     ap (λ l. places_lines text parts l said readers) (drop_more places i p below ∙ ap (λ q. q ∷ drop (i + 1) places) (sym here))
     ∙ ap (λ k. lines ++ places_lines text parts (drop (i + 1) places) k (map (cursor_after parts p) readers)) (sym s)
     ∙ ap (λ l. lines ++ places_lines text parts (drop (i + 1) places) said' l) (sym r)
+
+-- after the lines of one place more, what is added and what is left are still the whole
+pub places_on : {M : Type 0} (text : M → List ℕ) (parts : PartsByRank M) (places : List Place) (i : ℕ) (p : Place) (said said' : ℕ) (readers readers' : List Cursor)
+    (out out' whole : List ℕ) → i < length places → p ≡ get_or places i p
+    → said' ≡ said + length (next_said parts p said) → readers' ≡ map (cursor_after parts p) readers
+    → out' ≡ out ++ (answer_lines (next_said parts p said) ++ parts_lines text parts p readers)
+    → out ++ places_lines text parts (drop i places) said readers ≡ whole
+    → out' ++ places_lines text parts (drop (i + 1) places) said' readers' ≡ whole
+places_on text parts places i p said said' readers readers' out out' whole below here s r put so_far =
+    let lines = answer_lines (next_said parts p said) ++ parts_lines text parts p readers in
+    let left = places_lines text parts (drop (i + 1) places) said' readers' in
+    ap (λ o. o ++ left) put
+    ∙ append_assoc out lines left
+    ∙ ap (λ l. out ++ l) (sym (place_more text parts places i p said said' readers readers' below here s r))
+    ∙ so_far
+
+-- the lines of a place by another catalog that is the same
+pub by_same : {X M : Type 0} (text : X → M → List ℕ) (parts : PartsByRank M) (p : Place) (said : ℕ) (readers : List Cursor) (out out' : List ℕ) (x y : X) → x ≡ y
+    → out' ≡ out ++ (answer_lines (next_said parts p said) ++ parts_lines (text x) parts p readers)
+    → out' ≡ out ++ (answer_lines (next_said parts p said) ++ parts_lines (text y) parts p readers)
+by_same text parts p said readers out out' x y same put =
+    subst (λ l. out' ≡ out ++ (answer_lines (next_said parts p said) ++ parts_lines (text l) parts p readers)) same put

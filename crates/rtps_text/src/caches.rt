@@ -13,10 +13,10 @@ ghost use Rattle.dds_cache.specs.declared.history.History.{History};
 
 use dds_cache::{Condition, DataReader, History, Taken};
 use dds_topic::TextCatalog;
-use rtps_lines::{LastLine, push_entry};
+use rtps_lines::push_entry;
 use rtps_reader::{Notice, Output};
 use rtps_records::{Lines, RunFault};
-use std::alloc::{AllocError, Allocator, Global};
+use std::alloc::{AllocError, Global};
 use std::io::Write;
 
 /// The condition that every entry meets, since all entries are printed.
@@ -103,9 +103,8 @@ impl<V: Drop> ReaderCaches<V> {
 ///
 /// Returns `CannotWrite` if a write fails, and `NoMemory` if memory runs out. A prefix of the lines
 /// may have been written by then.
-fn print_entries<C: TextCatalog, W: Write, B: Allocator + Copy>(
+fn print_entries<C: TextCatalog, W: Write>(
     lines: &mut Lines<'_, W>,
-    last: &mut LastLine<B>,
     catalog: &C,
     rank: u32,
     entries: &[Taken<C::Value>],
@@ -122,7 +121,7 @@ fn print_entries<C: TextCatalog, W: Write, B: Allocator + Copy>(
         (map (sample_view C.view) entries.now))) }
 {
     for entry in entries {
-        push_entry(&mut lines.text, last, catalog, rank, entry)?;
+        push_entry(&mut lines.text, catalog, rank, entry)?;
         lines.write_if_full()?;
     }
     Ok(())
@@ -133,10 +132,9 @@ fn print_entries<C: TextCatalog, W: Write, B: Allocator + Copy>(
 ///
 /// Returns `CannotWrite` if a write fails, and `NoMemory` if memory runs out. A prefix of the lines
 /// may have been written by then.
-pub(crate) fn print_caches<C: TextCatalog, W: Write, B: Allocator + Copy>(
+pub(crate) fn print_caches<C: TextCatalog, W: Write>(
     alloc: Global,
     lines: &mut Lines<'_, W>,
-    last: &mut LastLine<B>,
     catalog: &C,
     caches: &mut Vec<DataReader<C::Value>>,
 ) -> Result<(), RunFault>
@@ -159,7 +157,7 @@ pub(crate) fn print_caches<C: TextCatalog, W: Write, B: Allocator + Copy>(
         let cache = &mut caches[rank];
         let most = cache.len();
         let taken = cache.take(alloc, most, ANY)?;
-        print_entries(lines, last, catalog, rank as u32, &taken)?;
+        print_entries(lines, catalog, rank as u32, &taken)?;
     }
     Ok(())
 }

@@ -100,9 +100,9 @@ where
             (parts_given C.view self.now.given.now) places.now cursors.said cursors.readers.items) }
         ensures keeps { StartsWith out.new.items out.old.items }
     {
-        let mut last = LastLine::none(self.alloc);
+        let mut last = LastLine::none(self.alloc, self.catalog);
         for place in places {
-            cursors.push_place(out, &mut last, self.catalog, self.given, *place)?;
+            cursors.push_place(out, &mut last, self.given, *place)?;
         }
         Ok(())
     }

@@ -19,32 +19,29 @@ use crate::slices::Cursors;
 use crate::texts::Texts;
 use dds_participant::BatchOutput;
 use dds_topic::TextCatalog;
-use rtps_lines::LastLine;
 use rtps_records::{Lines, Records, RunFault};
 use std::alloc::{AllocError, Global};
 use std::io::{Read, Write};
 use std::mem;
 use std::thread::Threads;
 
-/// The most lines that several workers format. A batch of 4,096 datagrams for the program's eight
+/// The most lines that are formatted beside the next batch, or by several workers. A batch of 4,096 datagrams for the program's eight
 /// readers has at most 32,768 unless many changes waited for a missing one.
 const SHARED: usize = 49_152;
 
-/// The printer of a run, which works one batch behind it: while the run processes a batch, workers
-/// format the output of the batch before, the text of the batch before that one is written, and the
-/// next batch is read.
+/// The printer of a run, which works one batch behind it: while the run processes a batch, the output
+/// of the batch before is formatted, the text of the batch before that one is written, and the next
+/// batch is read. One thread formats, which takes less time than several take to run a batch.
 #[derive(Drop)]
 pub(crate) struct Printer<'c, C: TextCatalog> {
     /// The catalog that formats the values.
     pub catalog: &'c C,
     /// The number of readers.
     pub readers: u32,
-    /// The output that workers format while the next batch is run. Its lists are reused for the
+    /// The output that is formatted while the next batch is run. Its lists are reused for the
     /// batch after that.
     given: BatchOutput<C::Value>,
-    /// The last place, writer and change that were formatted on this thread, with their texts.
-    last: LastLine,
-    /// The pace, which tells how many workers format the output of a batch.
+    /// The pace, which tells how many workers format the output of the last batch.
     pace: Pace,
     /// The allocator for texts.
     alloc: Global,
@@ -63,16 +60,14 @@ where
             catalog,
             readers: run.participant.readers(),
             given: BatchOutput::new(run.alloc),
-            last: LastLine::none(run.alloc),
             pace: run.pace.formatting(),
             alloc: run.alloc,
         }
     }
 
     /// Prints the output of the run's last batch, has the run process the batch that was read
-    /// ahead, and reads the next batch. If several workers format the output, these happen at the
-    /// same time, and the workers' texts are kept in `pipeline`: they are to be written after the
-    /// lines.
+    /// ahead, and reads the next batch. If there are several workers and enough lines, these happen
+    /// at the same time, and the text is kept in `pipeline`: it is to be written after the lines.
     ///
     /// Returns `CannotWrite` if a write fails, and `NoMemory` if memory runs out. A prefix of what
     /// was to be printed may have been written by then.
@@ -182,7 +177,7 @@ where
         self.pace.formatters(lines)
     }
 
-    /// Runs a batch on a thread of its own and has workers format the output of the batch before,
+    /// Runs a batch on a thread of its own and formats the output of the batch before on this one,
     /// while texts are written and the next batch is read.
     fn format_and_take<R: Read + Send, W: Write + Send, T: Threads + Sync>(
         &mut self,
@@ -228,7 +223,6 @@ where
         mem::swap(batch, &mut ahead.next);
         mem::swap(&mut run.given, &mut self.given);
         let spare = mem::replace(&mut ahead.texts.spare, Vec::new(self.alloc));
-        let workers = self.workers(&self.given);
         let formatter = self.formatter(&self.given);
         let batch = &*batch;
         let take = move || -> Result<RunLines<C>, AllocError>
@@ -244,14 +238,13 @@ where
             Ok(run)
         };
         let format_lines = move || -> Result<Vec<Result<Vec<u8>, AllocError>>, AllocError>
-            requires { 1 ≤ workers }
             ensures { AreByPlace C.view formatter.entry.given.now → IfOk result (λ texts.
                 AreTexts texts.items (merged_lines (C.text_of formatter.entry.catalog.now) C.view
                 formatter.entry.given.now formatter.entry.readers
                 formatter.entry.given.now.places.items)) }
         {
             let mut spare = spare;
-            formatter.texts(rt, workers, &mut spare)
+            formatter.texts(rt, 1, &mut spare)
         };
         let calls = (take, format_lines);
         let (done, taken, made) = write_and_read_beside(rt, ahead, records, lines, calls);
@@ -296,6 +289,6 @@ where
             self.old.readers)) }
     {
         let mut cursors = Cursors::start::<C>(self.alloc, given, self.readers)?;
-        print_places(lines, &mut self.last, self.catalog, given, &mut cursors)
+        print_places(self.alloc, lines, self.catalog, given, &mut cursors)
     }
 }

@@ -11,7 +11,7 @@ use dds_participant::BatchOutput;
 use dds_topic::TextCatalog;
 use rtps_lines::LastLine;
 use rtps_records::{Lines, RunFault};
-use std::alloc::{AllocError, Allocator};
+use std::alloc::{AllocError, Global};
 use std::io::Write;
 use std::mem;
 
@@ -20,11 +20,11 @@ use std::mem;
 ///
 /// Returns `CannotWrite` if a write fails, and `NoMemory` if memory runs out. A prefix of the lines
 /// may have been written by then.
-pub(crate) fn print_places<C: TextCatalog, W: Write, B: Allocator + Copy>(
+pub(crate) fn print_places<'g, C: TextCatalog, W: Write>(
+    alloc: Global,
     lines: &mut Lines<'_, W>,
-    last: &mut LastLine<B>,
-    catalog: &C,
-    given: &BatchOutput<C::Value>,
+    catalog: &'g C,
+    given: &'g BatchOutput<C::Value>,
     cursors: &mut Cursors,
 ) -> Result<(), RunFault>
     ensures same_writer { lines.new.writer.ghost_name ≡ lines.old.writer.ghost_name }
@@ -41,8 +41,9 @@ pub(crate) fn print_places<C: TextCatalog, W: Write, B: Allocator + Copy>(
         (parts_given C.view given.now) given.now.places.items
         cursors.old.said cursors.old.readers.items)) }
 {
+    let mut last = LastLine::none(alloc, catalog);
     for place in &given.places {
-        cursors.push_place(&mut lines.text, last, catalog, given, *place)?;
+        cursors.push_place(&mut lines.text, &mut last, given, *place)?;
         lines.write_if_full()?;
     }
     Ok(())

@@ -25,7 +25,7 @@ use std::thread::Threads;
 ///
 /// The file is never in memory as a whole. In memory are the records of two batches, at most 1 MiB
 /// each, the output of two batches, and the texts of two batches. If there are several workers,
-/// three quarters of them run a batch while half of them format the one before; at the same
+/// three quarters of them run a batch while one more thread formats the one before; at the same
 /// time the text of the batch before that one is written, and the next batch is read. So when a
 /// write fails, three more batches may have been read than the text has.
 pub fn replay<C: TextCatalog, R: Read + Send, W: Write + Send, T: Threads + Sync>(

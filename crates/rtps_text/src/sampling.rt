@@ -25,7 +25,6 @@ use crate::setup::{CacheSetup, Setup};
 use crate::sink::Sink;
 use dds_cache::History;
 use dds_topic::TextCatalog;
-use rtps_lines::LastLine;
 use rtps_records::{Batch, Lines, RunFault};
 use std::alloc::{AllocError, Allocator, Global};
 use std::io::{Read, Write};
@@ -210,10 +209,9 @@ where
             self.old.run.summary self.old.keep records)) }
     {
         let alloc = self.run.alloc;
-        let mut last = LastLine::none(alloc);
         let catalog = self.run.participant.catalog();
         let caches = &mut self.caches.by_rank;
-        print_caches(alloc, lines, &mut last, catalog, caches)?;
+        print_caches(alloc, lines, catalog, caches)?;
         push_asked(&mut lines.text, &self.run)?;
         lines.close()
     }

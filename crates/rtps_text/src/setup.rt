@@ -16,9 +16,9 @@ pub struct Pace {
     /// The maximum number of datagrams in a batch, 1 to 4,096.
     pub batch: u16,
     /// The maximum number of workers that share a batch, 1 to 64. One worker runs on the caller's
-    /// thread; several have a thread each. In `replay` three quarters of this number run a batch
-    /// while half of it format the output of the batch before; if there are several, each of the
-    /// two tasks has at least two workers.
+    /// thread; several have a thread each. In `replay` three quarters of this number run a batch,
+    /// but at least two if there are several, while one more thread formats the output of the batch
+    /// before.
     pub workers: u8,
     ghost batched: { 1 ≤ batch },
     ghost few: { batch ≤ 4096 },
@@ -37,17 +37,16 @@ const OCTETS: usize = 2_048;
 const LINES: usize = 1_024;
 
 impl Pace {
-    /// Returns the pace of a run while other workers format: three quarters of the workers, but at
-    /// least two if there are several. Together with those that format they are a quarter more
-    /// than there are: a batch begins and ends on one thread, and the others have its processor.
+    /// Returns the pace of a run beside the thread that formats: three quarters of the workers, but
+    /// at least two if there are several.
     pub(crate) fn running(self) -> Pace
         ensures { result.batch ≡ self.batch }
     {
         self.shared_by(self.workers * 3 / 4)
     }
 
-    /// Returns the pace of formatting beside a run of this pace: two thirds of its workers, which
-    /// is half of all, but at least two if there are several.
+    /// Returns the pace of formatting after a run of this pace: two thirds of its workers, which is
+    /// half of all, but at least two if there are several.
     pub(crate) fn formatting(self) -> Pace
         ensures { result.batch ≡ self.batch }
     {

@@ -38,20 +38,20 @@ pub(crate) struct Cursors {
 
 /// Adds the lines of the leading notices that are at a place, and returns their number. `spot` is
 /// the rank of their reader, and the place.
-fn push_notices<C: TextCatalog, A: Allocator, B: Allocator + Copy>(
+fn push_notices<'n, C: TextCatalog, A: Allocator, B: Allocator + Copy>(
     out: &mut Vec<u8, A>,
-    last: &mut LastLine<B>,
-    catalog: &C,
+    last: &mut LastLine<'_, 'n, C, B>,
     spot: (u32, Place),
-    notices: &[Notice<C::Value>],
+    notices: &'n [Notice<C::Value>],
 ) -> Result<usize, AllocError>
     ensures within { IfOk result (λ n. n ≤ length notices.now) }
     ensures count { IfOk result (λ n. n ≡
         length (first_notices spot.1 (map (notice_view C.view) notices.now))) }
     ensures lines { OnOk result (out.new.items ≡ out.old.items ++
-        put_lines (C.text_of catalog.now) (map (NoticeOf spot.0)
+        put_lines (C.text_of last.old) (map (NoticeOf spot.0)
         (first_notices spot.1 (map (notice_view C.view) notices.now)))) }
     ensures keeps { StartsWith out.new.items out.old.items }
+    ensures same { last.new ≡ last.old }
 {
     let (rank, place) = spot;
     let mut count = 0;
@@ -59,7 +59,7 @@ fn push_notices<C: TextCatalog, A: Allocator, B: Allocator + Copy>(
         if notice.place != place {
             return Ok(count);
         }
-        push_notice(out, last, catalog, rank, notice)?;
+        push_notice(out, last, rank, notice)?;
         count += 1;
     }
     Ok(count)
@@ -176,28 +176,28 @@ impl Cursor {
 
     /// Adds the lines of a reader's output at a place, its notices and then its answer, and advances
     /// the cursor past them.
-    fn push_output<C: TextCatalog, A: Allocator, B: Allocator + Copy>(
+    fn push_output<'n, C: TextCatalog, A: Allocator, B: Allocator + Copy>(
         &mut self,
         out: &mut Vec<u8, A>,
-        last: &mut LastLine<B>,
-        catalog: &C,
-        output: &Output<C::Value>,
+        last: &mut LastLine<'_, 'n, C, B>,
+        output: &'n Output<C::Value>,
         place: Place,
     ) -> Result<(), AllocError>
         ensures lines { OnOk result (out.new.items ≡ out.old.items ++
-            lists_lines (C.text_of catalog.now) (map (notice_view C.view) output.now.notices.items)
+            lists_lines (C.text_of last.old) (map (notice_view C.view) output.now.notices.items)
             (map answer_view output.now.answers.items) place self.old) }
         ensures keeps { StartsWith out.new.items out.old.items }
         ensures moves { OnOk result (self.new ≡
             lists_after (map (notice_view C.view) output.now.notices.items)
             (map answer_view output.now.answers.items) place self.old) }
+        ensures same { last.new ≡ last.old }
     {
         let notices = rest(&output.notices, self.notices);
         let answers = rest(&output.answers, self.answers);
         if !is_noticed::<C>(notices, place) && !is_answered(answers, place) {
             return Ok(());
         }
-        let told = push_notices(out, last, catalog, (self.rank, place), notices)?;
+        let told = push_notices(out, last, (self.rank, place), notices)?;
         let sent = push_answers(out, place, answers)?;
         self.notices += told;
         self.answers += sent;
@@ -206,22 +206,22 @@ impl Cursor {
 
     /// Does what `push_output` does, with the output of the reader of its rank. If the batch has no
     /// such reader, nothing is added.
-    fn push_part<C: TextCatalog, A: Allocator, B: Allocator + Copy>(
+    fn push_part<'n, C: TextCatalog, A: Allocator, B: Allocator + Copy>(
         &mut self,
         out: &mut Vec<u8, A>,
-        last: &mut LastLine<B>,
-        catalog: &C,
-        given: &BatchOutput<C::Value>,
+        last: &mut LastLine<'_, 'n, C, B>,
+        given: &'n BatchOutput<C::Value>,
         place: Place,
     ) -> Result<(), AllocError>
         ensures lines { OnOk result (out.new.items ≡ out.old.items ++
-            part_lines (C.text_of catalog.now) (parts_given C.view given.now) place self.old) }
+            part_lines (C.text_of last.old) (parts_given C.view given.now) place self.old) }
         ensures keeps { StartsWith out.new.items out.old.items }
         ensures moves { OnOk result (self.new ≡
             cursor_after (parts_given C.view given.now) place self.old) }
+        ensures same { last.new ≡ last.old }
     {
         match given.outputs.get(self.rank as usize) {
-            Some(output) => self.push_output(out, last, catalog, output, place),
+            Some(output) => self.push_output(out, last, output, place),
             None => Ok(()),
         }
     }
@@ -276,12 +276,11 @@ impl Cursors {
     }
 
     /// Adds the lines at a place: discovery's answer, and then the lines of each reader, by rank.
-    pub(crate) fn push_place<C: TextCatalog, A: Allocator, B: Allocator + Copy>(
+    pub(crate) fn push_place<'n, C: TextCatalog, A: Allocator, B: Allocator + Copy>(
         &mut self,
         out: &mut Vec<u8, A>,
-        last: &mut LastLine<B>,
-        catalog: &C,
-        given: &BatchOutput<C::Value>,
+        last: &mut LastLine<'_, 'n, C, B>,
+        given: &'n BatchOutput<C::Value>,
         place: Place,
     ) -> Result<(), AllocError>
         ensures said { OnOk result (self.new.said ≡ self.old.said
@@ -290,13 +289,14 @@ impl Cursors {
             ≡ map (cursor_after (parts_given C.view given.now) place) self.old.readers.items) }
         ensures lines { OnOk result (out.new.items ≡ out.old.items
             ++ (answer_lines (next_said (parts_given C.view given.now) place self.old.said)
-            ++ parts_lines (C.text_of catalog.now) (parts_given C.view given.now) place
+            ++ parts_lines (C.text_of last.old) (parts_given C.view given.now) place
             self.old.readers.items)) }
         ensures keeps { StartsWith out.new.items out.old.items }
+        ensures same { last.new ≡ last.old }
     {
         self.said += push_answers(out, place, rest(&given.answers, self.said))?;
         for at in 0..self.readers.len() {
-            self.readers[at].push_part(out, last, catalog, given, place)?;
+            self.readers[at].push_part(out, last, given, place)?;
         }
         Ok(())
     }

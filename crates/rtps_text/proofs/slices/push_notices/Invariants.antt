@@ -10,7 +10,8 @@ abbrev pub invariant-loop-notice : goal.invariant-loop-notice
 invariant-loop-notice g l = record {
   at : l.count ≡ l.notice-index;
   count : l.count + length (first_notices l.place (map (notice_view g.C.Catalog.view) (drop l.notice-index l.notices))) ≡ length (first_notices l.place (map (notice_view g.C.Catalog.view) l.notices));
-  lines : l.out.items ++ put_lines (g.C.Catalog.text_of l.catalog) (map (NoticeOf l.rank) (first_notices l.place (map (notice_view g.C.Catalog.view) (drop l.notice-index l.notices))))
-      ≡ l.fn.out.items ++ put_lines (g.C.Catalog.text_of l.catalog) (map (NoticeOf l.rank) (first_notices l.place (map (notice_view g.C.Catalog.view) l.notices)));
+  lines : l.out.items ++ put_lines (g.C.Catalog.text_of l.fn.last) (map (NoticeOf l.rank) (first_notices l.place (map (notice_view g.C.Catalog.view) (drop l.notice-index l.notices))))
+      ≡ l.fn.out.items ++ put_lines (g.C.Catalog.text_of l.fn.last) (map (NoticeOf l.rank) (first_notices l.place (map (notice_view g.C.Catalog.view) l.notices)));
   keeps : StartsWith l.out.items l.fn.out.items;
+  same : l.last ≡ l.fn.last;
 }

@@ -10,6 +10,7 @@ invariant-loop-at g l = record {
   said : l.self.said ≡ l.fn.self.said + length (next_said (parts_given g.C.Catalog.view l.given) l.place l.fn.self.said);
   moved : AreMoved (parts_given g.C.Catalog.view l.given) l.place l.fn.self.readers.items l.self.readers.items l.at;
   lines : l.out.items ≡ l.fn.out.items ++ (answer_lines (next_said (parts_given g.C.Catalog.view l.given) l.place l.fn.self.said)
-      ++ parts_lines (g.C.Catalog.text_of l.catalog) (parts_given g.C.Catalog.view l.given) l.place (take l.at l.fn.self.readers.items));
+      ++ parts_lines (g.C.Catalog.text_of l.fn.last) (parts_given g.C.Catalog.view l.given) l.place (take l.at l.fn.self.readers.items));
   keeps : StartsWith l.out.items l.fn.out.items;
+  same : l.last ≡ l.fn.last;
 }
