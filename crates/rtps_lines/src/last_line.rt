@@ -1,7 +1,7 @@
 //! A cache of the texts of the last line, since consecutive lines often have the same ones: readers
 //! of one topic present the same changes.
 
-ghost use Rattle.std.specs.Prelude.{◌≡◌, ◌++◌, OnOk, true};
+ghost use Rattle.std.specs.Prelude.{◌≡◌, ◌++◌, OnOk};
 ghost use Rattle.std.specs.Io.{StartsWith};
 ghost use Rattle.std.specs.Option.{ForSome};
 ghost use Rattle.rtps_reader.specs.Notice.{notice_view};
