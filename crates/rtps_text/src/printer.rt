@@ -25,13 +25,15 @@ use std::io::{Read, Write};
 use std::mem;
 use std::thread::Threads;
 
-/// The most lines that are formatted beside the next batch, or by several workers. A batch of 4,096 datagrams for the program's eight
-/// readers has at most 32,768 unless many changes waited for a missing one.
+/// The most lines that are formatted beside the next batch, or by several workers. A batch of 4,096
+/// datagrams for the program's eight readers has at most 32,768 unless many changes waited for a
+/// missing one.
 const SHARED: usize = 49_152;
 
-/// The printer of a run, which works one batch behind it: while the run processes a batch, the output
-/// of the batch before is formatted, the text of the batch before that one is written, and the next
-/// batch is read. One thread formats, which takes less time than several take to run a batch.
+/// The printer of a run, which works one batch behind it: while the run processes a batch, the
+/// output of the batch before is formatted, the text of the batch before that one is written, and
+/// the next batch is read. One thread formats, which takes less time than several take to run a
+/// batch.
 #[derive(Drop)]
 pub(crate) struct Printer<'c, C: TextCatalog> {
     /// The catalog that formats the values.
