@@ -1,5 +1,7 @@
 //! Lines, files and runs that were written down by hand, and what comes out.
 
+ghost use Rattle.std.specs.Prelude.{◌≤◌};
+
 use crate::config::config_of;
 use crate::counts::Counts;
 use crate::fault::BenchFault;
@@ -56,7 +58,10 @@ fn options() -> Options<'static> {
 }
 
 /// Options of this number of readers, of topics and their name, and of a writer.
-fn options_of<'a>(readers: u8, topics: (u8, &'a str), fixed: Option<&'a str>) -> Options<'a> {
+fn options_of<'a>(readers: u8, topics: (u8, &'a str), fixed: Option<&'a str>) -> Options<'a>
+    requires readers { (1 ≤ readers) × (readers ≤ 64) }
+    requires topics { (1 ≤ topics.0) × (topics.0 ≤ 64) }
+{
     let (topics, topic) = topics;
     Options {
         readers,
@@ -183,8 +188,9 @@ fn batches_of_a_file(rt: HostRuntime) -> Result<(), Fail> {
         (1, Some(4)),
         (0, None),
     ];
-    assert_eq!(rt; &held[..7], due.as_slice());
-    assert_eq!(rt; &held[7..], [(1, Some(5)), (0, None)].as_slice());
+    let last = [(1, Some(5)), (0, None)];
+    assert_eq!(rt; held.get(..7), Some(due.as_slice()));
+    assert_eq!(rt; held.get(7..), Some(last.as_slice()));
     for (file, fault) in [
         (FILE.get(..3), RunFault::NotRecordFile),
         (FILE.get(..135), RunFault::CutRecord(1)),

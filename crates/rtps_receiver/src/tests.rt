@@ -290,9 +290,9 @@ fn ends_at(events: &[Event<'_>], count: usize, submessage: u32) -> bool {
         && last.is_some_and(|place| (place.datagram, place.submessage) == (8, submessage))
 }
 
-/// Lists five events in a heap of this size. Returns the number of refusals; what is refused leaves
-/// the list, and succeeds once there is memory.
-fn refusals(alloc: Global, call: Call, size: usize, octets: &[u8]) -> Result<usize, Fail>
+/// Lists five events in a heap of this size, and returns whether that was refused at first. What is
+/// refused leaves the list, and succeeds once there is memory.
+fn is_refused(alloc: Global, call: Call, size: usize, octets: &[u8]) -> Result<bool, Fail>
     requires { length octets.now ≤ 65507 }
 {
     let heap = LocalHeap::new(alloc, 65_536)?;
@@ -304,7 +304,7 @@ fn refusals(alloc: Global, call: Call, size: usize, octets: &[u8]) -> Result<usi
     }
     let (before, counted) = (list.len(), counters);
     let mut others = Some(Vec::<u8, _>::with_capacity(&heap, heap.free().saturating_sub(size))?);
-    let mut refused = 0;
+    let mut is_refused = false;
     for _ in 0..2 {
         let is_listed = match call {
             Call::Events => match events(&heap, OURS, 8, octets) {
@@ -319,7 +319,7 @@ fn refusals(alloc: Global, call: Call, size: usize, octets: &[u8]) -> Result<usi
         if is_listed {
             break;
         }
-        refused += 1;
+        is_refused = true;
         others = None;
         if counters != counted
             || list.len() != before
@@ -332,7 +332,7 @@ fn refusals(alloc: Global, call: Call, size: usize, octets: &[u8]) -> Result<usi
     if !ends_at(list.as_slice(), before.saturating_add(5), 5) {
         return Err(Fail::new("not all events"));
     }
-    Ok(refused)
+    Ok(is_refused)
 }
 
 #[test]
@@ -340,14 +340,15 @@ fn lists_again_what_was_refused(rt: HostRuntime) -> Result<(), Fail> {
     let octets = message(rt.alloc(), &[&DATA, &DATA, &DATA, &DATA, &DATA])?;
     assert!(rt; octets.len() < 200);
     for call in [Call::Events, Call::AddEvents] {
-        let (mut refused, mut listed) = (0, 0);
+        let (mut some_refused, mut some_listed) = (false, false);
         for step in 1..256 {
-            match refusals(rt.alloc(), call, step * 16, &octets)? {
-                0 => listed += 1,
-                _ => refused += 1,
+            if is_refused(rt.alloc(), call, step * 16, &octets)? {
+                some_refused = true;
+            } else {
+                some_listed = true;
             }
         }
-        assert!(rt; 0 < refused && 0 < listed, "of {call:?}");
+        assert!(rt; some_refused && some_listed, "of {call:?}");
     }
     Ok(())
 }

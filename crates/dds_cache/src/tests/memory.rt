@@ -242,24 +242,24 @@ fn is_refused(
 
 #[test]
 fn accepts_again_each_notice_that_was_refused(rt: HostRuntime) -> Result<(), Fail> {
-    let mut refused = 0;
+    let mut some_refused = false;
     for coming in COMING {
-        let (mut of_these, mut accepted) = (0, 0);
+        let (mut some_of_these, mut some_accepted) = (false, false);
         for room in 0..64 {
             for is_tried_again in [false, true] {
                 if is_refused(rt.alloc(), coming, room, is_tried_again)? {
-                    of_these += 1;
+                    some_of_these = true;
                 } else {
-                    accepted += 1;
+                    some_accepted = true;
                 }
             }
         }
         let (_, what, makes_entry, _) = coming;
-        assert!(rt; makes_entry || of_these == 0, "of {what:?}");
-        assert!(rt; 0 < accepted, "of {what:?}");
-        refused += of_these;
+        assert!(rt; makes_entry || !some_of_these, "of {what:?}");
+        assert!(rt; some_accepted, "of {what:?}");
+        some_refused |= some_of_these;
     }
-    assert!(rt; 0 < refused);
+    assert!(rt; some_refused);
     Ok(())
 }
 
@@ -301,16 +301,16 @@ fn is_next_refused(alloc: Global, count: u64, room: usize) -> Result<bool, Fail>
 
 #[test]
 fn accepts_again_a_value_of_a_known_instance(rt: HostRuntime) -> Result<(), Fail> {
-    let (mut refused, mut accepted) = (0, 0);
+    let (mut some_refused, mut some_accepted) = (false, false);
     for count in 1..10 {
         for room in 0..48 {
             if is_next_refused(rt.alloc(), count, room)? {
-                refused += 1;
+                some_refused = true;
             } else {
-                accepted += 1;
+                some_accepted = true;
             }
         }
     }
-    assert!(rt; 0 < refused && 0 < accepted);
+    assert!(rt; some_refused && some_accepted);
     Ok(())
 }

@@ -346,16 +346,16 @@ fn copies_again_what_was_refused(rt: HostRuntime) -> Result<(), Fail> {
     let octets = octets_of(rt.alloc(), WRITER)?;
     let list = ParamList::new(octets.as_slice(), Endian::Little)?;
     for call in [Call::OfferedFrom, Call::PartitionsIn] {
-        let (mut refused, mut made) = (0, 0);
+        let (mut some_refused, mut some_made) = (false, false);
         for size in 1..32 {
             let heap = LocalHeap::new(rt.alloc(), size * 16)?;
             let found = match copied(rt.alloc(), &heap, call, &list)? {
                 Some(names) => {
-                    made += 1;
+                    some_made = true;
                     Some(names)
                 }
                 None => {
-                    refused += 1;
+                    some_refused = true;
                     assert_eq!(rt; heap.used(), 0, "of {call:?}");
                     copied(rt.alloc(), rt.alloc(), call, &list)?
                 }
@@ -365,7 +365,7 @@ fn copies_again_what_was_refused(rt: HostRuntime) -> Result<(), Fail> {
                 "of {call:?}"
             );
         }
-        assert!(rt; 0 < refused && 0 < made, "of {call:?}");
+        assert!(rt; some_refused && some_made, "of {call:?}");
     }
     Ok(())
 }

@@ -91,7 +91,7 @@ fn given<A: Allocator + Copy>(alloc: Global, heap: A, call: Call) -> Result<Opti
 fn answers_again_what_was_refused(rt: HostRuntime) -> Result<(), Fail> {
     let alloc = rt.alloc();
     for (call, wanted) in CALLS {
-        let (mut refused, mut made) = (0, 0);
+        let (mut some_refused, mut some_made) = (false, false);
         for size in 0..24 {
             let heap = LocalHeap::new(alloc, 1024)?;
             let others = Vec::<u8, _>::with_capacity(&heap, 1024 - size * 16)?;
@@ -99,15 +99,15 @@ fn answers_again_what_was_refused(rt: HostRuntime) -> Result<(), Fail> {
             drop(others);
             assert_eq!(rt; heap.used(), 0, "of {call:?}");
             if found.is_some() {
-                made += 1;
+                some_made = true;
             } else {
-                refused += 1;
+                some_refused = true;
                 found = given(alloc, alloc, call)?;
             }
             let is_wanted = found.is_some_and(|octets| octets.as_slice() == wanted);
             assert!(rt; is_wanted, "of {call:?} with {size}");
         }
-        assert!(rt; 0 < refused && 0 < made, "of {call:?}");
+        assert!(rt; some_refused && some_made, "of {call:?}");
     }
     Ok(())
 }

@@ -123,20 +123,20 @@ fn is_refused(
 #[test]
 fn writes_again_what_was_refused(rt: HostRuntime) -> Result<(), Fail> {
     for row in CALLS {
-        let (mut refused, mut written) = (0, 0);
+        let (mut some_refused, mut some_written) = (false, false);
         for length in 0..FRONT.len() {
             let front = FRONT.get(..length).ok_or("a front")?;
             for room in 0..8 {
                 for is_tried_again in [false, true] {
                     if is_refused(rt.alloc(), row, front, (room, is_tried_again))? {
-                        refused += 1;
+                        some_refused = true;
                     } else {
-                        written += 1;
+                        some_written = true;
                     }
                 }
             }
         }
-        assert!(rt; 0 < refused && 0 < written, "of {:?}", row.0);
+        assert!(rt; some_refused && some_written, "of {:?}", row.0);
     }
     Ok(())
 }
