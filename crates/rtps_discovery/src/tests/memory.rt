@@ -115,12 +115,11 @@ enum Refused {
 
 /// Returns the greatest moment, and the numbers of ranks and of known participants and writers.
 fn amount_of<A: Allocator + Copy>(discovery: &Discovery<A>) -> (u64, usize, usize, usize) {
-    let participants = discovery.participants().count();
     (
         discovery.moment(),
         discovery.readers().len(),
-        participants,
-        discovery.writers().count(),
+        discovery.participants().len(),
+        discovery.writers().len(),
     )
 }
 

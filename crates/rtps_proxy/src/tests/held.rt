@@ -114,7 +114,7 @@ fn fill(alloc: Global, proxy: &mut WriterProxy) -> Result<bool, Fail> {
 /// Whether the changes that are ready have the numbers from `first` to `end`, without `end`.
 fn are_ready(effects: &Effects<'_>, first: u64, end: u64) -> bool {
     let numbers = first..end;
-    effects.ready.len() as u64 == end - first
+    effects.ready.len() as u64 == end.saturating_sub(first)
         && effects
             .ready
             .iter()
