@@ -152,6 +152,14 @@ def test(gate, crate):
         return passes(f"{crate.name}: tests", words, inside.folder, r"^test result: ok\..*")
 
 
+def prove_tests(gate, crate, jobs):
+    """Proves the tests of a crate over the work of its own proof: that each of their calls meets its condition, and that no
+    sum or index of theirs can fail."""
+    with gate.rooms.room(crate, has_tests=True) as inside:
+        words = ["rt", "check", "--test", "--only", f"{crate.name}::tests", "--jobs", str(jobs)]
+        return passes(f"{crate.name}: proof of tests", words, inside.folder, r"^only=([1-9]\d*) proved=\d+$")
+
+
 def build(gate, crate, jobs, backends=("rattle", "llvm")):
     """Builds a program by both compilers, the one whose program stays last, and compares what each writes with the
     crate's file stdout."""
@@ -265,6 +273,15 @@ def proof_tasks(gate, crates, is_judged=True):
     for crate in crates:
         waits = tuple(each.name for each in crate.below)
         yield Task(crate.name, lambda jobs, crate=crate: prove(gate, crate, jobs, is_judged), waits, crate.lines())
+
+
+def test_proof_tasks(gate, crates):
+    """A task for the proof of each crate's tests."""
+    for crate in (crate for crate in crates if crate.has_tests()):
+        name = f"{crate.name}: proof of tests"
+        total = lambda it=crate: joined_sum(gate.code, shown_total(gate, it), sum_of(it.files("src"), it.folder))
+        call = lambda jobs, it=crate, name=name, total=total: once(gate, name, total, lambda: prove_tests(gate, it, jobs))
+        yield Task(name, call, (crate.name,), crate.lines() / 4)
 
 
 def other_tasks(gate):

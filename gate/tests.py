@@ -136,6 +136,17 @@ class Repository(unittest.TestCase):
                 spoil(), calls.clear()
                 self.assertEqual(({}, done), (steps.prove(self.gate, self.low, 1).failed, calls))
 
+    def test_tests_are_proved_again_where_they_change(self):
+        calls, says = [], lambda text: lambda words, folder: calls.append(words[4]) or tasks.Ran(0, text, 1.0)
+        for text, says_so, passed, count in (("one", "only=3 proved=4", 3, 1), ("one", "", 3, 1), ("two", "only=0 proved=0", 0, 2),
+                                             ("two", "only=2 proved=2", 2, 3)):
+            self.write("crates/low/src/tests.rt", f"#[test]\nfn {text}() {{}}\n")
+            with mock.patch.object(steps, "run", says(says_so)):
+                work = [*steps.test_proof_tasks(self.gate, [self.low, self.high])]
+                self.assertEqual(["low: proof of tests"], [task.name for task in work])
+                done = work[0].call(1)
+                self.assertEqual((passed, not passed, ["low::tests"] * count), (done.passed, bool(done.failed), calls))
+
     def test_where_nothing_can_be_written_nothing_is_kept_there(self):
         with mock.patch.dict("os.environ", {"CHECK_KEPT": str(self.top / "HANDLES" / "kept")}):
             folder = default_folder()

@@ -5,6 +5,8 @@ use crate::*;
 use std::cmp::Ordering;
 use std::test::Fail;
 
+mod text;
+
 /// Reads at a place in octets, in each byte order.
 #[test]
 fn fields_are_read_in_either_order(rt: HostRuntime) {

@@ -13,8 +13,6 @@ use thiserror::Error;
 mod addresses;
 mod identities;
 mod numbers;
-#[cfg(test)]
-mod tests;
 mod times;
 
 /// Why a text can't be parsed as an identity, a number, a place or a timestamp. If both parts of a
