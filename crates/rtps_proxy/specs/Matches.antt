@@ -1,5 +1,5 @@
 -- The matches of a reader (DDSI-RTPS 8.4.10), each with its history.
-use Rattle.std.specs.Prelude.{◌≡◌, List, [], ◌∷◌, filter, Option, Some, None, Bool, false, true, not, ◌&&◌, if◌then◌else◌}
+use Rattle.std.specs.Prelude.{◌≡◌, List, [], ◌∷◌, filter, Option, Some, None, Bool, false, true, not, ◌&&◌, if◌then◌else◌, Result, IsErr}
 use Rattle.std.specs.Map.{lookup, set_value}
 use Rattle.std.specs.Str.{bytes_eq}
 use Rattle.std.specs.Ordering.{is_eq, match_ordering}
@@ -87,3 +87,9 @@ pub record IsSpentAt (w : Guid) (old new : List (Guid × ProxyView)) : Type 0 wh
   pub pairing : kept.pairing ≡ was.pairing
   pub spent : kept.spent ≡ true
   pub others : new ≡ set_value (is_at w) old kept
+
+-- an event of a writer whose proxy is spent is refused, and no match changes
+abbrev pub RefusesSpent : {T E : Type 0} → Guid → List (Guid × ProxyView)
+    → List (Guid × ProxyView) → Result T E → Type 0
+RefusesSpent w old new result =
+    (k : ProxyView) → lookup (is_at w) old ≡ Some k → k.spent ≡ true → IsErr result × (new ≡ old)

@@ -1,10 +1,10 @@
 //! The matches of a reader.
 
-ghost use Rattle.std.specs.Prelude.{◌≡◌, [], List, IfOk, OnErr, OnOk, false, length};
-ghost use Rattle.std.specs.Map.{keys_of};
+ghost use Rattle.std.specs.Prelude.{◌≡◌, [], List, IfOk, OnErr, OnOk, Some, false, length, true};
+ghost use Rattle.std.specs.Map.{keys_of, lookup};
 ghost use Rattle.rtps_proxy.specs.Effects.{GivesNothing, match_event};
-ghost use Rattle.rtps_proxy.specs.Kept.{pairing};
-ghost use Rattle.rtps_proxy.specs.Matches.{AllStand, AreTaken, IsSpentAt, Match, begun, ended, extended, fresh, given_where, match_with};
+ghost use Rattle.rtps_proxy.specs.Kept.{ProxyView, pairing};
+ghost use Rattle.rtps_proxy.specs.Matches.{AllStand, AreTaken, IsSpentAt, Match, RefusesSpent, begun, ended, extended, fresh, given_where, is_at, match_with};
 
 use crate::{Effects, ProxyConfig, ProxyError, WriterProxy};
 use rtps_receiver::EventBody;
@@ -80,7 +80,7 @@ impl<A: Allocator + Copy> Matches<A> {
 
     /// Passes an event to the match with its writer and returns its effects, or `None` where the
     /// writer isn't matched. A refused growth leaves the proxy of that writer spent, and the others
-    /// as they were.
+    /// as they were. Each later event of that writer is refused, too, and changes nothing.
     pub fn on_event<'a>(
         &mut self,
         alloc: A,
@@ -93,6 +93,7 @@ impl<A: Allocator + Copy> Matches<A> {
         ensures effects { (ms : List Match) → AllStand ms self.old
             → IfOk result (AreTaken (match_with writer ms) (match_event time brought.now)) }
         ensures err { OnErr result (IsSpentAt writer self.old self.new) }
+        ensures spent { RefusesSpent writer self.old self.new result }
     {
         let mut effects = Effects::none(alloc);
         if !self.on_event_into(alloc, writer, time, brought, &mut effects)? {
@@ -103,7 +104,8 @@ impl<A: Allocator + Copy> Matches<A> {
 
     /// Handles an event as [`Matches::on_event`] does, and writes its effects into the caller's
     /// `effects`, which have to be empty; this saves moving them. Returns whether the writer is
-    /// matched. After a refused growth `effects` may have a part of them.
+    /// matched. After a refused growth `effects` may have a part of them; a later event of that
+    /// writer leaves them as they are.
     pub fn on_event_into<'a>(
         &mut self,
         alloc: A,
@@ -122,6 +124,9 @@ impl<A: Allocator + Copy> Matches<A> {
             → GivesNothing effects.new) }
         ensures lent { IfOk result (λ is_matched. is_matched ≡ false → effects.new ≡ effects.old) }
         ensures err { OnErr result (IsSpentAt writer self.old self.new) }
+        ensures spent { RefusesSpent writer self.old self.new result }
+        ensures still { (k : ProxyView) → lookup (is_at writer) self.old ≡ Some k
+            → k.spent ≡ true → effects.new ≡ effects.old }
     {
         let Some(proxy) = self.proxies.get_mut(&writer) else {
             return Ok(false);
