@@ -141,43 +141,44 @@ fn takes_again_what_was_refused(rt: HostRuntime) -> Result<(), Fail> {
 /// An instance that isn't there.
 const RED: KeyHash = KeyHash([2; 16]);
 
-/// A notice that comes to a cache with these two entries: whether it makes an entry, for which
-/// alone memory may be refused, and the entries after it.
-type Coming = (History, What, bool, &'static [Row]);
+/// A notice that comes to a cache with these two entries, which keeps all or else the last one of
+/// an instance: whether it makes an entry, for which alone memory may be refused, and the entries
+/// after it.
+type Coming = (bool, What, bool, &'static [Row]);
 
 const COMING: [Coming; 12] = [
     (
-        History::KeepAll,
+        true,
         Value(RED),
         true,
         &[FIRST, SECOND, (3, true, NotRead, New, Alive)],
     ),
     (
-        History::KeepAll,
+        true,
         Dispose(RED),
         true,
         &[FIRST, SECOND, (3, false, NotRead, New, Disposed)],
     ),
     (
-        History::KeepLast(1),
+        false,
         Value(RED),
         true,
         &[SECOND, (3, true, NotRead, New, Alive)],
     ),
     (
-        History::KeepLast(1),
+        false,
         Dispose(RED),
         true,
         &[SECOND, (3, false, NotRead, New, Disposed)],
     ),
-    (History::KeepAll, Unregister(BLUE), false, &BEFORE),
-    (History::KeepAll, Unregister(RED), false, &BEFORE),
-    (History::KeepAll, Unread, false, &BEFORE),
-    (History::KeepAll, Matched, false, &BEFORE),
-    (History::KeepAll, Unmatched, false, &BEFORE),
-    (History::KeepAll, Incompatible, false, &BEFORE),
-    (History::KeepAll, Lost, false, &BEFORE),
-    (History::KeepLast(1), Unregister(BLUE), false, &[SECOND]),
+    (true, Unregister(BLUE), false, &BEFORE),
+    (true, Unregister(RED), false, &BEFORE),
+    (true, Unread, false, &BEFORE),
+    (true, Matched, false, &BEFORE),
+    (true, Unmatched, false, &BEFORE),
+    (true, Incompatible, false, &BEFORE),
+    (true, Lost, false, &BEFORE),
+    (false, Unregister(BLUE), false, &[SECOND]),
 ];
 
 /// Takes memory in small blocks until it is refused, but for this number of blocks at its end, and
@@ -204,19 +205,20 @@ fn blocks_but<A: Allocator + Copy>(
 /// back and changes nothing, and where it is tried again with more memory, it is accepted.
 fn is_refused(
     alloc: Global,
-    (keep, what, _, after): Coming,
+    (keeps_all, what, _, after): Coming,
     room: usize,
     is_tried_again: bool,
 ) -> Result<bool, Fail> {
     let heap = LocalHeap::new(alloc, 4096)?;
+    let (keep, before): (_, &[Row]) = if keeps_all {
+        (History::KeepAll, &BEFORE)
+    } else {
+        (History::KeepLast(1), &BEFORE[1..])
+    };
     let mut cache = DataReader::new(&heap, keep);
     if !has_two(&heap, &mut cache)? {
         return Err(Fail::new("no memory for two entries"));
     }
-    let before: &[Row] = match keep {
-        History::KeepAll => &BEFORE,
-        History::KeepLast(_) => &BEFORE[1..],
-    };
     let blocks = blocks_but(alloc, &heap, room)?;
     let refused = cache.accept(&heap, notice(1, 3, what)?).err();
     drop(blocks);
