@@ -1,7 +1,5 @@
 //! What a participant counts of the datagrams that it takes.
 
-ghost use Rattle.std.specs.Prelude.{◌≤◌, ◌<◌};
-
 use super::moments::ANNOUNCES;
 use super::routed::{COMES, ROUTED};
 use super::*;
@@ -57,10 +55,11 @@ fn take_by<R: Threads + Sync>(
     participant: &mut Participant<Shapes>,
     datagrams: &[Datagram<'_>],
     cut: (usize, usize),
-) -> Result<(), Fail>
-    requires { (0 < cut.0) × (1 ≤ cut.1) × (cut.1 ≤ 64) }
-{
+) -> Result<(), Fail> {
     let (length, workers) = cut;
+    if length == 0 || workers == 0 || workers > 64 {
+        return Err(Fail::new("no such cut"));
+    }
     let workers = Workers {
         count: workers,
         gate: &NoGate,
